@@ -1,0 +1,3 @@
+pub mod Bytes
+pub mod Spellings
+pub mod Reading

@@ -1,0 +1,12 @@
+pub mod Instruction
+pub mod Program
+pub mod Word
+pub mod Values
+pub mod Memory
+pub mod Step
+pub mod Spelling
+pub mod FirstLook
+pub mod Faults
+pub mod Shapes
+pub mod Slots
+pub mod Runs

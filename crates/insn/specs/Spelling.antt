@@ -1,0 +1,283 @@
+-- The one spelling of a program: the rows of the table of opcodes, one after the other (RFC 9669, sections 3 to 5).
+use Rattle.std.specs.Prelude.{◌≡◌, ℕ, ◌+◌, ◌*◌, ◌/◌, ◌%◌, ◌^◌, ◌<◌, ◌≤◌, ◌==◌, ◌&&◌, ◌||◌, not, nat_lt, Bool, true, false, if◌then◌else◌, ℤ, pos, negsuc, FitsSigned, List, [], ◌∷◌, ◌++◌, length, Option, Some, None}
+use Rattle.std.specs.Int.{w16, w32, cast_signed, cast_unsigned, to_le_bytes}
+use Rattle.std.specs.List.{flat_map, list_any, AllByRecursion}
+use Rattle.insn.specs.declared.operation.Width.{Width}
+use Rattle.insn.specs.declared.operation.Width.TheVariants.{W32, W64}
+use Rattle.insn.specs.declared.operation.Signedness.{Signedness}
+use Rattle.insn.specs.declared.operation.Signedness.TheVariants.{Unsigned, Signed}
+use Rattle.insn.specs.declared.operation.Size.{Size}
+use Rattle.insn.specs.declared.operation.Size.TheVariants.{One, Two, Four, Eight}
+use Rattle.insn.specs.declared.operation.SignedSize.{SignedSize}
+use Rattle.insn.specs.declared.operation.SignedSize.TheVariants as signed
+use Rattle.insn.specs.declared.operation.AluOp.{AluOp}
+use Rattle.insn.specs.declared.operation.AluOp.TheVariants.{Add, Sub, Mul, Or, And, Lsh, Rsh, Xor, Mov, Arsh}
+use Rattle.insn.specs.declared.operation.Cond.{Cond}
+use Rattle.insn.specs.declared.operation.Cond.TheVariants.{Eq, Gt, Ge, Set, Ne, Sgt, Sge, Lt, Le, Slt, Sle}
+use Rattle.insn.specs.declared.operation.Extension.{Extension}
+use Rattle.insn.specs.declared.operation.Extension.TheVariants.{From8To64, From16To64, From32To64, From8To32, From16To32}
+use Rattle.insn.specs.declared.operation.SwapKind.{SwapKind}
+use Rattle.insn.specs.declared.operation.SwapKind.TheVariants.{ToLittle, ToBig, Swap}
+use Rattle.insn.specs.declared.operation.SwapBits.{SwapBits}
+use Rattle.insn.specs.declared.operation.SwapBits.TheVariants.{B16, B32, B64}
+use Rattle.insn.specs.declared.instruction.Operand.TheVariants.{Reg, Imm}
+use Rattle.insn.specs.declared.instruction.Insn.{Insn}
+use Rattle.insn.specs.declared.instruction.Insn.TheVariants.{Alu64Imm, Alu64Reg, Alu32Imm, Alu32Reg, Divide, Remainder, Negate, MoveSigned, SwapBytes, LoadWide, Load, LoadSigned, StoreReg, StoreImm, Jump, JumpLong, Jump64IfImm, Jump64IfReg, Jump32IfImm, Jump32IfReg, Exit}
+use Rattle.insn.specs.declared.slot.Slot.{Slot}
+use Rattle.insn.specs.declared.fault.SlotFault.{SlotFault}
+use Rattle.insn.specs.declared.fault.SlotFault.TheVariants.{UnknownOpcode, BadRegister, NonzeroField, TruncatedWide, Atomic, Call, LegacyLoad}
+use Rattle.insn.specs.declared.fault.InsnFault.{InsnFault}
+use Rattle.insn.specs.declared.fault.InsnFault.TheVariants as faults
+use Rattle.insn.specs.Instruction.{reg_number}
+use Rattle.insn.specs.Program.{IsProgram, SLOT_LIMIT, slot_count}
+
+-- ---- slots
+
+-- the eight bytes of a slot, little-endian
+abbrev pub slot_bytes : Slot → List ℕ
+slot_bytes s =
+    s.opcode ∷ (s.src * 16 + s.dst) ∷ (to_le_bytes w16 (cast_unsigned w16 s.offset) ++ to_le_bytes w32 (cast_unsigned w32 s.imm))
+
+-- each field has its own size
+pub record IsSlot (s : Slot) : Type 0 where
+  pub opcode : s.opcode < 256
+  pub dst : s.dst < 16
+  pub src : s.src < 16
+  pub offset : FitsSigned w16 s.offset
+  pub imm : FitsSigned w32 s.imm
+
+-- ---- opcodes
+
+-- an operation on a register and a number, and one on two registers
+abbrev pub imm_opcode : Width → ℕ → ℕ
+imm_opcode W32 code = 0x04 + 16 * code
+imm_opcode W64 code = 0x07 + 16 * code
+
+abbrev pub reg_opcode : Width → ℕ → ℕ
+reg_opcode W32 code = 0x0c + 16 * code
+reg_opcode W64 code = 0x0f + 16 * code
+
+-- the high half of an operation's opcode
+abbrev pub op_code : AluOp → ℕ
+op_code Add = 0x0
+op_code Sub = 0x1
+op_code Mul = 0x2
+op_code Or = 0x4
+op_code And = 0x5
+op_code Lsh = 0x6
+op_code Rsh = 0x7
+op_code Xor = 0xa
+op_code Mov = 0xb
+op_code Arsh = 0xc
+
+-- the high half of a conditional jump's opcode
+abbrev pub cond_code : Cond → ℕ
+cond_code Eq = 0x1
+cond_code Gt = 0x2
+cond_code Ge = 0x3
+cond_code Set = 0x4
+cond_code Ne = 0x5
+cond_code Sgt = 0x6
+cond_code Sge = 0x7
+cond_code Lt = 0xa
+cond_code Le = 0xb
+cond_code Slt = 0xc
+cond_code Sle = 0xd
+
+-- the offset field of a division and of a move with sign extension
+abbrev pub signedness_code : Signedness → ℤ
+signedness_code Unsigned = pos 0
+signedness_code Signed = pos 1
+
+abbrev pub extension_code : Extension → ℤ
+extension_code From8To64 = pos 8
+extension_code From16To64 = pos 16
+extension_code From32To64 = pos 32
+extension_code From8To32 = pos 8
+extension_code From16To32 = pos 16
+
+abbrev pub extension_opcode : Extension → ℕ
+extension_opcode From8To64 = 0xbf
+extension_opcode From16To64 = 0xbf
+extension_opcode From32To64 = 0xbf
+extension_opcode From8To32 = 0xbc
+extension_opcode From16To32 = 0xbc
+
+abbrev pub swap_opcode : SwapKind → ℕ
+swap_opcode ToLittle = 0xd4
+swap_opcode ToBig = 0xdc
+swap_opcode Swap = 0xd7
+
+abbrev pub swap_code : SwapBits → ℤ
+swap_code B16 = pos 16
+swap_code B32 = pos 32
+swap_code B64 = pos 64
+
+abbrev pub load_opcode : Size → ℕ
+load_opcode One = 0x71
+load_opcode Two = 0x69
+load_opcode Four = 0x61
+load_opcode Eight = 0x79
+
+abbrev pub load_signed_opcode : SignedSize → ℕ
+load_signed_opcode signed.One = 0x91
+load_signed_opcode signed.Two = 0x89
+load_signed_opcode signed.Four = 0x81
+
+abbrev pub store_reg_opcode : Size → ℕ
+store_reg_opcode One = 0x73
+store_reg_opcode Two = 0x6b
+store_reg_opcode Four = 0x63
+store_reg_opcode Eight = 0x7b
+
+abbrev pub store_imm_opcode : Size → ℕ
+store_imm_opcode One = 0x72
+store_imm_opcode Two = 0x6a
+store_imm_opcode Four = 0x62
+store_imm_opcode Eight = 0x7a
+
+-- ---- the table: the slots of each instruction
+
+abbrev pub slot : ℕ → ℕ → ℕ → ℤ → ℤ → Slot
+slot opcode dst src offset imm = record { opcode = opcode; dst = dst; src = src; offset = offset; imm = imm }
+
+abbrev pub slots : Insn → List Slot
+slots (Alu64Imm op dst imm) = slot (imm_opcode W64 (op_code op)) (reg_number dst) 0 (pos 0) imm ∷ []
+slots (Alu64Reg op dst src) = slot (reg_opcode W64 (op_code op)) (reg_number dst) (reg_number src) (pos 0) (pos 0) ∷ []
+slots (Alu32Imm op dst imm) = slot (imm_opcode W32 (op_code op)) (reg_number dst) 0 (pos 0) imm ∷ []
+slots (Alu32Reg op dst src) = slot (reg_opcode W32 (op_code op)) (reg_number dst) (reg_number src) (pos 0) (pos 0) ∷ []
+slots (Divide width signedness dst (Imm imm)) = slot (imm_opcode width 0x3) (reg_number dst) 0 (signedness_code signedness) imm ∷ []
+slots (Divide width signedness dst (Reg src)) = slot (reg_opcode width 0x3) (reg_number dst) (reg_number src) (signedness_code signedness) (pos 0) ∷ []
+slots (Remainder width signedness dst (Imm imm)) = slot (imm_opcode width 0x9) (reg_number dst) 0 (signedness_code signedness) imm ∷ []
+slots (Remainder width signedness dst (Reg src)) = slot (reg_opcode width 0x9) (reg_number dst) (reg_number src) (signedness_code signedness) (pos 0) ∷ []
+slots (Negate width dst) = slot (imm_opcode width 0x8) (reg_number dst) 0 (pos 0) (pos 0) ∷ []
+slots (MoveSigned extension dst src) = slot (extension_opcode extension) (reg_number dst) (reg_number src) (extension_code extension) (pos 0) ∷ []
+slots (SwapBytes kind bits dst) = slot (swap_opcode kind) (reg_number dst) 0 (pos 0) (swap_code bits) ∷ []
+slots (LoadWide dst value) = slot 0x18 (reg_number dst) 0 (pos 0) (cast_signed w32 (value % 2 ^ 32)) ∷ slot 0 0 0 (pos 0) (cast_signed w32 (value / 2 ^ 32)) ∷ []
+slots (Load size dst src offset) = slot (load_opcode size) (reg_number dst) (reg_number src) offset (pos 0) ∷ []
+slots (LoadSigned size dst src offset) = slot (load_signed_opcode size) (reg_number dst) (reg_number src) offset (pos 0) ∷ []
+slots (StoreReg size dst src offset) = slot (store_reg_opcode size) (reg_number dst) (reg_number src) offset (pos 0) ∷ []
+slots (StoreImm size dst offset imm) = slot (store_imm_opcode size) (reg_number dst) 0 offset imm ∷ []
+slots (Jump offset) = slot 0x05 0 0 offset (pos 0) ∷ []
+slots (JumpLong offset) = slot 0x06 0 0 (pos 0) offset ∷ []
+slots (Jump64IfImm cond dst offset imm) = slot (0x05 + 16 * cond_code cond) (reg_number dst) 0 offset imm ∷ []
+slots (Jump64IfReg cond dst src offset) = slot (0x0d + 16 * cond_code cond) (reg_number dst) (reg_number src) offset (pos 0) ∷ []
+slots (Jump32IfImm cond dst offset imm) = slot (0x06 + 16 * cond_code cond) (reg_number dst) 0 offset imm ∷ []
+slots (Jump32IfReg cond dst src offset) = slot (0x0e + 16 * cond_code cond) (reg_number dst) (reg_number src) offset (pos 0) ∷ []
+slots Exit = slot 0x95 0 0 (pos 0) (pos 0) ∷ []
+
+-- The numbers of an instruction fit their fields, and its row is one that is read today.
+abbrev pub Fits : Insn → Type 0
+Fits (Alu64Imm Mov dst imm) = FitsSigned w32 imm
+Fits (Alu64Reg Mov dst src) = Unit {0}
+Fits (Load size dst src offset) = FitsSigned w16 offset
+Fits (StoreImm size dst offset imm) = FitsSigned w16 offset × FitsSigned w32 imm
+Fits (Jump offset) = FitsSigned w16 offset
+Fits Exit = Unit {0}
+Fits i = ⊥
+
+-- ---- the first fault of a slot
+
+-- which fields an opcode has
+pub record Fields : Type 0 where
+  pub dst : Bool
+  pub src : Bool
+  pub offset : Bool
+  pub imm : Bool
+
+abbrev pub fields : Bool → Bool → Bool → Bool → Option Fields
+fields dst src offset imm = Some (record { dst = dst; src = src; offset = offset; imm = imm })
+
+abbrev pub is_one_of : List ℕ → ℕ → Bool
+is_one_of opcodes opcode = list_any (λ o. o == opcode) opcodes
+
+-- the fields of each opcode that is read
+unfoldable pub fields_of : ℕ → Option Fields
+fields_of opcode =
+    if opcode == 0xb7 then fields true false false true
+    else if opcode == 0xbf then fields true true false false
+    else if is_one_of (0x71 ∷ 0x69 ∷ 0x61 ∷ 0x79 ∷ []) opcode then fields true true true false
+    else if is_one_of (0x72 ∷ 0x6a ∷ 0x62 ∷ 0x7a ∷ []) opcode then fields true false true true
+    else if opcode == 0x05 then fields false false true false
+    else if opcode == 0x95 then fields false false false false
+    else None
+
+-- the name of an opcode that is not read
+abbrev pub refused_as : ℕ → SlotFault
+refused_as opcode =
+    if is_one_of (0xc3 ∷ 0xdb ∷ []) opcode then Atomic
+    else if opcode == 0x85 then Call
+    else if is_one_of (0x20 ∷ 0x28 ∷ 0x30 ∷ 0x40 ∷ 0x48 ∷ 0x50 ∷ []) opcode then LegacyLoad
+    else UnknownOpcode
+
+abbrev pub is_zero : ℤ → Bool
+is_zero (pos n) = n == 0
+is_zero (negsuc n) = false
+
+-- a register that is used is above 10
+abbrev pub is_bad_register : Fields → Slot → Bool
+is_bad_register f s = (f.dst && nat_lt 10 s.dst) || (f.src && nat_lt 10 s.src)
+
+-- a field that is not used is not zero
+abbrev pub is_nonzero : Fields → Slot → Bool
+is_nonzero f s = not ((f.dst || (s.dst == 0)) && (f.src || (s.src == 0)) && (f.offset || is_zero s.offset) && (f.imm || is_zero s.imm))
+
+-- the opcode counts first, then the registers, then the other fields
+abbrev pub field_fault : Option Fields → Slot → Option SlotFault
+field_fault None s = Some (refused_as s.opcode)
+field_fault (Some f) s = if is_bad_register f s then Some BadRegister else if is_nonzero f s then Some NonzeroField else None
+
+abbrev pub slot_fault : Slot → Option SlotFault
+slot_fault s = field_fault (fields_of s.opcode) s
+
+-- ---- programs
+
+-- the bytes of some instructions
+abbrev pub spelling : List Insn → List ℕ
+spelling insns = flat_map slot_bytes (flat_map slots insns)
+
+-- the bytes are a program's
+pub record Spells (bytes : List ℕ) (program : List Insn) : Type 0 where
+  pub in_bounds : IsProgram program
+  pub fit : AllByRecursion Fits program
+  pub spelled : bytes ≡ spelling program
+
+-- the first instruction that is none is at this slot, and has this fault
+pub record FaultAt (bytes : List ℕ) (at : ℕ) (fault : SlotFault) : Type 0 where
+  pub before : List Insn
+  pub here : Slot
+  pub rest : List ℕ
+  pub fit : AllByRecursion Fits before
+  pub sizes : IsSlot here
+  pub at_slot : at ≡ slot_count before
+  pub spelled : bytes ≡ spelling before ++ (slot_bytes here ++ rest)
+  pub faulty : slot_fault here ≡ Some fault
+
+-- as many bytes as some slots have, and no more than a program may have
+pub record IsWhole (bytes : List ℕ) : Type 0 where
+  pub some : 1 ≤ length bytes
+  pub slots : length bytes % 8 ≡ 0
+  pub short : length bytes ≤ 8 * SLOT_LIMIT
+
+abbrev pub slot_fault_at : SlotFault → ℕ → InsnFault
+slot_fault_at UnknownOpcode at = faults.UnknownOpcode at
+slot_fault_at BadRegister at = faults.BadRegister at
+slot_fault_at NonzeroField at = faults.NonzeroField at
+slot_fault_at TruncatedWide at = faults.TruncatedWide at
+slot_fault_at Atomic at = faults.Atomic at
+slot_fault_at Call at = faults.Call at
+slot_fault_at LegacyLoad at = faults.LegacyLoad at
+
+-- The first fault: no bytes, then a bad length, then too many slots, then the first faulty instruction.
+abbrev pub FirstFault : List ℕ → InsnFault → Type 0
+FirstFault bytes faults.Empty = length bytes ≡ 0
+FirstFault bytes faults.BadLength = (1 ≤ length bytes) × (1 ≤ length bytes % 8)
+FirstFault bytes faults.TooLong = (length bytes % 8 ≡ 0) × (8 * SLOT_LIMIT < length bytes)
+FirstFault bytes (faults.UnknownOpcode at) = IsWhole bytes × FaultAt bytes at UnknownOpcode
+FirstFault bytes (faults.BadRegister at) = IsWhole bytes × FaultAt bytes at BadRegister
+FirstFault bytes (faults.NonzeroField at) = IsWhole bytes × FaultAt bytes at NonzeroField
+FirstFault bytes (faults.TruncatedWide at) = IsWhole bytes × FaultAt bytes at TruncatedWide
+FirstFault bytes (faults.Atomic at) = IsWhole bytes × FaultAt bytes at Atomic
+FirstFault bytes (faults.Call at) = IsWhole bytes × FaultAt bytes at Call
+FirstFault bytes (faults.LegacyLoad at) = IsWhole bytes × FaultAt bytes at LegacyLoad
+FirstFault bytes faults.Memory = Unit {0}

@@ -1,0 +1,20 @@
+//! The instructions of RFC 9669 that token hooks are written in: their types, their bytes, and what they mean.
+//!
+//! The meaning stands in `specs/`: `Spelling` (which bytes are a program), `Step` (what a program does),
+//! `FirstLook` and `Faults` (what a verifier tests), `Shapes` (programs whose paths agree).
+#![tactic(auto)]
+
+pub mod decoding;
+pub mod fault;
+pub mod instruction;
+pub mod laws;
+pub mod layout;
+pub mod operation;
+pub mod places;
+pub mod program;
+pub mod register;
+pub mod slot;
+pub mod state;
+#[cfg(test)]
+mod tests;
+pub mod verify_fault;
