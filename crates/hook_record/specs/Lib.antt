@@ -1,0 +1,3 @@
+pub mod Narrowing
+pub mod NarrowingLaws
+pub mod Record
