@@ -1,0 +1,4 @@
+pub mod AnswerLaws
+pub mod Answers
+pub mod Faults
+pub mod Names

@@ -1,0 +1,17 @@
+//! Names of hooks.
+
+ghost use Rattle.std.specs.Prelude.{◌↔◌, IsTrue};
+ghost use Rattle.hook_chain.specs.Names.{IsHookName, IsNameByte};
+
+/// Whether a name may be a hook's: 1 to 32 of `a-z`, `0-9` and `-`.
+pub(crate) fn is_hook_name(name: &str) -> bool
+    ensures { IsTrue result ↔ IsHookName name.now }
+{
+    (1..=32).contains(&name.len()) && name.as_bytes().iter().all(|&b| is_name_byte(b))
+}
+
+fn is_name_byte(b: u8) -> bool
+    ensures { IsTrue result ↔ IsNameByte b }
+{
+    matches!(b, b'a'..=b'z' | b'0'..=b'9' | b'-')
+}
