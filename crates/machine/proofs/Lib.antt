@@ -1,0 +1,4 @@
+pub mod Numbers
+pub mod Pointers
+pub mod Parts
+pub mod Runs

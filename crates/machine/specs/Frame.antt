@@ -1,0 +1,67 @@
+-- What one instruction does to the registers, the stack and the record.
+use Rattle.std.specs.Prelude.{◌≡◌, ℕ, List, Option, Some, None, Bool, true, false}
+use Rattle.insn.specs.declared.instruction.Insn.{Insn}
+use Rattle.insn.specs.declared.instruction.Insn.TheVariants.{Alu64Imm, Alu64Reg, Alu32Imm, Alu32Reg, Divide, Remainder, Negate, MoveSigned, SwapBytes, LoadWide, Load, LoadSigned, StoreReg, StoreImm, Jump, JumpLong, Jump64IfImm, Jump64IfReg, Jump32IfImm, Jump32IfReg}
+use Rattle.insn.specs.declared.instruction.Insn.TheVariants as insn
+use Rattle.insn.specs.Values.{State}
+use Rattle.insn.specs.Step.{Effect, Falls, Jumps, Exits}
+use Rattle.machine.specs.declared.frame.Frame.{Frame}
+use Rattle.machine.specs.declared.frame.Flow.{Flow}
+use Rattle.machine.specs.declared.frame.Flow.TheVariants.{Next, Jump, Exit, Stuck}
+
+-- the registers and the stack beside a record
+abbrev pub state_of : Frame → List ℕ → State
+state_of frame bytes = record { registers = frame.registers; bytes = bytes; stack = frame.stack }
+
+-- an instruction's effect is this flow, from one state to another; one that jumps, exits or is stuck changes nothing
+abbrev pub IsEffect : Option Effect → Flow → State → State → Type 0
+IsEffect effect Next old new = effect ≡ Some (Falls new)
+IsEffect effect (Jump distance) old new = (effect ≡ Some (Jumps distance new)) × (new ≡ old)
+IsEffect effect (Exit r0) old new = (effect ≡ Some (Exits r0)) × (new ≡ old)
+IsEffect effect Stuck old new = (effect ≡ None) × (new ≡ old)
+
+-- this flow, and what became of a state, are what was to be done
+abbrev pub Does : (State → Option Effect) → Flow → State → State → Type 0
+Does what flow old new = IsEffect (what old) flow old new
+
+-- the same, whatever the record is, which stays
+abbrev pub DoesInFrame : (State → Option Effect) → Flow → Frame → Frame → Type 0
+DoesInFrame what flow old new = (bytes : List ℕ) → Does what flow (state_of old bytes) (state_of new bytes)
+
+-- what was to be written stands there; or it may not stand there, and nothing changed
+abbrev pub Writes : (State → Option State) → Bool → State → State → Type 0
+Writes what true old new = what old ≡ Some new
+Writes what false old new = (what old ≡ None) × (new ≡ old)
+
+-- the instructions that set a register from registers and numbers
+abbrev pub is_computing : Insn → Bool
+is_computing (Alu64Imm op dst imm) = true
+is_computing (Alu64Reg op dst src) = true
+is_computing (Alu32Imm op dst imm) = true
+is_computing (Alu32Reg op dst src) = true
+is_computing (Divide width signedness dst operand) = true
+is_computing (Remainder width signedness dst operand) = true
+is_computing (Negate width dst) = true
+is_computing (MoveSigned extension dst src) = true
+is_computing (SwapBytes kind bits dst) = true
+is_computing (LoadWide dst value) = true
+is_computing i = false
+
+-- the loads and the stores
+abbrev pub is_access : Insn → Bool
+is_access (Load size dst src offset) = true
+is_access (LoadSigned size dst src offset) = true
+is_access (StoreReg size dst src offset) = true
+is_access (StoreImm size dst offset imm) = true
+is_access i = false
+
+-- the jumps and the exit
+abbrev pub is_leading : Insn → Bool
+is_leading (Jump offset) = true
+is_leading (JumpLong offset) = true
+is_leading (Jump64IfImm cond dst offset imm) = true
+is_leading (Jump64IfReg cond dst src offset) = true
+is_leading (Jump32IfImm cond dst offset imm) = true
+is_leading (Jump32IfReg cond dst src offset) = true
+is_leading insn.Exit = true
+is_leading i = false
