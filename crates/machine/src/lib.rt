@@ -1,4 +1,7 @@
 //! The checked machine: it runs a program on a record, and tests each access before it makes it.
+//!
+//! `run` goes through a program, `frame` does one instruction on the registers, the stack and the record, `values`
+//! computes, and `memory` and `cells` read and write. What a program means stands in `specs/Step` of crate `insn`.
 #![tactic(auto)]
 
 mod cells;

@@ -21,7 +21,7 @@ pub enum Outcome {
     Stuck(usize),
 }
 
-/// Runs a program on a record (RFC 9669, sections 4 and 5) and writes what the program writes there.
+/// Runs a program on a record of the layout's size (RFC 9669, sections 4 and 5), and writes there what it writes.
 ///
 /// Every run ends. A run is stuck where a register or a byte that it reads is unset, where an access leaves its
 /// region or writes a byte that is read-only, where a pointer is used as a number, where R10 is written, where a

@@ -1,0 +1,3 @@
+mod HexReading
+mod Lists
+mod Telling

@@ -1,0 +1,30 @@
+-- The status with which the program ends.
+use Rattle.std.specs.Prelude.{ℕ}
+use Rattle.std.specs.declared.io.ErrorKind.{ErrorKind}
+use Rattle.std.specs.declared.io.ErrorKind.TheVariants as kinds
+use Rattle.oauthd.specs.declared.fault.PerformFault.{PerformFault}
+use Rattle.oauthd.specs.declared.fault.PerformFault.TheVariants.{BadArguments, BadRecord, Insn, Verify, Stuck, OutOfMemory, CannotWrite}
+use Rattle.oauthd.specs.declared.fault.Status.{Status}
+use Rattle.oauthd.specs.declared.fault.Status.TheVariants.{Done, Refused, BadUse, NoMemory}
+
+-- 0 done, 1 refused, 2 bad use, 3 no memory
+abbrev pub code_of : Status → ℕ
+code_of Done = 0
+code_of Refused = 1
+code_of BadUse = 2
+code_of NoMemory = 3
+
+-- a hook that is refused is one thing, bad use another
+abbrev pub status_of : PerformFault → Status
+status_of BadArguments = BadUse
+status_of BadRecord = BadUse
+status_of (Insn fault) = Refused
+status_of (Verify fault) = Refused
+status_of (Stuck slot) = Refused
+status_of OutOfMemory = NoMemory
+status_of CannotWrite = BadUse
+
+-- why a program's words can't be had: memory is refused, or one of them is no text
+abbrev pub words_fault : ErrorKind → PerformFault
+words_fault kinds.OutOfMemory = OutOfMemory
+words_fault kind = BadArguments
