@@ -1,0 +1,5 @@
+pub mod Items
+pub mod Places
+pub mod Listed
+pub mod Texts
+pub mod Data

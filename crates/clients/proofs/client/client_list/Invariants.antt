@@ -1,0 +1,10 @@
+use Rattle.std.proofs.Common.{◌≡◌, [], drop, length}
+use Rattle.serde_json.specs.View.{items_view}
+use Rattle.clients.specs.Clients.{clients_after}
+use Rattle.clients.proofs.client.client_list.Given as goal
+
+abbrev pub invariant-loop-value : goal.invariant-loop-value
+invariant-loop-value l =
+    (length l.clients ≡ l.value-index)
+    × (clients_after l.catalogue [] (items_view l.list)
+    ≡ clients_after l.catalogue l.clients (items_view (drop l.value-index l.list)))

@@ -1,0 +1,77 @@
+-- The clients of a registry (RFC 6749, section 2).
+use Rattle.std.specs.Prelude.{ℕ, List, [], ◌∷◌, ◌++◌, map, codes, ◌-◌, ◌==◌, slice_get, if◌then◌else◌, Bool, Option, None, Result, Ok}
+use Rattle.std.specs.List.{list_any}
+use Rattle.std.specs.Str.{bytes_eq}
+use Rattle.serde_json.specs.Data.{Data, Items, no_items, item}
+use Rattle.clients.specs.Faults.{◌>>=◌}
+use Rattle.clients.specs.Json.{member_of, list_of, items_within}
+use Rattle.clients.specs.Texts.{key_of, identifier_of}
+use Rattle.clients.specs.Numbers.{new_among}
+use Rattle.clients.specs.Redirect.{redirects_after}
+use Rattle.clients.specs.Scopes.{scope_of}
+use Rattle.clients.specs.Grants.{no_grants, grants_after}
+use Rattle.clients.specs.ClientRecord.{ClientRecord}
+use Rattle.clients.specs.declared.fault.ConfigFault.{ConfigFault}
+use Rattle.clients.specs.declared.grant.Grants.{Grants}
+
+-- the clients' identifiers
+abbrev pub ids : List ClientRecord → List (List ℕ)
+ids clients = map (λ c. c.id) clients
+
+-- the client of a number
+abbrev pub client_at : ℕ → List ClientRecord → Option ClientRecord
+client_at number clients = if number == 0 then None else slice_get clients (number - 1)
+
+-- whether the text is one of the client's redirect URIs
+abbrev pub has_redirect : List ℕ → ClientRecord → Bool
+has_redirect uri client = list_any (bytes_eq uri) client.redirects
+
+-- the member `id`: an identifier that none of these clients has
+abbrev pub id_member : List ClientRecord → Data → Result (List ℕ) ConfigFault
+id_member clients value = do
+  member ← member_of (codes "id") value
+  id ← identifier_of member
+  new_among (ids clients) id
+
+-- the member `secret`
+abbrev pub secret_member : Data → Result (List ℕ) ConfigFault
+secret_member value = do
+  member ← member_of (codes "secret") value
+  key_of member
+
+-- the member `redirects`: at most 8 redirect URIs
+abbrev pub redirects_member : Data → Result (List (List ℕ)) ConfigFault
+redirects_member value = do
+  member ← member_of (codes "redirects") value
+  items ← items_within 0 8 member
+  redirects_after [] items
+
+-- the member `scope`: the mask of what the client may be allowed
+abbrev pub scope_member : List (List ℕ) → Data → Result ℕ ConfigFault
+scope_member scopes value = do
+  member ← member_of (codes "scope") value
+  scope_of scopes member
+
+-- the member `grants`
+abbrev pub grants_member : Data → Result Grants ConfigFault
+grants_member value = do
+  member ← member_of (codes "grants") value
+  items ← list_of member
+  grants_after no_grants items
+
+-- a client after these, where the registry has these scope names
+abbrev pub client_of : List (List ℕ) → List ClientRecord → Data → Result ClientRecord ConfigFault
+client_of scopes clients value = do
+  id ← id_member clients value
+  secret ← secret_member value
+  redirects ← redirects_member value
+  allowed ← scope_member scopes value
+  grants ← grants_member value
+  Ok (record { id = id; secret = secret; redirects = redirects; allowed = allowed; grants = grants })
+
+-- the clients so far, and those of these items after them
+abbrev pub clients_after : List (List ℕ) → List ClientRecord → Items → Result (List ClientRecord) ConfigFault
+clients_after scopes clients no_items = Ok clients
+clients_after scopes clients (item d ds) = do
+  client ← client_of scopes clients d
+  clients_after scopes (clients ++ client ∷ []) ds

@@ -1,0 +1,17 @@
+-- Steps of which the first fault counts.
+use Rattle.std.specs.Prelude.{◌≡◌, ◌⊎◌, Result, Ok, Err, MatchResult}
+
+-- the next step, unless this one has a fault
+infixl 10 ◌>>=◌
+abbrev pub ◌>>=◌ : {A B E : Type 0} → Result A E → (A → Result B E) → Result B E
+Ok x >>= next = next x
+Err e >>= next = Err e
+
+-- the value of another type, or the same fault
+abbrev pub seen_by : {A B E : Type 0} → (A → B) → Result A E → Result B E
+seen_by view (Ok x) = Ok (view x)
+seen_by view (Err e) = Err e
+
+-- the answer is the expected one, or memory was refused
+abbrev pub GivesUnless : {A E : Type 0} → E → Result A E → Result A E → Type 0
+GivesUnless refused answer expected = MatchResult answer (λ x. expected ≡ Ok x) (λ e. (e ≡ refused) ⊎ (expected ≡ Err e))

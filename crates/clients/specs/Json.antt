@@ -1,0 +1,42 @@
+-- Members, texts, lives and lists of JSON data.
+use Rattle.std.specs.Prelude.{ℕ, suc, ◌&&◌, List, nat_le, if◌then◌else◌, Option, Some, None, Result, Ok, Err}
+use Rattle.std.specs.Option.{ok_or}
+use Rattle.serde_json.specs.Data.{Data, Items, no_items, item}
+use Rattle.serde_json.specs.Find.{get, as_str, as_number, as_u64, as_array}
+use Rattle.clients.specs.Faults.{◌>>=◌}
+use Rattle.clients.specs.declared.fault.ConfigFault.{ConfigFault}
+use Rattle.clients.specs.declared.fault.ConfigFault.TheVariants.{BadShape, OutOfRange}
+
+-- the member of this name
+abbrev pub member_of : List ℕ → Data → Result Data ConfigFault
+member_of name value = ok_or (get name value) BadShape
+
+-- the text of a string
+abbrev pub text_of : Data → Result (List ℕ) ConfigFault
+text_of value = ok_or (as_str value) BadShape
+
+-- a life in seconds, as `as_u64` gives it: 1 to 31,536,000
+abbrev pub life_within : Option ℕ → Result ℕ ConfigFault
+life_within None = Err OutOfRange
+life_within (Some n) = if nat_le 1 n && nat_le n 31536000 then Ok n else Err OutOfRange
+
+-- a JSON number that is a life
+abbrev pub life_of : Data → Result ℕ ConfigFault
+life_of value = do
+  number ← ok_or (as_number value) BadShape
+  life_within (as_u64 number)
+
+-- the number of items
+abbrev pub item_count : Items → ℕ
+item_count no_items = 0
+item_count (item d ds) = suc (item_count ds)
+
+-- the items of a list
+abbrev pub list_of : Data → Result Items ConfigFault
+list_of value = ok_or (as_array value) BadShape
+
+-- the items of a list, of which there are from the least to the most
+abbrev pub items_within : ℕ → ℕ → Data → Result Items ConfigFault
+items_within least most value = do
+  items ← list_of value
+  if nat_le least (item_count items) && nat_le (item_count items) most then Ok items else Err OutOfRange

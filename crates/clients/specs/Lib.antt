@@ -1,0 +1,13 @@
+pub mod Faults
+pub mod Json
+pub mod Texts
+pub mod Redirect
+pub mod Scopes
+pub mod Grants
+pub mod Numbers
+pub mod Owners
+pub mod ClientRecord
+pub mod Clients
+pub mod Authentication
+pub mod RegistryRecord
+pub mod Registry

@@ -1,0 +1,37 @@
+-- Redirect URIs (RFC 6749, section 3.1.2).
+use Rattle.std.specs.Prelude.{ℕ, List, [], ◌∷◌, ◌++◌, length, Bool, false, ◌&&◌, ◌||◌, nat_le, is_none, codes, Result, Ok, Err, None, if◌then◌else◌}
+use Rattle.std.specs.Str.{bytes_eq}
+use Rattle.serde_json.specs.Data.{Data, Items, no_items, item}
+use Rattle.url.specs.Parts.{Parts, serialize}
+use Rattle.url.specs.Parser.{Parsed, parse_url}
+use Rattle.clients.specs.Faults.{◌>>=◌}
+use Rattle.clients.specs.Json.{text_of}
+use Rattle.clients.specs.declared.fault.ConfigFault.{ConfigFault}
+use Rattle.clients.specs.declared.fault.ConfigFault.TheVariants.{BadRedirect}
+
+-- an http or https URL without query and fragment
+abbrev pub is_plain_web : Parts → Bool
+is_plain_web url = (bytes_eq url.scheme (codes "http") || bytes_eq url.scheme (codes "https"))
+    && is_none url.query && is_none url.fragment
+
+-- such a URL that is written as this text
+abbrev pub is_written : List ℕ → Parsed Parts → Bool
+is_written text (Ok url) = is_plain_web url && bytes_eq (serialize url) text
+is_written text (Err _) = false
+
+-- at most 2,048 bytes, which are the URL Standard's spelling of a plain web URL
+abbrev pub is_redirect : List ℕ → Bool
+is_redirect text = nat_le (length text) 2048 && is_written text (parse_url None text)
+
+-- a string that is a redirect URI
+abbrev pub redirect_of : Data → Result (List ℕ) ConfigFault
+redirect_of value = do
+  text ← text_of value
+  if is_redirect text then Ok text else Err BadRedirect
+
+-- the redirect URIs so far, and those of these items after them
+abbrev pub redirects_after : List (List ℕ) → Items → Result (List (List ℕ)) ConfigFault
+redirects_after redirects no_items = Ok redirects
+redirects_after redirects (item d ds) = do
+  redirect ← redirect_of d
+  redirects_after (redirects ++ redirect ∷ []) ds

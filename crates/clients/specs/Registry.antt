@@ -1,0 +1,72 @@
+-- The registry that JSON text stands for, or its first fault.
+use Rattle.std.specs.Prelude.{ℕ, List, [], length, codes, nat_lt, if◌then◌else◌, Result, Ok, Err}
+use Rattle.std.specs.Option.{ok_or}
+use Rattle.std.specs.Str.{is_utf8}
+use Rattle.serde_json.specs.Data.{Data}
+use Rattle.serde_json.specs.Read.{read}
+use Rattle.clients.specs.Faults.{◌>>=◌}
+use Rattle.clients.specs.Json.{member_of, life_of, items_within}
+use Rattle.clients.specs.Texts.{key_of}
+use Rattle.clients.specs.Owners.{owners_after}
+use Rattle.clients.specs.Scopes.{scopes_after}
+use Rattle.clients.specs.Clients.{clients_after}
+use Rattle.clients.specs.ClientRecord.{ClientRecord}
+use Rattle.clients.specs.RegistryRecord.{RegistryRecord}
+use Rattle.clients.specs.declared.fault.ConfigFault.{ConfigFault}
+use Rattle.clients.specs.declared.fault.ConfigFault.TheVariants.{NotJson, OutOfRange}
+
+-- the member of this name: a life
+abbrev pub life_member : List ℕ → Data → Result ℕ ConfigFault
+life_member name value = do
+  member ← member_of name value
+  life_of member
+
+-- the member `operator`
+abbrev pub operator_member : Data → Result (List ℕ) ConfigFault
+operator_member value = do
+  member ← member_of (codes "operator") value
+  key_of member
+
+-- the member `owners`: at most 4,096 keys
+abbrev pub owners_member : Data → Result (List (List ℕ)) ConfigFault
+owners_member value = do
+  member ← member_of (codes "owners") value
+  items ← items_within 0 4096 member
+  owners_after [] items
+
+-- the member `scopes`: 1 to 64 scope names
+abbrev pub scopes_member : Data → Result (List (List ℕ)) ConfigFault
+scopes_member value = do
+  member ← member_of (codes "scopes") value
+  items ← items_within 1 64 member
+  scopes_after [] items
+
+-- the member `clients`: at most 256 clients, whose scopes are of these names
+abbrev pub clients_member : List (List ℕ) → Data → Result (List ClientRecord) ConfigFault
+clients_member scopes value = do
+  member ← member_of (codes "clients") value
+  items ← items_within 0 256 member
+  clients_after scopes [] items
+
+-- the registry that JSON data stands for
+abbrev pub registry_of : Data → Result RegistryRecord ConfigFault
+registry_of value = do
+  access_life ← life_member (codes "access_life") value
+  refresh_life ← life_member (codes "refresh_life") value
+  operator ← operator_member value
+  owners ← owners_member value
+  scopes ← scopes_member value
+  clients ← clients_member scopes value
+  Ok (record { access_life = access_life; refresh_life = refresh_life; operator = operator; owners = owners; scopes = scopes; clients = clients })
+
+-- the JSON data of UTF-8 text (RFC 8259)
+abbrev pub data_of : List ℕ → Result Data ConfigFault
+data_of bytes = if is_utf8 bytes then ok_or (read bytes) NotJson else Err NotJson
+
+-- the registry that at most 1,048,576 bytes of JSON text stand for
+abbrev pub registry_in : List ℕ → Result RegistryRecord ConfigFault
+registry_in bytes =
+    if nat_lt 1048576 (length bytes) then Err OutOfRange
+    else (do
+      value ← data_of bytes
+      registry_of value)

@@ -1,0 +1,38 @@
+-- The scope names of a registry, and the scope of a client (RFC 6749, section 3.3).
+use Rattle.std.specs.Prelude.{ℕ, List, [], ◌∷◌, ◌++◌, Option, Some, None, Result, Ok, Err}
+use Rattle.std.specs.Option.{ok_or}
+use Rattle.serde_json.specs.Data.{Data, Items, no_items, item}
+use Rattle.params.specs.Scope.{name_fault, scope_mask}
+use Rattle.params.specs.declared.catalogue.CatalogueFault.{CatalogueFault}
+use Rattle.params.specs.declared.catalogue.CatalogueFault.TheVariants as name
+use Rattle.clients.specs.Faults.{◌>>=◌}
+use Rattle.clients.specs.Json.{text_of}
+use Rattle.clients.specs.declared.fault.ConfigFault.{ConfigFault}
+use Rattle.clients.specs.declared.fault.ConfigFault.TheVariants.{BadScope, Twice, OutOfRange, Memory}
+
+-- the registry's fault for a scope name that its catalogue does not take
+abbrev pub fault_of_name : CatalogueFault → ConfigFault
+fault_of_name name.BadScope = BadScope
+fault_of_name name.TooLong = OutOfRange
+fault_of_name name.Twice = Twice
+fault_of_name name.Full = OutOfRange
+fault_of_name name.Memory = Memory
+
+-- the names with a further one, unless it has a fault
+abbrev pub with_name : List (List ℕ) → List ℕ → Option CatalogueFault → Result (List (List ℕ)) ConfigFault
+with_name names name None = Ok (names ++ name ∷ [])
+with_name names name (Some fault) = Err (fault_of_name fault)
+
+-- the names so far, and the scope names of these items after them
+abbrev pub scopes_after : List (List ℕ) → Items → Result (List (List ℕ)) ConfigFault
+scopes_after names no_items = Ok names
+scopes_after names (item d ds) = do
+  name ← text_of d
+  more ← with_name names name (name_fault names name)
+  scopes_after more ds
+
+-- a string that is a scope text of these names: its mask
+abbrev pub scope_of : List (List ℕ) → Data → Result ℕ ConfigFault
+scope_of names value = do
+  text ← text_of value
+  ok_or (scope_mask names text) BadScope

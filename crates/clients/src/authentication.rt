@@ -1,0 +1,234 @@
+//! Client authentication by HTTP Basic or by parameters (RFC 6749, section 2.3.1; RFC 7617).
+
+ghost use Rattle.std.specs.Prelude.{◌≡◌, ◌==◌, ◌≤◌, length, string_bytes, option_copied, IfOk};
+ghost use Rattle.std.specs.List.{position};
+ghost use Rattle.params.specs.Form.{has_replacement};
+ghost use Rattle.clients.specs.Faults.{GivesUnless, seen_by};
+ghost use Rattle.clients.specs.Authentication.{after_scheme, base64_bytes, utf8_text, basic_text, around_colon, form_text, credentials_of, known, with_secret, by_credentials, by_basic, by_header, by_parameters, authenticated};
+ghost use Rattle.clients.specs.declared.authentication.AuthFault.TheVariants.{Memory};
+
+use crate::client::{ClientNo, Clients};
+use base64::DecodeAllocError;
+use base64::engine::general_purpose::STANDARD;
+use form_urlencoded::decode;
+use params::Params;
+use std::alloc::{AllocError, Global};
+use std::error::Error;
+use std::fmt;
+
+/// Why a request authenticates no client.
+#[derive(Clone, Copy, Debug, PartialEq, Eq, Hash)]
+pub enum AuthFault {
+    /// No client has the identifier, or no credentials were sent.
+    NoClient,
+    /// The client has another secret.
+    BadSecret,
+    /// A header and a parameter beside it that names a secret or another client (RFC 6749, section 2.3).
+    TwoMethods,
+    /// The header is no Basic credentials.
+    BadHeader,
+    /// Memory was refused.
+    Memory,
+}
+
+impl fmt::Display for AuthFault {
+    fn fmt<W: fmt::Write>(&self, f: &mut fmt::Formatter<W>) -> fmt::Result {
+        f.write_str(match self {
+            AuthFault::NoClient => "NoClient",
+            AuthFault::BadSecret => "BadSecret",
+            AuthFault::TwoMethods => "TwoMethods",
+            AuthFault::BadHeader => "BadHeader",
+            AuthFault::Memory => "Memory",
+        })
+    }
+}
+
+impl Error for AuthFault {}
+
+impl From<AllocError> for AuthFault {
+    ghost from_gives = { λ _ fault. fault ≡ Memory };
+
+    fn from(_refused: AllocError) -> AuthFault {
+        AuthFault::Memory
+    }
+}
+
+// What follows `Basic` and one space.
+fn after_scheme(header: &[u8]) -> Result<&[u8], AuthFault>
+    ensures { seen_by (λ rest. rest.now) result ≡ after_scheme header.now }
+{
+    match header.split_at_checked(6) {
+        Some((scheme, rest)) if scheme.eq_ignore_ascii_case(b"basic ") => Ok(rest),
+        _ => Err(AuthFault::BadHeader),
+    }
+}
+
+// The bytes of strict padded base64 (RFC 4648, section 4).
+fn base64_bytes(alloc: Global, encoded: &[u8]) -> Result<Vec<u8>, AuthFault>
+    ensures { GivesUnless AuthFault.Memory (seen_by (λ v. v.items) result) (base64_bytes encoded.now) }
+{
+    match STANDARD.decode(alloc, encoded) {
+        Ok(bytes) => Ok(bytes),
+        Err(DecodeAllocError::OutOfMemory) => Err(AuthFault::Memory),
+        Err(DecodeAllocError::DecodeError(_)) => Err(AuthFault::BadHeader),
+    }
+}
+
+// The bytes as text.
+#[tactic(auto, using(crate::proofs::Texts::text_where, crate::proofs::Texts::no_text_where))]
+fn utf8_text(bytes: Vec<u8>) -> Result<String, AuthFault>
+    ensures { seen_by string_bytes result ≡ utf8_text bytes.items }
+{
+    match String::from_utf8(bytes) {
+        Ok(text) => Ok(text),
+        Err(_) => Err(AuthFault::BadHeader),
+    }
+}
+
+// The text whose base64 follows the scheme.
+fn basic_text(alloc: Global, header: &[u8]) -> Result<String, AuthFault>
+    ensures { GivesUnless AuthFault.Memory (seen_by string_bytes result) (basic_text header.now) }
+{
+    let encoded = after_scheme(header)?;
+    utf8_text(base64_bytes(alloc, encoded)?)
+}
+
+// The place of the first colon.
+fn colon(text: &[u8]) -> Option<usize>
+    ensures { result ≡ position (λ b. b == 58) text.now }
+{
+    text.iter().position(|byte| *byte == b':')
+}
+
+// The bytes on the two sides of the first colon.
+fn around_colon(text: &[u8]) -> Result<(&[u8], &[u8]), AuthFault>
+    ensures { seen_by (λ p. (p.0.now, p.1.now)) result ≡ around_colon text.now }
+{
+    match colon(text) {
+        Some(place) => Ok((&text[..place], &text[place + 1..])),
+        None => Err(AuthFault::BadHeader),
+    }
+}
+
+fn has_replacement(text: &str) -> bool
+    ensures { result ≡ has_replacement text.now }
+{
+    text.contains("\u{FFFD}")
+}
+
+// The text that was form-encoded (RFC 6749, appendix B).
+fn form_text(alloc: Global, bytes: &[u8]) -> Result<String, AuthFault>
+    ensures { GivesUnless AuthFault.Memory (seen_by string_bytes result) (form_text bytes.now) }
+{
+    let text = decode(alloc, bytes)?;
+    if has_replacement(&text) {
+        return Err(AuthFault::BadHeader);
+    }
+    Ok(text.into_owned(alloc)?)
+}
+
+// What a Basic header says of a client.
+#[derive(Drop)]
+struct Credentials {
+    id: String,
+    secret: String,
+}
+
+fn read_credentials(alloc: Global, header: &[u8]) -> Result<Credentials, AuthFault>
+    ensures { GivesUnless AuthFault.Memory (seen_by (λ c. (string_bytes c.id, string_bytes c.secret)) result)
+        (credentials_of header.now) }
+{
+    let text = basic_text(alloc, header)?;
+    let (id, secret) = around_colon(text.as_bytes())?;
+    Ok(Credentials {
+        id: form_text(alloc, id)?,
+        secret: form_text(alloc, secret)?,
+    })
+}
+
+// The number of the client with this identifier.
+fn known(clients: &Clients, id: &str) -> Result<ClientNo, AuthFault>
+    ensures { result ≡ known clients.now id.now }
+{
+    clients.number(id).ok_or(AuthFault::NoClient)
+}
+
+// The number, if the client has this secret.
+fn with_secret(clients: &Clients, number: ClientNo, secret: &str) -> Result<ClientNo, AuthFault>
+    ensures { result ≡ with_secret clients.now number secret.now }
+{
+    match clients.get(number.get()) {
+        Some(client) if client.has_secret(secret) => Ok(number),
+        _ => Err(AuthFault::BadSecret),
+    }
+}
+
+// The client of these credentials, unless a parameter names another one.
+fn by_credentials(
+    clients: &Clients,
+    params: &Params,
+    id: &str,
+    secret: &str,
+) -> Result<ClientNo, AuthFault>
+    ensures { result ≡ by_credentials clients.now params.now id.now secret.now }
+{
+    let number = known(clients, id)?;
+    if params.get("client_id").is_some_and(|other| other != id) {
+        return Err(AuthFault::TwoMethods);
+    }
+    with_secret(clients, number, secret)
+}
+
+// The client of a Basic header's credentials.
+fn by_basic(
+    alloc: Global,
+    clients: &Clients,
+    params: &Params,
+    header: &[u8],
+) -> Result<ClientNo, AuthFault>
+    ensures { GivesUnless AuthFault.Memory result (by_basic clients.now params.now header.now) }
+{
+    let credentials = read_credentials(alloc, header)?;
+    by_credentials(clients, params, &credentials.id, &credentials.secret)
+}
+
+// The client that a header and the parameters beside it authenticate.
+fn by_header(
+    alloc: Global,
+    clients: &Clients,
+    params: &Params,
+    header: &[u8],
+) -> Result<ClientNo, AuthFault>
+    ensures { GivesUnless AuthFault.Memory result (by_header clients.now params.now header.now) }
+{
+    if params.get("client_secret").is_some() {
+        return Err(AuthFault::TwoMethods);
+    }
+    by_basic(alloc, clients, params, header)
+}
+
+// The client that the parameters authenticate.
+fn by_parameters(clients: &Clients, params: &Params) -> Result<ClientNo, AuthFault>
+    ensures { result ≡ by_parameters clients.now params.now }
+{
+    let id = params.get("client_id").ok_or(AuthFault::NoClient)?;
+    let secret = params.get("client_secret").ok_or(AuthFault::NoClient)?;
+    let number = known(clients, id)?;
+    with_secret(clients, number, secret)
+}
+
+// The client that a request authenticates, by its Authorization header or, without one, by its parameters.
+pub(crate) fn authenticate(
+    alloc: Global,
+    clients: &Clients,
+    header: Option<&[u8]>,
+    params: &Params,
+) -> Result<ClientNo, AuthFault>
+    ensures { GivesUnless AuthFault.Memory result
+        (authenticated clients.now (option_copied header.entry) params.now) }
+{
+    match header {
+        Some(header) => by_header(alloc, clients, params, header),
+        None => by_parameters(clients, params),
+    }
+}

@@ -1,0 +1,56 @@
+//! Members, texts, lives and lists of JSON data (RFC 8259).
+
+ghost use Rattle.std.specs.Prelude.{◌≡◌, ◌≤◌, length, IfOk};
+ghost use Rattle.serde_json.specs.View.{view, items_view};
+ghost use Rattle.clients.specs.Faults.{seen_by};
+ghost use Rattle.clients.specs.Json.{member_of, text_of, life_of, list_of, items_within};
+
+use crate::fault::ConfigFault;
+use serde_json::Value;
+
+// The member of this name.
+pub(crate) fn member<'v>(value: &'v Value, name: &str) -> Result<&'v Value, ConfigFault>
+    ensures { seen_by (λ v. view v.now) result ≡ member_of name.now (view value.now) }
+{
+    value.get(name).ok_or(ConfigFault::BadShape)
+}
+
+// The text of a string.
+pub(crate) fn text(value: &Value) -> Result<&str, ConfigFault>
+    ensures { seen_by (λ s. s.now) result ≡ text_of (view value.now) }
+{
+    value.as_str().ok_or(ConfigFault::BadShape)
+}
+
+// A life in seconds.
+pub(crate) fn life(value: &Value) -> Result<u32, ConfigFault>
+    ensures { result ≡ life_of (view value.now) }
+{
+    let number = value.as_number().ok_or(ConfigFault::BadShape)?;
+    match number.as_u64() {
+        Some(life @ 1..=31_536_000) => Ok(life as u32),
+        _ => Err(ConfigFault::OutOfRange),
+    }
+}
+
+// The items of a list.
+pub(crate) fn list(value: &Value) -> Result<&[Value], ConfigFault>
+    ensures { seen_by (λ list. items_view list.now) result ≡ list_of (view value.now) }
+{
+    let list = value.as_array().ok_or(ConfigFault::BadShape)?;
+    Ok(list.as_slice())
+}
+
+// The items of a list, of which there are from the least to the most.
+#[tactic(auto, using(crate::proofs::Items::item_count_of))]
+pub(crate) fn items(value: &Value, least: usize, most: usize) -> Result<&[Value], ConfigFault>
+    ensures value { seen_by (λ list. items_view list.now) result ≡ items_within least most (view value.now) }
+    ensures at_most { IfOk result (λ list. length list.now ≤ most) }
+{
+    let list = list(value)?;
+    if least <= list.len() && list.len() <= most {
+        Ok(list)
+    } else {
+        Err(ConfigFault::OutOfRange)
+    }
+}

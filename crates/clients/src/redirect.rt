@@ -1,0 +1,57 @@
+//! Redirect URIs (RFC 6749, section 3.1.2).
+
+ghost use Rattle.std.specs.Prelude.{◌≡◌, [], map, string_bytes, IfOk};
+ghost use Rattle.serde_json.specs.View.{view, items_view};
+ghost use Rattle.clients.specs.Faults.{GivesUnless, seen_by};
+ghost use Rattle.clients.specs.Redirect.{is_plain_web, is_redirect, redirect_of, redirects_after};
+
+use crate::fault::ConfigFault;
+use crate::json::text;
+use serde_json::Value;
+use std::alloc::{AllocError, Global};
+use url::{ParseError, Url};
+
+fn is_plain_web(url: &Url) -> bool
+    ensures { result ≡ is_plain_web url.now }
+{
+    matches!(url.scheme(), "http" | "https") && url.query().is_none() && url.fragment().is_none()
+}
+
+// Whether the text is a plain web URL in its own spelling.
+fn is_redirect(alloc: Global, text: &str) -> Result<bool, AllocError>
+    ensures { IfOk result (λ answer. answer ≡ is_redirect text.now) }
+{
+    if text.len() > 2048 {
+        return Ok(false);
+    }
+    match Url::parse(alloc, text) {
+        Ok(url) => Ok(is_plain_web(&url) && url.as_str() == text),
+        Err(ParseError::OutOfMemory | ParseError::Overflow) => Err(AllocError),
+        Err(_) => Ok(false),
+    }
+}
+
+// A redirect URI.
+pub(crate) fn redirect(alloc: Global, value: &Value) -> Result<&str, ConfigFault>
+    ensures { GivesUnless ConfigFault.Memory (seen_by (λ s. s.now) result) (redirect_of (view value.now)) }
+{
+    let text = text(value)?;
+    if is_redirect(alloc, text)? {
+        Ok(text)
+    } else {
+        Err(ConfigFault::BadRedirect)
+    }
+}
+
+// The redirect URIs of a list.
+pub(crate) fn redirect_list(alloc: Global, list: &[Value]) -> Result<Vec<String>, ConfigFault>
+    ensures { GivesUnless ConfigFault.Memory (seen_by (λ v. map string_bytes v.items) result)
+        (redirects_after [] (items_view list.now)) }
+{
+    let mut redirects = Vec::new(alloc);
+    for value in list {
+        let redirect = redirect(alloc, value)?;
+        redirects.push(String::from_str(alloc, redirect)?)?;
+    }
+    Ok(redirects)
+}

@@ -1,0 +1,33 @@
+-- U+FFFD in a text, and what a search for it answers.
+use Rattle.std.proofs.Common.{zero, suc, inl, inr, ◌≡◌, ℕ, ◌≤◌, List, [], ◌∷◌, ◌++◌, length, drop, Bool, true, false, nat_eq, refl, sym, arith, MatchBool, None}
+use Rattle.std.specs.List.{starts_with}
+use Rattle.std.specs.Str.Lossy.{replacement_bytes}
+use Rattle.std.specs.Str.Pattern.{FindsText, HasMatch}
+use Rattle.std.proofs.lemmas.Bool.{or_cases, or_left, or_right}
+use Rattle.std.proofs.lemmas.Bool.Decides.{Decides-eqb}
+use Rattle.std.proofs.lemmas.Slice.Eq.{starts_is}
+use Rattle.params.specs.Form.{has_replacement}
+
+-- where it stands, the test says so
+found_at : (text : List ℕ) (i : ℕ) (rest : List ℕ) → drop i text ≡ replacement_bytes ++ rest → has_replacement text ≡ true
+found_at [] zero rest is = cc is
+found_at [] (suc i) rest is = cc is
+found_at (b ∷ bs) zero rest is = or_left _ _ ((starts_is Decides-eqb (b ∷ bs) replacement_bytes _ refl).1 rest is)
+found_at (b ∷ bs) (suc i) rest is = or_right _ _ (found_at bs i rest is)
+
+-- where the test says so, it stands
+place_of : (text : List ℕ) → has_replacement text ≡ true → (i : ℕ) × (i ≤ length text) × (rest : List ℕ) × (drop i text ≡ replacement_bytes ++ rest)
+place_of [] is = cc is
+place_of (b ∷ bs) is =
+    elim (or_cases (starts_with nat_eq (b ∷ bs) replacement_bytes) (has_replacement bs) is) [
+      | inl e ↦ (0, omega arith, drop 3 (b ∷ bs), (starts_is Decides-eqb (b ∷ bs) replacement_bytes _ refl).0 e)
+      | inr e ↦ let w = place_of bs e in (suc w.0, omega (arith, w.1), w.2, w.3)
+    ]
+
+pub contains_is : (r : Bool) (text : List ℕ) → MatchBool r (HasMatch (FindsText replacement_bytes) text) (FindsText replacement_bytes text None) → r ≡ has_replacement text
+contains_is true text h = sym (found_at text h.0 (drop h.1 text) h.2.1.split)
+contains_is false text h = by (has_replacement text) refl
+  where
+    by : (b : Bool) → has_replacement text ≡ b → false ≡ b
+    by false e = refl
+    by true e = let w = place_of text e in absurd (h w.0 w.1 w.2 w.3)

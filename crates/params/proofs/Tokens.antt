@@ -1,0 +1,68 @@
+-- A scope text read token by token.
+use Rattle.std.proofs.Common.{◌≡◌, ℕ, ◌*◌, ◌%◌, ◌^◌, ◌<◌, List, [], ◌∷◌, length, Bool, true, false, ◌&&◌, ◌==◌, refl, sym, ap, ◌∙◌, arith, Option, Some, None, is_some, if◌then◌else◌, bit_or, max}
+use Rattle.std.specs.Prelude.{bytes_eq}
+use Rattle.std.specs.Borrow.{Bor}
+use Rattle.std.specs.List.{list_all}
+use Rattle.std.proofs.lemmas.Iterator.{YieldsList}
+use Rattle.std.proofs.lemmas.List.Splits.{length-slice_split}
+use Rattle.std.proofs.lemmas.Nat.Bits.{bit_at_or, same_from_bits}
+use Rattle.std.specs.Int.{bit_at}
+use Rattle.std.proofs.Math.Pow.{pow-lt}
+use Rattle.std.specs.Int.Bits.{or_zero_r}
+use Rattle.params.specs.Form.{any_twice}
+use Rattle.params.specs.Scope.{is_among, mask_of, place_of, scope_mask, tokens_of}
+use Rattle.params.proofs.Masks.{is_some-position_from, mask_of-cons, mask_of-nil, mask_of-lt, mask_of-positive}
+
+or_assoc : (a b c : ℕ) → bit_or (bit_or a b) c ≡ bit_or a (bit_or b c)
+or_assoc a b c = same_from_bits _ _ (λ i.
+    bit_at_or (bit_or a b) c i ∙ ap (λ n. max n (bit_at c i)) (bit_at_or a b i)
+    ∙ by (bit_at a i) (bit_at b i) (bit_at c i)
+    ∙ ap (λ n. max (bit_at a i) n) (sym (bit_at_or b c i)) ∙ sym (bit_at_or a (bit_or b c) i))
+  where
+    by : (x y z : ℕ) → max (max x y) z ≡ max x (max y z)
+    by x y z = omega arith
+
+-- the answer, when the tokens so far have this mask and those are left
+abbrev pub scope_after : List (List ℕ) → ℕ → List (List ℕ) → Option ℕ
+scope_after names mask left = if list_all (λ token. is_among token names) left then Some (bit_or mask (mask_of names left)) else None
+
+pub scope_after-nil : (names : List (List ℕ)) (mask : ℕ) → scope_after names mask [] ≡ Some mask
+scope_after-nil names mask = ap (λ m. Some (bit_or mask m)) (mask_of-nil names) ∙ ap (λ m. Some m) (or_zero_r mask)
+
+pub scope_after-cons : (names : List (List ℕ)) (mask : ℕ) (t : List ℕ) (ts : List (List ℕ)) (i : ℕ) → any_twice names ≡ false → i < 64 → place_of t names ≡ Some i
+    → scope_after names mask (t ∷ ts) ≡ scope_after names (bit_or mask (1 * 2 ^ i % 2 ^ 64)) ts
+scope_after-cons names mask t ts i once small at =
+    let known : is_among t names ≡ true = sym (is_some-position_from (bytes_eq t) 0 names) ∙ ap (λ o. is_some o) at in
+    let bit : 1 * 2 ^ i % 2 ^ 64 ≡ 2 ^ i = omega (arith, pow-lt small) in
+    rw (known, mask_of-cons names t ts i once at, bit) (ap (λ m. if list_all (λ token. is_among token names) ts then Some m else None) (sym (or_assoc mask (2 ^ i) (mask_of names ts))))
+
+pub scope_after-none : (names : List (List ℕ)) (mask : ℕ) (t : List ℕ) (ts : List (List ℕ)) → place_of t names ≡ None → scope_after names mask (t ∷ ts) ≡ None
+scope_after-none names mask t ts none =
+    let unknown : is_among t names ≡ false = sym (is_some-position_from (bytes_eq t) 0 names) ∙ ap (λ o. is_some o) none in
+    rw unknown refl
+
+-- what a step of the iterator takes from what it has left to yield
+module _ {S : Type 0} {steps : S → Option (Bor (List ℕ)) → S → Type 0} where
+  pub left-some : (s t : S) (x : Bor (List ℕ)) (left : List (List ℕ)) → YieldsList steps (λ y. y.now) s left → steps s (Some x) t
+      → (ts : List (List ℕ)) × YieldsList steps (λ y. y.now) t ts × (left ≡ x.now ∷ ts)
+  left-some s t x [] h k = absurd (h.runs x t k)
+  left-some s t x (y ∷ ys) h k = let w = h.runs.1 x t k in (ys, record { runs = w.1 }, ap (λ z. z ∷ ys) (sym w.0))
+
+  pub left-none : (s t : S) (left : List (List ℕ)) → YieldsList steps (λ y. y.now) s left → steps s None t → left ≡ []
+  left-none s t [] h k = refl
+  left-none s t (y ∷ ys) h k = absurd (h.runs.0 t k)
+
+-- a mask that was read is of some names, and of no others
+pub mask_within : (names : List (List ℕ)) (text : List ℕ) (mask : ℕ) → scope_mask names text ≡ Some mask → (0 < mask) × (mask < 2 ^ length names)
+mask_within names text mask is = by (tokens_of text) (omega (arith, length-slice_split (λ b. b == 0x20) text)) is
+  where
+    by : (ts : List (List ℕ)) → 0 < length ts → (if list_all (λ token. is_among token names) ts then Some (mask_of names ts) else None) ≡ Some mask → (0 < mask) × (mask < 2 ^ length names)
+    by [] some e = absurd (omega arith)
+    by (t ∷ ts) some e = known (is_among t names) refl (list_all (λ token. is_among token names) ts) e
+      where
+        known : (a : Bool) → is_among t names ≡ a → (b : Bool) → (if a && b then Some (mask_of names (t ∷ ts)) else None) ≡ Some mask → (0 < mask) × (mask < 2 ^ length names)
+        known true f true g =
+            let made : mask_of names (t ∷ ts) ≡ mask = cc g in
+            (omega (arith, made, mask_of-positive names t ts f), omega (arith, made, mask_of-lt names (t ∷ ts)))
+        known true f false g = cc g
+        known false f b g = cc g

@@ -1,0 +1,12 @@
+use Rattle.std.proofs.Common.{◌≡◌, List, ℕ}
+use Rattle.std.specs.Str.Iter.{split_steps}
+use Rattle.std.specs.Str.Pattern.{FindsChar}
+use Rattle.std.proofs.lemmas.Iterator.{YieldsList}
+use Rattle.params.specs.Scope.{scope_mask}
+use Rattle.params.proofs.Tokens.{scope_after}
+use Rattle.params.proofs.catalogue.Catalogue.scope_mask.Given as goal
+
+abbrev pub invariant-loop-token : goal.invariant-loop-token
+invariant-loop-token l =
+    (left : List (List ℕ)) × YieldsList (split_steps FindsChar (λ a b. b ≡ a)) (λ x. x.now) l.token-iterator left
+    × (scope_after l.self l.mask left ≡ scope_mask l.self l.text)
