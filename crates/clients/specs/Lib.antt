@@ -11,3 +11,4 @@ pub mod Clients
 pub mod Authentication
 pub mod RegistryRecord
 pub mod Registry
+pub mod FaultTexts

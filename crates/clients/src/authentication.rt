@@ -1,8 +1,8 @@
 //! Client authentication by HTTP Basic or by parameters (RFC 6749, section 2.3.1; RFC 7617).
 
-ghost use Rattle.std.specs.Prelude.{◌≡◌, ◌==◌, ◌≤◌, length, string_bytes, option_copied, IfOk};
+ghost use Rattle.std.specs.Prelude.{◌≡◌, ◌==◌, ◌≤◌, length, string_bytes, option_copied, IfOk, Some};
+ghost use Rattle.clients.specs.FaultTexts.{auth_fault_text};
 ghost use Rattle.std.specs.List.{position};
-ghost use Rattle.params.specs.Form.{has_replacement};
 ghost use Rattle.clients.specs.Faults.{GivesUnless, seen_by};
 ghost use Rattle.clients.specs.Authentication.{after_scheme, base64_bytes, utf8_text, basic_text, around_colon, form_text, credentials_of, known, with_secret, by_credentials, by_basic, by_header, by_parameters, authenticated};
 ghost use Rattle.clients.specs.declared.authentication.AuthFault.TheVariants.{Memory};
@@ -11,7 +11,7 @@ use crate::client::{ClientNo, Clients};
 use base64::DecodeAllocError;
 use base64::engine::general_purpose::STANDARD;
 use form_urlencoded::decode;
-use params::Params;
+use params::{Params, has_replacement};
 use std::alloc::{AllocError, Global};
 use std::error::Error;
 use std::fmt;
@@ -32,14 +32,16 @@ pub enum AuthFault {
 }
 
 impl fmt::Display for AuthFault {
+    ghost output = { λ fault. Some (auth_fault_text fault) };
+
     fn fmt<W: fmt::Write>(&self, f: &mut fmt::Formatter<W>) -> fmt::Result {
-        f.write_str(match self {
-            AuthFault::NoClient => "NoClient",
-            AuthFault::BadSecret => "BadSecret",
-            AuthFault::TwoMethods => "TwoMethods",
-            AuthFault::BadHeader => "BadHeader",
-            AuthFault::Memory => "Memory",
-        })
+        match self {
+            AuthFault::NoClient => write!(f, "NoClient"),
+            AuthFault::BadSecret => write!(f, "BadSecret"),
+            AuthFault::TwoMethods => write!(f, "TwoMethods"),
+            AuthFault::BadHeader => write!(f, "BadHeader"),
+            AuthFault::Memory => write!(f, "Memory"),
+        }
     }
 }
 
@@ -108,12 +110,6 @@ fn around_colon(text: &[u8]) -> Result<(&[u8], &[u8]), AuthFault>
         Some(place) => Ok((&text[..place], &text[place + 1..])),
         None => Err(AuthFault::BadHeader),
     }
-}
-
-fn has_replacement(text: &str) -> bool
-    ensures { result ≡ has_replacement text.now }
-{
-    text.contains("\u{FFFD}")
 }
 
 // The text that was form-encoded (RFC 6749, appendix B).

@@ -1,6 +1,7 @@
 //! Why a registry is refused.
 
-ghost use Rattle.std.specs.Prelude.{◌≡◌};
+ghost use Rattle.std.specs.Prelude.{◌≡◌, Some};
+ghost use Rattle.clients.specs.FaultTexts.{config_fault_text};
 ghost use Rattle.clients.specs.Scopes.{fault_of_name};
 ghost use Rattle.clients.specs.declared.fault.ConfigFault.TheVariants.{Memory};
 
@@ -29,16 +30,18 @@ pub enum ConfigFault {
 }
 
 impl fmt::Display for ConfigFault {
+    ghost output = { λ fault. Some (config_fault_text fault) };
+
     fn fmt<W: fmt::Write>(&self, f: &mut fmt::Formatter<W>) -> fmt::Result {
-        f.write_str(match self {
-            ConfigFault::NotJson => "NotJson",
-            ConfigFault::BadShape => "BadShape",
-            ConfigFault::BadScope => "BadScope",
-            ConfigFault::BadRedirect => "BadRedirect",
-            ConfigFault::Twice => "Twice",
-            ConfigFault::OutOfRange => "OutOfRange",
-            ConfigFault::Memory => "Memory",
-        })
+        match self {
+            ConfigFault::NotJson => write!(f, "NotJson"),
+            ConfigFault::BadShape => write!(f, "BadShape"),
+            ConfigFault::BadScope => write!(f, "BadScope"),
+            ConfigFault::BadRedirect => write!(f, "BadRedirect"),
+            ConfigFault::Twice => write!(f, "Twice"),
+            ConfigFault::OutOfRange => write!(f, "OutOfRange"),
+            ConfigFault::Memory => write!(f, "Memory"),
+        }
     }
 }
 

@@ -5,3 +5,4 @@ pub mod Histories
 pub mod Live
 pub mod Covered
 pub mod Consents
+pub mod FaultTexts

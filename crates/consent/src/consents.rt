@@ -1,8 +1,9 @@
 //! The consents that are kept.
 
-ghost use Rattle.std.specs.Prelude.{◌≡◌, ◌≢◌, ℕ, List, [], true, false, IsOk, IsErrOf, OnOk, OnErr};
+ghost use Rattle.std.specs.Prelude.{◌≡◌, ◌≢◌, ℕ, List, [], true, false, Some, IsOk, IsErrOf, OnOk, OnErr};
 ghost use Rattle.consent.specs.History.{Event, consented_scope, has_consent_room, with_change};
 ghost use Rattle.consent.specs.History.Change.{Consented};
+ghost use Rattle.consent.specs.FaultTexts.{consent_fault_text};
 
 use crate::limits::CONSENT_LIMIT;
 use crate::parties::Parties;
@@ -21,6 +22,8 @@ pub enum ConsentFault {
 }
 
 impl Display for ConsentFault {
+    ghost output = { λ fault. Some (consent_fault_text fault) };
+
     fn fmt<W: Write>(&self, f: &mut Formatter<W>) -> fmt::Result {
         match self {
             ConsentFault::Full => write!(f, "Full"),

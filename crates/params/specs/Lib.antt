@@ -1,2 +1,3 @@
 pub mod Form
 pub mod Scope
+pub mod FaultTexts

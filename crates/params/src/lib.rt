@@ -8,7 +8,7 @@ mod catalogue;
 mod params;
 
 pub use catalogue::{Catalogue, CatalogueFault};
-pub use params::{ParamFault, Params};
+pub use params::{ParamFault, Params, has_replacement};
 
 #[cfg(test)]
 mod tests;

@@ -1,6 +1,7 @@
 // The parameters of a query or a form.
-ghost use Rattle.std.specs.Prelude.{◌≡◌, ◌⊎◌, ◌↔◌, ℕ, List, IsTrue, IfOk, IfErr, OnOk, Ok, Err, option_copied, is_some, string_bytes};
+ghost use Rattle.std.specs.Prelude.{◌≡◌, ◌⊎◌, ◌↔◌, ℕ, List, IsTrue, IfOk, IfErr, OnOk, Ok, Err, Some, option_copied, is_some, string_bytes};
 ghost use Rattle.params.specs.declared.params.ParamFault.TheVariants.{Memory};
+ghost use Rattle.params.specs.FaultTexts.{param_fault_text};
 ghost use Rattle.params.specs.Form.{SameValues, pairs, read_params, value_of, has_replacement, texts_of, put};
 
 use form_urlencoded::parse;
@@ -21,12 +22,14 @@ pub enum ParamFault {
 }
 
 impl fmt::Display for ParamFault {
+    ghost output = { λ fault. Some (param_fault_text fault) };
+
     fn fmt<W: fmt::Write>(&self, f: &mut fmt::Formatter<W>) -> fmt::Result {
-        f.write_str(match self {
-            ParamFault::Twice => "Twice",
-            ParamFault::NotUtf8 => "NotUtf8",
-            ParamFault::Memory => "Memory",
-        })
+        match self {
+            ParamFault::Twice => write!(f, "Twice"),
+            ParamFault::NotUtf8 => write!(f, "NotUtf8"),
+            ParamFault::Memory => write!(f, "Memory"),
+        }
     }
 }
 
@@ -112,8 +115,8 @@ fn enter(
     Ok(values.insert(name, value)?.is_some())
 }
 
-// Whether U+FFFD stands in the text.
-fn has_replacement(text: &str) -> bool
+/// Whether U+FFFD stands in a text: form-decoding puts it where bytes are no UTF-8.
+pub fn has_replacement(text: &str) -> bool
     ensures { result ≡ has_replacement text.now }
 {
     text.contains("\u{FFFD}")

@@ -1,5 +1,0 @@
-use Rattle.params.proofs.Replaced.{contains_is}
-use Rattle.clients.proofs.authentication.has_replacement.Goals as goal
-
-pub returns : goal.returns
-returns c = contains_is c.contains.result c.args.text.now c.contains.ensures.cases
