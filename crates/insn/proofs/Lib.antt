@@ -1,3 +1,6 @@
 pub mod Bytes
 pub mod Spellings
+pub mod Rows
+pub mod Rereading
+pub mod Faultless
 pub mod Reading

@@ -1,135 +1,42 @@
--- Reading instructions back from their slots, and slots from their bytes.
-use Rattle.std.proofs.Common.{◌≡◌, ℕ, ◌+◌, ◌*◌, ◌/◌, ◌%◌, ◌^◌, ◌<◌, ◌≤◌, false, cond, eqb, List, [], ◌∷◌, ◌++◌, length, Option, Some, None, Result, Ok, Err, IfErr, get_or, refl, sym, ap, ◌∙◌, arith, append_assoc, FitsSigned, w16, w32, pos, rules}
-use Rattle.std.specs.Prelude.{nat_lt}
+-- Reading slots back from their bytes, and programs from theirs.
+use Rattle.std.proofs.Common.{◌≡◌, ℕ, ◌+◌, ◌*◌, ◌/◌, ◌%◌, ◌^◌, ◌<◌, List, [], ◌∷◌, ◌++◌, length, drop, Some, None, Result, Ok, Err, IfErr, get_or, refl, sym, ap, ◌∙◌, arith, append_assoc, FitsSigned, w16, w32, pos, rules}
 use Rattle.std.specs.Int.{cast_signed, cast_unsigned}
 use Rattle.std.specs.List.{flat_map, AllByRecursion}
 use Rattle.std.proofs.lemmas.Int.{ints, to_z-of_z}
 use Rattle.std.proofs.lemmas.List.{append_cancel_left}
+use Rattle.std.proofs.lemmas.List.Concat.{flat_map-append}
+use Rattle.std.proofs.Math.Facts.{sfits_to_z}
 use Rattle.insn.specs.declared.register.RegNo.{RegNo}
 use Rattle.insn.specs.declared.register.RegNo.TheVariants.{R0, R1, R2, R3, R4, R5, R6, R7, R8, R9, R10}
-use Rattle.insn.specs.declared.operation.AluOp.TheVariants.{Mov}
-use Rattle.insn.specs.declared.operation.Size.{Size}
-use Rattle.insn.specs.declared.operation.Size.TheVariants.{One, Two, Four, Eight}
+use Rattle.insn.specs.declared.instruction.Operand.TheVariants.{Reg, Imm}
 use Rattle.insn.specs.declared.instruction.Insn.{Insn}
-use Rattle.insn.specs.declared.instruction.Insn.TheVariants.{Alu64Imm, Alu64Reg, Load, StoreImm, Jump, Exit}
+use Rattle.insn.specs.declared.instruction.Insn.TheVariants.{Alu64Imm, Alu64Reg, Alu32Imm, Alu32Reg, Divide, Remainder, Negate, MoveSigned, SwapBytes, LoadWide, Load, LoadSigned, StoreReg, StoreImm, Jump, JumpLong, Jump64IfImm, Jump64IfReg, Jump32IfImm, Jump32IfReg, Exit}
+use Rattle.insn.specs.declared.operation.Signedness.TheVariants.{Unsigned, Signed}
+use Rattle.insn.specs.declared.operation.Extension.TheVariants.{From8To64, From16To64, From32To64, From8To32, From16To32}
+use Rattle.insn.specs.declared.operation.SwapBits.TheVariants.{B16, B32, B64}
 use Rattle.insn.specs.declared.slot.Slot.{Slot}
 use Rattle.insn.specs.declared.fault.SlotFault.{SlotFault}
 use Rattle.insn.specs.declared.fault.InsnFault.{InsnFault}
 use Rattle.insn.specs.declared.fault.InsnFault.TheVariants as faults
-use Rattle.insn.specs.Instruction.{reg_number}
+use Rattle.insn.specs.Instruction.{reg_number, Fits}
 use Rattle.insn.specs.Program.{slot_count}
-use Rattle.insn.specs.Values.{◌>>=◌}
-use Rattle.insn.specs.Spelling.{slot, slots, slot_bytes, slot_fault, fields_of, spelling, FaultAt, FirstFault, Fits, Spells}
+use Rattle.insn.specs.Spelling.{slot, slots, slot_bytes, slot_fault, spelling, FaultAt, FirstFault, Spells}
 use Rattle.insn.proofs.Spellings.{length-spelling}
+use Rattle.insn.proofs.Rereading.{read, read-slots}
+use Rattle.insn.proofs.Faultless.{first_good}
 
--- ---- instructions from slots
-
--- the first of some answers at a number
-abbrev among : {A : Type 0} → List (ℕ × A) → ℕ → Option A
-among [] n = None
-among (x ∷ xs) n = cond (eqb n x.0) (Some x.1) (among xs n)
-
-abbrev reg_of : ℕ → Option RegNo
-reg_of = among ((0, R0) ∷ (1, R1) ∷ (2, R2) ∷ (3, R3) ∷ (4, R4) ∷ (5, R5) ∷ (6, R6) ∷ (7, R7) ∷ (8, R8) ∷ (9, R9) ∷ (10, R10) ∷ [])
-
-reg_back : (r : RegNo) → reg_of (reg_number r) ≡ Some r
-reg_back R0 = refl
-reg_back R1 = refl
-reg_back R2 = refl
-reg_back R3 = refl
-reg_back R4 = refl
-reg_back R5 = refl
-reg_back R6 = refl
-reg_back R7 = refl
-reg_back R8 = refl
-reg_back R9 = refl
-reg_back R10 = refl
-
-reg_small : (r : RegNo) → reg_number r ≤ 10
-reg_small R0 = omega arith
-reg_small R1 = omega arith
-reg_small R2 = omega arith
-reg_small R3 = omega arith
-reg_small R4 = omega arith
-reg_small R5 = omega arith
-reg_small R6 = omega arith
-reg_small R7 = omega arith
-reg_small R8 = omega arith
-reg_small R9 = omega arith
-reg_small R10 = omega arith
-
-reg_good : (r : RegNo) → nat_lt 10 (reg_number r) ≡ false
-reg_good R0 = refl
-reg_good R1 = refl
-reg_good R2 = refl
-reg_good R3 = refl
-reg_good R4 = refl
-reg_good R5 = refl
-reg_good R6 = refl
-reg_good R7 = refl
-reg_good R8 = refl
-reg_good R9 = refl
-reg_good R10 = refl
-
--- what an opcode makes of the fields of a slot
-abbrev Maker : Type 0
-Maker = Slot → Option Insn
-
-move_imm : Maker
-move_imm s = reg_of s.dst >>= λ dst. Some (Alu64Imm Mov dst s.imm)
-
-move_reg : Maker
-move_reg s = reg_of s.dst >>= λ dst. reg_of s.src >>= λ src. Some (Alu64Reg Mov dst src)
-
-load : Size → Maker
-load size s = reg_of s.dst >>= λ dst. reg_of s.src >>= λ src. Some (Load size dst src s.offset)
-
-store_imm : Size → Maker
-store_imm size s = reg_of s.dst >>= λ dst. Some (StoreImm size dst s.offset s.imm)
-
-abbrev maker_of : ℕ → Option Maker
-maker_of = among ((0xb7, move_imm) ∷ (0xbf, move_reg)
-    ∷ (0x71, load One) ∷ (0x69, load Two) ∷ (0x61, load Four) ∷ (0x79, load Eight)
-    ∷ (0x72, store_imm One) ∷ (0x6a, store_imm Two) ∷ (0x62, store_imm Four) ∷ (0x7a, store_imm Eight)
-    ∷ (0x05, λ s. Some (Jump s.offset)) ∷ (0x95, λ s. Some Exit) ∷ [])
-
--- the instruction in front
-abbrev read : List Slot → Option Insn
-read [] = None
-read (s ∷ rest) = maker_of s.opcode >>= λ make. make s
-
-read-slots : (i : Insn) (x : List Slot) → Fits i → read (slots i ++ x) ≡ Some i
-unfolding move_imm move_reg load store_imm
-read-slots (Alu64Imm Mov dst imm) x fits = rw (reg_back dst) refl
-read-slots (Alu64Reg Mov dst src) x fits = rw (reg_back dst, reg_back src) refl
-read-slots (Load One dst src offset) x fits = rw (reg_back dst, reg_back src) refl
-read-slots (Load Two dst src offset) x fits = rw (reg_back dst, reg_back src) refl
-read-slots (Load Four dst src offset) x fits = rw (reg_back dst, reg_back src) refl
-read-slots (Load Eight dst src offset) x fits = rw (reg_back dst, reg_back src) refl
-read-slots (StoreImm One dst offset imm) x fits = rw (reg_back dst) refl
-read-slots (StoreImm Two dst offset imm) x fits = rw (reg_back dst) refl
-read-slots (StoreImm Four dst offset imm) x fits = rw (reg_back dst) refl
-read-slots (StoreImm Eight dst offset imm) x fits = rw (reg_back dst) refl
-read-slots (Jump offset) x fits = refl
-read-slots Exit x fits = refl
-read-slots i x fits = absurd fits
-
--- the first slot of an instruction has no fault
-first_good : (i : Insn) (x : List Slot) (d : Slot) → Fits i → slot_fault (get_or (slots i ++ x) 0 d) ≡ None
-unfolding fields_of
-first_good (Alu64Imm Mov dst imm) x d fits = rw (reg_good dst) refl
-first_good (Alu64Reg Mov dst src) x d fits = rw (reg_good dst, reg_good src) refl
-first_good (Load One dst src offset) x d fits = rw (reg_good dst, reg_good src) refl
-first_good (Load Two dst src offset) x d fits = rw (reg_good dst, reg_good src) refl
-first_good (Load Four dst src offset) x d fits = rw (reg_good dst, reg_good src) refl
-first_good (Load Eight dst src offset) x d fits = rw (reg_good dst, reg_good src) refl
-first_good (StoreImm One dst offset imm) x d fits = rw (reg_good dst) refl
-first_good (StoreImm Two dst offset imm) x d fits = rw (reg_good dst) refl
-first_good (StoreImm Four dst offset imm) x d fits = rw (reg_good dst) refl
-first_good (StoreImm Eight dst offset imm) x d fits = rw (reg_good dst) refl
-first_good (Jump offset) x d fits = refl
-first_good Exit x d fits = refl
-first_good i x d fits = absurd fits
+reg_fits : (r : RegNo) → reg_number r < 16
+reg_fits R0 = omega arith
+reg_fits R1 = omega arith
+reg_fits R2 = omega arith
+reg_fits R3 = omega arith
+reg_fits R4 = omega arith
+reg_fits R5 = omega arith
+reg_fits R6 = omega arith
+reg_fits R7 = omega arith
+reg_fits R8 = omega arith
+reg_fits R9 = omega arith
+reg_fits R10 = omega arith
 
 -- ---- slots from bytes
 
@@ -165,17 +72,46 @@ no_offset = search rules
 no_imm : FitsSigned w32 (pos 0)
 no_imm = search rules
 
-reg_fits : (r : RegNo) → reg_number r < 16
-reg_fits r = omega (arith, reg_small r)
+half_fits : (n : ℕ) → n < 2 ^ 32 → FitsSigned w32 (cast_signed w32 n)
+half_fits n lt = sfits_to_z (record { fits = lt })
 
 sized : (i : Insn) → Fits i → AllByRecursion Sized (slots i)
-sized (Alu64Imm Mov dst imm) fits = (record { dst = reg_fits dst; src = omega arith; offset = no_offset; imm = fits }, tt)
-sized (Alu64Reg Mov dst src) fits = (record { dst = reg_fits dst; src = reg_fits src; offset = no_offset; imm = no_imm }, tt)
+sized (Alu64Imm op dst imm) fits = (record { dst = reg_fits dst; src = omega arith; offset = no_offset; imm = fits }, tt)
+sized (Alu64Reg op dst src) fits = (record { dst = reg_fits dst; src = reg_fits src; offset = no_offset; imm = no_imm }, tt)
+sized (Alu32Imm op dst imm) fits = (record { dst = reg_fits dst; src = omega arith; offset = no_offset; imm = fits }, tt)
+sized (Alu32Reg op dst src) fits = (record { dst = reg_fits dst; src = reg_fits src; offset = no_offset; imm = no_imm }, tt)
+sized (Divide width Unsigned dst (Imm imm)) fits = (record { dst = reg_fits dst; src = omega arith; offset = no_offset; imm = fits }, tt)
+sized (Divide width Unsigned dst (Reg src)) fits = (record { dst = reg_fits dst; src = reg_fits src; offset = no_offset; imm = no_imm }, tt)
+sized (Divide width Signed dst (Imm imm)) fits = (record { dst = reg_fits dst; src = omega arith; offset = search rules; imm = fits }, tt)
+sized (Divide width Signed dst (Reg src)) fits = (record { dst = reg_fits dst; src = reg_fits src; offset = search rules; imm = no_imm }, tt)
+sized (Remainder width Unsigned dst (Imm imm)) fits = (record { dst = reg_fits dst; src = omega arith; offset = no_offset; imm = fits }, tt)
+sized (Remainder width Unsigned dst (Reg src)) fits = (record { dst = reg_fits dst; src = reg_fits src; offset = no_offset; imm = no_imm }, tt)
+sized (Remainder width Signed dst (Imm imm)) fits = (record { dst = reg_fits dst; src = omega arith; offset = search rules; imm = fits }, tt)
+sized (Remainder width Signed dst (Reg src)) fits = (record { dst = reg_fits dst; src = reg_fits src; offset = search rules; imm = no_imm }, tt)
+sized (Negate width dst) fits = (record { dst = reg_fits dst; src = omega arith; offset = no_offset; imm = no_imm }, tt)
+sized (MoveSigned From8To64 dst src) fits = (record { dst = reg_fits dst; src = reg_fits src; offset = search rules; imm = no_imm }, tt)
+sized (MoveSigned From16To64 dst src) fits = (record { dst = reg_fits dst; src = reg_fits src; offset = search rules; imm = no_imm }, tt)
+sized (MoveSigned From32To64 dst src) fits = (record { dst = reg_fits dst; src = reg_fits src; offset = search rules; imm = no_imm }, tt)
+sized (MoveSigned From8To32 dst src) fits = (record { dst = reg_fits dst; src = reg_fits src; offset = search rules; imm = no_imm }, tt)
+sized (MoveSigned From16To32 dst src) fits = (record { dst = reg_fits dst; src = reg_fits src; offset = search rules; imm = no_imm }, tt)
+sized (SwapBytes kind B16 dst) fits = (record { dst = reg_fits dst; src = omega arith; offset = no_offset; imm = search rules }, tt)
+sized (SwapBytes kind B32 dst) fits = (record { dst = reg_fits dst; src = omega arith; offset = no_offset; imm = search rules }, tt)
+sized (SwapBytes kind B64 dst) fits = (record { dst = reg_fits dst; src = omega arith; offset = no_offset; imm = search rules }, tt)
+sized (LoadWide dst value) fits = (
+  record { dst = reg_fits dst; src = omega arith; offset = no_offset; imm = half_fits (value % 2 ^ 32) (omega arith) },
+  (record { dst = omega arith; src = omega arith; offset = no_offset; imm = half_fits (value / 2 ^ 32) (omega arith) }, tt),
+)
 sized (Load size dst src offset) fits = (record { dst = reg_fits dst; src = reg_fits src; offset = fits; imm = no_imm }, tt)
+sized (LoadSigned size dst src offset) fits = (record { dst = reg_fits dst; src = reg_fits src; offset = fits; imm = no_imm }, tt)
+sized (StoreReg size dst src offset) fits = (record { dst = reg_fits dst; src = reg_fits src; offset = fits; imm = no_imm }, tt)
 sized (StoreImm size dst offset imm) fits = (record { dst = reg_fits dst; src = omega arith; offset = fits.0; imm = fits.1 }, tt)
 sized (Jump offset) fits = (record { dst = omega arith; src = omega arith; offset = fits; imm = no_imm }, tt)
+sized (JumpLong offset) fits = (record { dst = omega arith; src = omega arith; offset = no_offset; imm = fits }, tt)
+sized (Jump64IfImm c dst offset imm) fits = (record { dst = reg_fits dst; src = omega arith; offset = fits.0; imm = fits.1 }, tt)
+sized (Jump64IfReg c dst src offset) fits = (record { dst = reg_fits dst; src = reg_fits src; offset = fits; imm = no_imm }, tt)
+sized (Jump32IfImm c dst offset imm) fits = (record { dst = reg_fits dst; src = omega arith; offset = fits.0; imm = fits.1 }, tt)
+sized (Jump32IfReg c dst src offset) fits = (record { dst = reg_fits dst; src = reg_fits src; offset = fits; imm = no_imm }, tt)
 sized Exit fits = (record { dst = omega arith; src = omega arith; offset = no_offset; imm = no_imm }, tt)
-sized i fits = absurd fits
 
 sized-append : (xs ys : List Slot) → AllByRecursion Sized xs → AllByRecursion Sized ys → AllByRecursion Sized (xs ++ ys)
 sized-append [] ys a b = b
@@ -221,30 +157,39 @@ one_program bytes p q sp sq =
 
 -- ---- what is spelled has no fault
 
+-- the bytes of an instruction, and those of the ones behind it
+one_more : (i : Insn) (p : List Insn) → spelling (i ∷ p) ≡ flat_map slot_bytes (slots i) ++ spelling p
+one_more i p = flat_map-append slot_bytes (slots i) (flat_map slots p)
+
 -- no program has a faulty slot behind some instructions
-no_faulty_slot : (before p : List Insn) (here : Slot) (later : List Slot) (f : SlotFault) → AllByRecursion Fits before → AllByRecursion Fits p
-    → flat_map slots before ++ (here ∷ later) ≡ flat_map slots p → slot_fault here ≡ Some f → ⊥
-no_faulty_slot [] [] here later f fb fp e faulty = absurd cc
-no_faulty_slot [] (j ∷ p) here later f fb fp e faulty =
-    let here_is : here ≡ get_or (slots j ++ flat_map slots p) 0 here = ap (λ (l : List Slot). get_or l 0 here) e in
-    let good : slot_fault here ≡ None = ap slot_fault here_is ∙ first_good j (flat_map slots p) here fp.0 in
+no_faulty_slot : (before p : List Insn) (here : Slot) (rest : List ℕ) (f : SlotFault) → AllByRecursion Fits before → AllByRecursion Fits p → Sized here
+    → spelling before ++ (slot_bytes here ++ rest) ≡ spelling p → slot_fault here rest ≡ Some f → ⊥
+no_faulty_slot [] [] here rest f fb fp z e faulty = absurd cc
+no_faulty_slot [] (j ∷ p) here rest f fb fp z e faulty =
+    let firsts : here ∷ unspell rest ≡ slots j ++ flat_map slots p = sym (unspell-slot here rest z) ∙ ap unspell e ∙ slots_of_spelling (j ∷ p) fp in
+    let here_is : here ≡ get_or (slots j ++ flat_map slots p) 0 here = ap (λ (l : List Slot). get_or l 0 here) firsts in
+    let rest_is : rest ≡ drop 8 (spelling (j ∷ p)) = ap (drop 8) e in
+    let good : slot_fault here rest ≡ None =
+    ap (λ (s : Slot). slot_fault s rest) here_is ∙ ap (λ (l : List ℕ). slot_fault (get_or (slots j ++ flat_map slots p) 0 here) l) rest_is ∙ first_good j (flat_map slots p) here in
     absurd cc
-no_faulty_slot (i ∷ before) [] here later f fb fp e faulty =
-    let h : Some i ≡ None = sym (read-slots i (flat_map slots before ++ (here ∷ later)) fb.0) ∙ ap read (sym (append_assoc (slots i) (flat_map slots before) (here ∷ later)) ∙ e) in absurd cc
-no_faulty_slot (i ∷ before) (j ∷ p) here later f fb fp e faulty =
-    let whole : slots i ++ (flat_map slots before ++ (here ∷ later)) ≡ slots j ++ flat_map slots p = sym (append_assoc (slots i) (flat_map slots before) (here ∷ later)) ∙ e in
-    let h : Some i ≡ Some j = sym (read-slots i (flat_map slots before ++ (here ∷ later)) fb.0) ∙ ap read whole ∙ read-slots j (flat_map slots p) fp.0 in
+no_faulty_slot (i ∷ before) [] here rest f fb fp z e faulty =
+    let more = slots_in (i ∷ before) (slot_bytes here ++ rest) fb in
+    let h : Some i ≡ None = sym (read-slots i (flat_map slots before ++ unspell (slot_bytes here ++ rest)) fb.0)
+    ∙ ap read (sym (append_assoc (slots i) (flat_map slots before) (unspell (slot_bytes here ++ rest))) ∙ sym more ∙ ap unspell e) in absurd cc
+no_faulty_slot (i ∷ before) (j ∷ p) here rest f fb fp z e faulty =
+    let later = slot_bytes here ++ rest in
+    let whole : slots i ++ (flat_map slots before ++ unspell later) ≡ slots j ++ flat_map slots p =
+    sym (append_assoc (slots i) (flat_map slots before) (unspell later)) ∙ sym (slots_in (i ∷ before) later fb) ∙ ap unspell e ∙ slots_of_spelling (j ∷ p) fp in
+    let h : Some i ≡ Some j = sym (read-slots i (flat_map slots before ++ unspell later) fb.0) ∙ ap read whole ∙ read-slots j (flat_map slots p) fp.0 in
     let same : i ≡ j = cc in
-    let tails : slots i ++ (flat_map slots before ++ (here ∷ later)) ≡ slots i ++ flat_map slots p = whole ∙ ap (λ (k : Insn). slots k ++ flat_map slots p) (sym same) in
-    no_faulty_slot before p here later f fb.1 fp.1 (append_cancel_left (slots i) (flat_map slots before ++ (here ∷ later)) (flat_map slots p) tails) faulty
+    let tails : flat_map slot_bytes (slots i) ++ (spelling before ++ later) ≡ flat_map slot_bytes (slots i) ++ spelling p =
+    sym (append_assoc (flat_map slot_bytes (slots i)) (spelling before) later) ∙ ap (λ (l : List ℕ). l ++ later) (sym (one_more i before)) ∙ e ∙ one_more j p
+    ∙ ap (λ (k : Insn). flat_map slot_bytes (slots k) ++ spelling p) (sym same) in
+    no_faulty_slot before p here rest f fb.1 fp.1 z (append_cancel_left (flat_map slot_bytes (slots i)) (spelling before ++ later) (spelling p) tails) faulty
 
 no_fault_at : (bytes : List ℕ) (p : List Insn) (at : ℕ) (f : SlotFault) → FaultAt bytes at f → Spells bytes p → ⊥
 no_fault_at bytes p at f h s =
-    let z : Sized h.here = record { dst = h.sizes.dst; src = h.sizes.src; offset = h.sizes.offset; imm = h.sizes.imm } in
-    let e : flat_map slots h.before ++ (h.here ∷ unspell h.rest) ≡ flat_map slots p =
-    ap (λ (l : List Slot). flat_map slots h.before ++ l) (sym (unspell-slot h.here h.rest z))
-    ∙ sym (slots_in h.before (slot_bytes h.here ++ h.rest) h.fit) ∙ ap unspell (sym h.spelled ∙ s.spelled) ∙ slots_of_spelling p s.fit in
-    no_faulty_slot h.before p h.here (unspell h.rest) f h.fit s.fit e h.faulty
+    no_faulty_slot h.before p h.here h.rest f h.fit s.fit (record { dst = h.sizes.dst; src = h.sizes.src; offset = h.sizes.offset; imm = h.sizes.imm }) (sym h.spelled ∙ s.spelled) h.faulty
 
 -- bytes that spell a program have no fault but a want of memory
 pub only_memory : (bytes : List ℕ) (f : InsnFault) → FirstFault bytes f → (p : List Insn) → Spells bytes p → f ≡ faults.Memory

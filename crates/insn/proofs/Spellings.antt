@@ -1,16 +1,16 @@
 -- Instructions one after the other, and their bytes.
-use Rattle.std.proofs.Common.{◌≡◌, ℕ, ◌*◌, List, [], ◌∷◌, ◌++◌, length, take, drop, refl, sym, ap, ◌∙◌, append_assoc, arith, Some}
+use Rattle.std.proofs.Common.{◌≡◌, ℕ, ◌+◌, ◌-◌, ◌*◌, List, [], ◌∷◌, ◌++◌, length, take, drop, refl, sym, ap, ◌∙◌, append_assoc, arith, Some}
 use Rattle.std.specs.List.{flat_map, AllByRecursion}
-use Rattle.std.proofs.lemmas.List.{append-nil, length-append, take-append-drop}
+use Rattle.std.proofs.lemmas.List.{length-append, take-append-drop}
 use Rattle.std.proofs.lemmas.List.Concat.{flat_map-append}
 use Rattle.std.proofs.lemmas.List.Sums.{sum_by-cons}
 use Rattle.insn.specs.declared.instruction.Insn.{Insn}
 use Rattle.insn.specs.declared.instruction.Insn.TheVariants.{Alu64Imm, Alu64Reg, Alu32Imm, Alu32Reg, Divide, Remainder, Negate, MoveSigned, SwapBytes, LoadWide, Load, LoadSigned, StoreReg, StoreImm, Jump, JumpLong, Jump64IfImm, Jump64IfReg, Jump32IfImm, Jump32IfReg, Exit}
 use Rattle.insn.specs.declared.instruction.Operand.TheVariants.{Reg, Imm}
 use Rattle.insn.specs.declared.slot.Slot.{Slot}
-use Rattle.insn.specs.Instruction.{slots_of}
+use Rattle.insn.specs.Instruction.{slots_of, Fits}
 use Rattle.insn.specs.Program.{slot_count}
-use Rattle.insn.specs.Spelling.{slots, slot_bytes, spelling, slot_fault_at, slot_fault, FaultAt, FirstFault, Fits, IsSlot, IsWhole, Spells}
+use Rattle.insn.specs.Spelling.{slots, slot_bytes, spelling, slot_fault_at, slot_fault, BeginsWith, FaultAt, FirstFault, IsSlot, IsWhole, Spells}
 use Rattle.insn.specs.declared.fault.SlotFault.{SlotFault}
 use Rattle.insn.specs.declared.fault.SlotFault.TheVariants.{UnknownOpcode, BadRegister, NonzeroField, TruncatedWide, Atomic, Call, LegacyLoad}
 
@@ -50,15 +50,25 @@ length-flat : (p : List Insn) → length (flat_map slots p) ≡ slot_count p
 length-flat [] = refl
 length-flat (i ∷ rest) = omega (arith, length-append (slots i) (flat_map slots rest), length-slots i, length-flat rest, sum_by-cons slots_of i rest)
 
+pub slot_count-push : (p : List Insn) (i : Insn) → slot_count (p ++ i ∷ []) ≡ slot_count p + slots_of i
+slot_count-push [] i = omega (arith, sum_by-cons slots_of i [])
+slot_count-push (j ∷ p) i = omega (arith, sum_by-cons slots_of j (p ++ i ∷ []), sum_by-cons slots_of j p, slot_count-push p i)
+
 -- eight bytes a slot
 pub length-spelling : (p : List Insn) → length (spelling p) ≡ 8 * slot_count p
 length-spelling p = omega (arith, length-bytes (flat_map slots p), length-flat p)
 
 -- one more instruction is read
-pub goes_on : (bytes rest : List ℕ) (before : List Insn) (i : Insn) (s : Slot) (front after : List ℕ) → bytes ≡ spelling before ++ rest → slots i ≡ s ∷ [] → slot_bytes s ≡ front → rest ≡ front ++ after → bytes ≡ spelling (before ++ i ∷ []) ++ after
-goes_on bytes rest before i s front after so_far is_slot spelled cut =
-    let one : spelling (i ∷ []) ≡ front = ap (flat_map slot_bytes) (append-nil (slots i) ∙ is_slot) ∙ append-nil (slot_bytes s) ∙ spelled in
-    so_far ∙ ap (λ (l : List ℕ). spelling before ++ l) cut ∙ sym (append_assoc (spelling before) front after) ∙ ap (λ (l : List ℕ). l ++ after) (ap (λ (l : List ℕ). spelling before ++ l) (sym one) ∙ sym (spelling-append before (i ∷ [])))
+pub goes_on : (bytes rest behind : List ℕ) (before : List Insn) (i : Insn) (s : Slot) → bytes ≡ spelling before ++ rest → slot_bytes s ≡ take 8 rest → behind ≡ drop 8 rest → BeginsWith s behind i
+    → bytes ≡ spelling (before ++ i ∷ []) ++ drop (8 * (slots_of i - 1)) behind
+goes_on bytes rest behind before i s so_far here later reads =
+    let k = 8 * (slots_of i - 1) in
+    let cut : rest ≡ slot_bytes s ++ behind = sym (take-append-drop 8 rest) ∙ ap (λ (l : List ℕ). l ++ drop 8 rest) (sym here) ∙ ap (λ (l : List ℕ). slot_bytes s ++ l) (sym later) in
+    let one : rest ≡ spelling (i ∷ []) ++ drop k behind =
+    cut ∙ ap (λ (l : List ℕ). slot_bytes s ++ l) (sym (take-append-drop k behind)) ∙ sym (append_assoc (slot_bytes s) (take k behind) (drop k behind))
+    ∙ ap (λ (l : List ℕ). l ++ drop k behind) (sym reads.spelled) in
+    so_far ∙ ap (λ (l : List ℕ). spelling before ++ l) one ∙ sym (append_assoc (spelling before) (spelling (i ∷ [])) (drop k behind))
+    ∙ ap (λ (l : List ℕ). l ++ drop k behind) (sym (spelling-append before (i ∷ [])))
 
 pub AllByRecursion-push : {X : Type 0} (P : X → Type 0) (xs : List X) (x : X) → AllByRecursion P xs → P x → AllByRecursion P (xs ++ x ∷ [])
 AllByRecursion-push P [] x all one = (one, tt)
@@ -77,11 +87,11 @@ spells bytes p whole fit spelled =
     }
 
 -- what stands behind the instructions so far is the first fault
-pub first_fault : (bytes rest : List ℕ) (before : List Insn) (here : Slot) (at : ℕ) (f : SlotFault) → IsWhole bytes → AllByRecursion Fits before → IsSlot here → at ≡ slot_count before
-    → bytes ≡ spelling before ++ rest → slot_bytes here ≡ take 8 rest → slot_fault here ≡ Some f → FirstFault bytes (slot_fault_at f at)
-first_fault bytes rest before here at f whole fit sizes at_slot so_far spelled faulty =
-    let cut : bytes ≡ spelling before ++ (slot_bytes here ++ drop 8 rest) = so_far ∙ ap (λ (l : List ℕ). spelling before ++ l) (sym (take-append-drop 8 rest) ∙ ap (λ (l : List ℕ). l ++ drop 8 rest) (sym spelled)) in
-    by_fault f (record { before = before; here = here; rest = drop 8 rest; fit = fit; sizes = sizes; at_slot = at_slot; spelled = cut; faulty = faulty }) where
+pub first_fault : (bytes rest behind : List ℕ) (before : List Insn) (here : Slot) (at : ℕ) (f : SlotFault) → IsWhole bytes → AllByRecursion Fits before → IsSlot here → at ≡ slot_count before
+    → bytes ≡ spelling before ++ rest → slot_bytes here ≡ take 8 rest → behind ≡ drop 8 rest → slot_fault here behind ≡ Some f → FirstFault bytes (slot_fault_at f at)
+first_fault bytes rest behind before here at f whole fit sizes at_slot so_far spelled later faulty =
+    let cut : bytes ≡ spelling before ++ (slot_bytes here ++ behind) = so_far ∙ ap (λ (l : List ℕ). spelling before ++ l) (sym (take-append-drop 8 rest) ∙ ap (λ (l : List ℕ). l ++ drop 8 rest) (sym spelled) ∙ ap (λ (l : List ℕ). slot_bytes here ++ l) (sym later)) in
+    by_fault f (record { before = before; here = here; rest = behind; fit = fit; sizes = sizes; at_slot = at_slot; spelled = cut; faulty = faulty }) where
       by_fault : (f : SlotFault) → FaultAt bytes at f → FirstFault bytes (slot_fault_at f at)
       by_fault UnknownOpcode h = (whole, h)
       by_fault BadRegister h = (whole, h)

@@ -5,8 +5,14 @@ pub mod Values
 pub mod Memory
 pub mod Step
 pub mod Spelling
+pub mod FirstSlot
 pub mod FirstLook
 pub mod Faults
 pub mod Shapes
 pub mod Slots
 pub mod Runs
+pub mod Text
+pub mod TextWords
+pub mod TextNames
+pub mod TextLaws
+pub mod FaultTexts

@@ -1,7 +1,8 @@
 -- The one spelling of a program: the rows of the table of opcodes, one after the other (RFC 9669, sections 3 to 5).
-use Rattle.std.specs.Prelude.{◌≡◌, ℕ, ◌+◌, ◌*◌, ◌/◌, ◌%◌, ◌^◌, ◌<◌, ◌≤◌, ◌==◌, ◌&&◌, ◌||◌, not, nat_lt, Bool, true, false, if◌then◌else◌, ℤ, pos, negsuc, FitsSigned, List, [], ◌∷◌, ◌++◌, length, Option, Some, None}
+use Rattle.std.specs.Prelude.{◌≡◌, ℕ, ◌+◌, ◌-◌, ◌*◌, ◌/◌, ◌%◌, ◌^◌, ◌<◌, ◌≤◌, ◌==◌, ◌&&◌, ◌||◌, not, nat_lt, Bool, true, false, if◌then◌else◌, ℤ, pos, negsuc, FitsSigned, List, [], ◌∷◌, ◌++◌, length, map, take, Option, Some, None}
 use Rattle.std.specs.Int.{w16, w32, cast_signed, cast_unsigned, to_le_bytes}
 use Rattle.std.specs.List.{flat_map, list_any, AllByRecursion}
+use Rattle.std.specs.Option.{option_or}
 use Rattle.insn.specs.declared.operation.Width.{Width}
 use Rattle.insn.specs.declared.operation.Width.TheVariants.{W32, W64}
 use Rattle.insn.specs.declared.operation.Signedness.{Signedness}
@@ -28,7 +29,7 @@ use Rattle.insn.specs.declared.fault.SlotFault.{SlotFault}
 use Rattle.insn.specs.declared.fault.SlotFault.TheVariants.{UnknownOpcode, BadRegister, NonzeroField, TruncatedWide, Atomic, Call, LegacyLoad}
 use Rattle.insn.specs.declared.fault.InsnFault.{InsnFault}
 use Rattle.insn.specs.declared.fault.InsnFault.TheVariants as faults
-use Rattle.insn.specs.Instruction.{reg_number}
+use Rattle.insn.specs.Instruction.{read_size, reg_number, slots_of, Fits}
 use Rattle.insn.specs.Program.{IsProgram, SLOT_LIMIT, slot_count}
 
 -- ---- slots
@@ -57,6 +58,15 @@ abbrev pub reg_opcode : Width → ℕ → ℕ
 reg_opcode W32 code = 0x0c + 16 * code
 reg_opcode W64 code = 0x0f + 16 * code
 
+-- a conditional jump on a register and a number, and one on two registers
+abbrev pub jump_imm_opcode : Width → ℕ → ℕ
+jump_imm_opcode W32 code = 0x06 + 16 * code
+jump_imm_opcode W64 code = 0x05 + 16 * code
+
+abbrev pub jump_reg_opcode : Width → ℕ → ℕ
+jump_reg_opcode W32 code = 0x0e + 16 * code
+jump_reg_opcode W64 code = 0x0d + 16 * code
+
 -- the high half of an operation's opcode
 abbrev pub op_code : AluOp → ℕ
 op_code Add = 0x0
@@ -69,6 +79,19 @@ op_code Rsh = 0x7
 op_code Xor = 0xa
 op_code Mov = 0xb
 op_code Arsh = 0xc
+
+-- the high half of the opcode of a division, of a remainder, of a negation and of a byte swap
+abbrev pub DIVIDE : ℕ
+DIVIDE = 0x3
+
+abbrev pub REMAINDER : ℕ
+REMAINDER = 0x9
+
+abbrev pub NEGATE : ℕ
+NEGATE = 0x8
+
+abbrev pub SWAP : ℕ
+SWAP = 0xd
 
 -- the high half of a conditional jump's opcode
 abbrev pub cond_code : Cond → ℕ
@@ -104,37 +127,46 @@ extension_opcode From8To32 = 0xbc
 extension_opcode From16To32 = 0xbc
 
 abbrev pub swap_opcode : SwapKind → ℕ
-swap_opcode ToLittle = 0xd4
-swap_opcode ToBig = 0xdc
-swap_opcode Swap = 0xd7
+swap_opcode ToLittle = imm_opcode W32 SWAP
+swap_opcode ToBig = reg_opcode W32 SWAP
+swap_opcode Swap = imm_opcode W64 SWAP
 
 abbrev pub swap_code : SwapBits → ℤ
 swap_code B16 = pos 16
 swap_code B32 = pos 32
 swap_code B64 = pos 64
 
+-- what a size adds to an opcode
+abbrev pub size_code : Size → ℕ
+size_code One = 0x10
+size_code Two = 0x08
+size_code Four = 0x00
+size_code Eight = 0x18
+
 abbrev pub load_opcode : Size → ℕ
-load_opcode One = 0x71
-load_opcode Two = 0x69
-load_opcode Four = 0x61
-load_opcode Eight = 0x79
+load_opcode size = 0x61 + size_code size
 
 abbrev pub load_signed_opcode : SignedSize → ℕ
-load_signed_opcode signed.One = 0x91
-load_signed_opcode signed.Two = 0x89
-load_signed_opcode signed.Four = 0x81
-
-abbrev pub store_reg_opcode : Size → ℕ
-store_reg_opcode One = 0x73
-store_reg_opcode Two = 0x6b
-store_reg_opcode Four = 0x63
-store_reg_opcode Eight = 0x7b
+load_signed_opcode size = 0x81 + size_code (read_size size)
 
 abbrev pub store_imm_opcode : Size → ℕ
-store_imm_opcode One = 0x72
-store_imm_opcode Two = 0x6a
-store_imm_opcode Four = 0x62
-store_imm_opcode Eight = 0x7a
+store_imm_opcode size = 0x62 + size_code size
+
+abbrev pub store_reg_opcode : Size → ℕ
+store_reg_opcode size = 0x63 + size_code size
+
+-- the wide load, the two plain jumps and the exit
+abbrev pub LOAD_WIDE : ℕ
+LOAD_WIDE = 0x18
+
+abbrev pub JUMP : ℕ
+JUMP = 0x05
+
+abbrev pub JUMP_LONG : ℕ
+JUMP_LONG = 0x06
+
+abbrev pub EXIT : ℕ
+EXIT = 0x95
 
 -- ---- the table: the slots of each instruction
 
@@ -146,63 +178,113 @@ slots (Alu64Imm op dst imm) = slot (imm_opcode W64 (op_code op)) (reg_number dst
 slots (Alu64Reg op dst src) = slot (reg_opcode W64 (op_code op)) (reg_number dst) (reg_number src) (pos 0) (pos 0) ∷ []
 slots (Alu32Imm op dst imm) = slot (imm_opcode W32 (op_code op)) (reg_number dst) 0 (pos 0) imm ∷ []
 slots (Alu32Reg op dst src) = slot (reg_opcode W32 (op_code op)) (reg_number dst) (reg_number src) (pos 0) (pos 0) ∷ []
-slots (Divide width signedness dst (Imm imm)) = slot (imm_opcode width 0x3) (reg_number dst) 0 (signedness_code signedness) imm ∷ []
-slots (Divide width signedness dst (Reg src)) = slot (reg_opcode width 0x3) (reg_number dst) (reg_number src) (signedness_code signedness) (pos 0) ∷ []
-slots (Remainder width signedness dst (Imm imm)) = slot (imm_opcode width 0x9) (reg_number dst) 0 (signedness_code signedness) imm ∷ []
-slots (Remainder width signedness dst (Reg src)) = slot (reg_opcode width 0x9) (reg_number dst) (reg_number src) (signedness_code signedness) (pos 0) ∷ []
-slots (Negate width dst) = slot (imm_opcode width 0x8) (reg_number dst) 0 (pos 0) (pos 0) ∷ []
+slots (Divide width signedness dst (Imm imm)) = slot (imm_opcode width DIVIDE) (reg_number dst) 0 (signedness_code signedness) imm ∷ []
+slots (Divide width signedness dst (Reg src)) = slot (reg_opcode width DIVIDE) (reg_number dst) (reg_number src) (signedness_code signedness) (pos 0) ∷ []
+slots (Remainder width signedness dst (Imm imm)) = slot (imm_opcode width REMAINDER) (reg_number dst) 0 (signedness_code signedness) imm ∷ []
+slots (Remainder width signedness dst (Reg src)) = slot (reg_opcode width REMAINDER) (reg_number dst) (reg_number src) (signedness_code signedness) (pos 0) ∷ []
+slots (Negate width dst) = slot (imm_opcode width NEGATE) (reg_number dst) 0 (pos 0) (pos 0) ∷ []
 slots (MoveSigned extension dst src) = slot (extension_opcode extension) (reg_number dst) (reg_number src) (extension_code extension) (pos 0) ∷ []
 slots (SwapBytes kind bits dst) = slot (swap_opcode kind) (reg_number dst) 0 (pos 0) (swap_code bits) ∷ []
-slots (LoadWide dst value) = slot 0x18 (reg_number dst) 0 (pos 0) (cast_signed w32 (value % 2 ^ 32)) ∷ slot 0 0 0 (pos 0) (cast_signed w32 (value / 2 ^ 32)) ∷ []
+slots (LoadWide dst value) = slot LOAD_WIDE (reg_number dst) 0 (pos 0) (cast_signed w32 (value % 2 ^ 32)) ∷ slot 0 0 0 (pos 0) (cast_signed w32 (value / 2 ^ 32)) ∷ []
 slots (Load size dst src offset) = slot (load_opcode size) (reg_number dst) (reg_number src) offset (pos 0) ∷ []
 slots (LoadSigned size dst src offset) = slot (load_signed_opcode size) (reg_number dst) (reg_number src) offset (pos 0) ∷ []
 slots (StoreReg size dst src offset) = slot (store_reg_opcode size) (reg_number dst) (reg_number src) offset (pos 0) ∷ []
 slots (StoreImm size dst offset imm) = slot (store_imm_opcode size) (reg_number dst) 0 offset imm ∷ []
-slots (Jump offset) = slot 0x05 0 0 offset (pos 0) ∷ []
-slots (JumpLong offset) = slot 0x06 0 0 (pos 0) offset ∷ []
-slots (Jump64IfImm cond dst offset imm) = slot (0x05 + 16 * cond_code cond) (reg_number dst) 0 offset imm ∷ []
-slots (Jump64IfReg cond dst src offset) = slot (0x0d + 16 * cond_code cond) (reg_number dst) (reg_number src) offset (pos 0) ∷ []
-slots (Jump32IfImm cond dst offset imm) = slot (0x06 + 16 * cond_code cond) (reg_number dst) 0 offset imm ∷ []
-slots (Jump32IfReg cond dst src offset) = slot (0x0e + 16 * cond_code cond) (reg_number dst) (reg_number src) offset (pos 0) ∷ []
-slots Exit = slot 0x95 0 0 (pos 0) (pos 0) ∷ []
+slots (Jump offset) = slot JUMP 0 0 offset (pos 0) ∷ []
+slots (JumpLong offset) = slot JUMP_LONG 0 0 (pos 0) offset ∷ []
+slots (Jump64IfImm cond dst offset imm) = slot (jump_imm_opcode W64 (cond_code cond)) (reg_number dst) 0 offset imm ∷ []
+slots (Jump64IfReg cond dst src offset) = slot (jump_reg_opcode W64 (cond_code cond)) (reg_number dst) (reg_number src) offset (pos 0) ∷ []
+slots (Jump32IfImm cond dst offset imm) = slot (jump_imm_opcode W32 (cond_code cond)) (reg_number dst) 0 offset imm ∷ []
+slots (Jump32IfReg cond dst src offset) = slot (jump_reg_opcode W32 (cond_code cond)) (reg_number dst) (reg_number src) offset (pos 0) ∷ []
+slots Exit = slot EXIT 0 0 (pos 0) (pos 0) ∷ []
 
--- The numbers of an instruction fit their fields, and its row is one that is read today.
-abbrev pub Fits : Insn → Type 0
-Fits (Alu64Imm Mov dst imm) = FitsSigned w32 imm
-Fits (Alu64Reg Mov dst src) = Unit {0}
-Fits (Load size dst src offset) = FitsSigned w16 offset
-Fits (StoreImm size dst offset imm) = FitsSigned w16 offset × FitsSigned w32 imm
-Fits (Jump offset) = FitsSigned w16 offset
-Fits Exit = Unit {0}
-Fits i = ⊥
+-- ---- the first fault of an instruction
 
--- ---- the first fault of a slot
+-- what a row of the table says of a field: it is 0, it is used, or it has one of some values
+pub data Field : Type 0 where
+  Unused : Field
+  Used : Field
+  OneOf : List ℕ → Field
 
--- which fields an opcode has
 pub record Fields : Type 0 where
-  pub dst : Bool
-  pub src : Bool
-  pub offset : Bool
-  pub imm : Bool
+  pub dst : Field
+  pub src : Field
+  pub offset : Field
+  pub imm : Field
 
-abbrev pub fields : Bool → Bool → Bool → Bool → Option Fields
-fields dst src offset imm = Some (record { dst = dst; src = src; offset = offset; imm = imm })
+abbrev pub uses : Field → Field → Field → Field → Fields
+uses dst src offset imm = record { dst = dst; src = src; offset = offset; imm = imm }
 
 abbrev pub is_one_of : List ℕ → ℕ → Bool
-is_one_of opcodes opcode = list_any (λ o. o == opcode) opcodes
+is_one_of numbers n = list_any (λ m. m == n) numbers
 
--- the fields of each opcode that is read
-unfoldable pub fields_of : ℕ → Option Fields
-fields_of opcode =
-    if opcode == 0xb7 then fields true false false true
-    else if opcode == 0xbf then fields true true false false
-    else if is_one_of (0x71 ∷ 0x69 ∷ 0x61 ∷ 0x79 ∷ []) opcode then fields true true true false
-    else if is_one_of (0x72 ∷ 0x6a ∷ 0x62 ∷ 0x7a ∷ []) opcode then fields true false true true
-    else if opcode == 0x05 then fields false false true false
-    else if opcode == 0x95 then fields false false false false
+-- the opcodes of operations, and of jumps, whose high halves are these
+abbrev pub op_codes : List ℕ
+op_codes = map op_code (Add ∷ Sub ∷ Mul ∷ Or ∷ And ∷ Lsh ∷ Rsh ∷ Xor ∷ Mov ∷ Arsh ∷ [])
+
+abbrev pub cond_codes : List ℕ
+cond_codes = map cond_code (Eq ∷ Gt ∷ Ge ∷ Set ∷ Ne ∷ Sgt ∷ Sge ∷ Lt ∷ Le ∷ Slt ∷ Sle ∷ [])
+
+abbrev pub sizes : List Size
+sizes = One ∷ Two ∷ Four ∷ Eight ∷ []
+
+-- the offset of a move of a register: 0, or the bits of one with sign extension
+abbrev pub move_offsets : Width → List ℕ
+move_offsets W32 = 0 ∷ 8 ∷ 16 ∷ []
+move_offsets W64 = 0 ∷ 8 ∷ 16 ∷ 32 ∷ []
+
+-- the fields of an opcode whose high half is one of a row's
+abbrev pub row : List ℕ → Fields → ℕ → Option Fields
+row codes f code = if is_one_of codes code then Some f else None
+
+-- a byte swap to an order is in the class of 32 bits, and works on one register
+abbrev pub swap_fields : Width → Option Fields
+swap_fields W32 = Some (uses Used Unused Unused (OneOf (16 ∷ 32 ∷ 64 ∷ [])))
+swap_fields W64 = None
+
+-- the rows of the operations on a register and a number, by the high half of the opcode
+abbrev pub imm_fields : ℕ → Option Fields
+imm_fields code =
+    if is_one_of (DIVIDE ∷ REMAINDER ∷ []) code then Some (uses Used Unused (OneOf (0 ∷ 1 ∷ [])) Used)
+    else if code == NEGATE then Some (uses Used Unused Unused Unused)
+    else if code == SWAP then Some (uses Used Unused Unused (OneOf (16 ∷ 32 ∷ 64 ∷ [])))
+    else row op_codes (uses Used Unused Unused Used) code
+
+-- the rows of the operations on two registers
+abbrev pub reg_fields : Width → ℕ → Option Fields
+reg_fields width code =
+    if is_one_of (DIVIDE ∷ REMAINDER ∷ []) code then Some (uses Used Used (OneOf (0 ∷ 1 ∷ [])) Unused)
+    else if code == op_code Mov then Some (uses Used Used (OneOf (move_offsets width)) Unused)
+    else if code == SWAP then swap_fields width
+    else row op_codes (uses Used Used Unused Unused) code
+
+-- the rows of the loads and the stores
+abbrev pub memory_fields : ℕ → Option Fields
+memory_fields opcode =
+    if is_one_of (map load_opcode sizes) opcode then Some (uses Used Used Used Unused)
+    else if is_one_of (map load_signed_opcode (signed.One ∷ signed.Two ∷ signed.Four ∷ [])) opcode then Some (uses Used Used Used Unused)
+    else if is_one_of (map store_reg_opcode sizes) opcode then Some (uses Used Used Used Unused)
+    else if is_one_of (map store_imm_opcode sizes) opcode then Some (uses Used Unused Used Used)
     else None
 
--- the name of an opcode that is not read
+-- the fields of an opcode: of those that stand alone, and of the others by its low half
+unfoldable pub fields_of : ℕ → Option Fields
+fields_of opcode =
+    if opcode == LOAD_WIDE then Some (uses Used Unused Unused Used)
+    else if opcode == JUMP then Some (uses Unused Unused Used Unused)
+    else if opcode == JUMP_LONG then Some (uses Unused Unused Unused Used)
+    else if opcode == EXIT then Some (uses Unused Unused Unused Unused)
+    else if opcode % 16 == imm_opcode W32 0 then imm_fields (opcode / 16)
+    else if opcode % 16 == imm_opcode W64 0 then imm_fields (opcode / 16)
+    else if opcode % 16 == reg_opcode W32 0 then reg_fields W32 (opcode / 16)
+    else if opcode % 16 == reg_opcode W64 0 then reg_fields W64 (opcode / 16)
+    else if opcode % 16 == jump_imm_opcode W32 0 then row cond_codes (uses Used Unused Used Used) (opcode / 16)
+    else if opcode % 16 == jump_imm_opcode W64 0 then row cond_codes (uses Used Unused Used Used) (opcode / 16)
+    else if opcode % 16 == jump_reg_opcode W32 0 then row cond_codes (uses Used Used Used Unused) (opcode / 16)
+    else if opcode % 16 == jump_reg_opcode W64 0 then row cond_codes (uses Used Used Used Unused) (opcode / 16)
+    else memory_fields opcode
+
+-- the name of an opcode that the table lacks
 abbrev pub refused_as : ℕ → SlotFault
 refused_as opcode =
     if is_one_of (0xc3 ∷ 0xdb ∷ []) opcode then Atomic
@@ -210,31 +292,64 @@ refused_as opcode =
     else if is_one_of (0x20 ∷ 0x28 ∷ 0x30 ∷ 0x40 ∷ 0x48 ∷ 0x50 ∷ []) opcode then LegacyLoad
     else UnknownOpcode
 
-abbrev pub is_zero : ℤ → Bool
-is_zero (pos n) = n == 0
-is_zero (negsuc n) = false
+-- a field that is not used is 0, and one of some values has one of them
+abbrev pub allows : Field → ℤ → Bool
+allows Used n = true
+allows Unused (pos n) = n == 0
+allows Unused (negsuc n) = false
+allows (OneOf values) (pos n) = is_one_of values n
+allows (OneOf values) (negsuc n) = false
 
--- a register that is used is above 10
+-- the number of a register that is used is above 10
+abbrev pub is_above : Field → ℕ → Bool
+is_above Unused n = false
+is_above Used n = nat_lt 10 n
+is_above (OneOf values) n = false
+
 abbrev pub is_bad_register : Fields → Slot → Bool
-is_bad_register f s = (f.dst && nat_lt 10 s.dst) || (f.src && nat_lt 10 s.src)
+is_bad_register f s = is_above f.dst s.dst || is_above f.src s.src
 
--- a field that is not used is not zero
-abbrev pub is_nonzero : Fields → Slot → Bool
-is_nonzero f s = not ((f.dst || (s.dst == 0)) && (f.src || (s.src == 0)) && (f.offset || is_zero s.offset) && (f.imm || is_zero s.imm))
+-- a field has a value that its row lacks
+abbrev pub is_bad_field : Fields → Slot → Bool
+is_bad_field f s = not (allows f.dst (pos s.dst) && allows f.src (pos s.src) && allows f.offset s.offset && allows f.imm s.imm)
 
--- the opcode counts first, then the registers, then the other fields
-abbrev pub field_fault : Option Fields → Slot → Option SlotFault
-field_fault None s = Some (refused_as s.opcode)
-field_fault (Some f) s = if is_bad_register f s then Some BadRegister else if is_nonzero f s then Some NonzeroField else None
+-- the fault of a slot by itself: the registers count before the other fields
+abbrev pub field_fault : Fields → Slot → Option SlotFault
+field_fault f s = if is_bad_register f s then Some BadRegister else if is_bad_field f s then Some NonzeroField else None
 
-abbrev pub slot_fault : Slot → Option SlotFault
-slot_fault s = field_fault (fields_of s.opcode) s
+-- the second slot of a wide load begins with four bytes, of which one is not 0
+abbrev pub is_bad_second : List ℕ → Bool
+is_bad_second bytes = list_any (λ b. nat_lt 0 b) (take 4 bytes)
+
+-- a wide load lacks its second slot, or one of its two has a fault
+abbrev pub wide_fault : Fields → Slot → List ℕ → Option SlotFault
+wide_fault f s behind =
+    if nat_lt (length behind) 8 then Some TruncatedWide
+    else option_or (field_fault f s) (if is_bad_second behind then Some NonzeroField else None)
+
+abbrev pub fault_with : Option Fields → Slot → List ℕ → Option SlotFault
+fault_with None s behind = Some (refused_as s.opcode)
+fault_with (Some f) s behind = if s.opcode == LOAD_WIDE then wide_fault f s behind else field_fault f s
+
+-- The opcode counts first, then the second slot of a wide load that is not there, then the registers, then the other fields.
+abbrev pub slot_fault : Slot → List ℕ → Option SlotFault
+slot_fault s behind = fault_with (fields_of s.opcode) s behind
 
 -- ---- programs
 
 -- the bytes of some instructions
 abbrev pub spelling : List Insn → List ℕ
 spelling insns = flat_map slot_bytes (flat_map slots insns)
+
+-- a slot is all of an instruction
+abbrev pub IsAllOf : Insn → Slot → Type 0
+IsAllOf i s = (slots i ≡ s ∷ []) × Fits i
+
+-- a slot and the bytes behind it begin with an instruction
+pub record BeginsWith (s : Slot) (behind : List ℕ) (i : Insn) : Type 0 where
+  pub fit : Fits i
+  pub room : 8 * slots_of i ≤ 8 + length behind
+  pub spelled : spelling (i ∷ []) ≡ slot_bytes s ++ take (8 * (slots_of i - 1)) behind
 
 -- the bytes are a program's
 pub record Spells (bytes : List ℕ) (program : List Insn) : Type 0 where
@@ -251,7 +366,7 @@ pub record FaultAt (bytes : List ℕ) (at : ℕ) (fault : SlotFault) : Type 0 wh
   pub sizes : IsSlot here
   pub at_slot : at ≡ slot_count before
   pub spelled : bytes ≡ spelling before ++ (slot_bytes here ++ rest)
-  pub faulty : slot_fault here ≡ Some fault
+  pub faulty : slot_fault here rest ≡ Some fault
 
 -- as many bytes as some slots have, and no more than a program may have
 pub record IsWhole (bytes : List ℕ) : Type 0 where

@@ -1,7 +1,8 @@
 //! Why bytes are no program.
 
-ghost use Rattle.std.specs.Prelude.{◌≡◌};
+ghost use Rattle.std.specs.Prelude.{◌≡◌, Some};
 ghost use Rattle.insn.specs.declared.fault.InsnFault.TheVariants.{Memory};
+ghost use Rattle.insn.specs.FaultTexts.{insn_fault_text};
 ghost use Rattle.insn.specs.Spelling.{slot_fault_at};
 
 use std::alloc::{AllocError, AllocFailed};
@@ -35,6 +36,8 @@ pub enum InsnFault {
 }
 
 impl Display for InsnFault {
+    ghost output = { λ fault. Some (insn_fault_text fault) };
+
     fn fmt<W: Write>(&self, f: &mut Formatter<W>) -> fmt::Result {
         match self {
             InsnFault::Empty => write!(f, "Empty"),

@@ -1,7 +1,8 @@
 //! Operations, conditions and sizes: what the fields of instructions say.
 
-ghost use Rattle.std.specs.Prelude.{◌≡◌};
+ghost use Rattle.std.specs.Prelude.{◌≡◌, ◌<◌, IfSome, None, true, false};
 ghost use Rattle.insn.specs.Instruction.{division_of, extended_bits, extended_width, operation_of, read_bits, read_size, remainder_of, size_bytes};
+ghost use Rattle.insn.specs.Spelling.{cond_code, cond_codes, is_one_of, op_code, op_codes, size_code};
 
 /// How many bits an operation or a comparison works on: the low half of its operands, or all of them.
 #[derive(Clone, Copy, Debug, PartialEq, Eq)]
@@ -13,8 +14,8 @@ pub enum Width {
 /// Whether a division reads its operands as unsigned or as signed numbers.
 #[derive(Clone, Copy, Debug, PartialEq, Eq)]
 pub enum Signedness {
-    Unsigned,
-    Signed,
+    Unsigned = 0,
+    Signed = 1,
 }
 
 impl Signedness {
@@ -61,19 +62,47 @@ pub enum BinOp {
 /// An operation whose opcode says all of it: those of two operands but division and remainder.
 #[derive(Clone, Copy, Debug, PartialEq, Eq)]
 pub enum AluOp {
-    Add,
-    Sub,
-    Mul,
-    Or,
-    And,
-    Lsh,
-    Rsh,
-    Xor,
-    Mov,
-    Arsh,
+    Add = 0x0,
+    Sub = 0x1,
+    Mul = 0x2,
+    Or = 0x4,
+    And = 0x5,
+    Lsh = 0x6,
+    Rsh = 0x7,
+    Xor = 0xa,
+    Mov = 0xb,
+    Arsh = 0xc,
 }
 
 impl AluOp {
+    /// The high half of its opcodes.
+    pub fn code(self) -> u8
+        ensures value { result ≡ op_code self }
+        ensures in_range { result < 16 }
+    {
+        self as u8
+    }
+
+    /// The one whose code this is.
+    pub fn of_code(code: u8) -> Option<AluOp>
+        ensures found { IfSome result (λ o. (op_code o ≡ code) × (is_one_of op_codes code ≡ true)) }
+        ensures none { result ≡ None → is_one_of op_codes code ≡ false }
+    {
+        match code {
+            0x0 => Some(AluOp::Add),
+            0x1 => Some(AluOp::Sub),
+            0x2 => Some(AluOp::Mul),
+            0x4 => Some(AluOp::Or),
+            0x5 => Some(AluOp::And),
+            0x6 => Some(AluOp::Lsh),
+            0x7 => Some(AluOp::Rsh),
+            0xa => Some(AluOp::Xor),
+            0xb => Some(AluOp::Mov),
+            0xc => Some(AluOp::Arsh),
+            _ => None,
+        }
+    }
+
     /// The operation on words.
     pub fn operation(self) -> BinOp
         ensures { result ≡ operation_of self }
@@ -96,41 +125,72 @@ impl AluOp {
 /// A condition of a jump (RFC 9669, section 4.3). The forms with an S read their operands as signed.
 #[derive(Clone, Copy, Debug, PartialEq, Eq)]
 pub enum Cond {
-    Eq,
-    Gt,
-    Ge,
-    Set,
-    Ne,
-    Sgt,
-    Sge,
-    Lt,
-    Le,
-    Slt,
-    Sle,
+    Eq = 0x1,
+    Gt = 0x2,
+    Ge = 0x3,
+    Set = 0x4,
+    Ne = 0x5,
+    Sgt = 0x6,
+    Sge = 0x7,
+    Lt = 0xa,
+    Le = 0xb,
+    Slt = 0xc,
+    Sle = 0xd,
+}
+
+impl Cond {
+    /// The high half of its opcodes.
+    pub fn code(self) -> u8
+        ensures value { result ≡ cond_code self }
+        ensures in_range { result < 16 }
+    {
+        self as u8
+    }
+
+    /// The one whose code this is.
+    pub fn of_code(code: u8) -> Option<Cond>
+        ensures found { IfSome result (λ o. (cond_code o ≡ code) × (is_one_of cond_codes code ≡ true)) }
+        ensures none { result ≡ None → is_one_of cond_codes code ≡ false }
+    {
+        match code {
+            0x1 => Some(Cond::Eq),
+            0x2 => Some(Cond::Gt),
+            0x3 => Some(Cond::Ge),
+            0x4 => Some(Cond::Set),
+            0x5 => Some(Cond::Ne),
+            0x6 => Some(Cond::Sgt),
+            0x7 => Some(Cond::Sge),
+            0xa => Some(Cond::Lt),
+            0xb => Some(Cond::Le),
+            0xc => Some(Cond::Slt),
+            0xd => Some(Cond::Sle),
+            _ => None,
+        }
+    }
 }
 
 /// What a byte swap does (RFC 9669, section 4.2).
 #[derive(Clone, Copy, Debug, PartialEq, Eq)]
 pub enum SwapKind {
-    ToLittle,
-    ToBig,
-    Swap,
+    ToLittle = 0xd4,
+    ToBig = 0xdc,
+    Swap = 0xd7,
 }
 
 /// How many low bits a byte swap keeps.
 #[derive(Clone, Copy, Debug, PartialEq, Eq)]
 pub enum SwapBits {
-    B16,
-    B32,
-    B64,
+    B16 = 16,
+    B32 = 32,
+    B64 = 64,
 }
 
 /// How many low bits a sign extension reads.
 #[derive(Clone, Copy, Debug, PartialEq, Eq)]
 pub enum ExtendBits {
-    B8,
-    B16,
-    B32,
+    B8 = 8,
+    B16 = 16,
+    B32 = 32,
 }
 
 /// An operation on one word: negation, a byte swap, or a sign extension.
@@ -177,13 +237,21 @@ impl Extension {
 /// How many bytes a load or a store moves (RFC 9669, section 5).
 #[derive(Clone, Copy, Debug, PartialEq, Eq)]
 pub enum Size {
-    One,
-    Two,
-    Four,
-    Eight,
+    One = 0x10,
+    Two = 0x08,
+    Four = 0x00,
+    Eight = 0x18,
 }
 
 impl Size {
+    /// What it adds to an opcode.
+    pub fn code(self) -> u8
+        ensures value { result ≡ size_code self }
+        ensures in_range { result < 32 }
+    {
+        self as u8
+    }
+
     /// The number of bytes.
     pub fn bytes(self) -> usize
         ensures { result ≡ size_bytes self }
@@ -200,9 +268,9 @@ impl Size {
 /// How many bytes a load with sign extension reads.
 #[derive(Clone, Copy, Debug, PartialEq, Eq)]
 pub enum SignedSize {
-    One,
-    Two,
-    Four,
+    One = 0x10,
+    Two = 0x08,
+    Four = 0x00,
 }
 
 impl SignedSize {

@@ -1,6 +1,8 @@
 //! Programs: lists of instructions.
 
 ghost use Rattle.std.specs.Prelude.{◌≡◌, ◌↔◌, ◌<◌, ◌≤◌, ◌^◌, [], IfOk, IfErr, IsOk, length};
+ghost use Rattle.std.specs.List.{AllByRecursion};
+ghost use Rattle.insn.specs.Instruction.{Fits};
 ghost use Rattle.insn.specs.Program.{slot_count, IsProgram, SLOT_LIMIT};
 
 use crate::fault::InsnFault;
@@ -22,17 +24,20 @@ impl Model for Program {
 
     ghost Value = { List Insn };
 
+    ghost use Rattle.std.specs.List.{AllByRecursion};
+    ghost use Rattle.insn.specs.Instruction.{Fits};
     ghost use Rattle.insn.specs.Program.{IsProgram};
 
     ghost view = { λ p. p.insns.items };
 
-    ghost invariant = { λ p. IsProgram p.insns.items };
+    ghost invariant = { λ p. IsProgram p.insns.items × AllByRecursion Fits p.insns.items };
 }
 
 /// How many slots instructions take.
 fn slots_of_all(insns: &[Insn]) -> usize
     requires { length insns.now < 2 ^ 32 }
-    ensures { result ≡ slot_count insns.now }
+    ensures value { result ≡ slot_count insns.now }
+    ensures fit { AllByRecursion Fits insns.now }
 {
     let mut total = 0;
     for insn in insns {
@@ -79,6 +84,7 @@ impl Program {
     pub fn insns(&self) -> &[Insn]
         ensures value { result.now ≡ self.now }
         ensures program { IsProgram self.now }
+        ensures fit { AllByRecursion Fits self.now }
     {
         &self.insns
     }

@@ -1,6 +1,7 @@
 //! Why a program is not accepted.
 
-ghost use Rattle.std.specs.Prelude.{◌≡◌};
+ghost use Rattle.std.specs.Prelude.{◌≡◌, Some};
+ghost use Rattle.insn.specs.FaultTexts.{verify_fault_text};
 ghost use Rattle.insn.specs.Faults.{look_fault_at};
 
 use std::fmt::{self, Display, Formatter, Write};
@@ -37,6 +38,8 @@ pub enum VerifyFault {
 }
 
 impl Display for VerifyFault {
+    ghost output = { λ fault. Some (verify_fault_text fault) };
+
     fn fmt<W: Write>(&self, f: &mut Formatter<W>) -> fmt::Result {
         match self {
             VerifyFault::JumpOut(slot) => write!(f, "JumpOut({slot})"),

@@ -8,6 +8,7 @@ mod cells;
 mod frame;
 pub mod laws;
 mod memory;
+mod places;
 mod registers;
 pub mod run;
 #[cfg(test)]

@@ -5,7 +5,7 @@ ghost use Rattle.std.specs.Option.{option_map};
 ghost use Rattle.insn.specs.Program.{begins_at, places};
 ghost use Rattle.insn.specs.Step.{target as spec_target};
 
-use crate::instruction::Insn;
+use insn::instruction::Insn;
 
 /// The instructions from so many slots on, where one begins there.
 pub fn skip(insns: &[Insn], slots: usize) -> Option<&[Insn]>

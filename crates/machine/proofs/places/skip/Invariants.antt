@@ -1,6 +1,6 @@
 use Rattle.std.proofs.Common.{length}
 use Rattle.insn.specs.Runs.{IsAhead}
-use Rattle.insn.proofs.places.skip.Given as goal
+use Rattle.machine.proofs.places.skip.Given as goal
 
 abbrev pub invariant-loop-rest : goal.invariant-loop-rest
 invariant-loop-rest l = IsAhead l.insns l.slots l.rest l.left

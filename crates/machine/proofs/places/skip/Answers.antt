@@ -1,7 +1,7 @@
 use Rattle.std.proofs.Common.{◌≤◌, get_or}
 use Rattle.insn.specs.Instruction.{slots_of}
 use Rattle.insn.specs.Runs.{passes}
-use Rattle.insn.proofs.places.skip.Goals as goal
+use Rattle.machine.proofs.places.skip.Goals as goal
 
 pub loop-rest-preserved : goal.loop-rest-preserved
 loop-rest-preserved c =
