@@ -1,0 +1,10 @@
+pub mod Jumps
+pub mod Lines
+pub mod Looking
+pub mod Names
+pub mod Numbers
+pub mod Reading
+pub mod Refuted
+pub mod Resolving
+pub mod Statements
+pub mod Texts

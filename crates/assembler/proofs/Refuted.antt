@@ -1,0 +1,235 @@
+-- A text with a fault says no program.
+use Rattle.std.proofs.Common.{◌≡◌, ⊎_elim, ℕ, suc, ◌+◌, ◌<◌, ◌≤◌, ◌^◌, true, nat_le, ℤ, pos, negsuc, List, [], ◌∷◌, ◌++◌, codes, refl, sym, ap, ◌∙◌, subst, arith, ◌||◌, FitsSigned, w16, w32}
+use Rattle.std.specs.Str.{bytes_eq}
+use Rattle.std.specs.Fmt.{decimal, signed_decimal}
+use Rattle.std.specs.List.{list_all}
+use Rattle.std.proofs.lemmas.Int.{ints}
+use Rattle.std.proofs.lemmas.Bool.{or_left, or_right, or_cases, and_parts, leb-true, ne_eqb}
+use Rattle.std.proofs.lemmas.Slice.Eq.{bytes_eq-Decides}
+use Rattle.std.proofs.lemmas.List.Sums.{sum_by-append, sum_by-cons}
+use Rattle.insn.specs.declared.instruction.Insn.{Insn}
+use Rattle.insn.specs.declared.instruction.Insn.TheVariants as insn
+use Rattle.insn.specs.Instruction.{slots_of}
+use Rattle.insn.specs.Program.{slot_count, SLOT_LIMIT}
+use Rattle.insn.specs.Text.{Word, is_digit, is_positive, is_natural, is_number, is_distance, is_name, Operand, Register, Number, Target, name_of, operands_of, distance_word, Line, Blank, Label, Statement, lines_in, SaysOperand, SaysOperands, SaysInsn, labels_in, names_in, AllDiffer, Text}
+use Rattle.assembler.specs.declared.mnemonic.Mnemonic.{Mnemonic}
+use Rattle.assembler.specs.declared.mnemonic.Mnemonic.TheVariants.{Alu, Divide, Remainder, Negate, MoveSigned, SwapBytes, LoadWide, Load, LoadSigned, StoreReg, StoreImm, Jump, JumpLong, JumpIf, Exit}
+use Rattle.assembler.specs.Mnemonics.{mnemonic_of}
+use Rattle.assembler.specs.declared.fault.AsmFault.{AsmFault}
+use Rattle.assembler.specs.declared.fault.AsmFault.TheVariants.{UnknownWord, BadOperand, OutOfRange, UnknownLabel, DoubleLabel, TooLong, Memory, NoInstruction}
+use Rattle.assembler.specs.Faults.{Anywhere, OneOf, SaysFitting, Drafts, FirstWrong, FirstLost, FirstFault, HasName, HasFormOf, HaveForms, HasForm, HasUnknownWord, HasBadOperand, IsOutOfRange, IsDoubleLabel, IsTooLong, LacksLabel}
+use Rattle.assembler.proofs.Numbers.{decimal_natural, decimal_positive}
+use Rattle.assembler.proofs.Reading.{Field, AReg, ASource, AnImm, AnOffset, AWide, ANear, AFar, FitsIn, FitIn, fields_of, fit_fields}
+use Rattle.assembler.proofs.Statements.{of_mnemonic, name_by_mnemonic}
+use Rattle.assembler.proofs.Texts.{labels_named, says_drafts, split_drafts, names_append, not_differ}
+
+-- ---- slots by names
+
+abbrev slots_by : Mnemonic → ℕ
+slots_by (Alu width op) = 1
+slots_by (Divide width signedness) = 1
+slots_by (Remainder width signedness) = 1
+slots_by (Negate width) = 1
+slots_by (MoveSigned extension) = 1
+slots_by (SwapBytes kind bits) = 1
+slots_by LoadWide = 2
+slots_by (Load size) = 1
+slots_by (LoadSigned size) = 1
+slots_by (StoreReg size) = 1
+slots_by (StoreImm size) = 1
+slots_by Jump = 1
+slots_by JumpLong = 1
+slots_by (JumpIf width cond) = 1
+slots_by Exit = 1
+
+slots_mnemonic : (i : Insn) → slots_of i ≡ slots_by (mnemonic_of i)
+slots_mnemonic (insn.Alu64Imm op dst imm) = refl
+slots_mnemonic (insn.Alu64Reg op dst src) = refl
+slots_mnemonic (insn.Alu32Imm op dst imm) = refl
+slots_mnemonic (insn.Alu32Reg op dst src) = refl
+slots_mnemonic (insn.Divide width signedness dst operand) = refl
+slots_mnemonic (insn.Remainder width signedness dst operand) = refl
+slots_mnemonic (insn.Negate width dst) = refl
+slots_mnemonic (insn.MoveSigned extension dst src) = refl
+slots_mnemonic (insn.SwapBytes kind bits dst) = refl
+slots_mnemonic (insn.LoadWide dst value) = refl
+slots_mnemonic (insn.Load size dst src offset) = refl
+slots_mnemonic (insn.LoadSigned size dst src offset) = refl
+slots_mnemonic (insn.StoreReg size dst src offset) = refl
+slots_mnemonic (insn.StoreImm size dst offset imm) = refl
+slots_mnemonic (insn.Jump offset) = refl
+slots_mnemonic (insn.JumpLong offset) = refl
+slots_mnemonic (insn.Jump64IfImm cond dst offset imm) = refl
+slots_mnemonic (insn.Jump64IfReg cond dst src offset) = refl
+slots_mnemonic (insn.Jump32IfImm cond dst offset imm) = refl
+slots_mnemonic (insn.Jump32IfReg cond dst src offset) = refl
+slots_mnemonic insn.Exit = refl
+
+pub same_slots : (w : Word) (i j : Insn) → w ≡ name_of i → w ≡ name_of j → slots_of i ≡ slots_of j
+same_slots w i j e h = let same = of_mnemonic w (mnemonic_of j) i (h ∙ name_by_mnemonic j) e in slots_mnemonic i ∙ ap slots_by same ∙ sym (slots_mnemonic j)
+
+pub said_slots : (L M : Word → ℤ → Type 0) (ws : List Word) (i j : Insn) → SaysInsn L i ws → SaysInsn M j ws → slots_of i ≡ slots_of j
+said_slots L M [] i j h k = absurd h
+said_slots L M (w ∷ ws) i j h k = same_slots w i j h.0 k.0
+
+pub drafts_slots : (L M : Word → ℤ → Type 0) (lines : List Line) (p q : List Insn) → Drafts L lines p → Drafts M lines q → slot_count p ≡ slot_count q
+drafts_slots L M [] [] [] h k = refl
+drafts_slots L M [] [] (j ∷ q) h k = absurd k
+drafts_slots L M [] (i ∷ p) q h k = absurd h
+drafts_slots L M (Blank ∷ lines) p q h k = drafts_slots L M lines p q h k
+drafts_slots L M (Label name ∷ lines) p q h k = drafts_slots L M lines p q h k
+drafts_slots L M (Statement words ∷ lines) [] q h k = absurd h
+drafts_slots L M (Statement words ∷ lines) (i ∷ p) [] h k = absurd k
+drafts_slots L M (Statement words ∷ lines) (i ∷ p) (j ∷ q) h k =
+    let one = said_slots L M words i j h.0.0 k.0.0 in let rest = drafts_slots L M lines p q h.1 k.1 in omega (arith, sum_by-cons slots_of i p, sum_by-cons slots_of j q)
+
+-- ---- what is said has its form
+
+zero_first : (c : ℕ) (cs : Word) → c ∷ cs ≡ codes "0" → 48 ≤ c
+zero_first c cs e = let k : c ≡ 48 = cc in omega arith
+
+positive_first : (c : ℕ) (cs : Word) → is_positive (c ∷ cs) ≡ true → 48 ≤ c
+positive_first c cs e = let k = leb-true 49 c (and_parts (nat_le 49 c) (list_all is_digit (c ∷ cs)) e).0 in omega arith
+
+natural_first : (c : ℕ) (cs : Word) → is_natural (c ∷ cs) ≡ true → 48 ≤ c
+natural_first c cs h = ⊎_elim
+    (λ (e : is_positive (c ∷ cs) ≡ true). positive_first c cs e)
+    (λ (e : bytes_eq (c ∷ cs) (codes "0") ≡ true). zero_first c cs ((bytes_eq-Decides (c ∷ cs) (codes "0")).0 e))
+    (or_cases (is_positive (c ∷ cs)) (bytes_eq (c ∷ cs) (codes "0")) h)
+
+natural_number : (w : Word) → is_natural w ≡ true → is_number w ≡ true
+natural_number [] h = absurd cc
+natural_number (c ∷ cs) h = let l = natural_first c cs h in rw (ne_eqb c 45 (λ e. omega arith)) h
+
+abbrev IsBounded : ℤ → Type 0
+IsBounded (pos n) = n < 2 ^ 64
+IsBounded (negsuc n) = n + 1 < 2 ^ 64
+
+bounded_32 : (z : ℤ) → FitsSigned w32 z → IsBounded z
+bounded_32 (pos n) h = omega (arith, ints)
+bounded_32 (negsuc n) h = omega (arith, ints)
+
+bounded_16 : (z : ℤ) → FitsSigned w16 z → IsBounded z
+bounded_16 (pos n) h = omega (arith, ints)
+bounded_16 (negsuc n) h = omega (arith, ints)
+
+number_form : (z : ℤ) → IsBounded z → is_number (signed_decimal z) ≡ true
+number_form (pos n) l = natural_number (decimal n) (decimal_natural n l)
+number_form (negsuc n) l = decimal_positive (suc n) (omega arith) (omega arith)
+
+distance_form : (d : ℤ) → IsBounded d → is_distance (distance_word d) ≡ true
+distance_form (pos n) l = decimal_natural n l
+distance_form (negsuc n) l = decimal_positive (suc n) (omega arith) (omega arith)
+
+target_form : (d : ℤ) (w : Word) → IsBounded d → SaysOperand Anywhere (Target d) w → (is_distance w || is_name w) ≡ true
+target_form d w l h = ⊎_elim
+    (λ e. or_left (is_distance w) (is_name w) (ap is_distance e ∙ distance_form d l))
+    (λ k. or_right (is_distance w) (is_name w) k.0)
+    h
+
+operand_form : (f : Field) (o : Operand) (w : Word) → FitsIn f o → SaysOperand Anywhere o w → HasForm o w
+operand_form f (Register r) w h s = (r, s)
+operand_form AReg (Number z) w h s = absurd h
+operand_form ASource (Number z) w h s = ap is_number s ∙ number_form z (bounded_32 z h)
+operand_form AnImm (Number z) w h s = ap is_number s ∙ number_form z (bounded_32 z h)
+operand_form AnOffset (Number z) w h s = ap is_number s ∙ number_form z (bounded_16 z h)
+operand_form AWide (Number z) w h s = ap is_number (s ∙ ap signed_decimal h.1) ∙ number_form (pos h.0) h.2
+operand_form ANear (Number z) w h s = absurd h
+operand_form AFar (Number z) w h s = absurd h
+operand_form AReg (Target d) w h s = absurd h
+operand_form ASource (Target d) w h s = absurd h
+operand_form AnImm (Target d) w h s = absurd h
+operand_form AnOffset (Target d) w h s = absurd h
+operand_form AWide (Target d) w h s = absurd h
+operand_form ANear (Target d) w h s = target_form d w (bounded_16 d h) s
+operand_form AFar (Target d) w h s = target_form d w (bounded_32 d h) s
+
+operands_form : (fs : List Field) (os : List Operand) (ws : List Word) → FitIn fs os → SaysOperands Anywhere os ws → HaveForms os ws
+operands_form [] [] [] f h = tt
+operands_form [] [] (w ∷ ws) f h = absurd h
+operands_form [] (o ∷ os) ws f h = absurd f
+operands_form (f ∷ fs) [] ws k h = absurd k
+operands_form (f ∷ fs) (o ∷ os) [] k h = absurd h
+operands_form (f ∷ fs) (o ∷ os) (w ∷ ws) k h = (operand_form f o w k.0 h.0, operands_form fs os ws k.1 h.1)
+
+said_form : (i : Insn) (ws : List Word) → SaysFitting Anywhere i ws → HasFormOf i ws
+said_form i [] h = h.0
+said_form i (w ∷ ws) h = (h.0.0, operands_form (fields_of (mnemonic_of i)) (operands_of i) ws (fit_fields i h.1) h.0.1)
+
+said_name : (i : Insn) (ws : List Word) → SaysFitting Anywhere i ws → HasName i ws
+said_name i [] h = h.0
+said_name i (w ∷ ws) h = h.0.0
+
+-- ---- a line that is wrong, where a program is said
+
+abbrev Refutes : (List Line → List Insn → Line → Type 0) → Type 0
+Refutes IsWrong = (before after : List Line) (here : Line) (first front back : List Insn) → IsWrong before first here → slot_count first ≡ slot_count front → slot_count (front ++ back) ≤ SLOT_LIMIT → AllDiffer (names_in (before ++ here ∷ after)) → Drafts Anywhere (here ∷ after) back → ⊥
+
+no_unknown_word : Refutes HasUnknownWord
+no_unknown_word before after Blank first front back w s l d h = w
+no_unknown_word before after (Label name) first front back w s l d h = w
+no_unknown_word before after (Statement words) first front [] w s l d h = h
+no_unknown_word before after (Statement words) first front (i ∷ back) w s l d h = w i (said_name i words h.0)
+
+no_bad_operand : Refutes HasBadOperand
+no_bad_operand before after Blank first front back w s l d h = w
+no_bad_operand before after (Label name) first front back w s l d h = w
+no_bad_operand before after (Statement words) first front [] w s l d h = h
+no_bad_operand before after (Statement words) first front (i ∷ back) w s l d h = w.1 i (said_form i words h.0)
+
+no_out_of_range : Refutes IsOutOfRange
+no_out_of_range before after Blank first front back w s l d h = w
+no_out_of_range before after (Label name) first front back w s l d h = w
+no_out_of_range before after (Statement words) first front [] w s l d h = h
+no_out_of_range before after (Statement words) first front (i ∷ back) w s l d h = w.1 i h.0
+
+no_double_label : Refutes IsDoubleLabel
+no_double_label before after Blank first front back w s l d h = w
+no_double_label before after (Label name) first front back w s l d h =
+    not_differ name (names_in before) (names_in after) w (subst AllDiffer (names_append before (Label name ∷ after)) d)
+no_double_label before after (Statement words) first front back w s l d h = w
+
+no_too_long : Refutes IsTooLong
+no_too_long before after Blank first front back w s l d h = w
+no_too_long before after (Label name) first front back w s l d h = w
+no_too_long before after (Statement words) first front [] w s l d h = h
+no_too_long before after (Statement words) first front (i ∷ back) w s l d h =
+    let one = said_slots Anywhere Anywhere words w.0 i w.1.0 h.0.0 in
+    let all = sum_by-append slots_of front (i ∷ back) in omega (arith, sum_by-cons slots_of i back)
+
+all_said : (text : List ℕ) (p : List Insn) → Text text p → Drafts Anywhere (lines_in text) p
+all_said text p t = says_drafts (labels_in 0 (lines_in text) p) Anywhere (λ b w d k. tt) 0 (lines_in text) p t.fit t.said
+
+no_first_wrong : (IsWrong : List Line → List Insn → Line → Type 0) → Refutes IsWrong → (text : List ℕ) (n : ℕ) (p : List Insn) → FirstWrong IsWrong (lines_in text) n → Text text p → ⊥
+no_first_wrong IsWrong refutes text n p f t =
+    let d = subst (λ (ls : List Line). Drafts Anywhere ls p) f.parts (all_said text p t) in
+    let k = split_drafts Anywhere f.before (f.here ∷ f.after) p d in
+    let limit = subst (λ (x : List Insn). slot_count x ≤ SLOT_LIMIT) k.joined t.in_bounds.short in
+    let differ = subst (λ (ls : List Line). AllDiffer (names_in ls)) f.parts t.differ in
+    refutes f.before f.after f.here f.program k.front k.back f.wrong (drafts_slots Anywhere Anywhere f.before f.program k.front f.right.drafted k.first) limit differ k.second
+
+not_lost : (names : List Word) (here : Line) (after : List Line) (back : List Insn) → LacksLabel names here → Drafts (OneOf names) (here ∷ after) back → ⊥
+not_lost names Blank after back w h = w
+not_lost names (Label name) after back w h = w
+not_lost names (Statement words) after [] w h = h
+not_lost names (Statement words) after (i ∷ back) w h = w i h.0
+
+no_first_lost : (text : List ℕ) (n : ℕ) (p : List Insn) → FirstLost (lines_in text) n → Text text p → ⊥
+no_first_lost text n p f t =
+    let names = names_in (lines_in text) in
+    let labels = labels_in 0 (lines_in text) p in
+    let all = says_drafts labels (OneOf names) (λ b w d k. labels_named 0 (lines_in text) p w k.0 k.1) 0 (lines_in text) p t.fit t.said in
+    let d = subst (λ (ls : List Line). Drafts (OneOf names) ls p) f.parts all in
+    let k = split_drafts (OneOf names) f.before (f.here ∷ f.after) p d in
+    not_lost names f.here f.after k.back f.lost k.second
+
+-- the law
+pub only_memory : (text : List ℕ) (f : AsmFault) → FirstFault text f → (p : List Insn) → Text text p → f ≡ Memory
+only_memory text (UnknownWord n) h p t = absurd (no_first_wrong HasUnknownWord no_unknown_word text n p h t)
+only_memory text (BadOperand n) h p t = absurd (no_first_wrong HasBadOperand no_bad_operand text n p h t)
+only_memory text (OutOfRange n) h p t = absurd (no_first_wrong IsOutOfRange no_out_of_range text n p h t)
+only_memory text (UnknownLabel n) h p t = absurd (no_first_lost text n p h t)
+only_memory text (DoubleLabel n) h p t = absurd (no_first_wrong IsDoubleLabel no_double_label text n p h t)
+only_memory text (TooLong n) h p t = absurd (no_first_wrong IsTooLong no_too_long text n p h t)
+only_memory text Memory h p t = refl
+only_memory text NoInstruction h p t = let e = drafts_slots Anywhere Anywhere (lines_in text) [] p h.drafted (all_said text p t) in let one = t.in_bounds.nonempty in absurd (omega arith)

@@ -1,0 +1,10 @@
+use Rattle.std.proofs.Common.{subst}
+use Rattle.assembler.specs.declared.draft.Jump.{Jump}
+use Rattle.assembler.specs.Drafts.{HasTarget}
+use Rattle.assembler.proofs.Jumps.{jump_if_draft}
+use Rattle.assembler.proofs.draft.jump_if.Goals as goal
+
+pub returns : goal.returns
+returns c =
+    let t = subst (λ (j : Jump). HasTarget j c.args.target.now c.jump_to.result) c.condition.ensures c.jump_to.ensures in
+    jump_if_draft c.args.width c.args.cond c.in-Some.dst c.in-Some-source.source c.args.dst.now c.args.source.now c.args.target.now c.in-Some.ensures.some c.in-Some-source.ensures c.jump_to.result t

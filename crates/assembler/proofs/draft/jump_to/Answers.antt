@@ -1,0 +1,13 @@
+use Rattle.std.proofs.Common.{rules, tests, ◌≡◌, FitsSigned, w16, w32, false}
+use Rattle.std.proofs.lemmas.Int.{to_z-of_z}
+use Rattle.insn.specs.Text.{is_name}
+use Rattle.assembler.proofs.Numbers.{small_from_32}
+use Rattle.assembler.proofs.Jumps.{too_far}
+use Rattle.assembler.proofs.draft.jump_to.Goals as goal
+
+pub returns-in-Err : goal.returns-in-Err
+returns-in-Err c =
+    let fits : FitsSigned w32 c.in-Some.distance = search rules in
+    let name : is_name c.args.target.now ≡ false = search (rules, tests) in
+    let far : FitsSigned w16 c.in-Some.distance → ⊥ = simp to_z-of_z at c.in-Err.ensures in
+    too_far c.args.target.now c.in-Some.distance name (small_from_32 c.in-Some.distance fits) c.in-Some.ensures.some far

@@ -1,0 +1,91 @@
+-- What the first look keeps of lines.
+use Rattle.std.specs.Prelude.{◌≡◌, ⊤, ℕ, ◌+◌, pos, ◌-ℤ◌, ◌≤◌, List, [], ◌∷◌, ◌++◌, map, Option, Some, None}
+use Rattle.std.specs.Borrow.{Bor}
+use Rattle.std.specs.Str.{bytes_eq}
+use Rattle.std.specs.HashMap.{HashMap, get_by}
+use Rattle.std.specs.Option.{option_map}
+use Rattle.insn.specs.declared.instruction.Insn.{Insn}
+use Rattle.insn.specs.Program.{slot_count, SLOT_LIMIT}
+use Rattle.insn.specs.Text.{Word, Line, Blank, Label, Statement, labels_in, slot_of, names_in, AllDiffer, line_of, words_in}
+use Rattle.assembler.specs.declared.slot.Slot.{Slot}
+use Rattle.assembler.specs.declared.draft.Draft.{Draft}
+use Rattle.assembler.specs.declared.draft.Draft.TheVariants.{Whole, ToLabel}
+use Rattle.assembler.specs.declared.draft.WordFault.{WordFault}
+use Rattle.assembler.specs.declared.draft.WordFault.TheVariants.{UnknownWord, BadOperand, OutOfRange}
+use Rattle.assembler.specs.declared.fault.AsmFault.{AsmFault}
+use Rattle.assembler.specs.declared.fault.AsmFault.TheVariants as faults
+use Rattle.assembler.specs.declared.look.Place.{Place}
+use Rattle.assembler.specs.Drafts.{draft_slots, jump_over, IsDraft}
+
+-- the lines of these bytes
+abbrev pub lines_of : List (List ℕ) → List Line
+lines_of parts = map (λ bytes. line_of (words_in bytes)) parts
+
+-- the places of lines, behind so many others and from a slot on
+abbrev pub AreFrom : ℕ → ℕ → List Line → List Place → Type 0
+AreFrom number slot [] [] = ⊤
+AreFrom number slot [] (p ∷ places) = ⊥
+AreFrom number slot (Blank ∷ lines) places = AreFrom (number + 1) slot lines places
+AreFrom number slot (Label name ∷ lines) places = AreFrom (number + 1) slot lines places
+AreFrom number slot (Statement words ∷ lines) [] = ⊥
+AreFrom number slot (Statement words ∷ lines) (p ∷ places) =
+    IsDraft words p.draft × (p.line ≡ number + 1) × (p.behind.number ≡ slot + draft_slots p.draft) × AreFrom (number + 1) p.behind.number lines places
+
+-- an instruction of a draft, with 0 for a distance that is open
+abbrev pub with_zero : Draft → Insn
+with_zero (Whole i) = i
+with_zero (ToLabel jump name) = jump_over jump (pos 0)
+
+abbrev pub zeroed : List Place → List Insn
+zeroed places = map (λ p. with_zero p.draft) places
+
+-- the instruction of a draft, where labels stand at these slots, and of a place
+abbrev pub resolution_of : (Word → Option ℕ) → ℕ → Draft → Option Insn
+resolution_of find behind (Whole i) = Some i
+resolution_of find behind (ToLabel jump name) = option_map (λ to. jump_over jump (pos to -ℤ pos behind)) (find name.now)
+
+abbrev pub resolution : (Word → Option ℕ) → Place → Option Insn
+resolution find p = resolution_of find p.behind.number p.draft
+
+-- the slot of a name in a map
+abbrev pub find_in : {S : Type 0} → HashMap (Bor (List ℕ)) Slot S → Word → Option ℕ
+find_in labels name = option_map (λ slot. slot.number) (get_by (λ key. bytes_eq name key.now) labels)
+
+-- lines were looked at: their places and labels are these, and this is the slot behind them
+pub record AreLooked (lines : List Line) (places : List Place) (find : Word → Option ℕ) (slot : ℕ) : Type 0 where
+  pub stand : AreFrom 0 0 lines places
+  pub behind : slot ≡ slot_count (zeroed places)
+  pub labels : (name : Word) → find name ≡ slot_of (labels_in 0 lines (zeroed places)) name
+  pub differ : AllDiffer (names_in lines)
+
+pub record IsSheet (lines : List Line) (places : List Place) (find : Word → Option ℕ) : Type 0 where
+  pub looked : AreLooked lines places find (slot_count (zeroed places))
+  pub short : slot_count (zeroed places) ≤ SLOT_LIMIT
+
+-- the fault of a line's words
+abbrev pub fault_at : WordFault → ℕ → AsmFault
+fault_at UnknownWord line = faults.UnknownWord line
+fault_at BadOperand line = faults.BadOperand line
+fault_at OutOfRange line = faults.OutOfRange line
+
+-- a place whose label stands nowhere, behind others whose labels stand somewhere
+pub record FirstLostPlace (find : Word → Option ℕ) (places : List Place) (line : ℕ) : Type 0 where
+  pub front : List Place
+  pub here : Place
+  pub back : List Place
+  pub known : List Insn
+  pub parts : places ≡ front ++ here ∷ back
+  pub resolved : map Some known ≡ map (resolution find) front
+  pub lost : resolution find here ≡ None
+  pub told : line ≡ here.line
+
+-- how the look-up of labels ends without instructions
+abbrev pub Unresolved : (Word → Option ℕ) → List Place → AsmFault → Type 0
+Unresolved find places (faults.UnknownLabel line) = FirstLostPlace find places line
+Unresolved find places faults.Memory = ⊤
+Unresolved find places (faults.UnknownWord line) = ⊥
+Unresolved find places (faults.BadOperand line) = ⊥
+Unresolved find places (faults.OutOfRange line) = ⊥
+Unresolved find places (faults.DoubleLabel line) = ⊥
+Unresolved find places (faults.TooLong line) = ⊥
+Unresolved find places faults.NoInstruction = ⊥
