@@ -1,0 +1,11 @@
+pub mod Agreeing
+pub mod Carries
+pub mod Witnesses
+pub mod Bitwise
+pub mod Moving
+pub mod Results
+pub mod Meeting
+pub mod Signs
+pub mod Swaps
+pub mod Shifts
+pub mod Refining

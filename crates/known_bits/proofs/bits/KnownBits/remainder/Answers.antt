@@ -1,0 +1,24 @@
+use Rattle.std.proofs.Common.{◌≡◌, sym, ap, ◌∙◌, arith, ◌%◌, ◌^◌}
+use Rattle.insn.specs.declared.operation.Width.TheVariants.{W64}
+use Rattle.insn.specs.declared.operation.BinOp.TheVariants.{Mod}
+use Rattle.word.specs.Results.{word_result_fits}
+use Rattle.std.proofs.lemmas.Nat.{one_shl}
+use Rattle.std.proofs.Math.Nat.{mod-zero}
+use Rattle.known_bits.proofs.Results.{member_of_zero}
+use Rattle.known_bits.proofs.Moving.{moved_apart, moved_agrees, low_moves}
+use Rattle.known_bits.proofs.bits.KnownBits.remainder.Goals as goal
+
+pub new-requires : goal.new-requires
+new-requires c = rw (one_shl c.in-Some.k 64 c.in-Some.ensures.some.0) (moved_apart (λ n. n % 2 ^ c.in-Some.k) c.args.a.value c.args.a.mask (omega arith) (omega arith) (low_moves c.in-Some.k) c.args.a.apart)
+
+pub returns-in-Some : goal.returns-in-Some
+returns-in-Some c x y hx hy = rw (c.new.ensures.value, c.new.ensures.mask, c.in-Some.ensures.some.1 y hy, one_shl c.in-Some.k 64 c.in-Some.ensures.some.0)
+    (moved_agrees (λ n. n % 2 ^ c.in-Some.k) c.args.a.value c.args.a.mask x (omega arith) (omega arith) (low_moves c.in-Some.k) hx)
+
+pub returns-in-None : goal.returns-in-None
+returns-in-None c x y hx hy = c.all.ensures _ (word_result_fits W64 Mod x y hx.word hy.word)
+
+pub returns-then-greatest-eq0 : goal.returns-then-greatest-eq0
+returns-then-greatest-eq0 c x y hx hy =
+    let zero_right : y ≡ 0 = member_of_zero c.args.b y (sym c.greatest.ensures ∙ c.if-greatest-eq0.true) hy in
+    rw (ap (λ n. x % n) zero_right ∙ mod-zero x) hx

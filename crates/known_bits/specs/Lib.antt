@@ -1,0 +1,4 @@
+pub mod Members
+pub mod Exact
+pub mod Moves
+pub mod Refined

@@ -1,0 +1,22 @@
+-- The words that known bits stand for.
+use Rattle.std.specs.Prelude.{◌≡◌, ℕ, ◌<◌, ◌^◌}
+use Rattle.std.specs.Int.{bit_at}
+use Rattle.range.specs.Domain.{IsJoin}
+use Rattle.known_bits.specs.declared.bits.KnownBits.{KnownBits}
+
+-- a word that has the bits of a value outside a mask
+pub record Agrees (value mask x : ℕ) : Type 0 where
+  pub word : x < 2 ^ 64
+  pub same : (k : ℕ) → bit_at mask k ≡ 0 → bit_at x k ≡ bit_at value k
+
+-- a word that has the known bits
+abbrev pub HasBits : KnownBits → ℕ → Type 0
+HasBits b x = Agrees b.value b.mask x
+
+-- no known bits that have the members of both say more than a join
+abbrev pub IsLeastJoin : KnownBits → KnownBits → KnownBits → Type 0
+IsLeastJoin a b c = (d : KnownBits) → IsJoin HasBits a b d → (x : ℕ) → HasBits c x → HasBits d x
+
+-- a member is a word
+pub HasBits-words : (b : KnownBits) (x : ℕ) → HasBits b x → x < 2 ^ 64
+HasBits-words b x h = h.word

@@ -1,0 +1,123 @@
+//! Words with bits that are known and bits that are not.
+
+ghost use Rattle.std.specs.Prelude.{◌≡◌, ◌<◌, ◌^◌, ◌↔◌, ℕ, IsTrue, IfNone, IfSome};
+ghost use Rattle.std.specs.Int.{bit_at};
+ghost use Rattle.std.specs.Int.RustNames.{bit_and, bit_or};
+ghost use mir.Val.{bits};
+ghost use Rattle.insn.specs.Word.{int_width, seen};
+ghost use Rattle.range.specs.Domain.{IsJoin};
+
+use insn::operation::Width;
+
+/// The number of words that a low half has.
+const LOW_HALF: u64 = 0x1_0000_0000;
+
+/// The words that have some bits as a value has them; of the bits of a mask nothing is known.
+#[derive(Clone, Copy, Debug, PartialEq, Eq)]
+pub struct KnownBits {
+    pub(crate) value: u64,
+    pub(crate) mask: u64,
+    ghost apart: { bit_and value mask ≡ 0 },
+}
+
+impl KnownBits {
+    ghost use Rattle.known_bits.specs.Members.{HasBits, IsLeastJoin};
+
+    /// The words that have the bits of `value` outside `mask`; `value` itself has none of the unknown bits.
+    pub fn new(value: u64, mask: u64) -> KnownBits
+        requires { bit_and value mask ≡ 0 }
+        ensures value { result.value ≡ value }
+        ensures mask { result.mask ≡ mask }
+    {
+        KnownBits { value, mask }
+    }
+
+    /// The bits that are known to be 1.
+    pub fn value(self) -> u64
+        ensures { result ≡ self.value }
+    {
+        self.value
+    }
+
+    /// The bits that are not known.
+    pub fn mask(self) -> u64
+        ensures { result ≡ self.mask }
+    {
+        self.mask
+    }
+
+    /// Every word.
+    pub(crate) fn all() -> KnownBits
+        ensures { (x : ℕ) → x < 2 ^ 64 → HasBits result x }
+    {
+        KnownBits::new(0, u64::MAX)
+    }
+
+    /// One word alone.
+    pub(crate) fn only(n: u64) -> KnownBits
+        ensures { (x : ℕ) → HasBits result x ↔ (x ≡ n) }
+    {
+        KnownBits::new(n, 0)
+    }
+
+    /// Whether a word has the known bits.
+    pub(crate) fn admits(self, n: u64) -> bool
+        ensures { IsTrue result ↔ HasBits self n }
+    {
+        n & !self.mask == self.value
+    }
+
+    /// The words that have the bits of a word outside a mask.
+    pub(crate) fn outside(n: u64, mask: u64) -> KnownBits
+        ensures mask { result.mask ≡ mask }
+        ensures value { (k : ℕ) → bit_at result.mask k ≡ 0 → bit_at result.value k ≡ bit_at n k }
+    {
+        KnownBits::new(n & !mask, mask)
+    }
+
+    /// The greatest word.
+    pub(crate) fn greatest(self) -> u64
+        ensures { result ≡ bit_or self.value self.mask }
+    {
+        self.value | self.mask
+    }
+
+    /// What a width sees of the words: their low halves, or all of them.
+    pub(crate) fn in_width(self, width: Width) -> KnownBits
+        ensures value { result.value ≡ seen width self.value }
+        ensures mask { result.mask ≡ seen width self.mask }
+    {
+        match width {
+            Width::W32 => KnownBits::new(self.value % LOW_HALF, self.mask % LOW_HALF),
+            Width::W64 => self,
+        }
+    }
+
+    /// Every word of a width.
+    pub(crate) fn all_of(width: Width) -> KnownBits
+        ensures { (x : ℕ) → x < 2 ^ bits (int_width width) → HasBits result x }
+    {
+        KnownBits::all().in_width(width)
+    }
+
+    /// The bits that are known of the words of both.
+    pub(crate) fn joined(a: KnownBits, b: KnownBits) -> KnownBits
+        ensures both { IsJoin HasBits a b result }
+        ensures least { IsLeastJoin a b result }
+    {
+        KnownBits::outside(a.value, a.mask | b.mask | (a.value ^ b.value))
+    }
+
+    /// The words that are in both; `None` where there is none.
+    pub(crate) fn meet(a: KnownBits, b: KnownBits) -> Option<KnownBits>
+        ensures none { IfNone result ((x : ℕ) → HasBits a x → HasBits b x → ⊥) }
+        ensures some { IfSome result (λ c. (x : ℕ) → HasBits c x ↔ (HasBits a x × HasBits b x)) }
+    {
+        let differs = (a.value ^ b.value) & !(a.mask | b.mask);
+        if differs == 0 {
+            Some(KnownBits::new(a.value | b.value, a.mask & b.mask))
+        } else {
+            None
+        }
+    }
+}

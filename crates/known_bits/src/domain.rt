@@ -1,0 +1,132 @@
+//! Known bits as a domain.
+
+ghost use Rattle.std.specs.Prelude.{◌≡◌, ℕ, IsTrue, IsNone, IfSome};
+ghost use Rattle.range.specs.Domain.{IsJoin, IsRefined, IsSingle, IsSoundResult, IsSingleResult, IsSoundImage, IsSingleImage, unary_result};
+
+use crate::bits::KnownBits;
+use insn::operation::{BinOp, Cond, UnOp, Width};
+use range::domain::Domain;
+use word::{alu, extend, neg, swap};
+
+/// The result of an operation on one word.
+fn image_of_word(op: UnOp, width: Width, n: u64) -> u64
+    ensures { result ≡ unary_result op width n }
+{
+    match op {
+        UnOp::Neg => neg(width, n),
+        UnOp::Swap(kind, bits) => swap(kind, bits, n),
+        UnOp::Extend(bits) => extend(width, bits, n),
+    }
+}
+
+impl Domain for KnownBits {
+    ghost use Rattle.known_bits.specs.Members.{HasBits, HasBits-words, IsLeastJoin};
+    ghost use Rattle.known_bits.specs.Refined.{IsOneBit, IsSettled, IsTight, IsUnanswered, says_equal};
+    ghost use Rattle.known_bits.specs.Exact.{HasExactBits, IsExactImage};
+
+    ghost Has = { HasBits };
+
+    ghost Single = { IsSingle HasBits };
+
+    ghost words = { HasBits-words };
+
+    ghost single_is = { λ a x h. h };
+
+    fn any() -> KnownBits {
+        KnownBits::all()
+    }
+
+    fn exact(n: u64) -> KnownBits {
+        KnownBits::only(n)
+    }
+
+    fn has(self, n: u64) -> bool {
+        self.admits(n)
+    }
+
+    fn apply(op: BinOp, width: Width, a: KnownBits, b: KnownBits) -> KnownBits
+        ensures sound { IsSoundResult HasBits op width a b result }
+        ensures single { IsSingleResult (IsSingle HasBits) op width a b result }
+        ensures exact { HasExactBits op width a b result }
+    {
+        if a.mask | b.mask == 0 {
+            KnownBits::only(alu(width, op, a.value, b.value))
+        } else {
+            KnownBits::result(op, width, a, b)
+        }
+    }
+
+    fn unary(op: UnOp, width: Width, a: KnownBits) -> KnownBits
+        ensures sound { IsSoundImage HasBits op width a result }
+        ensures single { IsSingleImage (IsSingle HasBits) op width a result }
+        ensures exact { IsExactImage op width a result }
+    {
+        if a.mask == 0 {
+            KnownBits::only(image_of_word(op, width, a.value))
+        } else {
+            KnownBits::image(op, width, a)
+        }
+    }
+
+    fn join(a: KnownBits, b: KnownBits) -> KnownBits
+        ensures both { IsJoin HasBits a b result }
+        ensures least { IsLeastJoin a b result }
+    {
+        KnownBits::joined(a, b)
+    }
+
+    fn refine(
+        cond: Cond,
+        width: Width,
+        a: KnownBits,
+        b: KnownBits,
+        taken: bool,
+    ) -> Option<(KnownBits, KnownBits)>
+        ensures kept { IsRefined HasBits cond width taken a b result }
+        ensures tight { IsTrue (says_equal cond taken) → IfSome result (IsTight width a b) }
+        ensures single { (x y : ℕ) → IsUnanswered cond width taken a b x y → IsNone result }
+        ensures settled { (k : ℕ) → cond ≡ Cond.Set → IsOneBit width b k → IfSome result (IsSettled cond width taken b) }
+    {
+        KnownBits::refined(cond, width, a, b, taken)
+    }
+}
+
+impl KnownBits {
+    ghost use Rattle.known_bits.specs.Members.{HasBits};
+    ghost use Rattle.known_bits.specs.Exact.{HasExactBits, IsExactImage};
+
+    /// The results of an operation on two words.
+    fn result(op: BinOp, width: Width, a: KnownBits, b: KnownBits) -> KnownBits
+        ensures sound { IsSoundResult HasBits op width a b result }
+        ensures exact { HasExactBits op width a b result }
+    {
+        match op {
+            BinOp::Add
+            | BinOp::Sub
+            | BinOp::Mul
+            | BinOp::Or
+            | BinOp::And
+            | BinOp::Xor
+            | BinOp::Mov => { KnownBits::whole(op, a, b).in_width(width) }
+            BinOp::Div | BinOp::Mod => KnownBits::whole(
+                op,
+                a.in_width(width),
+                b.in_width(width),
+            ).in_width(width),
+            BinOp::Lsh | BinOp::Rsh | BinOp::Arsh => KnownBits::shifted(op, width, a, b),
+            BinOp::Sdiv | BinOp::Smod => KnownBits::all_of(width),
+        }
+    }
+
+    /// The results of an operation on one word.
+    fn image(op: UnOp, width: Width, a: KnownBits) -> KnownBits
+        ensures sound { IsSoundImage HasBits op width a result }
+        ensures exact { IsExactImage op width a result }
+    {
+        match op {
+            UnOp::Neg => KnownBits::difference(KnownBits::only(0), a).in_width(width),
+            UnOp::Swap(kind, bits) => KnownBits::swapped(kind, bits, width, a),
+            UnOp::Extend(bits) => KnownBits::extended(bits, width, a),
+        }
+    }
+}

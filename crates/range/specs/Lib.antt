@@ -1,0 +1,6 @@
+pub mod Domain
+pub mod Sets
+pub mod Conditions
+pub mod Widths
+pub mod Unsigned
+pub mod Signed

@@ -1,0 +1,11 @@
+//! Sets of words by what is known of them, and the two that know a least and a greatest word.
+#![tactic(auto)]
+
+mod condition;
+pub mod domain;
+pub mod signed;
+mod single;
+#[cfg(test)]
+mod tests;
+pub mod unsigned;
+mod width;

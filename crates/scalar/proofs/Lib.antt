@@ -1,0 +1,4 @@
+pub mod Filled
+pub mod Between
+pub mod Singles
+pub mod Same
