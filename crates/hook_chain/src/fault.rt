@@ -1,7 +1,7 @@
 //! Why a hook is not installed or removed.
 
-ghost use Rattle.std.specs.Prelude.{◌≡◌};
-ghost use Rattle.hook_chain.specs.Faults.{of_decoding, of_verifying};
+ghost use Rattle.std.specs.Prelude.{◌≡◌, Some};
+ghost use Rattle.hook_chain.specs.Faults.{hook_fault_text, of_decoding, of_verifying};
 
 use insn::fault::InsnFault;
 use insn::verify_fault::VerifyFault;
@@ -27,6 +27,8 @@ pub enum HookFault {
 }
 
 impl Display for HookFault {
+    ghost output = { λ fault. Some (hook_fault_text fault) };
+
     fn fmt<W: Write>(&self, f: &mut Formatter<W>) -> fmt::Result {
         match self {
             HookFault::Insn(fault) => write!(f, "Insn {fault}"),

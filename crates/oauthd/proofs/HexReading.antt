@@ -1,10 +1,10 @@
 -- A text of hex is read from its front, a blank or a pair of digits at a time.
-use Rattle.std.proofs.Common.{◌≡◌, ℕ, ◌+◌, ◌*◌, List, [], ◌∷◌, ◌++◌, ◌⊎◌, inl, inr, Option, Some, None, Result, Ok, Err, MatchResult, slice_index_or, refl, sym, ap, ◌∙◌, subst, append_assoc, append-nil, length, arith}
+use Rattle.std.proofs.Common.{◌≡◌, ℕ, ◌+◌, ◌*◌, List, [], ◌∷◌, ◌++◌, inl, inr, Option, Some, None, Result, Ok, MatchResult, slice_index_or, refl, sym, ap, ◌∙◌, subst, append_assoc, append-nil, length, arith}
 use Rattle.std.specs.List.{AllByRecursion}
 use Rattle.std.specs.Option.{option_and_then, option_map}
 use Rattle.hex.specs.Hex.{decode_pairs, decode_sized, hex_digit_value, digit_or_error, ◌>>=◌}
 use Rattle.hex.specs.declared.error.FromHexError.{FromHexError}
-use Rattle.oauthd.specs.HexText.{byte_of, BeginsWith, IsBlank, IsHexOf, IsNoHex}
+use Rattle.oauthd.specs.HexText.{byte_of, IsBlank, IsHexOf, IsNoHex}
 
 -- ---- one byte
 

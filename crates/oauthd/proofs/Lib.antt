@@ -1,3 +1,4 @@
 mod HexReading
 mod Lists
+mod Memory
 mod Telling

@@ -1,6 +1,10 @@
 pub mod Answers
+pub mod Assembly
+pub mod Faults
+pub mod File
 pub mod HexText
 pub mod Judge
 pub mod Performed
 pub mod Printed
 pub mod Statuses
+pub mod Words

@@ -1,14 +1,18 @@
 -- What the commands print.
-use Rattle.std.specs.Prelude.{ℕ, List, ◌∷◌, [], ◌++◌, codes, Option, Some, None, IfSome}
+use Rattle.std.specs.Prelude.{ℕ, List, [], ◌++◌, codes}
 use Rattle.std.specs.Fmt.{decimal}
-use Rattle.std.specs.Io.KnownBytes.{Appends}
+use Rattle.std.specs.Option.{option_map_or}
+use Rattle.std.specs.String.{string_bytes}
 use Rattle.hook_record.specs.declared.Narrowed.{Narrowed}
 use Rattle.hook_record.specs.declared.Narrowed.TheVariants.{Allowed, Denied, EmptyScope}
+use Rattle.insn.specs.FaultTexts.{insn_fault_text, verify_fault_text}
+use Rattle.assembler.specs.declared.fault.AsmFault.{AsmFault}
+use Rattle.assembler.specs.Reports.{line_of_fault, name_of_fault}
 use Rattle.oauthd.specs.declared.judge.Judged.{Judged}
 use Rattle.oauthd.specs.declared.answer.Answer.{Answer}
-use Rattle.oauthd.specs.declared.fault.PerformFault.{PerformFault}
-use Rattle.oauthd.specs.declared.fault.PerformFault.TheVariants.{BadArguments, BadRecord, Insn, Verify, Stuck, OutOfMemory, CannotWrite}
 use Rattle.oauthd.specs.declared.answer.Answer.TheVariants as answers
+use Rattle.oauthd.specs.declared.fault.PerformFault.{PerformFault}
+use Rattle.oauthd.specs.declared.fault.PerformFault.TheVariants.{BadArguments, BadRecord, CannotRead, Text, Insn, Verify, Stuck, OutOfMemory, CannotWrite}
 
 -- what is left of a grant, in words
 abbrev pub narrowed_text : Narrowed → List ℕ
@@ -20,23 +24,28 @@ narrowed_text EmptyScope = codes "empty scope"
 abbrev pub judged_text : Judged → List ℕ
 judged_text judged = codes "r0 " ++ decimal judged.r0 ++ codes "\nsteps " ++ decimal judged.steps ++ codes "\n" ++ narrowed_text judged.answer
 
+-- the whole text that an answer is printed as
 abbrev pub answer_text : Answer → List ℕ
-answer_text (answers.Judged judged) = judged_text judged
+answer_text (answers.Judged judged) = judged_text judged ++ codes "\n"
+answer_text (answers.Code hex) = string_bytes hex ++ codes "\n"
+answer_text (answers.Listing text) = string_bytes text
+answer_text (answers.Accepted count) = codes "accepted " ++ decimal count ++ codes "\n"
 
--- what is told of a fault; of the names of an instruction's and a verifier's faults nothing is claimed here
-abbrev pub fault_text : PerformFault → Option (List ℕ)
-fault_text BadArguments = Some (codes "bad arguments")
-fault_text BadRecord = Some (codes "bad record")
-fault_text (Insn fault) = None
-fault_text (Verify fault) = None
-fault_text (Stuck slot) = Some (codes "stuck " ++ decimal slot)
-fault_text OutOfMemory = Some (codes "out of memory")
-fault_text CannotWrite = Some (codes "cannot write")
+-- a text's fault, behind its line where it has one
+abbrev pub located_text : AsmFault → List ℕ
+located_text fault = option_map_or (λ line. codes "line " ++ decimal line ++ codes ": ") (line_of_fault fault) [] ++ name_of_fault fault
 
--- a writer's known bytes grow by a line
-abbrev pub AppendsLine : Option (List ℕ) → Option (List ℕ) → List ℕ → Type 0
-AppendsLine old new text = Appends old new (text ++ codes "\n")
+abbrev pub fault_text : PerformFault → List ℕ
+fault_text BadArguments = codes "bad arguments"
+fault_text BadRecord = codes "bad record"
+fault_text (CannotRead path) = codes "cannot read " ++ path.now
+fault_text (Text fault) = located_text fault
+fault_text (Insn fault) = codes "Insn " ++ insn_fault_text fault
+fault_text (Verify fault) = codes "Verify " ++ verify_fault_text fault
+fault_text (Stuck slot) = codes "stuck " ++ decimal slot
+fault_text OutOfMemory = codes "out of memory"
+fault_text CannotWrite = codes "cannot write"
 
--- a fault's line is appended, where its text is known
-abbrev pub TellsFault : Option (List ℕ) → Option (List ℕ) → PerformFault → Type 0
-TellsFault old new fault = IfSome (fault_text fault) (λ text. AppendsLine old new (codes "oauthd: " ++ text))
+-- the whole line that tells a fault
+abbrev pub told_text : PerformFault → List ℕ
+told_text fault = codes "oauthd: " ++ fault_text fault ++ codes "\n"

@@ -1,9 +1,9 @@
 -- The status with which the program ends.
-use Rattle.std.specs.Prelude.{ℕ}
+use Rattle.std.specs.Prelude.{ℕ, Option, None, Result, Ok, Err}
 use Rattle.std.specs.declared.io.ErrorKind.{ErrorKind}
 use Rattle.std.specs.declared.io.ErrorKind.TheVariants as kinds
 use Rattle.oauthd.specs.declared.fault.PerformFault.{PerformFault}
-use Rattle.oauthd.specs.declared.fault.PerformFault.TheVariants.{BadArguments, BadRecord, Insn, Verify, Stuck, OutOfMemory, CannotWrite}
+use Rattle.oauthd.specs.declared.fault.PerformFault.TheVariants.{BadArguments, BadRecord, CannotRead, Text, Insn, Verify, Stuck, OutOfMemory, CannotWrite}
 use Rattle.oauthd.specs.declared.fault.Status.{Status}
 use Rattle.oauthd.specs.declared.fault.Status.TheVariants.{Done, Refused, BadUse, NoMemory}
 
@@ -14,10 +14,12 @@ code_of Refused = 1
 code_of BadUse = 2
 code_of NoMemory = 3
 
--- a hook that is refused is one thing, bad use another
+-- a hook or a text that is refused is one thing, bad use another
 abbrev pub status_of : PerformFault → Status
 status_of BadArguments = BadUse
 status_of BadRecord = BadUse
+status_of (CannotRead path) = BadUse
+status_of (Text fault) = Refused
 status_of (Insn fault) = Refused
 status_of (Verify fault) = Refused
 status_of (Stuck slot) = Refused
@@ -28,3 +30,8 @@ status_of CannotWrite = BadUse
 abbrev pub words_fault : ErrorKind → PerformFault
 words_fault kinds.OutOfMemory = OutOfMemory
 words_fault kind = BadArguments
+
+-- what comes of a file that isn't read: memory is refused, or the command has none
+abbrev pub unread : {File : Type 0} → ErrorKind → Result (Option File) PerformFault
+unread kinds.OutOfMemory = Err OutOfMemory
+unread kind = Ok None

@@ -8,10 +8,16 @@ use hook_record::Narrowed;
 use std::fmt::{self, Display, Formatter, Write};
 
 /// What a command answers.
-#[derive(Clone, Copy, Debug, PartialEq, Eq)]
+#[derive(Debug, Drop)]
 pub enum Answer {
     /// How a hook's run ended, and what it leaves of the grant.
     Judged(Judged),
+    /// The bytes of a program, as hex.
+    Code(String),
+    /// The text of a program.
+    Listing(String),
+    /// How many instructions a program has that is accepted.
+    Accepted(usize),
 }
 
 impl Display for Answer {
@@ -19,7 +25,10 @@ impl Display for Answer {
 
     fn fmt<W: Write>(&self, f: &mut Formatter<W>) -> fmt::Result {
         match self {
-            Answer::Judged(judged) => write!(f, "{judged}"),
+            Answer::Judged(judged) => writeln!(f, "{judged}"),
+            Answer::Code(hex) => writeln!(f, "{hex}"),
+            Answer::Listing(text) => write!(f, "{text}"),
+            Answer::Accepted(insns) => writeln!(f, "accepted {insns}"),
         }
     }
 }

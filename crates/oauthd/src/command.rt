@@ -1,12 +1,17 @@
 //! The commands, and what they answer.
 
-ghost use Rattle.std.specs.Prelude.{◌≡◌, IfSome, IfNone};
-ghost use Rattle.oauthd.specs.Answers.{IsAnswered, IsAnsweredBy, IsCommand, IsNoCommand, IsRunOn};
+ghost use Rattle.std.specs.Prelude.{◌≡◌, ◌≢◌, [], ◌∷◌, IfSome, IfNone};
+ghost use Rattle.std.specs.Option.{option_copied};
+ghost use Rattle.oauthd.specs.Answers.{IsAnswered, IsAnsweredBy, IsRunOn};
+ghost use Rattle.oauthd.specs.Words.{file_named_by, words_of, IsCommand, IsNoCommand};
 
 use crate::answer::Answer;
+use crate::assembly::assembled;
 use crate::fault::PerformFault;
+use crate::file::{check, listing};
 use crate::hex_text::bytes_of_hex;
 use crate::judge::judge;
+use insn::layout::Layout;
 use std::alloc::Global;
 
 /// A command, with what its words give it.
@@ -17,6 +22,40 @@ pub enum Command<'w> {
         code_hex: &'w str,
         record_hex: &'w str,
     },
+    /// `asm FILE`: the bytes of the program that the text of a file says, as hex.
+    Assemble {
+        path: &'w str,
+    },
+    /// `list FILE`: the canonical text of the program whose hex stands in a file.
+    List {
+        path: &'w str,
+    },
+    /// `check FILE` and `check2 FILE`: whether the program whose hex stands in a file is accepted, for records of
+    /// version 1 or 2.
+    Check {
+        layout: Layout,
+        path: &'w str,
+    },
+}
+
+/// The command that two words name.
+fn on_file<'w>(name: &str, path: &'w str) -> Option<Command<'w>>
+    ensures named { IfSome result (λ command. words_of command ≡ name.now ∷ path.now ∷ []) }
+    ensures none { IfNone result ((command : Command) → words_of command ≢ name.now ∷ path.now ∷ []) }
+{
+    match name {
+        "asm" => Some(Command::Assemble { path }),
+        "list" => Some(Command::List { path }),
+        "check" => Some(Command::Check {
+            layout: Layout::V1,
+            path,
+        }),
+        "check2" => Some(Command::Check {
+            layout: Layout::V2,
+            path,
+        }),
+        _ => None,
+    }
 }
 
 impl<'w> Command<'w> {
@@ -30,25 +69,41 @@ impl<'w> Command<'w> {
                 code_hex: code_hex.as_str(),
                 record_hex: record_hex.as_str(),
             }),
+            [name, path] => on_file(name.as_str(), path.as_str()),
             _ => None,
         }
     }
 
-    /// What the command answers.
-    pub fn answer(self, alloc: Global) -> Result<Answer, PerformFault>
-        ensures { IsAnsweredBy self.entry result }
+    /// The path of the file that the command is about.
+    pub fn file(self) -> Option<&'w str>
+        ensures { option_copied result ≡ file_named_by self.entry }
+    {
+        match self {
+            Command::Run { .. } => None,
+            Command::Assemble { path } => Some(path),
+            Command::List { path } => Some(path),
+            Command::Check { path, .. } => Some(path),
+        }
+    }
+
+    /// What the command answers. `file` is what stands in its file, and `None` where that cannot be read.
+    pub fn answer(self, alloc: Global, file: Option<&[u8]>) -> Result<Answer, PerformFault<'w>>
+        ensures { IsAnsweredBy self.entry (option_copied file.entry) result }
     {
         match self {
             Command::Run {
                 code_hex,
                 record_hex,
             } => run(alloc, code_hex, record_hex),
+            Command::Assemble { path } => assembled(alloc, path, file),
+            Command::List { path } => listing(alloc, path, file),
+            Command::Check { layout, path } => check(alloc, layout, path, file),
         }
     }
 }
 
 /// What the hook of some code answers to a record, both as hex text. The code's text is tested first.
-fn run(alloc: Global, code_hex: &str, record_hex: &str) -> Result<Answer, PerformFault>
+fn run(alloc: Global, code_hex: &str, record_hex: &str) -> Result<Answer, PerformFault<'static>>
     ensures { IsRunOn code_hex.now record_hex.now result }
 {
     let Some(code) = bytes_of_hex(alloc, code_hex.as_bytes())? else {
@@ -63,12 +118,16 @@ fn run(alloc: Global, code_hex: &str, record_hex: &str) -> Result<Answer, Perfor
     }
 }
 
-/// What words answer.
-pub fn answer(alloc: Global, words: &[String]) -> Result<Answer, PerformFault>
-    ensures { IsAnswered words.now result }
+/// What words answer. `file` is what stands in the file that they name, and `None` where that cannot be read.
+pub fn answer<'w>(
+    alloc: Global,
+    words: &'w [String],
+    file: Option<&[u8]>,
+) -> Result<Answer, PerformFault<'w>>
+    ensures { IsAnswered words.now (option_copied file.entry) result }
 {
     match Command::from_words(words) {
-        Some(command) => command.answer(alloc),
+        Some(command) => command.answer(alloc, file),
         None => Err(PerformFault::BadArguments),
     }
 }

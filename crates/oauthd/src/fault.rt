@@ -1,12 +1,13 @@
 //! Why a command is not done, and with which status the program then ends.
 
-ghost use Rattle.std.specs.Prelude.{◌≡◌};
+ghost use Rattle.std.specs.Prelude.{◌≡◌, Some};
 ghost use Rattle.oauthd.specs.Statuses.{code_of, status_of};
-ghost use Rattle.oauthd.specs.Answers.{fault_of};
-ghost use Rattle.oauthd.specs.Printed.{fault_text};
+ghost use Rattle.oauthd.specs.Faults.{of_assembling, of_decoding, of_judging, of_verifying};
+ghost use Rattle.oauthd.specs.Printed.{fault_text, located_text};
 ghost use Rattle.oauthd.specs.declared.fault.PerformFault.TheVariants.{OutOfMemory};
 
 use crate::judge::JudgeFault;
+use assembler::AsmFault;
 use insn::fault::InsnFault;
 use insn::verify_fault::VerifyFault;
 use std::alloc::AllocError;
@@ -36,11 +37,15 @@ impl Status {
 
 /// Why a command is not done.
 #[derive(Clone, Copy, Debug, PartialEq, Eq)]
-pub enum PerformFault {
-    /// The words are no command, or the code is not hex.
+pub enum PerformFault<'w> {
+    /// The words are no command, or what is to be hex of some code is none.
     BadArguments,
     /// The record is not hex, or what it spells is no record.
     BadRecord,
+    /// The file of this path cannot be read.
+    CannotRead(&'w str),
+    /// The text says no program.
+    Text(AsmFault),
     /// The code is no program.
     Insn(InsnFault),
     /// The program is not accepted.
@@ -53,30 +58,34 @@ pub enum PerformFault {
     CannotWrite,
 }
 
-impl PerformFault {
+impl<'w> PerformFault<'w> {
     /// The status with which the program then ends.
     pub fn status(self) -> Status
-        ensures { result ≡ status_of self }
+        ensures { result ≡ status_of self.entry }
     {
         match self {
-            PerformFault::Insn(_) | PerformFault::Verify(_) | PerformFault::Stuck(_) => {
-                Status::Refused
-            }
-            PerformFault::BadArguments | PerformFault::BadRecord | PerformFault::CannotWrite => {
-                Status::BadUse
-            }
+            PerformFault::Text(_)
+            | PerformFault::Insn(_)
+            | PerformFault::Verify(_)
+            | PerformFault::Stuck(_) => Status::Refused,
+            PerformFault::BadArguments
+            | PerformFault::BadRecord
+            | PerformFault::CannotRead(_)
+            | PerformFault::CannotWrite => Status::BadUse,
             PerformFault::OutOfMemory => Status::NoMemory,
         }
     }
 }
 
-impl Display for PerformFault {
-    ghost output = { fault_text };
+impl<'w> Display for PerformFault<'w> {
+    ghost output = { λ fault. Some (fault_text fault) };
 
     fn fmt<W: fmt::Write>(&self, f: &mut Formatter<W>) -> fmt::Result {
         match self {
             PerformFault::BadArguments => write!(f, "bad arguments"),
             PerformFault::BadRecord => write!(f, "bad record"),
+            PerformFault::CannotRead(path) => write!(f, "cannot read {path}"),
+            PerformFault::Text(fault) => write!(f, "{}", Located(*fault)),
             PerformFault::Insn(fault) => write!(f, "Insn {fault}"),
             PerformFault::Verify(fault) => write!(f, "Verify {fault}"),
             PerformFault::Stuck(slot) => write!(f, "stuck {slot}"),
@@ -86,25 +95,72 @@ impl Display for PerformFault {
     }
 }
 
-impl From<JudgeFault> for PerformFault {
-    ghost from_gives = { λ fault f. f ≡ fault_of fault };
+/// The fault of a text, behind its line.
+#[derive(Clone, Copy)]
+struct Located(AsmFault);
 
-    fn from(fault: JudgeFault) -> PerformFault {
+impl Display for Located {
+    ghost output = { λ located. Some (located_text located.0) };
+
+    fn fmt<W: fmt::Write>(&self, f: &mut Formatter<W>) -> fmt::Result {
+        let name = self.0.name();
+        match self.0.line() {
+            Some(line) => write!(f, "line {line}: {name}"),
+            None => write!(f, "{name}"),
+        }
+    }
+}
+
+impl<'w> From<JudgeFault> for PerformFault<'w> {
+    ghost from_gives = { λ fault f. f ≡ of_judging fault };
+
+    fn from(fault: JudgeFault) -> PerformFault<'w> {
         match fault {
             JudgeFault::BadRecord => PerformFault::BadRecord,
-            JudgeFault::Insn(InsnFault::Memory) => PerformFault::OutOfMemory,
-            JudgeFault::Insn(fault) => PerformFault::Insn(fault),
-            JudgeFault::Verify(VerifyFault::Memory) => PerformFault::OutOfMemory,
-            JudgeFault::Verify(fault) => PerformFault::Verify(fault),
+            JudgeFault::Insn(fault) => PerformFault::from(fault),
+            JudgeFault::Verify(fault) => PerformFault::from(fault),
             JudgeFault::Stuck(slot) => PerformFault::Stuck(slot),
         }
     }
 }
 
-impl From<AllocError> for PerformFault {
+impl<'w> From<AsmFault> for PerformFault<'w> {
+    ghost from_gives = { λ fault f. f ≡ of_assembling fault };
+
+    fn from(fault: AsmFault) -> PerformFault<'w> {
+        match fault {
+            AsmFault::Memory => PerformFault::OutOfMemory,
+            fault => PerformFault::Text(fault),
+        }
+    }
+}
+
+impl<'w> From<InsnFault> for PerformFault<'w> {
+    ghost from_gives = { λ fault f. f ≡ of_decoding fault };
+
+    fn from(fault: InsnFault) -> PerformFault<'w> {
+        match fault {
+            InsnFault::Memory => PerformFault::OutOfMemory,
+            fault => PerformFault::Insn(fault),
+        }
+    }
+}
+
+impl<'w> From<VerifyFault> for PerformFault<'w> {
+    ghost from_gives = { λ fault f. f ≡ of_verifying fault };
+
+    fn from(fault: VerifyFault) -> PerformFault<'w> {
+        match fault {
+            VerifyFault::Memory => PerformFault::OutOfMemory,
+            fault => PerformFault::Verify(fault),
+        }
+    }
+}
+
+impl<'w> From<AllocError> for PerformFault<'w> {
     ghost from_gives = { λ _ f. f ≡ OutOfMemory };
 
-    fn from(_error: AllocError) -> PerformFault {
+    fn from(_error: AllocError) -> PerformFault<'w> {
         PerformFault::OutOfMemory
     }
 }

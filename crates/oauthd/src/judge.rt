@@ -1,8 +1,8 @@
 //! What a hook answers to a record: its bytes are decoded, verified and run, and what the run leaves narrows the grant.
 
-ghost use Rattle.std.specs.Prelude.{◌≡◌, length, IfSome};
+ghost use Rattle.std.specs.Prelude.{◌≡◌, length, Some, IfSome};
 ghost use Rattle.insn.specs.Values.{record_size};
-ghost use Rattle.oauthd.specs.Judge.{asked_in, IsJudged, IsRun};
+ghost use Rattle.oauthd.specs.Judge.{asked_in, judge_fault_text, IsJudged, IsRun};
 
 use hook_record::{Ask, Narrowed, narrow, read, read_v2};
 use insn::decoding::decode;
@@ -72,6 +72,8 @@ pub enum JudgeFault {
 }
 
 impl Display for JudgeFault {
+    ghost output = { λ fault. Some (judge_fault_text fault) };
+
     fn fmt<W: Write>(&self, f: &mut Formatter<W>) -> fmt::Result {
         match self {
             JudgeFault::BadRecord => write!(f, "BadRecord"),

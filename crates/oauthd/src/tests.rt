@@ -1,7 +1,16 @@
+//! Rows of the commands, by `perform` alone.
+
+mod examples;
+mod hooks;
+mod program;
+mod run;
+mod text;
+mod words;
+
 use crate::fault::Status;
 use crate::perform::perform;
 use std::alloc::{AllocError, Global};
-use std::io::{self, Cursor, ErrorKind, Write};
+use std::io::Cursor;
 use std::process::Abort;
 use std::test::Fail;
 
@@ -17,8 +26,20 @@ const A: &str =
 const B: &str =
     "0200000001000000e80300000000000001000000000000000100000000000000030000000000000003000000000000002c01000000000000030000000000000003000000000000002c0100008051010000000000000000000000000000000000";
 
+/// The most bytes that a command writes here.
+const ROOM: usize = 256;
+
 /// What a command wrote.
-type Page = Cursor<[u8; 64]>;
+type Page = Cursor<[u8; ROOM]>;
+
+fn blank_page() -> Page {
+    Cursor::new([0; ROOM])
+}
+
+/// What stands on a page.
+fn written(page: &Page) -> Option<&[u8]> {
+    page.get_ref().get(..page.position() as usize)
+}
 
 /// How a command ended.
 #[derive(Drop)]
@@ -28,341 +49,124 @@ struct Ended {
     err: Page,
 }
 
-/// Carries out the command of some words. Only the words and the command itself take memory.
-fn performed(alloc: Global, texts: &[&str]) -> Result<Ended, AllocError> {
+/// How a command is to end.
+#[derive(Clone, Copy)]
+struct Ending<'t> {
+    status: Status,
+    out: &'t str,
+    err: &'t str,
+}
+
+/// A command is done, and prints this.
+fn done(out: &str) -> Ending<'_> {
+    let status = Status::Done;
+    Ending {
+        status,
+        out,
+        err: "",
+    }
+}
+
+/// A command is refused, and tells this.
+fn refused(err: &str) -> Ending<'_> {
+    let status = Status::Refused;
+    Ending {
+        status,
+        out: "",
+        err,
+    }
+}
+
+/// A command is used badly, and tells this.
+fn misused(err: &str) -> Ending<'_> {
+    let status = Status::BadUse;
+    Ending {
+        status,
+        out: "",
+        err,
+    }
+}
+
+/// Memory is refused.
+fn no_memory() -> Ending<'static> {
+    let status = Status::NoMemory;
+    Ending {
+        status,
+        out: "",
+        err: "oauthd: out of memory\n",
+    }
+}
+
+/// Words as the program is called with them.
+fn words_of(alloc: Global, texts: &[&str]) -> Result<Vec<String>, AllocError> {
     let mut words = Vec::new(alloc);
     for text in texts {
         words.push(String::from_str(alloc, text)?)?;
     }
-    let mut out = Cursor::new([0; 64]);
-    let mut err = Cursor::new([0; 64]);
-    let status = perform(alloc, &words, None, &mut out, &mut err);
+    Ok(words)
+}
+
+/// Carries out the command of some words. Only the words and the command itself take memory.
+fn performed(alloc: Global, texts: &[&str], file: Option<&[u8]>) -> Result<Ended, AllocError> {
+    let words = words_of(alloc, texts)?;
+    let (mut out, mut err) = (blank_page(), blank_page());
+    let status = perform(alloc, &words, file, &mut out, &mut err);
     Ok(Ended { status, out, err })
 }
 
-/// Asserts what stands on a page.
-fn assert_written(rt: &impl Abort, page: &Page, text: &str, name: &str) {
-    let written = page.get_ref().get(..page.position() as usize);
-    assert_eq!(rt; written, Some(text.as_bytes()), "{name}");
+/// Asserts how a command ended.
+fn assert_ended(rt: &impl Abort, name: &str, ended: &Ended, ending: Ending<'_>) {
+    assert_eq!(rt; ended.status, ending.status.code(), "{name}");
+    assert_eq!(rt; written(&ended.out), Some(ending.out.as_bytes()), "{name}");
+    assert_eq!(rt; written(&ended.err), Some(ending.err.as_bytes()), "{name}");
 }
 
-/// Asserts how a command ends. Where memory is refused it has to say so, and to end so when it is given again.
+/// How a command ends. Where memory is refused it has to say so, and is carried out again.
+fn outcome<R: Abort + AllocGlobal>(
+    rt: &R,
+    name: &str,
+    texts: &[&str],
+    file: Option<&[u8]>,
+) -> Result<Ended, Fail> {
+    match performed(rt.alloc(), texts, file) {
+        Ok(first) if first.status != Status::NoMemory.code() => Ok(first),
+        Ok(first) => {
+            assert_ended(rt, name, &first, no_memory());
+            Ok(performed(rt.alloc(), texts, file)?)
+        }
+        Err(_) => Ok(performed(rt.alloc(), texts, file)?),
+    }
+}
+
+/// Asserts how a command without a file ends.
 fn assert_ends<R: Abort + AllocGlobal>(
     rt: &R,
     name: &str,
     texts: &[&str],
-    status: Status,
-    out: &str,
-    err: &str,
+    ending: Ending<'_>,
 ) -> Result<(), Fail> {
-    let ended = match performed(rt.alloc(), texts) {
-        Ok(first) if first.status != Status::NoMemory.code() => first,
-        Ok(first) => {
-            assert_written(rt, &first.out, "", name);
-            assert_written(rt, &first.err, "oauthd: out of memory\n", name);
-            performed(rt.alloc(), texts)?
-        }
-        Err(_) => performed(rt.alloc(), texts)?,
-    };
-    assert_eq!(rt; ended.status, status.code(), "{name}");
-    assert_written(rt, &ended.out, out, name);
-    assert_written(rt, &ended.err, err, name);
+    let ended = outcome(rt, name, texts, None)?;
+    assert_ended(rt, name, &ended, ending);
     Ok(())
 }
 
-/// Asserts what a hook answers to record `A`.
-fn assert_done<R: Abort + AllocGlobal>(
+/// Asserts how a command on a file ends.
+fn assert_ends_on<R: Abort + AllocGlobal>(
     rt: &R,
     name: &str,
-    code: &str,
-    out: &str,
+    command: &str,
+    file: &str,
+    ending: Ending<'_>,
 ) -> Result<(), Fail> {
-    assert_ends(rt, name, &["run", code, A], Status::Done, out, "")
-}
-
-#[test]
-fn hooks_that_answer(rt: HostRuntime) -> Result<(), Fail> {
-    for (name, code, out) in [
-        (
-            "the grant is allowed",
-            "b7000000010000009500000000000000",
-            "r0 1\nsteps 2\nallowed 3 300\n",
-        ),
-        (
-            "the first byte of the stack is written",
-            "720a00fe00000000b7000000010000009500000000000000",
-            "r0 1\nsteps 3\nallowed 3 300\n",
-        ),
-        (
-            "the scope mask is written",
-            "7a01280001000000b7000000010000009500000000000000",
-            "r0 1\nsteps 3\nallowed 1 300\n",
-        ),
-        (
-            "a scope that was not there",
-            "7a01280004000000b7000000010000009500000000000000",
-            "r0 1\nsteps 3\nempty scope\n",
-        ),
-        (
-            "a jump over a move",
-            "0500010000000000b700000002000000b7000000010000009500000000000000",
-            "r0 1\nsteps 3\nallowed 3 300\n",
-        ),
-        (
-            "the moment is read",
-            "79100800000000009500000000000000",
-            "r0 1000\nsteps 2\ndenied\n",
-        ),
-    ] {
-        assert_done(&rt, name, code, out)?;
-    }
+    let ended = outcome(rt, name, &[command, "hook"], Some(file.as_bytes()))?;
+    assert_ended(rt, name, &ended, ending);
     Ok(())
 }
 
-#[test]
-fn hooks_that_are_refused(rt: HostRuntime) -> Result<(), Fail> {
-    for (name, code, err) in [
-        ("R0 is unset", "9500000000000000", "oauthd: stuck 0\n"),
-        (
-            "an unset byte of the stack is read",
-            "79a0f8ff000000009500000000000000",
-            "oauthd: stuck 0\n",
-        ),
-        (
-            "the byte below the stack is written",
-            "720afffd00000000b7000000010000009500000000000000",
-            "oauthd: stuck 0\n",
-        ),
-        (
-            "the lifetime and what follows it are written",
-            "7a01300001000000b7000000010000009500000000000000",
-            "oauthd: stuck 0\n",
-        ),
-        ("no exit", "b700000001000000", "oauthd: stuck 1\n"),
-        (
-            "a jump back",
-            "0500ffff000000009500000000000000",
-            "oauthd: Verify JumpBack(0)\n",
-        ),
-        (
-            "a jump to the end",
-            "05000100000000009500000000000000",
-            "oauthd: Verify JumpOut(0)\n",
-        ),
-        ("no bytes", "", "oauthd: Insn Empty\n"),
-        ("seven bytes", "b7000000010000", "oauthd: Insn BadLength\n"),
-        (
-            "no opcode",
-            "9500000000000000ff00000000000000",
-            "oauthd: Insn UnknownOpcode(1)\n",
-        ),
-        (
-            "register 11",
-            "b70b000000000000",
-            "oauthd: Insn BadRegister(0)\n",
-        ),
-        (
-            "an exit with a number",
-            "9500000001000000",
-            "oauthd: Insn NonzeroField(0)\n",
-        ),
-        (
-            "an atomic operation",
-            "db00000000000000",
-            "oauthd: Insn Atomic(0)\n",
-        ),
-        ("a call", "8500000000000000", "oauthd: Insn Call(0)\n"),
-        (
-            "a legacy load",
-            "2000000000000000",
-            "oauthd: Insn LegacyLoad(0)\n",
-        ),
-    ] {
-        assert_ends(&rt, name, &["run", code, A], Status::Refused, "", err)?;
-    }
-    Ok(())
-}
-
-#[test]
-fn a_record_of_version_2(rt: HostRuntime) -> Result<(), Fail> {
-    let out = "r0 1\nsteps 2\nallowed 3 300\n";
-    assert_ends(&rt, "B", &["run", ALLOW, B], Status::Done, out, "")
-}
-
-#[test]
-fn records_that_are_none(rt: HostRuntime) -> Result<(), Fail> {
-    let err = "oauthd: bad record\n";
-    for (name, bytes) in [
-        ("is not hex", "zz"),
-        (
-            "has half a byte",
-            "0100000001000000e80300000000000001000000000000000100000000000000030000000000000003000000000000002c0100000000000003000000000000000",
-        ),
-        ("has no bytes", ""),
-        (
-            "has 63 bytes",
-            "0100000001000000e80300000000000001000000000000000100000000000000030000000000000003000000000000002c0100000000000003000000000000",
-        ),
-        (
-            "has 65 bytes",
-            "0100000001000000e80300000000000001000000000000000100000000000000030000000000000003000000000000002c01000000000000030000000000000000",
-        ),
-        (
-            "has 95 bytes",
-            "0200000001000000e80300000000000001000000000000000100000000000000030000000000000003000000000000002c01000000000000030000000000000003000000000000002c01000080510100000000000000000000000000000000",
-        ),
-        (
-            "has version 2 and 64 bytes",
-            "0200000001000000e80300000000000001000000000000000100000000000000030000000000000003000000000000002c010000000000000300000000000000",
-        ),
-        (
-            "has version 3 and 64 bytes",
-            "0300000001000000e80300000000000001000000000000000100000000000000030000000000000003000000000000002c010000000000000300000000000000",
-        ),
-        (
-            "has version 1 and 96 bytes",
-            "0100000001000000e80300000000000001000000000000000100000000000000030000000000000003000000000000002c01000000000000030000000000000003000000000000002c0100008051010000000000000000000000000000000000",
-        ),
-        (
-            "has version 3 and 96 bytes",
-            "0300000001000000e80300000000000001000000000000000100000000000000030000000000000003000000000000002c01000000000000030000000000000003000000000000002c0100008051010000000000000000000000000000000000",
-        ),
-        (
-            "has kind 4",
-            "0100000004000000e80300000000000001000000000000000100000000000000030000000000000003000000000000002c010000000000000300000000000000",
-        ),
-        (
-            "has a byte behind the lifetime",
-            "0100000001000000e80300000000000001000000000000000100000000000000030000000000000003000000000000002c010000010000000300000000000000",
-        ),
-        (
-            "has a byte at its end",
-            "0200000001000000e80300000000000001000000000000000100000000000000030000000000000003000000000000002c01000000000000030000000000000003000000000000002c0100008051010000000000000000000000000000000001",
-        ),
-    ] {
-        assert_ends(&rt, name, &["run", ALLOW, bytes], Status::BadUse, "", err)?;
-    }
-    // The record is tested before the code, though the code's text comes before the record's.
-    assert_ends(&rt, "no code", &["run", "", "00"], Status::BadUse, "", err)
-}
-
-#[test]
-fn code_that_is_not_hex(rt: HostRuntime) -> Result<(), Fail> {
-    let err = "oauthd: bad arguments\n";
-    for code in [
-        "b",
-        "b70",
-        "zz",
-        "b 7000000010000009500000000000000",
-        "b7\t00000001000000",
-        "b7000000\r\n01000000",
-        "0xb7",
-    ] {
-        assert_ends(&rt, code, &["run", code, A], Status::BadUse, "", err)?;
-        assert_ends(&rt, code, &["run", code, "zz"], Status::BadUse, "", err)?;
-    }
-    Ok(())
-}
-
-#[test]
-fn hex_of_either_case_with_blanks(rt: HostRuntime) -> Result<(), Fail> {
-    let out = "r0 1\nsteps 2\nallowed 3 300\n";
-    for code in [
-        "B7000000010000009500000000000000",
-        " b7 00 00 00 01 00 00 00\n95 00 00 00  00 00 00 00\n",
-        "\n\nb70000000100 0000 9500000000000000 ",
-    ] {
-        assert_done(&rt, code, code, out)?;
-    }
-    Ok(())
-}
-
-#[test]
-fn words_that_are_no_command(rt: HostRuntime) -> Result<(), Fail> {
-    let err = "oauthd: bad arguments\n";
-    assert_ends(&rt, "no word", &[], Status::BadUse, "", err)?;
-    assert_ends(&rt, "a word", &["run"], Status::BadUse, "", err)?;
-    assert_ends(&rt, "no record", &["run", ALLOW], Status::BadUse, "", err)?;
-    assert_ends(
-        &rt,
-        "too many",
-        &["run", ALLOW, A, A],
-        Status::BadUse,
-        "",
-        err,
-    )?;
-    assert_ends(&rt, "case", &["Run", ALLOW, A], Status::BadUse, "", err)
-}
-
-/// The hex of some moves of 1 to R0, and of an exit.
-fn moves(alloc: Global, count: usize) -> Result<String, AllocError> {
-    let mut code = String::new(alloc);
-    for _ in 0..count {
-        code.push_str("b700000001000000")?;
-    }
-    code.push_str("9500000000000000")?;
-    Ok(code)
-}
-
-#[test]
-fn the_longest_program(rt: HostRuntime) -> Result<(), Fail> {
-    let code = moves(rt.alloc(), 4095)?;
-    assert_done(
-        &rt,
-        "4,096 slots",
-        code.as_str(),
-        "r0 1\nsteps 4096\nallowed 3 300\n",
-    )?;
-    let code = moves(rt.alloc(), 4096)?;
-    let err = "oauthd: Insn TooLong\n";
-    assert_ends(
-        &rt,
-        "4,097 slots",
-        &["run", code.as_str(), A],
-        Status::Refused,
-        "",
-        err,
-    )
-}
-
-/// Takes what is written, and fails when that is to reach its end.
-#[derive(Drop)]
-struct Full;
-
-impl Write for Full {
-    fn write(&mut self, buf: &[u8]) -> io::Result<usize> {
-        Ok(buf.len())
-    }
-
-    fn flush(&mut self) -> io::Result<()> {
-        Err(io::Error::from(ErrorKind::StorageFull))
-    }
-}
-
-#[test]
-fn writes_that_fail(rt: HostRuntime) -> Result<(), Fail> {
-    let alloc = rt.alloc();
-    let mut words = Vec::new(alloc);
-    for text in ["run", ALLOW, A] {
-        words.push(String::from_str(alloc, text)?)?;
-    }
-    // No room, room for a part of the answer, and a flush that fails.
-    let mut err = Cursor::new([0; 64]);
-    let mut none = Cursor::new([0; 0]);
-    assert_eq!(rt; perform(alloc, &words, None, &mut none, &mut err), 2);
-    assert_written(&rt, &err, "oauthd: cannot write\n", "no room");
-    let mut err = Cursor::new([0; 64]);
-    let mut some = Cursor::new([0; 8]);
-    assert_eq!(rt; perform(alloc, &words, None, &mut some, &mut err), 2);
-    assert_written(&rt, &err, "oauthd: cannot write\n", "some room");
-    let mut err = Cursor::new([0; 64]);
-    assert_eq!(rt; perform(alloc, &words, None, &mut Full, &mut err), 2);
-    assert_written(&rt, &err, "oauthd: cannot write\n", "flush");
-
-    // A fault that cannot be told, of a status that would be another.
-    let mut out = Cursor::new([0; 64]);
-    let words = vec![in alloc; String::new(alloc)]?;
-    assert_eq!(rt; perform(alloc, &words, None, &mut out, &mut none), 2);
-    assert_written(&rt, &out, "", "no room for the fault");
-    Ok(())
+/// The hex of the program of a text, as `asm` prints it.
+fn assembled<R: Abort + AllocGlobal>(rt: &R, text: &str) -> Result<String, Fail> {
+    let ended = outcome(rt, text, &["asm", "hook"], Some(text.as_bytes()))?;
+    assert_eq!(rt; ended.status, Status::Done.code(), "{text}");
+    let hex = str::from_utf8(written(&ended.out).unwrap_or(&[])).unwrap_or("");
+    Ok(String::from_str(rt.alloc(), hex)?)
 }

@@ -6,7 +6,7 @@ use Rattle.oauthd.proofs.command.Command.from_words.Goals as goal
 
 pub returns-in-len3-clause-named : goal.returns-in-len3-clause-named
 returns-in-len3-clause-named c =
-    let is_run : c.as_str.result.now ≡ codes "run" = (bytes_eq-Decides c.as_str.result.now (codes "run")).0 (sym c.if-eq.ensures) in
+    let is_run : c.as_str-then-words-lt4.result.now ≡ codes "run" = (bytes_eq-Decides c.as_str-then-words-lt4.result.now (codes "run")).0 (sym c.if-eq.ensures) in
     map-three string_bytes c.args.words.now _ _ _ _ _ _ c.in-len3.len_at_least c.in-len3.len_below
-    c.name-item.is c.code_hex-item.is c.record_hex-item.is
-    (sym is_run ∙ c.as_str.ensures.value) c.as_str-in-len3.ensures.value c.as_str-in-len3-2.ensures.value
+    c.name-item-then-words-lt4.is c.code_hex-item.is c.record_hex-item.is
+    (sym is_run ∙ c.as_str-then-words-lt4.ensures.value) c.as_str-in-len3.ensures.value c.as_str-in-len3-2.ensures.value

@@ -1,0 +1,52 @@
+-- What `asm` answers to a file.
+use Rattle.std.specs.Prelude.{◌≡◌, ◌≢◌, ◌⊎◌, ⊤, ℕ, List, None, Some, IsSomeAnd, IsUtf8, Result, Ok, Err}
+use Rattle.std.specs.String.{string_bytes}
+use Rattle.hex.specs.Hex.{encode_lower}
+use Rattle.insn.specs.declared.instruction.Insn.{Insn}
+use Rattle.insn.specs.Spelling.{Spells}
+use Rattle.insn.specs.Text.{Text}
+use Rattle.assembler.specs.declared.fault.AsmFault.{AsmFault}
+use Rattle.assembler.specs.declared.fault.AsmFault.TheVariants as asm
+use Rattle.assembler.specs.Faults.{FirstFault}
+use Rattle.oauthd.specs.declared.answer.Answer.{Answer}
+use Rattle.oauthd.specs.declared.answer.Answer.TheVariants as answers
+use Rattle.oauthd.specs.declared.fault.PerformFault.{PerformFault}
+use Rattle.oauthd.specs.declared.fault.PerformFault.TheVariants as faults
+use Rattle.oauthd.specs.File.{File}
+
+-- a file is a text
+abbrev pub HoldsText : File → List ℕ → Type 0
+HoldsText file text = (file ≡ Some text) × IsUtf8 text
+
+-- why the file of a path is no text: it cannot be read, or it is not UTF-8, which counts for the same
+abbrev pub HoldsNoText : List ℕ → File → PerformFault → Type 0
+HoldsNoText path file (faults.CannotRead named) = ((file ≡ None) ⊎ IsSomeAnd file (λ bytes. IsUtf8 bytes → ⊥)) × (named.now ≡ path)
+HoldsNoText path file fault = ⊥
+
+-- a file's text says a program, and the hex is that of the program's bytes, in small letters
+pub record IsAssembled (file : File) (hex : List ℕ) : Type 0 where
+  pub text : List ℕ
+  pub program : List Insn
+  pub code : List ℕ
+  pub held : HoldsText file text
+  pub said : Text text program
+  pub spelled : Spells code program
+  pub digits : hex ≡ encode_lower code
+
+-- a file's text says no program: this is its first fault
+pub record HasTextFault (file : File) (fault : AsmFault) : Type 0 where
+  pub text : List ℕ
+  pub held : HoldsText file text
+  pub first : FirstFault text fault
+
+-- why the text of a file says no program, where it is one
+abbrev pub SaysNoProgram : File → PerformFault → Type 0
+SaysNoProgram file (faults.Text fault) = (fault ≢ asm.Memory) × HasTextFault file fault
+SaysNoProgram file faults.OutOfMemory = ⊤
+SaysNoProgram file fault = ⊥
+
+-- what `asm` answers to the file of a path
+abbrev pub IsAssembledAs : List ℕ → File → Result Answer PerformFault → Type 0
+IsAssembledAs path file (Ok (answers.Code hex)) = IsAssembled file (string_bytes hex)
+IsAssembledAs path file (Ok answer) = ⊥
+IsAssembledAs path file (Err fault) = HoldsNoText path file fault ⊎ SaysNoProgram file fault

@@ -1,0 +1,32 @@
+-- Which words name which command.
+use Rattle.std.specs.Prelude.{◌≡◌, ◌≢◌, ℕ, List, [], ◌∷◌, map, codes, Option, Some, None, String}
+use Rattle.std.specs.String.{string_bytes}
+use Rattle.std.specs.declared.alloc.Global.{Global}
+use Rattle.insn.specs.declared.layout.Layout.TheVariants.{V1, V2}
+use Rattle.oauthd.specs.declared.command.Command.{Command}
+use Rattle.oauthd.specs.declared.command.Command.TheVariants as commands
+
+-- the words behind the program's name
+abbrev pub Words : Type 0
+Words = List (String Global)
+
+-- the words that name a command
+abbrev pub words_of : Command → List (List ℕ)
+words_of (commands.Run code_hex record_hex) = codes "run" ∷ code_hex.now ∷ record_hex.now ∷ []
+words_of (commands.Assemble path) = codes "asm" ∷ path.now ∷ []
+words_of (commands.List path) = codes "list" ∷ path.now ∷ []
+words_of (commands.Check V1 path) = codes "check" ∷ path.now ∷ []
+words_of (commands.Check V2 path) = codes "check2" ∷ path.now ∷ []
+
+abbrev pub IsCommand : Words → Command → Type 0
+IsCommand words command = map string_bytes words ≡ words_of command
+
+abbrev pub IsNoCommand : Words → Type 0
+IsNoCommand words = (command : Command) → map string_bytes words ≢ words_of command
+
+-- the path of the file that a command is about
+abbrev pub file_named_by : Command → Option (List ℕ)
+file_named_by (commands.Run code_hex record_hex) = None
+file_named_by (commands.Assemble path) = Some path.now
+file_named_by (commands.List path) = Some path.now
+file_named_by (commands.Check layout path) = Some path.now

@@ -1,0 +1,73 @@
+//! Rows of `asm`.
+
+use super::*;
+
+#[test]
+fn texts_that_say_a_program(rt: HostRuntime) -> Result<(), Fail> {
+    for (text, out) in [
+        (
+            "ja done\nmov64 r0 2\ndone:\nexit\n",
+            "0500010000000000b7000000020000009500000000000000\n",
+        ),
+        (
+            "lddw r0 9223372036854775808",
+            "18000000000000000000000000000080\n",
+        ),
+        ("sdiv64 r0 -1", "37000100ffffffff\n"),
+        ("sx8_64 r1 r2", "bf21080000000000\n"),
+        ("swap16 r0", "d700000010000000\n"),
+        ("jsgt64 r2 7 +4", "6502040007000000\n"),
+        ("stxdw r10 -8 r1", "7b1af8ff00000000\n"),
+    ] {
+        assert_ends_on(&rt, text, "asm", text, done(out))?;
+    }
+    Ok(())
+}
+
+#[test]
+fn texts_that_say_none(rt: HostRuntime) -> Result<(), Fail> {
+    for (text, err) in [
+        ("frob r1", "oauthd: line 1: UnknownWord\n"),
+        ("mov64 r11 1", "oauthd: line 1: BadOperand\n"),
+        ("mov64 r0 2147483648", "oauthd: line 1: OutOfRange\n"),
+        ("ldxb r0 r1 32768", "oauthd: line 1: OutOfRange\n"),
+        ("ja x", "oauthd: line 1: UnknownLabel\n"),
+        ("x:\nx:\n", "oauthd: line 2: DoubleLabel\n"),
+        ("", "oauthd: NoInstruction\n"),
+    ] {
+        assert_ends_on(&rt, text, "asm", text, refused(err))?;
+    }
+    Ok(())
+}
+
+#[test]
+fn a_text_that_is_too_long(rt: HostRuntime) -> Result<(), Fail> {
+    let mut text = String::new(rt.alloc());
+    for _ in 0..4097 {
+        text.push_str("exit\n")?;
+    }
+    let ending = refused("oauthd: line 4097: TooLong\n");
+    assert_ends_on(&rt, "4,097 lines", "asm", text.as_str(), ending)
+}
+
+#[test]
+fn bytes_that_are_no_text(rt: HostRuntime) -> Result<(), Fail> {
+    let ended = outcome(&rt, "ff", &["asm", "hook"], Some(b"exit\n\xff"))?;
+    assert_ended(&rt, "ff", &ended, misused("oauthd: cannot read hook\n"));
+    Ok(())
+}
+
+#[test]
+fn what_is_assembled_is_read_again(rt: HostRuntime) -> Result<(), Fail> {
+    let text = "ja +1\nmov64 r0 2\nexit\n";
+    let hex = assembled(&rt, text)?;
+    assert_ends_on(&rt, "list", "list", hex.as_str(), done(text))?;
+    assert_ends_on(&rt, "check", "check", hex.as_str(), done("accepted 3\n"))?;
+
+    let hex = assembled(&rt, "ja +1\nlddw r0 5\nexit\n")?;
+    let ending = refused("oauthd: Verify JumpIntoWide(0)\n");
+    assert_ends_on(&rt, "check", "check", hex.as_str(), ending)?;
+
+    let hex = assembled(&rt, "ldxb r2 r1 95\nmov64 r0 1\nexit\n")?;
+    assert_ends_on(&rt, "check2", "check2", hex.as_str(), done("accepted 3\n"))
+}
