@@ -1,5 +1,7 @@
 -- How a fault is told.
-use Rattle.std.specs.Prelude.{ℕ, List, codes, Option, Some, None}
+use Rattle.std.specs.Prelude.{ℕ, List, [], ◌++◌, codes, Option, Some, None}
+use Rattle.std.specs.Fmt.{decimal}
+use Rattle.std.specs.Option.{option_map_or}
 use Rattle.assembler.specs.declared.fault.AsmFault.{AsmFault}
 use Rattle.assembler.specs.declared.fault.AsmFault.TheVariants.{UnknownWord, BadOperand, OutOfRange, UnknownLabel, DoubleLabel, TooLong, Memory, NoInstruction}
 
@@ -23,3 +25,7 @@ name_of_fault (DoubleLabel line) = codes "DoubleLabel"
 name_of_fault (TooLong line) = codes "TooLong"
 name_of_fault Memory = codes "Memory"
 name_of_fault NoInstruction = codes "NoInstruction"
+
+-- a fault's name, and its line in parentheses where it has one
+abbrev pub asm_fault_text : AsmFault → List ℕ
+asm_fault_text fault = name_of_fault fault ++ option_map_or (λ line. codes "(" ++ decimal line ++ codes ")") (line_of_fault fault) []

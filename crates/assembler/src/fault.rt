@@ -1,8 +1,8 @@
 //! Why a text says no program.
 
-ghost use Rattle.std.specs.Prelude.{◌≡◌};
+ghost use Rattle.std.specs.Prelude.{◌≡◌, Some};
 ghost use Rattle.assembler.specs.declared.fault.AsmFault.TheVariants.{Memory};
-ghost use Rattle.assembler.specs.Reports.{line_of_fault, name_of_fault};
+ghost use Rattle.assembler.specs.Reports.{asm_fault_text, line_of_fault, name_of_fault};
 
 use std::alloc::{AllocError, AllocFailed};
 use std::fmt::{self, Display, Formatter, Write};
@@ -63,10 +63,13 @@ impl AsmFault {
 }
 
 impl Display for AsmFault {
+    ghost output = { λ fault. Some (asm_fault_text fault) };
+
     fn fmt<W: Write>(&self, f: &mut Formatter<W>) -> fmt::Result {
+        let name = self.name();
         match self.line() {
-            Some(line) => write!(f, "{}({line})", self.name()),
-            None => f.write_str(self.name()),
+            Some(line) => write!(f, "{name}({line})"),
+            None => write!(f, "{name}"),
         }
     }
 }
