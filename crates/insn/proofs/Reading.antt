@@ -1,5 +1,7 @@
 -- Reading slots back from their bytes, and programs from theirs.
-use Rattle.std.proofs.Common.{◌≡◌, ℕ, ◌+◌, ◌*◌, ◌/◌, ◌%◌, ◌^◌, ◌<◌, List, [], ◌∷◌, ◌++◌, length, drop, Some, None, Result, Ok, Err, IfErr, get_or, refl, sym, ap, ◌∙◌, arith, append_assoc, FitsSigned, w16, w32, pos, rules}
+use Rattle.std.proofs.Common.{◌≡◌, ◌≢◌, ◌⊎◌, inl, inr, Option, ℕ, ◌+◌, ◌*◌, ◌/◌, ◌%◌, ◌^◌, ◌<◌, List, [], ◌∷◌, ◌++◌, length, drop, Some, None, Result, Ok, Err, IfErr, get_or, refl, sym, ap, ◌∙◌, arith, append_assoc, FitsSigned, w16, w32, pos, rules}
+use Rattle.std.specs.Prelude.{◌==◌, nat_lt, if◌then◌else◌}
+use Rattle.std.proofs.lemmas.Bool.{le-ltb, lt-ltb, ne_eqb}
 use Rattle.std.specs.Int.{cast_signed, cast_unsigned}
 use Rattle.std.specs.List.{flat_map, AllByRecursion}
 use Rattle.std.proofs.lemmas.Int.{ints, to_z-of_z}
@@ -16,11 +18,12 @@ use Rattle.insn.specs.declared.operation.Extension.TheVariants.{From8To64, From1
 use Rattle.insn.specs.declared.operation.SwapBits.TheVariants.{B16, B32, B64}
 use Rattle.insn.specs.declared.slot.Slot.{Slot}
 use Rattle.insn.specs.declared.fault.SlotFault.{SlotFault}
+use Rattle.insn.specs.declared.fault.SlotFault.TheVariants.{UnknownOpcode, BadRegister, NonzeroField, TruncatedWide, Atomic, Call, LegacyLoad}
 use Rattle.insn.specs.declared.fault.InsnFault.{InsnFault}
 use Rattle.insn.specs.declared.fault.InsnFault.TheVariants as faults
 use Rattle.insn.specs.Instruction.{reg_number, Fits}
-use Rattle.insn.specs.Program.{slot_count}
-use Rattle.insn.specs.Spelling.{slot, slots, slot_bytes, slot_fault, spelling, FaultAt, FirstFault, Spells}
+use Rattle.insn.specs.Program.{slot_count, SLOT_LIMIT}
+use Rattle.insn.specs.Spelling.{slot, slots, slot_bytes, slot_fault, slot_fault_at, spelling, FaultAt, FirstInsnFault, IsSlot, IsWhole, Spells}
 use Rattle.insn.proofs.Spellings.{length-spelling}
 use Rattle.insn.proofs.Rereading.{read, read-slots}
 use Rattle.insn.proofs.Faultless.{first_good}
@@ -161,17 +164,23 @@ one_program bytes p q sp sq =
 one_more : (i : Insn) (p : List Insn) → spelling (i ∷ p) ≡ flat_map slot_bytes (slots i) ++ spelling p
 one_more i p = flat_map-append slot_bytes (slots i) (flat_map slots p)
 
+-- a slot with which an instruction begins has no fault
+begins_good : (here : Slot) (rest tail : List ℕ) (j : Insn) (p : List Insn) (f : SlotFault) → Sized here → AllByRecursion Fits (j ∷ p) → slot_bytes here ++ rest ≡ spelling (j ∷ p) ++ tail → slot_fault here rest ≡ Some f → ⊥
+begins_good here rest tail j p f z fp e faulty =
+    let firsts : here ∷ unspell rest ≡ slots j ++ (flat_map slots p ++ unspell tail) =
+    sym (unspell-slot here rest z) ∙ ap unspell e ∙ slots_in (j ∷ p) tail fp ∙ append_assoc (slots j) (flat_map slots p) (unspell tail) in
+    let here_is : here ≡ get_or (slots j ++ (flat_map slots p ++ unspell tail)) 0 here = ap (λ (l : List Slot). get_or l 0 here) firsts in
+    let bytes : slot_bytes here ++ rest ≡ flat_map slot_bytes (slots j) ++ (spelling p ++ tail) = e ∙ ap (λ (l : List ℕ). l ++ tail) (one_more j p) ∙ append_assoc (flat_map slot_bytes (slots j)) (spelling p) tail in
+    let rest_is : rest ≡ drop 8 (flat_map slot_bytes (slots j) ++ (spelling p ++ tail)) = ap (drop 8) bytes in
+    let good : slot_fault here rest ≡ None =
+    ap (λ (s : Slot). slot_fault s rest) here_is ∙ ap (slot_fault (get_or (slots j ++ (flat_map slots p ++ unspell tail)) 0 here)) rest_is ∙ first_good j (flat_map slots p ++ unspell tail) (spelling p ++ tail) here in
+    absurd cc
+
 -- no program has a faulty slot behind some instructions
 no_faulty_slot : (before p : List Insn) (here : Slot) (rest : List ℕ) (f : SlotFault) → AllByRecursion Fits before → AllByRecursion Fits p → Sized here
     → spelling before ++ (slot_bytes here ++ rest) ≡ spelling p → slot_fault here rest ≡ Some f → ⊥
 no_faulty_slot [] [] here rest f fb fp z e faulty = absurd cc
-no_faulty_slot [] (j ∷ p) here rest f fb fp z e faulty =
-    let firsts : here ∷ unspell rest ≡ slots j ++ flat_map slots p = sym (unspell-slot here rest z) ∙ ap unspell e ∙ slots_of_spelling (j ∷ p) fp in
-    let here_is : here ≡ get_or (slots j ++ flat_map slots p) 0 here = ap (λ (l : List Slot). get_or l 0 here) firsts in
-    let rest_is : rest ≡ drop 8 (spelling (j ∷ p)) = ap (drop 8) e in
-    let good : slot_fault here rest ≡ None =
-    ap (λ (s : Slot). slot_fault s rest) here_is ∙ ap (λ (l : List ℕ). slot_fault (get_or (slots j ++ flat_map slots p) 0 here) l) rest_is ∙ first_good j (flat_map slots p) here in
-    absurd cc
+no_faulty_slot [] (j ∷ p) here rest f fb fp z e faulty = begins_good here rest [] j p f z fp (e ∙ sym (append_none (spelling (j ∷ p)))) faulty
 no_faulty_slot (i ∷ before) [] here rest f fb fp z e faulty =
     let more = slots_in (i ∷ before) (slot_bytes here ++ rest) fb in
     let h : Some i ≡ None = sym (read-slots i (flat_map slots before ++ unspell (slot_bytes here ++ rest)) fb.0)
@@ -187,12 +196,100 @@ no_faulty_slot (i ∷ before) (j ∷ p) here rest f fb fp z e faulty =
     ∙ ap (λ (k : Insn). flat_map slot_bytes (slots k) ++ spelling p) (sym same) in
     no_faulty_slot before p here rest f fb.1 fp.1 z (append_cancel_left (flat_map slot_bytes (slots i)) (spelling before ++ later) (spelling p) tails) faulty
 
+-- what stands behind one instruction that two spellings begin with
+same_first : (i j : Insn) (p q : List Insn) (x y : List ℕ) → AllByRecursion Fits (i ∷ p) → AllByRecursion Fits (j ∷ q) → spelling (i ∷ p) ++ x ≡ spelling (j ∷ q) ++ y → (i ≡ j) × (spelling p ++ x ≡ spelling q ++ y)
+same_first i j p q x y fp fq e =
+    let whole : slots i ++ (flat_map slots p ++ unspell x) ≡ slots j ++ (flat_map slots q ++ unspell y) =
+    sym (append_assoc (slots i) (flat_map slots p) (unspell x)) ∙ sym (slots_in (i ∷ p) x fp) ∙ ap unspell e ∙ slots_in (j ∷ q) y fq ∙ append_assoc (slots j) (flat_map slots q) (unspell y) in
+    let h : Some i ≡ Some j = sym (read-slots i (flat_map slots p ++ unspell x) fp.0) ∙ ap read whole ∙ read-slots j (flat_map slots q ++ unspell y) fq.0 in
+    let same : i ≡ j = cc in
+    let tails : flat_map slot_bytes (slots i) ++ (spelling p ++ x) ≡ flat_map slot_bytes (slots i) ++ (spelling q ++ y) =
+    sym (append_assoc (flat_map slot_bytes (slots i)) (spelling p) x) ∙ ap (λ (l : List ℕ). l ++ x) (sym (one_more i p)) ∙ e ∙ ap (λ (l : List ℕ). l ++ y) (one_more j q)
+    ∙ append_assoc (flat_map slot_bytes (slots j)) (spelling q) y ∙ ap (λ (k : Insn). flat_map slot_bytes (slots k) ++ (spelling q ++ y)) (sym same) in
+    (same, append_cancel_left (flat_map slot_bytes (slots i)) (spelling p ++ x) (spelling q ++ y) tails)
+
+-- two faulty slots behind some instructions are one
+one_faulty_slot : (p q : List Insn) (here there : Slot) (x y : List ℕ) (f g : SlotFault) → AllByRecursion Fits p → AllByRecursion Fits q → Sized here → Sized there
+    → spelling p ++ (slot_bytes here ++ x) ≡ spelling q ++ (slot_bytes there ++ y) → slot_fault here x ≡ Some f → slot_fault there y ≡ Some g → (p ≡ q) × (f ≡ g)
+one_faulty_slot [] [] here there x y f g fp fq z w e faulty wrong =
+    let firsts : here ∷ unspell x ≡ there ∷ unspell y = sym (unspell-slot here x z) ∙ ap unspell e ∙ unspell-slot there y w in
+    let slot_is : here ≡ there = cc in
+    let rest_is : x ≡ y = ap (drop 8) e in
+    let same : Some f ≡ Some g = sym faulty ∙ ap (λ (s : Slot). slot_fault s x) slot_is ∙ ap (slot_fault there) rest_is ∙ wrong in
+    (refl, cc)
+one_faulty_slot [] (j ∷ q) here there x y f g fp fq z w e faulty wrong = absurd (begins_good here x (slot_bytes there ++ y) j q f z fq e faulty)
+one_faulty_slot (i ∷ p) [] here there x y f g fp fq z w e faulty wrong = absurd (begins_good there y (slot_bytes here ++ x) i p g w fp (sym e) wrong)
+one_faulty_slot (i ∷ p) (j ∷ q) here there x y f g fp fq z w e faulty wrong =
+    let first = same_first i j p q (slot_bytes here ++ x) (slot_bytes there ++ y) fp fq e in
+    let later = one_faulty_slot p q here there x y f g fp.1 fq.1 z w first.1 faulty wrong in
+    (rw (first.0, later.0) refl, later.1)
+
+sizes_of : {s : Slot} → IsSlot s → Sized s
+sizes_of h = record { dst = h.dst; src = h.src; offset = h.offset; imm = h.imm }
+
+-- the first faulty instruction is one
+one_fault_at : (bytes : List ℕ) (at to : ℕ) (f g : SlotFault) → FaultAt bytes at f → FaultAt bytes to g → slot_fault_at f at ≡ slot_fault_at g to
+one_fault_at bytes at to f g x y =
+    let same = one_faulty_slot x.before y.before x.here y.here x.rest y.rest f g x.fit y.fit (sizes_of x.sizes) (sizes_of y.sizes) (sym x.spelled ∙ y.spelled) x.faulty y.faulty in
+    let place : at ≡ to = x.at_slot ∙ ap slot_count same.0 ∙ sym y.at_slot in
+    rw (same.1, place) refl
+
+-- the fault of a length alone
+abbrev length_fault : ℕ → Option InsnFault
+length_fault n =
+    if n == 0 then Some faults.Empty
+    else if nat_lt 0 (n % 8) then Some faults.BadLength
+    else if nat_lt (8 * SLOT_LIMIT) n then Some faults.TooLong
+    else None
+
+record OfASlot (bytes : List ℕ) (fault : InsnFault) : Type 0 where
+  short : length_fault (length bytes) ≡ None
+  at : ℕ
+  name : SlotFault
+  here : FaultAt bytes at name
+  is : fault ≡ slot_fault_at name at
+
+long_enough : (bytes : List ℕ) → IsWhole bytes → length_fault (length bytes) ≡ None
+long_enough bytes h =
+    let n = length bytes in
+    let some = h.some in
+    let full = h.slots in
+    let short = h.short in
+    rw (ne_eqb n 0 (λ e. absurd (omega arith)), le-ltb 0 (n % 8) (omega arith), le-ltb (8 * SLOT_LIMIT) n (omega arith)) refl
+
+of_a_slot : (bytes : List ℕ) (name : SlotFault) (at : ℕ) → IsWhole bytes × FaultAt bytes at name → (length_fault (length bytes) ≡ Some (slot_fault_at name at)) ⊎ OfASlot bytes (slot_fault_at name at)
+of_a_slot bytes name at h = inr (record { short = long_enough bytes h.0; at = at; name = name; here = h.1; is = refl })
+
+by_length : (bytes : List ℕ) (f : InsnFault) → f ≢ faults.Memory → FirstInsnFault bytes f → (length_fault (length bytes) ≡ Some f) ⊎ OfASlot bytes f
+by_length bytes faults.Empty other h = inl (rw h refl)
+by_length bytes faults.BadLength other h = let n = length bytes in inl (rw (ne_eqb n 0 (λ e. absurd (omega (arith, h.0))), lt-ltb 0 (n % 8) (omega (arith, h.1))) refl)
+by_length bytes faults.TooLong other h =
+    let n = length bytes in
+    inl (rw (ne_eqb n 0 (λ e. absurd (omega (arith, h.1))), le-ltb 0 (n % 8) (omega (arith, h.0)), lt-ltb (8 * SLOT_LIMIT) n h.1) refl)
+by_length bytes (faults.UnknownOpcode at) other h = of_a_slot bytes UnknownOpcode at h
+by_length bytes (faults.BadRegister at) other h = of_a_slot bytes BadRegister at h
+by_length bytes (faults.NonzeroField at) other h = of_a_slot bytes NonzeroField at h
+by_length bytes (faults.TruncatedWide at) other h = of_a_slot bytes TruncatedWide at h
+by_length bytes (faults.Atomic at) other h = of_a_slot bytes Atomic at h
+by_length bytes (faults.Call at) other h = of_a_slot bytes Call at h
+by_length bytes (faults.LegacyLoad at) other h = of_a_slot bytes LegacyLoad at h
+by_length bytes faults.Memory other h = absurd (other refl)
+
+-- bytes have one first fault, want of memory aside
+pub one_first_fault : (bytes : List ℕ) (f g : InsnFault) → f ≢ faults.Memory → g ≢ faults.Memory → FirstInsnFault bytes f → FirstInsnFault bytes g → f ≡ g
+one_first_fault bytes f g other another h k = both (by_length bytes f other h) (by_length bytes g another k) where
+  both : (length_fault (length bytes) ≡ Some f) ⊎ OfASlot bytes f → (length_fault (length bytes) ≡ Some g) ⊎ OfASlot bytes g → f ≡ g
+  both (inl e) (inl d) = let same : Some f ≡ Some g = sym e ∙ d in cc
+  both (inl e) (inr y) = let none = y.short in absurd cc
+  both (inr x) (inl d) = let none = x.short in absurd cc
+  both (inr x) (inr y) = x.is ∙ one_fault_at bytes x.at y.at x.name y.name x.here y.here ∙ sym y.is
+
 no_fault_at : (bytes : List ℕ) (p : List Insn) (at : ℕ) (f : SlotFault) → FaultAt bytes at f → Spells bytes p → ⊥
 no_fault_at bytes p at f h s =
-    no_faulty_slot h.before p h.here h.rest f h.fit s.fit (record { dst = h.sizes.dst; src = h.sizes.src; offset = h.sizes.offset; imm = h.sizes.imm }) (sym h.spelled ∙ s.spelled) h.faulty
+    no_faulty_slot h.before p h.here h.rest f h.fit s.fit (sizes_of h.sizes) (sym h.spelled ∙ s.spelled) h.faulty
 
 -- bytes that spell a program have no fault but a want of memory
-pub only_memory : (bytes : List ℕ) (f : InsnFault) → FirstFault bytes f → (p : List Insn) → Spells bytes p → f ≡ faults.Memory
+pub only_memory : (bytes : List ℕ) (f : InsnFault) → FirstInsnFault bytes f → (p : List Insn) → Spells bytes p → f ≡ faults.Memory
 only_memory bytes faults.Empty h p s =
     let long : length bytes ≡ 8 * slot_count p = ap (length {A = ℕ}) s.spelled ∙ length-spelling p in
     let some = s.in_bounds.nonempty in absurd (omega arith)
@@ -212,6 +309,6 @@ only_memory bytes (faults.Call at) h p s = absurd (no_fault_at bytes p at _ h.1 
 only_memory bytes (faults.LegacyLoad at) h p s = absurd (no_fault_at bytes p at _ h.1 s)
 only_memory bytes faults.Memory h p s = refl
 
-pub only_err : {A : Type 0} (bytes : List ℕ) (r : Result A InsnFault) → IfErr r (FirstFault bytes) → IfErr r (λ f. (p : List Insn) → Spells bytes p → f ≡ faults.Memory)
+pub only_err : {A : Type 0} (bytes : List ℕ) (r : Result A InsnFault) → IfErr r (FirstInsnFault bytes) → IfErr r (λ f. (p : List Insn) → Spells bytes p → f ≡ faults.Memory)
 only_err bytes (Ok x) h = tt
 only_err bytes (Err f) h = only_memory bytes f h

@@ -12,14 +12,15 @@ use Rattle.insn.specs.declared.register.RegNo.{RegNo}
 use Rattle.insn.specs.declared.slot.Slot.{Slot}
 use Rattle.insn.specs.declared.fault.SlotFault.{SlotFault}
 use Rattle.insn.specs.Instruction.{reg_number, slots_of}
-use Rattle.insn.specs.Spelling.{slot, slots, slot_bytes, slot_fault, fault_with, fields_of, memory_fields, BeginsWith, Fields, IsAllOf, LOAD_WIDE, JUMP, JUMP_LONG, EXIT}
+use Rattle.insn.specs.Spelling.{slot, slots, slot_bytes, slot_fault, fault_with, fields_of, BeginsWith, Fields, IsAllOf, LOAD_WIDE, JUMP, JUMP_LONG, EXIT}
+use Rattle.insn.specs.OpcodeLaws.{fields_by_halves, memory_fields}
 use Rattle.insn.proofs.Spellings.{length-slots}
 
 -- an opcode with none of these low halves loads or stores
-pub memory_class : (n : ℕ) → n ≢ LOAD_WIDE → n ≢ JUMP → n ≢ JUMP_LONG → n ≢ EXIT → n % 16 ≢ 4 → n % 16 ≢ 7 → n % 16 ≢ 12 → n % 16 ≢ 15 → n % 16 ≢ 6 → n % 16 ≢ 5 → n % 16 ≢ 14 → n % 16 ≢ 13
-    → fields_of n ≡ memory_fields n
-unfolding fields_of
-memory_class n wide jump long exit a b c d e f g h =
+pub by_class : (n : ℕ) → n ≢ LOAD_WIDE → n ≢ JUMP → n ≢ JUMP_LONG → n ≢ EXIT → n % 16 ≢ 4 → n % 16 ≢ 7 → n % 16 ≢ 12 → n % 16 ≢ 15 → n % 16 ≢ 6 → n % 16 ≢ 5 → n % 16 ≢ 14 → n % 16 ≢ 13
+    → fields_by_halves n ≡ memory_fields n
+unfolding fields_by_halves
+by_class n wide jump long exit a b c d e f g h =
     rw (ne_eqb n LOAD_WIDE wide, ne_eqb n JUMP jump, ne_eqb n JUMP_LONG long, ne_eqb n EXIT exit, ne_eqb (n % 16) 4 a, ne_eqb (n % 16) 7 b, ne_eqb (n % 16) 12 c, ne_eqb (n % 16) 15 d, ne_eqb (n % 16) 6 e, ne_eqb (n % 16) 5 f, ne_eqb (n % 16) 14 g, ne_eqb (n % 16) 13 h) refl
 
 one_begins : (i : Insn) (s : Slot) (behind : List ℕ) → IsAllOf i s → BeginsWith s behind i

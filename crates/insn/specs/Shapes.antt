@@ -14,8 +14,8 @@ use Rattle.insn.specs.declared.state.Cell.{Cell}
 use Rattle.insn.specs.declared.state.Cell.TheVariants.{Unset, Byte, Part}
 use Rattle.insn.specs.Instruction.{slots_of}
 use Rattle.insn.specs.Program.{begins_at}
-use Rattle.insn.specs.Values.{State, Config, held, record_size, start}
-use Rattle.insn.specs.Step.{Effect, Falls, Jumps, effect, lead, exit_at}
+use Rattle.insn.specs.Values.{State, Config, value_of, record_size, start}
+use Rattle.insn.specs.Step.{Effect, Falls, Jumps, Reaches, effect, lead, exit_at}
 
 -- A shape is a state in which each number and each byte is 0: it has lost its amount.
 abbrev pub blank_value : Value → Value
@@ -65,7 +65,7 @@ OnWay layout program zero c = c ≡ shape_config (start (replicate (record_size 
 OnWay layout program (suc n) c = (from : Config) × OnWay layout program n from × Contains (ways layout program from) c
 
 abbrev pub IsPointer : State → RegNo → Type 0
-IsPointer s r = (p : Pointer) × (held s.registers r ≡ Some (Address p))
+IsPointer s r = (p : Pointer) × (value_of s.registers r ≡ Some (Address p))
 
 -- the instruction neither adds a register to a pointer nor takes one from it
 abbrev pub NoMovedPointer : Insn → State → Type 0
@@ -73,10 +73,24 @@ NoMovedPointer (Alu64Reg Add dst src) s = ¬ IsPointer s dst × ¬ IsPointer s s
 NoMovedPointer (Alu64Reg Sub dst src) s = ¬ IsPointer s dst × ¬ IsPointer s src
 NoMovedPointer i s = Unit {0}
 
+-- on no way a register is added to a pointer, or taken from one
+abbrev pub MovesNoPointer : Layout → List Insn → Type 0
+MovesNoPointer layout program = (n : ℕ) (c : Config) (i : Insn) → OnWay layout program n c → begins_at program c.slot ≡ Some i → NoMovedPointer i c.state
+
+-- no jump is conditional
+abbrev pub HasNoBranch : List Insn → Type 0
+HasNoBranch program = (slot : ℕ) (i : Insn) → begins_at program slot ≡ Some i → branch_of i ≡ None
+
+-- n steps lead from the entry to where this is the shape
+pub record IsRunShape (layout : Layout) (program : List Insn) (bytes : List ℕ) (n : ℕ) (shape : Config) : Type 0 where
+  pub at : Config
+  pub reached : Reaches layout program bytes n at
+  pub same : shape ≡ shape_config at
+
 -- all ways to a slot bring one shape, and none moves a pointer by a register
 pub record Uniform (layout : Layout) (program : List Insn) : Type 0 where
   pub one_shape : (n m : ℕ) (c d : Config) → OnWay layout program n c → OnWay layout program m d → c.slot ≡ d.slot → c ≡ d
-  pub no_moves : (n : ℕ) (c : Config) (i : Insn) → OnWay layout program n c → begins_at program c.slot ≡ Some i → NoMovedPointer i c.state
+  pub no_moves : MovesNoPointer layout program
 
 -- a shape from which no way leads on, and that is no exit
 pub record IsStuckShape (layout : Layout) (program : List Insn) (c : Config) : Type 0 where

@@ -1,5 +1,5 @@
 -- The one spelling of a program: the rows of the table of opcodes, one after the other (RFC 9669, sections 3 to 5).
-use Rattle.std.specs.Prelude.{◌≡◌, ℕ, ◌+◌, ◌-◌, ◌*◌, ◌/◌, ◌%◌, ◌^◌, ◌<◌, ◌≤◌, ◌==◌, ◌&&◌, ◌||◌, not, nat_lt, Bool, true, false, if◌then◌else◌, ℤ, pos, negsuc, FitsSigned, List, [], ◌∷◌, ◌++◌, length, map, take, Option, Some, None}
+use Rattle.std.specs.Prelude.{◌≡◌, ℕ, ◌+◌, ◌-◌, ◌*◌, ◌/◌, ◌%◌, ◌^◌, ◌<◌, ◌≤◌, ◌==◌, ◌&&◌, ◌||◌, not, nat_lt, Bool, true, false, if◌then◌else◌, ℤ, pos, negsuc, FitsSigned, List, [], ◌∷◌, ◌++◌, get_or, length, map, take, Option, Some, None}
 use Rattle.std.specs.Int.{w16, w32, cast_signed, cast_unsigned, to_le_bytes}
 use Rattle.std.specs.List.{flat_map, list_any, AllByRecursion}
 use Rattle.std.specs.Option.{option_or}
@@ -10,7 +10,6 @@ use Rattle.insn.specs.declared.operation.Signedness.TheVariants.{Unsigned, Signe
 use Rattle.insn.specs.declared.operation.Size.{Size}
 use Rattle.insn.specs.declared.operation.Size.TheVariants.{One, Two, Four, Eight}
 use Rattle.insn.specs.declared.operation.SignedSize.{SignedSize}
-use Rattle.insn.specs.declared.operation.SignedSize.TheVariants as signed
 use Rattle.insn.specs.declared.operation.AluOp.{AluOp}
 use Rattle.insn.specs.declared.operation.AluOp.TheVariants.{Add, Sub, Mul, Or, And, Lsh, Rsh, Xor, Mov, Arsh}
 use Rattle.insn.specs.declared.operation.Cond.{Cond}
@@ -198,6 +197,10 @@ slots (Jump32IfImm cond dst offset imm) = slot (jump_imm_opcode W32 (cond_code c
 slots (Jump32IfReg cond dst src offset) = slot (jump_reg_opcode W32 (cond_code cond)) (reg_number dst) (reg_number src) offset (pos 0) ∷ []
 slots Exit = slot EXIT 0 0 (pos 0) (pos 0) ∷ []
 
+-- the first of an instruction's slots
+abbrev pub first_slot : Insn → Slot
+first_slot i = get_or (slots i) 0 (slot 0 0 0 (pos 0) (pos 0))
+
 -- ---- the first fault of an instruction
 
 -- what a row of the table says of a field: it is 0, it is used, or it has one of some values
@@ -225,64 +228,58 @@ op_codes = map op_code (Add ∷ Sub ∷ Mul ∷ Or ∷ And ∷ Lsh ∷ Rsh ∷ X
 abbrev pub cond_codes : List ℕ
 cond_codes = map cond_code (Eq ∷ Gt ∷ Ge ∷ Set ∷ Ne ∷ Sgt ∷ Sge ∷ Lt ∷ Le ∷ Slt ∷ Sle ∷ [])
 
-abbrev pub sizes : List Size
-sizes = One ∷ Two ∷ Four ∷ Eight ∷ []
+-- opcodes, and how they use the fields
+pub record Row : Type 0 where
+  pub opcodes : List ℕ
+  pub fields : Fields
 
--- the offset of a move of a register: 0, or the bits of one with sign extension
-abbrev pub move_offsets : Width → List ℕ
-move_offsets W32 = 0 ∷ 8 ∷ 16 ∷ []
-move_offsets W64 = 0 ∷ 8 ∷ 16 ∷ 32 ∷ []
+abbrev pub row : List ℕ → Fields → Row
+row opcodes fields = record { opcodes = opcodes; fields = fields }
 
--- the fields of an opcode whose high half is one of a row's
-abbrev pub row : List ℕ → Fields → ℕ → Option Fields
-row codes f code = if is_one_of codes code then Some f else None
+-- the table of opcodes, a line for each use of dst, src, offset and imm (RFC 9669, appendix A)
+abbrev pub opcode_table : List Row
+opcode_table =
+    -- a wide load
+    row (0x18 ∷ []) (uses Used Unused Unused Used)
+    -- operations on a register and a number, in 32 bits and in 64: the high halves are those of op_code
+    ∷ row (0x04 ∷ 0x14 ∷ 0x24 ∷ 0x44 ∷ 0x54 ∷ 0x64 ∷ 0x74 ∷ 0xa4 ∷ 0xb4 ∷ 0xc4 ∷ []) (uses Used Unused Unused Used)
+    ∷ row (0x07 ∷ 0x17 ∷ 0x27 ∷ 0x47 ∷ 0x57 ∷ 0x67 ∷ 0x77 ∷ 0xa7 ∷ 0xb7 ∷ 0xc7 ∷ []) (uses Used Unused Unused Used)
+    -- operations on two registers, but the move
+    ∷ row (0x0c ∷ 0x1c ∷ 0x2c ∷ 0x4c ∷ 0x5c ∷ 0x6c ∷ 0x7c ∷ 0xac ∷ 0xcc ∷ []) (uses Used Used Unused Unused)
+    ∷ row (0x0f ∷ 0x1f ∷ 0x2f ∷ 0x4f ∷ 0x5f ∷ 0x6f ∷ 0x7f ∷ 0xaf ∷ 0xcf ∷ []) (uses Used Used Unused Unused)
+    -- moves of a register: the offset is 0, or says how many bits are extended
+    ∷ row (0xbc ∷ []) (uses Used Used (OneOf (0 ∷ 8 ∷ 16 ∷ [])) Unused)
+    ∷ row (0xbf ∷ []) (uses Used Used (OneOf (0 ∷ 8 ∷ 16 ∷ 32 ∷ [])) Unused)
+    -- divisions and remainders: the offset says whether they are signed
+    ∷ row (0x34 ∷ 0x37 ∷ 0x94 ∷ 0x97 ∷ []) (uses Used Unused (OneOf (0 ∷ 1 ∷ [])) Used)
+    ∷ row (0x3c ∷ 0x3f ∷ 0x9c ∷ 0x9f ∷ []) (uses Used Used (OneOf (0 ∷ 1 ∷ [])) Unused)
+    -- negations
+    ∷ row (0x84 ∷ 0x87 ∷ []) (uses Used Unused Unused Unused)
+    -- byte swaps: the number says how many bits
+    ∷ row (0xd4 ∷ 0xd7 ∷ 0xdc ∷ []) (uses Used Unused Unused (OneOf (16 ∷ 32 ∷ 64 ∷ [])))
+    -- loads, those with sign extension, stores of a register, and of a number
+    ∷ row (0x61 ∷ 0x69 ∷ 0x71 ∷ 0x79 ∷ []) (uses Used Used Used Unused)
+    ∷ row (0x81 ∷ 0x89 ∷ 0x91 ∷ []) (uses Used Used Used Unused)
+    ∷ row (0x63 ∷ 0x6b ∷ 0x73 ∷ 0x7b ∷ []) (uses Used Used Used Unused)
+    ∷ row (0x62 ∷ 0x6a ∷ 0x72 ∷ 0x7a ∷ []) (uses Used Unused Used Used)
+    -- jumps, on no condition, of a register and a number, and of two registers
+    ∷ row (0x05 ∷ []) (uses Unused Unused Used Unused)
+    ∷ row (0x06 ∷ []) (uses Unused Unused Unused Used)
+    ∷ row (0x15 ∷ 0x25 ∷ 0x35 ∷ 0x45 ∷ 0x55 ∷ 0x65 ∷ 0x75 ∷ 0xa5 ∷ 0xb5 ∷ 0xc5 ∷ 0xd5 ∷ []) (uses Used Unused Used Used)
+    ∷ row (0x16 ∷ 0x26 ∷ 0x36 ∷ 0x46 ∷ 0x56 ∷ 0x66 ∷ 0x76 ∷ 0xa6 ∷ 0xb6 ∷ 0xc6 ∷ 0xd6 ∷ []) (uses Used Unused Used Used)
+    ∷ row (0x1d ∷ 0x2d ∷ 0x3d ∷ 0x4d ∷ 0x5d ∷ 0x6d ∷ 0x7d ∷ 0xad ∷ 0xbd ∷ 0xcd ∷ 0xdd ∷ []) (uses Used Used Used Unused)
+    ∷ row (0x1e ∷ 0x2e ∷ 0x3e ∷ 0x4e ∷ 0x5e ∷ 0x6e ∷ 0x7e ∷ 0xae ∷ 0xbe ∷ 0xce ∷ 0xde ∷ []) (uses Used Used Used Unused)
+    -- the exit
+    ∷ row (0x95 ∷ []) (uses Unused Unused Unused Unused)
+    ∷ []
 
--- a byte swap to an order is in the class of 32 bits, and works on one register
-abbrev pub swap_fields : Width → Option Fields
-swap_fields W32 = Some (uses Used Unused Unused (OneOf (16 ∷ 32 ∷ 64 ∷ [])))
-swap_fields W64 = None
+abbrev pub in_rows : List Row → ℕ → Option Fields
+in_rows [] opcode = None
+in_rows (row ∷ later) opcode = if is_one_of row.opcodes opcode then Some row.fields else in_rows later opcode
 
--- the rows of the operations on a register and a number, by the high half of the opcode
-abbrev pub imm_fields : ℕ → Option Fields
-imm_fields code =
-    if is_one_of (DIVIDE ∷ REMAINDER ∷ []) code then Some (uses Used Unused (OneOf (0 ∷ 1 ∷ [])) Used)
-    else if code == NEGATE then Some (uses Used Unused Unused Unused)
-    else if code == SWAP then Some (uses Used Unused Unused (OneOf (16 ∷ 32 ∷ 64 ∷ [])))
-    else row op_codes (uses Used Unused Unused Used) code
-
--- the rows of the operations on two registers
-abbrev pub reg_fields : Width → ℕ → Option Fields
-reg_fields width code =
-    if is_one_of (DIVIDE ∷ REMAINDER ∷ []) code then Some (uses Used Used (OneOf (0 ∷ 1 ∷ [])) Unused)
-    else if code == op_code Mov then Some (uses Used Used (OneOf (move_offsets width)) Unused)
-    else if code == SWAP then swap_fields width
-    else row op_codes (uses Used Used Unused Unused) code
-
--- the rows of the loads and the stores
-abbrev pub memory_fields : ℕ → Option Fields
-memory_fields opcode =
-    if is_one_of (map load_opcode sizes) opcode then Some (uses Used Used Used Unused)
-    else if is_one_of (map load_signed_opcode (signed.One ∷ signed.Two ∷ signed.Four ∷ [])) opcode then Some (uses Used Used Used Unused)
-    else if is_one_of (map store_reg_opcode sizes) opcode then Some (uses Used Used Used Unused)
-    else if is_one_of (map store_imm_opcode sizes) opcode then Some (uses Used Unused Used Used)
-    else None
-
--- the fields of an opcode: of those that stand alone, and of the others by its low half
+-- how an opcode uses the fields, where the table has it
 unfoldable pub fields_of : ℕ → Option Fields
-fields_of opcode =
-    if opcode == LOAD_WIDE then Some (uses Used Unused Unused Used)
-    else if opcode == JUMP then Some (uses Unused Unused Used Unused)
-    else if opcode == JUMP_LONG then Some (uses Unused Unused Unused Used)
-    else if opcode == EXIT then Some (uses Unused Unused Unused Unused)
-    else if opcode % 16 == imm_opcode W32 0 then imm_fields (opcode / 16)
-    else if opcode % 16 == imm_opcode W64 0 then imm_fields (opcode / 16)
-    else if opcode % 16 == reg_opcode W32 0 then reg_fields W32 (opcode / 16)
-    else if opcode % 16 == reg_opcode W64 0 then reg_fields W64 (opcode / 16)
-    else if opcode % 16 == jump_imm_opcode W32 0 then row cond_codes (uses Used Unused Used Used) (opcode / 16)
-    else if opcode % 16 == jump_imm_opcode W64 0 then row cond_codes (uses Used Unused Used Used) (opcode / 16)
-    else if opcode % 16 == jump_reg_opcode W32 0 then row cond_codes (uses Used Used Used Unused) (opcode / 16)
-    else if opcode % 16 == jump_reg_opcode W64 0 then row cond_codes (uses Used Used Used Unused) (opcode / 16)
-    else memory_fields opcode
+fields_of opcode = in_rows opcode_table opcode
 
 -- the name of an opcode that the table lacks
 abbrev pub refused_as : ℕ → SlotFault
@@ -384,15 +381,15 @@ slot_fault_at Call at = faults.Call at
 slot_fault_at LegacyLoad at = faults.LegacyLoad at
 
 -- The first fault: no bytes, then a bad length, then too many slots, then the first faulty instruction.
-abbrev pub FirstFault : List ℕ → InsnFault → Type 0
-FirstFault bytes faults.Empty = length bytes ≡ 0
-FirstFault bytes faults.BadLength = (1 ≤ length bytes) × (1 ≤ length bytes % 8)
-FirstFault bytes faults.TooLong = (length bytes % 8 ≡ 0) × (8 * SLOT_LIMIT < length bytes)
-FirstFault bytes (faults.UnknownOpcode at) = IsWhole bytes × FaultAt bytes at UnknownOpcode
-FirstFault bytes (faults.BadRegister at) = IsWhole bytes × FaultAt bytes at BadRegister
-FirstFault bytes (faults.NonzeroField at) = IsWhole bytes × FaultAt bytes at NonzeroField
-FirstFault bytes (faults.TruncatedWide at) = IsWhole bytes × FaultAt bytes at TruncatedWide
-FirstFault bytes (faults.Atomic at) = IsWhole bytes × FaultAt bytes at Atomic
-FirstFault bytes (faults.Call at) = IsWhole bytes × FaultAt bytes at Call
-FirstFault bytes (faults.LegacyLoad at) = IsWhole bytes × FaultAt bytes at LegacyLoad
-FirstFault bytes faults.Memory = Unit {0}
+abbrev pub FirstInsnFault : List ℕ → InsnFault → Type 0
+FirstInsnFault bytes faults.Empty = length bytes ≡ 0
+FirstInsnFault bytes faults.BadLength = (1 ≤ length bytes) × (1 ≤ length bytes % 8)
+FirstInsnFault bytes faults.TooLong = (length bytes % 8 ≡ 0) × (8 * SLOT_LIMIT < length bytes)
+FirstInsnFault bytes (faults.UnknownOpcode at) = IsWhole bytes × FaultAt bytes at UnknownOpcode
+FirstInsnFault bytes (faults.BadRegister at) = IsWhole bytes × FaultAt bytes at BadRegister
+FirstInsnFault bytes (faults.NonzeroField at) = IsWhole bytes × FaultAt bytes at NonzeroField
+FirstInsnFault bytes (faults.TruncatedWide at) = IsWhole bytes × FaultAt bytes at TruncatedWide
+FirstInsnFault bytes (faults.Atomic at) = IsWhole bytes × FaultAt bytes at Atomic
+FirstInsnFault bytes (faults.Call at) = IsWhole bytes × FaultAt bytes at Call
+FirstInsnFault bytes (faults.LegacyLoad at) = IsWhole bytes × FaultAt bytes at LegacyLoad
+FirstInsnFault bytes faults.Memory = Unit {0}

@@ -19,6 +19,8 @@ use Rattle.insn.specs.declared.operation.SwapBits.{SwapBits}
 use Rattle.insn.specs.declared.operation.SwapBits.TheVariants.{B16, B32, B64}
 use Rattle.insn.specs.declared.operation.Size.{Size}
 use Rattle.insn.specs.declared.operation.Size.TheVariants.{One, Two, Four, Eight}
+use Rattle.insn.specs.declared.mnemonic.Mnemonic.{Mnemonic}
+use Rattle.insn.specs.declared.mnemonic.Mnemonic.TheVariants as mnemonic
 use Rattle.insn.specs.declared.instruction.Operand.{Operand as Source}
 use Rattle.insn.specs.declared.instruction.Operand.TheVariants.{Reg, Imm}
 use Rattle.insn.specs.declared.instruction.Insn.{Insn}
@@ -57,10 +59,14 @@ is_distance (c ∷ word) = if c == 43 then is_natural word else c == 45 && is_po
 abbrev pub is_name_byte : ℕ → Bool
 is_name_byte c = (nat_le 97 c && nat_le c 122) || is_digit c || c == 95
 
--- 1 to 32 letters, digits and underscores, of which the first is no digit
+-- the most bytes of a name
+abbrev pub NAME_LIMIT : ℕ
+NAME_LIMIT = 32
+
+-- letters, digits and underscores, of which the first is no digit
 abbrev pub is_name : Word → Bool
 is_name [] = false
-is_name (c ∷ more) = not (is_digit c) && list_all is_name_byte (c ∷ more) && nat_le (length more) 31
+is_name (c ∷ more) = not (is_digit c) && list_all is_name_byte (c ∷ more) && nat_le (length (c ∷ more)) NAME_LIMIT
 
 -- ---- the words of an instruction
 
@@ -121,29 +127,50 @@ size_name Two = codes "h"
 size_name Four = codes "w"
 size_name Eight = codes "dw"
 
+-- what the first word of an instruction says of it
+abbrev pub mnemonic_of : Insn → Mnemonic
+mnemonic_of (Alu64Imm op dst imm) = mnemonic.Alu W64 op
+mnemonic_of (Alu64Reg op dst src) = mnemonic.Alu W64 op
+mnemonic_of (Alu32Imm op dst imm) = mnemonic.Alu W32 op
+mnemonic_of (Alu32Reg op dst src) = mnemonic.Alu W32 op
+mnemonic_of (Divide width signedness dst operand) = mnemonic.Divide width signedness
+mnemonic_of (Remainder width signedness dst operand) = mnemonic.Remainder width signedness
+mnemonic_of (Negate width dst) = mnemonic.Negate width
+mnemonic_of (MoveSigned extension dst src) = mnemonic.MoveSigned extension
+mnemonic_of (SwapBytes kind bits dst) = mnemonic.SwapBytes kind bits
+mnemonic_of (LoadWide dst value) = mnemonic.LoadWide
+mnemonic_of (Load size dst src offset) = mnemonic.Load size
+mnemonic_of (LoadSigned size dst src offset) = mnemonic.LoadSigned size
+mnemonic_of (StoreReg size dst src offset) = mnemonic.StoreReg size
+mnemonic_of (StoreImm size dst offset imm) = mnemonic.StoreImm size
+mnemonic_of (Jump offset) = mnemonic.Jump
+mnemonic_of (JumpLong offset) = mnemonic.JumpLong
+mnemonic_of (Jump64IfImm cond dst offset imm) = mnemonic.JumpIf W64 cond
+mnemonic_of (Jump64IfReg cond dst src offset) = mnemonic.JumpIf W64 cond
+mnemonic_of (Jump32IfImm cond dst offset imm) = mnemonic.JumpIf W32 cond
+mnemonic_of (Jump32IfReg cond dst src offset) = mnemonic.JumpIf W32 cond
+mnemonic_of Exit = mnemonic.Exit
+
+abbrev pub mnemonic_name : Mnemonic → Word
+mnemonic_name (mnemonic.Alu width op) = operation_name (operation_of op) ++ width_name width
+mnemonic_name (mnemonic.Divide width signedness) = operation_name (division_of signedness) ++ width_name width
+mnemonic_name (mnemonic.Remainder width signedness) = operation_name (remainder_of signedness) ++ width_name width
+mnemonic_name (mnemonic.Negate width) = codes "neg" ++ width_name width
+mnemonic_name (mnemonic.MoveSigned extension) = extension_name extension
+mnemonic_name (mnemonic.SwapBytes kind bits) = swap_name kind ++ bits_name bits
+mnemonic_name mnemonic.LoadWide = codes "lddw"
+mnemonic_name (mnemonic.Load size) = codes "ldx" ++ size_name size
+mnemonic_name (mnemonic.LoadSigned size) = codes "lds" ++ size_name (read_size size)
+mnemonic_name (mnemonic.StoreReg size) = codes "stx" ++ size_name size
+mnemonic_name (mnemonic.StoreImm size) = codes "st" ++ size_name size
+mnemonic_name mnemonic.Jump = codes "ja"
+mnemonic_name mnemonic.JumpLong = codes "jal"
+mnemonic_name (mnemonic.JumpIf width cond) = condition_name cond ++ width_name width
+mnemonic_name mnemonic.Exit = codes "exit"
+
 -- the first word of an instruction's line
 abbrev pub name_of : Insn → Word
-name_of (Alu64Imm op dst imm) = operation_name (operation_of op) ++ width_name W64
-name_of (Alu64Reg op dst src) = operation_name (operation_of op) ++ width_name W64
-name_of (Alu32Imm op dst imm) = operation_name (operation_of op) ++ width_name W32
-name_of (Alu32Reg op dst src) = operation_name (operation_of op) ++ width_name W32
-name_of (Divide width signedness dst operand) = operation_name (division_of signedness) ++ width_name width
-name_of (Remainder width signedness dst operand) = operation_name (remainder_of signedness) ++ width_name width
-name_of (Negate width dst) = codes "neg" ++ width_name width
-name_of (MoveSigned extension dst src) = extension_name extension
-name_of (SwapBytes kind bits dst) = swap_name kind ++ bits_name bits
-name_of (LoadWide dst value) = codes "lddw"
-name_of (Load size dst src offset) = codes "ldx" ++ size_name size
-name_of (LoadSigned size dst src offset) = codes "lds" ++ size_name (read_size size)
-name_of (StoreReg size dst src offset) = codes "stx" ++ size_name size
-name_of (StoreImm size dst offset imm) = codes "st" ++ size_name size
-name_of (Jump offset) = codes "ja"
-name_of (JumpLong offset) = codes "jal"
-name_of (Jump64IfImm cond dst offset imm) = condition_name cond ++ width_name W64
-name_of (Jump64IfReg cond dst src offset) = condition_name cond ++ width_name W64
-name_of (Jump32IfImm cond dst offset imm) = condition_name cond ++ width_name W32
-name_of (Jump32IfReg cond dst src offset) = condition_name cond ++ width_name W32
-name_of Exit = codes "exit"
+name_of i = mnemonic_name (mnemonic_of i)
 
 -- what stands behind the first word: registers, numbers, and how far a jump leads
 pub data Operand : Type 0 where

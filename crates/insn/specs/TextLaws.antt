@@ -5,8 +5,8 @@ use Rattle.std.specs.List.{AllByRecursion}
 use Rattle.insn.specs.declared.instruction.Insn.{Insn}
 use Rattle.insn.specs.Instruction.{Fits, slots_of}
 use Rattle.insn.specs.Text.{Word, Line, Blank, Label, Statement, lines_in, name_of, operands_of, SaysInsn, LeadsTo, labels_in, Says, Text}
-use Rattle.insn.specs.TextWords.{LeadsToOne, one_operands}
-use Rattle.insn.specs.TextNames.{short_operands, same_slots, same_targets, same_insn}
+use Rattle.insn.specs.TextWordLaws.{LeadsToOne, one_operands}
+use Rattle.insn.specs.TextNameLaws.{short_operands, same_slots, same_targets, same_insn}
 
 -- ---- words say one instruction
 

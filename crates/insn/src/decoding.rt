@@ -5,7 +5,8 @@ ghost use Rattle.std.specs.Int.{w32, cast_signed};
 ghost use Rattle.std.specs.List.{AllByRecursion};
 ghost use Rattle.insn.specs.declared.instruction.Insn.{Insn};
 ghost use Rattle.insn.specs.Instruction.{reg_number};
-ghost use Rattle.insn.specs.Spelling.{allows, cond_codes, field_fault, fields_of, imm_fields, imm_opcode, is_bad_second, jump_imm_opcode, jump_reg_opcode, load_opcode, load_signed_opcode, memory_fields, move_offsets, op_code, op_codes, refused_as, reg_fields, reg_opcode, row, signedness_code, slot, slot_bytes, slot_fault, slots, store_imm_opcode, store_reg_opcode, swap_opcode, uses, BeginsWith, DIVIDE, EXIT, FirstFault, IsAllOf, IsSlot, IsWhole, JUMP, JUMP_LONG, LOAD_WIDE, NEGATE, OneOf, REMAINDER, Spells, Unused, Used};
+ghost use Rattle.insn.specs.OpcodeLaws.{code_row, fields_by_halves, imm_fields, memory_fields, move_offsets, reg_fields};
+ghost use Rattle.insn.specs.Spelling.{allows, cond_codes, op_codes, field_fault, fields_of, imm_opcode, is_bad_second, jump_imm_opcode, jump_reg_opcode, load_opcode, load_signed_opcode, op_code, refused_as, reg_opcode, signedness_code, slot, slot_bytes, slot_fault, slots, store_imm_opcode, store_reg_opcode, swap_opcode, uses, BeginsWith, DIVIDE, EXIT, FirstInsnFault, IsAllOf, IsSlot, IsWhole, JUMP, JUMP_LONG, LOAD_WIDE, NEGATE, OneOf, REMAINDER, Spells, Unused, Used};
 
 use crate::fault::{InsnFault, SlotFault};
 use crate::instruction::{Insn, Operand};
@@ -21,19 +22,9 @@ use std::alloc::Global;
 fn register(number: u8) -> Result<RegNo, SlotFault>
     ensures { MatchResult result (λ r. (reg_number r ≡ number) × (number ≤ 10)) (λ f. (10 < number) × (f ≡ SlotFault.BadRegister)) }
 {
-    match number {
-        0 => Ok(RegNo::R0),
-        1 => Ok(RegNo::R1),
-        2 => Ok(RegNo::R2),
-        3 => Ok(RegNo::R3),
-        4 => Ok(RegNo::R4),
-        5 => Ok(RegNo::R5),
-        6 => Ok(RegNo::R6),
-        7 => Ok(RegNo::R7),
-        8 => Ok(RegNo::R8),
-        9 => Ok(RegNo::R9),
-        10 => Ok(RegNo::R10),
-        _ => Err(SlotFault::BadRegister),
+    match RegNo::from_number(u64::from(number)) {
+        Some(register) => Ok(register),
+        None => Err(SlotFault::BadRegister),
     }
 }
 
@@ -103,7 +94,7 @@ fn load_wide(slot: Slot, behind: &[u8]) -> Result<Insn, SlotFault>
 }
 
 /// The instruction of one slot, by its opcode: those that stand alone, and then by its low half.
-#[tactic(auto, unfolding(crate::specs::Spelling::fields_of))]
+#[tactic(auto, using(crate::specs::OpcodeLaws::same_fields), unfolding(crate::specs::Spelling::fields_of))]
 fn one_slot(slot: Slot) -> Result<Insn, SlotFault>
     requires one { slot.opcode ≢ LOAD_WIDE }
     requires read { refused_as slot.opcode ≡ SlotFault.UnknownOpcode }
@@ -119,10 +110,11 @@ fn one_slot(slot: Slot) -> Result<Insn, SlotFault>
 }
 
 /// The instruction of one slot, by the low half of its opcode.
-#[tactic(auto, using(crate::proofs::Rows::memory_class), unfolding(crate::specs::Spelling::fields_of))]
+#[tactic(auto, using(crate::proofs::Rows::by_class), unfolding(crate::specs::OpcodeLaws::fields_by_halves))]
 fn by_low_half(slot: Slot) -> Result<Insn, SlotFault>
     requires alone { (slot.opcode ≢ LOAD_WIDE) × (slot.opcode ≢ JUMP) × (slot.opcode ≢ JUMP_LONG) × (slot.opcode ≢ EXIT) }
     requires read { refused_as slot.opcode ≡ SlotFault.UnknownOpcode }
+    requires halves { fields_of slot.opcode ≡ fields_by_halves slot.opcode }
     ensures found { IfOk result (λ i. IsAllOf i slot) }
     ensures fault { IfErr result (λ f. slot_fault slot [] ≡ Some f) }
 {
@@ -210,7 +202,7 @@ fn memory(slot: Slot) -> Result<Insn, SlotFault>
 fn alu_imm(width: Width, slot: Slot) -> Result<Insn, SlotFault>
     requires low { slot.opcode ≡ imm_opcode width (slot.opcode / 16) }
     requires read { refused_as slot.opcode ≡ SlotFault.UnknownOpcode }
-    requires fields { fields_of slot.opcode ≡ row op_codes (uses Used Unused Unused Used) (slot.opcode / 16) }
+    requires fields { fields_of slot.opcode ≡ code_row op_codes (uses Used Unused Unused Used) (slot.opcode / 16) }
     ensures found { IfOk result (λ i. IsAllOf i slot) }
     ensures fault { IfErr result (λ f. slot_fault slot [] ≡ Some f) }
 {
@@ -230,7 +222,7 @@ fn alu_imm(width: Width, slot: Slot) -> Result<Insn, SlotFault>
 fn alu_reg(width: Width, slot: Slot) -> Result<Insn, SlotFault>
     requires low { slot.opcode ≡ reg_opcode width (slot.opcode / 16) }
     requires read { refused_as slot.opcode ≡ SlotFault.UnknownOpcode }
-    requires fields { fields_of slot.opcode ≡ row op_codes (uses Used Used Unused Unused) (slot.opcode / 16) }
+    requires fields { fields_of slot.opcode ≡ code_row op_codes (uses Used Used Unused Unused) (slot.opcode / 16) }
     ensures found { IfOk result (λ i. IsAllOf i slot) }
     ensures fault { IfErr result (λ f. slot_fault slot [] ≡ Some f) }
 {
@@ -480,7 +472,7 @@ fn exit(slot: Slot) -> Result<Insn, SlotFault>
 fn jump_if_imm(width: Width, slot: Slot) -> Result<Insn, SlotFault>
     requires low { slot.opcode ≡ jump_imm_opcode width (slot.opcode / 16) }
     requires read { refused_as slot.opcode ≡ SlotFault.UnknownOpcode }
-    requires fields { fields_of slot.opcode ≡ row cond_codes (uses Used Unused Used Used) (slot.opcode / 16) }
+    requires fields { fields_of slot.opcode ≡ code_row cond_codes (uses Used Unused Used Used) (slot.opcode / 16) }
     ensures found { IfOk result (λ i. IsAllOf i slot) }
     ensures fault { IfErr result (λ f. slot_fault slot [] ≡ Some f) }
 {
@@ -511,7 +503,7 @@ fn jump_if_imm(width: Width, slot: Slot) -> Result<Insn, SlotFault>
 fn jump_if_reg(width: Width, slot: Slot) -> Result<Insn, SlotFault>
     requires low { slot.opcode ≡ jump_reg_opcode width (slot.opcode / 16) }
     requires read { refused_as slot.opcode ≡ SlotFault.UnknownOpcode }
-    requires fields { fields_of slot.opcode ≡ row cond_codes (uses Used Used Used Unused) (slot.opcode / 16) }
+    requires fields { fields_of slot.opcode ≡ code_row cond_codes (uses Used Used Used Unused) (slot.opcode / 16) }
     ensures found { IfOk result (λ i. IsAllOf i slot) }
     ensures fault { IfErr result (λ f. slot_fault slot [] ≡ Some f) }
 {
@@ -542,7 +534,7 @@ fn jump_if_reg(width: Width, slot: Slot) -> Result<Insn, SlotFault>
 fn insns_of(alloc: Global, bytes: &[u8]) -> Result<Vec<Insn>, InsnFault>
     requires { IsWhole bytes.now }
     ensures found { IfOk result (λ insns. Spells bytes.now insns.items) }
-    ensures fault { IfErr result (FirstFault bytes.now) }
+    ensures fault { IfErr result (FirstInsnFault bytes.now) }
 {
     let mut insns = Vec::new(alloc);
     let mut rest = bytes;
@@ -565,7 +557,7 @@ fn insns_of(alloc: Global, bytes: &[u8]) -> Result<Vec<Insn>, InsnFault>
 /// the first faulty instruction. The bytes are RFC 9669's little-endian form.
 pub fn decode(alloc: Global, bytes: &[u8]) -> Result<Program, InsnFault>
     ensures found { IfOk result (λ program. Spells bytes.now program) }
-    ensures fault { IfErr result (FirstFault bytes.now) }
+    ensures fault { IfErr result (FirstInsnFault bytes.now) }
     // What is spelled is answered, unless memory is refused.
     ensures only { IfErr result (λ f. (program : List Insn) → Spells bytes.now program → f ≡ InsnFault.Memory) }
 {

@@ -3,8 +3,7 @@
 ghost use Rattle.std.specs.Prelude.{◌≡◌, ◌<◌, ◌++◌, ◌∷◌, IfOk, IfSome, OnOk};
 ghost use Rattle.std.specs.List.{flat_map};
 ghost use Rattle.std.specs.Option.{option_to_list};
-ghost use Rattle.insn.specs.FirstSlot.{first_slot as spec_first};
-ghost use Rattle.insn.specs.Spelling.{imm_opcode as spec_imm, reg_opcode as spec_reg, slot_bytes, slots, IsSlot, Spells};
+ghost use Rattle.insn.specs.Spelling.{first_slot as spec_first, imm_opcode as spec_imm, reg_opcode as spec_reg, slot_bytes, slots, IsSlot, Spells};
 
 use crate::instruction::{Insn, Operand};
 use crate::operation::{AluOp, Width};

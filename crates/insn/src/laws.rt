@@ -1,15 +1,96 @@
 //! Laws of the definitions.
 
-ghost use Rattle.std.specs.Prelude.{◌≡◌, ℕ, List};
+ghost use Rattle.std.specs.Prelude.{◌≡◌, ◌≢◌, ◌↔◌, ℕ, List, Some, None, Contains, IfSome, IsSome};
+ghost use Rattle.std.specs.List.{AllByRecursion};
+ghost use Rattle.insn.specs.declared.fault.InsnFault.{InsnFault};
+ghost use Rattle.insn.specs.declared.fault.InsnFault.TheVariants.{Memory};
 ghost use Rattle.insn.specs.declared.instruction.Insn.{Insn};
-ghost use Rattle.insn.specs.Spelling.{Spells};
+ghost use Rattle.insn.specs.declared.layout.Layout.{Layout};
+ghost use Rattle.insn.specs.declared.register.RegNo.TheVariants.{R10};
+ghost use Rattle.insn.specs.declared.state.Cell.{Cell};
+ghost use Rattle.insn.specs.declared.state.Pointer.{Pointer};
+ghost use Rattle.insn.specs.declared.state.Value.TheVariants.{Address};
+ghost use Rattle.insn.specs.Faults.{fault_at};
+ghost use Rattle.insn.specs.FirstLook.{written_by};
+ghost use Rattle.insn.specs.Memory.{parts_of, value_in};
+ghost use Rattle.insn.specs.Program.{begins_at};
+ghost use Rattle.insn.specs.Shapes.{shape_config, shape_of, ways, HasNoBranch, IsRunShape, MovesNoPointer, NoMovedPointer, OnWay};
+ghost use Rattle.insn.specs.Instruction.{Fits};
+ghost use Rattle.insn.specs.Spelling.{FirstInsnFault, Spells};
+ghost use Rattle.insn.specs.Step.{effect, step, IsEffect, IsExit, IsStuck, Reaches};
+ghost use Rattle.insn.specs.Values.{entry, Config, IsRecord, IsState, State};
 
 /// No bytes spell two programs.
 pub fn bytes_spell_one_program()
     ensures { (bytes : List ℕ) (p q : List Insn) → Spells bytes p → Spells bytes q → p ≡ q }
 {}
 
+/// Bytes have one first fault, want of memory aside.
+pub fn bytes_have_one_first_fault()
+    ensures { (bytes : List ℕ) (f g : InsnFault) → f ≢ Memory → g ≢ Memory →
+        FirstInsnFault bytes f → FirstInsnFault bytes g → f ≡ g }
+{}
+
 /// Each program has one spelling.
 pub fn a_program_has_one_spelling()
     ensures { (a b : List ℕ) (p : List Insn) → Spells a p → Spells b p → a ≡ b }
+{}
+
+/// The entry of a record is a state, and what an instruction does to a state leads to a state.
+#[tactic(auto, using(crate::specs::StateLaws::entry_is_state, crate::specs::StateLaws::effect_is_effect))]
+pub fn states_stay_states()
+    ensures entry { (layout : Layout) (bytes : List ℕ) → IsRecord layout bytes → IsState layout (entry bytes) }
+    ensures step { (layout : Layout) (i : Insn) (s : State) → Fits i → IsState layout s → IfSome (effect layout i s) (IsEffect layout) }
+{}
+
+/// What the run of a program on a record reaches is a state.
+pub fn runs_reach_states()
+    ensures { (layout : Layout) (program : List Insn) (bytes : List ℕ) (n : ℕ) (c : Config) →
+        AllByRecursion Fits program → IsRecord layout bytes → Reaches layout program bytes n c → IsState layout c.state }
+{}
+
+/// An instruction that does not write R10 has no effect exactly where a test names a fault.
+#[tactic(auto, using(crate::specs::FaultLaws::stuck_is_named))]
+pub fn faults_are_named()
+    ensures { (layout : Layout) (i : Insn) (s : State) → written_by i ≢ Some R10 →
+        effect layout i s ≡ None ↔ IsSome (fault_at layout i s) }
+{}
+
+/// A state and its shape have the same fault, where no pointer is moved by a register.
+#[tactic(auto, using(crate::specs::ShapeLaws::same_fault))]
+pub fn shapes_have_the_faults_of_states()
+    ensures { (layout : Layout) (i : Insn) (s : State) → NoMovedPointer i s → fault_at layout i (shape_of s) ≡ fault_at layout i s }
+{}
+
+/// A step's shape is among the ways of the shape, where no pointer is moved by a register.
+#[tactic(auto, using(crate::specs::WayLaws::step_is_way))]
+pub fn steps_are_ways()
+    ensures { (layout : Layout) (program : List Insn) (c d : Config) →
+        ((i : Insn) → begins_at program c.slot ≡ Some i → NoMovedPointer i c.state) → step layout program c ≡ Some d →
+        Contains (ways layout program (shape_config c)) (shape_config d) }
+{}
+
+/// In a program without conditional jumps, and in which no pointer is moved by a register, the ways are the shapes of
+/// each run.
+pub fn straight_ways_are_runs()
+    ensures { (layout : Layout) (program : List Insn) (bytes : List ℕ) → HasNoBranch program →
+        MovesNoPointer layout program → IsRecord layout bytes → (n : ℕ) (d : Config) →
+        OnWay layout program n d ↔ IsRunShape layout program bytes n d }
+{}
+
+/// A run has one end: one exit, or one place at which it is stuck.
+pub fn a_run_has_one_end()
+    ensures exit { (layout : Layout) (program : List Insn) (bytes : List ℕ) (r0 count q0 more : ℕ) (after late : List ℕ) →
+        IsExit layout program bytes r0 count after → IsExit layout program bytes q0 more late →
+        (r0 ≡ q0) × (count ≡ more) × (after ≡ late) }
+    ensures stuck { (layout : Layout) (program : List Insn) (bytes : List ℕ) (slot place : ℕ) (after late : List ℕ) →
+        IsStuck layout program bytes slot after → IsStuck layout program bytes place late →
+        (slot ≡ place) × (after ≡ late) }
+    ensures either { (layout : Layout) (program : List Insn) (bytes : List ℕ) (r0 count slot : ℕ) (after late : List ℕ) →
+        IsExit layout program bytes r0 count after → IsStuck layout program bytes slot late → ⊥ }
+{}
+
+/// Cells hold a pointer exactly where they are its eight parts, in order.
+pub fn a_pointer_is_its_parts()
+    ensures { (cells : List Cell) (p : Pointer) → value_in cells ≡ Some (Address p) ↔ (cells ≡ parts_of p) }
 {}

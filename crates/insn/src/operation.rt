@@ -2,6 +2,7 @@
 
 ghost use Rattle.std.specs.Prelude.{◌≡◌, ◌<◌, IfSome, None, true, false};
 ghost use Rattle.insn.specs.Instruction.{division_of, extended_bits, extended_width, operation_of, read_bits, read_size, remainder_of, size_bytes};
+ghost use Rattle.insn.specs.Text.{bits_name, condition_name, extension_name, operation_name, size_name, swap_name, width_name};
 ghost use Rattle.insn.specs.Spelling.{cond_code, cond_codes, is_one_of, op_code, op_codes, size_code};
 
 /// How many bits an operation or a comparison works on: the low half of its operands, or all of them.
@@ -9,6 +10,18 @@ ghost use Rattle.insn.specs.Spelling.{cond_code, cond_codes, is_one_of, op_code,
 pub enum Width {
     W32,
     W64,
+}
+
+impl Width {
+    /// Its number of bits, which ends the names of what works on it.
+    pub fn name(self) -> &'static str
+        ensures { result.now ≡ width_name self }
+    {
+        match self {
+            Width::W32 => "32",
+            Width::W64 => "64",
+        }
+    }
 }
 
 /// Whether a division reads its operands as unsigned or as signed numbers.
@@ -57,6 +70,30 @@ pub enum BinOp {
     Xor,
     Mov,
     Arsh,
+}
+
+impl BinOp {
+    /// Its name, without the width.
+    pub fn name(self) -> &'static str
+        ensures { result.now ≡ operation_name self }
+    {
+        match self {
+            BinOp::Add => "add",
+            BinOp::Sub => "sub",
+            BinOp::Mul => "mul",
+            BinOp::Div => "div",
+            BinOp::Sdiv => "sdiv",
+            BinOp::Or => "or",
+            BinOp::And => "and",
+            BinOp::Lsh => "lsh",
+            BinOp::Rsh => "rsh",
+            BinOp::Mod => "mod",
+            BinOp::Smod => "smod",
+            BinOp::Xor => "xor",
+            BinOp::Mov => "mov",
+            BinOp::Arsh => "arsh",
+        }
+    }
 }
 
 /// An operation whose opcode says all of it: those of two operands but division and remainder.
@@ -139,6 +176,25 @@ pub enum Cond {
 }
 
 impl Cond {
+    /// The name of the jump where it holds, without the width.
+    pub fn name(self) -> &'static str
+        ensures { result.now ≡ condition_name self }
+    {
+        match self {
+            Cond::Eq => "jeq",
+            Cond::Gt => "jgt",
+            Cond::Ge => "jge",
+            Cond::Set => "jset",
+            Cond::Ne => "jne",
+            Cond::Sgt => "jsgt",
+            Cond::Sge => "jsge",
+            Cond::Lt => "jlt",
+            Cond::Le => "jle",
+            Cond::Slt => "jslt",
+            Cond::Sle => "jsle",
+        }
+    }
+
     /// The high half of its opcodes.
     pub fn code(self) -> u8
         ensures value { result ≡ cond_code self }
@@ -177,12 +233,38 @@ pub enum SwapKind {
     Swap = 0xd7,
 }
 
+impl SwapKind {
+    /// Its name, without the bits.
+    pub fn name(self) -> &'static str
+        ensures { result.now ≡ swap_name self }
+    {
+        match self {
+            SwapKind::ToLittle => "le",
+            SwapKind::ToBig => "be",
+            SwapKind::Swap => "swap",
+        }
+    }
+}
+
 /// How many low bits a byte swap keeps.
 #[derive(Clone, Copy, Debug, PartialEq, Eq)]
 pub enum SwapBits {
     B16 = 16,
     B32 = 32,
     B64 = 64,
+}
+
+impl SwapBits {
+    /// Their number, which ends the name of the swap.
+    pub fn name(self) -> &'static str
+        ensures { result.now ≡ bits_name self }
+    {
+        match self {
+            SwapBits::B16 => "16",
+            SwapBits::B32 => "32",
+            SwapBits::B64 => "64",
+        }
+    }
 }
 
 /// How many low bits a sign extension reads.
@@ -212,6 +294,19 @@ pub enum Extension {
 }
 
 impl Extension {
+    /// The name of the move with this extension.
+    pub fn name(self) -> &'static str
+        ensures { result.now ≡ extension_name self }
+    {
+        match self {
+            Extension::From8To64 => "sx8_64",
+            Extension::From16To64 => "sx16_64",
+            Extension::From32To64 => "sx32_64",
+            Extension::From8To32 => "sx8_32",
+            Extension::From16To32 => "sx16_32",
+        }
+    }
+
     /// How many bits it sets; the others are 0.
     pub fn width(self) -> Width
         ensures { result ≡ extended_width self }
@@ -244,6 +339,18 @@ pub enum Size {
 }
 
 impl Size {
+    /// The letters that end the names of its loads and stores.
+    pub fn name(self) -> &'static str
+        ensures { result.now ≡ size_name self }
+    {
+        match self {
+            Size::One => "b",
+            Size::Two => "h",
+            Size::Four => "w",
+            Size::Eight => "dw",
+        }
+    }
+
     /// What it adds to an opcode.
     pub fn code(self) -> u8
         ensures value { result ≡ size_code self }

@@ -48,7 +48,7 @@ fn slots_of_all(insns: &[Insn]) -> usize
 
 impl Program {
     /// Instructions as a program. Where they are none, or too many, they are handed back with the fault.
-    #[tactic(auto, using(crate::specs::Slots::length_le_slot_count))]
+    #[tactic(auto, using(crate::specs::SlotLaws::length_le_slot_count))]
     pub fn new(insns: Vec<Insn>) -> Result<Program, (Vec<Insn>, InsnFault)>
         ensures ok { IfOk result (λ program. program ≡ insns.items) }
         ensures only { IsOk result ↔ IsProgram insns.items }
@@ -73,7 +73,7 @@ impl Program {
     }
 
     /// How many slots they take.
-    #[tactic(auto, using(crate::specs::Slots::length_le_slot_count))]
+    #[tactic(auto, using(crate::specs::SlotLaws::length_le_slot_count))]
     pub fn slots(&self) -> usize
         ensures { result ≡ slot_count self.now }
     {

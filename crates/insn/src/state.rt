@@ -1,10 +1,31 @@
 //! What the registers and the stack of a hook hold.
 
+ghost use Rattle.std.specs.Prelude.{◌≡◌, ◌≤◌};
+ghost use Rattle.insn.specs.Values.{region_size};
+
+use crate::layout::Layout;
+
+/// How many bytes the stack of a run has.
+pub const STACK_SIZE: usize = 512;
+
 /// What a pointer points into.
 #[derive(Clone, Copy, Debug, PartialEq, Eq)]
 pub enum Region {
     Record,
     Stack,
+}
+
+impl Region {
+    /// How many bytes it has.
+    pub fn size(self, layout: Layout) -> usize
+        ensures value { result ≡ region_size layout self }
+        ensures at_most { result ≤ 512 }
+    {
+        match self {
+            Region::Record => layout.size(),
+            Region::Stack => STACK_SIZE,
+        }
+    }
 }
 
 /// A byte of a region, counted from 0, or the place one past its end.

@@ -2,7 +2,7 @@
 
 ghost use Rattle.std.specs.Prelude.{◌≡◌, Some};
 ghost use Rattle.insn.specs.FaultTexts.{verify_fault_text};
-ghost use Rattle.insn.specs.Faults.{look_fault_at};
+ghost use Rattle.insn.specs.Faults.{look_fault_at, walk_fault_at};
 
 use std::fmt::{self, Display, Formatter, Write};
 
@@ -93,4 +93,22 @@ pub enum WalkFault {
     PointerMisuse,
     ExitsWithPointer,
     PointerRange,
+}
+
+impl WalkFault {
+    /// The fault at a slot.
+    pub fn at(self, slot: usize) -> VerifyFault
+        ensures { result ≡ walk_fault_at self slot }
+    {
+        match self {
+            WalkFault::FallsOff => VerifyFault::FallsOff(slot),
+            WalkFault::UnsetRegister => VerifyFault::UnsetRegister(slot),
+            WalkFault::UnsetByte => VerifyFault::UnsetByte(slot),
+            WalkFault::OutOfRegion => VerifyFault::OutOfRegion(slot),
+            WalkFault::ReadOnlyField => VerifyFault::ReadOnlyField(slot),
+            WalkFault::PointerMisuse => VerifyFault::PointerMisuse(slot),
+            WalkFault::ExitsWithPointer => VerifyFault::ExitsWithPointer(slot),
+            WalkFault::PointerRange => VerifyFault::PointerRange(slot),
+        }
+    }
 }

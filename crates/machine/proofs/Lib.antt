@@ -1,4 +1,3 @@
 pub mod Numbers
-pub mod Pointers
-pub mod Parts
+pub mod Writing
 pub mod Runs

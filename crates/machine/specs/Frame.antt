@@ -1,8 +1,5 @@
 -- What one instruction does to the registers, the stack and the record.
 use Rattle.std.specs.Prelude.{◌≡◌, ℕ, List, Option, Some, None, Bool, true, false}
-use Rattle.insn.specs.declared.instruction.Insn.{Insn}
-use Rattle.insn.specs.declared.instruction.Insn.TheVariants.{Alu64Imm, Alu64Reg, Alu32Imm, Alu32Reg, Divide, Remainder, Negate, MoveSigned, SwapBytes, LoadWide, Load, LoadSigned, StoreReg, StoreImm, Jump, JumpLong, Jump64IfImm, Jump64IfReg, Jump32IfImm, Jump32IfReg}
-use Rattle.insn.specs.declared.instruction.Insn.TheVariants as insn
 use Rattle.insn.specs.Values.{State}
 use Rattle.insn.specs.Step.{Effect, Falls, Jumps, Exits}
 use Rattle.machine.specs.declared.frame.Frame.{Frame}
@@ -32,36 +29,3 @@ DoesInFrame what flow old new = (bytes : List ℕ) → Does what flow (state_of 
 abbrev pub Writes : (State → Option State) → Bool → State → State → Type 0
 Writes what true old new = what old ≡ Some new
 Writes what false old new = (what old ≡ None) × (new ≡ old)
-
--- the instructions that set a register from registers and numbers
-abbrev pub is_computing : Insn → Bool
-is_computing (Alu64Imm op dst imm) = true
-is_computing (Alu64Reg op dst src) = true
-is_computing (Alu32Imm op dst imm) = true
-is_computing (Alu32Reg op dst src) = true
-is_computing (Divide width signedness dst operand) = true
-is_computing (Remainder width signedness dst operand) = true
-is_computing (Negate width dst) = true
-is_computing (MoveSigned extension dst src) = true
-is_computing (SwapBytes kind bits dst) = true
-is_computing (LoadWide dst value) = true
-is_computing i = false
-
--- the loads and the stores
-abbrev pub is_access : Insn → Bool
-is_access (Load size dst src offset) = true
-is_access (LoadSigned size dst src offset) = true
-is_access (StoreReg size dst src offset) = true
-is_access (StoreImm size dst offset imm) = true
-is_access i = false
-
--- the jumps and the exit
-abbrev pub is_leading : Insn → Bool
-is_leading (Jump offset) = true
-is_leading (JumpLong offset) = true
-is_leading (Jump64IfImm cond dst offset imm) = true
-is_leading (Jump64IfReg cond dst src offset) = true
-is_leading (Jump32IfImm cond dst offset imm) = true
-is_leading (Jump32IfReg cond dst src offset) = true
-is_leading insn.Exit = true
-is_leading i = false

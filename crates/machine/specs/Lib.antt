@@ -1,3 +1,2 @@
 pub mod Frame
 pub mod Outcome
-pub mod Registers

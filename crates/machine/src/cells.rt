@@ -22,7 +22,6 @@ pub fn parts(pointer: Pointer) -> [Cell; 8]
 }
 
 /// Whether cells are the parts of a pointer, from one of them to the last.
-#[tactic(auto, using(crate::proofs::Pointers::same_pointer_equal, crate::proofs::Pointers::same_pointer_is))]
 fn is_parts(pointer: Pointer, from: usize, cells: &[Cell]) -> bool
     requires { from + length cells.now < 256 }
     ensures { result ≡ are_parts pointer from cells.now }

@@ -6,11 +6,7 @@
 
 mod cells;
 mod frame;
-pub mod laws;
 mod memory;
-mod places;
 mod registers;
 pub mod run;
-#[cfg(test)]
-mod tests;
 mod values;

@@ -1,15 +1,18 @@
-//! Reading and writing cells and bytes at a place.
+//! Where accesses lie, and what bytes of the record hold.
 
-ghost use Rattle.std.specs.Prelude.{◌≡◌, ◌≤◌, length, map, if◌then◌else◌, false, Some, None};
-ghost use Rattle.insn.specs.Memory.{read_in, within, write_in};
+ghost use Rattle.std.specs.Prelude.{◌≡◌, ◌+◌, ◌≤◌, length, map, IfSome};
+ghost use Rattle.insn.specs.Memory.{is_writable as spec_writable, may_hold as spec_may_hold, value_in, within};
 
 use crate::cells::{cells_from, value};
-use insn::state::{Cell, Value};
+use insn::layout::Layout;
+use insn::operation::Size;
+use insn::state::{Cell, Region, Value};
 
 /// Where some bytes from a place on begin, where all lie below a size.
-fn within_size(size: usize, place: i64, count: usize) -> Option<usize>
+pub fn within_size(size: usize, place: i64, count: usize) -> Option<usize>
     requires { count ≤ 8 }
-    ensures { result ≡ within size place count }
+    ensures value { result ≡ within size place count }
+    ensures inside { IfSome result (λ at. at + count ≤ size) }
 {
     if place < 0 {
         return None;
@@ -18,37 +21,33 @@ fn within_size(size: usize, place: i64, count: usize) -> Option<usize>
     if at + count <= size { Some(at) } else { None }
 }
 
-/// What some cells from a place on hold.
-pub fn read_cells(cells: &[Cell], place: i64, count: usize) -> Option<Value>
-    requires { count ≤ 8 }
-    ensures { result ≡ read_in cells.now place count }
+/// What some bytes spell.
+pub fn read_bytes(bytes: &[u8]) -> Option<Value>
+    requires { length bytes.now ≤ 8 }
+    ensures { result ≡ value_in (map Cell.Byte bytes.now) }
 {
-    let at = within_size(cells.len(), place, count)?;
-    value(&cells[at..at + count])
+    let cells = cells_from(bytes);
+    value(&cells[..bytes.len()])
 }
 
-/// What some bytes from a place on spell.
-pub fn read_bytes(bytes: &[u8], place: i64, count: usize) -> Option<Value>
-    requires { count ≤ 8 }
-    ensures { result ≡ read_in (map Cell.Byte bytes.now) place count }
+/// Whether some bytes of a region may be written.
+pub fn is_writable(layout: Layout, region: Region, at: usize, count: usize) -> bool
+    requires { (at ≤ 512) × (count ≤ 8) }
+    ensures { result ≡ spec_writable layout region at count }
 {
-    let at = within_size(bytes.len(), place, count)?;
-    let cells = cells_from(&bytes[at..at + count]);
-    value(&cells[..count])
+    match region {
+        Region::Record => layout.writable_from() <= at && at + count <= layout.writable_to(),
+        Region::Stack => true,
+    }
 }
 
-/// Writes new items from a place on, where they lie from one place on and below another. Says whether they do.
-pub fn write_within<T: Copy>(items: &mut [T], from: usize, to: usize, place: i64, new: &[T]) -> bool
-    requires inside { to ≤ length items.old }
-    requires short { length new.now ≤ 8 }
-    ensures written { write_in items.old from to place new.now ≡ (if result then Some items.new else None) }
-    ensures refused { result ≡ false → items.new ≡ items.old }
+/// Whether a value of a size may stand somewhere.
+pub fn may_hold(region: Region, at: usize, size: Size, value: Value) -> bool
+    ensures value { result ≡ spec_may_hold region at size value }
 {
-    match within_size(to, place, new.len()) {
-        Some(at) if from <= at => {
-            items[at..at + new.len()].copy_from_slice(new);
-            true
-        }
+    match (region, size, value) {
+        (_, _, Value::Number(_)) => true,
+        (Region::Stack, Size::Eight, Value::Address(_)) => at % 8 == 0,
         _ => false,
     }
 }

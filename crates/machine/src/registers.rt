@@ -1,12 +1,10 @@
 //! The registers.
 
 ghost use Rattle.std.specs.Prelude.{◌≡◌, [], None, Some, false, if◌then◌else◌};
-ghost use Rattle.machine.specs.Registers.{number_held};
-ghost use Rattle.insn.specs.Values.{entry, held, set_register};
+ghost use Rattle.insn.specs.Values.{entry, number_of, set_register, value_of};
 
-use crate::run::STACK_SIZE;
 use insn::register::RegNo;
-use insn::state::{Pointer, Region, Value};
+use insn::state::{Pointer, Region, STACK_SIZE, Value};
 use std::marker::Model;
 
 /// The eleven registers.
@@ -44,14 +42,14 @@ impl Registers {
 
     /// What a register holds.
     pub fn get(&self, register: RegNo) -> Option<Value>
-        ensures { result ≡ held self.now register }
+        ensures { result ≡ value_of self.now register }
     {
         self.values[register.number()]
     }
 
     /// The number that a register holds.
     pub fn number(&self, register: RegNo) -> Option<u64>
-        ensures { result ≡ number_held self.now register }
+        ensures { result ≡ number_of self.now register }
     {
         match self.get(register)? {
             Value::Number(number) => Some(number),

@@ -5,12 +5,9 @@ ghost use Rattle.insn.specs.Values.{record_size};
 ghost use Rattle.machine.specs.Outcome.{IsOutcome};
 
 use crate::frame::{Flow, Frame};
-use crate::places::target;
 use insn::layout::Layout;
+use insn::places::target;
 use insn::program::Program;
-
-/// How many bytes the stack of a run has.
-pub const STACK_SIZE: usize = 512;
 
 /// How a run ends.
 #[derive(Clone, Copy, Debug, PartialEq, Eq)]

@@ -2,24 +2,12 @@
 
 ghost use Rattle.std.specs.Prelude.{◌≡◌};
 ghost use Rattle.insn.specs.Memory.{place_of};
-ghost use Rattle.insn.specs.Step.{moved as spec_moved, result_of, word_of};
-ghost use Rattle.insn.specs.Values.{region_size as spec_size};
+ghost use Rattle.insn.specs.Step.{moved_pointer as spec_moved, result_of, word_of};
 
-use crate::run::STACK_SIZE;
 use insn::layout::Layout;
 use insn::operation::{BinOp, Width};
-use insn::state::{Pointer, Region, Value};
+use insn::state::{Pointer, Value};
 use word::alu;
-
-/// How many bytes a region has.
-fn region_size(layout: Layout, region: Region) -> usize
-    ensures { result ≡ spec_size layout region }
-{
-    match region {
-        Region::Record => layout.size(),
-        Region::Stack => STACK_SIZE,
-    }
-}
 
 /// The place so far behind a pointer, or before it.
 pub fn place(pointer: Pointer, offset: i16) -> i64
@@ -36,10 +24,10 @@ pub fn immediate(imm: i32) -> Value
 }
 
 /// A pointer moved to an offset, where that is in its region or one past its end.
-fn moved(layout: Layout, pointer: Pointer, to: u64) -> Option<Value>
+fn moved_pointer(layout: Layout, pointer: Pointer, to: u64) -> Option<Value>
     ensures { result ≡ spec_moved layout pointer to }
 {
-    if to <= region_size(layout, pointer.region) as u64 {
+    if to <= pointer.region.size(layout) as u64 {
         Some(Value::Address(Pointer {
             region: pointer.region,
             offset: to as u16,
@@ -58,10 +46,10 @@ pub fn on_values(layout: Layout, width: Width, op: BinOp, a: Value, b: Value) ->
         (Width::W64, BinOp::Mov, Value::Number(_), Value::Address(_)) => Some(b),
         (Width::W64, BinOp::Add, Value::Address(p), Value::Number(n))
         | (Width::W64, BinOp::Add, Value::Number(n), Value::Address(p)) => {
-            moved(layout, p, u64::from(p.offset).wrapping_add(n))
+            moved_pointer(layout, p, u64::from(p.offset).wrapping_add(n))
         }
         (Width::W64, BinOp::Sub, Value::Address(p), Value::Number(n)) => {
-            moved(layout, p, u64::from(p.offset).wrapping_sub(n))
+            moved_pointer(layout, p, u64::from(p.offset).wrapping_sub(n))
         }
         _ => None,
     }
