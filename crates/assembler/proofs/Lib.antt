@@ -1,7 +1,6 @@
 pub mod Jumps
 pub mod Lines
-pub mod Looking
-pub mod Names
+pub mod SheetReading
 pub mod Numbers
 pub mod Reading
 pub mod Refuted

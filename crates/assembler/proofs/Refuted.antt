@@ -8,69 +8,23 @@ use Rattle.std.proofs.lemmas.Bool.{or_left, or_right, or_cases, and_parts, leb-t
 use Rattle.std.proofs.lemmas.Slice.Eq.{bytes_eq-Decides}
 use Rattle.std.proofs.lemmas.List.Sums.{sum_by-append, sum_by-cons}
 use Rattle.insn.specs.declared.instruction.Insn.{Insn}
-use Rattle.insn.specs.declared.instruction.Insn.TheVariants as insn
 use Rattle.insn.specs.Instruction.{slots_of}
 use Rattle.insn.specs.Program.{slot_count, SLOT_LIMIT}
-use Rattle.insn.specs.Text.{Word, is_digit, is_positive, is_natural, is_number, is_distance, is_name, Operand, Register, Number, Target, name_of, operands_of, distance_word, Line, Blank, Label, Statement, lines_in, SaysOperand, SaysOperands, SaysInsn, labels_in, names_in, AllDiffer, Text}
-use Rattle.assembler.specs.declared.mnemonic.Mnemonic.{Mnemonic}
-use Rattle.assembler.specs.declared.mnemonic.Mnemonic.TheVariants.{Alu, Divide, Remainder, Negate, MoveSigned, SwapBytes, LoadWide, Load, LoadSigned, StoreReg, StoreImm, Jump, JumpLong, JumpIf, Exit}
-use Rattle.assembler.specs.Mnemonics.{mnemonic_of}
+use Rattle.insn.specs.Text.{Word, is_digit, is_positive, is_natural, is_number, is_distance, is_name, Operand, Register, Number, Target, operands_of, distance_word, Line, Blank, Label, Statement, lines_in, SaysOperand, SaysOperands, SaysInsn, labels_in, names_in, AllDiffer, Text}
+use Rattle.insn.specs.Text.{mnemonic_of}
 use Rattle.assembler.specs.declared.fault.AsmFault.{AsmFault}
 use Rattle.assembler.specs.declared.fault.AsmFault.TheVariants.{UnknownWord, BadOperand, OutOfRange, UnknownLabel, DoubleLabel, TooLong, Memory, NoInstruction}
-use Rattle.assembler.specs.Faults.{Anywhere, OneOf, SaysFitting, Drafts, FirstWrong, FirstLost, FirstFault, HasName, HasFormOf, HaveForms, HasForm, HasUnknownWord, HasBadOperand, IsOutOfRange, IsDoubleLabel, IsTooLong, LacksLabel}
+use Rattle.assembler.specs.Faults.{Anywhere, OneOf, SaysFitting, Drafts, FirstWrong, FirstLost, FirstTextFault, HasName, HasFormOf, HaveForms, HasForm, HasUnknownWord, HasBadOperand, IsOutOfRange, IsDoubleLabel, IsTooLong, LacksLabel}
 use Rattle.assembler.proofs.Numbers.{decimal_natural, decimal_positive}
 use Rattle.assembler.proofs.Reading.{Field, AReg, ASource, AnImm, AnOffset, AWide, ANear, AFar, FitsIn, FitIn, fields_of, fit_fields}
-use Rattle.assembler.proofs.Statements.{of_mnemonic, name_by_mnemonic}
+use Rattle.insn.specs.TextNameLaws.{same_slots}
 use Rattle.assembler.proofs.Texts.{labels_named, says_drafts, split_drafts, names_append, not_differ}
 
 -- ---- slots by names
 
-abbrev slots_by : Mnemonic → ℕ
-slots_by (Alu width op) = 1
-slots_by (Divide width signedness) = 1
-slots_by (Remainder width signedness) = 1
-slots_by (Negate width) = 1
-slots_by (MoveSigned extension) = 1
-slots_by (SwapBytes kind bits) = 1
-slots_by LoadWide = 2
-slots_by (Load size) = 1
-slots_by (LoadSigned size) = 1
-slots_by (StoreReg size) = 1
-slots_by (StoreImm size) = 1
-slots_by Jump = 1
-slots_by JumpLong = 1
-slots_by (JumpIf width cond) = 1
-slots_by Exit = 1
-
-slots_mnemonic : (i : Insn) → slots_of i ≡ slots_by (mnemonic_of i)
-slots_mnemonic (insn.Alu64Imm op dst imm) = refl
-slots_mnemonic (insn.Alu64Reg op dst src) = refl
-slots_mnemonic (insn.Alu32Imm op dst imm) = refl
-slots_mnemonic (insn.Alu32Reg op dst src) = refl
-slots_mnemonic (insn.Divide width signedness dst operand) = refl
-slots_mnemonic (insn.Remainder width signedness dst operand) = refl
-slots_mnemonic (insn.Negate width dst) = refl
-slots_mnemonic (insn.MoveSigned extension dst src) = refl
-slots_mnemonic (insn.SwapBytes kind bits dst) = refl
-slots_mnemonic (insn.LoadWide dst value) = refl
-slots_mnemonic (insn.Load size dst src offset) = refl
-slots_mnemonic (insn.LoadSigned size dst src offset) = refl
-slots_mnemonic (insn.StoreReg size dst src offset) = refl
-slots_mnemonic (insn.StoreImm size dst offset imm) = refl
-slots_mnemonic (insn.Jump offset) = refl
-slots_mnemonic (insn.JumpLong offset) = refl
-slots_mnemonic (insn.Jump64IfImm cond dst offset imm) = refl
-slots_mnemonic (insn.Jump64IfReg cond dst src offset) = refl
-slots_mnemonic (insn.Jump32IfImm cond dst offset imm) = refl
-slots_mnemonic (insn.Jump32IfReg cond dst src offset) = refl
-slots_mnemonic insn.Exit = refl
-
-pub same_slots : (w : Word) (i j : Insn) → w ≡ name_of i → w ≡ name_of j → slots_of i ≡ slots_of j
-same_slots w i j e h = let same = of_mnemonic w (mnemonic_of j) i (h ∙ name_by_mnemonic j) e in slots_mnemonic i ∙ ap slots_by same ∙ sym (slots_mnemonic j)
-
 pub said_slots : (L M : Word → ℤ → Type 0) (ws : List Word) (i j : Insn) → SaysInsn L i ws → SaysInsn M j ws → slots_of i ≡ slots_of j
 said_slots L M [] i j h k = absurd h
-said_slots L M (w ∷ ws) i j h k = same_slots w i j h.0 k.0
+said_slots L M (w ∷ ws) i j h k = same_slots i j (sym h.0 ∙ k.0)
 
 pub drafts_slots : (L M : Word → ℤ → Type 0) (lines : List Line) (p q : List Insn) → Drafts L lines p → Drafts M lines q → slot_count p ≡ slot_count q
 drafts_slots L M [] [] [] h k = refl
@@ -224,7 +178,7 @@ no_first_lost text n p f t =
     not_lost names f.here f.after k.back f.lost k.second
 
 -- the law
-pub only_memory : (text : List ℕ) (f : AsmFault) → FirstFault text f → (p : List Insn) → Text text p → f ≡ Memory
+pub only_memory : (text : List ℕ) (f : AsmFault) → FirstTextFault text f → (p : List Insn) → Text text p → f ≡ Memory
 only_memory text (UnknownWord n) h p t = absurd (no_first_wrong HasUnknownWord no_unknown_word text n p h t)
 only_memory text (BadOperand n) h p t = absurd (no_first_wrong HasBadOperand no_bad_operand text n p h t)
 only_memory text (OutOfRange n) h p t = absurd (no_first_wrong IsOutOfRange no_out_of_range text n p h t)

@@ -9,25 +9,25 @@ use Rattle.std.proofs.lemmas.List.Sums.{sum_by-cons}
 use Rattle.std.proofs.lemmas.Int.{ints}
 use Rattle.insn.specs.declared.instruction.Insn.{Insn}
 use Rattle.insn.specs.Instruction.{slots_of, Fits}
-use Rattle.insn.specs.Slots.{slots_of_bounds}
+use Rattle.insn.specs.SlotLaws.{slots_of_bounds}
 use Rattle.insn.specs.Program.{slot_count, IsProgram}
 use Rattle.insn.specs.Text.{Word, operands_of, Line, Blank, Label, Statement, SaysInsn, SaysOperands, labels_in, slot_of, LeadsTo, Says, names_in, lines_in, Text}
-use Rattle.assembler.specs.declared.mnemonic.Mnemonic.{Mnemonic}
+use Rattle.insn.specs.declared.mnemonic.Mnemonic.{Mnemonic}
 use Rattle.assembler.specs.declared.draft.Jump.{Jump}
 use Rattle.assembler.specs.declared.draft.Jump.TheVariants.{Always, Long, If64Imm, If64Reg, If32Imm, If32Reg}
 use Rattle.assembler.specs.declared.draft.Draft.{Draft}
 use Rattle.assembler.specs.declared.draft.Draft.TheVariants.{Whole, ToLabel}
-use Rattle.assembler.specs.declared.look.Place.{Place}
-use Rattle.assembler.specs.Mnemonics.{mnemonic_of, name_by}
-use Rattle.assembler.specs.Faults.{Anywhere, OneOf, SaysFitting, AreRight, FirstLost, FirstFault}
+use Rattle.assembler.specs.declared.sheet.Place.{Place}
+use Rattle.insn.specs.Text.{mnemonic_of, mnemonic_name}
+use Rattle.assembler.specs.Faults.{Anywhere, OneOf, SaysFitting, AreRight, FirstLost, FirstTextFault}
 use Rattle.assembler.specs.Drafts.{draft_slots, jump_over, Nowhere, At, IsDraft, SaysDraft}
 use Rattle.assembler.specs.Sheets.{AreFrom, with_zero, zeroed, IsSheet, resolution, resolution_of, FirstLostPlace, Unresolved}
 use Rattle.assembler.specs.declared.fault.AsmFault.{AsmFault}
 use Rattle.assembler.specs.declared.fault.AsmFault.TheVariants.{UnknownWord, BadOperand, OutOfRange, UnknownLabel, DoubleLabel, TooLong, Memory, NoInstruction}
 use Rattle.assembler.proofs.Refuted.{only_memory}
-use Rattle.assembler.proofs.Statements.{name_by_mnemonic, of_mnemonic}
+use Rattle.assembler.proofs.Statements.{of_mnemonic}
 use Rattle.assembler.proofs.Texts.{operands_more, says_drafts, labels_named}
-use Rattle.assembler.proofs.Looking.{are_drafts, zero_slots, name_labelled, some_none}
+use Rattle.assembler.proofs.SheetReading.{are_drafts, zero_slots, name_labelled, some_none}
 
 -- ---- one place
 
@@ -55,25 +55,25 @@ pub record IsSaid (labels : List (Word × ℕ)) (behind slots : ℕ) (words : Li
   pub fit : Fits i
   pub takes : slots_of i ≡ slots
 
-said_by : (L M : Word → ℤ → Type 0) (m : Mnemonic) (ops : List Word) (i : Insn) → mnemonic_of i ≡ m → SaysOperands L (operands_of i) ops → ((w : Word) (d : ℤ) → L w d → M w d) → SaysInsn M i (name_by m ∷ ops)
-said_by L M m ops i e s more = (ap name_by (sym e) ∙ sym (name_by_mnemonic i), operands_more L M more (operands_of i) ops s)
+said_by : (L M : Word → ℤ → Type 0) (m : Mnemonic) (ops : List Word) (i : Insn) → mnemonic_of i ≡ m → SaysOperands L (operands_of i) ops → ((w : Word) (d : ℤ) → L w d → M w d) → SaysInsn M i (mnemonic_name m ∷ ops)
+said_by L M m ops i e s more = (ap mnemonic_name (sym e), operands_more L M more (operands_of i) ops s)
 
 at_label : (labels : List (Word × ℕ)) (b t : ℕ) (name : Word) → slot_of labels name ≡ Some t → (w : Word) (d : ℤ) → At name (pos t -ℤ pos b) w d → LeadsTo labels b w d
 at_label labels b t name e w d k = (t, subst (λ (x : Word). slot_of labels x ≡ Some t) k.0 e, subst (λ (x : ℤ). pos t ≡ pos b +ℤ x) k.1 (there t b))
 
-label_said : (labels : List (Word × ℕ)) (find : Word → Option ℕ) (b : ℕ) (m : Mnemonic) (ops : List Word) (jump : Jump) (name : Bor Word) (i : Insn) (o : Option ℕ) → SaysDraft m ops (ToLabel jump name) → ((q : Word) → find q ≡ slot_of labels q) → ((q : Word) (t : ℕ) → find q ≡ Some t → t ≤ 4096) → b ≤ 4096 → find name.now ≡ o → option_map (λ to. jump_over jump (pos to -ℤ pos b)) o ≡ Some i → IsSaid labels b 1 (name_by m ∷ ops) i
+label_said : (labels : List (Word × ℕ)) (find : Word → Option ℕ) (b : ℕ) (m : Mnemonic) (ops : List Word) (jump : Jump) (name : Bor Word) (i : Insn) (o : Option ℕ) → SaysDraft m ops (ToLabel jump name) → ((q : Word) → find q ≡ slot_of labels q) → ((q : Word) (t : ℕ) → find q ≡ Some t → t ≤ 4096) → b ≤ 4096 → find name.now ≡ o → option_map (λ to. jump_over jump (pos to -ℤ pos b)) o ≡ Some i → IsSaid labels b 1 (mnemonic_name m ∷ ops) i
 label_said labels find b m ops jump name i None h same low l f e = absurd (some_none (sym e))
 label_said labels find b m ops jump name i (Some t) h same low l f e =
     let j = h.0 (pos t -ℤ pos b) (near t b (low name.now t f) l) in
-    subst (λ (x : Insn). IsSaid labels b 1 (name_by m ∷ ops) x) (some_same e) (record {
+    subst (λ (x : Insn). IsSaid labels b 1 (mnemonic_name m ∷ ops) x) (some_same e) (record {
       said = said_by (At name.now (pos t -ℤ pos b)) (LeadsTo labels b) m ops (jump_over jump (pos t -ℤ pos b)) j.named j.said (at_label labels b t name.now (sym (same name.now) ∙ f));
       fit = j.fit;
       takes = jump_slots jump (pos t -ℤ pos b);
     })
 
-draft_said : (labels : List (Word × ℕ)) (find : Word → Option ℕ) (b : ℕ) (m : Mnemonic) (ops : List Word) (d : Draft) (i : Insn) → SaysDraft m ops d → ((q : Word) → find q ≡ slot_of labels q) → ((q : Word) (t : ℕ) → find q ≡ Some t → t ≤ 4096) → b ≤ 4096 → resolution_of find b d ≡ Some i → IsSaid labels b (draft_slots d) (name_by m ∷ ops) i
+draft_said : (labels : List (Word × ℕ)) (find : Word → Option ℕ) (b : ℕ) (m : Mnemonic) (ops : List Word) (d : Draft) (i : Insn) → SaysDraft m ops d → ((q : Word) → find q ≡ slot_of labels q) → ((q : Word) (t : ℕ) → find q ≡ Some t → t ≤ 4096) → b ≤ 4096 → resolution_of find b d ≡ Some i → IsSaid labels b (draft_slots d) (mnemonic_name m ∷ ops) i
 draft_said labels find b m ops (Whole j) i h same low l e =
-    subst (λ (x : Insn). IsSaid labels b (slots_of j) (name_by m ∷ ops) x) (some_same e) (record { said = said_by Nowhere (LeadsTo labels b) m ops j h.0 h.2 (λ w d k. absurd k); fit = h.1; takes = refl })
+    subst (λ (x : Insn). IsSaid labels b (slots_of j) (mnemonic_name m ∷ ops) x) (some_same e) (record { said = said_by Nowhere (LeadsTo labels b) m ops j h.0 h.2 (λ w d k. absurd k); fit = h.1; takes = refl })
 draft_said labels find b m ops (ToLabel jump name) i h same low l e = label_said labels find b m ops jump name i (find name.now) h same low l refl e
 
 place_said : (labels : List (Word × ℕ)) (find : Word → Option ℕ) (words : List Word) (p : Place) (i : Insn) → IsDraft words p.draft → ((q : Word) → find q ≡ slot_of labels q) → ((q : Word) (t : ℕ) → find q ≡ Some t → t ≤ 4096) → p.behind.number ≤ 4096 → resolution find p ≡ Some i → IsSaid labels p.behind.number (draft_slots p.draft) words i
@@ -130,16 +130,16 @@ labels_low s (Statement words ∷ lines) [] q t top l e = absurd (some_none (sym
 labels_low s (Statement words ∷ lines) (i ∷ p) q t top l e = let c = sum_by-cons slots_of i p in labels_low (s + slots_of i) lines p q t top (omega arith) e
 
 pub find_low : (lines : List Line) (ps : List Place) (find : Word → Option ℕ) → IsSheet lines ps find → (q : Word) (t : ℕ) → find q ≡ Some t → t ≤ 4096
-find_low lines ps find h q t e = labels_low 0 lines (zeroed ps) q t 4096 (let k = h.short in omega arith) (sym (h.looked.labels q) ∙ e)
+find_low lines ps find h q t e = labels_low 0 lines (zeroed ps) q t 4096 (let k = h.short in omega arith) (sym (h.lines_read.labels q) ∙ e)
 
 pub sheet_said : (lines : List Line) (ps : List Place) (find : Word → Option ℕ) (insns : List Insn) → IsSheet lines ps find → map Some insns ≡ map (resolution find) ps → AreSaid (labels_in 0 lines (zeroed ps)) 0 lines ps insns
-sheet_said lines ps find insns h e = are_said (labels_in 0 lines (zeroed ps)) find h.looked.labels (find_low lines ps find h) 0 0 lines ps insns h.looked.stand e
+sheet_said lines ps find insns h e = are_said (labels_in 0 lines (zeroed ps)) find h.lines_read.labels (find_low lines ps find h) 0 0 lines ps insns h.lines_read.stand e
 
 -- the instructions of a text
 pub is_text : (text : List ℕ) (ps : List Place) (find : Word → Option ℕ) (insns : List Insn) → IsSheet (lines_in text) ps find → map Some insns ≡ map (resolution find) ps → IsProgram insns → Text text insns
 is_text text ps find insns h e p =
     let k = sheet_said (lines_in text) ps find insns h e in
-    record { in_bounds = p; fit = k.fit; differ = h.looked.differ; said = subst (λ (ls : List (Word × ℕ)). Says ls 0 (lines_in text) insns) (sym k.same_labels) k.said }
+    record { in_bounds = p; fit = k.fit; differ = h.lines_read.differ; said = subst (λ (ls : List (Word × ℕ)). Says ls 0 (lines_in text) insns) (sym k.same_labels) k.said }
 
 -- ---- a label that stands nowhere
 
@@ -160,10 +160,10 @@ found n s (Label name ∷ lines) front p back h = let k = found (n + 1) s lines 
 found n s (Statement words ∷ lines) [] p back h = record { before = []; words = words; after = lines; parts = refl; stand = tt; counted = let c = h.1 in omega arith; draft = h.0 }
 found n s (Statement words ∷ lines) (q ∷ front) p back h = let k = found (n + 1) q.behind.number lines front p back h.3 in record { before = Statement words ∷ k.before; words = k.words; after = k.after; parts = ap (λ (x : List Line). Statement words ∷ x) k.parts; stand = (h.0, h.1, h.2, k.stand); counted = let c = k.counted in omega arith; draft = k.draft }
 
-lacks : (names : List Word) (m : Mnemonic) (ops : List Word) (d : Draft) (find : Word → Option ℕ) (b : ℕ) → ((q : Word) → find q ≡ None → list_any (bytes_eq q) names ≡ false) → SaysDraft m ops d → resolution_of find b d ≡ None → (i : Insn) → SaysFitting (OneOf names) i (name_by m ∷ ops) → ⊥
+lacks : (names : List Word) (m : Mnemonic) (ops : List Word) (d : Draft) (find : Word → Option ℕ) (b : ℕ) → ((q : Word) → find q ≡ None → list_any (bytes_eq q) names ≡ false) → SaysDraft m ops d → resolution_of find b d ≡ None → (i : Insn) → SaysFitting (OneOf names) i (mnemonic_name m ∷ ops) → ⊥
 lacks names m ops (Whole j) find b none h e i k = absurd (some_none e)
 lacks names m ops (ToLabel jump name) find b none h e i k =
-    both_ways (list_any (bytes_eq name.now) names) (none name.now (nowhere (find name.now) e)) (h.1 names i (of_mnemonic (name_by m) m i refl k.0.0) k.1 k.0.1)
+    both_ways (list_any (bytes_eq name.now) names) (none name.now (nowhere (find name.now) e)) (h.1 names i (of_mnemonic (mnemonic_name m) m i refl k.0.0) k.1 k.0.1)
   where
     nowhere : (o : Option ℕ) → option_map (λ to. jump_over jump (pos to -ℤ pos b)) o ≡ None → o ≡ None
     nowhere None e = refl
@@ -173,9 +173,9 @@ pub lost_label : (lines : List Line) (ps : List Place) (find : Word → Option �
 lost_label lines ps find line h f =
     let names = names_in lines in
     let labels = labels_in 0 lines (zeroed ps) in
-    let k = found 0 0 lines f.front f.here f.back (subst (λ (x : List Place). AreFrom 0 0 lines x) f.parts h.looked.stand) in
-    let said = are_said labels find h.looked.labels (find_low lines ps find h) 0 0 k.before f.front f.known k.stand f.resolved in
-    let none = λ (q : Word) (e : find q ≡ None). name_labelled Anywhere 0 lines (zeroed ps) q (are_drafts 0 0 lines ps h.looked.stand) (sym (h.looked.labels q) ∙ e) in
+    let k = found 0 0 lines f.front f.here f.back (subst (λ (x : List Place). AreFrom 0 0 lines x) f.parts h.lines_read.stand) in
+    let said = are_said labels find h.lines_read.labels (find_low lines ps find h) 0 0 k.before f.front f.known k.stand f.resolved in
+    let none = λ (q : Word) (e : find q ≡ None). name_labelled Anywhere 0 lines (zeroed ps) q (are_drafts 0 0 lines ps h.lines_read.stand) (sym (h.lines_read.labels q) ∙ e) in
     record {
       before = k.before;
       here = Statement k.words;
@@ -184,7 +184,7 @@ lost_label lines ps find line h f =
       known = f.known;
       parts = k.parts;
       counted = let a = f.told in let b = k.counted in omega arith;
-      right = record { drafted = are_drafts 0 0 lines ps h.looked.stand; short = h.short; differ = h.looked.differ };
+      right = record { drafted = are_drafts 0 0 lines ps h.lines_read.stand; short = h.short; differ = h.lines_read.differ };
       found = says_drafts labels (OneOf names) (λ b w d l. labels_named 0 lines (zeroed ps) w l.0 l.1) 0 k.before f.known said.fit said.said;
       lost = λ i l. lacks names k.draft.mnemonic k.draft.operands f.here.draft find f.here.behind.number none k.draft.said f.lost i (subst (λ (ws : List Word). SaysFitting (OneOf names) i ws) k.draft.parts l);
     }
@@ -192,7 +192,7 @@ lost_label lines ps find line h f =
 -- ---- no instruction
 
 pub no_instruction : (lines : List Line) (ps : List Place) (find : Word → Option ℕ) (insns : List Insn) → IsSheet lines ps find → map Some insns ≡ map (resolution find) ps → (IsProgram insns → ⊥) → AreRight lines []
-no_instruction lines [] find insns h e none = record { drafted = are_drafts 0 0 lines [] h.looked.stand; short = h.short; differ = h.looked.differ }
+no_instruction lines [] find insns h e none = record { drafted = are_drafts 0 0 lines [] h.lines_read.stand; short = h.short; differ = h.lines_read.differ }
 no_instruction lines (p ∷ ps) find insns h e none =
     let k = sheet_said lines (p ∷ ps) find insns h e in
     let c = sum_by-cons slots_of (with_zero p.draft) (zeroed ps) in
@@ -217,7 +217,7 @@ lost_place find ps i d known p l e h none = record {
   told = refl;
 }
 
-pub unresolved_fault : (text : List ℕ) (lines : List Line) (ps : List Place) (find : Word → Option ℕ) (f : AsmFault) → lines ≡ lines_in text → IsSheet lines ps find → Unresolved find ps f → FirstFault text f
+pub unresolved_fault : (text : List ℕ) (lines : List Line) (ps : List Place) (find : Word → Option ℕ) (f : AsmFault) → lines ≡ lines_in text → IsSheet lines ps find → Unresolved find ps f → FirstTextFault text f
 unresolved_fault text lines ps find (UnknownLabel line) e h u = subst (λ (ls : List Line). FirstLost ls line) e (lost_label lines ps find line h u)
 unresolved_fault text lines ps find Memory e h u = tt
 unresolved_fault text lines ps find (UnknownWord line) e h u = absurd u
@@ -227,6 +227,6 @@ unresolved_fault text lines ps find (DoubleLabel line) e h u = absurd u
 unresolved_fault text lines ps find (TooLong line) e h u = absurd u
 unresolved_fault text lines ps find NoInstruction e h u = absurd u
 
-pub only_err : {P : Type 0} (r : Result P AsmFault) (text : List ℕ) → IfErr r (FirstFault text) → IfErr r (λ fault. (program : List Insn) → Text text program → fault ≡ Memory)
+pub only_err : {P : Type 0} (r : Result P AsmFault) (text : List ℕ) → IfErr r (FirstTextFault text) → IfErr r (λ fault. (program : List Insn) → Text text program → fault ≡ Memory)
 only_err (Ok x) text h = h
 only_err (Err f) text h = only_memory text f h

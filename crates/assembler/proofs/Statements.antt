@@ -1,47 +1,24 @@
 -- Names and forms of the words of a line.
-use Rattle.std.proofs.Common.{◌≡◌, ◌≢◌, ⊎_elim, inl, inr, pos, List, [], ◌∷◌, length, map, None, refl, sym, ap, ◌∙◌, subst, arith, append-nil, Bor}
+use Rattle.std.proofs.Common.{◌≡◌, ◌≢◌, ⊎_elim, inl, inr, pos, List, [], ◌∷◌, length, map, None, refl, sym, ap, ◌∙◌, subst, arith, Bor}
 use Rattle.insn.specs.declared.operation.Width.TheVariants.{W32, W64}
 use Rattle.insn.specs.declared.register.RegNo.TheVariants.{R0}
 use Rattle.insn.specs.declared.instruction.Insn.{Insn}
 use Rattle.insn.specs.declared.instruction.Insn.TheVariants as insn
 use Rattle.insn.specs.declared.instruction.Operand.TheVariants.{Reg, Imm}
 use Rattle.insn.specs.Text.{Word, Operand, Register, Number, Target, name_of, operands_of}
-use Rattle.assembler.specs.declared.mnemonic.Mnemonic.{Mnemonic}
-use Rattle.assembler.specs.declared.mnemonic.Mnemonic.TheVariants.{Alu, Divide, Remainder, Negate, MoveSigned, SwapBytes, LoadWide, Load, LoadSigned, StoreReg, StoreImm, Jump, JumpLong, JumpIf, Exit}
-use Rattle.assembler.specs.declared.mnemonic.OperandKind.{OperandKind}
-use Rattle.assembler.specs.declared.mnemonic.OperandKind.TheVariants as kind
-use Rattle.assembler.specs.Mnemonics.{mnemonic_of, name_by, kinds_of, IsOfKind, HaveKinds}
+use Rattle.insn.specs.declared.mnemonic.Mnemonic.{Mnemonic}
+use Rattle.insn.specs.declared.mnemonic.Mnemonic.TheVariants.{Alu, Divide, Remainder, Negate, MoveSigned, SwapBytes, LoadWide, Load, LoadSigned, StoreReg, StoreImm, Jump, JumpLong, JumpIf, Exit}
+use Rattle.assembler.specs.declared.form.OperandKind.{OperandKind}
+use Rattle.assembler.specs.declared.form.OperandKind.TheVariants as kind
+use Rattle.insn.specs.Text.{mnemonic_of, mnemonic_name}
+use Rattle.assembler.specs.Forms.{kinds_of, IsOfKind, HaveKinds}
 use Rattle.assembler.specs.Faults.{Anywhere, HasForm, HaveForms, HasName, HasFormOf, SaysFitting}
 use Rattle.assembler.specs.Drafts.{DraftOf}
-use Rattle.assembler.proofs.Names.{same_name}
-
--- an instruction's name is that of its mnemonic
-pub name_by_mnemonic : (i : Insn) → name_of i ≡ name_by (mnemonic_of i)
-name_by_mnemonic (insn.Alu64Imm op dst imm) = refl
-name_by_mnemonic (insn.Alu64Reg op dst src) = refl
-name_by_mnemonic (insn.Alu32Imm op dst imm) = refl
-name_by_mnemonic (insn.Alu32Reg op dst src) = refl
-name_by_mnemonic (insn.Divide width signedness dst operand) = refl
-name_by_mnemonic (insn.Remainder width signedness dst operand) = refl
-name_by_mnemonic (insn.Negate width dst) = refl
-name_by_mnemonic (insn.MoveSigned extension dst src) = sym (append-nil _)
-name_by_mnemonic (insn.SwapBytes kind bits dst) = refl
-name_by_mnemonic (insn.LoadWide dst value) = refl
-name_by_mnemonic (insn.Load size dst src offset) = refl
-name_by_mnemonic (insn.LoadSigned size dst src offset) = refl
-name_by_mnemonic (insn.StoreReg size dst src offset) = refl
-name_by_mnemonic (insn.StoreImm size dst offset imm) = refl
-name_by_mnemonic (insn.Jump offset) = refl
-name_by_mnemonic (insn.JumpLong offset) = refl
-name_by_mnemonic (insn.Jump64IfImm cond dst offset imm) = refl
-name_by_mnemonic (insn.Jump64IfReg cond dst src offset) = refl
-name_by_mnemonic (insn.Jump32IfImm cond dst offset imm) = refl
-name_by_mnemonic (insn.Jump32IfReg cond dst src offset) = refl
-name_by_mnemonic insn.Exit = refl
+use Rattle.insn.specs.TextNameLaws.{mnemonic_name-injective}
 
 -- an instruction of a name has its mnemonic
-pub of_mnemonic : (w : Word) (m : Mnemonic) (i : Insn) → w ≡ name_by m → w ≡ name_of i → mnemonic_of i ≡ m
-of_mnemonic w m i e h = same_name (mnemonic_of i) m (sym (name_by_mnemonic i) ∙ sym h ∙ e)
+pub of_mnemonic : (w : Word) (m : Mnemonic) (i : Insn) → w ≡ mnemonic_name m → w ≡ name_of i → mnemonic_of i ≡ m
+of_mnemonic w m i e h = mnemonic_name-injective (mnemonic_of i) m (sym h ∙ e)
 
 -- the kinds of an instruction's operands
 abbrev FitsKind : OperandKind → Operand → Type 0
@@ -217,19 +194,19 @@ example JumpLong (a ∷ x ∷ more) h = absurd h.1
 example Exit (x ∷ more) h = absurd h
 
 -- what `statement` answers
-pub no_name : (w : Word) (ws : List Word) → ((m : Mnemonic) → w ≢ name_by m) → (i : Insn) → HasName i (w ∷ ws) → ⊥
-no_name w ws none i e = none (mnemonic_of i) (e ∙ name_by_mnemonic i)
+pub no_name : (w : Word) (ws : List Word) → ((m : Mnemonic) → w ≢ mnemonic_name m) → (i : Insn) → HasName i (w ∷ ws) → ⊥
+no_name w ws none i e = none (mnemonic_of i) e
 
-pub has_name : (w : Word) (ws : List Word) (m : Mnemonic) → w ≡ name_by m → (i : Insn) × HasName i (w ∷ ws)
-has_name w ws m e = let n = named_by m in (n.0, e ∙ ap name_by (sym n.1) ∙ sym (name_by_mnemonic n.0))
+pub has_name : (w : Word) (ws : List Word) (m : Mnemonic) → w ≡ mnemonic_name m → (i : Insn) × HasName i (w ∷ ws)
+has_name w ws m e = let n = named_by m in (n.0, e ∙ ap mnemonic_name (sym n.1))
 
-pub no_form : (w : Word) (ws : List Word) (m : Mnemonic) → w ≡ name_by m → (HaveKinds (kinds_of m) ws → ⊥) → (i : Insn) → HasFormOf i (w ∷ ws) → ⊥
+pub no_form : (w : Word) (ws : List Word) (m : Mnemonic) → w ≡ mnemonic_name m → (HaveKinds (kinds_of m) ws → ⊥) → (i : Insn) → HasFormOf i (w ∷ ws) → ⊥
 no_form w ws m e none i h = none (have_kinds_of i m ws (of_mnemonic w m i e h.0) h.1)
 
-pub has_form : (w : Word) (ws : List Word) (m : Mnemonic) → w ≡ name_by m → HaveKinds (kinds_of m) ws → (i : Insn) × HasFormOf i (w ∷ ws)
-has_form w ws m e h = let x = example m ws h in (x.like, (e ∙ ap name_by (sym x.same) ∙ sym (name_by_mnemonic x.like), x.form))
+pub has_form : (w : Word) (ws : List Word) (m : Mnemonic) → w ≡ mnemonic_name m → HaveKinds (kinds_of m) ws → (i : Insn) × HasFormOf i (w ∷ ws)
+has_form w ws m e h = let x = example m ws h in (x.like, (e ∙ ap mnemonic_name (sym x.same), x.form))
 
-pub no_fitting : (w : Word) (ws : List Word) (m : Mnemonic) → w ≡ name_by m → DraftOf m ws None → (i : Insn) → SaysFitting Anywhere i (w ∷ ws) → ⊥
+pub no_fitting : (w : Word) (ws : List Word) (m : Mnemonic) → w ≡ mnemonic_name m → DraftOf m ws None → (i : Insn) → SaysFitting Anywhere i (w ∷ ws) → ⊥
 no_fitting w ws m e none i h = none i (of_mnemonic w m i e h.0.0) h.1 h.0.1
 
 abbrev pub seen : List (Bor Word) → List Word

@@ -136,5 +136,5 @@ FaultIn lines (TooLong number) = FirstWrong IsTooLong lines number
 FaultIn lines Memory = ⊤
 FaultIn lines NoInstruction = AreRight lines []
 
-abbrev pub FirstFault : List ℕ → AsmFault → Type 0
-FirstFault text fault = FaultIn (lines_in text) fault
+abbrev pub FirstTextFault : List ℕ → AsmFault → Type 0
+FirstTextFault text fault = FaultIn (lines_in text) fault

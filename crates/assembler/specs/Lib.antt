@@ -1,7 +1,7 @@
 pub mod Drafts
 pub mod Faults
+pub mod Forms
 pub mod Lines
-pub mod Mnemonics
 pub mod Operands
 pub mod Reports
 pub mod Sheets

@@ -1,20 +1,21 @@
--- What the first look keeps of lines.
+-- What is kept of the lines of a text that is read.
 use Rattle.std.specs.Prelude.{◌≡◌, ⊤, ℕ, ◌+◌, pos, ◌-ℤ◌, ◌≤◌, List, [], ◌∷◌, ◌++◌, map, Option, Some, None}
 use Rattle.std.specs.Borrow.{Bor}
-use Rattle.std.specs.Str.{bytes_eq}
-use Rattle.std.specs.HashMap.{HashMap, get_by}
+use Rattle.std.specs.BTreeMap.{BTreeMap, get_by}
+use Rattle.std.specs.Cmp.Lexicographic.{slice_cmp}
+use Rattle.std.specs.Ordering.{nat_cmp}
 use Rattle.std.specs.Option.{option_map}
 use Rattle.insn.specs.declared.instruction.Insn.{Insn}
 use Rattle.insn.specs.Program.{slot_count, SLOT_LIMIT}
 use Rattle.insn.specs.Text.{Word, Line, Blank, Label, Statement, labels_in, slot_of, names_in, AllDiffer, line_of, words_in}
-use Rattle.assembler.specs.declared.slot.Slot.{Slot}
+use Rattle.assembler.specs.declared.slot_number.SlotNumber.{SlotNumber}
 use Rattle.assembler.specs.declared.draft.Draft.{Draft}
 use Rattle.assembler.specs.declared.draft.Draft.TheVariants.{Whole, ToLabel}
 use Rattle.assembler.specs.declared.draft.WordFault.{WordFault}
 use Rattle.assembler.specs.declared.draft.WordFault.TheVariants.{UnknownWord, BadOperand, OutOfRange}
 use Rattle.assembler.specs.declared.fault.AsmFault.{AsmFault}
 use Rattle.assembler.specs.declared.fault.AsmFault.TheVariants as faults
-use Rattle.assembler.specs.declared.look.Place.{Place}
+use Rattle.assembler.specs.declared.sheet.Place.{Place}
 use Rattle.assembler.specs.Drafts.{draft_slots, jump_over, IsDraft}
 
 -- the lines of these bytes
@@ -48,18 +49,18 @@ abbrev pub resolution : (Word → Option ℕ) → Place → Option Insn
 resolution find p = resolution_of find p.behind.number p.draft
 
 -- the slot of a name in a map
-abbrev pub find_in : {S : Type 0} → HashMap (Bor (List ℕ)) Slot S → Word → Option ℕ
-find_in labels name = option_map (λ slot. slot.number) (get_by (λ key. bytes_eq name key.now) labels)
+abbrev pub find_in : BTreeMap (Bor (List ℕ)) SlotNumber → Word → Option ℕ
+find_in labels name = option_map (λ slot. slot.number) (get_by (λ key. slice_cmp nat_cmp name key.now) labels)
 
--- lines were looked at: their places and labels are these, and this is the slot behind them
-pub record AreLooked (lines : List Line) (places : List Place) (find : Word → Option ℕ) (slot : ℕ) : Type 0 where
+-- lines were read: their places and labels are these, and this is the slot behind them
+pub record AreRead (lines : List Line) (places : List Place) (find : Word → Option ℕ) (slot : ℕ) : Type 0 where
   pub stand : AreFrom 0 0 lines places
   pub behind : slot ≡ slot_count (zeroed places)
   pub labels : (name : Word) → find name ≡ slot_of (labels_in 0 lines (zeroed places)) name
   pub differ : AllDiffer (names_in lines)
 
 pub record IsSheet (lines : List Line) (places : List Place) (find : Word → Option ℕ) : Type 0 where
-  pub looked : AreLooked lines places find (slot_count (zeroed places))
+  pub lines_read : AreRead lines places find (slot_count (zeroed places))
   pub short : slot_count (zeroed places) ≤ SLOT_LIMIT
 
 -- the fault of a line's words

@@ -4,20 +4,20 @@ ghost use Rattle.std.specs.Prelude.{◌≡◌, ◌==◌, List, map, Some, IfOk, 
 ghost use Rattle.std.specs.List.{slice_split};
 ghost use Rattle.insn.specs.declared.instruction.Insn.{Insn};
 ghost use Rattle.insn.specs.Text.{Text};
-ghost use Rattle.assembler.specs.Faults.{FirstFault};
+ghost use Rattle.assembler.specs.Faults.{FirstTextFault};
 ghost use Rattle.assembler.specs.Sheets.{find_in, resolution, Unresolved};
 
 use crate::draft::Draft;
 use crate::fault::AsmFault;
-use crate::look::{Place, Sheet, first_look};
-use crate::slot::Slot;
+use crate::sheet::{Place, Sheet, read_sheet};
+use crate::slot_number::SlotNumber;
 use insn::instruction::Insn;
 use insn::program::Program;
 use std::alloc::{AllocError, Global};
-use std::collections::HashMap;
+use std::collections::BTreeMap;
 
 /// The instruction of a place, where its label stands somewhere.
-fn resolved(labels: &HashMap<&[u8], Slot>, place: &Place<'_>) -> Option<Insn>
+fn resolved<'a>(labels: &BTreeMap<&'a [u8], SlotNumber>, place: &Place<'a>) -> Option<Insn>
     ensures { result ≡ resolution (find_in labels.now) place.now }
 {
     match place.draft {
@@ -55,12 +55,12 @@ fn lines(alloc: Global, text: &[u8]) -> Result<Vec<&[u8]>, AllocError>
 /// The program that a text says, or its first fault. Lines are read in order, and then labels are looked up in order.
 pub fn assemble(alloc: Global, text: &str) -> Result<Program, AsmFault>
     ensures text { IfOk result (Text text.now) }
-    ensures fault { IfErr result (FirstFault text.now) }
+    ensures fault { IfErr result (FirstTextFault text.now) }
     // What is said is answered, unless memory is refused.
     ensures only { IfErr result (λ fault. (program : List Insn) → Text text.now program → fault ≡ AsmFault.Memory) }
 {
     let lines = lines(alloc, text.as_bytes())?;
-    let sheet = first_look(alloc, &lines)?;
+    let sheet = read_sheet(alloc, &lines)?;
     let insns = resolve(alloc, &sheet)?;
     match Program::new(insns) {
         Ok(program) => Ok(program),

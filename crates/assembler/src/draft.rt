@@ -1,15 +1,14 @@
 //! Instructions of which the distance to a label is left open.
 
-ghost use Rattle.std.specs.Prelude.{◌≡◌, [], ◌∷◌, length, map, MatchBool};
-ghost use Rattle.assembler.specs.Mnemonics.{HaveKinds, IsOfKind, kinds_of};
+ghost use Rattle.std.specs.Prelude.{◌≡◌, [], ◌∷◌, length, map};
+ghost use Rattle.assembler.specs.Forms.{kinds_of};
 ghost use Rattle.assembler.specs.Drafts.{condition_of, draft_slots, jump_over, DraftOf, HasTarget, IsSource, StatementDraft};
-ghost use Rattle.assembler.specs.declared.mnemonic.Mnemonic.TheVariants as mnemonic;
+ghost use Rattle.insn.specs.declared.mnemonic.Mnemonic.TheVariants as mnemonic;
 
-use crate::mnemonic::{Mnemonic, OperandKind};
-use crate::operand::{
-    distance, immediate, is_distance, is_name, is_number, natural, offset, register,
-};
+use crate::form::{have_form, kinds};
+use crate::operand::{distance, immediate, is_name, natural, offset, register};
 use insn::instruction::{Insn, Operand};
+use insn::mnemonic::Mnemonic;
 use insn::operation::{
     AluOp, Cond, Extension, SignedSize, Signedness, Size, SwapBits, SwapKind, Width,
 };
@@ -91,48 +90,13 @@ pub enum WordFault {
     OutOfRange,
 }
 
-impl OperandKind {
-    /// Whether a word has the form of such an operand.
-    fn accepts(self, word: &[u8]) -> bool
-        ensures { MatchBool result (IsOfKind self word.now) (¬ (IsOfKind self word.now)) }
-    {
-        match self {
-            OperandKind::Register => register(word).is_some(),
-            OperandKind::Source => register(word).is_some() || is_number(word),
-            OperandKind::Number => is_number(word),
-            OperandKind::Target => is_distance(word) || is_name(word),
-        }
-    }
-}
-
-/// Whether words have the forms of operands.
-fn have_form(kinds: &[OperandKind], words: &[&[u8]]) -> bool
-    ensures { MatchBool result (HaveKinds kinds.now (map (λ word. word.now) words.now))
-        (¬ (HaveKinds kinds.now (map (λ word. word.now) words.now))) }
-{
-    match (kinds.split_first(), words.split_first()) {
-        (None, None) => true,
-        (None, Some(_)) => false,
-        (Some(_), None) => false,
-        (Some((kind, kinds)), Some((word, words))) => {
-            if !kind.accepts(word) {
-                return false;
-            }
-            have_form(kinds, words)
-        }
-    }
-}
-
 /// The second operand of a word.
 fn source(word: &[u8]) -> Option<Operand>
     ensures { IsSource word.now result }
 {
     match register(word) {
         Some(src) => Some(Operand::Reg(src)),
-        None => match immediate(word) {
-            Some(imm) => Some(Operand::Imm(imm)),
-            None => None,
-        },
+        None => Some(Operand::Imm(immediate(word)?)),
     }
 }
 
@@ -143,9 +107,7 @@ fn jump_to<'a>(jump: Jump, target: &'a [u8]) -> Option<Draft<'a>>
     if is_name(target) {
         return Some(Draft::ToLabel(jump, target));
     }
-    let Some(distance) = distance(target) else {
-        return None
-    };
+    let distance = distance(target)?;
     match i16::try_from(distance) {
         Ok(offset) => Some(Draft::Whole(jump.over(offset))),
         Err(_) => None,
@@ -156,12 +118,8 @@ fn jump_to<'a>(jump: Jump, target: &'a [u8]) -> Option<Draft<'a>>
 fn alu<'a>(width: Width, op: AluOp, dst: &[u8], source: &[u8]) -> Option<Draft<'a>>
     ensures { DraftOf (mnemonic.Alu width op) (dst.now ∷ source.now ∷ []) result }
 {
-    let Some(dst) = register(dst) else {
-        return None
-    };
-    let Some(source) = self::source(source) else {
-        return None
-    };
+    let dst = register(dst)?;
+    let source = self::source(source)?;
     let insn = match (width, source) {
         (Width::W64, Operand::Imm(imm)) => Insn::Alu64Imm { op, dst, imm },
         (Width::W64, Operand::Reg(src)) => Insn::Alu64Reg { op, dst, src },
@@ -175,12 +133,8 @@ fn alu<'a>(width: Width, op: AluOp, dst: &[u8], source: &[u8]) -> Option<Draft<'
 fn divide<'a>(width: Width, signedness: Signedness, dst: &[u8], operand: &[u8]) -> Option<Draft<'a>>
     ensures { DraftOf (mnemonic.Divide width signedness) (dst.now ∷ operand.now ∷ []) result }
 {
-    let Some(dst) = register(dst) else {
-        return None
-    };
-    let Some(operand) = source(operand) else {
-        return None
-    };
+    let dst = register(dst)?;
+    let operand = source(operand)?;
     Some(Draft::Whole(Insn::Divide {
         width,
         signedness,
@@ -198,12 +152,8 @@ fn remainder<'a>(
 ) -> Option<Draft<'a>>
     ensures { DraftOf (mnemonic.Remainder width signedness) (dst.now ∷ operand.now ∷ []) result }
 {
-    let Some(dst) = register(dst) else {
-        return None
-    };
-    let Some(operand) = source(operand) else {
-        return None
-    };
+    let dst = register(dst)?;
+    let operand = source(operand)?;
     Some(Draft::Whole(Insn::Remainder {
         width,
         signedness,
@@ -216,9 +166,7 @@ fn remainder<'a>(
 fn negate<'a>(width: Width, dst: &[u8]) -> Option<Draft<'a>>
     ensures { DraftOf (mnemonic.Negate width) (dst.now ∷ []) result }
 {
-    let Some(dst) = register(dst) else {
-        return None
-    };
+    let dst = register(dst)?;
     Some(Draft::Whole(Insn::Negate { width, dst }))
 }
 
@@ -226,12 +174,8 @@ fn negate<'a>(width: Width, dst: &[u8]) -> Option<Draft<'a>>
 fn move_signed<'a>(extension: Extension, dst: &[u8], src: &[u8]) -> Option<Draft<'a>>
     ensures { DraftOf (mnemonic.MoveSigned extension) (dst.now ∷ src.now ∷ []) result }
 {
-    let Some(dst) = register(dst) else {
-        return None
-    };
-    let Some(src) = register(src) else {
-        return None
-    };
+    let dst = register(dst)?;
+    let src = register(src)?;
     Some(Draft::Whole(Insn::MoveSigned {
         extension,
         dst,
@@ -243,9 +187,7 @@ fn move_signed<'a>(extension: Extension, dst: &[u8], src: &[u8]) -> Option<Draft
 fn swap_bytes<'a>(kind: SwapKind, bits: SwapBits, dst: &[u8]) -> Option<Draft<'a>>
     ensures { DraftOf (mnemonic.SwapBytes kind bits) (dst.now ∷ []) result }
 {
-    let Some(dst) = register(dst) else {
-        return None
-    };
+    let dst = register(dst)?;
     Some(Draft::Whole(Insn::SwapBytes { kind, bits, dst }))
 }
 
@@ -253,12 +195,8 @@ fn swap_bytes<'a>(kind: SwapKind, bits: SwapBits, dst: &[u8]) -> Option<Draft<'a
 fn load_wide<'a>(dst: &[u8], value: &[u8]) -> Option<Draft<'a>>
     ensures { DraftOf mnemonic.LoadWide (dst.now ∷ value.now ∷ []) result }
 {
-    let Some(dst) = register(dst) else {
-        return None
-    };
-    let Some(value) = natural(value) else {
-        return None
-    };
+    let dst = register(dst)?;
+    let value = natural(value)?;
     Some(Draft::Whole(Insn::LoadWide { dst, value }))
 }
 
@@ -266,15 +204,9 @@ fn load_wide<'a>(dst: &[u8], value: &[u8]) -> Option<Draft<'a>>
 fn load<'a>(size: Size, dst: &[u8], src: &[u8], offset: &[u8]) -> Option<Draft<'a>>
     ensures { DraftOf (mnemonic.Load size) (dst.now ∷ src.now ∷ offset.now ∷ []) result }
 {
-    let Some(dst) = register(dst) else {
-        return None
-    };
-    let Some(src) = register(src) else {
-        return None
-    };
-    let Some(offset) = self::offset(offset) else {
-        return None
-    };
+    let dst = register(dst)?;
+    let src = register(src)?;
+    let offset = self::offset(offset)?;
     Some(Draft::Whole(Insn::Load {
         size,
         dst,
@@ -287,15 +219,9 @@ fn load<'a>(size: Size, dst: &[u8], src: &[u8], offset: &[u8]) -> Option<Draft<'
 fn load_signed<'a>(size: SignedSize, dst: &[u8], src: &[u8], offset: &[u8]) -> Option<Draft<'a>>
     ensures { DraftOf (mnemonic.LoadSigned size) (dst.now ∷ src.now ∷ offset.now ∷ []) result }
 {
-    let Some(dst) = register(dst) else {
-        return None
-    };
-    let Some(src) = register(src) else {
-        return None
-    };
-    let Some(offset) = self::offset(offset) else {
-        return None
-    };
+    let dst = register(dst)?;
+    let src = register(src)?;
+    let offset = self::offset(offset)?;
     Some(Draft::Whole(Insn::LoadSigned {
         size,
         dst,
@@ -308,15 +234,9 @@ fn load_signed<'a>(size: SignedSize, dst: &[u8], src: &[u8], offset: &[u8]) -> O
 fn store_reg<'a>(size: Size, dst: &[u8], offset: &[u8], src: &[u8]) -> Option<Draft<'a>>
     ensures { DraftOf (mnemonic.StoreReg size) (dst.now ∷ offset.now ∷ src.now ∷ []) result }
 {
-    let Some(dst) = register(dst) else {
-        return None
-    };
-    let Some(offset) = self::offset(offset) else {
-        return None
-    };
-    let Some(src) = register(src) else {
-        return None
-    };
+    let dst = register(dst)?;
+    let offset = self::offset(offset)?;
+    let src = register(src)?;
     Some(Draft::Whole(Insn::StoreReg {
         size,
         dst,
@@ -329,15 +249,9 @@ fn store_reg<'a>(size: Size, dst: &[u8], offset: &[u8], src: &[u8]) -> Option<Dr
 fn store_imm<'a>(size: Size, dst: &[u8], offset: &[u8], imm: &[u8]) -> Option<Draft<'a>>
     ensures { DraftOf (mnemonic.StoreImm size) (dst.now ∷ offset.now ∷ imm.now ∷ []) result }
 {
-    let Some(dst) = register(dst) else {
-        return None
-    };
-    let Some(offset) = self::offset(offset) else {
-        return None
-    };
-    let Some(imm) = immediate(imm) else {
-        return None
-    };
+    let dst = register(dst)?;
+    let offset = self::offset(offset)?;
+    let imm = immediate(imm)?;
     Some(Draft::Whole(Insn::StoreImm {
         size,
         dst,
@@ -360,9 +274,7 @@ fn jump_long<'a>(target: &'a [u8]) -> Option<Draft<'a>>
     if is_name(target) {
         return Some(Draft::ToLabel(Jump::Long, target));
     }
-    let Some(offset) = distance(target) else {
-        return None
-    };
+    let offset = distance(target)?;
     Some(Draft::Whole(Insn::JumpLong { offset }))
 }
 
@@ -388,12 +300,8 @@ fn jump_if<'a>(
 ) -> Option<Draft<'a>>
     ensures { DraftOf (mnemonic.JumpIf width cond) (dst.now ∷ source.now ∷ target.now ∷ []) result }
 {
-    let Some(dst) = register(dst) else {
-        return None
-    };
-    let Some(source) = self::source(source) else {
-        return None
-    };
+    let dst = register(dst)?;
+    let source = self::source(source)?;
     jump_to(condition(width, cond, dst, source), target)
 }
 
@@ -432,7 +340,7 @@ pub fn statement<'a>(words: &[&'a [u8]]) -> Result<Draft<'a>, WordFault>
     let Some(mnemonic) = Mnemonic::find(first) else {
         return Err(WordFault::UnknownWord);
     };
-    if !have_form(mnemonic.kinds(), operands) {
+    if !have_form(kinds(mnemonic), operands) {
         return Err(WordFault::BadOperand);
     }
     match drafted(mnemonic, operands) {

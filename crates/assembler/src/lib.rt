@@ -6,15 +6,12 @@
 mod assembling;
 mod draft;
 mod fault;
+mod form;
 pub mod laws;
 mod line;
-mod look;
-mod mnemonic;
 mod operand;
-mod slot;
+mod sheet;
+mod slot_number;
 
 pub use assembling::assemble;
 pub use fault::AsmFault;
-
-#[cfg(test)]
-mod tests;

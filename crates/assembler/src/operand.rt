@@ -5,7 +5,6 @@ ghost use Rattle.std.specs.Fmt.{decimal, signed_decimal};
 ghost use Rattle.std.specs.Int.{w16, w32};
 ghost use Rattle.std.specs.List.{list_all};
 ghost use Rattle.insn.specs.declared.register.RegNo.{RegNo};
-ghost use Rattle.insn.specs.Instruction.{reg_number};
 ghost use Rattle.insn.specs.Text as text;
 ghost use Rattle.insn.specs.Text.{distance_word, register_word};
 ghost use Rattle.assembler.specs.Operands.{IsSmall, number_of};
@@ -80,12 +79,15 @@ fn all_name_bytes(word: &[u8]) -> bool
     word.iter().all(|byte| is_name_byte(*byte))
 }
 
-/// Whether a word is a label's name: 1 to 32 such bytes, of which the first is no digit.
+/// The most bytes of a label's name.
+const MAX_NAME: usize = 32;
+
+/// Whether a word is a label's name: such bytes, not too many, of which the first is no digit.
 pub fn is_name(word: &[u8]) -> bool
     ensures { result ≡ text.is_name word.now }
 {
     match word.split_first() {
-        Some((first, more)) => { !is_digit(*first) && all_name_bytes(word) && more.len() <= 31 }
+        Some((first, _)) => { !is_digit(*first) && all_name_bytes(word) && word.len() <= MAX_NAME }
         None => false,
     }
 }
@@ -181,34 +183,13 @@ pub fn distance(word: &[u8]) -> Option<i32>
     }
 }
 
-/// The register of a number.
-fn numbered(number: u64) -> Option<RegNo>
-    ensures some { IfSome result (λ r. reg_number r ≡ number) }
-    ensures none { IfNone result (10 < number) }
-{
-    match number {
-        0 => Some(RegNo::R0),
-        1 => Some(RegNo::R1),
-        2 => Some(RegNo::R2),
-        3 => Some(RegNo::R3),
-        4 => Some(RegNo::R4),
-        5 => Some(RegNo::R5),
-        6 => Some(RegNo::R6),
-        7 => Some(RegNo::R7),
-        8 => Some(RegNo::R8),
-        9 => Some(RegNo::R9),
-        10 => Some(RegNo::R10),
-        _ => None,
-    }
-}
-
 /// The register of a word.
 pub fn register(word: &[u8]) -> Option<RegNo>
     ensures some { IfSome result (λ r. word.now ≡ register_word r) }
     ensures none { IfNone result ((r : RegNo) → word.now ≢ register_word r) }
 {
     match word.split_first() {
-        Some((b'r', digits)) => numbered(natural(digits)?),
+        Some((b'r', digits)) => RegNo::from_number(natural(digits)?),
         Some(_) => None,
         None => None,
     }

@@ -6,10 +6,7 @@
 mod laws;
 mod line;
 mod listing;
-mod name;
 mod operand;
-#[cfg(test)]
-mod tests;
 
 pub use laws::{a_text_says_one_program, the_canonical_text_says_its_program};
 pub use listing::list;

@@ -5,7 +5,6 @@ ghost use Rattle.std.specs.List.{flat_map};
 ghost use Rattle.insn.specs.Text.{canonical_line, operand_word, operands_of};
 ghost use Rattle.lister.specs.Values.{values_of};
 
-use crate::name::Name;
 use crate::operand::{Register, Source, Target};
 use insn::instruction::Insn;
 use std::fmt::{self, Display, Formatter, Write};
@@ -18,8 +17,8 @@ impl Display for Line {
     ghost output = { λ line. Some (canonical_line line.0) };
 
     fn fmt<W: Write>(&self, f: &mut Formatter<W>) -> fmt::Result {
-        let (name, operands) = (Name::of(self.0), Operands(self.0));
-        write!(f, "{name}{operands}\n")
+        let (mnemonic, operands) = (self.0.mnemonic(), Operands(self.0));
+        write!(f, "{mnemonic}{operands}\n")
     }
 }
 

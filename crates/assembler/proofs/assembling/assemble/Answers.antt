@@ -2,7 +2,7 @@ use Rattle.std.proofs.Common.{rules, ◌≡◌, ◌==◌, ◌∙◌, sym, ap, ma
 use Rattle.std.specs.List.{slice_split}
 use Rattle.insn.specs.Program.{IsProgram}
 use Rattle.insn.specs.Text.{Line, lines_in, Text}
-use Rattle.assembler.specs.Faults.{FirstFault}
+use Rattle.assembler.specs.Faults.{FirstTextFault}
 use Rattle.assembler.specs.Sheets.{find_in, lines_of, IsSheet}
 use Rattle.assembler.proofs.Resolving.{is_text, unresolved_fault, only_err, no_instruction}
 use Rattle.assembler.specs.declared.fault.AsmFault.TheVariants.{NoInstruction}
@@ -11,7 +11,7 @@ use Rattle.assembler.proofs.assembling.assemble.Goals as goal
 
 pub returns-in_err-sheet-clause-only : goal.returns-in_err-sheet-clause-only
 returns-in_err-sheet-clause-only c =
-    let h : IfErr c.from_residual-in_err-sheet.result (FirstFault c.args.text.now) = search rules in only_err _ _ h
+    let h : IfErr c.from_residual-in_err-sheet.result (FirstTextFault c.args.text.now) = search rules in only_err _ _ h
 
 pub returns-in_err-insns-clause-fault : goal.returns-in_err-insns-clause-fault
 returns-in_err-insns-clause-fault c =
@@ -22,7 +22,7 @@ returns-in_err-insns-clause-fault c =
 
 pub returns-in_err-insns-clause-only : goal.returns-in_err-insns-clause-only
 returns-in_err-insns-clause-only c =
-    let h : IfErr c.from_residual-in_err-insns.result (FirstFault c.args.text.now) = returns-in_err-insns-clause-fault c in only_err _ _ h
+    let h : IfErr c.from_residual-in_err-insns.result (FirstTextFault c.args.text.now) = returns-in_err-insns-clause-fault c in only_err _ _ h
 
 pub returns-in-Ok-clause-text : goal.returns-in-Ok-clause-text
 returns-in-Ok-clause-text c =
@@ -42,4 +42,4 @@ returns-clause-fault c =
     no_instruction (lines_in c.args.text.now) c.in_ok-sheet.sheet.places.items (find_in c.in_ok-sheet.sheet.labels) c.in_ok-insns.insns.items sheet c.in_ok-insns.ensures.found none
 
 pub returns-clause-only : goal.returns-clause-only
-returns-clause-only c = λ program said. let h : FirstFault c.args.text.now NoInstruction = returns-clause-fault c in only_memory c.args.text.now NoInstruction h program said
+returns-clause-only c = λ program said. let h : FirstTextFault c.args.text.now NoInstruction = returns-clause-fault c in only_memory c.args.text.now NoInstruction h program said

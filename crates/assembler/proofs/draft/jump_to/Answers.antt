@@ -7,7 +7,7 @@ use Rattle.assembler.proofs.draft.jump_to.Goals as goal
 
 pub returns-in-Err : goal.returns-in-Err
 returns-in-Err c =
-    let fits : FitsSigned w32 c.in-Some.distance = search rules in
+    let fits : FitsSigned w32 c.in_ok-distance.distance = search rules in
     let name : is_name c.args.target.now ≡ false = search (rules, tests) in
-    let far : FitsSigned w16 c.in-Some.distance → ⊥ = simp to_z-of_z at c.in-Err.ensures in
-    too_far c.args.target.now c.in-Some.distance name (small_from_32 c.in-Some.distance fits) c.in-Some.ensures.some far
+    let far : FitsSigned w16 c.in_ok-distance.distance → ⊥ = simp to_z-of_z at c.in-Err.ensures in
+    too_far c.args.target.now c.in_ok-distance.distance name (small_from_32 c.in_ok-distance.distance fits) c.in_ok-distance.ensures.some far

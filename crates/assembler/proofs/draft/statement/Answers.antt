@@ -2,8 +2,8 @@ use Rattle.std.proofs.Common.{rules, tests, ◌≡◌, List, ap, sym, ◌∙◌,
 use Rattle.std.proofs.lemmas.Bool.{MatchBool-at_true, MatchBool-at_false}
 use Rattle.insn.specs.declared.instruction.Insn.{Insn}
 use Rattle.insn.specs.Text.{Word}
-use Rattle.assembler.specs.declared.mnemonic.OperandKind.{OperandKind}
-use Rattle.assembler.specs.Mnemonics.{kinds_of, HaveKinds}
+use Rattle.assembler.specs.declared.form.OperandKind.{OperandKind}
+use Rattle.assembler.specs.Forms.{kinds_of, HaveKinds}
 use Rattle.assembler.specs.Faults.{Anywhere, HasName, HasFormOf, SaysFitting}
 use Rattle.assembler.proofs.Statements.{no_name, has_name, no_form, has_form, no_fitting, seen, nothing_named, length_seen, kinds_length}
 use Rattle.assembler.proofs.draft.statement.Goals as goal

@@ -1,4 +1,4 @@
--- The first look, line by line.
+-- Lines are read one by one.
 use Rattle.std.proofs.Common.{◌≡◌, ⊎_elim, ℕ, suc, ◌+◌, ◌<◌, ◌≤◌, true, false, Bool, cond, ℤ, pos, List, [], ◌∷◌, ◌++◌, length, map, take, drop, get_or, Option, Some, None, Err, Bor, is_some, take-append-drop, refl, sym, ap, ◌∙◌, subst, arith, append-nil, FitsSigned, w16}
 use Rattle.std.proofs.Math.Seq.{drop-cons}
 use Rattle.std.specs.Str.{bytes_eq}
@@ -18,15 +18,16 @@ use Rattle.assembler.specs.declared.draft.Draft.{Draft}
 use Rattle.assembler.specs.declared.draft.Draft.TheVariants.{Whole, ToLabel}
 use Rattle.assembler.specs.declared.draft.WordFault.{WordFault}
 use Rattle.assembler.specs.declared.draft.WordFault.TheVariants.{UnknownWord, BadOperand, OutOfRange}
-use Rattle.assembler.specs.declared.slot.Slot.{Slot}
-use Rattle.assembler.specs.declared.look.Place.{Place}
-use Rattle.assembler.specs.declared.mnemonic.Mnemonic.{Mnemonic}
-use Rattle.assembler.specs.Mnemonics.{mnemonic_of, name_by}
+use Rattle.assembler.specs.declared.slot_number.SlotNumber.{SlotNumber}
+use Rattle.assembler.specs.declared.sheet.Place.{Place}
+use Rattle.insn.specs.declared.mnemonic.Mnemonic.{Mnemonic}
+use Rattle.insn.specs.Text.{mnemonic_of, mnemonic_name}
 use Rattle.assembler.specs.Faults.{Anywhere, SaysFitting, Drafts, AreRight, FirstWrong, FaultIn, HasUnknownWord, HasBadOperand, IsOutOfRange, IsDoubleLabel, IsTooLong}
 use Rattle.assembler.specs.Drafts.{draft_slots, jump_over, Nowhere, At, IsDraft, SaysDraft, StatementDraft}
-use Rattle.assembler.specs.Sheets.{lines_of, AreFrom, with_zero, zeroed, AreLooked, fault_at, find_in}
-use Rattle.std.specs.HashMap.{HashMap, get_by}
-use Rattle.assembler.proofs.Statements.{name_by_mnemonic}
+use Rattle.assembler.specs.Sheets.{lines_of, AreFrom, with_zero, zeroed, AreRead, fault_at, find_in}
+use Rattle.std.specs.Cmp.Lexicographic.{slice_cmp}
+use Rattle.std.specs.Ordering.{nat_cmp}
+use Rattle.std.specs.BTreeMap.{BTreeMap, get_by}
 use Rattle.assembler.proofs.Texts.{operands_more, names_append, bytes_eq_sym, labels_named}
 
 pub some_none : {A : Type 0} {x : A} → Some x ≡ None → ⊥
@@ -41,10 +42,10 @@ any_push x (y ∷ ws) w h k = let parts = or_parts (bytes_eq x y) (list_any (byt
 zero_fits : FitsSigned w16 (pos 0)
 zero_fits = omega (arith, ints)
 
-zeroed_by : (L : Word → ℤ → Type 0) (m : Mnemonic) (ops : List Word) (i : Insn) → mnemonic_of i ≡ m → Fits i → SaysOperands L (operands_of i) ops → ((w : Word) (d : ℤ) → L w d → Anywhere w d) → SaysFitting Anywhere i (name_by m ∷ ops)
-zeroed_by L m ops i e f s more = ((ap name_by (sym e) ∙ sym (name_by_mnemonic i), operands_more L Anywhere more (operands_of i) ops s), f)
+zeroed_by : (L : Word → ℤ → Type 0) (m : Mnemonic) (ops : List Word) (i : Insn) → mnemonic_of i ≡ m → Fits i → SaysOperands L (operands_of i) ops → ((w : Word) (d : ℤ) → L w d → Anywhere w d) → SaysFitting Anywhere i (mnemonic_name m ∷ ops)
+zeroed_by L m ops i e f s more = ((ap mnemonic_name (sym e), operands_more L Anywhere more (operands_of i) ops s), f)
 
-zeroed_parts : (m : Mnemonic) (ops : List Word) (d : Draft) → SaysDraft m ops d → SaysFitting Anywhere (with_zero d) (name_by m ∷ ops)
+zeroed_parts : (m : Mnemonic) (ops : List Word) (d : Draft) → SaysDraft m ops d → SaysFitting Anywhere (with_zero d) (mnemonic_name m ∷ ops)
 zeroed_parts m ops (Whole i) h = zeroed_by Nowhere m ops i h.0 h.1 h.2 (λ w d k. tt)
 zeroed_parts m ops (ToLabel jump name) h = let j = h.0 (pos 0) zero_fits in zeroed_by (At name.now (pos 0)) m ops (jump_over jump (pos 0)) j.named j.fit j.said (λ w d k. tt)
 
@@ -128,10 +129,10 @@ slot_push_new (l ∷ labels) name s q e t = ⊎_elim
 
 -- ---- the steps
 
-pub look_start : (find : Word → Option ℕ) → ((q : Word) → find q ≡ None) → AreLooked [] [] find 0
+pub look_start : (find : Word → Option ℕ) → ((q : Word) → find q ≡ None) → AreRead [] [] find 0
 look_start find none = record { stand = tt; behind = refl; labels = none; differ = tt }
 
-pub look_blank : (lines : List Line) (ps : List Place) (find : Word → Option ℕ) (s : ℕ) → AreLooked lines ps find s → AreLooked (lines ++ Blank ∷ []) ps find s
+pub look_blank : (lines : List Line) (ps : List Place) (find : Word → Option ℕ) (s : ℕ) → AreRead lines ps find s → AreRead (lines ++ Blank ∷ []) ps find s
 look_blank lines ps find s h = record {
   stand = subst (λ (x : List Place). AreFrom 0 0 (lines ++ Blank ∷ []) x) (append-nil ps) (are_append 0 0 (length lines) s lines ps (Blank ∷ []) [] (omega arith) (let b = h.behind in omega arith) h.stand tt);
   behind = h.behind;
@@ -142,7 +143,7 @@ look_blank lines ps find s h = record {
     no_more : (lines : List Line) (ps : List Place) → AreFrom 0 0 lines ps → labels_in 0 (lines ++ Blank ∷ []) (zeroed ps) ≡ labels_in 0 lines (zeroed ps)
     no_more lines ps h = ap (λ (x : List Insn). labels_in 0 (lines ++ Blank ∷ []) x) (sym (append-nil (zeroed ps))) ∙ labels_append Anywhere 0 (slot_count (zeroed ps)) lines (zeroed ps) (Blank ∷ []) [] (are_drafts 0 0 lines ps h) (omega arith) ∙ append-nil _
 
-pub look_label : (lines : List Line) (ps : List Place) (find more : Word → Option ℕ) (s : ℕ) (name : Word) → AreLooked lines ps find s → find name ≡ None → ((q : Word) → more q ≡ cond (bytes_eq name q) (Some s) (find q)) → AreLooked (lines ++ Label name ∷ []) ps more s
+pub look_label : (lines : List Line) (ps : List Place) (find more : Word → Option ℕ) (s : ℕ) (name : Word) → AreRead lines ps find s → find name ≡ None → ((q : Word) → more q ≡ cond (bytes_eq name q) (Some s) (find q)) → AreRead (lines ++ Label name ∷ []) ps more s
 look_label lines ps find more s name h new with_name = record {
   stand = subst (λ (x : List Place). AreFrom 0 0 (lines ++ Label name ∷ []) x) (append-nil ps) (are_append 0 0 (length lines) s lines ps (Label name ∷ []) [] (omega arith) (let b = h.behind in omega arith) h.stand tt);
   behind = h.behind;
@@ -162,7 +163,7 @@ look_label lines ps find more s name h new with_name = record {
         (λ (t : bytes_eq name q ≡ false). rw t (h.labels q ∙ sym (slot_push_old (labels_in 0 lines (zeroed ps)) name s q t)))
         (cases_Bool (bytes_eq name q))
 
-pub look_statement : (lines : List Line) (ps : List Place) (find : Word → Option ℕ) (s : ℕ) (words : List Word) (p : Place) → AreLooked lines ps find s → IsDraft words p.draft → p.line ≡ length lines + 1 → p.behind.number ≡ s + draft_slots p.draft → AreLooked (lines ++ Statement words ∷ []) (ps ++ p ∷ []) find p.behind.number
+pub look_statement : (lines : List Line) (ps : List Place) (find : Word → Option ℕ) (s : ℕ) (words : List Word) (p : Place) → AreRead lines ps find s → IsDraft words p.draft → p.line ≡ length lines + 1 → p.behind.number ≡ s + draft_slots p.draft → AreRead (lines ++ Statement words ∷ []) (ps ++ p ∷ []) find p.behind.number
 look_statement lines ps find s words p h d number behind = record {
   stand = are_append 0 0 (length lines) s lines ps (Statement words ∷ []) (p ∷ []) (omega arith) (let b = h.behind in omega arith) h.stand (d, number, behind, tt);
   behind = let b = h.behind in let z = zero_slots p.draft in let e = sum_by_push slots_of (zeroed ps) (with_zero p.draft) in behind ∙ (let k : s + draft_slots p.draft ≡ slot_count (zeroed ps ++ with_zero p.draft ∷ []) = omega arith in k ∙ ap slot_count (sym (zeroed_push ps p)));
@@ -173,7 +174,7 @@ look_statement lines ps find s words p h d number behind = record {
     no_more : labels_in 0 (lines ++ Statement words ∷ []) (zeroed (ps ++ p ∷ [])) ≡ labels_in 0 lines (zeroed ps)
     no_more = ap (λ (x : List Insn). labels_in 0 (lines ++ Statement words ∷ []) x) (zeroed_push ps p) ∙ labels_append Anywhere 0 s lines (zeroed ps) (Statement words ∷ []) (with_zero p.draft ∷ []) (are_drafts 0 0 lines ps h.stand) (let b = h.behind in omega arith) ∙ append-nil _
 
-pub look_right : (lines : List Line) (ps : List Place) (find : Word → Option ℕ) (s : ℕ) → AreLooked lines ps find s → s ≤ 4096 → AreRight lines (zeroed ps)
+pub look_right : (lines : List Line) (ps : List Place) (find : Word → Option ℕ) (s : ℕ) → AreRead lines ps find s → s ≤ SLOT_LIMIT → AreRight lines (zeroed ps)
 look_right lines ps find s h l = record { drafted = are_drafts 0 0 lines ps h.stand; short = let b = h.behind in omega arith; differ = h.differ }
 
 -- ---- at a place of the list of lines
@@ -201,16 +202,16 @@ parts_at xs i d h = ap seen_lines (sym (take-append-drop i xs) ∙ ap (λ (ys : 
 length_at : (xs : List (Bor Word)) (i : ℕ) → i < length xs → length (seen_lines (take i xs)) ≡ i
 length_at xs i h = lines_length (take i xs) ∙ length-take-le i xs (omega arith)
 
-pub step_blank : (xs : List (Bor Word)) (i : ℕ) (d : Bor Word) (ps : List Place) (find : Word → Option ℕ) (s : ℕ) → i < length xs → line_here (get_or xs i d) ≡ Blank → AreLooked (seen_lines (take i xs)) ps find s → AreLooked (seen_lines (take (i + 1) xs)) ps find s
-step_blank xs i d ps find s l e h = subst (λ (ls : List Line). AreLooked ls ps find s) (sym (next_line xs i d l ∙ ap (λ (x : Line). seen_lines (take i xs) ++ x ∷ []) e)) (look_blank (seen_lines (take i xs)) ps find s h)
+pub step_blank : (xs : List (Bor Word)) (i : ℕ) (d : Bor Word) (ps : List Place) (find : Word → Option ℕ) (s : ℕ) → i < length xs → line_here (get_or xs i d) ≡ Blank → AreRead (seen_lines (take i xs)) ps find s → AreRead (seen_lines (take (i + 1) xs)) ps find s
+step_blank xs i d ps find s l e h = subst (λ (ls : List Line). AreRead ls ps find s) (sym (next_line xs i d l ∙ ap (λ (x : Line). seen_lines (take i xs) ++ x ∷ []) e)) (look_blank (seen_lines (take i xs)) ps find s h)
 
-pub step_label : (xs : List (Bor Word)) (i : ℕ) (d : Bor Word) (ps : List Place) (find more : Word → Option ℕ) (s : ℕ) (name : Word) → i < length xs → line_here (get_or xs i d) ≡ Label name → AreLooked (seen_lines (take i xs)) ps find s → find name ≡ None → ((q : Word) → more q ≡ cond (bytes_eq name q) (Some s) (find q)) → AreLooked (seen_lines (take (i + 1) xs)) ps more s
-step_label xs i d ps find more s name l e h new with_name = subst (λ (ls : List Line). AreLooked ls ps more s) (sym (next_line xs i d l ∙ ap (λ (x : Line). seen_lines (take i xs) ++ x ∷ []) e)) (look_label (seen_lines (take i xs)) ps find more s name h new with_name)
+pub step_label : (xs : List (Bor Word)) (i : ℕ) (d : Bor Word) (ps : List Place) (find more : Word → Option ℕ) (s : ℕ) (name : Word) → i < length xs → line_here (get_or xs i d) ≡ Label name → AreRead (seen_lines (take i xs)) ps find s → find name ≡ None → ((q : Word) → more q ≡ cond (bytes_eq name q) (Some s) (find q)) → AreRead (seen_lines (take (i + 1) xs)) ps more s
+step_label xs i d ps find more s name l e h new with_name = subst (λ (ls : List Line). AreRead ls ps more s) (sym (next_line xs i d l ∙ ap (λ (x : Line). seen_lines (take i xs) ++ x ∷ []) e)) (look_label (seen_lines (take i xs)) ps find more s name h new with_name)
 
-pub step_statement : (xs : List (Bor Word)) (i : ℕ) (d : Bor Word) (ps : List Place) (find : Word → Option ℕ) (s : ℕ) (words : List Word) (p : Place) → i < length xs → line_here (get_or xs i d) ≡ Statement words → AreLooked (seen_lines (take i xs)) ps find s → IsDraft words p.draft → p.line ≡ i + 1 → p.behind.number ≡ s + draft_slots p.draft → AreLooked (seen_lines (take (i + 1) xs)) (ps ++ p ∷ []) find p.behind.number
+pub step_statement : (xs : List (Bor Word)) (i : ℕ) (d : Bor Word) (ps : List Place) (find : Word → Option ℕ) (s : ℕ) (words : List Word) (p : Place) → i < length xs → line_here (get_or xs i d) ≡ Statement words → AreRead (seen_lines (take i xs)) ps find s → IsDraft words p.draft → p.line ≡ i + 1 → p.behind.number ≡ s + draft_slots p.draft → AreRead (seen_lines (take (i + 1) xs)) (ps ++ p ∷ []) find p.behind.number
 step_statement xs i d ps find s words p l e h draft number behind =
     let n : p.line ≡ length (seen_lines (take i xs)) + 1 = let k = length_at xs i l in omega arith in
-    subst (λ (ls : List Line). AreLooked ls (ps ++ p ∷ []) find p.behind.number) (sym (next_line xs i d l ∙ ap (λ (x : Line). seen_lines (take i xs) ++ x ∷ []) e)) (look_statement (seen_lines (take i xs)) ps find s words p h draft n behind)
+    subst (λ (ls : List Line). AreRead ls (ps ++ p ∷ []) find p.behind.number) (sym (next_line xs i d l ∙ ap (λ (x : Line). seen_lines (take i xs) ++ x ∷ []) e)) (look_statement (seen_lines (take i xs)) ps find s words p h draft n behind)
 
 pub wrong_at : (IsWrong : List Line → List Insn → Line → Type 0) (xs : List (Bor Word)) (i : ℕ) (d : Bor Word) (here : Line) (n : ℕ) (program : List Insn) → i < length xs → line_here (get_or xs i d) ≡ here → n ≡ i + 1 → AreRight (seen_lines (take i xs)) program → IsWrong (seen_lines (take i xs)) program here → FirstWrong IsWrong (seen_lines xs) n
 wrong_at IsWrong xs i d here n program l e k right wrong = record {
@@ -229,32 +230,32 @@ word_fault UnknownWord words xs i d n program l e k right h = wrong_at HasUnknow
 word_fault BadOperand words xs i d n program l e k right h = wrong_at HasBadOperand xs i d (Statement words) n program l e k right h
 word_fault OutOfRange words xs i d n program l e k right h = wrong_at IsOutOfRange xs i d (Statement words) n program l e k right h
 
-pub too_long : (words : List Word) (draft : Draft) (xs : List (Bor Word)) (i : ℕ) (d : Bor Word) (n s : ℕ) (ps : List Place) (find : Word → Option ℕ) → i < length xs → line_here (get_or xs i d) ≡ Statement words → n ≡ i + 1 → AreLooked (seen_lines (take i xs)) ps find s → s ≤ 4096 → IsDraft words draft → SLOT_LIMIT < s + draft_slots draft → FirstWrong IsTooLong (seen_lines xs) n
+pub too_long : (words : List Word) (draft : Draft) (xs : List (Bor Word)) (i : ℕ) (d : Bor Word) (n s : ℕ) (ps : List Place) (find : Word → Option ℕ) → i < length xs → line_here (get_or xs i d) ≡ Statement words → n ≡ i + 1 → AreRead (seen_lines (take i xs)) ps find s → s ≤ SLOT_LIMIT → IsDraft words draft → SLOT_LIMIT < s + draft_slots draft → FirstWrong IsTooLong (seen_lines xs) n
 too_long words draft xs i d n s ps find l e k h small said far =
     let long : SLOT_LIMIT < slot_count (zeroed ps) + slots_of (with_zero draft) = let b = h.behind in let z = zero_slots draft in omega arith in
     wrong_at IsTooLong xs i d (Statement words) n (zeroed ps) l e k (look_right (seen_lines (take i xs)) ps find s h small) (with_zero draft, zeroed_said words draft said, long)
 
-pub double_label : (name : Word) (m : ℕ) (xs : List (Bor Word)) (i : ℕ) (d : Bor Word) (n s : ℕ) (ps : List Place) (find : Word → Option ℕ) → i < length xs → line_here (get_or xs i d) ≡ Label name → n ≡ i + 1 → AreLooked (seen_lines (take i xs)) ps find s → s ≤ 4096 → find name ≡ Some m → FirstWrong IsDoubleLabel (seen_lines xs) n
+pub double_label : (name : Word) (m : ℕ) (xs : List (Bor Word)) (i : ℕ) (d : Bor Word) (n s : ℕ) (ps : List Place) (find : Word → Option ℕ) → i < length xs → line_here (get_or xs i d) ≡ Label name → n ≡ i + 1 → AreRead (seen_lines (take i xs)) ps find s → s ≤ SLOT_LIMIT → find name ≡ Some m → FirstWrong IsDoubleLabel (seen_lines xs) n
 double_label name m xs i d n s ps find l e k h small here =
     wrong_at IsDoubleLabel xs i d (Label name) n (zeroed ps) l e k (look_right (seen_lines (take i xs)) ps find s h small)
     (labels_named 0 (seen_lines (take i xs)) (zeroed ps) name m (sym (h.labels name) ∙ here))
 
-pub some_found : (o : Option Slot) → is_some o ≡ true → (m : ℕ) × (option_map (λ slot. slot.number) o ≡ Some m)
+pub some_found : (o : Option SlotNumber) → is_some o ≡ true → (m : ℕ) × (option_map (λ slot. slot.number) o ≡ Some m)
 some_found (Some x) e = (x.number, refl)
 some_found None e = absurd cc
 
-pub none_found : (o : Option Slot) → is_some o ≡ false → option_map (λ slot. slot.number) o ≡ None
+pub none_found : (o : Option SlotNumber) → is_some o ≡ false → option_map (λ slot. slot.number) o ≡ None
 none_found (Some x) e = absurd cc
 none_found None e = refl
 
-pub moved : {S : Type 0} (lines : List Line) (ps qs : List Place) (m n : HashMap (Bor (List ℕ)) Slot S) (s t : ℕ) → qs ≡ ps → n ≡ m → t ≡ s → AreLooked lines ps (find_in m) s → AreLooked lines qs (find_in n) t
-moved {S} lines ps qs m n s t e f g h =
-    subst (λ (x : ℕ). AreLooked lines qs (find_in n) x) (sym g)
-    (subst (λ (x : HashMap (Bor (List ℕ)) Slot S). AreLooked lines qs (find_in x) s) (sym f) (subst (λ (x : List Place). AreLooked lines x (find_in m) s) (sym e) h))
+pub moved : (lines : List Line) (ps qs : List Place) (m n : BTreeMap (Bor (List ℕ)) SlotNumber) (s t : ℕ) → qs ≡ ps → n ≡ m → t ≡ s → AreRead lines ps (find_in m) s → AreRead lines qs (find_in n) t
+moved lines ps qs m n s t e f g h =
+    subst (λ (x : ℕ). AreRead lines qs (find_in n) x) (sym g)
+    (subst (λ (x : BTreeMap (Bor (List ℕ)) SlotNumber). AreRead lines qs (find_in x) s) (sym f) (subst (λ (x : List Place). AreRead lines x (find_in m) s) (sym e) h))
 
-map_cond : (b : Bool) (x : Slot) (o : Option Slot) → option_map (λ slot. slot.number) (cond b (Some x) o) ≡ cond b (Some x.number) (option_map (λ slot. slot.number) o)
+map_cond : (b : Bool) (x : SlotNumber) (o : Option SlotNumber) → option_map (λ slot. slot.number) (cond b (Some x) o) ≡ cond b (Some x.number) (option_map (λ slot. slot.number) o)
 map_cond true x o = refl
 map_cond false x o = refl
 
-pub found_after : {S : Type 0} (m n : HashMap (Bor (List ℕ)) Slot S) (name : Word) (s : Slot) → ((q : Word) → get_by (λ k. bytes_eq q k.now) n ≡ cond (bytes_eq name q) (Some s) (get_by (λ k. bytes_eq q k.now) m)) → (q : Word) → find_in n q ≡ cond (bytes_eq name q) (Some s.number) (find_in m q)
-found_after m n name s h q = ap (option_map (λ (slot : Slot). slot.number)) (h q) ∙ map_cond (bytes_eq name q) s (get_by (λ k. bytes_eq q k.now) m)
+pub found_after : (m n : BTreeMap (Bor (List ℕ)) SlotNumber) (name : Word) (s : SlotNumber) → ((q : Word) → get_by (λ k. slice_cmp nat_cmp q k.now) n ≡ cond (bytes_eq name q) (Some s) (get_by (λ k. slice_cmp nat_cmp q k.now) m)) → (q : Word) → find_in n q ≡ cond (bytes_eq name q) (Some s.number) (find_in m q)
+found_after m n name s h q = ap (option_map (λ (slot : SlotNumber). slot.number)) (h q) ∙ map_cond (bytes_eq name q) s (get_by (λ k. slice_cmp nat_cmp q k.now) m)

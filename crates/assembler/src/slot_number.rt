@@ -1,23 +1,23 @@
-//! Slots of a program that is being read.
+//! The numbers of the slots of a program that is being read.
 
 ghost use Rattle.std.specs.Prelude.{◌≡◌, ◌+◌, ◌<◌, ◌≤◌, pos, ◌-ℤ◌, IfSome, IfNone};
 ghost use Rattle.insn.specs.Program.{SLOT_LIMIT};
 
 use insn::program::MAX_SLOTS;
 
-/// A slot of a program, or the one behind its last.
+/// The number of a slot, from 0, or of the one behind the last.
 #[derive(Clone, Copy, Debug, PartialEq, Eq)]
-pub struct Slot {
+pub struct SlotNumber {
     number: u16,
-    ghost in_program: { number ≤ 4096 },
+    ghost in_program: { number ≤ SLOT_LIMIT },
 }
 
-impl Slot {
+impl SlotNumber {
     /// The first one.
     pub fn first() -> Self
         ensures { result.number ≡ 0 }
     {
-        Slot { number: 0 }
+        SlotNumber { number: 0 }
     }
 
     /// The slot behind an instruction that takes one or two, where it is none behind the last.
@@ -28,7 +28,7 @@ impl Slot {
     {
         let number = usize::from(self.number) + slots;
         if number <= MAX_SLOTS {
-            Some(Slot {
+            Some(SlotNumber {
                 number: number as u16,
             })
         } else {
@@ -37,7 +37,7 @@ impl Slot {
     }
 
     /// How far a jump leads from this slot.
-    pub fn distance(self, to: Slot) -> i16
+    pub fn distance(self, to: SlotNumber) -> i16
         ensures { result ≡ pos to.number -ℤ pos self.number }
     {
         to.number as i16 - self.number as i16

@@ -1,4 +1,4 @@
-//! The first look at a text: each line by itself, and where labels stand.
+//! What the lines of a text say: each by itself, and where labels stand.
 
 ghost use Rattle.std.specs.Prelude.{◌≡◌, map, IfOk, IfErr};
 ghost use Rattle.assembler.specs.Faults.{FaultIn};
@@ -7,15 +7,15 @@ ghost use Rattle.assembler.specs.Sheets.{fault_at, find_in, lines_of, IsSheet};
 use crate::draft::{Draft, WordFault, statement};
 use crate::fault::AsmFault;
 use crate::line::{Line, read};
-use crate::slot::Slot;
+use crate::slot_number::SlotNumber;
 use std::alloc::Global;
-use std::collections::HashMap;
+use std::collections::BTreeMap;
 
 /// A draft with its line, counted from 1, and the slot behind it.
 #[derive(Clone, Copy)]
 pub struct Place<'a> {
     pub line: usize,
-    pub behind: Slot,
+    pub behind: SlotNumber,
     pub draft: Draft<'a>,
 }
 
@@ -23,7 +23,7 @@ pub struct Place<'a> {
 #[derive(Drop)]
 pub struct Sheet<'a> {
     pub places: Vec<Place<'a>>,
-    pub labels: HashMap<&'a [u8], Slot>,
+    pub labels: BTreeMap<&'a [u8], SlotNumber>,
 }
 
 impl WordFault {
@@ -40,14 +40,14 @@ impl WordFault {
 }
 
 /// Reads lines in order: what they say but for where labels lie, or the first that is wrong.
-pub fn first_look<'a>(alloc: Global, lines: &[&'a [u8]]) -> Result<Sheet<'a>, AsmFault>
+pub fn read_sheet<'a>(alloc: Global, lines: &[&'a [u8]]) -> Result<Sheet<'a>, AsmFault>
     ensures sheet { IfOk result (λ sheet.
         IsSheet (lines_of (map (λ line. line.now) lines.now)) sheet.places.items (find_in sheet.labels)) }
     ensures fault { IfErr result (FaultIn (lines_of (map (λ line. line.now) lines.now))) }
 {
     let mut places = Vec::new(alloc);
-    let mut labels = HashMap::new(alloc);
-    let mut end = Slot::first();
+    let mut labels = BTreeMap::new(alloc);
+    let mut end = SlotNumber::first();
     let mut number = 0;
     for bytes in lines {
         number += 1;
