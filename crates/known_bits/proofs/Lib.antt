@@ -9,3 +9,4 @@ pub mod Signs
 pub mod Swaps
 pub mod Shifts
 pub mod Refining
+pub mod Between

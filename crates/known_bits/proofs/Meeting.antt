@@ -1,5 +1,5 @@
 -- Words of two sets at once, and of either.
-use Rattle.std.proofs.Common.{◌≡◌, ℕ, ◌+◌, ◌-◌, ◌%◌, ◌^◌, ◌↔◌, min, max, refl, sym, ap, ◌∙◌, inl, inr, arith, w64}
+use Rattle.std.proofs.Common.{◌≡◌, ℕ, ◌+◌, ◌-◌, ◌%◌, ◌^◌, ◌<◌, ◌↔◌, min, max, refl, sym, ap, ◌∙◌, inl, inr, arith, w64}
 use Rattle.std.proofs.lemmas.Nat.{or_lt, xor_lt}
 use Rattle.std.proofs.lemmas.Nat.Bits.{bit_at-lt, bit_at-zero, bit_at_and, bit_at_or, bit_at_xor, bit_at-pow_same, same_from_bits}
 use Rattle.std.specs.Int.{bit_at, bit_not}
@@ -79,6 +79,22 @@ meet_has a b c x ka kb is = (
   ),
   λ h. rw (is.value, is.mask) (record { word = h.0.word; same = λ k clear. meet_both a b x k ka kb is.none h.0 h.1 clear }),
 )
+
+-- ---- words of one among those of another
+
+-- bits that are all known, and the same, are those of more words
+pub covered_has : (v m w n x : ℕ) → m < 2 ^ 64 → w < 2 ^ 64 → n < 2 ^ 64 → bit_and n (bit_not w64 m) ≡ 0 → bit_and w (bit_not w64 m) ≡ v → Agrees w n x → Agrees v m x
+covered_has v m w n x mask_fits fits other_fits none same h = record {
+  word = h.word;
+  same = λ k clear.
+      let inner : bit_at (bit_and n (bit_not w64 m)) k ≡ bit_at 0 k = ap (λ y. bit_at y k) none in
+      let kept : bit_at (bit_and w (bit_not w64 m)) k ≡ bit_at v k = ap (λ y. bit_at y k) same in
+      let known : bit_at n k ≡ 0 = omega (arith, inner, and_not_at n m k other_fits mask_fits, bit_at-zero k, bit_at-lt n k) in
+      h.same k known ∙ omega (arith, kept, and_not_at w m k fits mask_fits, bit_at-lt w k);
+}
+
+pub own_mask : (m : ℕ) → m < 2 ^ 64 → bit_and m (bit_not w64 m) ≡ 0
+own_mask m fits = same_from_bits _ _ (λ k. omega (arith, and_not_at m m k fits fits, bit_at-zero k, bit_at-lt m k))
 
 -- ---- words of either
 

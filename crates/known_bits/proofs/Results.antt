@@ -12,7 +12,7 @@ use Rattle.insn.specs.declared.operation.BinOp.{BinOp}
 use Rattle.insn.specs.declared.operation.BinOp.TheVariants.{Add, Sub, Mul, Div, Sdiv, Or, And, Lsh, Rsh, Mod, Smod, Xor, Mov, Arsh}
 use Rattle.insn.specs.declared.operation.UnOp.TheVariants.{Neg}
 use Rattle.insn.specs.Word.{int_width, seen, word_result, word_negated}
-use Rattle.word.specs.Results.{word_result_fits}
+use Rattle.insn.specs.WordLaws.{word_result_fits}
 use Rattle.range.specs.Domain.{IsSingle}
 use Rattle.known_bits.specs.declared.bits.KnownBits.{KnownBits}
 use Rattle.known_bits.specs.Members.{HasBits}

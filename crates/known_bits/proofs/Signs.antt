@@ -13,7 +13,7 @@ use Rattle.insn.specs.declared.operation.BinOp.TheVariants.{Arsh}
 use Rattle.insn.specs.declared.operation.ExtendBits.{ExtendBits}
 use Rattle.insn.specs.declared.operation.ExtendBits.TheVariants as extended
 use Rattle.insn.specs.Word.{int_width, word_result, extend_width, word_extended}
-use Rattle.word.specs.Results.{word_result_fits, word_extended_fits, word_in_width}
+use Rattle.insn.specs.WordLaws.{word_result_fits, word_extended_fits, word_in_width}
 use Rattle.known_bits.specs.Moves.{MovesBits}
 use Rattle.known_bits.proofs.Agreeing.{bit_at_mod}
 

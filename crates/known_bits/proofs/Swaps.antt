@@ -10,7 +10,7 @@ use Rattle.insn.specs.declared.operation.SwapKind.TheVariants.{ToLittle, ToBig, 
 use Rattle.insn.specs.declared.operation.SwapBits.{SwapBits}
 use Rattle.insn.specs.declared.operation.SwapBits.TheVariants as swapped
 use Rattle.insn.specs.Word.{swap_width, word_swapped, wrapped}
-use Rattle.word.specs.Results.{word_swapped_fits}
+use Rattle.insn.specs.WordLaws.{word_swapped_fits}
 use Rattle.known_bits.specs.Moves.{MovesBits}
 use Rattle.known_bits.proofs.Agreeing.{bit_at_mod}
 use Rattle.known_bits.proofs.Moving.{low_moves}

@@ -16,7 +16,3 @@ HasBits b x = Agrees b.value b.mask x
 -- no known bits that have the members of both say more than a join
 abbrev pub IsLeastJoin : KnownBits → KnownBits → KnownBits → Type 0
 IsLeastJoin a b c = (d : KnownBits) → IsJoin HasBits a b d → (x : ℕ) → HasBits c x → HasBits d x
-
--- a member is a word
-pub HasBits-words : (b : KnownBits) (x : ℕ) → HasBits b x → x < 2 ^ 64
-HasBits-words b x h = h.word

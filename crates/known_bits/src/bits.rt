@@ -1,11 +1,12 @@
 //! Words with bits that are known and bits that are not.
 
-ghost use Rattle.std.specs.Prelude.{◌≡◌, ◌<◌, ◌^◌, ◌↔◌, ℕ, IsTrue, IfNone, IfSome};
+ghost use Rattle.std.specs.Prelude.{◌≡◌, ◌<◌, ◌^◌, ◌↔◌, ℕ, IsTrue, true};
 ghost use Rattle.std.specs.Int.{bit_at};
 ghost use Rattle.std.specs.Int.RustNames.{bit_and, bit_or};
 ghost use mir.Val.{bits};
 ghost use Rattle.insn.specs.Word.{int_width, seen};
 ghost use Rattle.range.specs.Domain.{IsJoin};
+ghost use Rattle.range.specs.Sets.{IsMeet, IsWithin};
 
 use insn::operation::Width;
 
@@ -109,9 +110,8 @@ impl KnownBits {
     }
 
     /// The words that are in both; `None` where there is none.
-    pub(crate) fn meet(a: KnownBits, b: KnownBits) -> Option<KnownBits>
-        ensures none { IfNone result ((x : ℕ) → HasBits a x → HasBits b x → ⊥) }
-        ensures some { IfSome result (λ c. (x : ℕ) → HasBits c x ↔ (HasBits a x × HasBits b x)) }
+    pub fn meet(a: KnownBits, b: KnownBits) -> Option<KnownBits>
+        ensures { IsMeet HasBits a b result }
     {
         let differs = (a.value ^ b.value) & !(a.mask | b.mask);
         if differs == 0 {
@@ -119,5 +119,13 @@ impl KnownBits {
         } else {
             None
         }
+    }
+
+    /// Whether each word of another value is in this one: it knows no bit that the other does not know, or has otherwise.
+    pub fn covers(self, other: KnownBits) -> bool
+        ensures members { result ≡ true → IsWithin HasBits other self }
+        ensures itself { other ≡ self → result ≡ true }
+    {
+        other.mask & !self.mask == 0 && other.value & !self.mask == self.value
     }
 }

@@ -20,7 +20,8 @@ fn image_of_word(op: UnOp, width: Width, n: u64) -> u64
 }
 
 impl Domain for KnownBits {
-    ghost use Rattle.known_bits.specs.Members.{HasBits, HasBits-words, IsLeastJoin};
+    ghost use Rattle.known_bits.specs.Members.{HasBits, IsLeastJoin};
+    ghost use Rattle.known_bits.specs.MemberLaws.{HasBits-words};
     ghost use Rattle.known_bits.specs.Refined.{IsOneBit, IsSettled, IsTight, IsUnanswered, says_equal};
     ghost use Rattle.known_bits.specs.Exact.{HasExactBits, IsExactImage};
 

@@ -5,9 +5,7 @@ mod arithmetic;
 pub mod bits;
 mod domain;
 mod moves;
+mod ranges;
 mod refinement;
 
 pub use bits::KnownBits;
-
-#[cfg(test)]
-mod tests;

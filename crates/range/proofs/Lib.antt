@@ -1,4 +1,9 @@
 pub mod Bits
+pub mod LeastHalves
+pub mod LowConditions
+pub mod LowHalves
+pub mod Products
+pub mod Quotients
 pub mod Numbers
 pub mod Ranges
 pub mod Refinements

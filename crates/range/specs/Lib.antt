@@ -4,3 +4,5 @@ pub mod Conditions
 pub mod Widths
 pub mod Unsigned
 pub mod Signed
+pub mod Half
+pub mod MemberLaws

@@ -3,9 +3,8 @@
 
 mod condition;
 pub mod domain;
+pub mod half;
 pub mod signed;
 mod single;
-#[cfg(test)]
-mod tests;
 pub mod unsigned;
-mod width;
+pub mod width;

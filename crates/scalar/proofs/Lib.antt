@@ -1,4 +1,2 @@
-pub mod Filled
-pub mod Between
 pub mod Singles
 pub mod Same

@@ -1,98 +1,95 @@
-//! What the three say to each other.
+//! What the four say to each other.
 
-ghost use Rattle.std.specs.Prelude.{◌≡◌, ◌↔◌, ℕ, true};
+ghost use Rattle.std.specs.Prelude.{◌≡◌, ◌↔◌, ℕ, IfSome, Some};
+ghost use Rattle.range.specs.Half.{InHalfRange};
+ghost use Rattle.known_bits.specs.Members.{HasBits};
 
-use crate::parts::{
-    as_signed, as_unsigned, common_bits, common_numbers, common_words, range_of_bits, shared_bits,
-};
 use crate::scalar::Scalar;
+use insn::operation::{BinOp, Width};
+use known_bits::KnownBits;
 use range::domain::Domain;
+use range::half::HalfRange;
+use range::signed::SRange;
+use range::unsigned::URange;
+
+/// The low halves of the words that have some known bits.
+fn low_halves(bits: KnownBits) -> HalfRange
+    ensures { (x : ℕ) → HasBits bits x → InHalfRange result x }
+{
+    let low = KnownBits::apply(BinOp::Mov, Width::W32, bits, bits);
+    HalfRange::of_words(SRange::of_unsigned(low.range()))
+}
 
 impl Scalar {
-    ghost use Rattle.scalar.specs.Members.{InScalar, ShowsOne, HasSame, StaysSingle};
+    ghost use Rattle.scalar.specs.Members.{InScalar, ShowsOne, HasSame};
 
-    /// Its unsigned range, narrowed by its bits.
-    fn unsigned_by_bits(self) -> Option<Scalar>
-        ensures { HasSame self result }
-    {
-        let unsigned = common_words(self.unsigned, range_of_bits(self.bits))?;
-        Some(Scalar { unsigned, ..self })
-    }
-
-    /// Its unsigned range, narrowed by its signed range.
-    fn unsigned_by_signed(self) -> Option<Scalar>
-        ensures { HasSame self result }
-    {
-        let unsigned = common_words(self.unsigned, as_unsigned(self.signed))?;
-        Some(Scalar { unsigned, ..self })
-    }
-
-    /// Its signed range, narrowed by its unsigned range.
-    fn signed_by_unsigned(self) -> Option<Scalar>
-        ensures { HasSame self result }
-    {
-        let signed = common_numbers(self.signed, as_signed(self.unsigned))?;
-        Some(Scalar { signed, ..self })
-    }
-
-    /// Its bits, narrowed by its unsigned range.
-    fn bits_by_unsigned(self) -> Option<Scalar>
-        ensures { HasSame self result }
-    {
-        let bits = common_bits(self.bits, shared_bits(self.unsigned))?;
-        Some(Scalar { bits, ..self })
-    }
-
-    /// Whether its unsigned range is one word alone.
-    fn is_one(self) -> bool
-        ensures { (x : ℕ) → ShowsOne self x → result ≡ true }
-    {
-        self.unsigned.least() == self.unsigned.greatest()
-    }
-
-    /// The one word of its unsigned range, where that has one alone.
-    fn as_one(self) -> Option<Scalar>
-        ensures same { HasSame self result }
-        ensures single { StaysSingle self result }
+    /// The word that its unsigned range is alone.
+    pub(crate) fn only(self) -> Option<u64>
+        ensures some { IfSome result (λ n. (x : ℕ) → InScalar self x → x ≡ n) }
+        ensures single { (x : ℕ) → ShowsOne self x → result ≡ Some x }
     {
         let least = self.unsigned.least();
-        if least != self.unsigned.greatest() {
-            Some(self)
-        } else if self.has(least) {
-            Some(Scalar::exact(least))
+        if least == self.unsigned.greatest() {
+            Some(least)
         } else {
             None
         }
     }
 
-    /// Each of the three narrowed by the others in turn.
-    fn told(self) -> Option<Scalar>
+    /// Its range of words narrowed by its numbers and its bits, and these by it.
+    fn with_words_exchanged(self) -> Option<Scalar>
         ensures { HasSame self result }
     {
-        self.unsigned_by_bits()?
-            .signed_by_unsigned()?
-            .unsigned_by_signed()?
-            .bits_by_unsigned()?
-            .unsigned_by_bits()?
-            .signed_by_unsigned()
+        let unsigned = URange::meet(self.unsigned, self.bits.range())?;
+        let signed = SRange::meet(self.signed, SRange::of_unsigned(unsigned))?;
+        let unsigned = URange::meet(unsigned, signed.unsigned())?;
+        let bits = KnownBits::meet(self.bits, KnownBits::shared(unsigned))?;
+        Some(Scalar {
+            unsigned,
+            signed,
+            bits,
+            half: self.half,
+        })
     }
 
-    /// The same words, each of the three narrowed by the others; `None` where there is no word.
-    pub(crate) fn exchange(self) -> Option<Scalar>
-        ensures same { HasSame self result }
-        ensures single { StaysSingle self result }
+    /// Its low halves narrowed by its numbers and its bits, and its ranges by them where they say all of a word.
+    fn with_halves_exchanged(self) -> Option<Scalar>
+        ensures { HasSame self result }
     {
-        if self.is_one() {
-            self.as_one()
-        } else {
-            self.told()?.as_one()
+        let half = HalfRange::meet(self.half, HalfRange::of_words(self.signed))?;
+        let half = HalfRange::meet(half, low_halves(self.bits))?;
+        let unsigned = URange::meet(self.unsigned, half.words_within(self.unsigned))?;
+        let signed = SRange::meet(self.signed, half.numbers_within(self.signed))?;
+        Some(Scalar {
+            unsigned,
+            signed,
+            bits: self.bits,
+            half,
+        })
+    }
+
+    /// The same words, each of the four narrowed by the others; `None` where there is no word.
+    pub(crate) fn exchange(self) -> Option<Scalar>
+        ensures { HasSame self result }
+    {
+        match self.only() {
+            Some(n) => {
+                if self.has(n) {
+                    Some(Scalar::exact(n))
+                } else {
+                    None
+                }
+            }
+            None => self
+                .with_words_exchanged()?
+                .with_halves_exchanged()?
+                .with_words_exchanged(),
         }
     }
 
     /// The same words after an exchange; it stays as it is where there is no word.
     pub(crate) fn exchanged(self) -> Scalar
-        ensures same { (x : ℕ) → InScalar result x ↔ InScalar self x }
-        ensures single { (x : ℕ) → ShowsOne self x → ShowsOne result x }
+        ensures { (x : ℕ) → InScalar result x ↔ InScalar self x }
     {
         self.exchange().unwrap_or(self)
     }

@@ -1,6 +1,13 @@
+ghost use Rattle.std.specs.Prelude.{◌≡◌};
+ghost use Rattle.std.specs.Int.RustNames.{bit_and};
+
 use super::*;
 use insn::operation::{BinOp, Cond, ExtendBits, UnOp, Width};
+use known_bits::KnownBits;
 use range::domain::Domain;
+use range::half::HalfRange;
+use range::signed::SRange;
+use range::unsigned::URange;
 
 const GREATEST: u64 = 0xffff_ffff_ffff_ffff;
 
@@ -148,4 +155,175 @@ fn a_join_has_what_lies_between(rt: HostRuntime) {
         Scalar::join(Scalar::exact(3), Scalar::exact(5)).bounds(),
         (3, 5)
     );
+}
+
+/// An operation on low halves, with a constant.
+fn low(op: BinOp, a: Scalar, n: u64) -> Scalar {
+    Scalar::apply(op, Width::W32, a, Scalar::exact(n))
+}
+
+#[test]
+fn a_signed_comparison_of_low_halves_bounds_a_low_half(rt: HostRuntime) {
+    let positive = left(Cond::Slt, Width::W32, low_half(), 1, false);
+    assert_eq!(rt; bounds(positive), Some((1, 0x7fff_ffff)));
+    let small = left(Cond::Sgt, Width::W32, low_half(), 11, false).and_then(|a| left(
+        Cond::Slt,
+        Width::W32,
+        a,
+        0,
+        false,
+    ));
+    assert_eq!(rt; bounds(small), Some((0, 11)));
+    let negative = left(Cond::Slt, Width::W32, low_half(), 0, true);
+    assert_eq!(rt; bounds(negative), Some((0x8000_0000, 0xffff_ffff)));
+}
+
+#[test]
+fn low_halves_of_both_signs_stay_in_order(rt: HostRuntime) {
+    let index = low(BinOp::And, low_half(), 3);
+    let below = low(BinOp::Add, index, GREATEST);
+    assert_eq!(rt; low(BinOp::Add, below, 1).bounds(), (0, 3));
+    let doubled = low(BinOp::Lsh, below, 1);
+    assert_eq!(rt; low(BinOp::Add, doubled, 2).bounds(), (0, 6));
+    let tripled = low(BinOp::Mul, below, 3);
+    assert_eq!(rt; low(BinOp::Add, tripled, 3).bounds(), (0, 9));
+}
+
+#[test]
+fn a_byte_is_extended_by_shifts(rt: HostRuntime) {
+    let up = low(BinOp::Lsh, low_half(), 24);
+    let byte = low(BinOp::Arsh, up, 24);
+    assert_eq!(rt; low(BinOp::Add, byte, 128).bounds(), (0, 255));
+    let there = with(BinOp::Lsh, byte, 32);
+    assert_eq!(rt; with(BinOp::Arsh, there, 32).signed_bounds(), (-128, 127));
+}
+
+#[test]
+fn a_low_half_is_extended_by_shifts(rt: HostRuntime) {
+    let index = low(BinOp::And, low_half(), 3);
+    let below = low(BinOp::Add, index, GREATEST);
+    let up = with(BinOp::Lsh, below, 32);
+    assert_eq!(rt; up.signed_bounds(), (-0x1_0000_0000, 0x2_0000_0000));
+    let word = with(BinOp::Arsh, up, 32);
+    assert_eq!(rt; word.signed_bounds(), (-1, 2));
+    let other = with(BinOp::And, Scalar::any(), 7);
+    assert_eq!(rt;
+        Scalar::apply(BinOp::Mul, Width::W64, word, other).signed_bounds(),
+        (-7, 14)
+    );
+}
+
+#[test]
+fn sizes(rt: HostRuntime) {
+    assert_eq!(rt; std::mem::size_of::<Scalar>(), 56);
+}
+
+#[test]
+fn a_signed_quotient_by_a_positive_constant_is_bounded(rt: HostRuntime) {
+    let index = low(BinOp::And, low_half(), 15);
+    let below = low(BinOp::Add, index, GREATEST - 7);
+    let quotient = low(BinOp::Sdiv, below, 4);
+    assert_eq!(rt; low(BinOp::Add, quotient, 2).bounds(), (0, 3));
+    let remainder = low(BinOp::Smod, below, 4);
+    assert_eq!(rt; low(BinOp::Add, remainder, 3).bounds(), (0, 6));
+    let byte = Scalar::unary(UnOp::Extend(ExtendBits::B8), Width::W64, Scalar::any());
+    assert_eq!(rt; with(BinOp::Sdiv, byte, 16).signed_bounds(), (-8, 7));
+    assert_eq!(rt; with(BinOp::Smod, byte, 10).signed_bounds(), (-9, 9));
+    assert_eq!(rt; with(BinOp::Smod, byte, 200).signed_bounds(), (-128, 127));
+}
+
+#[test]
+fn a_value_covers_what_it_has_been_narrowed_to(rt: HostRuntime) {
+    let index = with(BinOp::And, Scalar::any(), 7);
+    assert!(rt; Scalar::any().covers(index));
+    assert!(rt; !index.covers(Scalar::any()));
+    assert!(rt; index.covers(Scalar::exact(5)));
+    assert!(rt; !index.covers(Scalar::exact(8)));
+}
+
+fn ends(range: URange) -> (u64, u64) {
+    (range.least(), range.greatest())
+}
+
+fn signed_ends(range: SRange) -> (i64, i64) {
+    (range.least(), range.greatest())
+}
+
+/// What an operation in 64 bits gives of two ranges.
+fn words(op: BinOp, a: URange, b: URange) -> (u64, u64) {
+    ends(URange::apply(op, Width::W64, a, b))
+}
+
+#[test]
+fn ranges_of_words(rt: HostRuntime) {
+    let few = URange::new(3, 5);
+    let more = URange::new(10, 20);
+    assert_eq!(rt; words(BinOp::Sub, more, few), (5, 17));
+    assert_eq!(rt; words(BinOp::Mul, few, more), (30, 100));
+    assert_eq!(rt; words(BinOp::Div, more, URange::new(2, 5)), (2, 10));
+    assert_eq!(rt; words(BinOp::Mod, URange::any(), URange::exact(8)), (0, 7));
+    assert_eq!(rt; words(BinOp::And, more, URange::exact(255)), (10, 20));
+    assert_eq!(rt; words(BinOp::Or, few, more), (10, 31));
+    assert_eq!(rt; words(BinOp::Lsh, few, URange::exact(68)), (48, 80));
+    assert_eq!(rt;
+        words(BinOp::Rsh, URange::any(), URange::exact(60)),
+        (0, 15)
+    );
+    let lower_case = URange::apply(
+        BinOp::Add,
+        Width::W32,
+        URange::new(70, 80),
+        URange::exact(0xffff_ffbf),
+    );
+    assert_eq!(rt; ends(lower_case), (5, 15));
+}
+
+#[test]
+fn ranges_of_signed_words(rt: HostRuntime) {
+    let around = SRange::new(-5, 10);
+    let sum = SRange::apply(BinOp::Add, Width::W64, around, SRange::new(1, 2));
+    assert_eq!(rt; signed_ends(sum), (-4, 12));
+    let difference = SRange::apply(BinOp::Sub, Width::W64, around, SRange::new(1, 2));
+    assert_eq!(rt; signed_ends(difference), (-7, 9));
+    let half = SRange::apply(BinOp::Arsh, Width::W64, around, SRange::exact(1));
+    assert_eq!(rt; signed_ends(half), (-3, 5));
+    assert_eq!(rt;
+        signed_ends(SRange::unary(UnOp::Neg, Width::W64, around)),
+        (-10, 5)
+    );
+}
+
+#[test]
+fn ranges_of_low_halves(rt: HostRuntime) {
+    let any = HalfRange::any();
+    let byte = HalfRange::apply(BinOp::Arsh, Width::W32, any, HalfRange::exact(24));
+    assert_eq!(rt; (byte.least(), byte.greatest()), (-128, 127));
+    let same = HalfRange::apply(BinOp::Arsh, Width::W32, byte, HalfRange::exact(32));
+    assert_eq!(rt; (same.least(), same.greatest()), (-128, 127));
+}
+
+fn known(value: u64, mask: u64) -> KnownBits
+    requires { bit_and value mask ≡ 0 }
+{
+    KnownBits::new(value, mask)
+}
+
+#[test]
+fn known_bits(rt: HostRuntime) {
+    let sum = KnownBits::apply(BinOp::Add, Width::W64, known(0, 1), known(0, 1));
+    assert_eq!(rt; sum, known(0, 3));
+    let difference = KnownBits::apply(BinOp::Sub, Width::W64, known(0, 1), known(1, 0));
+    assert_eq!(rt; difference, known(0, GREATEST));
+    let low = KnownBits::apply(BinOp::Sub, Width::W32, known(0, 1), known(1, 0));
+    assert_eq!(rt; low, known(0, 0xffff_ffff));
+    let both = KnownBits::apply(BinOp::And, Width::W64, known(4, 3), known(6, 0));
+    assert_eq!(rt; both, known(4, 2));
+    let either = KnownBits::apply(BinOp::Or, Width::W64, known(0, 5), known(1, 0));
+    assert_eq!(rt; either, known(1, 4));
+    let one = KnownBits::apply(BinOp::Xor, Width::W64, known(0, 5), known(1, 0));
+    assert_eq!(rt; one, known(0, 5));
+    let product = KnownBits::apply(BinOp::Mul, Width::W64, known(0, 3), known(8, 0));
+    assert_eq!(rt; product, known(0, 24));
+    let quotient = KnownBits::apply(BinOp::Div, Width::W64, known(0, 0xff), known(16, 0));
+    assert_eq!(rt; quotient, known(0, 0xf));
 }

@@ -1,6 +1,6 @@
 //! Sums, differences, shifts and sign extensions of signed words between bounds.
 
-ghost use Rattle.std.specs.Prelude.{◌≡◌, ℕ, pos};
+ghost use Rattle.std.specs.Prelude.{◌≡◌, ◌≤ℤ◌, ℕ, pos};
 ghost use Rattle.range.specs.Domain.{unary_result, IsSoundImage, IsSoundResult};
 ghost use Rattle.range.specs.Widths.{extended_half};
 
@@ -50,6 +50,89 @@ impl SRange {
         ) {
             (Some(least), Some(greatest)) => SRange::new(least, greatest),
             _ => SRange::by_words(BinOp::Sub, Width::W64, a, b),
+        }
+    }
+
+    /// The numbers from one to another, whichever is less.
+    fn between(first: i64, second: i64) -> SRange
+        ensures first { (result.least ≤ℤ first) × (first ≤ℤ result.greatest) }
+        ensures second { (result.least ≤ℤ second) × (second ≤ℤ result.greatest) }
+    {
+        SRange::new(first.min(second), first.max(second))
+    }
+
+    /// The least range that has four numbers.
+    fn spanning(first: i64, second: i64, third: i64, fourth: i64) -> SRange
+        ensures first { (result.least ≤ℤ first) × (first ≤ℤ result.greatest) }
+        ensures second { (result.least ≤ℤ second) × (second ≤ℤ result.greatest) }
+        ensures third { (result.least ≤ℤ third) × (third ≤ℤ result.greatest) }
+        ensures fourth { (result.least ≤ℤ fourth) × (fourth ≤ℤ result.greatest) }
+    {
+        let left = SRange::between(first, second);
+        let right = SRange::between(third, fourth);
+        SRange::new(
+            left.least.min(right.least),
+            left.greatest.max(right.greatest),
+        )
+    }
+
+    /// Their products in 64 bits.
+    pub(crate) fn product(a: SRange, b: SRange) -> SRange
+        ensures { IsSoundResult InSignedRange BinOp.Mul Width.W64 a b result }
+    {
+        match (
+            a.least.checked_mul(b.least),
+            a.least.checked_mul(b.greatest),
+            a.greatest.checked_mul(b.least),
+            a.greatest.checked_mul(b.greatest),
+        ) {
+            (Some(first), Some(second), Some(third), Some(fourth)) => {
+                SRange::spanning(first, second, third, fourth)
+            }
+            _ => SRange::by_words(BinOp::Mul, Width::W64, a, b),
+        }
+    }
+
+    /// Their quotients in 64 bits, rounded toward 0: by a positive constant they are in the order of the dividends.
+    pub(crate) fn quotient(a: SRange, b: SRange) -> SRange
+        ensures { IsSoundResult InSignedRange BinOp.Sdiv Width.W64 a b result }
+    {
+        let divisor = b.least;
+        if 0 < divisor && divisor == b.greatest {
+            SRange::new(a.least / divisor, a.greatest / divisor)
+        } else {
+            SRange::by_words(BinOp::Sdiv, Width::W64, a, b)
+        }
+    }
+
+    /// What these divisions leave: by a positive constant a number that is less, and has the dividend's sign.
+    pub(crate) fn remainder(a: SRange, b: SRange) -> SRange
+        ensures { IsSoundResult InSignedRange BinOp.Smod Width.W64 a b result }
+    {
+        let divisor = b.least;
+        if a.least < 0 && 0 < divisor && divisor == b.greatest {
+            if -divisor < a.least && a.greatest < divisor {
+                a
+            } else {
+                let least = a.least.max(1 - divisor);
+                let greatest = a.greatest.max(0).min(divisor - 1);
+                SRange::new(least, greatest)
+            }
+        } else {
+            SRange::by_words(BinOp::Smod, Width::W64, a, b)
+        }
+    }
+
+    /// The words of one range moved up by those of another in 64 bits.
+    pub(crate) fn moved_up(a: SRange, b: SRange) -> SRange
+        ensures { IsSoundResult InSignedRange BinOp.Lsh Width.W64 a b result }
+    {
+        let by = b.unsigned().amounts(Width::W64);
+        let amount = by.least();
+        if amount == by.greatest() {
+            SRange::product(a, SRange::exact(1 << amount))
+        } else {
+            SRange::by_words(BinOp::Lsh, Width::W64, a, b)
         }
     }
 

@@ -22,6 +22,10 @@ impl SRange {
         match (op, width) {
             (BinOp::Add, Width::W64) => SRange::sum(a, b),
             (BinOp::Sub, Width::W64) => SRange::difference(a, b),
+            (BinOp::Mul, Width::W64) => SRange::product(a, b),
+            (BinOp::Sdiv, Width::W64) => SRange::quotient(a, b),
+            (BinOp::Smod, Width::W64) => SRange::remainder(a, b),
+            (BinOp::Lsh, Width::W64) => SRange::moved_up(a, b),
             (BinOp::Arsh, Width::W64) => SRange::moved_down(a, b),
             (BinOp::Mov, Width::W64) => b,
             _ => SRange::by_words(op, width, a, b),
@@ -52,7 +56,8 @@ impl SRange {
 }
 
 impl Domain for SRange {
-    ghost use Rattle.range.specs.Signed.{InSignedRange, InSignedRange-words, IsLeastSignedCompared};
+    ghost use Rattle.range.specs.Signed.{InSignedRange, IsLeastSignedCompared};
+    ghost use Rattle.range.specs.MemberLaws.{InSignedRange-words};
 
     ghost Has = { InSignedRange };
 

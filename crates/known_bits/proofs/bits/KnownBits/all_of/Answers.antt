@@ -1,7 +1,7 @@
 use Rattle.std.proofs.Common.{arith}
 use Rattle.known_bits.proofs.Witnesses.{IsKnown}
 use Rattle.known_bits.proofs.Results.{seen_small, cut_has}
-use Rattle.word.specs.Results.{word_in_width}
+use Rattle.insn.specs.WordLaws.{word_in_width}
 use Rattle.known_bits.proofs.bits.KnownBits.all_of.Goals as goal
 
 pub returns : goal.returns

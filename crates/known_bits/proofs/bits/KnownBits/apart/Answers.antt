@@ -16,7 +16,7 @@ returns-in-Some-clause-kept c x y hx hy taken =
     let none : bit_and (seen c.args.width x) (seen c.args.width y) ≡ 0 = grind (arith, nat_tests) in
     let kept = limited_has c.outside.result c.in_width-tests.result.value 0 x limit (omega arith) hx.word c.outside.ensures.mask c.outside.ensures.value
     (λ k set. untouched c.args.width x y c.in_width-tests.result.value k tested none set) in
-    ((c.in-Some.ensures.some x).1 (hx, kept), hy)
+    ((c.in-Some.ensures x).1 (hx, kept), hy)
 
 pub returns-in-None-clause-kept : goal.returns-in-None-clause-kept
 returns-in-None-clause-kept c x y hx hy taken =
@@ -27,12 +27,12 @@ returns-in-None-clause-kept c x y hx hy taken =
     let none : bit_and (seen c.args.width x) (seen c.args.width y) ≡ 0 = grind (arith, nat_tests) in
     let kept = limited_has c.outside.result c.in_width-tests.result.value 0 x limit (omega arith) hx.word c.outside.ensures.mask c.outside.ensures.value
     (λ k set. untouched c.args.width x y c.in_width-tests.result.value k tested none set) in
-    c.in-None.ensures.none x hx kept
+    c.in-None.ensures x hx kept
 
 pub returns-in-Some-clause-settled : goal.returns-in-Some-clause-settled
 returns-in-Some-clause-settled c k one x h =
     let none = settled_apart c.args.width c.outside.result c.in_width-tests.result.value c.args.b.value x c.in_width-tests.ensures.value (omega arith)
-    c.outside.ensures.mask c.outside.ensures.value ((c.in-Some.ensures.some x).0 h).1 in
+    c.outside.ensures.mask c.outside.ensures.value ((c.in-Some.ensures x).0 h).1 in
     grind (arith, nat_tests)
 
 pub returns-then-tests-ne0-clause-settled : goal.returns-then-tests-ne0-clause-settled

@@ -9,14 +9,14 @@ new-requires c =
     let right : IsKnown c.args.b = record { fits = omega arith; mask_fits = omega arith; apart = c.args.b.apart } in
     meet_apart c.args.a c.args.b left right
 
-pub returns-then-differs-eq0-clause-some : goal.returns-then-differs-eq0-clause-some
-returns-then-differs-eq0-clause-some c x =
+pub returns-then-differs-eq0 : goal.returns-then-differs-eq0
+returns-then-differs-eq0 c x =
     let left : IsKnown c.args.a = record { fits = omega arith; mask_fits = omega arith; apart = c.args.a.apart } in
     let right : IsKnown c.args.b = record { fits = omega arith; mask_fits = omega arith; apart = c.args.b.apart } in
     meet_has c.args.a c.args.b c.new.result x left right (record { none = c.if-differs-eq0.true; value = c.new.ensures.value; mask = c.new.ensures.mask })
 
-pub returns-else-differs-eq0-clause-none : goal.returns-else-differs-eq0-clause-none
-returns-else-differs-eq0-clause-none c x ha hb =
+pub returns-else-differs-eq0 : goal.returns-else-differs-eq0
+returns-else-differs-eq0 c x ha hb =
     let left : IsKnown c.args.a = record { fits = omega arith; mask_fits = omega arith; apart = c.args.a.apart } in
     let right : IsKnown c.args.b = record { fits = omega arith; mask_fits = omega arith; apart = c.args.b.apart } in
     c.if-differs-eq0.false (no_member_of_both c.args.a c.args.b x left right ha hb)

@@ -2,7 +2,7 @@ use Rattle.std.proofs.Common.{◌^◌}
 use Rattle.std.proofs.Math.Nat.{mul_comm}
 use Rattle.insn.specs.declared.operation.Width.TheVariants.{W64}
 use Rattle.insn.specs.declared.operation.BinOp.TheVariants.{Mul}
-use Rattle.word.specs.Results.{word_result_fits}
+use Rattle.insn.specs.WordLaws.{word_result_fits}
 use Rattle.known_bits.proofs.bits.KnownBits.product.Goals as goal
 
 pub returns-in-Some : goal.returns-in-Some

@@ -1,7 +1,7 @@
 use Rattle.std.proofs.Common.{◌≡◌, sym, ap, ◌∙◌, arith, ◌/◌, ◌^◌}
 use Rattle.insn.specs.declared.operation.Width.TheVariants.{W64}
 use Rattle.insn.specs.declared.operation.BinOp.TheVariants.{Div}
-use Rattle.word.specs.Results.{word_result_fits}
+use Rattle.insn.specs.WordLaws.{word_result_fits}
 use Rattle.std.proofs.Math.Nat.{div-zero}
 use Rattle.known_bits.proofs.Results.{member_of_zero}
 use Rattle.known_bits.proofs.Moving.{moved_apart, moved_agrees, down_moves}

@@ -1,7 +1,7 @@
 use Rattle.std.proofs.Common.{◌≡◌, sym, ap, ◌∙◌, arith, ◌%◌, ◌^◌}
 use Rattle.insn.specs.declared.operation.Width.TheVariants.{W64}
 use Rattle.insn.specs.declared.operation.BinOp.TheVariants.{Mod}
-use Rattle.word.specs.Results.{word_result_fits}
+use Rattle.insn.specs.WordLaws.{word_result_fits}
 use Rattle.std.proofs.lemmas.Nat.{one_shl}
 use Rattle.std.proofs.Math.Nat.{mod-zero}
 use Rattle.known_bits.proofs.Results.{member_of_zero}

@@ -1,6 +1,6 @@
 use Rattle.std.proofs.Common.{◌≡◌, true, arith}
 use Rattle.insn.specs.Word.{seen}
-use Rattle.word.specs.Results.{word_result_fits}
+use Rattle.insn.specs.WordLaws.{word_result_fits}
 use Rattle.known_bits.proofs.Witnesses.{IsKnown}
 use Rattle.known_bits.proofs.Results.{is_low, by_whole, cut_has, cut_exact, divided}
 use Rattle.known_bits.proofs.Shifts.{is_shift, shift_moves, known_amount}

@@ -1,6 +1,6 @@
 use Rattle.std.proofs.Common.{◌∙◌, arith}
 use Rattle.insn.specs.Word.{word_result}
-use Rattle.word.specs.Results.{word_result_fits}
+use Rattle.insn.specs.WordLaws.{word_result_fits}
 use Rattle.known_bits.proofs.Moving.{moved_apart, moved_agrees}
 use Rattle.known_bits.proofs.Witnesses.{IsKnown, moved_exact}
 use Rattle.known_bits.proofs.Results.{member_of_single}

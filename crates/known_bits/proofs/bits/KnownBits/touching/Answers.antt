@@ -19,7 +19,7 @@ returns-in-Some-meet-clause-kept c x y hx hy taken =
     let some : 0 < bit_and (seen c.args.width x) (seen c.args.width y) = grind (arith, nat_tests) in
     let kept = limited_has c.outside.result c.in_width-tests.result.value c.in_width-tests.result.value x limit (omega arith) hx.word c.outside.ensures.mask c.outside.ensures.value
     (λ k set. touched c.args.width x y c.in_width-tests.result.value _ k tested power some set) in
-    ((c.in-Some-meet.ensures.some x).1 (hx, kept), hy)
+    ((c.in-Some-meet.ensures x).1 (hx, kept), hy)
 
 pub returns-in-None-meet-clause-kept : goal.returns-in-None-meet-clause-kept
 returns-in-None-meet-clause-kept c x y hx hy taken =
@@ -32,12 +32,12 @@ returns-in-None-meet-clause-kept c x y hx hy taken =
     let some : 0 < bit_and (seen c.args.width x) (seen c.args.width y) = grind (arith, nat_tests) in
     let kept = limited_has c.outside.result c.in_width-tests.result.value c.in_width-tests.result.value x limit (omega arith) hx.word c.outside.ensures.mask c.outside.ensures.value
     (λ k set. touched c.args.width x y c.in_width-tests.result.value _ k tested power some set) in
-    c.in-None-meet.ensures.none x hx kept
+    c.in-None-meet.ensures x hx kept
 
 pub returns-in-Some-meet-clause-settled : goal.returns-in-Some-meet-clause-settled
 returns-in-Some-meet-clause-settled c k one x h =
     let some = settled_touching c.args.width c.outside.result c.in_width-tests.result.value c.args.b.value x k c.in_width-tests.ensures.value one.one (omega arith)
-    c.outside.ensures.mask c.outside.ensures.value ((c.in-Some-meet.ensures.some x).0 h).1 in
+    c.outside.ensures.mask c.outside.ensures.value ((c.in-Some-meet.ensures x).0 h).1 in
     grind (arith, nat_tests)
 
 pub returns-in-None-clause-settled : goal.returns-in-None-clause-settled

@@ -1,6 +1,6 @@
 use Rattle.std.proofs.Common.{◌≡◌, true, arith}
 use Rattle.insn.specs.declared.operation.Width.TheVariants.{W64}
-use Rattle.word.specs.Results.{word_result_fits}
+use Rattle.insn.specs.WordLaws.{word_result_fits}
 use Rattle.known_bits.proofs.Witnesses.{IsKnown, right_exact}
 use Rattle.known_bits.proofs.Shifts.{is_shift, shift_moves, known_amount}
 use Rattle.known_bits.proofs.bits.KnownBits.whole.Goals as goal

@@ -1,5 +1,5 @@
-use Rattle.scalar.proofs.Singles.{kept_single}
+use Rattle.scalar.proofs.Same.{kept_same}
 use Rattle.scalar.proofs.scalar.Scalar.exchanged.Goals as goal
 
-pub returns-clause-single : goal.returns-clause-single
-returns-clause-single c x one = rw c.unwrap_or.ensures (kept_single c.args.self c.exchange.result c.exchange.ensures.single x one)
+pub returns : goal.returns
+returns c x = rw c.unwrap_or.ensures (kept_same c.args.self c.exchange.result c.exchange.ensures x)

@@ -1,0 +1,309 @@
+-- Low halves of words, and of results of operations on words.
+use Rattle.std.proofs.Common.{◌≡◌, ℕ, ℤ, pos, negsuc, zero, suc, lt_of_le_of_lt, ◌+◌, ◌-◌, ◌*◌, ◌%◌, ◌^◌, ◌<◌, ◌≤◌, ◌≤ℤ◌, ◌<ℤ◌, ◌+ℤ◌, ◌-ℤ◌, FitsSigned, ◌⊎◌, inl, inr, bit_and, bit_or, bit_xor, w8, w16, w32, w64, sym, ap, ◌∙◌, refl, arith}
+use mir.Val.{bits}
+use Rattle.std.specs.Int.{Width as IntWidth, cast_signed, cast_unsigned, int_shr}
+use Rattle.std.specs.Int.Signed.{mag_shr, mag_rem}
+use Rattle.std.specs.Int.RustNames.{int_div, int_rem}
+use Rattle.std.proofs.Math.Facts.{Fits-of_z, sfits_to_z, sfits_widen}
+use Rattle.std.proofs.lemmas.Bool.{cases_lt}
+use Rattle.std.proofs.lemmas.Int.{ints, to_z-of_z, of_z-to_z, to_z_pos}
+use Rattle.std.proofs.lemmas.Nat.{and_mod, or_mod, xor_mod, mul-mod, mul-mod_first, and_mask, pow-add}
+use Rattle.std.proofs.Math.Nat.{mul_assoc, div-le_self}
+use Rattle.insn.specs.declared.operation.Width.{Width}
+use Rattle.insn.specs.declared.operation.Width.TheVariants.{W32, W64}
+use Rattle.insn.specs.declared.operation.BinOp.{BinOp}
+use Rattle.insn.specs.declared.operation.BinOp.TheVariants.{Add, Sub, Mul, Div, Sdiv, Or, And, Lsh, Rsh, Mod, Smod, Xor, Mov, Arsh}
+use Rattle.insn.specs.declared.operation.ExtendBits.{ExtendBits}
+use Rattle.insn.specs.declared.operation.ExtendBits.TheVariants.{B8, B16, B32}
+use Rattle.insn.specs.Word.{int_width, signed_quotient, signed_remainder, word_extended, word_negated, word_result}
+use Rattle.insn.specs.WordLaws.{word_extended_fits}
+use Rattle.range.specs.declared.half.HalfRange.{HalfRange}
+use Rattle.range.specs.Half.{low_reading, InHalfRange, IsHalf, IsTold}
+use Rattle.range.specs.Domain.{IsSingle}
+use Rattle.range.specs.declared.signed.SRange.{SRange}
+use Rattle.range.specs.Signed.{InSignedRange}
+use Rattle.range.proofs.SignedRanges.{signed_member}
+
+pub half_member : (r : HalfRange) (x : ℕ) → x < 2 ^ 64 → r.least ≤ℤ low_reading x → low_reading x ≤ℤ r.greatest → InHalfRange r x
+half_member r x h k p = record { word = h; above = k; below = p }
+
+-- ---- the low half with its sign in the upper half
+
+-- what a sign extension adds to a number
+abbrev pub IsSpread : ℕ → ℕ → Type 0
+IsSpread p m = ((p < 2147483648) × (m ≡ p)) ⊎ ((2147483648 ≤ p) × (m ≡ p + 18446744069414584320))
+
+negative_reading : (p : ℕ) → 2147483648 ≤ p → p < 4294967296 → cast_unsigned w64 (cast_signed w32 p) ≡ p + 18446744069414584320
+negative_reading p h k = grind (arith, ints)
+
+pub extended_is : (x : ℕ) → IsSpread (x % 2 ^ 32) (word_extended W64 B32 x)
+extended_is x = elim (cases_lt (x % 2 ^ 32) 2147483648) [
+  | inl low ↦ inl (low, ap (cast_unsigned w64) (to_z_pos w32 (x % 2 ^ 32) low))
+  | inr high ↦ inr (high, negative_reading (x % 2 ^ 32) high (omega arith))
+]
+
+pub extended_low : (x : ℕ) → word_extended W64 B32 x % 2 ^ 32 ≡ x % 2 ^ 32
+extended_low x = elim (extended_is x) [ inl low ↦ omega (arith, low.1) | inr high ↦ omega (arith, high.1) ]
+
+pub extended_reading : (x : ℕ) → cast_signed w64 (word_extended W64 B32 x) ≡ low_reading x
+extended_reading x =
+    let small : FitsSigned w32 (low_reading x) = sfits_to_z {w = w32} {n = x % 2 ^ 32} (record { fits = omega arith }) in
+    to_z-of_z w64 (low_reading x) (sfits_widen tt small)
+
+-- ---- words between two
+
+raised_reading : (x : ℕ) → x < 2 ^ 64 → (cast_signed w64 x +ℤ pos 9223372036854775808) ≡ pos ((x + 9223372036854775808) % 18446744073709551616)
+raised_reading x h = grind (arith, ints)
+
+raised_low_reading : (p : ℕ) → p < 4294967296 → (cast_signed w32 p +ℤ pos 2147483648) ≡ pos ((p + 2147483648) % 4294967296)
+raised_low_reading p h = grind (arith, ints)
+
+-- numbers between two that are less than one turn apart and in order after it
+turn_between : (l x g : ℕ) → l ≤ x → x ≤ g → g < l + 4294967296 → (l + 2147483648) % 4294967296 ≤ (g + 2147483648) % 4294967296 → ((l + 2147483648) % 4294967296 ≤ (x + 2147483648) % 4294967296) × ((x + 2147483648) % 4294967296 ≤ (g + 2147483648) % 4294967296)
+turn_between l x g h k near order = (omega arith, omega arith)
+
+same_turn : (x : ℕ) → ((x + 9223372036854775808) % 18446744073709551616 + 2147483648) % 4294967296 ≡ (x % 4294967296 + 2147483648) % 4294967296
+same_turn x = omega arith
+
+-- words between two whose low halves are in order, less than one turn apart, have theirs between these
+pub low_between : (l x g : ℕ) → l < 2 ^ 64 → x < 2 ^ 64 → g < 2 ^ 64 → cast_signed w64 l ≤ℤ cast_signed w64 x → cast_signed w64 x ≤ℤ cast_signed w64 g → (cast_signed w64 g -ℤ cast_signed w64 l) <ℤ pos 4294967296 → low_reading l ≤ℤ low_reading g → (low_reading l ≤ℤ low_reading x) × (low_reading x ≤ℤ low_reading g)
+low_between l x g hl hx hg above below near order =
+    let at_l = raised_reading l hl in
+    let at_x = raised_reading x hx in
+    let at_g = raised_reading g hg in
+    let low_l = raised_low_reading (l % 2 ^ 32) (omega arith) in
+    let low_x = raised_low_reading (x % 2 ^ 32) (omega arith) in
+    let low_g = raised_low_reading (g % 2 ^ 32) (omega arith) in
+    let m = (l + 9223372036854775808) % 18446744073709551616 in
+    let n = (x + 9223372036854775808) % 18446744073709551616 in
+    let o = (g + 9223372036854775808) % 18446744073709551616 in
+    let between = turn_between m n o (omega (arith, ints)) (omega (arith, ints)) (omega (arith, ints))
+    (rw (same_turn l, same_turn g) (omega (arith, ints))) in
+    let first = rw (same_turn l, same_turn x) at between.0 in
+    let second = rw (same_turn x, same_turn g) at between.1 in
+    (omega (arith, ints), omega (arith, ints))
+
+-- ---- words by their low halves
+
+pub half_word : (r : HalfRange) (z : ℤ) → FitsSigned w32 z → r.least ≤ℤ z → z ≤ℤ r.greatest → InHalfRange r (cast_unsigned w32 z)
+half_word r z fits h k =
+    let small = (Fits-of_z {w = w32} {z = z} fits).fits in
+    let same : cast_unsigned w32 z % 2 ^ 32 ≡ cast_unsigned w32 z = omega arith in
+    let back : low_reading (cast_unsigned w32 z) ≡ z = ap (cast_signed w32) same ∙ to_z-of_z w32 z fits in
+    half_member r (cast_unsigned w32 z) (omega arith) (rw back h) (rw back k)
+
+-- a range that has all members of another reaches past its ends
+pub half_ends_within : (a s : HalfRange) → FitsSigned w32 a.least → FitsSigned w32 a.greatest → a.least ≤ℤ a.greatest → ((x : ℕ) → InHalfRange a x → InHalfRange s x) → (s.least ≤ℤ a.least) × (a.greatest ≤ℤ s.greatest)
+half_ends_within a s f g h has =
+    let low = has (cast_unsigned w32 a.least) (half_word a a.least f (omega (arith, ints)) h) in
+    let high = has (cast_unsigned w32 a.greatest) (half_word a a.greatest g h (omega (arith, ints))) in
+    (rw (back a.least f) at low.above, rw (back a.greatest g) at high.below)
+  where
+    back : (z : ℤ) → FitsSigned w32 z → low_reading (cast_unsigned w32 z) ≡ z
+    back z fits =
+        let small = (Fits-of_z {w = w32} {z = z} fits).fits in
+        let same : cast_unsigned w32 z % 2 ^ 32 ≡ cast_unsigned w32 z = omega arith in
+        ap (cast_signed w32) same ∙ to_z-of_z w32 z fits
+
+-- ---- operations
+
+shift_same : (y n : ℕ) → n % 2 ^ 32 ≡ y % 2 ^ 32 → 2 ^ (n % 64) ≡ 2 ^ (y % 64)
+shift_same y n e = ap (λ (k : ℕ). 2 ^ k) (omega arith)
+
+product_low : (x y : ℕ) → ((x * y) % 2 ^ 64) % 2 ^ 32 ≡ ((x % 2 ^ 32) * (y % 2 ^ 32)) % 2 ^ 32
+product_low x y = omega (arith, mul-mod x y (2 ^ 32))
+
+raised_low : (x k : ℕ) → ((x * k) % 2 ^ 64) % 2 ^ 32 ≡ ((x % 2 ^ 32) * k) % 2 ^ 32
+raised_low x k = omega (arith, mul-mod_first x k (2 ^ 32))
+
+-- the low half of a result, by those of the operands
+pub told_low : (op : BinOp) (w : Width) (x y m n : ℕ) → IsTold op w → x < 2 ^ 64 → y < 2 ^ 64 → m < 2 ^ 64 → n < 2 ^ 64 → m % 2 ^ 32 ≡ x % 2 ^ 32 → n % 2 ^ 32 ≡ y % 2 ^ 32 → word_result w op x y % 2 ^ 32 ≡ word_result W64 op m n % 2 ^ 32
+told_low Add W32 x y m n told hx hy hm hn p q = omega arith
+told_low Add W64 x y m n told hx hy hm hn p q = omega arith
+told_low Sub W32 x y m n told hx hy hm hn p q = omega arith
+told_low Sub W64 x y m n told hx hy hm hn p q = omega arith
+told_low Mul W32 x y m n told hx hy hm hn p q = sym (product_low m n ∙ rw (p, q) (omega arith))
+told_low Mul W64 x y m n told hx hy hm hn p q = product_low x y ∙ sym (product_low m n ∙ rw (p, q) refl)
+told_low Div w x y m n told hx hy hm hn p q = absurd told
+told_low Sdiv w x y m n told hx hy hm hn p q = absurd told
+told_low Or W32 x y m n told hx hy hm hn p q =
+    let e : bit_or (x % 2 ^ 32) (y % 2 ^ 32) ≡ bit_or m n % 2 ^ 32 = sym (or_mod m n 32 ∙ rw (p, q) refl) in
+    omega arith
+told_low Or W64 x y m n told hx hy hm hn p q = or_mod x y 32 ∙ sym (or_mod m n 32 ∙ rw (p, q) refl)
+told_low And W32 x y m n told hx hy hm hn p q =
+    let e : bit_and (x % 2 ^ 32) (y % 2 ^ 32) ≡ bit_and m n % 2 ^ 32 = sym (and_mod m n 32 ∙ rw (p, q) refl) in
+    omega arith
+told_low And W64 x y m n told hx hy hm hn p q = and_mod x y 32 ∙ sym (and_mod m n 32 ∙ rw (p, q) refl)
+told_low Lsh W32 x y m n told hx hy hm hn p q = absurd told
+told_low Lsh W64 x y m n told hx hy hm hn p q = raised_low x (2 ^ (y % 64)) ∙ sym (raised_low m (2 ^ (n % 64)) ∙ rw (p, shift_same y n q) refl)
+told_low Rsh w x y m n told hx hy hm hn p q = absurd told
+told_low Mod w x y m n told hx hy hm hn p q = absurd told
+told_low Smod w x y m n told hx hy hm hn p q = absurd told
+told_low Xor W32 x y m n told hx hy hm hn p q =
+    let e : bit_xor (x % 2 ^ 32) (y % 2 ^ 32) ≡ bit_xor m n % 2 ^ 32 = sym (xor_mod m n 32 ∙ rw (p, q) refl) in
+    omega arith
+told_low Xor W64 x y m n told hx hy hm hn p q = xor_mod x y 32 ∙ sym (xor_mod m n 32 ∙ rw (p, q) refl)
+told_low Mov W32 x y m n told hx hy hm hn p q = omega arith
+told_low Mov W64 x y m n told hx hy hm hn p q = omega arith
+told_low Arsh w x y m n told hx hy hm hn p q = absurd told
+
+-- in 32 bits the operands' upper halves are not read
+pub seen_low : (op : BinOp) (x y : ℕ) → word_result W32 op (word_extended W64 B32 x) (word_extended W64 B32 y) ≡ word_result W32 op x y
+seen_low op x y = rw (extended_low x, extended_low y) refl
+
+amount_low : (y : ℕ) → bit_and (word_extended W64 B32 y) 31 % 64 ≡ (y % 2 ^ 32) % 32
+amount_low y =
+    let mask = and_mask (word_extended W64 B32 y) 5 in
+    let low = extended_low y in
+    omega arith
+
+pub lsh_low : (x y : ℕ) → word_result W32 Lsh x y % 2 ^ 32 ≡ word_result W64 Lsh (word_extended W64 B32 x) (bit_and (word_extended W64 B32 y) 31) % 2 ^ 32
+lsh_low x y =
+    let k = 2 ^ ((y % 2 ^ 32) % 32) in
+    let amount : 2 ^ (bit_and (word_extended W64 B32 y) 31 % 64) ≡ k = ap (λ (n : ℕ). 2 ^ n) (amount_low y) in
+    let raised = raised_low (word_extended W64 B32 x) k in
+    let once : ((x % 2 ^ 32) * k) % 2 ^ 32 ≡ (((x % 2 ^ 32) * k) % 2 ^ 32) % 2 ^ 32 = omega arith in
+    sym (rw amount (raised ∙ rw (extended_low x) once))
+
+-- what is moved up by 32 bits or more is told by the low half
+moved_high : (p q : ℕ) → p % 4294967296 ≡ q % 4294967296 → (p * 4294967296) % 18446744073709551616 ≡ (q * 4294967296) % 18446744073709551616
+moved_high p q e = omega arith
+
+twice_moved : (x k : ℕ) → 32 ≤ k → x * 2 ^ k ≡ (x * 2 ^ (k - 32)) * 4294967296
+twice_moved x k h =
+    let sum : 2 ^ k ≡ 2 ^ (k - 32) * 4294967296 = ap (λ (n : ℕ). 2 ^ n) (omega arith) ∙ pow-add 2 (k - 32) 32 in
+    ap (λ (n : ℕ). x * n) sum ∙ sym (mul_assoc x (2 ^ (k - 32)) 4294967296)
+
+pub amount_reading : (y : ℕ) → y < 2 ^ 64 → pos 32 ≤ℤ cast_signed w64 y → cast_signed w64 y <ℤ pos 64 → (32 ≤ y) × (y < 64)
+amount_reading y h least greatest = (grind (arith, ints), grind (arith, ints))
+
+pub raised_same : (x m y : ℕ) → 32 ≤ y → y < 64 → m % 2 ^ 32 ≡ x % 2 ^ 32 → word_result W64 Lsh m y ≡ word_result W64 Lsh x y
+raised_same x m y h k e =
+    let amount : y % 64 ≡ y = omega arith in
+    let j = 2 ^ (y - 32) in
+    let low : (m * j) % 4294967296 ≡ (x * j) % 4294967296 = sym (mul-mod_first m j 4294967296) ∙ ap (λ (n : ℕ). (n * j) % 4294967296) e ∙ mul-mod_first x j 4294967296 in
+    rw (amount, twice_moved m y h, twice_moved x y h) (moved_high (m * j) (x * j) low)
+
+-- a number that fits 32 bits has one low half in both widths
+wide_low : (z : ℤ) → FitsSigned w32 z → cast_unsigned w64 z % 2 ^ 32 ≡ cast_unsigned w32 z % 2 ^ 32
+wide_low (pos n) fits = refl
+wide_low (negsuc n) fits = let small = fits.sfits in omega arith
+
+pub arsh_low : (x y : ℕ) → word_result W32 Arsh x y % 2 ^ 32 ≡ word_result W64 Arsh (word_extended W64 B32 x) (bit_and (word_extended W64 B32 y) 31) % 2 ^ 32
+arsh_low x y =
+    let k = (y % 2 ^ 32) % 32 in
+    let small : FitsSigned w32 (low_reading x) = sfits_to_z {w = w32} {n = x % 2 ^ 32} (record { fits = omega arith }) in
+    let fits : FitsSigned w32 (int_shr (low_reading x) k) = record { sfits = lt_of_le_of_lt (mag_shr (low_reading x) (2 ^ k)) small.sfits } in
+    sym (rw (amount_low y, extended_reading x) (wide_low (int_shr (low_reading x) k) fits))
+
+-- ---- quotients and remainders of low halves, as those of words with their signs in the upper half
+
+-- a number that is not below the least of 32 bits leaves one low half in both widths
+wrapped_low : (z : ℤ) → negsuc 2147483647 ≤ℤ z → (cast_unsigned w64 z % 2 ^ 64) % 2 ^ 32 ≡ (cast_unsigned w32 z % 2 ^ 32) % 2 ^ 32
+wrapped_low (pos n) h = omega arith
+wrapped_low (negsuc n) h = let small : n ≤ 2147483647 = omega (arith, ints) in omega arith
+
+quotient_least : (a b : ℤ) → FitsSigned w32 a → negsuc 2147483647 ≤ℤ int_div a b
+quotient_least (pos i) (pos j) fits = omega (arith, ints)
+quotient_least (pos i) (negsuc j) fits = let small = fits.sfits in let less = div-le_self i (suc j) in omega (arith, ints)
+quotient_least (negsuc i) (pos j) fits = let small = fits.sfits in let less = div-le_self (suc i) j in omega (arith, ints)
+quotient_least (negsuc i) (negsuc j) fits = omega (arith, ints)
+
+-- a number that reads as 0 is 0
+zero_reading : (w : IntWidth) (n : ℕ) → n < 2 ^ bits w → cast_signed w n ≡ pos 0 → n ≡ 0
+zero_reading w n h e = sym (of_z-to_z w n h) ∙ ap (cast_unsigned w) e
+
+quotient_both : (p q m n : ℕ) → p < 2 ^ 32 → q < 2 ^ 32 → n < 2 ^ 64 → cast_signed w64 m ≡ cast_signed w32 p → cast_signed w64 n ≡ cast_signed w32 q → signed_quotient w32 p q % 2 ^ 32 ≡ signed_quotient w64 m n % 2 ^ 32
+quotient_both p zero m zero h i k e f = refl
+quotient_both p zero m (suc n) h i k e f = absurd (omega (arith, zero_reading w64 (suc n) k f))
+quotient_both p (suc q) m zero h i k e f = absurd (omega (arith, zero_reading w32 (suc q) i (sym f)))
+quotient_both p (suc q) m (suc n) h i k e f =
+    sym (rw (e, f) (wrapped_low (int_div (cast_signed w32 p) (cast_signed w32 (suc q))) (quotient_least _ (cast_signed w32 (suc q)) (sfits_to_z {w = w32} {n = p} (record { fits = h })))))
+
+remainder_both : (p q m n : ℕ) → p < 2 ^ 32 → q < 2 ^ 32 → n < 2 ^ 64 → m % 2 ^ 32 ≡ p → cast_signed w64 m ≡ cast_signed w32 p → cast_signed w64 n ≡ cast_signed w32 q → signed_remainder w32 p q % 2 ^ 32 ≡ signed_remainder w64 m n % 2 ^ 32
+remainder_both p zero m zero h i k low e f = omega arith
+remainder_both p zero m (suc n) h i k low e f = absurd (omega (arith, zero_reading w64 (suc n) k f))
+remainder_both p (suc q) m zero h i k low e f = absurd (omega (arith, zero_reading w32 (suc q) i (sym f)))
+remainder_both p (suc q) m (suc n) h i k low e f =
+    let a = cast_signed w32 p in
+    let d = cast_signed w32 (suc q) in
+    let small : FitsSigned w32 a = sfits_to_z {w = w32} {n = p} (record { fits = h }) in
+    let fits : FitsSigned w32 (int_rem a d) = record { sfits = lt_of_le_of_lt (mag_rem a d) small.sfits } in
+    sym (rw (e, f) (wide_low (int_rem a d) fits))
+
+pub sdiv_low : (x y : ℕ) → word_result W32 Sdiv x y % 2 ^ 32 ≡ word_result W64 Sdiv (word_extended W64 B32 x) (word_extended W64 B32 y) % 2 ^ 32
+sdiv_low x y = quotient_both (x % 2 ^ 32) (y % 2 ^ 32) _ _ (omega arith) (omega arith) (word_extended_fits W64 B32 y) (extended_reading x) (extended_reading y)
+
+pub smod_low : (x y : ℕ) → word_result W32 Smod x y % 2 ^ 32 ≡ word_result W64 Smod (word_extended W64 B32 x) (word_extended W64 B32 y) % 2 ^ 32
+smod_low x y = remainder_both (x % 2 ^ 32) (y % 2 ^ 32) _ _ (omega arith) (omega arith) (word_extended_fits W64 B32 y) (extended_low x) (extended_reading x) (extended_reading y)
+
+pub neg_low : (w : Width) (x m : ℕ) → x < 2 ^ 64 → m < 2 ^ 64 → m % 2 ^ 32 ≡ x % 2 ^ 32 → word_negated w x % 2 ^ 32 ≡ word_negated W64 m % 2 ^ 32
+neg_low W32 x m h k e = omega arith
+neg_low W64 x m h k e = omega arith
+
+extended_both : (w : Width) (z t : ℤ) → FitsSigned w32 z → z ≡ t → cast_unsigned (int_width w) z % 2 ^ 32 ≡ cast_unsigned w64 t % 2 ^ 32
+extended_both W32 z t fits e = sym (rw (← e) (wide_low z fits))
+extended_both W64 z t fits e = rw e refl
+
+fits8 : (x : ℕ) → FitsSigned w32 (cast_signed w8 (x % 2 ^ 8))
+fits8 x = sfits_widen tt (sfits_to_z {w = w8} {n = x % 2 ^ 8} (record { fits = omega arith }))
+
+fits16 : (x : ℕ) → FitsSigned w32 (cast_signed w16 (x % 2 ^ 16))
+fits16 x = sfits_widen tt (sfits_to_z {w = w16} {n = x % 2 ^ 16} (record { fits = omega arith }))
+
+fits32 : (x : ℕ) → FitsSigned w32 (cast_signed w32 (x % 2 ^ 32))
+fits32 x = sfits_to_z {w = w32} {n = x % 2 ^ 32} (record { fits = omega arith })
+
+pub extend_low : (w : Width) (n : ExtendBits) (x m : ℕ) → m % 2 ^ 32 ≡ x % 2 ^ 32 → word_extended w n x % 2 ^ 32 ≡ word_extended W64 n m % 2 ^ 32
+extend_low w B8 x m e =
+    let same : x % 2 ^ 8 ≡ m % 2 ^ 8 = omega arith in
+    extended_both w (cast_signed w8 (x % 2 ^ 8)) (cast_signed w8 (m % 2 ^ 8)) (fits8 x) (ap (cast_signed w8) same)
+extend_low w B16 x m e =
+    let same : x % 2 ^ 16 ≡ m % 2 ^ 16 = omega arith in
+    extended_both w (cast_signed w16 (x % 2 ^ 16)) (cast_signed w16 (m % 2 ^ 16)) (fits16 x) (ap (cast_signed w16) same)
+extend_low w B32 x m e = extended_both w (cast_signed w32 (x % 2 ^ 32)) (cast_signed w32 (m % 2 ^ 32)) (fits32 x) (ap (cast_signed w32) (sym e))
+
+-- ---- one low half alone
+
+half_word_low : (z : ℤ) → FitsSigned w32 z → low_reading (cast_unsigned w32 z) ≡ z
+half_word_low z fits =
+    let small = (Fits-of_z {w = w32} {z = z} fits).fits in
+    let same : cast_unsigned w32 z % 2 ^ 32 ≡ cast_unsigned w32 z = omega arith in
+    ap (cast_signed w32) same ∙ to_z-of_z w32 z fits
+
+-- the ends of a range of one low half are what it reads as
+pub half_ends_same : (r : HalfRange) (x : ℕ) → FitsSigned w32 r.least → FitsSigned w32 r.greatest → r.least ≤ℤ r.greatest → IsHalf r x → (r.least ≡ low_reading x) × (r.greatest ≡ low_reading x)
+half_ends_same r x f g h one =
+    let low = (one (cast_unsigned w32 r.least) (small r.least f)).0 (half_word r r.least f (omega (arith, ints)) h) in
+    let high = (one (cast_unsigned w32 r.greatest) (small r.greatest g)).0 (half_word r r.greatest g h (omega (arith, ints))) in
+    (sym (half_word_low r.least f) ∙ ap (cast_signed w32) low, sym (half_word_low r.greatest g) ∙ ap (cast_signed w32) high)
+  where
+    small : (z : ℤ) → FitsSigned w32 z → cast_unsigned w32 z < 2 ^ 64
+    small z fits = let fit = (Fits-of_z {w = w32} {z = z} fits).fits in omega arith
+
+-- equal readings are those of equal low halves
+same_reading : (x y : ℕ) → low_reading y ≡ low_reading x → y % 2 ^ 32 ≡ x % 2 ^ 32
+same_reading x y e = sym (of_z-to_z w32 (y % 2 ^ 32) (omega arith)) ∙ ap (cast_unsigned w32) e ∙ of_z-to_z w32 (x % 2 ^ 32) (omega arith)
+
+pub half_by_ends : (r : HalfRange) (x : ℕ) → r.least ≡ low_reading x → r.greatest ≡ low_reading x → IsHalf r x
+half_by_ends r x low high y fits = (
+  (λ h. let above = h.above in
+      let below = h.below in
+      same_reading x y (omega (arith, ints))),
+  (λ e. let reading : low_reading y ≡ low_reading x = ap (cast_signed w32) e in
+      half_member r y fits (omega (arith, ints)) (omega (arith, ints))),
+)
+
+pub same_half : (r : HalfRange) (x y : ℕ) → y % 2 ^ 32 ≡ x % 2 ^ 32 → IsHalf r x → IsHalf r y
+same_half r x y e one = rw e one
+
+-- a signed range whose ends are what a word reads as is that word alone
+pub word_by_ends : (r : SRange) (n : ℕ) → n < 2 ^ 64 → r.least ≡ cast_signed w64 n → r.greatest ≡ cast_signed w64 n → IsSingle InSignedRange r n
+word_by_ends r n fits low high y = (
+  (λ h. let above = h.above in
+      let below = h.below in
+      let same : cast_signed w64 y ≡ cast_signed w64 n = omega (arith, ints) in
+      sym (of_z-to_z w64 y h.word) ∙ ap (cast_unsigned w64) same ∙ of_z-to_z w64 n fits),
+  (λ e. let reading : cast_signed w64 y ≡ cast_signed w64 n = ap (cast_signed w64) e in
+      signed_member r y (rw e fits) (omega (arith, ints)) (omega (arith, ints))),
+)

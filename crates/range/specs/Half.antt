@@ -1,0 +1,74 @@
+-- The words whose low halves lie between two signed numbers.
+use Rattle.std.specs.Prelude.{Bool, Option, ◌≡◌, ◌↔◌, ℕ, ℤ, ◌<◌, ◌%◌, ◌^◌, ◌≤ℤ◌}
+use Rattle.std.specs.Int.{w32, cast_signed}
+use Rattle.insn.specs.declared.operation.Width.{Width}
+use Rattle.insn.specs.declared.operation.Width.TheVariants.{W32, W64}
+use Rattle.insn.specs.declared.operation.BinOp.{BinOp}
+use Rattle.insn.specs.declared.operation.BinOp.TheVariants.{Add, Sub, Mul, Div, Sdiv, Or, And, Lsh, Rsh, Mod, Smod, Xor, Mov, Arsh}
+use Rattle.insn.specs.declared.operation.UnOp.{UnOp}
+use Rattle.insn.specs.declared.operation.UnOp.TheVariants.{Neg, Swap, Extend}
+use Rattle.insn.specs.Word.{word_holds, word_result}
+use Rattle.insn.specs.declared.operation.Cond.{Cond}
+use Rattle.range.specs.Conditions.{IsSignedOrder}
+use Rattle.range.specs.Sets.{IsLeastRefined}
+use Rattle.range.specs.Domain.{unary_result}
+use Rattle.range.specs.declared.signed.SRange.{SRange}
+use Rattle.range.specs.declared.half.HalfRange.{HalfRange}
+
+-- the low half of a word, read as a signed number
+abbrev pub low_reading : ℕ → ℤ
+low_reading x = cast_signed w32 (x % 2 ^ 32)
+
+-- a word of the range: its low half is not below the least of them, nor above the greatest
+pub record InHalfRange (r : HalfRange) (x : ℕ) : Type 0 where
+  pub word : x < 2 ^ 64
+  pub above : r.least ≤ℤ low_reading x
+  pub below : low_reading x ≤ℤ r.greatest
+
+-- the low half of a result is that of the result in 64 bits of all words that have the operands' low halves
+abbrev pub IsTold : BinOp → Width → Type 0
+IsTold Add w = Unit {0}
+IsTold Sub w = Unit {0}
+IsTold Mul w = Unit {0}
+IsTold Div w = ⊥
+IsTold Sdiv w = ⊥
+IsTold Or w = Unit {0}
+IsTold And w = Unit {0}
+IsTold Lsh W32 = ⊥
+IsTold Lsh W64 = Unit {0}
+IsTold Rsh w = ⊥
+IsTold Mod w = ⊥
+IsTold Smod w = ⊥
+IsTold Xor w = Unit {0}
+IsTold Mov w = Unit {0}
+IsTold Arsh w = ⊥
+
+-- the low halves of the operands tell that of the result
+abbrev pub IsDetermined : BinOp → Width → Type 0
+IsDetermined op W32 = Unit {0}
+IsDetermined op W64 = IsTold op W64
+
+abbrev pub IsDeterminedImage : UnOp → Type 0
+IsDeterminedImage Neg = Unit {0}
+IsDeterminedImage (Swap kind n) = ⊥
+IsDeterminedImage (Extend n) = Unit {0}
+
+-- the words that have the low half of one
+abbrev pub IsHalf : HalfRange → ℕ → Type 0
+IsHalf r x = (y : ℕ) → y < 2 ^ 64 → InHalfRange r y ↔ (y % 2 ^ 32 ≡ x % 2 ^ 32)
+
+-- where the low halves tell that of the result, those of one low half each give one alone
+abbrev pub IsSingleHalf : BinOp → Width → HalfRange → HalfRange → HalfRange → Type 0
+IsSingleHalf op w a b c = IsDetermined op w → (x y : ℕ) → x < 2 ^ 64 → y < 2 ^ 64 → IsHalf a x → IsHalf b y → IsHalf c (word_result w op x y)
+
+abbrev pub IsSingleHalfImage : UnOp → Width → HalfRange → HalfRange → Type 0
+IsSingleHalfImage op w a c = IsDeterminedImage op → (x : ℕ) → x < 2 ^ 64 → IsHalf a x → IsHalf c (unary_result op w x)
+
+-- two ranges have the same ends
+pub record HaveOneEnds (r : SRange) (s : HalfRange) : Type 0 where
+  pub least : r.least ≡ s.least
+  pub greatest : r.greatest ≡ s.greatest
+
+-- in 32 bits a comparison of signed numbers leaves its operands the least ranges of low halves
+abbrev pub IsLeastHalfRefined : Cond → Bool → HalfRange → HalfRange → Option (HalfRange × HalfRange) → Type 0
+IsLeastHalfRefined c taken a b r = IsSignedOrder c → IsLeastRefined InHalfRange (λ x y. word_holds W32 c x y ≡ taken) a b r

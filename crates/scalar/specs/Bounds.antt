@@ -1,0 +1,15 @@
+-- Between which words, and between which signed numbers, a value's members lie.
+use Rattle.std.specs.Prelude.{ℕ, ℤ}
+use Rattle.scalar.specs.declared.scalar.Scalar.{Scalar}
+
+abbrev pub least_word : Scalar → ℕ
+least_word s = s.unsigned.least
+
+abbrev pub greatest_word : Scalar → ℕ
+greatest_word s = s.unsigned.greatest
+
+abbrev pub least_number : Scalar → ℤ
+least_number s = s.signed.least
+
+abbrev pub greatest_number : Scalar → ℤ
+greatest_number s = s.signed.greatest
