@@ -1,0 +1,4 @@
+pub mod Readings
+pub mod Shifts
+pub mod Results
+pub mod Places

@@ -1,0 +1,4 @@
+pub mod Fits
+pub mod Spans
+pub mod Operations
+pub mod Accesses
