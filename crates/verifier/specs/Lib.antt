@@ -1,1 +1,5 @@
-pub mod Jumps
+pub mod Verdicts
+pub mod Starts
+pub mod Fits
+pub mod Follows
+pub mod Waits
