@@ -1,5 +1,5 @@
 -- What is kept fits the history with one more consent.
-use Rattle.std.proofs.Common.{◌≡◌, ◌≢◌, ℕ, ◌+◌, List, Option, Some, None, Bool, true, false, cond, eqb, length, refl, ap, ◌∙◌, sym, arith}
+use Rattle.std.proofs.Common.{◌≡◌, ◌≢◌, ◌≤◌, ℕ, ◌+◌, List, Option, Some, None, Bool, true, false, cond, eqb, length, refl, ap, ◌∙◌, sym, arith}
 use Rattle.std.specs.Prelude.{is_some, ◌&&◌}
 use Rattle.std.specs.Ordering.{is_eq}
 use Rattle.std.specs.Map.{lookup}
@@ -9,7 +9,8 @@ use Rattle.std.proofs.lemmas.Bool.{ne_eqb}
 use Rattle.consent.specs.declared.parties.Parties.{Parties}
 use Rattle.consent.specs.History.{Event, consented_scope, with_change}
 use Rattle.consent.specs.History.Change.{Consented}
-use Rattle.consent.specs.Growth.{consented_scope-push, consents_kept-push, one_unless_empty}
+use Rattle.consent.specs.Growth.{one_unless_empty}
+use Rattle.consent.specs.GrowthLaws.{consented_scope-push, consents_kept-push}
 use Rattle.consent.specs.Consents.{unless_empty, kept_mask, parties_cmp, FitsConsents}
 
 abbrev pub parties : ℕ → ℕ → Parties
@@ -34,8 +35,8 @@ pub fits_set : (kept kept' : List (Parties × ℕ)) (history : List Event) (mome
     lookup (is_at (parties_cmp q)) kept'
     ≡ cond (is_at (parties_cmp (parties o c)) q) (unless_empty mask) (lookup (is_at (parties_cmp q)) kept)) →
     length kept' + cond {A = ℕ} (is_some (kept_mask kept o c)) 1 0 ≡ length kept + one_unless_empty mask →
-    FitsConsents kept history → FitsConsents kept' (with_change history moment (Consented o c mask))
-fits_set kept kept' history moment o c mask finds len fits = record {
+    1 ≤ o → FitsConsents kept history → FitsConsents kept' (with_change history moment (Consented o c mask))
+fits_set kept kept' history moment o c mask finds len some fits = record {
   masks = λ owner client.
       finds (parties owner client)
       ∙ ap (λ l. cond (is_at (parties_cmp (parties o c)) (parties owner client)) (unless_empty mask) l) (fits.masks owner client)
@@ -46,6 +47,10 @@ fits_set kept kept' history moment o c mask finds len fits = record {
       let had : cond {A = ℕ} (is_some (kept_mask kept o c)) 1 0 ≡ one_unless_empty (consented_scope history o c) =
       ap (λ l. cond (is_some l) 1 0) (fits.masks o c) ∙ one-unless_empty (consented_scope history o c) in
       omega (arith, consents_kept-push history moment o c mask, had, len, fits.count);
+  nobody = λ client.
+      consented_scope-push history moment o c mask 0 client
+      ∙ ap (λ b. cond (b && eqb c client) mask (consented_scope history 0 client)) (ne_eqb o 0 (λ none. let e : o ≡ 0 = none in omega (arith, e, some)))
+      ∙ fits.nobody client;
 }
 
 -- what an insert says of the length, at a mask that is not empty

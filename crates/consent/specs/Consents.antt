@@ -1,13 +1,11 @@
 -- When the consents that are kept are those of a history.
-use Rattle.std.proofs.Common.{◌∙◌, ap, sym, refl}
-use Rattle.std.specs.Prelude.{◌≡◌, ℕ, List, [], ◌∷◌, ◌++◌, false, Option, Some, None, ◌==◌, if◌then◌else◌, length}
+use Rattle.std.specs.Prelude.{◌≡◌, ℕ, List, Option, Some, None, ◌==◌, if◌then◌else◌, length}
 use Rattle.std.specs.declared.cmp.Ordering.{Ordering}
 use Rattle.std.specs.Ordering.{nat_cmp, ordering_then}
 use Rattle.std.specs.Map.{lookup}
 use Rattle.std.specs.BTreeMap.{is_at}
 use Rattle.consent.specs.declared.parties.Parties.{Parties}
 use Rattle.consent.specs.History.{Event, consented_scope, consents_kept}
-use Rattle.consent.specs.Growth.{is_consent, consented_scope-push_other, consents_kept-push_other}
 
 -- by owner, and then by client
 abbrev pub parties_cmp : Parties → Parties → Ordering
@@ -25,16 +23,5 @@ unless_empty mask = if mask == 0 then None else Some mask
 pub record FitsConsents (kept : List (Parties × ℕ)) (history : List Event) : Type 0 where
   pub masks : (owner client : ℕ) → kept_mask kept owner client ≡ unless_empty (consented_scope history owner client)
   pub count : length kept ≡ consents_kept history
-
--- the start of every history has none
-pub fits_consents-start : FitsConsents [] []
-fits_consents-start = record { masks = λ owner client. refl; count = refl }
-
--- an event that is no consent leaves what is kept
-pub fits_consents-push_other : (kept : List (Parties × ℕ)) (history : List Event) (e : Event) →
-    is_consent e.change ≡ false → FitsConsents kept history → FitsConsents kept (history ++ e ∷ [])
-fits_consents-push_other kept history e other fits = record {
-  masks = λ owner client. fits.masks owner client
-      ∙ ap unless_empty (sym (consented_scope-push_other history e owner client other));
-  count = fits.count ∙ sym (consents_kept-push_other history e other);
-}
+  -- an owner of 0 is none, and consents to nothing
+  pub nobody : (client : ℕ) → consented_scope history 0 client ≡ 0

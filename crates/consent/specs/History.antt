@@ -4,11 +4,11 @@ use Rattle.std.specs.Prelude.{◌≡◌, ◌+◌, ◌<◌, ◌≤◌, ◌⊎◌,
 use Rattle.std.specs.Option.{option_or}
 use Rattle.std.specs.List.{list_any, list_all}
 use Rattle.std.specs.Str.{bytes_eq}
-use Rattle.consent.specs.declared.limits.TheConstants.{CODE_LIFE, CONSENT_LIMIT, RECORD_LIMIT}
 use Rattle.consent.specs.declared.grant.Kind.{Kind}
 use Rattle.consent.specs.declared.grant.Kind.TheVariants.{Code, Token}
 use Rattle.consent.specs.declared.grant.TokenKind.{TokenKind}
 use Rattle.consent.specs.declared.grant.TokenKind.TheVariants.{Access, Refresh}
+use Rattle.consent.specs.Limits.{code_life, consent_limit, record_limit}
 
 -- what may happen. A family is named by the place of the event that opened it, an owner of 0 is none
 pub data Change : Type 0 where
@@ -25,13 +25,17 @@ pub record Event : Type 0 where
   pub moment : ℕ
   pub change : Change
 
+-- what happened at the moment
+abbrev pub event_at : ℕ → Change → Event
+event_at moment change = record { moment = moment; change = change }
+
 -- the history goes on with one change
 abbrev pub with_change : List Event → ℕ → Change → List Event
-with_change history moment change = history ++ record { moment = moment; change = change } ∷ []
+with_change history moment change = history ++ event_at moment change ∷ []
 
 -- or with some, all at one moment
 abbrev pub with_changes : List Event → ℕ → List Change → List Event
-with_changes history moment changes = history ++ map (λ c. record { moment = moment; change = c }) changes
+with_changes history moment changes = history ++ map (event_at moment) changes
 
 -- each name of the one scope set is in the other
 abbrev pub is_within : ℕ → ℕ → Bool
@@ -66,7 +70,7 @@ consents_kept (e ∷ later) = kept_by e.change later + consents_kept later
 -- a consent of the two to the mask is not one too many
 abbrev pub has_consent_room : List Event → ℕ → ℕ → ℕ → Bool
 has_consent_room history owner client mask =
-    (mask == 0) || not (consented_scope history owner client == 0) || nat_lt (consents_kept history) CONSENT_LIMIT
+    (mask == 0) || not (consented_scope history owner client == 0) || nat_lt (consents_kept history) consent_limit
 
 -- CODES AND TOKENS
 
@@ -94,7 +98,7 @@ grant_by moment (CodeGiven family client owner scope redirect challenge digest) 
       owner = owner;
       scope = scope;
       moment = moment;
-      life = CODE_LIFE;
+      life = code_life;
       redirect = redirect;
       challenge = challenge;
     })
@@ -139,13 +143,17 @@ unexpired_count history moment = count_by (is_unexpired moment) (grants history)
 
 -- there is room for as many more as there are digests
 abbrev pub has_room : List Event → ℕ → List (List ℕ) → Bool
-has_room history moment digests = nat_le (unexpired_count history moment + length digests) RECORD_LIMIT
+has_room history moment digests = nat_le (unexpired_count history moment + length digests) record_limit
+
+-- one of the digests is in use, or two of them are equal
+abbrev pub are_taken : (List ℕ → Bool) → List (List ℕ) → Bool
+are_taken in_use [] = false
+are_taken in_use (digest ∷ digests) =
+    in_use digest || list_any (bytes_eq digest) digests || are_taken in_use digests
 
 -- one of the digests names something unexpired, or two of them are equal
 abbrev pub is_taken : List Event → ℕ → List (List ℕ) → Bool
-is_taken history moment [] = false
-is_taken history moment (digest ∷ digests) =
-    is_some (grant_at history digest moment) || list_any (bytes_eq digest) digests || is_taken history moment digests
+is_taken history moment digests = are_taken (λ digest. is_some (grant_at history digest moment)) digests
 
 -- SPENDING
 
@@ -244,6 +252,10 @@ live_grant history digest moment = where_good history digest moment (grant_at hi
 
 -- WHAT EVERY HISTORY OF THE SERVER HAS
 
+-- nothing in it is later than the moment
+abbrev pub all_past : List Event → ℕ → Bool
+all_past history moment = list_all (λ e. nat_le e.moment moment) history
+
 -- the change names no family from this place on
 abbrev pub is_placed : ℕ → Change → Bool
 is_placed place (CodeGiven family client owner scope redirect challenge digest) = nat_lt family place
@@ -266,6 +278,8 @@ all_kin history = list_all (λ g. is_of g.client g.owner (opener history g.famil
 
 -- as it is at the moment
 pub record IsHistory (history : List Event) (moment : ℕ) : Type 0 where
+  -- nothing has happened later
+  pub past : all_past history moment ≡ true
   -- no two unexpired codes or tokens have one digest
   pub single : (digest : List ℕ) → count_by (is_named digest moment) (grants history) ≤ 1
   -- no two codes have one family

@@ -1,8 +1,11 @@
+pub mod Limits
 pub mod History
-pub mod Lists
-pub mod Growth
-pub mod Histories
-pub mod Live
-pub mod Covered
 pub mod Consents
+pub mod Covered
+pub mod Growth
 pub mod FaultTexts
+pub mod ListLaws
+pub mod GrowthLaws
+pub mod HistoryLaws
+pub mod CoveredLaws
+pub mod ConsentLaws

@@ -6,6 +6,7 @@ ghost use Rattle.consent.specs.History.Change.{Consented};
 ghost use Rattle.consent.specs.FaultTexts.{consent_fault_text};
 
 use crate::limits::CONSENT_LIMIT;
+use crate::numbers::{ClientNo, OwnerNo};
 use crate::parties::Parties;
 use std::alloc::Global;
 use std::collections::BTreeMap;
@@ -40,14 +41,14 @@ pub struct Consents {
 
 impl Model for Consents {
     ghost use Rattle.std.specs.Prelude.{ℕ, List, ◌≤◌, length};
-    ghost use Rattle.consent.specs.declared.limits.TheConstants.{CONSENT_LIMIT};
+    ghost use Rattle.consent.specs.Limits.{consent_limit};
     ghost use Rattle.consent.specs.declared.parties.Parties.{Parties};
 
     ghost Value = { List (Parties × ℕ) };
 
     ghost view = { λ c. c.masks.entries };
 
-    ghost invariant = { λ c. length c.masks.entries ≤ CONSENT_LIMIT };
+    ghost invariant = { λ c. length c.masks.entries ≤ consent_limit };
 }
 
 impl Consents {
@@ -64,7 +65,7 @@ impl Consents {
 
     /// The scope that the owner last consented to the client's having: one bit for each name, none
     /// where there is no consent.
-    pub fn get(&self, owner: u32, client: u32) -> u64
+    pub fn get(&self, owner: OwnerNo, client: ClientNo) -> u64
         ensures { (history : List Event) → FitsConsents self.now history →
             result ≡ consented_scope history owner client }
     {
@@ -76,7 +77,7 @@ impl Consents {
 
     /// Sets the scope that the owner consents to the client's having. The empty one takes the
     /// consent away, and is never refused.
-    pub fn set(&mut self, owner: u32, client: u32, mask: u64) -> Result<(), ConsentFault>
+    pub fn set(&mut self, owner: OwnerNo, client: ClientNo, mask: u64) -> Result<(), ConsentFault>
         ensures fits { OnOk result ((history : List Event) (moment : ℕ) → FitsConsents self.old history →
             FitsConsents self.new (with_change history moment (Consented owner client mask))) }
         // Full comes before Memory.
@@ -91,6 +92,8 @@ impl Consents {
             consented_scope history owner client ≢ 0 → IsOk result }
         ensures err { OnErr result (self.new ≡ self.old) }
     {
+        // No owner has number 0, which stands for none.
+        let _ = owner.get();
         let parties = Parties { owner, client };
         if mask == 0 {
             let _ = self.masks.remove(&parties);

@@ -5,12 +5,13 @@
 mod consents;
 mod grant;
 mod limits;
+mod numbers;
 mod parties;
+mod scope;
 
 pub use consents::{ConsentFault, Consents};
 pub use grant::{Kind, TokenKind};
-pub use limits::{CODE_LIFE, CONSENT_LIMIT, RECORD_LIMIT};
+pub use limits::{CODE_LIFE, CONSENT_LIMIT, RECORD_LIMIT, limits_are_the_defined_ones};
+pub use numbers::{ClientNo, Moment, OwnerNo};
 pub use parties::Parties;
-
-#[cfg(test)]
-mod tests;
+pub use scope::is_within;

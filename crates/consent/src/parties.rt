@@ -1,8 +1,10 @@
 //! The two that a consent is of.
 
-/// An owner and a client, by their numbers, which count from 1.
+use crate::numbers::{ClientNo, OwnerNo};
+
+/// An owner and a client.
 #[derive(Clone, Copy, Debug, PartialEq, Eq, PartialOrd, Ord)]
 pub struct Parties {
-    pub owner: u32,
-    pub client: u32,
+    pub owner: OwnerNo,
+    pub client: ClientNo,
 }

@@ -1,29 +1,27 @@
 -- A store that keeps new tokens fits the history in which they are issued.
 use Rattle.std.proofs.Common.{◌≡◌, ◌<◌, ◌≤◌, ◌⊎◌, inl, inr, ℕ, ◌+◌, List, [], ◌∷◌, ◌++◌, Option, Some, None, Bool, true, false, cond, eqb, length, append_assoc, refl, ap, ◌∙◌, sym, arith}
-use Rattle.std.specs.Prelude.{◌&&◌, ◌||◌, not, nat_lt, nat_le, find, count_by, is_some, map, option_map}
-use Rattle.std.specs.Option.{option_or}
+use Rattle.std.specs.Prelude.{◌&&◌, ◌||◌, not, nat_lt, nat_le, find, is_some, map, option_map, IfSome}
 use Rattle.std.specs.List.{list_any, list_all}
 use Rattle.std.specs.Str.{bytes_eq}
-use Rattle.std.proofs.lemmas.Bool.{eqb-true, eq-eqb, ltb-true, lt-ltb, and_parts, and_from, and_left, or_parts, false≢true}
+use Rattle.std.proofs.lemmas.Bool.{eqb-true, eq-eqb, ltb-true, lt-ltb, and_parts, and_from}
 use Rattle.std.proofs.lemmas.List.{append-nil, length-map}
 use Rattle.std.proofs.lemmas.List.Folds.{list_all-append}
 use Rattle.std.proofs.lemmas.Slice.Eq.{bytes_eq-Decides}
-use Rattle.consent.specs.declared.limits.TheConstants.{RECORD_LIMIT}
-use Rattle.consent.specs.Lists.{find-map, find-passes, find-all, count_by-cons}
-use Rattle.consent.specs.History.{Event, Grant, grant_of, grants, grant_at, is_named, is_unexpired, code_terms, has_ended, opener, is_of, has_room, is_taken, unexpired_count, IsHistory, IsHome}
-use Rattle.consent.specs.Growth.{grants-push, grant_at-push, code_terms-push_other, has_ended-push_other}
-use Rattle.consent.specs.Histories.{grant_at-kin, code_terms-fresh, has_ended-fresh, is_history-push}
+use Rattle.consent.specs.Limits.{record_limit}
+use Rattle.consent.specs.ListLaws.{find-passes, find-all, find-one}
+use Rattle.consent.specs.History.{Event, Grant, Terms, grants, grant_at, is_named, is_unexpired, code_terms, has_ended, opener, is_of, has_room, are_taken, is_taken, IsHistory, IsHome}
+use Rattle.consent.specs.GrowthLaws.{grants-push, grant_at-push, code_terms-push_other, has_ended-push_other, is_taken-parts, is_taken-push}
+use Rattle.consent.specs.HistoryLaws.{grant_at-kin, opener-of_one, code_terms-kin, code_terms-fresh, has_ended-fresh, is_history-push}
 use Rattle.grant_store.specs.declared.fault.StoreFault.TheVariants.{Full, DrawTaken}
 use Rattle.grant_store.specs.declared.facts.NewToken.{NewToken}
 use Rattle.grant_store.specs.declared.family.Home.{Home}
 use Rattle.grant_store.specs.declared.family.Home.TheVariants.{Family, Client}
-use Rattle.grant_store.specs.declared.record.Record.{Record}
 use Rattle.grant_store.specs.declared.record.Place.{Place}
-use Rattle.grant_store.specs.Kept.{Kept, kept_unexpired, IsOpen}
-use Rattle.grant_store.specs.Fits.{FitsStore, IsMember, seen, named, token_issued, with_issued, digests_of, refusal}
-use Rattle.grant_store.specs.Records.{kept_of, terms_by, place_of, place_in, is_in, token_kept, kept_taken, kept_refusal, AllNumbered}
-use Rattle.grant_store.proofs.Adding.{IsUnused, Gives, keeps_push, fits_given, fits_named, or_cases}
-use Rattle.grant_store.proofs.Opening.{own_unused, unused_next}
+use Rattle.grant_store.specs.Kept.{Kept, kept_at, kept_unexpired, is_in, IsOpen}
+use Rattle.grant_store.specs.Fits.{FitsStore, IsMember, seen, named, token_issued, with_issued, digests_of, refusal_by, refusal}
+use Rattle.grant_store.specs.Records.{terms_by, place_of, place_in, token_kept, AllNumbered, IsUnused}
+use Rattle.grant_store.proofs.Adding.{Gives, keeps_push, fits_given, fits_named, or_cases}
+use Rattle.grant_store.proofs.Opening.{own_unused, unused_next, numbered_more}
 
 -- WHEN TOKENS ARE REFUSED
 
@@ -31,29 +29,27 @@ is_some-map : {A B : Type 0} (f : A → B) (o : Option A) → is_some (option_ma
 is_some-map f None = refl
 is_some-map f (Some x) = refl
 
-any_digest : (digest : List ℕ) (tokens : List NewToken) → list_any (λ t. bytes_eq digest t.digest) tokens ≡ list_any (bytes_eq digest) (digests_of tokens)
-any_digest digest [] = refl
-any_digest digest (t ∷ ts) = ap (λ b. bytes_eq digest t.digest || b) (any_digest digest ts)
-
-same_taken : (kept : List Kept) (history : List Event) (number : ℕ → ℕ) (moment : ℕ) (tokens : List NewToken) → FitsStore kept history moment number → kept_taken kept moment tokens ≡ is_taken history moment (digests_of tokens)
-same_taken kept history number moment [] fits = refl
-same_taken kept history number moment (t ∷ ts) fits =
-    ap (λ o. is_some o || list_any (λ x. bytes_eq t.digest x.digest) ts || kept_taken kept moment ts) (fits.answers t.digest moment (omega arith))
-    ∙ ap (λ b. b || list_any (λ x. bytes_eq t.digest x.digest) ts || kept_taken kept moment ts) (is_some-map (seen history number t.digest moment) (grant_at history t.digest moment))
-    ∙ ap (λ b. is_some (grant_at history t.digest moment) || b || kept_taken kept moment ts) (any_digest t.digest ts)
-    ∙ ap (λ b. is_some (grant_at history t.digest moment) || list_any (bytes_eq t.digest) (digests_of ts) || b) (same_taken kept history number moment ts fits)
-
-same_room : (kept : List Kept) (history : List Event) (number : ℕ → ℕ) (moment : ℕ) (tokens : List NewToken) → FitsStore kept history moment number →
-    nat_le (kept_unexpired kept moment + length tokens) RECORD_LIMIT ≡ has_room history moment (digests_of tokens)
-same_room kept history number moment tokens fits =
-    ap (λ n. nat_le (n + length tokens) RECORD_LIMIT) (fits.count moment (omega arith)) ∙ ap (λ n. nat_le (unexpired_count history moment + n) RECORD_LIMIT) (sym (length-map tokens (λ t. t.digest)))
+are_taken-same : (p q : List ℕ → Bool) → ((d : List ℕ) → p d ≡ q d) → (digests : List (List ℕ)) → are_taken p digests ≡ are_taken q digests
+are_taken-same p q same [] = refl
+are_taken-same p q same (d ∷ ds) =
+    ap (λ b. b || list_any (bytes_eq d) ds || are_taken p ds) (same d) ∙ ap (λ b. q d || list_any (bytes_eq d) ds || b) (are_taken-same p q same ds)
 
 -- the store's reason is the history's
-pub same_refusal : (kept : List Kept) (history : List Event) (number : ℕ → ℕ) (moment : ℕ) (tokens : List NewToken) → FitsStore kept history moment number →
-    refusal history moment (digests_of tokens) ≡ kept_refusal kept moment tokens
-same_refusal kept history number moment tokens fits =
-    ap (λ b. cond (not b) (Some Full) (cond (is_taken history moment (digests_of tokens)) (Some DrawTaken) None)) (sym (same_room kept history number moment tokens fits))
-    ∙ ap (λ b. cond (not (nat_le (kept_unexpired kept moment + length tokens) RECORD_LIMIT)) (Some Full) (cond b (Some DrawTaken) None)) (sym (same_taken kept history number moment tokens fits))
+pub same_refusal : (kept : List Kept) (history : List Event) (number : ℕ → ℕ) (moment n : ℕ) (digests : List (List ℕ)) → FitsStore kept history moment number →
+    n ≡ length digests →
+    refusal_by (nat_le (kept_unexpired kept moment + n) record_limit) (are_taken (λ d. is_some (kept_at kept d moment)) digests) ≡ refusal history moment digests
+same_refusal kept history number moment n digests fits len =
+    ap (λ x. refusal_by (nat_le (kept_unexpired kept moment + x) record_limit) (are_taken (λ d. is_some (kept_at kept d moment)) digests)) len
+    ∙ ap (λ x. refusal_by (nat_le (x + length digests) record_limit) (are_taken (λ d. is_some (kept_at kept d moment)) digests)) (fits.count moment (omega arith))
+    ∙ ap (refusal_by (has_room history moment digests))
+    (are_taken-same (λ d. is_some (kept_at kept d moment)) (λ d. is_some (grant_at history d moment)) (λ d.
+    ap is_some (fits.answers d moment (omega arith)) ∙ is_some-map (seen history number d moment) (grant_at history d moment)) digests)
+
+pub tokens_refusal : (kept : List Kept) (history : List Event) (number : ℕ → ℕ) (moment : ℕ) (tokens : List NewToken) → FitsStore kept history moment number →
+    refusal history moment (digests_of tokens)
+    ≡ refusal_by (nat_le (kept_unexpired kept moment + length tokens) record_limit) (are_taken (λ d. is_some (kept_at kept d moment)) (digests_of tokens))
+tokens_refusal kept history number moment tokens fits =
+    sym (same_refusal kept history number moment (length tokens) (digests_of tokens) fits (sym (length-map tokens (λ t. t.digest))))
 
 -- ONE TOKEN
 
@@ -113,31 +109,6 @@ ready_push history number moment family place token ready is =
 
 -- ALL OF THEM
 
-none_from : {A : Type 0} (o : Option A) → is_some o ≡ false → o ≡ None
-none_from None h = refl
-none_from (Some x) h = cc
-
-other_back : (a b : List ℕ) → bytes_eq a b ≡ false → bytes_eq b a ≡ false
-other_back a b other = back_cases (bytes_eq b a) refl
-  where
-    back_cases : (x : Bool) → bytes_eq b a ≡ x → x ≡ false
-    back_cases false is = refl
-    back_cases true is = absurd (false≢true (sym other ∙ (bytes_eq-Decides a b).1 (sym ((bytes_eq-Decides b a).0 is))))
-
--- what no digest of the others names is not named with a token more
-untaken_push : (history : List Event) (moment : ℕ) (e : Event) (g : Grant) (digests : List (List ℕ)) → grant_of e ≡ Some g →
-    list_any (bytes_eq g.digest) digests ≡ false → is_taken history moment digests ≡ false → is_taken (history ++ e ∷ []) moment digests ≡ false
-untaken_push history moment e g [] gives_it others untaken = refl
-untaken_push history moment e g (d ∷ ds) gives_it others untaken =
-    let other = or_parts (bytes_eq g.digest d) (list_any (bytes_eq g.digest) ds) others in
-    let parts = or_parts (is_some (grant_at history d moment) || list_any (bytes_eq d) ds) (is_taken history moment ds) untaken in
-    let here = or_parts (is_some (grant_at history d moment)) (list_any (bytes_eq d) ds) parts.0 in
-    let none : grant_at (history ++ e ∷ []) d moment ≡ None =
-    grant_at-push history e g d moment gives_it ∙ ap (λ o. option_or o (cond (is_named d moment g) (Some g) None)) (none_from (grant_at history d moment) here.0)
-    ∙ ap (λ b. cond b (Some g) None) (and_left (bytes_eq d g.digest) (is_unexpired moment g) (other_back g.digest d other.0)) in
-    ap (λ o. is_some o || list_any (bytes_eq d) ds || is_taken (history ++ e ∷ []) moment ds) none
-    ∙ ap (λ b. b || is_taken (history ++ e ∷ []) moment ds) here.1 ∙ untaken_push history moment e g ds gives_it other.1 parts.1
-
 fits_tokens : (kept : List Kept) (history : List Event) (number : ℕ → ℕ) (moment family : ℕ) (place : Place) (tokens : List NewToken) →
     IsReady history number moment family place → is_taken history moment (digests_of tokens) ≡ false → FitsStore kept history moment number →
     FitsStore (kept ++ map (token_kept place moment) tokens) (with_issued history moment family place.client place.owner tokens) moment number
@@ -145,11 +116,9 @@ fits_tokens kept history number moment family place [] ready untaken fits = rw (
 fits_tokens kept history number moment family place (t ∷ ts) ready untaken fits =
     let e = token_event moment family place t in
     let g = token_grant moment family place t in
-    let parts = or_parts (is_some (grant_at history t.digest moment) || list_any (bytes_eq t.digest) (digests_of ts)) (is_taken history moment (digests_of ts)) untaken in
-    let here = or_parts (is_some (grant_at history t.digest moment)) (list_any (bytes_eq t.digest) (digests_of ts)) parts.0 in
-    let next = fits_token kept history number moment family place t ready (none_from (grant_at history t.digest moment) here.0) fits in
+    let next = fits_token kept history number moment family place t ready (is_taken-parts history moment t.digest (digests_of ts) untaken).0 fits in
     let all = fits_tokens (kept ++ token_kept place moment t ∷ []) (history ++ e ∷ []) number moment family place ts
-    (ready_push history number moment family place t ready next.is_history) (untaken_push history moment e g (digests_of ts) refl here.1 parts.1) next in
+    (ready_push history number moment family place t ready next.is_history) (is_taken-push history e g moment (digests_of ts) refl untaken) next in
     rw (append_assoc kept (token_kept place moment t ∷ []) (map (token_kept place moment) ts), append_assoc history (e ∷ []) (map (λ c. record { moment = moment; change = c }) (map (token_issued family place.client place.owner) ts))) at all
 
 -- IN A FAMILY OF THEIR OWN
@@ -157,47 +126,24 @@ fits_tokens kept history number moment family place (t ∷ ts) ready untaken fit
 some_same : {A : Type 0} (x y : A) → Some x ≡ Some y → x ≡ y
 some_same x y h = cc
 
-pub fits_alone : (kept : List Kept) (records : List Record) (history : List Event) (number : ℕ → ℕ) (moment client : ℕ) (place : Place) (tokens : List NewToken) →
-    map kept_of records ≡ kept → place_in records moment (Client client) ≡ Some place → AllNumbered kept → is_taken history moment (digests_of tokens) ≡ false →
+pub fits_alone : (kept : List Kept) (history : List Event) (number : ℕ → ℕ) (moment client : ℕ) (place : Place) (tokens : List NewToken) →
+    place_in kept moment (Client client) ≡ Some place → IsUnused kept moment place.family → is_taken history moment (digests_of tokens) ≡ false →
     FitsStore kept history moment number →
     FitsStore (kept ++ map (token_kept place moment) tokens) (with_issued history moment (length history) client 0 tokens) moment (named number (length history) place.family)
-fits_alone kept records history number moment client place tokens view is all untaken fits =
-    let n = length records in
+fits_alone kept history number moment client place tokens is unused untaken fits =
+    let n = length kept in
     let new : Place = record { family = n; client = client; owner = 0; code_scope = None; ended = false } in
-    let len : length kept ≡ n = ap length (sym view) ∙ length-map records kept_of in
-    let unused : IsUnused kept moment n = rw (← len) (unused_next kept moment all) in
+    let same : new ≡ place = some_same new place is in
     let ready : IsReady history (named number (length history) n) moment (length history) new = record {
       number_is = ap (λ b. cond b n (number (length history))) (eq-eqb (length history) (length history) refl);
       home = inl refl;
-      own = λ d h at same. own_unused kept history number n moment d h fits unused at same;
+      own = λ d h at same_number. own_unused kept history number n moment d h fits (rw (ap (λ (p : Place). p.family) same) unused) at same_number;
       terms = code_terms-fresh history fits.is_history.placed;
       ended = has_ended-fresh history fits.is_history.placed;
     } in
-    rw (← some_same new place is) (fits_tokens kept history (named number (length history) n) moment (length history) new tokens ready untaken (fits_named kept history number n moment fits))
+    rw (← same) (fits_tokens kept history (named number (length history) n) moment (length history) new tokens ready untaken (fits_named kept history number n moment fits))
 
 -- IN A FAMILY THAT THERE IS
-
-counted : {X : Type 0} (p q : X → Bool) (xs : List X) (x : X) → p x ≡ true → find q xs ≡ Some x → 1 ≤ count_by p xs
-counted p q [] x passes h = absurd (cc)
-counted {X = X} p q (y ∷ ys) x passes h = counted_step (q y) h (counted p q ys x passes)
-  where
-    counted_step : (b : Bool) → cond b (Some y) (find q ys) ≡ Some x → (find q ys ≡ Some x → 1 ≤ count_by p ys) → 1 ≤ count_by p (y ∷ ys)
-    counted_step true h more =
-        let same : y ≡ x = cc in let c = count_by-cons p y ys in let one = ap (λ z. cond {A = ℕ} (p z) 1 0) same ∙ ap (λ b. cond {A = ℕ} b 1 0) passes in omega (arith, c, one)
-    counted_step false h more = let c = count_by-cons p y ys in let le = more h in omega (arith, c, le)
-
--- what passes a test that one passes at most is found by it
-found_once : {X : Type 0} (p q : X → Bool) (xs : List X) (x : X) → p x ≡ true → count_by p xs ≤ 1 → find q xs ≡ Some x → find p xs ≡ Some x
-found_once p q [] x passes le h = cc
-found_once {X = X} p q (y ∷ ys) x passes le h = once_step (q y) refl (p y) refl h (found_once p q ys x passes) (counted p q ys x passes)
-  where
-    once_step : (a : Bool) → q y ≡ a → (b : Bool) → p y ≡ b → cond a (Some y) (find q ys) ≡ Some x → (count_by p ys ≤ 1 → find q ys ≡ Some x → find p ys ≡ Some x) →
-        (find q ys ≡ Some x → 1 ≤ count_by p ys) → cond b (Some y) (find p ys) ≡ Some x
-    once_step true e true e' h more some = h
-    once_step true e false e' h more some = let same : y ≡ x = cc in absurd (false≢true (sym e' ∙ ap p same ∙ passes))
-    once_step false e true e' h more some =
-        let c = count_by-cons p y ys in let one = ap (λ b. cond {A = ℕ} b 1 0) e' in let another = some h in absurd (omega (arith, c, one, another, le))
-    once_step false e false e' h more some = let c = count_by-cons p y ys in more (omega (arith, c, le)) h
 
 -- what the history says of an unexpired record
 record Behind (history : List Event) (number : ℕ → ℕ) (moment : ℕ) (k : Kept) : Type 0 where
@@ -207,65 +153,67 @@ record Behind (history : List Event) (number : ℕ → ℕ) (moment : ℕ) (k : 
   is_seen : seen history number digest moment grant ≡ k
 
 behind : (kept : List Kept) (history : List Event) (number : ℕ → ℕ) (moment family : ℕ) (k : Kept) → FitsStore kept history moment number →
-    find (λ x. eqb x.grant.family family && is_unexpired moment x.grant) kept ≡ Some k → Behind history number moment k
+    find (is_in family moment) kept ≡ Some k → Behind history number moment k
 behind kept history number moment family k fits found =
-    let passes = and_parts (eqb k.grant.family family) (is_unexpired moment k.grant) (find-passes (λ x. eqb x.grant.family family && is_unexpired moment x.grant) kept k found) in
+    let passes = and_parts (eqb k.grant.family family) (is_unexpired moment k.grant) (find-passes (is_in family moment) kept k found) in
     let named_itself = and_from (bytes_eq k.grant.digest k.grant.digest) (is_unexpired moment k.grant) ((bytes_eq-Decides k.grant.digest k.grant.digest).1 refl) passes.1 in
-    let at = found_once (λ x. is_named k.grant.digest moment x.grant) (λ x. eqb x.grant.family family && is_unexpired moment x.grant) kept k named_itself (fits.once k.grant.digest) found in
+    let at = find-one (λ x. is_named k.grant.digest moment x.grant) (is_in family moment) kept k (fits.once k.grant.digest) found named_itself in
     behind_cases (grant_at history k.grant.digest moment) refl (sym (fits.answers k.grant.digest moment (omega arith)) ∙ at)
   where
     behind_cases : (o : Option Grant) → grant_at history k.grant.digest moment ≡ o → option_map (seen history number k.grant.digest moment) o ≡ Some k → Behind history number moment k
     behind_cases None is h = cc
     behind_cases (Some g) is h = record { digest = k.grant.digest; grant = g; is_named_too = is; is_seen = cc }
 
-same_parties : (c o c' o' : ℕ) (x : Option Grant) → is_of c o x ≡ true → is_of c' o' x ≡ true → (c ≡ c') × (o ≡ o')
-same_parties c o c' o' None a b = cc
-same_parties c o c' o' (Some g) a b =
-    let p = and_parts (eqb g.client c) (eqb g.owner o) a in let q = and_parts (eqb g.client c') (eqb g.owner o') b in
-    (sym (eqb-true g.client c p.0) ∙ eqb-true g.client c' q.0, sym (eqb-true g.owner o p.1) ∙ eqb-true g.owner o' q.1)
+-- a code's terms, by its client, its owner and its scope
+same_terms : (client owner : ℕ) (o : Option Terms) → ((t : Terms) → o ≡ Some t → (t.client ≡ client) × (t.owner ≡ owner)) →
+    o ≡ option_map (terms_by client owner) (option_map (λ t. t.scope) o)
+same_terms client owner None kin = refl
+same_terms client owner (Some t) kin =
+    let e = kin t refl in
+    ap (λ c. Some (terms_by c t.owner t.scope)) e.0 ∙ ap (λ o. Some (terms_by client o t.scope)) e.1
 
--- a record's place is its family's
-ready_joined : (kept : List Kept) (history : List Event) (number : ℕ → ℕ) (moment family : ℕ) (g : Grant) (r : Record) → FitsStore kept history moment number → IsMember history number moment family g →
-    find (λ x. eqb x.grant.family family && is_unexpired moment x.grant) kept ≡ Some (kept_of r) →
-    IsReady history number moment g.family (place_of r) × ((r.client ≡ g.client) × (r.owner ≡ g.owner))
-ready_joined kept history number moment family g r fits member found =
-    let k = kept_of r in
+-- its place is its family's
+ready_joined : (kept : List Kept) (history : List Event) (number : ℕ → ℕ) (moment family : ℕ) (g : Grant) (k : Kept) → FitsStore kept history moment number → IsMember history number moment family g →
+    find (is_in family moment) kept ≡ Some k →
+    IsReady history number moment g.family (place_of k) × ((k.grant.client ≡ g.client) × (k.grant.owner ≡ g.owner))
+ready_joined kept history number moment family g k fits member found =
     let of = behind kept history number moment family k fits found in
     let h = of.grant in
-    let number_h : number h.family ≡ r.family = ap (λ x. x.grant.family) of.is_seen in
-    let number_r : r.family ≡ family = eqb-true r.family family (and_parts (eqb r.family family) (is_unexpired moment k.grant) (find-passes (λ x. eqb x.grant.family family && is_unexpired moment x.grant) kept k found)).0 in
-    let same : h.family ≡ g.family = fits.apart of.digest member.digest h g of.is_named_too member.is_named (number_h ∙ number_r ∙ sym member.number_is) in
-    let kin_h = ap (λ f. is_of h.client h.owner (opener history f)) (sym same) ∙ grant_at-kin history of.digest moment h fits.is_history.kin of.is_named_too in
-    let kin_g = grant_at-kin history member.digest moment g fits.is_history.kin member.is_named in
-    let parties = same_parties h.client h.owner g.client g.owner (opener history g.family) kin_h kin_g in
-    let client : r.client ≡ g.client = sym (ap (λ x. x.grant.client) of.is_seen) ∙ parties.0 in
-    let owner : r.owner ≡ g.owner = sym (ap (λ x. x.grant.owner) of.is_seen) ∙ parties.1 in (
+    let number_h : number h.family ≡ k.grant.family = ap (λ x. x.grant.family) of.is_seen in
+    let number_k : k.grant.family ≡ family = eqb-true k.grant.family family (and_parts (eqb k.grant.family family) (is_unexpired moment k.grant) (find-passes (is_in family moment) kept k found)).0 in
+    let same : h.family ≡ g.family = fits.apart of.digest member.digest h g of.is_named_too member.is_named (number_h ∙ number_k ∙ sym member.number_is) in
+    let parties = opener-of_one history of.digest member.digest moment moment h g fits.is_history.kin of.is_named_too member.is_named same in
+    let client_h : h.client ≡ k.grant.client = ap (λ x. x.grant.client) of.is_seen in
+    let owner_h : h.owner ≡ k.grant.owner = ap (λ x. x.grant.owner) of.is_seen in
+    let client : k.grant.client ≡ g.client = sym client_h ∙ parties.0 in
+    let owner : k.grant.owner ≡ g.owner = sym owner_h ∙ parties.1 in
+    let terms : code_terms history g.family ≡ k.terms = ap (code_terms history) (sym same) ∙ ap (λ x. x.terms) of.is_seen in (
       record {
-        number_is = member.number_is ∙ sym number_r;
-        home = inr (ap (λ c. is_of c r.owner (opener history g.family)) client ∙ ap (λ o. is_of g.client o (opener history g.family)) owner ∙ kin_g);
+        number_is = member.number_is ∙ sym number_k;
+        home = inr (ap (λ c. is_of c k.grant.owner (opener history g.family)) client ∙ ap (λ o. is_of g.client o (opener history g.family)) owner ∙ grant_at-kin history member.digest moment g fits.is_history.kin member.is_named);
         own = λ d i at same_number. fits.apart d member.digest i g at member.is_named same_number;
-        terms = ap (code_terms history) (sym same) ∙ ap (λ x. x.terms) of.is_seen;
+        terms = terms ∙ same_terms k.grant.client k.grant.owner k.terms (λ t is. (
+            let kin = code_terms-kin history of.digest moment h t fits.is_history.kin of.is_named_too (ap (code_terms history) same ∙ terms ∙ is) in
+            (kin.0 ∙ client_h, kin.1 ∙ owner_h)));
         ended = ap (has_ended history) (sym same) ∙ ap (λ x. x.ended) of.is_seen;
       },
       (client, owner),
     )
 
-pub fits_joined : (kept : List Kept) (records : List Record) (history : List Event) (number : ℕ → ℕ) (moment family : ℕ) (g : Grant) (place : Place) (tokens : List NewToken) →
-    map kept_of records ≡ kept → place_in records moment (Family family) ≡ Some place → IsMember history number moment family g → is_taken history moment (digests_of tokens) ≡ false →
+pub fits_joined : (kept : List Kept) (history : List Event) (number : ℕ → ℕ) (moment family : ℕ) (g : Grant) (place : Place) (tokens : List NewToken) →
+    place_in kept moment (Family family) ≡ Some place → IsMember history number moment family g → is_taken history moment (digests_of tokens) ≡ false →
     FitsStore kept history moment number →
     (place.family ≡ family) × FitsStore (kept ++ map (token_kept place moment) tokens) (with_issued history moment g.family g.client g.owner tokens) moment number
-fits_joined kept records history number moment family g place tokens view is member untaken fits =
-    joined_cases (find (is_in family moment) records) refl is
+fits_joined kept history number moment family g place tokens is member untaken fits =
+    joined_cases (find (is_in family moment) kept) refl is
   where
-    joined_cases : (o : Option Record) → find (is_in family moment) records ≡ o → option_map place_of o ≡ Some place →
+    joined_cases : (o : Option Kept) → find (is_in family moment) kept ≡ o → option_map place_of o ≡ Some place →
         (place.family ≡ family) × FitsStore (kept ++ map (token_kept place moment) tokens) (with_issued history moment g.family g.client g.owner tokens) moment number
     joined_cases None found h = absurd (cc)
-    joined_cases (Some r) found h =
-        let same : place_of r ≡ place = cc in
-        let here : find (λ x. eqb x.grant.family family && is_unexpired moment x.grant) kept ≡ Some (kept_of r) =
-        ap (find (λ x. eqb x.grant.family family && is_unexpired moment x.grant)) (sym view) ∙ find-map kept_of (λ x. eqb x.grant.family family && is_unexpired moment x.grant) records ∙ ap (option_map kept_of) found in
-        let ready = ready_joined kept history number moment family g r fits member here in
-        let all = fits_tokens kept history number moment g.family (place_of r) tokens ready.0 untaken fits in
+    joined_cases (Some k) found h =
+        let same : place_of k ≡ place = cc in
+        let ready = ready_joined kept history number moment family g k fits member found in
+        let all = fits_tokens kept history number moment g.family (place_of k) tokens ready.0 untaken fits in
         (ap (λ p. p.family) (sym same) ∙ sym ready.0.number_is ∙ member.number_is, rw (← same, ← ready.1.0, ← ready.1.1) all)
 
 -- PLACES
@@ -275,38 +223,51 @@ map_none f None h is = cc
 map_none f (Some x) h is = cc
 
 -- a home that is open has a place
-pub place_there : (records : List Record) (moment : ℕ) (home : Home) → IsOpen (map kept_of records) moment home → place_in records moment home ≡ None → ⊥
-place_there records moment (Family family) is none =
-    map_none place_of (find (is_in family moment) records) none
-    (sym (ap is_some (find-map kept_of (λ x. eqb x.grant.family family && is_unexpired moment x.grant) records) ∙ is_some-map kept_of (find (is_in family moment) records)) ∙ is)
-place_there records moment (Client client) is none = cc
+pub place_there : (kept : List Kept) (moment : ℕ) (home : Home) → IsOpen kept moment home → place_in kept moment home ≡ None → ⊥
+place_there kept moment (Family family) is none = map_none place_of (find (is_in family moment) kept) none is
+place_there kept moment (Client client) is none = cc
 
 -- its number is that of a place, or the next one
-place_below : (records : List Record) (moment : ℕ) (home : Home) (place : Place) → AllNumbered (map kept_of records) → place_in records moment home ≡ Some place → place.family ≤ length records
-place_below records moment (Family family) place all is = below_cases (find (is_in family moment) records) refl is
+pub place_below : (kept : List Kept) (moment : ℕ) (home : Home) (place : Place) → AllNumbered kept → place_in kept moment home ≡ Some place → place.family ≤ length kept
+place_below kept moment (Family family) place all is = below_cases (find (is_in family moment) kept) refl is
   where
-    below_cases : (o : Option Record) → find (is_in family moment) records ≡ o → option_map place_of o ≡ Some place → place.family ≤ length records
+    below_cases : (o : Option Kept) → find (is_in family moment) kept ≡ o → option_map place_of o ≡ Some place → place.family ≤ length kept
     below_cases None found h = absurd (cc)
-    below_cases (Some r) found h =
-        let same : place_of r ≡ place = cc in
-        let here = find-map kept_of (λ x. eqb x.grant.family family && is_unexpired moment x.grant) records ∙ ap (option_map kept_of) found in
-        let below = ltb-true r.family (length (map kept_of records)) (find-all (λ x. eqb x.grant.family family && is_unexpired moment x.grant) (λ x. nat_lt x.grant.family (length (map kept_of records))) (map kept_of records) (kept_of r) all here) in
-        let number : r.family ≡ place.family = ap (λ p. p.family) same in
-        omega (arith, below, number, length-map records kept_of)
-place_below records moment (Client client) place all is =
-    let new : Place = record { family = length records; client = client; owner = 0; code_scope = None; ended = false } in
-    let number : length records ≡ place.family = ap (λ (p : Place). p.family) (some_same new place is) in omega (arith, number)
+    below_cases (Some k) found h =
+        let same : place_of k ≡ place = cc in
+        let below = ltb-true k.grant.family (length kept) (find-all (is_in family moment) (λ x. nat_lt x.grant.family (length kept)) kept k all found) in
+        let number : k.grant.family ≡ place.family = ap (λ p. p.family) same in
+        omega (arith, below, number)
+place_below kept moment (Client client) place all is =
+    let new : Place = record { family = length kept; client = client; owner = 0; code_scope = None; ended = false } in
+    let number : length kept ≡ place.family = ap (λ (p : Place). p.family) (some_same new place is) in omega (arith, number)
+
+-- and the next one is unused
+pub place_unused : (kept : List Kept) (moment client : ℕ) (place : Place) → AllNumbered kept → place_in kept moment (Client client) ≡ Some place → IsUnused kept moment place.family
+place_unused kept moment client place all is =
+    let new : Place = record { family = length kept; client = client; owner = 0; code_scope = None; ended = false } in
+    rw (← ap (λ (p : Place). p.family) (some_same new place is)) (unused_next kept moment all)
+
+-- the same of a home that may have none
+pub place_numbered : (kept : List Kept) (moment : ℕ) (home : Home) (o : Option Place) → AllNumbered kept → o ≡ place_in kept moment home → IfSome o (λ p. p.family ≤ length kept)
+place_numbered kept moment home None all is = tt
+place_numbered kept moment home (Some place) all is = place_below kept moment home place all (sym is)
+
+pub client_unused : (kept : List Kept) (moment client : ℕ) (home : Home) (o : Option Place) → AllNumbered kept → o ≡ place_in kept moment home → home ≡ Client client →
+    IfSome o (λ p. IsUnused kept moment p.family)
+client_unused kept moment client home None all is same = tt
+client_unused kept moment client home (Some place) all is same = place_unused kept moment client place all (ap (place_in kept moment) (sym same) ∙ sym is)
 
 all_of_place : (n moment : ℕ) (place : Place) (tokens : List NewToken) → place.family < n → list_all (λ k. nat_lt k.grant.family n) (map (token_kept place moment) tokens) ≡ true
 all_of_place n moment place [] lt = refl
 all_of_place n moment place (t ∷ ts) lt = and_from (nat_lt place.family n) _ (lt-ltb place.family n lt) (all_of_place n moment place ts lt)
 
-pub numbered_tokens : (records : List Record) (moment : ℕ) (home : Home) (place : Place) (tokens : List NewToken) → AllNumbered (map kept_of records) → place_in records moment home ≡ Some place → 0 < length tokens →
-    list_all (λ k. nat_lt k.grant.family (length (map kept_of records) + length (map (token_kept place moment) tokens))) (map (token_kept place moment) tokens) ≡ true
-numbered_tokens records moment home place tokens all is some =
-    let le = place_below records moment home place all is in
-    all_of_place (length (map kept_of records) + length (map (token_kept place moment) tokens)) moment place tokens
-    (omega (arith, le, some, length-map records kept_of, length-map tokens (token_kept place moment)))
+pub numbered_tokens : (kept : List Kept) (moment : ℕ) (place : Place) (tokens : List NewToken) → AllNumbered kept → place.family ≤ length kept → 0 < length tokens →
+    AllNumbered (kept ++ map (token_kept place moment) tokens)
+numbered_tokens kept moment place tokens all le some =
+    numbered_more kept (map (token_kept place moment) tokens)
+    (all_of_place (length kept + length (map (token_kept place moment) tokens)) moment place tokens
+    (omega (arith, le, some, length-map tokens (token_kept place moment)))) all
 
 pub untaken_from : (history : List Event) (moment : ℕ) (digests : List (List ℕ)) → refusal history moment digests ≡ None → is_taken history moment digests ≡ false
 untaken_from history moment digests none = from_cases (has_room history moment digests) (is_taken history moment digests) none

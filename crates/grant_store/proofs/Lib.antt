@@ -1,5 +1,7 @@
+pub mod Adding
+pub mod Digests
+pub mod Families
+pub mod Issuing
 pub mod Marked
 pub mod Marking
-pub mod Adding
 pub mod Opening
-pub mod Issuing

@@ -2,20 +2,17 @@
 use Rattle.std.proofs.Common.{◌≡◌, ◌≤◌, ℕ, ◌+◌, List, [], ◌∷◌, ◌++◌, Option, Some, None, Bool, true, false, cond, eqb, length, refl, ap, ◌∙◌, sym, arith}
 use Rattle.std.specs.Prelude.{◌&&◌, ◌||◌, option_map, map, is_some}
 use Rattle.std.specs.Str.{bytes_eq}
-use Rattle.std.proofs.lemmas.Bool.{lt-ltb, eqb-true, eq-eqb, and_parts, and_from, and_right, false≢true}
+use Rattle.std.proofs.lemmas.Bool.{lt-ltb, eqb-true, eq-eqb, and_parts, false≢true}
 use Rattle.std.proofs.lemmas.Slice.Eq.{bytes_eq-Decides}
-use Rattle.consent.specs.declared.grant.Kind.{Kind}
-use Rattle.consent.specs.declared.grant.Kind.TheVariants.{Code, Token}
-use Rattle.consent.specs.declared.grant.TokenKind.TheVariants.{Access, Refresh}
-use Rattle.consent.specs.Lists.{find-passes}
+use Rattle.consent.specs.ListLaws.{find-passes}
 use Rattle.consent.specs.History.{Event, Grant, Terms, grant_of, grants, grant_at, is_named, is_unexpired, is_spent, has_ended, code_terms, is_beyond, is_placed, with_change}
 use Rattle.consent.specs.History.Change.{Consented, Spent, FamilyEnded}
-use Rattle.consent.specs.Growth.{grant_at-push_none, unexpired_count-push_none, code_terms-push_none, is_spent-push, is_spent-push_other, has_ended-push, has_ended-push_other}
-use Rattle.consent.specs.Histories.{grant_at-now, grant_at-placed, is_history-push_none}
+use Rattle.consent.specs.GrowthLaws.{grant_at-push_none, unexpired_count-push_none, code_terms-push_none, is_spent-push, is_spent-push_other, has_ended-push, has_ended-push_other}
+use Rattle.consent.specs.HistoryLaws.{grant_at-now, grant_at-placed, is_history-push_none}
 use Rattle.grant_store.specs.declared.record.Mark.{Mark}
 use Rattle.grant_store.specs.declared.record.Mark.TheVariants as mark
 use Rattle.grant_store.specs.Kept.{Kept}
-use Rattle.grant_store.specs.Records.{marked, is_kind}
+use Rattle.grant_store.specs.Records.{marked}
 use Rattle.grant_store.specs.Fits.{FitsStore, seen}
 use Rattle.grant_store.proofs.Marked.{find-changed, count-changed, marked-grant}
 
@@ -27,12 +24,15 @@ or_false : (b : Bool) → (b || false) ≡ b
 or_false true = refl
 or_false false = refl
 
+le_self : (n : ℕ) → n ≤ n
+le_self n = omega arith
+
 -- where the mark does to each record what the event does to its grant
 fits_marked : (kept : List Kept) (history : List Event) (number : ℕ → ℕ) (moment : ℕ) (e : Event) (m : Mark) →
-    grant_of e ≡ None → is_placed (length history + 1) e.change ≡ true →
+    e.moment ≤ moment → grant_of e ≡ None → is_placed (length history + 1) e.change ≡ true →
     ((d : List ℕ) (t : ℕ) (g : Grant) → moment ≤ t → grant_at history d t ≡ Some g → marked m (seen history number d t g) ≡ seen (history ++ e ∷ []) number d t g) →
     FitsStore kept history moment number → FitsStore (map (marked m) kept) (history ++ e ∷ []) moment number
-fits_marked kept history number moment e m none placed same fits = record {
+fits_marked kept history number moment e m now none placed same fits = record {
   answers = λ d t le.
       find-changed (marked m) (is_named d t) kept (marked-grant m) ∙ ap (option_map (marked m)) (fits.answers d t le)
       ∙ all_marked (seen history number d t) (seen (history ++ e ∷ []) number d t) (grant_at history d t) (λ g at. same d t g le at)
@@ -40,7 +40,7 @@ fits_marked kept history number moment e m none placed same fits = record {
   count = λ t le. count-changed (marked m) (is_unexpired t) kept (marked-grant m) ∙ fits.count t le ∙ sym (unexpired_count-push_none history e t none);
   once = λ d. rw (count-changed (marked m) (is_named d moment) kept (marked-grant m)) (fits.once d);
   apart = λ d d' g h a b. fits.apart d d' g h (sym (grant_at-push_none history e d moment none) ∙ a) (sym (grant_at-push_none history e d' moment none) ∙ b);
-  is_history = is_history-push_none history e moment none placed fits.is_history;
+  is_history = is_history-push_none history e moment now none placed fits.is_history;
 }
   where
     all_marked : (f f' : Grant → Kept) (o : Option Grant) → ((g : Grant) → o ≡ Some g → marked m (f g) ≡ f' g) → option_map (marked m) (option_map f o) ≡ option_map f' o
@@ -55,30 +55,23 @@ ended_if : (b : Bool) (k : Kept) → cond {A = Kept} b (record k { ended = true 
 ended_if true k = ap (λ x. record k { ended = x }) (sym (or_true k.ended))
 ended_if false k = ap (λ x. record k { ended = x }) (sym (or_false k.ended))
 
-is_kind-self : (kind : Kind) → is_kind kind kind ≡ true
-is_kind-self Code = refl
-is_kind-self (Token Access) = refl
-is_kind-self (Token Refresh) = refl
-
 -- SPENDING
 
 -- of what digests name, that of the digest alone is marked
-spent_test : (kept : List Kept) (history : List Event) (number : ℕ → ℕ) (moment : ℕ) (digest d : List ℕ) (t : ℕ) (g h : Grant) →
-    FitsStore kept history moment number → grant_at history digest moment ≡ Some g → moment ≤ t → grant_at history d t ≡ Some h →
-    (is_kind g.kind h.kind && is_named digest moment h) ≡ bytes_eq d digest
-spent_test kept history number moment digest d t g h fits at le found = test_cases (bytes_eq d digest) refl
+spent_test : (kept : List Kept) (history : List Event) (number : ℕ → ℕ) (moment : ℕ) (digest d : List ℕ) (t : ℕ) (h : Grant) →
+    FitsStore kept history moment number → moment ≤ t → grant_at history d t ≡ Some h →
+    is_named digest moment h ≡ bytes_eq d digest
+spent_test kept history number moment digest d t h fits le found = test_cases (bytes_eq d digest) refl
   where
-    test_cases : (b : Bool) → bytes_eq d digest ≡ b → (is_kind g.kind h.kind && is_named digest moment h) ≡ b
+    test_cases : (b : Bool) → bytes_eq d digest ≡ b → is_named digest moment h ≡ b
     test_cases true is =
         let same : d ≡ digest = (bytes_eq-Decides d digest).0 is in
         let here : grant_at history digest moment ≡ Some h = grant_at-now history digest moment t h fits.is_history le (ap (λ x. grant_at history x t) (sym same) ∙ found) in
-        let one : Some h ≡ Some g = sym here ∙ at in
-        let both : h ≡ g = cc in
-        and_from (is_kind g.kind h.kind) (is_named digest moment h) (ap (λ (x : Grant). is_kind g.kind x.kind) both ∙ is_kind-self g.kind) (find-passes (is_named digest moment) (grants history) h here)
+        find-passes (is_named digest moment) (grants history) h here
     test_cases false is =
         let named = find-passes (is_named d t) (grants history) h found in
         let own : d ≡ h.digest = (bytes_eq-Decides d h.digest).0 (and_parts (bytes_eq d h.digest) (is_unexpired t h) named).0 in
-        and_right (is_kind g.kind h.kind) (is_named digest moment h) (other (bytes_eq digest h.digest) refl own is)
+        other (bytes_eq digest h.digest) refl own is
       where
         other : (b : Bool) → bytes_eq digest h.digest ≡ b → d ≡ h.digest → bytes_eq d digest ≡ false → (b && is_unexpired moment h) ≡ false
         other false e own is = refl
@@ -87,13 +80,13 @@ spent_test kept history number moment digest d t g h fits at le found = test_cas
             absurd (false≢true (sym is ∙ (bytes_eq-Decides d digest).1 (own ∙ sym same)))
 
 -- the spent one is marked
-pub fits_spent : (kept : List Kept) (history : List Event) (number : ℕ → ℕ) (moment : ℕ) (digest : List ℕ) (g : Grant) →
-    FitsStore kept history moment number → grant_at history digest moment ≡ Some g →
-    FitsStore (map (marked (mark.Spent g.kind digest moment)) kept) (with_change history moment (Spent digest)) moment number
-fits_spent kept history number moment digest g fits at =
+pub fits_spent : (kept : List Kept) (history : List Event) (number : ℕ → ℕ) (moment : ℕ) (digest : List ℕ) →
+    FitsStore kept history moment number →
+    FitsStore (map (marked (mark.Spent digest moment)) kept) (with_change history moment (Spent digest)) moment number
+fits_spent kept history number moment digest fits =
     let e : Event = record { moment = moment; change = Spent digest } in
-    fits_marked kept history number moment e (mark.Spent g.kind digest moment) refl refl (λ d t h le found.
-    ap (λ b. cond {A = Kept} b (record (seen history number d t h) { spent = true }) (seen history number d t h)) (spent_test kept history number moment digest d t g h fits at le found)
+    fits_marked kept history number moment e (mark.Spent digest moment) (le_self moment) refl refl (λ d t h le found.
+    ap (λ b. cond {A = Kept} b (record (seen history number d t h) { spent = true }) (seen history number d t h)) (spent_test kept history number moment digest d t h fits le found)
     ∙ spent_if (bytes_eq d digest) (seen history number d t h)
     ∙ ap (λ b. record (seen history number d t h) { spent = b }) (sym (is_spent-push history e d t ∙ ap (λ o. is_spent history d t || (is_some o && bytes_eq d digest)) found))
     ∙ ap (λ b. record (seen history number d t h) { spent = is_spent (history ++ e ∷ []) d t; ended = b }) (sym (has_ended-push_other history e h.family refl))
@@ -120,7 +113,7 @@ pub fits_ended : (kept : List Kept) (history : List Event) (number : ℕ → ℕ
 fits_ended kept history number moment digest g fits at =
     let e : Event = record { moment = moment; change = FamilyEnded g.family } in
     let before = grant_at-placed history digest moment g fits.is_history.placed at in
-    fits_marked kept history number moment e (mark.Ended (number g.family)) refl (lt-ltb g.family (length history + 1) (omega (arith, before))) (λ d t h le found.
+    fits_marked kept history number moment e (mark.Ended (number g.family)) (le_self moment) refl (lt-ltb g.family (length history + 1) (omega (arith, before))) (λ d t h le found.
     ended_seen history number e d t h (eqb (number h.family) (number g.family)) refl (is_spent-push_other history e d t refl)
     (has_ended-push history e h.family (fits.is_history.one_code h.family)
     ∙ ap (λ b. has_ended history h.family || (eqb g.family h.family || b)) (end_beyond_none g.family (code_terms history h.family))
@@ -141,6 +134,6 @@ pub fits_consented : (kept : List Kept) (history : List Event) (number : ℕ →
     FitsStore (map (marked (mark.Lowered owner client mask)) kept) (with_change history moment (Consented owner client mask)) moment number
 fits_consented kept history number moment owner client mask fits =
     let e : Event = record { moment = moment; change = Consented owner client mask } in
-    fits_marked kept history number moment e (mark.Lowered owner client mask) refl refl (λ d t h le found.
+    fits_marked kept history number moment e (mark.Lowered owner client mask) (le_self moment) refl refl (λ d t h le found.
     ended_seen history number e d t h (is_beyond (Consented owner client mask) (code_terms history h.family)) refl (is_spent-push_other history e d t refl)
     (has_ended-push history e h.family (fits.is_history.one_code h.family))) fits

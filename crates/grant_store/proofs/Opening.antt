@@ -5,15 +5,15 @@ use Rattle.std.specs.Option.{option_or}
 use Rattle.std.specs.List.{list_all}
 use Rattle.std.proofs.lemmas.Bool.{ltb-true, lt-ltb, ne_eqb, eq-eqb, and_from}
 use Rattle.std.proofs.lemmas.List.Folds.{list_all-append}
-use Rattle.consent.specs.Lists.{find-all, list_all-wider}
+use Rattle.consent.specs.ListLaws.{find-all, list_all-wider}
 use Rattle.consent.specs.History.{Event, Grant, grant_at, is_named, has_ended, code_terms, terms_of, with_change}
-use Rattle.consent.specs.Growth.{code_terms-push, code_terms-push_other, has_ended-push_other}
-use Rattle.consent.specs.Histories.{grant_at-placed, code_terms-fresh, has_ended-fresh, is_history-push}
+use Rattle.consent.specs.GrowthLaws.{code_terms-push, code_terms-push_other, has_ended-push_other}
+use Rattle.consent.specs.HistoryLaws.{grant_at-placed, code_terms-fresh, has_ended-fresh, is_history-push}
 use Rattle.grant_store.specs.declared.facts.CodeFacts.{CodeFacts}
 use Rattle.grant_store.specs.Kept.{Kept}
 use Rattle.grant_store.specs.Fits.{FitsStore, seen, named, code_given}
-use Rattle.grant_store.specs.Records.{code_kept, AllNumbered}
-use Rattle.grant_store.proofs.Adding.{KeepsOneMore, IsUnused, Gives, fits_given, fits_named, named_older}
+use Rattle.grant_store.specs.Records.{code_kept, AllNumbered, IsUnused}
+use Rattle.grant_store.proofs.Adding.{KeepsOneMore, Gives, fits_given, fits_named, named_older}
 
 -- a number past those of the records is unused
 pub unused_next : (kept : List Kept) (moment : ℕ) → AllNumbered kept → IsUnused kept moment (length kept)

@@ -1,3 +1,3 @@
+pub mod Record
 pub mod Narrowing
 pub mod NarrowingLaws
-pub mod Record

@@ -3,7 +3,7 @@ use Rattle.std.specs.Prelude.{ℕ, ◌≡◌, ◌<◌, ◌≤◌, ◌==◌, List
 use Rattle.hook_record.specs.declared.Ask.{Ask}
 use Rattle.hook_record.specs.declared.Narrowed.{Narrowed}
 use Rattle.hook_record.specs.declared.Narrowed.TheVariants.{Denied, EmptyScope, Allowed}
-use Rattle.hook_record.specs.Record.{u32_at, u64_at}
+use Rattle.hook_record.specs.Record.{u32_at, u64_at, scope_offset, life_offset}
 
 -- what is left of a grant by its scopes and its lifetime
 abbrev pub left_of : ℕ → ℕ → Narrowed
@@ -15,7 +15,7 @@ met ask scope life = left_of (bit_and ask.scope scope) (min ask.life life)
 
 -- what a hook that ends with r0 leaves of an ask, by the scope mask and the lifetime that it left in its record
 abbrev pub narrowed : Ask → ℕ → List ℕ → Narrowed
-narrowed ask r0 bytes = if r0 == 1 then met ask (u64_at bytes 40) (u32_at bytes 48) else Denied
+narrowed ask r0 bytes = if r0 == 1 then met ask (u64_at bytes scope_offset) (u32_at bytes life_offset) else Denied
 
 -- a scope mask and a lifetime that an ask holds: some of its scopes, and some of its lifetime
 pub record IsNarrowing (ask : Ask) (scope life : ℕ) : Type 0 where

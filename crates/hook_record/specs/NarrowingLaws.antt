@@ -5,7 +5,7 @@ use Rattle.std.proofs.lemmas.Nat.Bits.{bit_at_and, same_from_bits}
 use Rattle.hook_record.specs.declared.Ask.{Ask}
 use Rattle.hook_record.specs.declared.Narrowed.{Narrowed}
 use Rattle.hook_record.specs.declared.Narrowed.TheVariants.{Denied, EmptyScope, Allowed}
-use Rattle.hook_record.specs.Record.{u32_at, u64_at}
+use Rattle.hook_record.specs.Record.{u32_at, u64_at, scope_offset, life_offset}
 use Rattle.hook_record.specs.Narrowing.{left_of, met, narrowed, IsNarrowing}
 
 not_denied : (scope life : ℕ) → Denied ≡ Allowed scope life → ⊥
@@ -56,4 +56,4 @@ chosen false found scope life e = absurd (not_denied _ _ e)
 pub narrowed_narrows : (ask : Ask) (r0 : ℕ) (bytes : List ℕ) (scope life : ℕ)
     → narrowed ask r0 bytes ≡ Allowed scope life → IsNarrowing ask scope life
 narrowed_narrows ask r0 bytes scope life e =
-    met_narrows ask (u64_at bytes 40) (u32_at bytes 48) scope life (chosen (r0 == 1) _ scope life e)
+    met_narrows ask (u64_at bytes scope_offset) (u32_at bytes life_offset) scope life (chosen (r0 == 1) _ scope life e)

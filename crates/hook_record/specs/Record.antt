@@ -25,6 +25,13 @@ kind_number Code = 1
 kind_number Refresh = 2
 kind_number ClientCredentials = 3
 
+-- where the scope mask and the lifetime of the grant stand, which the hook may write
+abbrev pub scope_offset : ℕ
+scope_offset = 40
+
+abbrev pub life_offset : ℕ
+life_offset = 48
+
 -- the fields that both versions have, in their order, before those of version 2 alone
 abbrev pub fields_before : List Field → ℕ → Ask → List Field
 fields_before further version ask =
@@ -34,8 +41,8 @@ fields_before further version ask =
     ∷ u64 16 ask.client
     ∷ u64 24 ask.owner
     ∷ u64 32 ask.asked
-    ∷ u64 40 ask.scope
-    ∷ u32 48 ask.life
+    ∷ u64 scope_offset ask.scope
+    ∷ u32 life_offset ask.life
     ∷ u32 52 0
     ∷ u64 56 ask.allowed
     ∷ further
@@ -99,8 +106,8 @@ ask_of bytes kind = record {
   client = u64_at bytes 16;
   owner = u64_at bytes 24;
   asked = u64_at bytes 32;
-  scope = u64_at bytes 40;
-  life = u32_at bytes 48;
+  scope = u64_at bytes scope_offset;
+  life = u32_at bytes life_offset;
   allowed = u64_at bytes 56;
   consented = 0;
   access_limit = 0;

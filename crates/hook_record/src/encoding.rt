@@ -23,6 +23,12 @@ ghost use Rattle.hook_record.specs.Record.{
 use crate::numbers::{put_u32, put_u64, u32_at, u64_at};
 use crate::{Ask, Kind};
 
+/// Where the scope mask of the grant stands, which the hook may write.
+pub(crate) const SCOPE_OFFSET: usize = 40;
+
+/// Where its lifetime stands, which the hook may write.
+pub(crate) const LIFE_OFFSET: usize = 48;
+
 impl Kind {
     /// The number by which a record names the kind.
     fn number(self) -> u32
@@ -60,8 +66,8 @@ fn first_fields(version: u32, ask: &Ask) -> [u8; 64]
     put_u64(&mut bytes, 16, ask.client);
     put_u64(&mut bytes, 24, ask.owner);
     put_u64(&mut bytes, 32, ask.asked);
-    put_u64(&mut bytes, 40, ask.scope);
-    put_u32(&mut bytes, 48, ask.life);
+    put_u64(&mut bytes, SCOPE_OFFSET, ask.scope);
+    put_u32(&mut bytes, LIFE_OFFSET, ask.life);
     put_u32(&mut bytes, 52, 0);
     put_u64(&mut bytes, 56, ask.allowed);
     bytes
@@ -82,8 +88,8 @@ fn read_fields(bytes: &[u8], version: u32) -> Option<Ask>
         client: u64_at(bytes, 16),
         owner: u64_at(bytes, 24),
         asked: u64_at(bytes, 32),
-        scope: u64_at(bytes, 40),
-        life: u32_at(bytes, 48),
+        scope: u64_at(bytes, SCOPE_OFFSET),
+        life: u32_at(bytes, LIFE_OFFSET),
         allowed: u64_at(bytes, 56),
         consented: 0,
         access_limit: 0,

@@ -7,8 +7,6 @@
 mod encoding;
 mod narrowing;
 mod numbers;
-#[cfg(test)]
-mod tests;
 
 pub use encoding::{read, read_v2, write, write_v2};
 pub use narrowing::{meet, narrow, narrowing_never_widens};

@@ -3,6 +3,7 @@
 ghost use Rattle.std.specs.Prelude.{◌≡◌, ℕ, List};
 ghost use Rattle.hook_record.specs.Narrowing.{met, narrowed, IsNarrowing};
 
+use crate::encoding::{LIFE_OFFSET, SCOPE_OFFSET};
 use crate::numbers::{u32_at, u64_at};
 use crate::{Ask, Narrowed};
 
@@ -28,7 +29,7 @@ pub fn narrow(ask: &Ask, r0: u64, bytes: &[u8; 64]) -> Narrowed
     if r0 != 1 {
         return Narrowed::Denied;
     }
-    meet(ask, u64_at(bytes, 40), u32_at(bytes, 48))
+    meet(ask, u64_at(bytes, SCOPE_OFFSET), u32_at(bytes, LIFE_OFFSET))
 }
 
 /// Whatever is allowed, a grant has at most the scopes and the lifetime that were asked, and some of both.

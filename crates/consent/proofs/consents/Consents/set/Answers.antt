@@ -8,7 +8,7 @@ pub returns-then-mask-eq0-clause-fits : goal.returns-then-mask-eq0-clause-fits
 returns-then-mask-eq0-clause-fits c = λ history moment fits.
     let v = c.remove.ensures.value in
     let len = c.remove.ensures.len in
-    rw c.if-mask-eq0.true (fits_set c.args.self.now _ history moment c.args.owner c.args.client 0 (rw (← c.self.view_is) c.remove.ensures.updates.0) (rw (← c.self.view_is) (rw v at len ∙ sym (add-zero _))) fits)
+    rw c.if-mask-eq0.true (fits_set c.args.self.now _ history moment c.args.owner c.args.client 0 (rw (← c.self.view_is) c.remove.ensures.updates.0) (rw (← c.self.view_is) (rw v at len ∙ sym (add-zero _))) (omega (arith, c.get.ensures.value, c.get.ensures.least)) fits)
 
 pub returns-then-len-ge-CONSENT_LIMIT-clause-replaced : goal.returns-then-len-ge-CONSENT_LIMIT-clause-replaced
 returns-then-len-ge-CONSENT_LIMIT-clause-replaced c = λ history fits some.
@@ -27,4 +27,4 @@ returns-clause-fits c = λ history moment fits.
     let len = length-insert_mask _ _ _ c.args.mask (c.in-Ok.ensures.len) filled in
     fits_set c.args.self.now _ history moment c.args.owner c.args.client c.args.mask (rw (← c.self.view_is, filled) finds)
     (rw (← c.self.view_is) (ap (λ o. length c.insert.new.self.entries + cond {A =
-    ℕ} (is_some o) 1 0) (sym c.in-Ok.ensures.old) ∙ len)) fits
+    ℕ} (is_some o) 1 0) (sym c.in-Ok.ensures.old) ∙ len)) (omega (arith, c.get.ensures.value, c.get.ensures.least)) fits

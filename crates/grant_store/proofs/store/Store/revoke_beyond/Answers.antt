@@ -1,18 +1,8 @@
-use Rattle.std.proofs.Common.{◌∙◌, ap, map}
-use Rattle.grant_store.specs.declared.record.Mark.{Mark}
-use Rattle.grant_store.specs.declared.record.Mark.TheVariants as mark
-use Rattle.grant_store.specs.Records.{kept_of, marked}
-use Rattle.grant_store.proofs.Marked.{kept-marked, numbered-marked}
 use Rattle.grant_store.proofs.Marking.{fits_consented}
 use Rattle.grant_store.proofs.store.Store.revoke_beyond.Goals as goal
 
-pub invariant_of-self : goal.invariant_of-self
-invariant_of-self c =
-    let m : Mark = mark.Lowered c.args.owner c.args.client c.args.mask in
-    rw (c.mark_all.ensures, kept-marked m c.self.inside.records.items) (numbered-marked m (map kept_of c.self.inside.records.items) c.self.invariant)
-
 pub returns : goal.returns
-returns c = λ history number fits.
-    let m : Mark = mark.Lowered c.args.owner c.args.client c.args.mask in
-    let view = ap (map kept_of) c.mark_all.ensures ∙ kept-marked m c.self.inside.records.items ∙ ap (map (marked m)) c.self.view_is in
-    rw view (fits_consented c.args.self.now history number c.args.moment c.args.owner c.args.client c.args.mask fits)
+returns c = record {
+  fits = λ history number fits.
+      rw (c.mark.ensures, c.self.view_is) (fits_consented c.args.self.now history number c.args.moment c.args.owner c.args.client c.args.mask fits);
+}
