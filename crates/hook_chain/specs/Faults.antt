@@ -1,4 +1,4 @@
--- The fault of a hook whose bytes are no program, or whose program is not accepted, and how faults are told.
+-- Why hooks are refused, and how that is printed.
 use Rattle.std.specs.Prelude.{ℕ, List, ◌++◌, codes}
 use Rattle.insn.specs.declared.fault.InsnFault.{InsnFault}
 use Rattle.insn.specs.declared.fault.InsnFault.TheVariants as insn

@@ -1,4 +1,9 @@
-pub mod AnswerLaws
-pub mod Answers
-pub mod Faults
+pub mod Decisions
 pub mod Names
+pub mod Versions
+pub mod Exits
+pub mod Chains
+pub mod Faults
+pub mod DecisionLaws
+pub mod ExitLaws
+pub mod ChainLaws

@@ -1,74 +1,138 @@
-//! The server's own host, which has no hooks yet.
+//! The server's own host: hooks that answer one after the other.
 
-ghost use Rattle.std.specs.Prelude.{◌≡◌, ◌↔◌, [], Err, IsErr};
-ghost use Rattle.hook_chain.specs.Answers.{whole_of};
-ghost use Rattle.hook_chain.specs.Names.{IsHookName};
+ghost use Rattle.std.specs.Prelude.{◌≡◌, ◌↔◌, ◌<◌, ◌≤◌, ◌∷◌, ◌++◌, [], Contains, IsTrue, IfOk, IfErr, IsOk, OnOk, OnErr, length};
+ghost use Rattle.hook_chain.specs.Names.{hook_limit};
+ghost use Rattle.hook_chain.specs.Chains.{HasNoPlace, HasPlace, IsAcceptedCode, IsInstalled, IsNotTaken, IsRemoved, RefusesInstall, RefusesRemove, has_name, hooks_of, names_of};
+ghost use Rattle.hook_chain.specs.Exits.{narrowed_by};
 
+use crate::hook::Hook;
 use crate::name::is_hook_name;
 use crate::{HookFault, HookHost};
 use hook_record::{Ask, Narrowed};
+use insn::decoding::decode;
 use insn::layout::Layout;
 use std::alloc::Global;
 use std::marker::Model;
+use verifier::verified::{Verified, verify};
 
-/// A host with room for no hook: it allows what is asked.
-///
-/// `install` refuses a name that is none with `BadName` and every other with `Full`, and `remove` refuses every name with
-/// `Unknown`.
+/// The most hooks of a chain.
+const MAX_HOOKS: usize = 8;
+
+/// Hooks that answer in the order in which they were installed, each on what the one before left, up to the first that
+/// doesn't allow. Without hooks all is allowed that is asked.
 #[derive(Drop)]
 pub struct Chain {
     alloc: Global,
+    hooks: Vec<Hook>,
 }
 
 impl Model for Chain {
-    ghost Value = { Unit {0} };
+    ghost use Rattle.std.specs.Prelude.{List};
+    ghost use Rattle.hook_chain.specs.Chains.{Named};
+    ghost use Rattle.hook_chain.specs.Names.{AreHookNames};
+    ghost use Rattle.hook_chain.specs.Chains.{names_of};
 
-    ghost view = { λ _. tt };
+    ghost Value = { List Named };
+
+    ghost view = { λ c. c.hooks.items };
+
+    ghost invariant = { λ c. AreHookNames (names_of c.hooks.items) };
 }
 
 impl Chain {
     /// No hooks.
-    pub fn new(alloc: Global) -> Self {
-        Chain { alloc }
-    }
-}
-
-impl HookHost for Chain {
-    ghost answer = { λ _ ask. whole_of ask };
-
-    ghost names = { λ _. [] };
-
-    ghost installs = { λ old name layout code new. ⊥ };
-
-    ghost removes = { λ old name new. ⊥ };
-
-    fn decide(&self, ask: &Ask) -> Narrowed {
-        Narrowed::Allowed {
-            scope: ask.scope,
-            life: ask.life,
+    pub fn new(alloc: Global) -> Self
+        ensures { result ≡ [] }
+    {
+        Chain {
+            alloc,
+            hooks: Vec::new(alloc),
         }
     }
 
-    fn install(&mut self, name: &str, _layout: Layout, _code: &[u8]) -> Result<(), HookFault>
-        ensures bad_name { (result ≡ Err HookFault.BadName) ↔ ¬ IsHookName name.now }
-        ensures full { (result ≡ Err HookFault.Full) ↔ IsHookName name.now }
-        ensures refused { IsErr result }
-        ensures err { self.new ≡ self.old }
+    /// Whether a hook has a name.
+    fn has(&self, name: &str) -> bool
+        ensures { result ≡ has_name self.now name.now }
+    {
+        self.hooks.iter().any(|hook| name == hook.name.as_str())
+    }
+
+    /// Tests whether a hook may be installed under a name, before its code is looked at.
+    fn place(&self, name: &str) -> Result<(), HookFault>
+        ensures place { IsOk result → HasPlace self.now name.now }
+        ensures refused { IfErr result (λ fault. HasNoPlace self.now name.now fault) }
     {
         if !is_hook_name(name) {
             return Err(HookFault::BadName);
         }
-        Err(HookFault::Full)
+        if self.has(name) {
+            return Err(HookFault::NameTaken);
+        }
+        if self.hooks.len() >= MAX_HOOKS {
+            return Err(HookFault::Full);
+        }
+        Ok(())
+    }
+}
+
+/// The program that some code spells, where it is accepted.
+fn accepted(alloc: Global, layout: Layout, code: &[u8]) -> Result<Verified, HookFault>
+    ensures accepted { IfOk result (λ v. IsAcceptedCode layout code.now v) }
+    ensures refused { IfErr result (λ fault. IsNotTaken layout code.now fault) }
+{
+    let program = decode(alloc, code)?;
+    match verify(alloc, program, layout) {
+        Ok(verified) => {
+            let _program = verified.program();
+            Ok(verified)
+        }
+        Err((_, fault)) => Err(HookFault::from(fault)),
+    }
+}
+
+impl HookHost for Chain {
+    ghost answer = { λ hooks ask. narrowed_by (hooks_of hooks) ask };
+
+    ghost names = { names_of };
+
+    ghost installs = { IsInstalled };
+
+    ghost removes = { IsRemoved };
+
+    ghost refuses_install = { RefusesInstall };
+
+    ghost refuses_remove = { RefusesRemove };
+
+    fn decide(&self, ask: &Ask) -> Narrowed {
+        let mut left = Narrowed::Allowed {
+            scope: ask.scope,
+            life: ask.life,
+        };
+        for hook in &self.hooks {
+            left = hook.narrowed_further(ask, left);
+        }
+        left
     }
 
-    fn remove(&mut self, _name: &str) -> Result<(), HookFault>
-        ensures unknown { result ≡ Err HookFault.Unknown }
-        ensures err { self.new ≡ self.old }
-    {
-        Err(HookFault::Unknown)
+    fn install(&mut self, name: &str, layout: Layout, code: &[u8]) -> Result<(), HookFault> {
+        self.place(name)?;
+        let verified = accepted(self.alloc, layout, code)?;
+        let name = String::from_str(self.alloc, name)?;
+        let Ok(()) = self.hooks.push(Hook { name, verified }) else {
+            return Err(HookFault::Memory);
+        };
+        Ok(())
     }
 
-    fn name_at(&self, _i: usize) -> Option<&str> {
-        None
+    fn remove(&mut self, name: &str) -> Result<(), HookFault> {
+        if !self.has(name) {
+            return Err(HookFault::Unknown);
+        }
+        self.hooks.retain(|hook| name != hook.name.as_str());
+        Ok(())
+    }
+
+    fn name_at(&self, i: usize) -> Option<&str> {
+        Some(self.hooks.get(i)?.name.as_str())
     }
 }

@@ -2,7 +2,7 @@
 
 ghost use Rattle.std.specs.Prelude.{◌≡◌, ℕ};
 ghost use Rattle.hook_record.specs.Narrowing.{IsNarrowing};
-ghost use Rattle.hook_chain.specs.Answers.{met_with};
+ghost use Rattle.hook_chain.specs.Decisions.{met_with};
 
 use crate::HookHost;
 use hook_record::{Ask, Narrowed, meet};

@@ -5,6 +5,7 @@ ghost use Rattle.hook_chain.specs.Faults.{hook_fault_text, of_decoding, of_verif
 
 use insn::fault::InsnFault;
 use insn::verify_fault::VerifyFault;
+use std::alloc::AllocError;
 use std::fmt::{self, Display, Formatter, Write};
 
 /// Why a hook is not installed or removed.
@@ -61,5 +62,15 @@ impl From<VerifyFault> for HookFault {
             VerifyFault::Memory => HookFault::Memory,
             fault => HookFault::Verify(fault),
         }
+    }
+}
+
+impl From<AllocError> for HookFault {
+    ghost use Rattle.hook_chain.specs.declared.fault.HookFault.TheVariants.{Memory};
+
+    ghost from_gives = { λ _ e. e ≡ Memory };
+
+    fn from(_: AllocError) -> HookFault {
+        HookFault::Memory
     }
 }

@@ -7,6 +7,7 @@
 mod chain;
 mod decision;
 mod fault;
+mod hook;
 mod host;
 mod name;
 #[cfg(test)]

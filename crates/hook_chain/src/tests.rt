@@ -1,11 +1,10 @@
-ghost use Rattle.std.specs.Prelude.{[]};
+ghost use Rattle.std.specs.Prelude.{◌≡◌, []};
 
 use crate::{Chain, HookFault, HookHost, decided};
 use hook_record::{Ask, Kind, Narrowed};
 use insn::fault::InsnFault;
 use insn::layout::Layout;
 use insn::verify_fault::VerifyFault;
-use std::alloc::AllocError;
 
 const ASK: Ask = Ask {
     kind: Kind::Code,
@@ -28,6 +27,8 @@ struct Answering {
 }
 
 impl HookHost for Answering {
+    ghost use Rattle.hook_chain.specs.declared.fault.HookFault.TheVariants.{Full, Unknown};
+
     ghost answer = { λ host _. host.answer };
 
     ghost names = { λ _. [] };
@@ -35,6 +36,10 @@ impl HookHost for Answering {
     ghost installs = { λ old name layout code new. ⊥ };
 
     ghost removes = { λ old name new. ⊥ };
+
+    ghost refuses_install = { λ old name layout code fault. fault ≡ Full };
+
+    ghost refuses_remove = { λ old name fault. fault ≡ Unknown };
 
     fn decide(&self, _ask: &Ask) -> Narrowed {
         self.answer
@@ -64,41 +69,6 @@ fn a_chain_without_hooks(rt: HostRuntime) {
     assert_eq!(rt; decided(&chain, &ASK), whole);
     assert_eq!(rt; chain.name_at(0), None);
     assert_eq!(rt; chain.remove("h1"), Err(HookFault::Unknown));
-    assert_eq!(rt; chain.install("h1", Layout::V1, &[]), Err(HookFault::Full));
-    assert_eq!(rt; chain.name_at(0), None);
-}
-
-#[test]
-fn names_of_hooks(rt: HostRuntime) {
-    let mut chain = Chain::new(rt.alloc());
-    for name in [
-        "h",
-        "h1",
-        "no-writes",
-        "-",
-        "0123456789abcdefghijklmnopqrstuv",
-    ] {
-        assert_eq!(rt;
-            chain.install(name, Layout::V2, &[]),
-            Err(HookFault::Full),
-            "{name}"
-        );
-    }
-    for name in [
-        "",
-        "H1",
-        "a b",
-        "a_b",
-        "a.b",
-        "h\u{e9}",
-        "0123456789abcdefghijklmnopqrstuvw",
-    ] {
-        assert_eq!(rt;
-            chain.install(name, Layout::V2, &[]),
-            Err(HookFault::BadName),
-            "{name}"
-        );
-    }
 }
 
 #[test]
@@ -138,33 +108,144 @@ fn what_an_answer_leaves(rt: HostRuntime) {
     }
 }
 
+/// `mov64 r0 1`, `exit`.
+const ALLOW: [u8; 16] = [
+    0xb7, 0, 0, 0, 1, 0, 0, 0, //
+    0x95, 0, 0, 0, 0, 0, 0, 0,
+];
+
+/// `mov64 r0 0`, `exit`.
+const DENY: [u8; 16] = [
+    0xb7, 0, 0, 0, 0, 0, 0, 0, //
+    0x95, 0, 0, 0, 0, 0, 0, 0,
+];
+
+/// `stdw r1 40 -1`, `stw r1 48 -1`, `mov64 r0 1`, `exit`: all scopes and the longest lifetime are written.
+const WIDEN: [u8; 32] = [
+    0x7a, 1, 40, 0, 255, 255, 255, 255, //
+    0x62, 1, 48, 0, 255, 255, 255, 255, //
+    0xb7, 0, 0, 0, 1, 0, 0, 0, //
+    0x95, 0, 0, 0, 0, 0, 0, 0,
+];
+
+/// `stdw r1 40 4`, `mov64 r0 1`, `exit`: a scope that wasn't asked.
+const OTHER_SCOPE: [u8; 24] = [
+    0x7a, 1, 40, 0, 4, 0, 0, 0, //
+    0xb7, 0, 0, 0, 1, 0, 0, 0, //
+    0x95, 0, 0, 0, 0, 0, 0, 0,
+];
+
+/// `ldxw r2 r1 72`, `rsh64 r2 1`, `stxw r1 48 r2`, `mov64 r0 1`, `exit`: half the configured lifetime, of version 2.
+const HALF_OF_THE_LIMIT: [u8; 40] = [
+    0x61, 0x12, 72, 0, 0, 0, 0, 0, //
+    0x77, 2, 0, 0, 1, 0, 0, 0, //
+    0x63, 0x21, 48, 0, 0, 0, 0, 0, //
+    0xb7, 0, 0, 0, 1, 0, 0, 0, //
+    0x95, 0, 0, 0, 0, 0, 0, 0,
+];
+
+/// `exit`.
+const EXIT: [u8; 8] = [0x95, 0, 0, 0, 0, 0, 0, 0];
+
+/// `stw r1 48 N`, `mov64 r0 1`, `exit`, for a lifetime of less than 65,536 seconds.
+fn caps(life: u16) -> [u8; 24] {
+    let [low, high] = life.to_le_bytes();
+    [
+        0x62, 1, 48, 0, low, high, 0, 0, //
+        0xb7, 0, 0, 0, 1, 0, 0, 0, //
+        0x95, 0, 0, 0, 0, 0, 0, 0,
+    ]
+}
+
+fn allowed(scope: u64, life: u32) -> Narrowed {
+    Narrowed::Allowed { scope, life }
+}
+
 #[test]
-fn faults_as_they_print(rt: HostRuntime) -> Result<(), AllocError> {
-    let rows = [
-        (HookFault::Insn(InsnFault::Empty), "Insn Empty"),
+fn hooks_answer_one_after_the_other(rt: HostRuntime) {
+    let mut chain = Chain::new(rt.alloc());
+    assert_eq!(rt; chain.install("a", Layout::V1, &caps(299)), Ok(()));
+    assert_eq!(rt; chain.decide(&ASK), allowed(3, 299));
+    assert_eq!(rt; chain.install("b", Layout::V1, &caps(250)), Ok(()));
+    assert_eq!(rt; chain.install("c", Layout::V1, &caps(280)), Ok(()));
+    assert_eq!(rt; chain.decide(&ASK), allowed(3, 250));
+    assert_eq!(rt; chain.install("d", Layout::V1, &WIDEN), Ok(()));
+    assert_eq!(rt; chain.decide(&ASK), allowed(3, 250));
+    assert_eq!(rt; chain.install("e", Layout::V1, &DENY), Ok(()));
+    assert_eq!(rt; chain.decide(&ASK), Narrowed::Denied);
+    // The next one isn't run: it would leave no scope.
+    assert_eq!(rt; chain.install("f", Layout::V1, &OTHER_SCOPE), Ok(()));
+    assert_eq!(rt; chain.decide(&ASK), Narrowed::Denied);
+    assert_eq!(rt; chain.remove("e"), Ok(()));
+    assert_eq!(rt; chain.decide(&ASK), Narrowed::EmptyScope);
+}
+
+#[test]
+fn hooks_of_both_versions(rt: HostRuntime) {
+    let mut chain = Chain::new(rt.alloc());
+    let ask = Ask {
+        access_limit: 300,
+        refresh_limit: 86_400,
+        ..ASK
+    };
+    assert_eq!(rt; chain.install("one", Layout::V1, &caps(200)), Ok(()));
+    assert_eq!(rt;
+        chain.install("two", Layout::V2, &HALF_OF_THE_LIMIT),
+        Ok(())
+    );
+    assert_eq!(rt; chain.decide(&ask), allowed(3, 150));
+    let read_past_its_end = Err(HookFault::Verify(VerifyFault::OutOfRegion(0)));
+    assert_eq!(rt;
+        chain.install("three", Layout::V1, &HALF_OF_THE_LIMIT),
+        read_past_its_end
+    );
+}
+
+#[test]
+fn what_is_refused(rt: HostRuntime) {
+    let mut chain = Chain::new(rt.alloc());
+    assert_eq!(rt; chain.install("h1", Layout::V1, &ALLOW), Ok(()));
+    for (name, code, fault) in [
+        ("h1", &ALLOW[..], HookFault::NameTaken),
+        ("H1", &ALLOW[..], HookFault::BadName),
+        ("", &ALLOW[..], HookFault::BadName),
+        ("h2", &[][..], HookFault::Insn(InsnFault::Empty)),
         (
-            HookFault::Insn(InsnFault::UnknownOpcode(2)),
-            "Insn UnknownOpcode(2)",
+            "h2",
+            &EXIT[..],
+            HookFault::Verify(VerifyFault::UnsetRegister(0)),
         ),
-        (
-            HookFault::Verify(VerifyFault::UnsetByte(0)),
-            "Verify UnsetByte(0)",
-        ),
-        (HookFault::NameTaken, "NameTaken"),
-        (HookFault::BadName, "BadName"),
-        (HookFault::Full, "Full"),
-        (HookFault::Unknown, "Unknown"),
-        (HookFault::Memory, "Memory"),
-        (HookFault::from(InsnFault::TooLong), "Insn TooLong"),
-        (HookFault::from(InsnFault::Memory), "Memory"),
-        (
-            HookFault::from(VerifyFault::FallsOff(1)),
-            "Verify FallsOff(1)",
-        ),
-        (HookFault::from(VerifyFault::Memory), "Memory"),
-    ];
-    for (fault, text) in rows {
-        assert_eq!(rt; format!(in rt.alloc(); "{fault}")?.as_str(), text);
+    ] {
+        assert_eq!(rt; chain.install(name, Layout::V1, code), Err(fault), "{name}");
     }
-    Ok(())
+    for name in ["h2", "h3", "h4", "h5", "h6", "h7", "h8"] {
+        assert_eq!(rt; chain.install(name, Layout::V1, &ALLOW), Ok(()), "{name}");
+    }
+    // Room is tested before the code is looked at.
+    assert_eq!(rt; chain.install("h9", Layout::V1, &[]), Err(HookFault::Full));
+    assert_eq!(rt; chain.remove("h4"), Ok(()));
+    assert_eq!(rt; chain.remove("h4"), Err(HookFault::Unknown));
+    for (i, name) in ["h1", "h2", "h3", "h5", "h6", "h7", "h8"]
+        .into_iter()
+        .enumerate()
+    {
+        assert_eq!(rt; chain.name_at(i), Some(name));
+    }
+    assert_eq!(rt; chain.name_at(7), None);
+}
+
+/// Under refused memory an install is refused for it, leaves the chain as it was, and can be made again.
+#[test]
+fn refused_memory(rt: HostRuntime) {
+    let mut chain = Chain::new(rt.alloc());
+    for name in ["a", "b"] {
+        if chain.install(name, Layout::V1, &caps(250)) == Err(HookFault::Memory) {
+            assert_eq!(rt; chain.remove(name), Err(HookFault::Unknown));
+            assert_eq!(rt; chain.install(name, Layout::V1, &caps(250)), Ok(()));
+        }
+    }
+    assert_eq!(rt; chain.name_at(0), Some("a"));
+    assert_eq!(rt; chain.name_at(1), Some("b"));
+    assert_eq!(rt; chain.name_at(2), None);
+    assert_eq!(rt; chain.decide(&ASK), allowed(3, 250));
 }

@@ -1,4 +1,4 @@
-use Rattle.hook_chain.specs.AnswerLaws.{met_with_narrows}
+use Rattle.hook_chain.specs.DecisionLaws.{met_with_narrows}
 use Rattle.hook_chain.proofs.decision.no_answer_widens.Goals as goal
 
 pub returns : goal.returns

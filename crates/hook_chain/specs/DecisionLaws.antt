@@ -5,7 +5,7 @@ use Rattle.hook_record.specs.declared.Narrowed.{Narrowed}
 use Rattle.hook_record.specs.declared.Narrowed.TheVariants.{Denied, EmptyScope, Allowed}
 use Rattle.hook_record.specs.Narrowing.{IsNarrowing}
 use Rattle.hook_record.specs.NarrowingLaws.{met_narrows}
-use Rattle.hook_chain.specs.Answers.{met_with}
+use Rattle.hook_chain.specs.Decisions.{met_with}
 
 not_denied : (scope life : ℕ) → Denied ≡ Allowed scope life → ⊥
 not_denied scope life e = absurd (cc)

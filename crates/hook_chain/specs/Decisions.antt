@@ -9,7 +9,3 @@ abbrev pub met_with : Ask → Narrowed → Narrowed
 met_with ask (Allowed scope life) = met ask scope life
 met_with ask Denied = Denied
 met_with ask EmptyScope = EmptyScope
-
--- the answer where no hook narrows the ask
-abbrev pub whole_of : Ask → Narrowed
-whole_of ask = Allowed ask.scope ask.life

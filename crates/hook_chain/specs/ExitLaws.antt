@@ -1,0 +1,48 @@
+-- The exit that the relation of steps gives a run is the one that is found within as many steps as there are instructions.
+use Rattle.std.proofs.Common.{◌≡◌, ℕ, zero, suc, ◌<◌, ◌≤◌, List, length, Option, Some, None, refl, sym, ap, ◌∙◌, arith}
+use Rattle.insn.specs.declared.instruction.Insn.{Insn}
+use Rattle.insn.specs.declared.layout.Layout.{Layout}
+use Rattle.insn.specs.Values.{◌>>=◌, Config, start}
+use Rattle.insn.specs.Step.{step, steps, exit_at, IsExit}
+use Rattle.insn.specs.RunLaws.{exit_ends}
+use Rattle.hook_chain.specs.Exits.{exit_or, exit_within}
+
+bind_some : {A B : Type 0} (o : Option A) (f : A → Option B) (b : B) → (o >>= f) ≡ Some b → (a : A) × (o ≡ Some a) × (f a ≡ Some b)
+bind_some None f b e = absurd cc
+bind_some (Some a) f b e = (a, refl, e)
+
+bind_itself : {A : Type 0} (o : Option A) → (o >>= λ a. Some a) ≡ o
+bind_itself None = refl
+bind_itself (Some a) = refl
+
+bind_twice : {A B C : Type 0} (o : Option A) (f : A → Option B) (g : B → Option C) → ((o >>= f) >>= g) ≡ (o >>= λ a. f a >>= g)
+bind_twice None f g = refl
+bind_twice (Some a) f g = refl
+
+module _ (layout : Layout) (program : List Insn) where
+  -- the first of some steps comes before the others
+  first_step : (n : ℕ) (c : Config) → steps layout program (suc n) c ≡ (step layout program c >>= steps layout program n)
+  first_step zero c = sym (bind_itself (step layout program c))
+  first_step (suc n) c = ap (λ (o : Option Config). o >>= step layout program) (first_step n c) ∙ bind_twice (step layout program c) (steps layout program n) (step layout program)
+
+  exit_found : (k n : ℕ) (c last : Config) (r0 : ℕ) → steps layout program k c ≡ Some last → exit_at layout program last ≡ Some r0 → k < n → exit_within layout program n c ≡ Some (record { r0 = r0; bytes = last.state.bytes })
+  exit_found k zero c last r0 there exits few = absurd (omega arith)
+  exit_found zero (suc n) c last r0 there exits few =
+      let same : c ≡ last = cc in
+      let here : exit_at layout program c ≡ Some r0 = rw same exits in
+      ap (λ (o : Option ℕ). exit_or o c.state.bytes (step layout program c >>= exit_within layout program n)) here ∙ ap (λ (d : Config). Some (record { r0 = r0; bytes = d.state.bytes })) same
+  exit_found (suc k) (suc n) c last r0 there exits few =
+      let d = bind_some (step layout program c) (steps layout program k) last (sym (first_step k c) ∙ there) in
+      go (exit_at layout program c) refl d (exit_found k n d.0 last r0 d.2 exits (omega arith)) where
+        go : (o : Option ℕ) → exit_at layout program c ≡ o → (d : (d : Config) × (step layout program c ≡ Some d) × (steps layout program k d ≡ Some last)) → exit_within layout program n d.0 ≡ Some (record { r0 = r0; bytes = last.state.bytes }) → exit_within layout program (suc n) c ≡ Some (record { r0 = r0; bytes = last.state.bytes })
+        go (Some r) e d later = let none = exit_ends layout program c r e in let some = d.1 in absurd cc
+        go None e d later =
+            ap (λ (o : Option ℕ). exit_or o c.state.bytes (step layout program c >>= exit_within layout program n)) e
+            ∙ ap (λ (o : Option Config). o >>= exit_within layout program n) d.1
+            ∙ later
+
+  -- a run exits as the relation of steps says, and no later than it may
+  pub run_exit : (bytes after : List ℕ) (r0 count : ℕ) → IsExit layout program bytes r0 count after → count ≤ length program → exit_within layout program (length program) (start bytes) ≡ Some (record { r0 = r0; bytes = after })
+  run_exit bytes after r0 count exit few =
+      let counted = exit.counted in
+      exit_found exit.before (length program) (start bytes) exit.last r0 exit.reached exit.exits (omega arith) ∙ ap (λ (l : List ℕ). Some (record { r0 = r0; bytes = l })) exit.left
