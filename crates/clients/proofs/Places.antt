@@ -8,9 +8,6 @@ use Rattle.std.proofs.lemmas.Slice.Eq.{bytes_eq-Decides}
 use Rattle.std.proofs.lemmas.Map.Text.{btree_map_updates_text}
 use Rattle.std.specs.Str.{IsUtf8}
 use Rattle.std.proofs.lemmas.Str.{IsUtf8-string_bytes}
-use Rattle.std.proofs.lemmas.List.{length-map}
-use Rattle.clients.specs.ClientRecord.{ClientRecord}
-use Rattle.clients.specs.Clients.{ids}
 use Rattle.clients.specs.Numbers.{number_of, IsIndex}
 
 -- where the last one does not pass, the place is as before
@@ -66,33 +63,26 @@ IsIndex-push old new texts key index absent updates = λ text.
     ∙ rw (index text) (sym (number_of-push texts (string_bytes key) text absent))
 
 -- a place is in the list
-place_within : {X : Type 0} (p : X → Bool) (i : ℕ) (xs : List X) → IfSome (position_from p i xs) (λ n. n < i + length xs)
+place_within : {X : Type 0} (p : X → Bool) (i : ℕ) (xs : List X) → IfSome (position_from p i xs) (λ n. (i ≤ n) × (n < i + length xs))
 place_within p i [] = tt
 place_within p i (y ∷ ys) = by (p y) refl (place_within p (i + 1) ys)
   where
-    by : (b : Bool) → p y ≡ b → IfSome (position_from p (i + 1) ys) (λ n. n < i + 1 + length ys)
-        → IfSome (position_from p i (y ∷ ys)) (λ n. n < i + length (y ∷ ys))
-    by true e later = rw e (omega arith)
+    by : (b : Bool) → p y ≡ b → IfSome (position_from p (i + 1) ys) (λ n. (i + 1 ≤ n) × (n < i + 1 + length ys))
+        → IfSome (position_from p i (y ∷ ys)) (λ n. (i ≤ n) × (n < i + length (y ∷ ys)))
+    by true e later = rw e (omega arith, omega arith)
     by false e later = rw e (weaker (position_from p (i + 1) ys) later)
       where
-        weaker : (o : Option ℕ) → IfSome o (λ n. n < i + 1 + length ys) → IfSome o (λ n. n < i + length (y ∷ ys))
+        weaker : (o : Option ℕ) → IfSome o (λ n. (i + 1 ≤ n) × (n < i + 1 + length ys)) → IfSome o (λ n. (i ≤ n) × (n < i + length (y ∷ ys)))
         weaker None h = tt
-        weaker (Some n) h = omega (arith, h)
+        weaker (Some n) h = (omega (arith, h.0), omega (arith, h.1))
 
--- a number is at most the count
-pub number_of-le : (text : List ℕ) (texts : List (List ℕ)) → IfSome (number_of text texts) (λ n. n ≤ length texts)
-number_of-le text texts = weaker (number_of text texts) (place_within (bytes_eq text) 1 texts)
+-- a number is from 1 to the count
+pub number_of-listed : (text : List ℕ) (texts : List (List ℕ)) → IfSome (number_of text texts) (λ n. (1 ≤ n) × (n ≤ length texts))
+number_of-listed text texts = weaker (number_of text texts) (place_within (bytes_eq text) 1 texts)
   where
-    weaker : (o : Option ℕ) → IfSome o (λ n. n < 1 + length texts) → IfSome o (λ n. n ≤ length texts)
+    weaker : (o : Option ℕ) → IfSome o (λ n. (1 ≤ n) × (n < 1 + length texts)) → IfSome o (λ n. (1 ≤ n) × (n ≤ length texts))
     weaker None h = tt
-    weaker (Some n) h = omega (arith, h)
-
--- the same of clients by their identifiers
-pub number_of-ids-le : (id : List ℕ) (clients : List ClientRecord)
-    → IfSome (number_of id (ids clients)) (λ n. n ≤ length clients)
-number_of-ids-le id clients =
-    let P : ℕ → Type 0 = λ m. IfSome (number_of id (ids clients)) (λ n. n ≤ m) in
-    subst P (length-map clients (λ (c : ClientRecord). c.id)) (number_of-le id (ids clients))
+    weaker (Some n) h = (h.0, omega (arith, h.1))
 
 -- bytes that are no text have no number among strings
 pub number_of-none : (bytes : List ℕ) (strings : List (String Global)) → ¬ IsUtf8 bytes

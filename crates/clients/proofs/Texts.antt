@@ -1,8 +1,7 @@
 -- Bytes that are UTF-8, and bytes that are not.
-use Rattle.std.proofs.Common.{◌≡◌, ℕ, List, Bool, true, false, refl, Ok, Err}
+use Rattle.std.proofs.Common.{◌≡◌, ℕ, List, Bool, true, false, refl, Ok, Err, if◌then◌else◌}
 use Rattle.std.specs.Str.{IsUtf8, is_utf8}
 use Rattle.std.proofs.lemmas.Str.{IsUtf8-from_is_utf8, is_utf8-from_IsUtf8}
-use Rattle.clients.specs.Authentication.{utf8_text}
 use Rattle.clients.specs.declared.authentication.AuthFault.TheVariants.{BadHeader}
 
 -- the test fails
@@ -13,8 +12,8 @@ not_utf8 bytes not = by (is_utf8 bytes) refl
     by true e = absurd (not (IsUtf8-from_is_utf8 bytes e))
     by false e = e
 
-pub text_where : (bytes : List ℕ) → IsUtf8 bytes → utf8_text bytes ≡ Ok bytes
+pub text_where : (bytes : List ℕ) → IsUtf8 bytes → (if is_utf8 bytes then Ok bytes else Err BadHeader) ≡ Ok bytes
 text_where bytes is = rw (is_utf8-from_IsUtf8 bytes is) refl
 
-pub no_text_where : (bytes : List ℕ) → ¬ IsUtf8 bytes → utf8_text bytes ≡ Err BadHeader
+pub no_text_where : (bytes : List ℕ) → ¬ IsUtf8 bytes → (if is_utf8 bytes then Ok bytes else Err BadHeader) ≡ Err BadHeader
 no_text_where bytes not = rw (not_utf8 bytes not) refl

@@ -3,6 +3,7 @@ use Rattle.std.specs.Prelude.{ℕ, List, [], ◌∷◌, ◌++◌, map, codes, �
 use Rattle.std.specs.List.{list_any}
 use Rattle.std.specs.Str.{bytes_eq}
 use Rattle.serde_json.specs.Data.{Data, Items, no_items, item}
+use Rattle.clients.specs.Limits.{redirect_count_limit}
 use Rattle.clients.specs.Faults.{◌>>=◌}
 use Rattle.clients.specs.Json.{member_of, list_of, items_within}
 use Rattle.clients.specs.Texts.{key_of, identifier_of}
@@ -43,7 +44,7 @@ secret_member value = do
 abbrev pub redirects_member : Data → Result (List (List ℕ)) ConfigFault
 redirects_member value = do
   member ← member_of (codes "redirects") value
-  items ← items_within 0 8 member
+  items ← items_within 0 redirect_count_limit member
   redirects_after [] items
 
 -- the member `scope`: the mask of what the client may be allowed

@@ -12,6 +12,7 @@ abbrev pub seen_by : {A B E : Type 0} → (A → B) → Result A E → Result B 
 seen_by view (Ok x) = Ok (view x)
 seen_by view (Err e) = Err e
 
--- the answer is the expected one, or memory was refused
-abbrev pub GivesUnless : {A E : Type 0} → E → Result A E → Result A E → Type 0
-GivesUnless refused answer expected = MatchResult answer (λ x. expected ≡ Ok x) (λ e. (e ≡ refused) ⊎ (expected ≡ Err e))
+-- the answer is the expected one, or memory was refused where it was wanted
+abbrev pub GivesUnless : {A E : Type 0} → E → Type 0 → Result A E → Result A E → Type 0
+GivesUnless refused wanted answer expected =
+    MatchResult answer (λ x. expected ≡ Ok x) (λ e. ((e ≡ refused) × wanted) ⊎ (expected ≡ Err e))

@@ -3,6 +3,7 @@ use Rattle.std.specs.Prelude.{ℕ, suc, ◌&&◌, List, nat_le, if◌then◌else
 use Rattle.std.specs.Option.{ok_or}
 use Rattle.serde_json.specs.Data.{Data, Items, no_items, item}
 use Rattle.serde_json.specs.Find.{get, as_str, as_number, as_u64, as_array}
+use Rattle.clients.specs.Limits.{life_limit}
 use Rattle.clients.specs.Faults.{◌>>=◌}
 use Rattle.clients.specs.declared.fault.ConfigFault.{ConfigFault}
 use Rattle.clients.specs.declared.fault.ConfigFault.TheVariants.{BadShape, OutOfRange}
@@ -18,7 +19,7 @@ text_of value = ok_or (as_str value) BadShape
 -- a life in seconds, as `as_u64` gives it: 1 to 31,536,000
 abbrev pub life_within : Option ℕ → Result ℕ ConfigFault
 life_within None = Err OutOfRange
-life_within (Some n) = if nat_le 1 n && nat_le n 31536000 then Ok n else Err OutOfRange
+life_within (Some n) = if nat_le 1 n && nat_le n life_limit then Ok n else Err OutOfRange
 
 -- a JSON number that is a life
 abbrev pub life_of : Data → Result ℕ ConfigFault

@@ -1,3 +1,4 @@
+pub mod Limits
 pub mod Faults
 pub mod Json
 pub mod Texts
@@ -11,4 +12,8 @@ pub mod Clients
 pub mod Authentication
 pub mod RegistryRecord
 pub mod Registry
+pub mod RegistryRules
 pub mod FaultTexts
+pub mod RegistryLaws
+pub mod AuthenticationLaws
+pub mod HeaderLaws

@@ -4,6 +4,7 @@ use Rattle.std.specs.Str.{bytes_eq}
 use Rattle.serde_json.specs.Data.{Data, Items, no_items, item}
 use Rattle.url.specs.Parts.{Parts, serialize}
 use Rattle.url.specs.Parser.{Parsed, parse_url}
+use Rattle.clients.specs.Limits.{redirect_limit}
 use Rattle.clients.specs.Faults.{◌>>=◌}
 use Rattle.clients.specs.Json.{text_of}
 use Rattle.clients.specs.declared.fault.ConfigFault.{ConfigFault}
@@ -21,7 +22,7 @@ is_written text (Err _) = false
 
 -- at most 2,048 bytes, which are the URL Standard's spelling of a plain web URL
 abbrev pub is_redirect : List ℕ → Bool
-is_redirect text = nat_le (length text) 2048 && is_written text (parse_url None text)
+is_redirect text = nat_le (length text) redirect_limit && is_written text (parse_url None text)
 
 -- a string that is a redirect URI
 abbrev pub redirect_of : Data → Result (List ℕ) ConfigFault

@@ -1,9 +1,11 @@
 -- The registry that JSON text stands for, or its first fault.
-use Rattle.std.specs.Prelude.{ℕ, List, [], length, codes, nat_lt, if◌then◌else◌, Result, Ok, Err}
+use Rattle.std.specs.Prelude.{◌≤◌, ℕ, List, [], length, codes, nat_lt, if◌then◌else◌, IsOk, IsUtf8, Result, Ok, Err}
 use Rattle.std.specs.Option.{ok_or}
 use Rattle.std.specs.Str.{is_utf8}
 use Rattle.serde_json.specs.Data.{Data}
 use Rattle.serde_json.specs.Read.{read}
+use Rattle.params.specs.Limits.{scope_name_count_limit}
+use Rattle.clients.specs.Limits.{registry_limit, owner_limit, client_limit}
 use Rattle.clients.specs.Faults.{◌>>=◌}
 use Rattle.clients.specs.Json.{member_of, life_of, items_within}
 use Rattle.clients.specs.Texts.{key_of}
@@ -31,21 +33,21 @@ operator_member value = do
 abbrev pub owners_member : Data → Result (List (List ℕ)) ConfigFault
 owners_member value = do
   member ← member_of (codes "owners") value
-  items ← items_within 0 4096 member
+  items ← items_within 0 owner_limit member
   owners_after [] items
 
 -- the member `scopes`: 1 to 64 scope names
 abbrev pub scopes_member : Data → Result (List (List ℕ)) ConfigFault
 scopes_member value = do
   member ← member_of (codes "scopes") value
-  items ← items_within 1 64 member
+  items ← items_within 1 scope_name_count_limit member
   scopes_after [] items
 
 -- the member `clients`: at most 256 clients, whose scopes are of these names
 abbrev pub clients_member : List (List ℕ) → Data → Result (List ClientRecord) ConfigFault
 clients_member scopes value = do
   member ← member_of (codes "clients") value
-  items ← items_within 0 256 member
+  items ← items_within 0 client_limit member
   clients_after scopes [] items
 
 -- the registry that JSON data stands for
@@ -59,6 +61,11 @@ registry_of value = do
   clients ← clients_member scopes value
   Ok (record { access_life = access_life; refresh_life = refresh_life; operator = operator; owners = owners; scopes = scopes; clients = clients })
 
+-- what comes before all that takes memory is right
+abbrev pub AreLivesAndOperatorRight : Data → Type 0
+AreLivesAndOperatorRight value =
+    IsOk (life_member (codes "access_life") value) × IsOk (life_member (codes "refresh_life") value) × IsOk (operator_member value)
+
 -- the JSON data of UTF-8 text (RFC 8259)
 abbrev pub data_of : List ℕ → Result Data ConfigFault
 data_of bytes = if is_utf8 bytes then ok_or (read bytes) NotJson else Err NotJson
@@ -66,7 +73,11 @@ data_of bytes = if is_utf8 bytes then ok_or (read bytes) NotJson else Err NotJso
 -- the registry that at most 1,048,576 bytes of JSON text stand for
 abbrev pub registry_in : List ℕ → Result RegistryRecord ConfigFault
 registry_in bytes =
-    if nat_lt 1048576 (length bytes) then Err OutOfRange
+    if nat_lt registry_limit (length bytes) then Err OutOfRange
     else (do
       value ← data_of bytes
       registry_of value)
+
+-- text that is read as JSON at all, which takes memory: UTF-8 of at most 1,048,576 bytes
+abbrev pub IsReadable : List ℕ → Type 0
+IsReadable bytes = IsUtf8 bytes × (length bytes ≤ registry_limit)

@@ -3,6 +3,7 @@ use Rattle.std.specs.Prelude.{ℕ, List, length, Bool, ◌&&◌, ◌||◌, ◌==
 use Rattle.std.specs.List.{list_all}
 use Rattle.std.specs.Char.{is_ascii_alphanumeric}
 use Rattle.serde_json.specs.Data.{Data}
+use Rattle.clients.specs.Limits.{key_limit, identifier_limit}
 use Rattle.clients.specs.Faults.{◌>>=◌}
 use Rattle.clients.specs.Json.{text_of}
 use Rattle.clients.specs.declared.fault.ConfigFault.{ConfigFault}
@@ -14,7 +15,7 @@ is_visible b = nat_le 0x21 b && nat_le b 0x7E
 
 -- an owner key, the operator key or a client secret: 1 to 128 visible characters
 abbrev pub is_key : List ℕ → Bool
-is_key text = nat_le 1 (length text) && nat_le (length text) 128 && list_all is_visible text
+is_key text = nat_le 1 (length text) && nat_le (length text) key_limit && list_all is_visible text
 
 -- a letter, a digit, `-`, `.` or `_`
 abbrev pub is_identifier_byte : ℕ → Bool
@@ -22,7 +23,7 @@ is_identifier_byte b = is_ascii_alphanumeric b || b == 45 || b == 46 || b == 95
 
 -- a client identifier: 1 to 64 letters, digits, `-`, `.` and `_`
 abbrev pub is_identifier : List ℕ → Bool
-is_identifier text = nat_le 1 (length text) && nat_le (length text) 64 && list_all is_identifier_byte text
+is_identifier text = nat_le 1 (length text) && nat_le (length text) identifier_limit && list_all is_identifier_byte text
 
 -- a string that is a key
 abbrev pub key_of : Data → Result (List ℕ) ConfigFault

@@ -1,15 +1,23 @@
 //! Client authentication by HTTP Basic or by parameters (RFC 6749, section 2.3.1; RFC 7617).
 
-ghost use Rattle.std.specs.Prelude.{◌≡◌, ◌==◌, ◌≤◌, length, string_bytes, option_copied, IfOk, Some};
-ghost use Rattle.clients.specs.FaultTexts.{auth_fault_text};
+ghost use Rattle.std.specs.Prelude.{◌≡◌, ◌==◌, true, false, not, drop, bytes_eq, if◌then◌else◌, string_bytes, option_copied, IfOk, IfErr, Ok, Err, None, Some};
 ghost use Rattle.std.specs.List.{position};
+ghost use Rattle.std.specs.Option.{ok_or, option_map_or};
+ghost use Rattle.std.specs.Result.{result_ok};
+ghost use Rattle.std.specs.Str.{is_utf8};
+ghost use Rattle.base64.specs.Engines.{standard};
+ghost use Rattle.base64.specs.GeneralPurpose.{decode_of};
+ghost use Rattle.clients.specs.FaultTexts.{auth_fault_text};
 ghost use Rattle.clients.specs.Faults.{GivesUnless, seen_by};
-ghost use Rattle.clients.specs.Authentication.{after_scheme, base64_bytes, utf8_text, basic_text, around_colon, form_text, credentials_of, known, with_secret, by_credentials, by_basic, by_header, by_parameters, authenticated};
+ghost use Rattle.clients.specs.Numbers.{number_of};
+ghost use Rattle.clients.specs.Clients.{ids};
+ghost use Rattle.clients.specs.Authentication.{is_basic, basic_text, around_colon, form_text, basic_credentials, is_secret_of, identified, authenticated, wants_memory};
 ghost use Rattle.clients.specs.declared.authentication.AuthFault.TheVariants.{Memory};
 
-use crate::client::{ClientNo, Clients};
+use crate::client::Clients;
 use base64::DecodeAllocError;
 use base64::engine::general_purpose::STANDARD;
+use consent::ClientNo;
 use form_urlencoded::decode;
 use params::{Params, has_replacement};
 use std::alloc::{AllocError, Global};
@@ -57,7 +65,8 @@ impl From<AllocError> for AuthFault {
 
 // What follows `Basic` and one space.
 fn after_scheme(header: &[u8]) -> Result<&[u8], AuthFault>
-    ensures { seen_by (λ rest. rest.now) result ≡ after_scheme header.now }
+    ensures ok { IfOk result (λ rest. (is_basic header.now ≡ true) × (rest.now ≡ drop 6 header.now)) }
+    ensures err { IfErr result (λ fault. (is_basic header.now ≡ false) × (fault ≡ AuthFault.BadHeader)) }
 {
     match header.split_at_checked(6) {
         Some((scheme, rest)) if scheme.eq_ignore_ascii_case(b"basic ") => Ok(rest),
@@ -67,7 +76,8 @@ fn after_scheme(header: &[u8]) -> Result<&[u8], AuthFault>
 
 // The bytes of strict padded base64 (RFC 4648, section 4).
 fn base64_bytes(alloc: Global, encoded: &[u8]) -> Result<Vec<u8>, AuthFault>
-    ensures { GivesUnless AuthFault.Memory (seen_by (λ v. v.items) result) (base64_bytes encoded.now) }
+    ensures { GivesUnless AuthFault.Memory Unit (seen_by (λ v. v.items) result)
+        (ok_or (result_ok (decode_of standard encoded.now)) AuthFault.BadHeader) }
 {
     match STANDARD.decode(alloc, encoded) {
         Ok(bytes) => Ok(bytes),
@@ -79,7 +89,7 @@ fn base64_bytes(alloc: Global, encoded: &[u8]) -> Result<Vec<u8>, AuthFault>
 // The bytes as text.
 #[tactic(auto, using(crate::proofs::Texts::text_where, crate::proofs::Texts::no_text_where))]
 fn utf8_text(bytes: Vec<u8>) -> Result<String, AuthFault>
-    ensures { seen_by string_bytes result ≡ utf8_text bytes.items }
+    ensures { seen_by string_bytes result ≡ (if is_utf8 bytes.items then Ok bytes.items else Err AuthFault.BadHeader) }
 {
     match String::from_utf8(bytes) {
         Ok(text) => Ok(text),
@@ -89,7 +99,7 @@ fn utf8_text(bytes: Vec<u8>) -> Result<String, AuthFault>
 
 // The text whose base64 follows the scheme.
 fn basic_text(alloc: Global, header: &[u8]) -> Result<String, AuthFault>
-    ensures { GivesUnless AuthFault.Memory (seen_by string_bytes result) (basic_text header.now) }
+    ensures { GivesUnless AuthFault.Memory (is_basic header.now ≡ true) (seen_by string_bytes result) (basic_text header.now) }
 {
     let encoded = after_scheme(header)?;
     utf8_text(base64_bytes(alloc, encoded)?)
@@ -114,7 +124,7 @@ fn around_colon(text: &[u8]) -> Result<(&[u8], &[u8]), AuthFault>
 
 // The text that was form-encoded (RFC 6749, appendix B).
 fn form_text(alloc: Global, bytes: &[u8]) -> Result<String, AuthFault>
-    ensures { GivesUnless AuthFault.Memory (seen_by string_bytes result) (form_text bytes.now) }
+    ensures { GivesUnless AuthFault.Memory Unit (seen_by string_bytes result) (form_text bytes.now) }
 {
     let text = decode(alloc, bytes)?;
     if has_replacement(&text) {
@@ -131,8 +141,9 @@ struct Credentials {
 }
 
 fn read_credentials(alloc: Global, header: &[u8]) -> Result<Credentials, AuthFault>
-    ensures { GivesUnless AuthFault.Memory (seen_by (λ c. (string_bytes c.id, string_bytes c.secret)) result)
-        (credentials_of header.now) }
+    ensures value { GivesUnless AuthFault.Memory (is_basic header.now ≡ true)
+        (seen_by (λ c. (string_bytes c.id, string_bytes c.secret)) result) (basic_credentials header.now) }
+    ensures basic { IfOk result (λ _. is_basic header.now ≡ true) }
 {
     let text = basic_text(alloc, header)?;
     let (id, secret) = around_colon(text.as_bytes())?;
@@ -142,50 +153,46 @@ fn read_credentials(alloc: Global, header: &[u8]) -> Result<Credentials, AuthFau
     })
 }
 
-// The number of the client with this identifier.
-fn known(clients: &Clients, id: &str) -> Result<ClientNo, AuthFault>
-    ensures { result ≡ known clients.now id.now }
-{
-    clients.number(id).ok_or(AuthFault::NoClient)
-}
-
 // The number, if the client has this secret.
 fn with_secret(clients: &Clients, number: ClientNo, secret: &str) -> Result<ClientNo, AuthFault>
-    ensures { result ≡ with_secret clients.now number secret.now }
+    ensures { result ≡ (if is_secret_of number clients.now secret.now then Ok number else Err AuthFault.BadSecret) }
 {
-    match clients.get(number.get()) {
+    match clients.get(number) {
         Some(client) if client.has_secret(secret) => Ok(number),
         _ => Err(AuthFault::BadSecret),
     }
 }
 
-// The client of these credentials, unless a parameter names another one.
-fn by_credentials(
+// The number of the client with this identifier.
+fn known(clients: &Clients, id: &str) -> Result<ClientNo, AuthFault>
+    ensures { result ≡ ok_or (number_of id.now (ids clients.now)) AuthFault.NoClient }
+{
+    clients.number(id).ok_or(AuthFault::NoClient)
+}
+
+fn is_another(named: Option<&str>, id: &str) -> bool
+    ensures { result ≡ option_map_or (λ other. not (bytes_eq other id.now)) (option_copied named.entry) false }
+{
+    match named {
+        Some(other) => other != id,
+        None => false,
+    }
+}
+
+// The client of an identifier and a secret, unless another client is named beside them.
+fn identified(
     clients: &Clients,
-    params: &Params,
+    named: Option<&str>,
     id: &str,
     secret: &str,
 ) -> Result<ClientNo, AuthFault>
-    ensures { result ≡ by_credentials clients.now params.now id.now secret.now }
+    ensures { result ≡ identified clients.now (option_copied named.entry) id.now secret.now }
 {
     let number = known(clients, id)?;
-    if params.get("client_id").is_some_and(|other| other != id) {
+    if is_another(named, id) {
         return Err(AuthFault::TwoMethods);
     }
     with_secret(clients, number, secret)
-}
-
-// The client of a Basic header's credentials.
-fn by_basic(
-    alloc: Global,
-    clients: &Clients,
-    params: &Params,
-    header: &[u8],
-) -> Result<ClientNo, AuthFault>
-    ensures { GivesUnless AuthFault.Memory result (by_basic clients.now params.now header.now) }
-{
-    let credentials = read_credentials(alloc, header)?;
-    by_credentials(clients, params, &credentials.id, &credentials.secret)
 }
 
 // The client that a header and the parameters beside it authenticate.
@@ -195,22 +202,23 @@ fn by_header(
     params: &Params,
     header: &[u8],
 ) -> Result<ClientNo, AuthFault>
-    ensures { GivesUnless AuthFault.Memory result (by_header clients.now params.now header.now) }
+    ensures { GivesUnless AuthFault.Memory (wants_memory (Some header.now) params.now ≡ true) result
+        (authenticated clients.now (Some header.now) params.now) }
 {
     if params.get("client_secret").is_some() {
         return Err(AuthFault::TwoMethods);
     }
-    by_basic(alloc, clients, params, header)
+    let sent = read_credentials(alloc, header)?;
+    identified(clients, params.get("client_id"), &sent.id, &sent.secret)
 }
 
 // The client that the parameters authenticate.
 fn by_parameters(clients: &Clients, params: &Params) -> Result<ClientNo, AuthFault>
-    ensures { result ≡ by_parameters clients.now params.now }
+    ensures { result ≡ authenticated clients.now None params.now }
 {
     let id = params.get("client_id").ok_or(AuthFault::NoClient)?;
     let secret = params.get("client_secret").ok_or(AuthFault::NoClient)?;
-    let number = known(clients, id)?;
-    with_secret(clients, number, secret)
+    identified(clients, None, id, secret)
 }
 
 // The client that a request authenticates, by its Authorization header or, without one, by its parameters.
@@ -220,7 +228,7 @@ pub(crate) fn authenticate(
     header: Option<&[u8]>,
     params: &Params,
 ) -> Result<ClientNo, AuthFault>
-    ensures { GivesUnless AuthFault.Memory result
+    ensures { GivesUnless AuthFault.Memory (wants_memory (option_copied header.entry) params.now ≡ true) result
         (authenticated clients.now (option_copied header.entry) params.now) }
 {
     match header {

@@ -1,10 +1,11 @@
 //! The clients of a registry (RFC 6749, section 2).
 
-ghost use Rattle.std.specs.Prelude.{◌≡◌, ◌<◌, ◌≤◌, [], ◌∷◌, ◌++◌, length, map, string_bytes, None, Some, IfSome, option_copied, OnOk, OnErr};
+ghost use Rattle.std.specs.Prelude.{◌≡◌, ◌<◌, ◌≤◌, [], ◌∷◌, ◌++◌, length, map, string_bytes, None, Some, IfSome, IsOk, IsTrue, option_copied, OnOk, OnErr};
 ghost use Rattle.std.specs.List.{list_any};
 ghost use Rattle.std.specs.Str.{bytes_eq};
 ghost use Rattle.serde_json.specs.View.{view, items_view};
 ghost use Rattle.clients.specs.Faults.{GivesUnless, seen_by};
+ghost use Rattle.clients.specs.Limits.{client_limit, identifier_limit, redirect_limit};
 ghost use Rattle.clients.specs.Grants.{has_grant};
 ghost use Rattle.clients.specs.Numbers.{number_of};
 ghost use Rattle.clients.specs.Clients.{ids, has_redirect, id_member, secret_member, redirects_member, scope_member, grants_member, client_at, client_of, clients_after};
@@ -12,43 +13,17 @@ ghost use Rattle.clients.specs.Clients.{ids, has_redirect, id_member, secret_mem
 use crate::fault::ConfigFault;
 use crate::grant::{GrantType, Grants, grant_set};
 use crate::json::{items, list, member};
+use crate::numbering::Numbering;
 use crate::redirect::redirect_list;
 use crate::scope::scope;
 use crate::text::{identifier, key};
+use consent::ClientNo;
 use params::Catalogue;
 use serde_json::Value;
 use std::alloc::{AllocError, Global};
-use std::collections::BTreeMap;
 use std::marker::Model;
 
-/// The number of a client: its place in the registry, counted from 1.
-#[derive(Clone, Copy, Debug, PartialEq, Eq, PartialOrd, Ord)]
-pub struct ClientNo(u32);
-
-impl Model for ClientNo {
-    ghost use Rattle.std.specs.Prelude.{ℕ};
-
-    ghost Value = { ℕ };
-
-    ghost use Rattle.std.specs.Prelude.{◌≤◌};
-
-    ghost view = { λ n. n.0 };
-
-    ghost invariant = { λ n. (1 ≤ n.0) × (n.0 ≤ 256) };
-
-    ghost inverse = { λ n. record { 0 = n } };
-}
-
-impl ClientNo {
-    /// The number, from 1 to 256.
-    pub fn get(self) -> u32
-        ensures value { result ≡ self }
-        ensures least { 1 ≤ result }
-        ensures most { result ≤ 256 }
-    {
-        self.0
-    }
-}
+const MOST_REDIRECTS: usize = 8;
 
 fn stands_among(text: &str, strings: &[String]) -> bool
     ensures { result ≡ list_any (λ s. bytes_eq text.now (string_bytes s)) strings.now }
@@ -72,14 +47,18 @@ impl Model for Client {
     ghost Value = { ClientRecord };
 
     ghost use Rattle.std.specs.Prelude.{map, string_bytes};
+    ghost use Rattle.clients.specs.RegistryRules.{IsClient};
 
     ghost view = { λ c. record { id = string_bytes c.id; secret = string_bytes c.secret; redirects = map string_bytes c.redirects.items; allowed = c.allowed; grants = c.grants } };
+
+    ghost invariant = { λ c. IsClient (record { id = string_bytes c.id; secret = string_bytes c.secret; redirects = map string_bytes c.redirects.items; allowed = c.allowed; grants = c.grants }) };
 }
 
 impl Client {
     /// The client identifier (RFC 6749, section 2.2).
     pub fn id(&self) -> &str
-        ensures { result.now ≡ self.now.id }
+        ensures value { result.now ≡ self.now.id }
+        ensures short { length result.now ≤ identifier_limit }
     {
         &self.id
     }
@@ -94,7 +73,8 @@ impl Client {
     /// Whether the text is one of the client's redirect URIs, character by character (RFC 6749, section 3.1.2.3).
     #[tactic(auto, using(crate::proofs::Listed::any_text))]
     pub fn has_redirect(&self, uri: &str) -> bool
-        ensures { result ≡ has_redirect uri.now self.now }
+        ensures value { result ≡ has_redirect uri.now self.now }
+        ensures short { IsTrue result → length uri.now ≤ redirect_limit }
     {
         stands_among(uri, &self.redirects)
     }
@@ -118,21 +98,19 @@ impl Client {
 #[derive(Drop)]
 pub(crate) struct Clients {
     list: Vec<Client>,
-    numbers: BTreeMap<String, ClientNo>,
+    numbering: Numbering,
 }
 
 impl Model for Clients {
-    ghost use Rattle.std.specs.Prelude.{List};
+    ghost use Rattle.std.specs.Prelude.{◌≡◌, List};
     ghost use Rattle.clients.specs.ClientRecord.{ClientRecord};
+    ghost use Rattle.clients.specs.Clients.{ids};
 
     ghost Value = { List ClientRecord };
 
-    ghost use Rattle.clients.specs.Numbers.{IsIndex};
-    ghost use Rattle.clients.specs.Clients.{ids};
-
     ghost view = { λ clients. clients.list.items };
 
-    ghost invariant = { λ clients. IsIndex clients.numbers (ids clients.list.items) };
+    ghost invariant = { λ clients. clients.numbering ≡ ids clients.list.items };
 }
 
 impl Clients {
@@ -141,7 +119,7 @@ impl Clients {
     {
         Clients {
             list: Vec::new(alloc),
-            numbers: BTreeMap::new(alloc),
+            numbering: Numbering::new(alloc),
         }
     }
 
@@ -150,14 +128,14 @@ impl Clients {
         ensures value { result ≡ number_of id.now (ids self.now) }
         ensures listed { IfSome result (λ number. number ≤ length self.now) }
     {
-        self.numbers.get(id).copied()
+        self.numbering.number(id.as_bytes()).map(ClientNo::new)
     }
 
     // The client of this number.
-    pub(crate) fn get(&self, number: u32) -> Option<&Client>
+    pub(crate) fn get(&self, number: ClientNo) -> Option<&Client>
         ensures { option_copied result ≡ client_at number self.now }
     {
-        self.list.get((number as usize).checked_sub(1)?)
+        self.list.get(number.get() as usize - 1)
     }
 
     // The client of this number, which is listed.
@@ -165,20 +143,18 @@ impl Clients {
         requires { number ≤ length self.now }
         ensures { client_at number self.now ≡ Some result.now }
     {
-        &self.list[number.0 as usize - 1]
+        &self.list[number.get() as usize - 1]
     }
 
     // Takes a further client.
     fn push(&mut self, alloc: Global, client: Client) -> Result<(), AllocError>
         requires new { number_of client.id (ids self.old) ≡ None }
-        requires room { length self.old < 256 }
+        requires room { length self.old < client_limit }
         ensures ok { OnOk result (self.new ≡ self.old ++ client ∷ []) }
         ensures err { OnErr result (self.new ≡ self.old) }
     {
-        let number = ClientNo(self.list.len() as u32 + 1);
         self.list.reserve(1)?;
-        self.numbers
-            .insert(String::from_str(alloc, client.id())?, number)?;
+        self.numbering.push(alloc, client.id())?;
         let Ok(()) = self.list.push(client) else {
             unreachable!();
         };
@@ -206,10 +182,13 @@ fn secret_member(value: &Value) -> Result<&str, ConfigFault>
 
 // The member `redirects`.
 fn redirects_member(alloc: Global, value: &Value) -> Result<Vec<String>, ConfigFault>
-    ensures { GivesUnless ConfigFault.Memory (seen_by (λ v. map string_bytes v.items) result)
+    ensures { GivesUnless ConfigFault.Memory Unit (seen_by (λ v. map string_bytes v.items) result)
         (redirects_member (view value.now)) }
 {
-    redirect_list(alloc, items(member(value, "redirects")?, 0, 8)?)
+    redirect_list(
+        alloc,
+        items(member(value, "redirects")?, 0, MOST_REDIRECTS)?,
+    )
 }
 
 // The member `scope`.
@@ -233,16 +212,19 @@ fn read_client(
     clients: &Clients,
     value: &Value,
 ) -> Result<Client, ConfigFault>
-    ensures { GivesUnless ConfigFault.Memory result (client_of catalogue.now clients.now (view value.now)) }
+    ensures { GivesUnless ConfigFault.Memory (IsOk (id_member clients.now (view value.now)) × IsOk (secret_member (view value.now))) result
+        (client_of catalogue.now clients.now (view value.now)) }
 {
     let id = id_member(clients, value)?;
     let secret = secret_member(value)?;
     let redirects = redirects_member(alloc, value)?;
     let allowed = scope_member(catalogue, value)?;
     let grants = grants_member(value)?;
+    let own_id = String::from_str(alloc, id)?;
+    let own_secret = String::from_str(alloc, secret)?;
     Ok(Client {
-        id: String::from_str(alloc, id)?,
-        secret: String::from_str(alloc, secret)?,
+        id: own_id,
+        secret: own_secret,
         redirects,
         allowed,
         grants,
@@ -255,8 +237,9 @@ pub(crate) fn client_list(
     catalogue: &Catalogue,
     list: &[Value],
 ) -> Result<Clients, ConfigFault>
-    requires { length list.now ≤ 256 }
-    ensures { GivesUnless ConfigFault.Memory result (clients_after catalogue.now [] (items_view list.now)) }
+    requires { length list.now ≤ client_limit }
+    ensures { GivesUnless ConfigFault.Memory (0 < length list.now) result
+        (clients_after catalogue.now [] (items_view list.now)) }
 {
     let mut clients = Clients::new(alloc);
     for value in list {

@@ -6,6 +6,8 @@ mod client;
 mod fault;
 mod grant;
 mod json;
+pub mod laws;
+mod numbering;
 mod owner;
 mod redirect;
 mod registry;
@@ -13,10 +15,10 @@ mod scope;
 mod text;
 
 pub use authentication::AuthFault;
-pub use client::{Client, ClientNo};
+pub use client::Client;
+pub use consent::{ClientNo, OwnerNo};
 pub use fault::ConfigFault;
 pub use grant::GrantType;
-pub use owner::OwnerNo;
 pub use registry::Registry;
 
 #[cfg(test)]

@@ -1,7 +1,9 @@
 //! Redirect URIs (RFC 6749, section 3.1.2).
 
-ghost use Rattle.std.specs.Prelude.{◌≡◌, [], map, string_bytes, IfOk};
+ghost use Rattle.std.specs.Prelude.{◌≡◌, ◌<◌, ◌≤◌, [], length, map, string_bytes, IfOk, IfErr};
 ghost use Rattle.serde_json.specs.View.{view, items_view};
+ghost use Rattle.clients.specs.Limits.{redirect_limit};
+ghost use Rattle.clients.specs.Json.{text_of};
 ghost use Rattle.clients.specs.Faults.{GivesUnless, seen_by};
 ghost use Rattle.clients.specs.Redirect.{is_plain_web, is_redirect, redirect_of, redirects_after};
 
@@ -11,6 +13,8 @@ use serde_json::Value;
 use std::alloc::{AllocError, Global};
 use url::{ParseError, Url};
 
+const LONGEST_REDIRECT: usize = 2048;
+
 fn is_plain_web(url: &Url) -> bool
     ensures { result ≡ is_plain_web url.now }
 {
@@ -19,9 +23,10 @@ fn is_plain_web(url: &Url) -> bool
 
 // Whether the text is a plain web URL in its own spelling.
 fn is_redirect(alloc: Global, text: &str) -> Result<bool, AllocError>
-    ensures { IfOk result (λ answer. answer ≡ is_redirect text.now) }
+    ensures ok { IfOk result (λ answer. answer ≡ is_redirect text.now) }
+    ensures err { IfErr result (λ _. length text.now ≤ redirect_limit) }
 {
-    if text.len() > 2048 {
+    if text.len() > LONGEST_REDIRECT {
         return Ok(false);
     }
     match Url::parse(alloc, text) {
@@ -33,7 +38,8 @@ fn is_redirect(alloc: Global, text: &str) -> Result<bool, AllocError>
 
 // A redirect URI.
 pub(crate) fn redirect(alloc: Global, value: &Value) -> Result<&str, ConfigFault>
-    ensures { GivesUnless ConfigFault.Memory (seen_by (λ s. s.now) result) (redirect_of (view value.now)) }
+    ensures { GivesUnless ConfigFault.Memory (IfOk (text_of (view value.now)) (λ text. length text ≤ redirect_limit)) (seen_by (λ s. s.now) result)
+        (redirect_of (view value.now)) }
 {
     let text = text(value)?;
     if is_redirect(alloc, text)? {
@@ -45,7 +51,7 @@ pub(crate) fn redirect(alloc: Global, value: &Value) -> Result<&str, ConfigFault
 
 // The redirect URIs of a list.
 pub(crate) fn redirect_list(alloc: Global, list: &[Value]) -> Result<Vec<String>, ConfigFault>
-    ensures { GivesUnless ConfigFault.Memory (seen_by (λ v. map string_bytes v.items) result)
+    ensures { GivesUnless ConfigFault.Memory (0 < length list.now) (seen_by (λ v. map string_bytes v.items) result)
         (redirects_after [] (items_view list.now)) }
 {
     let mut redirects = Vec::new(alloc);

@@ -1,25 +1,36 @@
 //! The registry: owners, scope names and clients, and the lives of tokens.
 
-ghost use Rattle.std.specs.Prelude.{◌≡◌, ◌≤◌, ◌-◌, length, slice_get, Some, IfOk, IfSome, bytes_eq, option_copied};
+ghost use Rattle.std.specs.Prelude.{◌≡◌, ◌<◌, ◌≤◌, true, length, Some, IfOk, OnOk, IfSome, bytes_eq, option_copied, IsUtf8};
 ghost use Rattle.serde_json.specs.View.{view};
 ghost use Rattle.clients.specs.Faults.{GivesUnless, seen_by};
 ghost use Rattle.clients.specs.Numbers.{number_of};
 ghost use Rattle.clients.specs.Clients.{ids, client_at};
-ghost use Rattle.clients.specs.Authentication.{authenticated};
-ghost use Rattle.clients.specs.Registry.{life_member, operator_member, owners_member, scopes_member, clients_member, registry_of, data_of, registry_in};
+ghost use Rattle.clients.specs.Authentication.{authenticated, wants_memory};
+ghost use Rattle.clients.specs.Registry.{IsReadable, AreLivesAndOperatorRight, life_member, operator_member, owners_member, scopes_member, clients_member, registry_of, data_of, registry_in};
+ghost use Rattle.clients.specs.RegistryRules.{IsRegistry};
 
 use crate::authentication::{AuthFault, authenticate};
-use crate::client::{Client, ClientNo, Clients, client_list};
+use crate::client::{Client, Clients, client_list};
 use crate::fault::ConfigFault;
 use crate::json::{items, life, member};
-use crate::owner::{OwnerNo, Owners, owner_list};
+use crate::numbering::Numbering;
+use crate::owner::{owner_list, owner_number};
 use crate::scope::scope_list;
 use crate::text::key;
+use consent::{ClientNo, OwnerNo};
 use params::{Catalogue, Params};
 use serde_json::{Category, Value};
 use std::alloc::Global;
 use std::marker::Model;
 use std::str;
+
+const MOST_BYTES: usize = 1_048_576;
+
+const MOST_OWNERS: usize = 4096;
+
+const MOST_SCOPES: usize = 64;
+
+const MOST_CLIENTS: usize = 256;
 
 /// The registry that a server is started with.
 #[derive(Drop)]
@@ -27,7 +38,7 @@ pub struct Registry {
     access_life: u32,
     refresh_life: u32,
     operator: String,
-    owners: Owners,
+    owners: Numbering,
     catalogue: Catalogue,
     clients: Clients,
 }
@@ -38,8 +49,11 @@ impl Model for Registry {
     ghost Value = { RegistryRecord };
 
     ghost use Rattle.std.specs.Prelude.{string_bytes};
+    ghost use Rattle.clients.specs.RegistryRules.{IsRegistry};
 
     ghost view = { λ r. record { access_life = r.access_life; refresh_life = r.refresh_life; operator = string_bytes r.operator; owners = r.owners; scopes = r.catalogue; clients = r.clients } };
+
+    ghost invariant = { λ r. IsRegistry (record { access_life = r.access_life; refresh_life = r.refresh_life; operator = string_bytes r.operator; owners = r.owners; scopes = r.catalogue; clients = r.clients }) };
 }
 
 impl Registry {
@@ -48,9 +62,10 @@ impl Registry {
     /// that is no JSON, then the members in the order `access_life`, `refresh_life`, `operator`, `owners`, `scopes`,
     /// `clients`. In a list the count comes first, then each element whole.
     pub fn read(alloc: Global, bytes: &[u8]) -> Result<Registry, ConfigFault>
-        ensures { GivesUnless ConfigFault.Memory result (registry_in bytes.now) }
+        ensures value { GivesUnless ConfigFault.Memory (IsReadable bytes.now) result (registry_in bytes.now) }
+        ensures registry { IfOk result IsRegistry }
     {
-        if bytes.len() > 1_048_576 {
+        if bytes.len() > MOST_BYTES {
             return Err(ConfigFault::OutOfRange);
         }
         read_registry(alloc, &read_data(alloc, bytes)?)
@@ -65,7 +80,8 @@ impl Registry {
         header: Option<&[u8]>,
         params: &Params,
     ) -> Result<ClientNo, AuthFault>
-        ensures value { GivesUnless AuthFault.Memory result (authenticated self.now.clients (option_copied header.entry) params.now) }
+        ensures value { GivesUnless AuthFault.Memory (wants_memory (option_copied header.entry) params.now ≡ true) result
+            (authenticated self.now.clients (option_copied header.entry) params.now) }
         ensures listed { IfOk result (λ number. number ≤ length self.now.clients) }
     {
         authenticate(alloc, &self.clients, header, params)
@@ -82,13 +98,14 @@ impl Registry {
     /// The client of this number.
     pub fn client(&self, number: ClientNo) -> &Client
         requires { number ≤ length self.now.clients }
-        ensures { client_at number self.now.clients ≡ Some result.now }
+        ensures value { client_at number self.now.clients ≡ Some result.now }
+        ensures registry { IsRegistry self.now }
     {
         self.clients.at(number)
     }
 
     /// The client of this number, if there is one.
-    pub fn client_numbered(&self, number: u32) -> Option<&Client>
+    pub fn client_numbered(&self, number: ClientNo) -> Option<&Client>
         ensures { option_copied result ≡ client_at number self.now.clients }
     {
         self.clients.get(number)
@@ -99,7 +116,7 @@ impl Registry {
         ensures value { result ≡ number_of key.now self.now.owners }
         ensures listed { IfSome result (λ number. number ≤ length self.now.owners) }
     {
-        self.owners.number(key)
+        owner_number(&self.owners, key)
     }
 
     /// Whether this is the operator's key.
@@ -111,21 +128,24 @@ impl Registry {
 
     /// The life of an access token, in seconds.
     pub fn access_life(&self) -> u32
-        ensures { result ≡ self.now.access_life }
+        ensures value { result ≡ self.now.access_life }
+        ensures registry { IsRegistry self.now }
     {
         self.access_life
     }
 
     /// The life of a refresh token, in seconds.
     pub fn refresh_life(&self) -> u32
-        ensures { result ≡ self.now.refresh_life }
+        ensures value { result ≡ self.now.refresh_life }
+        ensures registry { IsRegistry self.now }
     {
         self.refresh_life
     }
 
     /// The scope names.
     pub fn catalogue(&self) -> &Catalogue
-        ensures { result.now ≡ self.now.scopes }
+        ensures value { result.now ≡ self.now.scopes }
+        ensures registry { IsRegistry self.now }
     {
         &self.catalogue
     }
@@ -134,9 +154,13 @@ impl Registry {
 // The JSON data of the text.
 #[tactic(auto, using(crate::proofs::Data::data_where, crate::proofs::Data::no_data_where))]
 fn read_data(alloc: Global, bytes: &[u8]) -> Result<Value, ConfigFault>
-    ensures { GivesUnless ConfigFault.Memory (seen_by view result) (data_of bytes.now) }
+    ensures value { GivesUnless ConfigFault.Memory (IsUtf8 bytes.now) (seen_by view result) (data_of bytes.now) }
+    ensures utf8 { OnOk result (IsUtf8 bytes.now) }
 {
-    match Value::from_slice(alloc, bytes) {
+    let Ok(text) = str::from_utf8(bytes) else {
+        return Err(ConfigFault::NotJson);
+    };
+    match Value::from_str(alloc, text) {
         Ok(value) => Ok(value),
         Err(error) => match error.classify() {
             Category::Memory => Err(ConfigFault::Memory),
@@ -160,17 +184,17 @@ fn operator_member(value: &Value) -> Result<&str, ConfigFault>
 }
 
 // The member `owners`.
-fn owners_member(alloc: Global, value: &Value) -> Result<Owners, ConfigFault>
-    ensures { GivesUnless ConfigFault.Memory result (owners_member (view value.now)) }
+fn owners_member(alloc: Global, value: &Value) -> Result<Numbering, ConfigFault>
+    ensures { GivesUnless ConfigFault.Memory Unit result (owners_member (view value.now)) }
 {
-    owner_list(alloc, items(member(value, "owners")?, 0, 4096)?)
+    owner_list(alloc, items(member(value, "owners")?, 0, MOST_OWNERS)?)
 }
 
 // The member `scopes`.
 fn scopes_member(alloc: Global, value: &Value) -> Result<Catalogue, ConfigFault>
-    ensures { GivesUnless ConfigFault.Memory result (scopes_member (view value.now)) }
+    ensures { GivesUnless ConfigFault.Memory Unit result (scopes_member (view value.now)) }
 {
-    scope_list(alloc, items(member(value, "scopes")?, 1, 64)?)
+    scope_list(alloc, items(member(value, "scopes")?, 1, MOST_SCOPES)?)
 }
 
 // The member `clients`.
@@ -179,14 +203,18 @@ fn clients_member(
     catalogue: &Catalogue,
     value: &Value,
 ) -> Result<Clients, ConfigFault>
-    ensures { GivesUnless ConfigFault.Memory result (clients_member catalogue.now (view value.now)) }
+    ensures { GivesUnless ConfigFault.Memory Unit result (clients_member catalogue.now (view value.now)) }
 {
-    client_list(alloc, catalogue, items(member(value, "clients")?, 0, 256)?)
+    client_list(
+        alloc,
+        catalogue,
+        items(member(value, "clients")?, 0, MOST_CLIENTS)?,
+    )
 }
 
 // The registry of JSON data.
 fn read_registry(alloc: Global, value: &Value) -> Result<Registry, ConfigFault>
-    ensures { GivesUnless ConfigFault.Memory result (registry_of (view value.now)) }
+    ensures { GivesUnless ConfigFault.Memory (AreLivesAndOperatorRight (view value.now)) result (registry_of (view value.now)) }
 {
     let access_life = life_member(value, "access_life")?;
     let refresh_life = life_member(value, "refresh_life")?;
@@ -194,10 +222,11 @@ fn read_registry(alloc: Global, value: &Value) -> Result<Registry, ConfigFault>
     let owners = owners_member(alloc, value)?;
     let catalogue = scopes_member(alloc, value)?;
     let clients = clients_member(alloc, &catalogue, value)?;
+    let own_operator = String::from_str(alloc, operator)?;
     Ok(Registry {
         access_life,
         refresh_life,
-        operator: String::from_str(alloc, operator)?,
+        operator: own_operator,
         owners,
         catalogue,
         clients,

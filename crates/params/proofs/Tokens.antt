@@ -1,17 +1,17 @@
 -- A scope text read token by token.
-use Rattle.std.proofs.Common.{◌≡◌, ℕ, ◌*◌, ◌%◌, ◌^◌, ◌<◌, List, [], ◌∷◌, length, Bool, true, false, ◌&&◌, ◌==◌, refl, sym, ap, ◌∙◌, arith, Option, Some, None, is_some, if◌then◌else◌, bit_or, max}
+use Rattle.std.proofs.Common.{◌≡◌, ℕ, ◌*◌, ◌%◌, ◌^◌, ◌<◌, List, [], ◌∷◌, true, false, refl, sym, ap, ◌∙◌, arith, Option, Some, None, is_some, if◌then◌else◌, bit_or, max}
 use Rattle.std.specs.Prelude.{bytes_eq}
 use Rattle.std.specs.Borrow.{Bor}
 use Rattle.std.specs.List.{list_all}
 use Rattle.std.proofs.lemmas.Iterator.{YieldsList}
-use Rattle.std.proofs.lemmas.List.Splits.{length-slice_split}
 use Rattle.std.proofs.lemmas.Nat.Bits.{bit_at_or, same_from_bits}
 use Rattle.std.specs.Int.{bit_at}
 use Rattle.std.proofs.Math.Pow.{pow-lt}
 use Rattle.std.specs.Int.Bits.{or_zero_r}
 use Rattle.params.specs.Form.{any_twice}
-use Rattle.params.specs.Scope.{is_among, mask_of, place_of, scope_mask, tokens_of}
-use Rattle.params.proofs.Masks.{is_some-position_from, mask_of-cons, mask_of-nil, mask_of-lt, mask_of-positive}
+use Rattle.params.specs.Scope.{is_among, mask_of, place_of}
+use Rattle.params.specs.ScopeLaws.{is_some-position_from}
+use Rattle.params.proofs.Masks.{mask_of-cons, mask_of-nil}
 
 or_assoc : (a b c : ℕ) → bit_or (bit_or a b) c ≡ bit_or a (bit_or b c)
 or_assoc a b c = same_from_bits _ _ (λ i.
@@ -51,18 +51,3 @@ module _ {S : Type 0} {steps : S → Option (Bor (List ℕ)) → S → Type 0} w
   pub left-none : (s t : S) (left : List (List ℕ)) → YieldsList steps (λ y. y.now) s left → steps s None t → left ≡ []
   left-none s t [] h k = refl
   left-none s t (y ∷ ys) h k = absurd (h.runs.0 t k)
-
--- a mask that was read is of some names, and of no others
-pub mask_within : (names : List (List ℕ)) (text : List ℕ) (mask : ℕ) → scope_mask names text ≡ Some mask → (0 < mask) × (mask < 2 ^ length names)
-mask_within names text mask is = by (tokens_of text) (omega (arith, length-slice_split (λ b. b == 0x20) text)) is
-  where
-    by : (ts : List (List ℕ)) → 0 < length ts → (if list_all (λ token. is_among token names) ts then Some (mask_of names ts) else None) ≡ Some mask → (0 < mask) × (mask < 2 ^ length names)
-    by [] some e = absurd (omega arith)
-    by (t ∷ ts) some e = known (is_among t names) refl (list_all (λ token. is_among token names) ts) e
-      where
-        known : (a : Bool) → is_among t names ≡ a → (b : Bool) → (if a && b then Some (mask_of names (t ∷ ts)) else None) ≡ Some mask → (0 < mask) × (mask < 2 ^ length names)
-        known true f true g =
-            let made : mask_of names (t ∷ ts) ≡ mask = cc g in
-            (omega (arith, made, mask_of-positive names t ts f), omega (arith, made, mask_of-lt names (t ∷ ts)))
-        known true f false g = cc g
-        known false f b g = cc g

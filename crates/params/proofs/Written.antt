@@ -1,16 +1,17 @@
 -- The written text of a set of names, and that it is read back as that set.
-use Rattle.std.proofs.Common.{◌≡◌, ◌≢◌, ℕ, ◌+◌, ◌/◌, ◌%◌, ◌^◌, ◌<◌, List, [], ◌∷◌, ◌++◌, length, Bool, true, false, ◌&&◌, ◌==◌, refl, sym, ap, ◌∙◌, arith, append_assoc, drop, take, not, nat_le, nat_lt, Some, if◌then◌else◌}
+use Rattle.std.proofs.Common.{◌≡◌, ◌≢◌, ◌≤◌, ℕ, ◌+◌, ◌/◌, ◌%◌, ◌^◌, ◌<◌, List, [], ◌∷◌, ◌++◌, length, Bool, true, false, ◌&&◌, ◌==◌, refl, sym, ap, ◌∙◌, arith, append_assoc, drop, take, not, nat_le, nat_lt, Some, if◌then◌else◌}
 use Rattle.std.specs.Prelude.{bytes_eq, All}
 use Rattle.std.specs.List.{list_all, join_with_byte}
 use Rattle.std.proofs.Math.Nat.{pow-succ'}
 use Rattle.std.proofs.lemmas.Bool.{or_parts, or_from, or_left, or_right, and_parts, and_from, ne_eqb, eq-eqb, eqb-true, eqb-false, leb-true}
-use Rattle.std.proofs.lemmas.List.{take-append-drop}
+use Rattle.std.proofs.lemmas.List.{take-append-drop, drop_all}
 use Rattle.std.proofs.lemmas.List.Folds.{list_all-append, list_any-append}
 use Rattle.std.proofs.lemmas.List.Elements.{All-nil, All-cons}
 use Rattle.std.proofs.lemmas.Slice.Eq.{bytes_eq-Decides}
 use Rattle.std.proofs.lemmas.List.Splits.{slice_split_none, slice_split_at}
 use Rattle.params.specs.Form.{any_twice}
 use Rattle.params.specs.Scope.{is_scope_character, is_scope_token, is_scope_name, is_among, IsCatalogue, tokens_of, mask_of, names_of, scope_mask, scope_text, with_name}
+use Rattle.params.specs.ScopeLaws.{list_all-names_of}
 use Rattle.params.proofs.Masks.{mask_of-cons_other, mask_of-nil}
 
 -- the written text, when the names so far have this text and those are left
@@ -44,6 +45,27 @@ text_after-even text names i left name at even =
     ap (λ l. text_after text (names_of l left)) at
     ∙ ap (λ b. text_after text (if b then name ∷ names_of (drop (i + 1) names) (left / 2) else names_of (drop (i + 1) names) (left / 2))) (ne_eqb (left % 2) 1 even)
 
+-- past the last name the text is whole
+pub text_after-end : (text whole : List ℕ) (names : List (List ℕ)) (i left : ℕ) → length names ≤ i
+    → text_after text (names_of (drop i names) left) ≡ whole → text ≡ whole
+text_after-end text whole names i left past is = ap (λ l. text_after text (names_of l left)) (sym (drop_all i names past)) ∙ is
+
+-- the text is not empty where a name is left
+some_after : (text name : List ℕ) (names : List (List ℕ)) → is_scope_name name ≡ true → 0 < length (text_after text (name ∷ names))
+some_after (b ∷ text) name names is = omega arith
+some_after [] [] names is = cc is
+some_after [] (c ∷ cs) [] is = omega arith
+some_after [] (c ∷ cs) (m ∷ ms) is = omega arith
+
+pub text_after-some : (text : List ℕ) (names : List (List ℕ)) (i left : ℕ) (name : List ℕ) → list_all is_scope_name names ≡ true → drop i names ≡ name ∷ drop (i + 1) names → left % 2 ≡ 1
+    → 0 < length (text_after text (names_of (drop i names) left))
+text_after-some text names i left name all at odd =
+    let is = (and_parts (is_scope_name name) (list_all is_scope_name (drop (i + 1) names)) (ap (λ l. list_all is_scope_name l) (sym at) ∙ list_all-drop is_scope_name i names all)).0 in
+    let here : names_of (drop i names) left ≡ name ∷ names_of (drop (i + 1) names) (left / 2) =
+    ap (λ l. names_of l left) at
+    ∙ ap (λ b. if b then name ∷ names_of (drop (i + 1) names) (left / 2) else names_of (drop (i + 1) names) (left / 2)) (eq-eqb (left % 2) 1 odd) in
+    rw here (some_after text name (names_of (drop (i + 1) names) (left / 2)) is)
+
 -- ---- read back
 
 space_free : (b : ℕ) → is_scope_character b ≡ true → (b == 0x20) ≡ false
@@ -68,18 +90,6 @@ tokens_of-join name [] all = slice_split_none (λ b. b == 0x20) name (name_free 
 tokens_of-join name (m ∷ ms) all =
     let parts = and_parts (is_scope_name name) (list_all is_scope_name (m ∷ ms)) all in
     slice_split_at (λ b. b == 0x20) name 0x20 (join_with_byte 0x20 (m ∷ ms)) (name_free name parts.0) refl ∙ ap (λ l. name ∷ l) (tokens_of-join m ms parts.1)
-
--- what holds of each name holds of those of a mask
-list_all-names_of : (p : List ℕ → Bool) (names : List (List ℕ)) (mask : ℕ) → list_all p names ≡ true → list_all p (names_of names mask) ≡ true
-list_all-names_of p [] mask all = refl
-list_all-names_of p (n ∷ names) mask all = by (mask % 2 == 1) (list_all-names_of p names (mask / 2) parts.1)
-  where
-    parts : (p n ≡ true) × (list_all p names ≡ true)
-    parts = and_parts (p n) (list_all p names) all
-
-    by : (b : Bool) → list_all p (names_of names (mask / 2)) ≡ true → list_all p (if b then n ∷ names_of names (mask / 2) else names_of names (mask / 2)) ≡ true
-    by true later = and_from _ _ parts.0 later
-    by false later = later
 
 all_among : (front names : List (List ℕ)) → list_all (λ t. is_among t (front ++ names)) names ≡ true
 all_among front [] = refl

@@ -1,14 +1,11 @@
 -- The parameters of a query or a form (RFC 6749, section 3.1 and appendix B).
-use Rattle.std.specs.Prelude.{◌≡◌, ℕ, List, [], ◌∷◌, map, filter, fold, Bool, false, ◌||◌, bytes_eq, nat_eq, String, string_bytes, Option, Result, Ok, Err, if◌then◌else◌}
+use Rattle.std.specs.Prelude.{◌≡◌, ◌⊎◌, ◌<◌, ℕ, List, [], ◌∷◌, length, map, filter, Bool, false, ◌||◌, bytes_eq, nat_eq, String, string_bytes, Option, Result, Ok, Err, if◌then◌else◌}
 use Rattle.std.specs.List.{list_any, starts_with}
 use Rattle.std.specs.Map.{lookup}
-use Rattle.std.specs.BTreeMap.{BTreeMap, insert_entry}
-use Rattle.std.specs.Cmp.Lexicographic.{slice_cmp}
-use Rattle.std.specs.Ordering.{nat_cmp}
 use Rattle.std.specs.Str.Lossy.{utf8_lossy, replacement_bytes}
 use Rattle.form_urlencoded.specs.Form.{raw_pairs, decode, is_nonempty}
 use Rattle.params.specs.declared.params.ParamFault.{ParamFault}
-use Rattle.params.specs.declared.params.ParamFault.TheVariants.{Twice, NotUtf8}
+use Rattle.params.specs.declared.params.ParamFault.TheVariants.{Twice, NotUtf8, Memory}
 
 -- the text of a name or a value, with U+FFFD where its bytes are not UTF-8
 abbrev pub text_of : List ℕ → List ℕ
@@ -36,32 +33,29 @@ abbrev pub any_twice : List (List ℕ) → Bool
 any_twice [] = false
 any_twice (x ∷ xs) = list_any (bytes_eq x) xs || any_twice xs
 
--- the parameters with one more, in order of their names
-abbrev pub put : List (List ℕ × List ℕ) → List ℕ × List ℕ → List (List ℕ × List ℕ)
-put params p = insert_entry (slice_cmp nat_cmp) params p.0 p.1
+-- the names of the pairs
+abbrev pub names_in : List (List ℕ × List ℕ) → List (List ℕ)
+names_in ps = map (λ p. p.0) ps
 
--- the pairs in order of their names
-abbrev pub by_name : List (List ℕ × List ℕ) → List (List ℕ × List ℕ)
-by_name ps = fold put [] ps
-
--- the parameters that these pairs make, or the first fault
-abbrev pub params_of : List (List ℕ × List ℕ) → Result (List (List ℕ × List ℕ)) ParamFault
-params_of ps =
+-- the pairs, where none is damaged and no name stands twice, or the first fault
+abbrev pub checked : List (List ℕ × List ℕ) → Result (List (List ℕ × List ℕ)) ParamFault
+checked ps =
     if list_any is_damaged ps then Err NotUtf8
-    else (if any_twice (map (λ p. p.0) ps) then Err Twice else Ok (by_name ps))
+    else (if any_twice (names_in ps) then Err Twice else Ok ps)
 
--- the parameters of a form, or the first fault
+-- the parameters of a form in the order in which they were sent, or the first fault
 abbrev pub read_params : List ℕ → Result (List (List ℕ × List ℕ)) ParamFault
-read_params input = params_of (pairs input)
+read_params input = checked (pairs input)
 
--- the texts of a table
-abbrev pub texts_of : {A : Type 0} → BTreeMap (String A) (String A) → List (List ℕ × List ℕ)
-texts_of table = map (λ e. (string_bytes e.0, string_bytes e.1)) table.entries
+-- why a form was refused: its fault, or memory where it has a pair
+abbrev pub IsFormRefusal : List ℕ → ParamFault → Type 0
+IsFormRefusal input fault =
+    (read_params input ≡ Err fault) ⊎ ((fault ≡ Memory) × (0 < length (raw_pairs input)))
+
+-- the texts of names and values
+abbrev pub texts_of : {A : Type 0} → List (String A × String A) → List (List ℕ × List ℕ)
+texts_of ps = map (λ p. (string_bytes p.0, string_bytes p.1)) ps
 
 -- the value of the parameter of this name
 abbrev pub value_of : List ℕ → List (List ℕ × List ℕ) → Option (List ℕ)
 value_of name params = lookup (bytes_eq name) params
-
--- each name has the same value in the two
-abbrev pub SameValues : List (List ℕ × List ℕ) → List (List ℕ × List ℕ) → Type 0
-SameValues ps params = (name : List ℕ) → value_of name params ≡ value_of name ps

@@ -1,6 +1,7 @@
 -- Scope names, and the sets of them that scope texts stand for (RFC 6749, section 3.3).
 use Rattle.std.specs.Prelude.{◌≡◌, ◌⊎◌, ◌<◌, ◌^◌, ℕ, ◌+◌, ◌*◌, ◌/◌, ◌%◌, ◌≤◌, nat_le, nat_lt, ◌==◌, ◌&&◌, not, Bool, false, List, [], ◌∷◌, ◌++◌, length, IsTrue, bytes_eq, Option, Some, None, if◌then◌else◌}
 use Rattle.std.specs.List.{list_any, list_all, slice_split, join_with_byte, position_from}
+use Rattle.params.specs.Limits.{scope_name_count_limit, scope_name_limit}
 use Rattle.params.specs.Form.{any_twice}
 use Rattle.params.specs.declared.catalogue.CatalogueFault.{CatalogueFault}
 use Rattle.params.specs.declared.catalogue.CatalogueFault.TheVariants.{BadScope, TooLong, Twice, Full, Memory}
@@ -13,9 +14,9 @@ is_scope_character b = nat_le 0x21 b && nat_le b 0x7E && not (b == 0x22) && not 
 abbrev pub is_scope_token : List ℕ → Bool
 is_scope_token text = nat_lt 0 (length text) && list_all is_scope_character text
 
--- a scope name: a scope token of at most 32 characters
+-- a scope name: a scope token that is not too long
 abbrev pub is_scope_name : List ℕ → Bool
-is_scope_name text = is_scope_token text && nat_le (length text) 32
+is_scope_name text = is_scope_token text && nat_le (length text) scope_name_limit
 
 -- the name stands in the list
 abbrev pub is_among : List ℕ → List (List ℕ) → Bool
@@ -25,9 +26,9 @@ is_among name names = list_any (bytes_eq name) names
 abbrev pub place_of : List ℕ → List (List ℕ) → Option ℕ
 place_of name names = position_from (bytes_eq name) 0 names
 
--- at most 64 scope names, no two equal
+-- scope names, not too many, no two equal
 pub record IsCatalogue (names : List (List ℕ)) : Type 0 where
-  pub count : length names ≤ 64
+  pub count : length names ≤ scope_name_count_limit
   pub scope_names : IsTrue (list_all is_scope_name names)
   pub distinct : any_twice names ≡ false
 
@@ -35,13 +36,13 @@ pub record IsCatalogue (names : List (List ℕ)) : Type 0 where
 abbrev pub name_fault : List (List ℕ) → List ℕ → Option CatalogueFault
 name_fault names name =
     if not (is_scope_token name) then Some BadScope
-    else (if nat_lt 32 (length name) then Some TooLong
+    else (if nat_lt scope_name_limit (length name) then Some TooLong
     else (if is_among name names then Some Twice
-    else (if nat_le 64 (length names) then Some Full else None)))
+    else (if nat_le scope_name_count_limit (length names) then Some Full else None)))
 
 -- why a further name was refused: its fault, or memory where it has none
-abbrev pub IsRefusal : List (List ℕ) → List ℕ → CatalogueFault → Type 0
-IsRefusal names name fault = (name_fault names name ≡ Some fault) ⊎ ((fault ≡ Memory) × (name_fault names name ≡ None))
+abbrev pub IsNameRefusal : List (List ℕ) → List ℕ → CatalogueFault → Type 0
+IsNameRefusal names name fault = (name_fault names name ≡ Some fault) ⊎ ((fault ≡ Memory) × (name_fault names name ≡ None))
 
 -- the tokens of a scope text: the pieces between its spaces
 abbrev pub tokens_of : List ℕ → List (List ℕ)

@@ -1,8 +1,9 @@
 // The catalogue of scope names, and sets of them as masks.
-ghost use Rattle.std.specs.Prelude.{◌≡◌, ◌⊎◌, ◌<◌, ◌^◌, ℕ, List, [], ◌∷◌, ◌++◌, length, OnOk, OnErr, IfOk, IfErr, IfSome, Some, None, is_some, map, string_bytes};
+ghost use Rattle.std.specs.Prelude.{◌≡◌, ◌⊎◌, ◌<◌, ◌≤◌, ◌^◌, ℕ, List, [], ◌∷◌, ◌++◌, length, OnOk, OnErr, IfOk, IfErr, IfSome, Some, None, is_some, map, string_bytes};
 ghost use Rattle.params.specs.declared.catalogue.CatalogueFault.TheVariants.{Memory};
 ghost use Rattle.params.specs.FaultTexts.{catalogue_fault_text};
-ghost use Rattle.params.specs.Scope.{IsRefusal, IsReadBack, name_fault, scope_mask, scope_text, with_name, place_of, is_among, is_scope_token, is_scope_character};
+ghost use Rattle.params.specs.Limits.{scope_text_limit};
+ghost use Rattle.params.specs.Scope.{IsNameRefusal, IsReadBack, name_fault, scope_mask, scope_text, with_name, place_of, is_among, is_scope_token, is_scope_character};
 
 use std::alloc::{AllocError, AllocFailed, Global};
 use std::fmt;
@@ -90,7 +91,7 @@ impl Catalogue {
         // Faults are tested in their order, and Memory comes after all tests.
         ensures ok { OnOk result (name_fault self.old name.now ≡ None) }
         ensures pushed { OnOk result (self.new ≡ self.old ++ name.now ∷ []) }
-        ensures err { IfErr result (IsRefusal self.old name.now) }
+        ensures err { IfErr result (IsNameRefusal self.old name.now) }
         ensures unchanged { OnErr result (self.new ≡ self.old) }
     {
         if let Some(fault) = self.fault_of(name) {
@@ -115,10 +116,12 @@ impl Catalogue {
     }
 
     /// The one written text of a set: its names in catalogue order, one space between two (RFC 6749, section 3.3).
-    /// Bits past the catalogue stand for nothing, and the empty set has the empty text.
+    /// Bits past the catalogue stand for nothing, and the empty set has the empty text, which takes no memory.
     pub fn scope_text(&self, alloc: Global, mask: u64) -> Result<String, AllocError>
         ensures text { IfOk result (λ text. string_bytes text ≡ scope_text self.now mask) }
         ensures read_back { IfOk result (λ text. IsReadBack self.now mask (string_bytes text)) }
+        ensures short { IfOk result (λ text. length (string_bytes text) ≤ scope_text_limit) }
+        ensures err { IfErr result (λ _. 0 < length (scope_text self.now mask)) }
     {
         let mut text = String::new(alloc);
         let mut left = mask;

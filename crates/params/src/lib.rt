@@ -9,6 +9,3 @@ mod params;
 
 pub use catalogue::{Catalogue, CatalogueFault};
 pub use params::{ParamFault, Params, has_replacement};
-
-#[cfg(test)]
-mod tests;

@@ -1,8 +1,8 @@
 // The parameters of a query or a form.
-ghost use Rattle.std.specs.Prelude.{◌≡◌, ◌⊎◌, ◌↔◌, ℕ, List, IsTrue, IfOk, IfErr, OnOk, Ok, Err, Some, option_copied, is_some, string_bytes};
+ghost use Rattle.std.specs.Prelude.{◌≡◌, ◌<◌, length, IfOk, IfErr, Ok, Some, option_copied, string_bytes};
 ghost use Rattle.params.specs.declared.params.ParamFault.TheVariants.{Memory};
 ghost use Rattle.params.specs.FaultTexts.{param_fault_text};
-ghost use Rattle.params.specs.Form.{SameValues, pairs, read_params, value_of, has_replacement, texts_of, put};
+ghost use Rattle.params.specs.Form.{IsFormRefusal, read_params, value_of, has_replacement, any_twice, names_in, texts_of};
 
 use form_urlencoded::parse;
 use std::alloc::{AllocError, AllocFailed, Global};
@@ -49,10 +49,11 @@ impl<T: Drop> From<AllocFailed<T>> for ParamFault {
     }
 }
 
-/// The parameters of a query or a form, each name once (RFC 6749, section 3.1 and appendix B).
+/// The parameters of a query or a form, in the order in which they were sent, each name once (RFC 6749, section 3.1
+/// and appendix B).
 #[derive(Drop)]
 pub struct Params {
-    values: BTreeMap<String, String>,
+    pairs: Vec<(String, String)>,
 }
 
 impl Model for Params {
@@ -61,20 +62,18 @@ impl Model for Params {
 
     ghost Value = { List (List ℕ × List ℕ) };
 
-    ghost view = { λ a. texts_of a.values };
+    ghost view = { λ a. texts_of a.pairs.items };
 }
 
 impl Params {
     /// Reads the pairs of `application/x-www-form-urlencoded` bytes. A pair with an empty value counts as not sent,
-    /// before anything else is tested of it.
+    /// before anything else is tested of it. Bytes without a pair take no memory.
     pub fn read(alloc: Global, input: &[u8]) -> Result<Params, ParamFault>
         // NotUtf8 is tested before Twice, and Memory may come in place of either.
         ensures ok { IfOk result (λ params. read_params input.now ≡ Ok params) }
-        ensures err { IfErr result (λ fault. (fault ≡ ParamFault.Memory) ⊎ (read_params input.now ≡ Err fault)) }
-        ensures values { IfOk result (SameValues (pairs input.now)) }
+        ensures err { IfErr result (IsFormRefusal input.now) }
     {
-        let mut values = BTreeMap::new(alloc);
-        let mut twice = false;
+        let mut pairs = Vec::new(alloc);
         for pair in parse(alloc, input) {
             let (name, value) = pair?;
             if value.is_empty() {
@@ -83,36 +82,39 @@ impl Params {
             if has_replacement(&name) || has_replacement(&value) {
                 return Err(ParamFault::NotUtf8);
             }
-            twice |= enter(
-                &mut values,
-                name.into_owned(alloc)?,
-                value.into_owned(alloc)?,
-            )?;
+            pairs.push((name.into_owned(alloc)?, value.into_owned(alloc)?))?;
         }
-        if twice {
+        if any_twice(alloc, &pairs)? {
             return Err(ParamFault::Twice);
         }
-        Ok(Params { values })
+        Ok(Params { pairs })
     }
 
     /// The value of the parameter, where it was sent.
     pub fn get(&self, name: &str) -> Option<&str>
         ensures { option_copied result ≡ value_of name.now self.now }
     {
-        self.values.get(name).map(|value| value.as_str())
+        for (known, value) in &self.pairs {
+            if name == known.as_str() {
+                return Some(value.as_str());
+            }
+        }
+        None
     }
 }
 
-// Puts a parameter in its place. Whether one of its name stood there.
-fn enter(
-    values: &mut BTreeMap<String, String>,
-    name: String,
-    value: String,
-) -> Result<bool, AllocError>
-    ensures stood { IfOk result (λ stood. stood ≡ is_some (value_of (string_bytes name) (texts_of values.old))) }
-    ensures entered { OnOk result (texts_of values.new ≡ put (texts_of values.old) (string_bytes name, string_bytes value)) }
+// Whether some name stands twice.
+fn any_twice(alloc: Global, pairs: &[(String, String)]) -> Result<bool, AllocError>
+    ensures ok { IfOk result (λ twice. twice ≡ any_twice (names_in (texts_of pairs.now))) }
+    ensures err { IfErr result (λ _. 0 < length pairs.now) }
 {
-    Ok(values.insert(name, value)?.is_some())
+    let mut names = BTreeMap::new(alloc);
+    for (name, _) in pairs {
+        if names.insert(name.as_str(), ())?.is_some() {
+            return Ok(true);
+        }
+    }
+    Ok(false)
 }
 
 /// Whether U+FFFD stands in a text: form-decoding puts it where bytes are no UTF-8.

@@ -1,2 +1,3 @@
 pub mod Proof
 pub mod Token
+pub mod TokenLaws

@@ -1,7 +1,7 @@
 // The text of a code or a token, and its digest.
-ghost use Rattle.std.specs.Prelude.{◌≡◌, ℕ, List, Some, IfOk, IfSome, IfNone, string_bytes, take};
+ghost use Rattle.std.specs.Prelude.{◌≡◌, IfOk, string_bytes, take};
 ghost use Rattle.sha2.specs.Sha256.{sha256};
-ghost use Rattle.pkce.specs.Token.{token_text, IsTokenText};
+ghost use Rattle.pkce.specs.Token.{token_text, token_bytes};
 
 use base64::engine::general_purpose::URL_SAFE_NO_PAD;
 use sha2::{Digest, Sha256};
@@ -17,9 +17,7 @@ pub fn token_text(alloc: Global, bytes: &[u8; 32]) -> Result<String, AllocError>
 /// The 32 bytes whose one text this is. `None` for any other text, also where only the unused bits of its last
 /// character differ.
 pub fn read_token(text: &str) -> Option<[u8; 32]>
-    ensures found { IfSome result (IsTokenText text.now) }
-    ensures only { (bytes : List ℕ) → IsTokenText text.now bytes → result ≡ Some bytes }
-    ensures none { IfNone result ((bytes : List ℕ) → ¬ IsTokenText text.now bytes) }
+    ensures { result ≡ token_bytes text.now }
 {
     decoded(text.as_bytes())
 }
@@ -33,8 +31,7 @@ pub fn digest_of(bytes: &[u8; 32]) -> [u8; 32]
 
 // `read_token` at bytes. The decoder takes no text whose last character has other unused bits.
 fn decoded(text: &[u8]) -> Option<[u8; 32]>
-    ensures found { IfSome result (IsTokenText text.now) }
-    ensures none { IfNone result ((bytes : List ℕ) → ¬ IsTokenText text.now bytes) }
+    ensures { result ≡ token_bytes text.now }
 {
     if text.len() != 43 {
         return None;

@@ -4,7 +4,8 @@ use Rattle.std.proofs.lemmas.Iterator.Adapters.{position_from-zero}
 use Rattle.std.proofs.lemmas.Iterator.Search.{position_from_yields_List}
 use Rattle.std.proofs.lemmas.Iterator.{YieldsList-from_slice}
 use Rattle.params.specs.Scope.{place_of}
-use Rattle.params.proofs.Masks.{position_from-texts, is_some-position_from}
+use Rattle.params.specs.ScopeLaws.{is_some-position_from}
+use Rattle.params.proofs.Masks.{position_from-texts}
 use Rattle.params.proofs.catalogue.place_of.Goals as goal
 
 pub returns : goal.returns

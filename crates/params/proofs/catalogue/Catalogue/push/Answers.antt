@@ -1,7 +1,7 @@
 use Rattle.std.proofs.Common.{◌≡◌, ◌++◌, ◌∷◌, [], ◌∙◌, ap, sym, map, subst, string_bytes, rules, None}
 use Rattle.std.proofs.lemmas.List.{map-append}
 use Rattle.params.specs.Scope.{IsCatalogue, name_fault}
-use Rattle.params.proofs.Masks.{one_more}
+use Rattle.params.specs.ScopeLaws.{IsCatalogue-push}
 use Rattle.params.proofs.catalogue.Catalogue.push.Goals as goal
 
 pub invariant_of-self-2 : goal.invariant_of-self-2
@@ -13,4 +13,4 @@ invariant_of-self-2 c =
     let text : string_bytes c.in_ok-name.name ≡ c.args.name.now = search rules in
     let pushed : map string_bytes c.push.new.self.items ≡ names ++ c.args.name.now ∷ [] =
     ap (λ l. map string_bytes l) items ∙ map-append string_bytes old (c.in_ok-name.name ∷ []) ∙ ap (λ t. names ++ t ∷ []) text in
-    subst IsCatalogue (sym pushed) (one_more names c.args.name.now c.self.invariant fits)
+    subst IsCatalogue (sym pushed) (IsCatalogue-push names c.args.name.now c.self.invariant fits)

@@ -4,8 +4,9 @@ use Rattle.std.specs.Str.Pattern.{FindsChar}
 use Rattle.std.proofs.lemmas.Iterator.Splits.{YieldsList-from_str_split}
 use Rattle.params.specs.Form.{any_twice}
 use Rattle.params.specs.Scope.{place_of, tokens_of}
+use Rattle.params.specs.ScopeLaws.{scope_mask-within}
 use Rattle.params.proofs.Masks.{place-lt}
-use Rattle.params.proofs.Tokens.{scope_after, scope_after-nil, scope_after-cons, scope_after-none, left-some, left-none, mask_within}
+use Rattle.params.proofs.Tokens.{scope_after, scope_after-nil, scope_after-cons, scope_after-none, left-some, left-none}
 use Rattle.params.proofs.catalogue.Catalogue.scope_mask.Goals as goal
 
 pub loop-token-init : goal.loop-token-init
@@ -48,4 +49,4 @@ returns-clause-mask c =
     sym (scope_after-nil c.args.self.now c.loop-token.mask) ∙ ap (λ left. scope_after c.args.self.now c.loop-token.mask left) (sym none) ∙ c.loop-token.invariant.2
 
 pub returns-clause-within : goal.returns-clause-within
-returns-clause-within c = mask_within c.args.self.now c.args.text.now c.loop-token.mask (sym (returns-clause-mask c))
+returns-clause-within c = scope_mask-within c.args.self.now c.args.text.now c.loop-token.mask (sym (returns-clause-mask c))

@@ -1,8 +1,9 @@
-use Rattle.std.proofs.Common.{◌≡◌, ◌∷◌, [], ◌+◌, ◌/◌, ◌<◌, ◌≤◌, ◌∙◌, ap, sym, rules, arith, drop, map, string_bytes, length, get_or, suc, subst, Some, ◌^◌, add-one}
-use Rattle.std.proofs.Math.Seq.{drop-cons}
-use Rattle.std.proofs.lemmas.List.{drop-map, drop_all, length-map}
-use Rattle.params.specs.Scope.{names_of, scope_text, with_name, scope_mask}
-use Rattle.params.proofs.Written.{text_after, text_after-odd, text_after-even, read_back}
+use Rattle.std.proofs.Common.{◌≡◌, ◌+◌, ◌/◌, ◌<◌, ◌≤◌, ◌∙◌, sym, rules, arith, drop, map, string_bytes, length, subst}
+use Rattle.std.proofs.lemmas.List.{length-map}
+use Rattle.params.specs.Scope.{names_of, scope_text, with_name}
+use Rattle.params.specs.ScopeLaws.{length-scope_text}
+use Rattle.params.proofs.Taken.{next_mapped}
+use Rattle.params.proofs.Written.{text_after, text_after-odd, text_after-even, text_after-some, text_after-end, read_back}
 use Rattle.params.proofs.catalogue.Catalogue.scope_text.Goals.{then-left-eq1+in_ok-append_name, else-left-eq1}
 use Rattle.params.proofs.catalogue.Catalogue.scope_text.Goals as goal
 
@@ -12,12 +13,7 @@ loop-name-preserved c =
     let i = c.loop-name.name-index in
     let names = map string_bytes items in
     let name = string_bytes c.name-item.result in
-    let here : c.name-item.result ≡ get_or items i c.name-item.result = search rules in
-    let below : i < length items = search rules in
-    let at : drop i names ≡ name ∷ drop (i + 1) names =
-    drop-map string_bytes i items ∙ ap (λ l. map string_bytes l) (drop-cons items i c.name-item.result below)
-    ∙ ap (λ n. string_bytes n ∷ map string_bytes (drop (suc i) items)) (sym here)
-    ∙ ap (λ l. name ∷ l) (sym (drop-map string_bytes (suc i) items) ∙ ap (λ n. drop n names) (sym (add-one i))) in
+    let at = next_mapped string_bytes items i c.name-item.result (search rules) (search rules) in
     let text = string_bytes c.loop-name.text in
     let left = c.loop-name.left in
     let before : text_after text (names_of (drop i names) left) ≡ scope_text names c.args.mask = search rules in
@@ -32,15 +28,27 @@ loop-name-preserved c =
           subst (λ self. text_after (string_bytes c.if-left-eq1.text) (names_of (drop (i + 1) self) (left / 2)) ≡ scope_text self c.args.mask) c.self.view_is (rw now after)
     ]
 
+pub returns-in_err-append_name-clause-err : goal.returns-in_err-append_name-clause-err
+returns-in_err-append_name-clause-err c =
+    let items = c.self.inside.names.items in
+    let at = next_mapped string_bytes items c.loop-name.name-index c.name-item.result (search rules) (search rules) in
+    let some = text_after-some (string_bytes c.loop-name.text) (map string_bytes items) c.loop-name.name-index c.loop-name.left (string_bytes c.name-item.result) c.self.invariant.scope_names at c.if-left-eq1.true in
+    let whole = rw (← c.self.view_is) at c.loop-name.invariant in
+    let positive : 0 < length (scope_text c.args.self.now c.args.mask) = rw (← c.self.view_is) (subst (λ t. 0 < length t) whole some) in
+    search rules
+
 pub returns-clause-read_back : goal.returns-clause-read_back
 returns-clause-read_back c = λ some fits.
-    let items = c.self.inside.names.items in
-    let names = map string_bytes items in
-    let i = c.loop-name.name-index in
-    let past : length items ≤ i = search rules in
-    let end : drop i names ≡ [] = drop_all i names (omega (arith, length-map items string_bytes, past)) in
-    let before : text_after (string_bytes c.loop-name.text) (names_of (drop i names) c.loop-name.left) ≡ scope_text names c.args.mask = search rules in
-    let text : string_bytes c.loop-name.text ≡ scope_text names c.args.mask = ap (λ l. text_after (string_bytes c.loop-name.text) (names_of l c.loop-name.left)) (sym end) ∙ before in
-    let fits' : c.args.mask < 2 ^ length names = search rules in
-    subst (λ self. scope_mask self (string_bytes c.loop-name.text) ≡ Some c.args.mask) c.self.view_is
-    (ap (λ t. scope_mask names t) text ∙ read_back names c.args.mask c.self.invariant some fits')
+    let names = map string_bytes c.self.inside.names.items in
+    let whole = rw (← c.self.view_is) at c.loop-name.invariant in
+    let past : length names ≤ c.loop-name.name-index = omega (arith, length-map c.self.inside.names.items string_bytes, c.loop-name-test.false, c.deref-name-items.ensures.len) in
+    let text = text_after-end (string_bytes c.loop-name.text) (scope_text names c.args.mask) names c.loop-name.name-index c.loop-name.left past whole in
+    rw text (rw (← c.self.view_is) (read_back names c.args.mask c.self.invariant some (rw (← c.self.view_is) at fits)))
+
+pub returns-clause-short : goal.returns-clause-short
+returns-clause-short c =
+    let names = map string_bytes c.self.inside.names.items in
+    let whole = rw (← c.self.view_is) at c.loop-name.invariant in
+    let past : length names ≤ c.loop-name.name-index = omega (arith, length-map c.self.inside.names.items string_bytes, c.loop-name-test.false, c.deref-name-items.ensures.len) in
+    let text = text_after-end (string_bytes c.loop-name.text) (scope_text names c.args.mask) names c.loop-name.name-index c.loop-name.left past whole in
+    rw text (length-scope_text names c.args.mask c.self.invariant)

@@ -1,10 +1,19 @@
-use Rattle.std.proofs.Common.{◌≡◌, ℕ, List, ap, ◌∙◌, sym, rules, option_map, string_bytes}
-use Rattle.std.specs.Option.{option_copied}
-use Rattle.params.specs.Form.{value_of}
-use Rattle.params.proofs.Named.{value_of-texts}
+use Rattle.std.proofs.Common.{◌≡◌, rules, sym, true, false, string_bytes}
+use Rattle.std.specs.Prelude.{bytes_eq}
+use Rattle.params.proofs.Taken.{next_mapped, value_at}
 use Rattle.params.proofs.params.Params.get.Goals as goal
 
-pub returns : goal.returns
-returns c =
-    let read : option_copied c.map.result ≡ option_map string_bytes (option_copied c.get.result) = search rules in
-    read ∙ ap (λ o. option_map string_bytes o) c.get.ensures.value ∙ sym (value_of-texts c.args.name.now c.self.inside.values.entries) ∙ ap (λ (ps : List (List ℕ × List ℕ)). value_of c.args.name.now ps) c.self.view_is
+pub returns-then-eq : goal.returns-then-eq
+returns-then-eq c =
+    let next = next_mapped (λ p. (string_bytes p.0, string_bytes p.1)) c.self.inside.pairs.items c.loop-known.known-index c.loop-known-item.result (search rules) (search rules) in
+    let test : bytes_eq c.args.name.now (string_bytes c.loop-known-item.result.0) ≡ true = search rules in
+    let so_far = rw (← c.self.view_is) at c.loop-known.invariant in
+    let text : c.as_str-then-eq.result.now ≡ string_bytes c.loop-known-item.result.1 = search rules in
+    rw (← c.self.view_is) (rw text (sym (value_at _ _ _ _ true next so_far test)))
+
+pub loop-known-preserved : goal.loop-known-preserved
+loop-known-preserved c =
+    let next = next_mapped (λ p. (string_bytes p.0, string_bytes p.1)) c.self.inside.pairs.items c.loop-known.known-index c.loop-known-item.result (search rules) (search rules) in
+    let test : bytes_eq c.args.name.now (string_bytes c.loop-known-item.result.0) ≡ false = search rules in
+    let so_far = rw (← c.self.view_is) at c.loop-known.invariant in
+    rw (← c.self.view_is) (value_at _ _ _ _ false next so_far test)

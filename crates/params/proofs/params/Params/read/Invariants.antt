@@ -1,8 +1,12 @@
-use Rattle.std.proofs.Common.{◌≡◌}
+use Rattle.std.proofs.Common.{◌≡◌, ◌++◌, ◌+◌, ◌≤◌, length, false}
+use Rattle.std.specs.List.{list_any}
+use Rattle.form_urlencoded.specs.Form.{raw_pairs}
 use Rattle.form_urlencoded.specs.Parse.{pairs_left}
-use Rattle.params.specs.Form.{sent, pairs, params_of, texts_of}
-use Rattle.params.proofs.Reading.{after}
+use Rattle.params.specs.Form.{sent, pairs, is_damaged, texts_of}
 use Rattle.params.proofs.params.Params.read.Given as goal
 
 abbrev pub invariant-loop-pair : goal.invariant-loop-pair
-invariant-loop-pair l = after l.twice (texts_of l.values) (sent (pairs_left l.pair-iterator)) ≡ params_of (pairs l.fn.input)
+invariant-loop-pair l =
+    (texts_of l.pairs.items ++ sent (pairs_left l.pair-iterator) ≡ pairs l.fn.input)
+    × (list_any is_damaged (texts_of l.pairs.items) ≡ false)
+    × (length l.pairs.items + length (pairs_left l.pair-iterator) ≤ length (raw_pairs l.fn.input))

@@ -1,0 +1,34 @@
+-- What holds of every registry that was read.
+use Rattle.std.specs.Prelude.{◌≡◌, ◌<◌, ◌≤◌, ◌^◌, ℕ, List, length, true, false, All}
+use Rattle.std.specs.List.{list_all}
+use Rattle.params.specs.Form.{any_twice}
+use Rattle.params.specs.Scope.{IsCatalogue}
+use Rattle.clients.specs.Limits.{life_limit}
+use Rattle.clients.specs.Texts.{is_identifier, is_key}
+use Rattle.clients.specs.Redirect.{is_redirect}
+use Rattle.clients.specs.Clients.{ids}
+use Rattle.clients.specs.ClientRecord.{ClientRecord}
+use Rattle.clients.specs.RegistryRecord.{RegistryRecord}
+
+-- a client's identifier, secret and redirect URIs are such
+pub record IsClient (client : ClientRecord) : Type 0 where
+  pub id : is_identifier client.id ≡ true
+  pub secret : is_key client.secret ≡ true
+  pub redirects : list_all is_redirect client.redirects ≡ true
+
+-- and what it may be allowed are names of these
+pub record IsClientOf (scopes : List (List ℕ)) (client : ClientRecord) : Type 0 where
+  pub is_client : IsClient client
+  pub allowed : (0 < client.allowed) × (client.allowed < 2 ^ length scopes)
+
+-- 1 to 31,536,000 seconds
+abbrev pub IsLife : ℕ → Type 0
+IsLife life = (1 ≤ life) × (life ≤ life_limit)
+
+-- lives within their limits, a catalogue, clients whose scopes are of it, and no two clients of one identifier
+pub record IsRegistry (rules : RegistryRecord) : Type 0 where
+  pub access_life : IsLife rules.access_life
+  pub refresh_life : IsLife rules.refresh_life
+  pub scopes : IsCatalogue rules.scopes
+  pub clients : All (IsClientOf rules.scopes) rules.clients
+  pub distinct : any_twice (ids rules.clients) ≡ false

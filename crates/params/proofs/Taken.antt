@@ -1,0 +1,40 @@
+-- The items of a list one by one, and parameters and names among them.
+use Rattle.std.proofs.Common.{◌≡◌, ◌<◌, ℕ, ◌+◌, add-one, suc, List, [], ◌∷◌, ◌++◌, length, drop, get_or, map, Bool, true, false, ◌||◌, cond, refl, sym, ap, ◌∙◌, Option, Some, is_some}
+use Rattle.std.specs.Prelude.{bytes_eq}
+use Rattle.std.specs.List.{list_any}
+use Rattle.std.proofs.Math.Seq.{drop-cons}
+use Rattle.std.proofs.lemmas.Bool.{or_left, or_right}
+use Rattle.std.proofs.lemmas.List.{drop-map}
+use Rattle.std.proofs.lemmas.List.Folds.{list_any-append}
+use Rattle.params.specs.Form.{value_of}
+use Rattle.params.specs.FormLaws.{bytes_eq-sym}
+
+-- the next item of a list, and of what it is mapped to
+module _ {X : Type 0} where
+  pub next_item : (xs : List X) (i : ℕ) (x : X) → x ≡ get_or xs i x → i < length xs → drop i xs ≡ x ∷ drop (i + 1) xs
+  next_item xs i x is within = rw (add-one) (drop-cons xs i x within ∙ ap (λ y. y ∷ drop (suc i) xs) (sym is))
+
+  pub next_mapped : {Y : Type 0} (f : X → Y) (xs : List X) (i : ℕ) (x : X) → x ≡ get_or xs i x → i < length xs
+      → drop i (map f xs) ≡ f x ∷ drop (i + 1) (map f xs)
+  next_mapped f xs i x is within =
+      drop-map f i xs ∙ ap (λ l. map f l) (next_item xs i x is within) ∙ ap (λ l. f x ∷ l) (sym (drop-map f (i + 1) xs))
+
+-- the value of a name, looked up from the next parameter on
+pub value_at : (name : List ℕ) (params : List (List ℕ × List ℕ)) (i : ℕ) (p : List ℕ × List ℕ) (b : Bool)
+    → drop i params ≡ p ∷ drop (i + 1) params → value_of name params ≡ value_of name (drop i params) → bytes_eq name p.0 ≡ b
+    → value_of name params ≡ cond b (Some p.1) (value_of name (drop (i + 1) params))
+value_at name params i p b next so_far test =
+    so_far ∙ ap (λ ps. value_of name ps) next ∙ ap (λ t. cond t (Some p.1) (value_of name (drop (i + 1) params))) test
+
+-- a name is among those taken, and then among those with one more
+pub taken_with : {X : Type 0} (q name : List ℕ) (taken : List (List ℕ)) (o : Option X) (w : X) → is_some o ≡ list_any (bytes_eq q) taken
+    → is_some (cond (bytes_eq name q) (Some w) o) ≡ list_any (bytes_eq q) (taken ++ name ∷ [])
+taken_with q name taken o w so_far = by (bytes_eq name q) refl
+  where
+    or_none : (a : Bool) → (a || false) ≡ a
+    or_none true = refl
+    or_none false = refl
+
+    by : (b : Bool) → bytes_eq name q ≡ b → is_some (cond b (Some w) o) ≡ list_any (bytes_eq q) (taken ++ name ∷ [])
+    by true e = sym (list_any-append (bytes_eq q) taken (name ∷ []) ∙ or_right _ _ (or_left _ _ (bytes_eq-sym q name ∙ e)))
+    by false e = so_far ∙ sym (list_any-append (bytes_eq q) taken (name ∷ []) ∙ rw (bytes_eq-sym q name, e) (or_none _))
