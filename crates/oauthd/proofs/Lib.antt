@@ -1,4 +1,2 @@
 mod HexReading
 mod Lists
-mod Memory
-mod Telling

@@ -10,9 +10,11 @@ use Rattle.oauthd.specs.declared.judge.Judged.{Judged}
 use Rattle.oauthd.specs.declared.judge.JudgeFault.{JudgeFault}
 use Rattle.oauthd.specs.declared.judge.JudgeFault.TheVariants as judge
 use Rattle.oauthd.specs.declared.fault.PerformFault.{PerformFault}
-use Rattle.oauthd.specs.declared.fault.PerformFault.TheVariants.{BadArguments, BadRecord, Insn, Verify, Stuck, OutOfMemory}
+use Rattle.oauthd.specs.declared.fault.PerformFault.TheVariants.{BadArguments, BadRecord, Insn, Verify, OutOfMemory}
 use Rattle.oauthd.specs.Assembly.{IsAssembledAs}
 use Rattle.oauthd.specs.File.{File, IsCheckedOn, IsListedAs}
+use Rattle.oauthd.specs.declared.commands.help.TheConstants.{PAGE, VERSION}
+use Rattle.oauthd.specs.Help.{IsExplained, IsPage}
 use Rattle.oauthd.specs.HexText.{IsHexOf, IsNoHex}
 use Rattle.oauthd.specs.Judge.{IsJudged}
 use Rattle.oauthd.specs.Words.{IsCommand, IsNoCommand, Words}
@@ -34,7 +36,6 @@ IsRunOn code_hex record_hex (Err BadRecord) =
     ((code : List ℕ) × IsHexOf code_hex code × IsNoHex record_hex) ⊎ IsJudgedText code_hex record_hex (Err judge.BadRecord)
 IsRunOn code_hex record_hex (Err (Insn fault)) = (fault ≢ insn.Memory) × IsJudgedText code_hex record_hex (Err (judge.Insn fault))
 IsRunOn code_hex record_hex (Err (Verify fault)) = (fault ≢ verify.Memory) × IsJudgedText code_hex record_hex (Err (judge.Verify fault))
-IsRunOn code_hex record_hex (Err (Stuck slot)) = IsJudgedText code_hex record_hex (Err (judge.Stuck slot))
 IsRunOn code_hex record_hex (Err OutOfMemory) = ⊤
 IsRunOn code_hex record_hex (Err fault) = ⊥
 
@@ -44,6 +45,9 @@ IsAnsweredBy (commands.Run code_hex record_hex) file outcome = IsRunOn code_hex.
 IsAnsweredBy (commands.Assemble path) file outcome = IsAssembledAs path.now file outcome
 IsAnsweredBy (commands.List path) file outcome = IsListedAs path.now file outcome
 IsAnsweredBy (commands.Check layout path) file outcome = IsCheckedOn layout path.now file outcome
+IsAnsweredBy (commands.Help word) file outcome = IsPage PAGE.now outcome
+IsAnsweredBy (commands.Explain name) file outcome = IsExplained name.now outcome
+IsAnsweredBy commands.Version file outcome = IsPage VERSION.now outcome
 
 -- what words are answered: those of a command as it answers, and others as bad arguments
 abbrev pub IsAnswered : Words → File → Result Answer PerformFault → Type 0

@@ -7,7 +7,7 @@ use Rattle.insn.specs.Spelling.{Spells}
 use Rattle.insn.specs.Text.{Text}
 use Rattle.assembler.specs.declared.fault.AsmFault.{AsmFault}
 use Rattle.assembler.specs.declared.fault.AsmFault.TheVariants as asm
-use Rattle.assembler.specs.Faults.{FirstFault}
+use Rattle.assembler.specs.Faults.{FirstTextFault}
 use Rattle.oauthd.specs.declared.answer.Answer.{Answer}
 use Rattle.oauthd.specs.declared.answer.Answer.TheVariants as answers
 use Rattle.oauthd.specs.declared.fault.PerformFault.{PerformFault}
@@ -37,7 +37,7 @@ pub record IsAssembled (file : File) (hex : List ℕ) : Type 0 where
 pub record HasTextFault (file : File) (fault : AsmFault) : Type 0 where
   pub text : List ℕ
   pub held : HoldsText file text
-  pub first : FirstFault text fault
+  pub first : FirstTextFault text fault
 
 -- why the text of a file says no program, where it is one
 abbrev pub SaysNoProgram : File → PerformFault → Type 0

@@ -5,10 +5,8 @@ use Rattle.insn.specs.declared.verify_fault.VerifyFault.{VerifyFault}
 use Rattle.insn.specs.declared.verify_fault.VerifyFault.TheVariants as verify
 use Rattle.assembler.specs.declared.fault.AsmFault.{AsmFault}
 use Rattle.assembler.specs.declared.fault.AsmFault.TheVariants as asm
-use Rattle.oauthd.specs.declared.judge.JudgeFault.{JudgeFault}
-use Rattle.oauthd.specs.declared.judge.JudgeFault.TheVariants as judge
 use Rattle.oauthd.specs.declared.fault.PerformFault.{PerformFault}
-use Rattle.oauthd.specs.declared.fault.PerformFault.TheVariants.{BadRecord, Text, Insn, Verify, Stuck, OutOfMemory}
+use Rattle.oauthd.specs.declared.fault.PerformFault.TheVariants.{Text, Insn, Verify, OutOfMemory}
 
 abbrev pub of_decoding : InsnFault → PerformFault
 of_decoding insn.Memory = OutOfMemory
@@ -21,9 +19,3 @@ of_verifying fault = Verify fault
 abbrev pub of_assembling : AsmFault → PerformFault
 of_assembling asm.Memory = OutOfMemory
 of_assembling fault = Text fault
-
-abbrev pub of_judging : JudgeFault → PerformFault
-of_judging judge.BadRecord = BadRecord
-of_judging (judge.Insn fault) = of_decoding fault
-of_judging (judge.Verify fault) = of_verifying fault
-of_judging (judge.Stuck slot) = Stuck slot

@@ -7,14 +7,15 @@ use Rattle.insn.specs.declared.fault.InsnFault.{InsnFault}
 use Rattle.insn.specs.declared.fault.InsnFault.TheVariants as insn
 use Rattle.insn.specs.declared.verify_fault.VerifyFault.{VerifyFault}
 use Rattle.insn.specs.declared.verify_fault.VerifyFault.TheVariants as verify
-use Rattle.insn.specs.Faults.{jump_verdict}
-use Rattle.insn.specs.Spelling.{FirstFault, Spells}
+use Rattle.insn.specs.Spelling.{FirstInsnFault, Spells}
 use Rattle.insn.specs.Text.{canonical_text}
 use Rattle.oauthd.specs.declared.answer.Answer.{Answer}
 use Rattle.oauthd.specs.declared.answer.Answer.TheVariants as answers
 use Rattle.oauthd.specs.declared.fault.PerformFault.{PerformFault}
 use Rattle.oauthd.specs.declared.fault.PerformFault.TheVariants as faults
 use Rattle.oauthd.specs.HexText.{IsHexOf, IsNoHex}
+use Rattle.oauthd.specs.Verdict.{IsTaken}
+use Rattle.verifier.specs.Verdicts.{IsVerdict}
 
 abbrev pub File : Type 0
 File = Option (List ℕ)
@@ -29,7 +30,7 @@ pub record HoldsProgram (file : File) (program : List Insn) : Type 0 where
 pub record HoldsFault (file : File) (fault : InsnFault) : Type 0 where
   pub code : List ℕ
   pub hex : IsSomeAnd file (λ text. IsHexOf text code)
-  pub first : FirstFault code fault
+  pub first : FirstInsnFault code fault
 
 -- why the file of a path holds no program: it cannot be read, it is not hex, or its bytes are no program
 abbrev pub HoldsNoProgram : List ℕ → File → PerformFault → Type 0
@@ -55,22 +56,18 @@ IsListedAs path file (Err fault) = HoldsNoProgram path file fault
 
 -- ---- `check` and `check2`
 
--- what is wrong with a program, for records of a version: each version asks that its jumps land, and nothing else
-abbrev pub verdict_on : Layout → List Insn → Option VerifyFault
-verdict_on layout program = jump_verdict program
-
--- the file's program has this many instructions, and is accepted
+-- the file's program has this many instructions, and is accepted for records of a version
 pub record IsAcceptedOn (layout : Layout) (file : File) (count : ℕ) : Type 0 where
   pub program : List Insn
   pub held : HoldsProgram file program
-  pub accepted : verdict_on layout program ≡ None
+  pub taken : IsTaken layout program
   pub counted : count ≡ length program
 
--- the file's program is not accepted: this is its fault
+-- the file's program is not accepted for records of a version: this is its fault
 pub record IsRefusedOn (layout : Layout) (file : File) (fault : VerifyFault) : Type 0 where
   pub program : List Insn
   pub held : HoldsProgram file program
-  pub refused : verdict_on layout program ≡ Some fault
+  pub refused : IsVerdict layout program fault
 
 -- why the program of a file is not accepted, where it holds one
 abbrev pub IsNotAccepted : Layout → File → PerformFault → Type 0

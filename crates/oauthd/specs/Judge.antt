@@ -5,10 +5,9 @@ use Rattle.insn.specs.declared.instruction.Insn.{Insn}
 use Rattle.insn.specs.declared.fault.InsnFault.{InsnFault}
 use Rattle.insn.specs.declared.verify_fault.VerifyFault.{VerifyFault}
 use Rattle.insn.specs.declared.layout.Layout.TheVariants.{V1, V2}
-use Rattle.insn.specs.Faults.{jump_verdict}
 use Rattle.insn.specs.FaultTexts.{at_slot, insn_fault_text, verify_fault_text}
-use Rattle.insn.specs.Spelling.{FirstFault, Spells}
-use Rattle.insn.specs.Step.{IsExit, IsStuck}
+use Rattle.insn.specs.Spelling.{FirstInsnFault, Spells}
+use Rattle.insn.specs.Step.{IsExit}
 use Rattle.insn.specs.Values.{record_size}
 use Rattle.hook_record.specs.Narrowing.{narrowed}
 use Rattle.hook_record.specs.Record.{ask_in_v1, ask_in_v2}
@@ -16,6 +15,7 @@ use Rattle.oauthd.specs.declared.judge.Asked.{Asked}
 use Rattle.oauthd.specs.declared.judge.Judged.{Judged}
 use Rattle.oauthd.specs.declared.judge.JudgeFault.{JudgeFault}
 use Rattle.oauthd.specs.declared.judge.JudgeFault.TheVariants as faults
+use Rattle.oauthd.specs.Verdict.{IsTaken, IsTurnedAway}
 
 -- what a record asks, of the version that its length says
 abbrev pub asked_in : List ℕ → Option Asked
@@ -34,42 +34,37 @@ pub record IsAnswer (program : List Insn) (asked : Asked) (bytes : List ℕ) (ju
   pub exit : IsExit asked.layout program bytes judged.r0 judged.steps after
   pub answer : judged.answer ≡ narrowed asked.ask judged.r0 (first_fields after)
 
--- a program's run on a record exits or is stuck
-abbrev pub IsRun : List Insn → Asked → List ℕ → Result Judged JudgeFault → Type 0
-IsRun program asked bytes (Ok judged) = IsAnswer program asked bytes judged
-IsRun program asked bytes (Err (faults.Stuck slot)) = (after : List ℕ) × IsStuck asked.layout program bytes slot after
-IsRun program asked bytes (Err fault) = ⊥
-
--- the code spells a program that is accepted, the record asks something of it, and its run there ends so
-pub record IsAccepted (code bytes : List ℕ) (outcome : Result Judged JudgeFault) : Type 0 where
+-- the record asks something, and the code spells a program that is accepted for its version, whose run there exits so
+pub record IsAccepted (code bytes : List ℕ) (judged : Judged) : Type 0 where
   pub program : List Insn
   pub asked : Asked
   pub asks : asked_in bytes ≡ Some asked
   pub spelled : Spells code program
-  pub accepted : jump_verdict program ≡ None
-  pub run : IsRun program asked bytes outcome
+  pub taken : IsTaken asked.layout program
+  pub run : IsAnswer program asked bytes judged
 
 -- the record asks something, and the code is no program: this is its first fault
 pub record IsNoProgram (code bytes : List ℕ) (fault : InsnFault) : Type 0 where
   pub asked : Asked
   pub asks : asked_in bytes ≡ Some asked
-  pub first : FirstFault code fault
+  pub first : FirstInsnFault code fault
 
--- the record asks something, and the code spells a program that is not accepted
+-- the record asks something, and the code spells a program that is not accepted for its version
 pub record IsRefused (code bytes : List ℕ) (fault : VerifyFault) : Type 0 where
   pub program : List Insn
   pub asked : Asked
   pub asks : asked_in bytes ≡ Some asked
   pub spelled : Spells code program
-  pub refused : jump_verdict program ≡ Some fault
+  pub refused : IsTurnedAway asked.layout program fault
 
--- how the code of a hook and a record are judged: first the record is looked at, then the code, then its program
+-- how the code of a hook and a record are judged: first the record is looked at, then the code, then its program, whose
+-- run is never stuck
 abbrev pub IsJudged : List ℕ → List ℕ → Result Judged JudgeFault → Type 0
-IsJudged code bytes (Ok judged) = IsAccepted code bytes (Ok judged)
+IsJudged code bytes (Ok judged) = IsAccepted code bytes judged
 IsJudged code bytes (Err faults.BadRecord) = asked_in bytes ≡ None
 IsJudged code bytes (Err (faults.Insn fault)) = IsNoProgram code bytes fault
 IsJudged code bytes (Err (faults.Verify fault)) = IsRefused code bytes fault
-IsJudged code bytes (Err (faults.Stuck slot)) = IsAccepted code bytes (Err (faults.Stuck slot))
+IsJudged code bytes (Err (faults.Stuck slot)) = ⊥
 
 abbrev pub judge_fault_text : JudgeFault → List ℕ
 judge_fault_text faults.BadRecord = codes "BadRecord"

@@ -2,9 +2,11 @@ pub mod Answers
 pub mod Assembly
 pub mod Faults
 pub mod File
+pub mod Help
 pub mod HexText
 pub mod Judge
 pub mod Performed
 pub mod Printed
 pub mod Statuses
+pub mod Verdict
 pub mod Words

@@ -12,7 +12,7 @@ use Rattle.oauthd.specs.declared.judge.Judged.{Judged}
 use Rattle.oauthd.specs.declared.answer.Answer.{Answer}
 use Rattle.oauthd.specs.declared.answer.Answer.TheVariants as answers
 use Rattle.oauthd.specs.declared.fault.PerformFault.{PerformFault}
-use Rattle.oauthd.specs.declared.fault.PerformFault.TheVariants.{BadArguments, BadRecord, CannotRead, Text, Insn, Verify, Stuck, OutOfMemory, CannotWrite}
+use Rattle.oauthd.specs.declared.fault.PerformFault.TheVariants.{BadArguments, BadRecord, CannotRead, Text, Insn, Verify, OutOfMemory, CannotWrite}
 
 -- what is left of a grant, in words
 abbrev pub narrowed_text : Narrowed → List ℕ
@@ -30,6 +30,7 @@ answer_text (answers.Judged judged) = judged_text judged ++ codes "\n"
 answer_text (answers.Code hex) = string_bytes hex ++ codes "\n"
 answer_text (answers.Listing text) = string_bytes text
 answer_text (answers.Accepted count) = codes "accepted " ++ decimal count ++ codes "\n"
+answer_text (answers.Page text) = text.now
 
 -- a text's fault, behind its line where it has one
 abbrev pub located_text : AsmFault → List ℕ
@@ -42,7 +43,6 @@ fault_text (CannotRead path) = codes "cannot read " ++ path.now
 fault_text (Text fault) = located_text fault
 fault_text (Insn fault) = codes "Insn " ++ insn_fault_text fault
 fault_text (Verify fault) = codes "Verify " ++ verify_fault_text fault
-fault_text (Stuck slot) = codes "stuck " ++ decimal slot
 fault_text OutOfMemory = codes "out of memory"
 fault_text CannotWrite = codes "cannot write"
 

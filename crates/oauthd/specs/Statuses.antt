@@ -3,7 +3,7 @@ use Rattle.std.specs.Prelude.{ℕ, Option, None, Result, Ok, Err}
 use Rattle.std.specs.declared.io.ErrorKind.{ErrorKind}
 use Rattle.std.specs.declared.io.ErrorKind.TheVariants as kinds
 use Rattle.oauthd.specs.declared.fault.PerformFault.{PerformFault}
-use Rattle.oauthd.specs.declared.fault.PerformFault.TheVariants.{BadArguments, BadRecord, CannotRead, Text, Insn, Verify, Stuck, OutOfMemory, CannotWrite}
+use Rattle.oauthd.specs.declared.fault.PerformFault.TheVariants.{BadArguments, BadRecord, CannotRead, Text, Insn, Verify, OutOfMemory, CannotWrite}
 use Rattle.oauthd.specs.declared.fault.Status.{Status}
 use Rattle.oauthd.specs.declared.fault.Status.TheVariants.{Done, Refused, BadUse, NoMemory}
 
@@ -22,7 +22,6 @@ status_of (CannotRead path) = BadUse
 status_of (Text fault) = Refused
 status_of (Insn fault) = Refused
 status_of (Verify fault) = Refused
-status_of (Stuck slot) = Refused
 status_of OutOfMemory = NoMemory
 status_of CannotWrite = BadUse
 

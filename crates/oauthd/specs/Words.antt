@@ -5,6 +5,7 @@ use Rattle.std.specs.declared.alloc.Global.{Global}
 use Rattle.insn.specs.declared.layout.Layout.TheVariants.{V1, V2}
 use Rattle.oauthd.specs.declared.command.Command.{Command}
 use Rattle.oauthd.specs.declared.command.Command.TheVariants as commands
+use Rattle.oauthd.specs.declared.command.HelpWord.TheVariants.{Help, Long, Short}
 
 -- the words behind the program's name
 abbrev pub Words : Type 0
@@ -17,6 +18,11 @@ words_of (commands.Assemble path) = codes "asm" ∷ path.now ∷ []
 words_of (commands.List path) = codes "list" ∷ path.now ∷ []
 words_of (commands.Check V1 path) = codes "check" ∷ path.now ∷ []
 words_of (commands.Check V2 path) = codes "check2" ∷ path.now ∷ []
+words_of (commands.Help Help) = codes "help" ∷ []
+words_of (commands.Help Long) = codes "--help" ∷ []
+words_of (commands.Help Short) = codes "-h" ∷ []
+words_of (commands.Explain name) = codes "help" ∷ name.now ∷ []
+words_of commands.Version = codes "--version" ∷ []
 
 abbrev pub IsCommand : Words → Command → Type 0
 IsCommand words command = map string_bytes words ≡ words_of command
@@ -30,3 +36,6 @@ file_named_by (commands.Run code_hex record_hex) = None
 file_named_by (commands.Assemble path) = Some path.now
 file_named_by (commands.List path) = Some path.now
 file_named_by (commands.Check layout path) = Some path.now
+file_named_by (commands.Help word) = None
+file_named_by (commands.Explain name) = None
+file_named_by commands.Version = None

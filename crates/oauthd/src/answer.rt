@@ -18,6 +18,8 @@ pub enum Answer {
     Listing(String),
     /// How many instructions a program has that is accepted.
     Accepted(usize),
+    /// A text of the program's own.
+    Page(&'static str),
 }
 
 impl Display for Answer {
@@ -29,6 +31,7 @@ impl Display for Answer {
             Answer::Code(hex) => writeln!(f, "{hex}"),
             Answer::Listing(text) => write!(f, "{text}"),
             Answer::Accepted(insns) => writeln!(f, "accepted {insns}"),
+            Answer::Page(text) => write!(f, "{text}"),
         }
     }
 }

@@ -2,17 +2,29 @@
 
 ghost use Rattle.std.specs.Prelude.{◌≡◌, ◌≢◌, [], ◌∷◌, IfSome, IfNone};
 ghost use Rattle.std.specs.Option.{option_copied};
-ghost use Rattle.oauthd.specs.Answers.{IsAnswered, IsAnsweredBy, IsRunOn};
+ghost use Rattle.oauthd.specs.Answers.{IsAnswered, IsAnsweredBy};
 ghost use Rattle.oauthd.specs.Words.{file_named_by, words_of, IsCommand, IsNoCommand};
 
 use crate::answer::Answer;
-use crate::assembly::assembled;
+use crate::commands::asm::assembled;
+use crate::commands::check::check;
+use crate::commands::help::{PAGE, TOPICS, VERSION, explained};
+use crate::commands::list::listing;
+use crate::commands::run::run;
 use crate::fault::PerformFault;
-use crate::file::{check, listing};
-use crate::hex_text::bytes_of_hex;
-use crate::judge::judge;
 use insn::layout::Layout;
 use std::alloc::Global;
+
+/// The words that ask for the page of commands.
+#[derive(Clone, Copy, Debug)]
+pub enum HelpWord {
+    /// `help`.
+    Help,
+    /// `--help`.
+    Long,
+    /// `-h`.
+    Short,
+}
 
 /// A command, with what its words give it.
 #[derive(Clone, Copy, Debug)]
@@ -36,24 +48,47 @@ pub enum Command<'w> {
         layout: Layout,
         path: &'w str,
     },
+    /// `help`, `--help` and `-h`: the commands.
+    Help(HelpWord),
+    /// `help NAME`: what a command or a fault means.
+    Explain {
+        name: &'w str,
+    },
+    /// `--version`: the version of the program.
+    Version,
+}
+
+/// The command that one word names.
+fn alone<'w>(name: &str) -> Option<Command<'w>>
+    ensures named { IfSome result (λ command. words_of command ≡ name.now ∷ []) }
+    ensures none { IfNone result ((command : Command) → words_of command ≢ name.now ∷ []) }
+{
+    match name {
+        "help" => Some(Command::Help(HelpWord::Help)),
+        "--help" => Some(Command::Help(HelpWord::Long)),
+        "-h" => Some(Command::Help(HelpWord::Short)),
+        "--version" => Some(Command::Version),
+        _ => None,
+    }
 }
 
 /// The command that two words name.
-fn on_file<'w>(name: &str, path: &'w str) -> Option<Command<'w>>
-    ensures named { IfSome result (λ command. words_of command ≡ name.now ∷ path.now ∷ []) }
-    ensures none { IfNone result ((command : Command) → words_of command ≢ name.now ∷ path.now ∷ []) }
+fn with_word<'w>(name: &str, word: &'w str) -> Option<Command<'w>>
+    ensures named { IfSome result (λ command. words_of command ≡ name.now ∷ word.now ∷ []) }
+    ensures none { IfNone result ((command : Command) → words_of command ≢ name.now ∷ word.now ∷ []) }
 {
     match name {
-        "asm" => Some(Command::Assemble { path }),
-        "list" => Some(Command::List { path }),
+        "asm" => Some(Command::Assemble { path: word }),
+        "list" => Some(Command::List { path: word }),
         "check" => Some(Command::Check {
             layout: Layout::V1,
-            path,
+            path: word,
         }),
         "check2" => Some(Command::Check {
             layout: Layout::V2,
-            path,
+            path: word,
         }),
+        "help" => Some(Command::Explain { name: word }),
         _ => None,
     }
 }
@@ -69,7 +104,8 @@ impl<'w> Command<'w> {
                 code_hex: code_hex.as_str(),
                 record_hex: record_hex.as_str(),
             }),
-            [name, path] => on_file(name.as_str(), path.as_str()),
+            [name] => alone(name.as_str()),
+            [name, word] => with_word(name.as_str(), word.as_str()),
             _ => None,
         }
     }
@@ -83,6 +119,7 @@ impl<'w> Command<'w> {
             Command::Assemble { path } => Some(path),
             Command::List { path } => Some(path),
             Command::Check { path, .. } => Some(path),
+            Command::Help(_) | Command::Explain { .. } | Command::Version => None,
         }
     }
 
@@ -98,23 +135,10 @@ impl<'w> Command<'w> {
             Command::Assemble { path } => assembled(alloc, path, file),
             Command::List { path } => listing(alloc, path, file),
             Command::Check { layout, path } => check(alloc, layout, path, file),
+            Command::Help(_) => Ok(Answer::Page(PAGE)),
+            Command::Explain { name } => explained(&TOPICS, name),
+            Command::Version => Ok(Answer::Page(VERSION)),
         }
-    }
-}
-
-/// What the hook of some code answers to a record, both as hex text. The code's text is tested first.
-fn run(alloc: Global, code_hex: &str, record_hex: &str) -> Result<Answer, PerformFault<'static>>
-    ensures { IsRunOn code_hex.now record_hex.now result }
-{
-    let Some(code) = bytes_of_hex(alloc, code_hex.as_bytes())? else {
-        return Err(PerformFault::BadArguments);
-    };
-    let Some(record) = bytes_of_hex(alloc, record_hex.as_bytes())? else {
-        return Err(PerformFault::BadRecord);
-    };
-    match judge(alloc, &code, &record) {
-        Ok(judged) => Ok(Answer::Judged(judged)),
-        Err(fault) => Err(PerformFault::from(fault)),
     }
 }
 

@@ -2,11 +2,10 @@
 
 ghost use Rattle.std.specs.Prelude.{◌≡◌, Some};
 ghost use Rattle.oauthd.specs.Statuses.{code_of, status_of};
-ghost use Rattle.oauthd.specs.Faults.{of_assembling, of_decoding, of_judging, of_verifying};
+ghost use Rattle.oauthd.specs.Faults.{of_assembling, of_decoding, of_verifying};
 ghost use Rattle.oauthd.specs.Printed.{fault_text, located_text};
 ghost use Rattle.oauthd.specs.declared.fault.PerformFault.TheVariants.{OutOfMemory};
 
-use crate::judge::JudgeFault;
 use assembler::AsmFault;
 use insn::fault::InsnFault;
 use insn::verify_fault::VerifyFault;
@@ -50,8 +49,6 @@ pub enum PerformFault<'w> {
     Insn(InsnFault),
     /// The program is not accepted.
     Verify(VerifyFault),
-    /// The program's run is stuck at this slot.
-    Stuck(usize),
     /// Memory was refused.
     OutOfMemory,
     /// The answer could not be written.
@@ -64,10 +61,8 @@ impl<'w> PerformFault<'w> {
         ensures { result ≡ status_of self.entry }
     {
         match self {
-            PerformFault::Text(_)
-            | PerformFault::Insn(_)
-            | PerformFault::Verify(_)
-            | PerformFault::Stuck(_) => Status::Refused,
+            PerformFault::Text(_) | PerformFault::Insn(_) | PerformFault::Verify(_) =>
+                Status::Refused,
             PerformFault::BadArguments
             | PerformFault::BadRecord
             | PerformFault::CannotRead(_)
@@ -88,7 +83,6 @@ impl<'w> Display for PerformFault<'w> {
             PerformFault::Text(fault) => write!(f, "{}", Located(*fault)),
             PerformFault::Insn(fault) => write!(f, "Insn {fault}"),
             PerformFault::Verify(fault) => write!(f, "Verify {fault}"),
-            PerformFault::Stuck(slot) => write!(f, "stuck {slot}"),
             PerformFault::OutOfMemory => write!(f, "out of memory"),
             PerformFault::CannotWrite => write!(f, "cannot write"),
         }
@@ -107,19 +101,6 @@ impl Display for Located {
         match self.0.line() {
             Some(line) => write!(f, "line {line}: {name}"),
             None => write!(f, "{name}"),
-        }
-    }
-}
-
-impl<'w> From<JudgeFault> for PerformFault<'w> {
-    ghost from_gives = { λ fault f. f ≡ of_judging fault };
-
-    fn from(fault: JudgeFault) -> PerformFault<'w> {
-        match fault {
-            JudgeFault::BadRecord => PerformFault::BadRecord,
-            JudgeFault::Insn(fault) => PerformFault::from(fault),
-            JudgeFault::Verify(fault) => PerformFault::from(fault),
-            JudgeFault::Stuck(slot) => PerformFault::Stuck(slot),
         }
     }
 }

@@ -1,19 +1,18 @@
 //! What a hook answers to a record: its bytes are decoded, verified and run, and what the run leaves narrows the grant.
 
-ghost use Rattle.std.specs.Prelude.{◌≡◌, length, Some, IfSome};
+ghost use Rattle.std.specs.Prelude.{◌≡◌, ◌≢◌, ℕ, length, Some, IfSome, Err};
 ghost use Rattle.insn.specs.Values.{record_size};
-ghost use Rattle.oauthd.specs.Judge.{asked_in, judge_fault_text, IsJudged, IsRun};
+ghost use Rattle.oauthd.specs.Judge.{asked_in, judge_fault_text, IsAnswer, IsJudged};
 
+use flat_machine::run;
 use hook_record::{Ask, Narrowed, narrow, read, read_v2};
 use insn::decoding::decode;
 use insn::fault::InsnFault;
 use insn::layout::Layout;
-use insn::program::Program;
 use insn::verify_fault::VerifyFault;
-use machine::run::{Outcome, run_checked};
 use std::alloc::Global;
 use std::fmt::{self, Display, Formatter, Write};
-use verifier::verified::verify;
+use verifier::verified::{Verified, verify};
 
 /// How long the longest record is.
 const LONGEST_RECORD: usize = 96;
@@ -65,9 +64,9 @@ pub enum JudgeFault {
     BadRecord,
     /// The code is no program, or memory was refused.
     Insn(InsnFault),
-    /// The program is not accepted.
+    /// The program is not accepted, or memory was refused.
     Verify(VerifyFault),
-    /// The run is stuck at this slot.
+    /// The run is stuck at this slot. Reserved: the run of an accepted program never is.
     Stuck(usize),
 }
 
@@ -84,27 +83,26 @@ impl Display for JudgeFault {
     }
 }
 
-/// Runs a program on a copy of a record, and narrows what the record asks by what the run leaves.
-fn run_on(program: &Program, asked: &Asked, record_bytes: &[u8]) -> Result<Judged, JudgeFault>
-    requires { length record_bytes.now ≡ record_size asked.now.layout }
-    ensures { IsRun program.now asked.now record_bytes.now result }
+/// Runs a verified program on a copy of a record, and narrows what the record asks by what the run leaves.
+fn run_on(verified: &Verified, asked: &Asked, record_bytes: &[u8]) -> Judged
+    requires fits { verified.now.layout ≡ asked.now.layout }
+    requires long { length record_bytes.now ≡ record_size asked.now.layout }
+    ensures { IsAnswer verified.now.program asked.now record_bytes.now result }
 {
     let mut room = [0; LONGEST_RECORD];
     let bytes = &mut room[..asked.layout.size()];
     bytes.copy_from_slice(record_bytes);
-    match run_checked(program, asked.layout, bytes) {
-        Outcome::Exit(r0, steps) => {
-            let answer = narrow(&asked.ask, r0, bytes.first_chunk().unwrap());
-            Ok(Judged { r0, steps, answer })
-        }
-        Outcome::Stuck(slot) => Err(JudgeFault::Stuck(slot)),
-    }
+    let (r0, steps) = run(verified, bytes);
+    let answer = narrow(&asked.ask, r0, bytes.first_chunk().unwrap());
+    Judged { r0, steps, answer }
 }
 
 /// What the hook of some code answers to a record of 64 or 96 bytes. The record is tested first, then the code is
-/// decoded, then the program is verified, then it is run. Only decoding takes memory.
+/// decoded, then the program is verified for the record's version, then it is run. Only decoding and verifying take
+/// memory.
 pub fn judge(alloc: Global, code: &[u8], record_bytes: &[u8]) -> Result<Judged, JudgeFault>
-    ensures { IsJudged code.now record_bytes.now result }
+    ensures judged { IsJudged code.now record_bytes.now result }
+    ensures never_stuck { (slot : ℕ) → result ≢ Err (JudgeFault.Stuck slot) }
 {
     let Some(asked) = Asked::read(record_bytes) else {
         return Err(JudgeFault::BadRecord);
@@ -113,8 +111,8 @@ pub fn judge(alloc: Global, code: &[u8], record_bytes: &[u8]) -> Result<Judged, 
         Ok(program) => program,
         Err(fault) => return Err(JudgeFault::Insn(fault)),
     };
-    match verify(program, asked.layout) {
-        Ok(verified) => run_on(verified.program(), &asked, record_bytes),
+    match verify(alloc, program, asked.layout) {
+        Ok(verified) => Ok(run_on(&verified, &asked, record_bytes)),
         Err((_, fault)) => Err(JudgeFault::Verify(fault)),
     }
 }

@@ -6,10 +6,9 @@ ghost use Rattle.std.specs.IoError.{error_kind};
 ghost use Rattle.oauthd.specs.Statuses.{unread, words_fault};
 
 mod answer;
-mod assembly;
 mod command;
+mod commands;
 mod fault;
-mod file;
 mod hex_text;
 mod judge;
 mod perform;
@@ -18,7 +17,7 @@ mod tests;
 
 use command::Command;
 use fault::PerformFault;
-use perform::{perform, report};
+use perform::{failed, perform, report};
 use std::io::{self, Error, ErrorKind};
 use std::process::ExitCode;
 use std::rt::{Env, Files};
@@ -81,7 +80,10 @@ fn main(rt: HostRuntime) -> ExitCode {
         Ok(Invocation { words, file }) => {
             perform(rt.alloc(), &words, file.as_deref(), &mut out, &mut err)
         }
-        Err(fault) => report(fault, &mut err).code(),
+        Err(fault) => match report(fault, &mut err) {
+            Ok(status) => status.code(),
+            Err(unwritten) => failed(unwritten, &mut err).code(),
+        },
     };
     ExitCode::from(status)
 }

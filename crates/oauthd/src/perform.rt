@@ -1,22 +1,53 @@
 //! The program without its surroundings: words in, lines and a status out.
 
-ghost use Rattle.std.specs.Prelude.{◌≡◌, ◌≤◌, ◌⊎◌, OnOk, IfSome};
+ghost use Rattle.std.specs.Prelude.{◌≡◌, ◌⊎◌, OnOk, IfOk, IfSome};
 ghost use Rattle.std.specs.Io.KnownBytes.{Appends};
 ghost use Rattle.std.specs.Option.{option_copied};
-ghost use Rattle.oauthd.specs.Performed.{PrintsAnswer, TellsNoMemory, TellsRefusal};
+ghost use Rattle.oauthd.specs.Performed.{PrintsAnswer, TellsFault};
 ghost use Rattle.oauthd.specs.Printed.{answer_text, told_text};
 ghost use Rattle.oauthd.specs.Statuses.{code_of, status_of};
+ghost use Rattle.oauthd.specs.declared.fault.Status.{Status};
 
-use crate::answer::Answer;
 use crate::command::answer;
 use crate::fault::{PerformFault, Status};
 use std::alloc::Global;
 use std::fmt::Display;
 use std::io::{self, Write};
 
-/// Carries out the command that words name, and gives the program's exit status. `words` are those behind the
-/// program's name; `file` is what stands in the file that they name, and `None` where that cannot be read. The answer
-/// goes to `out`, once all of it is known; a fault goes to `err` as one line. A write that fails is bad use.
+/// What could not be written to the end.
+#[derive(Clone, Copy, Debug, PartialEq, Eq)]
+pub enum Unwritten {
+    /// The answer, to standard output.
+    Answer,
+    /// The line of a fault, to standard error.
+    Fault,
+}
+
+/// Carries out the command that words name. `words` are those behind the program's name; `file` is what stands in the
+/// file that they name, and `None` where that cannot be read. The answer goes to `out`, once all of it is known; a
+/// fault goes to `err` as one line.
+pub fn carry_out<W: Write, E: Write>(
+    alloc: Global,
+    words: &[String],
+    file: Option<&[u8]>,
+    out: &mut W,
+    err: &mut E,
+) -> Result<Status, Unwritten>
+    // It is done, and tells no fault; or it tells one, and prints nothing.
+    ensures { IfOk result (λ status.
+        ((err.new ≡ err.old) × PrintsAnswer words.now (option_copied file.entry) status (W.contents out.old) (W.contents out.new))
+        ⊎ ((out.new ≡ out.old) × TellsFault words.now (option_copied file.entry) status (E.contents err.old) (E.contents err.new))) }
+{
+    match answer(alloc, words, file) {
+        Ok(answer) => match write_text(out, answer) {
+            Ok(()) => Ok(Status::Done),
+            Err(_) => Err(Unwritten::Answer),
+        },
+        Err(fault) => report(fault, err),
+    }
+}
+
+/// Carries out the command that words name, and gives the program's exit status. A write that fails is bad use.
 pub fn perform<W: Write, E: Write>(
     alloc: Global,
     words: &[String],
@@ -24,22 +55,28 @@ pub fn perform<W: Write, E: Write>(
     out: &mut W,
     err: &mut E,
 ) -> u8
-    ensures done { result ≡ code_of Status.Done
-        → PrintsAnswer words.now (option_copied file.entry) (W.contents out.old) (W.contents out.new) }
-    ensures refused { result ≡ code_of Status.Refused
-        → TellsRefusal words.now (option_copied file.entry) (E.contents err.old) (E.contents err.new) }
-    ensures no_memory { result ≡ code_of Status.NoMemory
-        → TellsNoMemory words.now (option_copied file.entry) (E.contents err.old) (E.contents err.new) }
-    ensures status { result ≤ code_of Status.NoMemory }
-
-    // A done command tells no fault, and one that is refused prints nothing.
-    ensures no_fault { result ≡ code_of Status.Done → err.new ≡ err.old }
-    ensures no_answer { (result ≡ code_of Status.Refused) ⊎ (result ≡ code_of Status.NoMemory) → out.new ≡ out.old }
+    // Status 2 may be that of a write that failed, and all others are those of a command that was carried out.
+    ensures { (result ≡ code_of Status.BadUse) ⊎ ((status : Status) × (result ≡ code_of status)
+        × (((err.new ≡ err.old) × PrintsAnswer words.now (option_copied file.entry) status (W.contents out.old) (W.contents out.new))
+        ⊎ ((out.new ≡ out.old) × TellsFault words.now (option_copied file.entry) status (E.contents err.old) (E.contents err.new)))) }
 {
-    match answer(alloc, words, file) {
-        Ok(answer) => print(answer, out, err).code(),
-        Err(fault) => report(fault, err).code(),
+    match carry_out(alloc, words, file, out, err) {
+        Ok(status) => status.code(),
+        Err(unwritten) => failed(unwritten, err).code(),
     }
+}
+
+/// Tells of an answer that could not be written; where it was a fault, there is nowhere to tell of it.
+pub fn failed<E: Write>(unwritten: Unwritten, err: &mut E) -> Status
+    ensures { result ≡ Status.BadUse }
+{
+    match unwritten {
+        Unwritten::Answer => {
+            let _ = report(PerformFault::CannotWrite, err);
+        }
+        Unwritten::Fault => {}
+    }
+    Status::BadUse
 }
 
 /// Writes a text, to where it is to go.
@@ -50,25 +87,13 @@ fn write_text<W: Write, D: Display + Drop>(to: &mut W, text: D) -> io::Result<()
     to.flush()
 }
 
-/// Prints an answer.
-fn print<W: Write, E: Write>(answer: Answer, out: &mut W, err: &mut E) -> Status
-    ensures printed { result ≡ Status.Done → Appends (W.contents out.old) (W.contents out.new) (answer_text answer) }
-    ensures no_fault { result ≡ Status.Done → err.new ≡ err.old }
-    ensures status { (result ≡ Status.Done) ⊎ (result ≡ Status.BadUse) }
-{
-    match write_text(out, answer) {
-        Ok(()) => Status::Done,
-        Err(_) => report(PerformFault::CannotWrite, err),
-    }
-}
-
-/// Reports a fault in one line.
-pub fn report<E: Write>(fault: PerformFault<'_>, err: &mut E) -> Status
-    ensures { (result ≡ Status.BadUse)
-        ⊎ ((result ≡ status_of fault.entry) × Appends (E.contents err.old) (E.contents err.new) (told_text fault.entry)) }
+/// Reports a fault in one line, and gives the status that it has.
+pub fn report<E: Write>(fault: PerformFault<'_>, err: &mut E) -> Result<Status, Unwritten>
+    ensures { IfOk result (λ status.
+        (status ≡ status_of fault.entry) × Appends (E.contents err.old) (E.contents err.new) (told_text fault.entry)) }
 {
     match write_text(err, format_args!("oauthd: {fault}\n")) {
-        Ok(()) => fault.status(),
-        Err(_) => PerformFault::CannotWrite.status(),
+        Ok(()) => Ok(fault.status()),
+        Err(_) => Err(Unwritten::Fault),
     }
 }

@@ -1,10 +1,15 @@
 //! Rows of the commands, by `perform` alone.
 
+mod assembly_rows;
+mod c_hooks;
 mod examples;
+mod help_rows;
 mod hooks;
+mod machines;
 mod program;
 mod run;
 mod text;
+mod verdict_rows;
 mod words;
 
 use crate::fault::Status;
@@ -27,7 +32,7 @@ const B: &str =
     "0200000001000000e80300000000000001000000000000000100000000000000030000000000000003000000000000002c01000000000000030000000000000003000000000000002c0100008051010000000000000000000000000000000000";
 
 /// The most bytes that a command writes here.
-const ROOM: usize = 256;
+const ROOM: usize = 4096;
 
 /// What a command wrote.
 type Page = Cursor<[u8; ROOM]>;

@@ -78,18 +78,21 @@ fn pointers_and_jumps(rt: HostRuntime) -> Result<(), Fail> {
     let out = "r0 1\nsteps 4\nallowed 3 300\n";
     assert_run(&rt, bounded, A, done(out))?;
 
+    // It is looked at before it is run, so it is refused on records on which it would exit, too.
     let by_moment = "mov64 r0 1\nldxdw r2 r1 8\njeq64 r2 0 +1\nmov64 r6 5\nmov64 r0 r6\nexit\n";
-    let out = "r0 5\nsteps 6\ndenied\n";
-    assert_run(&rt, by_moment, A, done(out))?;
-    assert_run(&rt, by_moment, AT_ZERO, refused("oauthd: stuck 4\n"))
+    let err = "oauthd: Verify UnsetRegister(4)\n";
+    assert_run(&rt, by_moment, A, refused(err))?;
+    assert_run(&rt, by_moment, AT_ZERO, refused(err))
 }
 
 #[test]
 fn pointers_on_the_stack(rt: HostRuntime) -> Result<(), Fail> {
     let broken = "stxdw r10 -8 r1\nstb r10 -8 0\nldxdw r2 r10 -8\nmov64 r0 1\nexit\n";
-    assert_run(&rt, broken, A, refused("oauthd: stuck 2\n"))?;
+    let err = "oauthd: Verify PointerMisuse(2)\n";
+    assert_run(&rt, broken, A, refused(err))?;
     let aslant = "stxdw r10 -12 r1\nstb r10 -8 0\nldxdw r2 r10 -8\nmov64 r0 1\nexit\n";
-    assert_run(&rt, aslant, A, refused("oauthd: stuck 0\n"))
+    let err = "oauthd: Verify PointerMisuse(0)\n";
+    assert_run(&rt, aslant, A, refused(err))
 }
 
 #[test]

@@ -54,23 +54,31 @@ fn hooks_that_answer(rt: HostRuntime) -> Result<(), Fail> {
 #[test]
 fn hooks_that_are_refused(rt: HostRuntime) -> Result<(), Fail> {
     for (name, code, err) in [
-        ("R0 is unset", "9500000000000000", "oauthd: stuck 0\n"),
+        (
+            "R0 is unset",
+            "9500000000000000",
+            "oauthd: Verify UnsetRegister(0)\n",
+        ),
         (
             "an unset byte of the stack is read",
             "79a0f8ff000000009500000000000000",
-            "oauthd: stuck 0\n",
+            "oauthd: Verify UnsetByte(0)\n",
         ),
         (
             "the byte below the stack is written",
             "720afffd00000000b7000000010000009500000000000000",
-            "oauthd: stuck 0\n",
+            "oauthd: Verify OutOfRegion(0)\n",
         ),
         (
             "the lifetime and what follows it are written",
             "7a01300001000000b7000000010000009500000000000000",
-            "oauthd: stuck 0\n",
+            "oauthd: Verify ReadOnlyField(0)\n",
         ),
-        ("no exit", "b700000001000000", "oauthd: stuck 1\n"),
+        (
+            "no exit",
+            "b700000001000000",
+            "oauthd: Verify FallsOff(0)\n",
+        ),
         (
             "a jump back",
             "0500ffff000000009500000000000000",

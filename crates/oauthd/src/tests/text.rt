@@ -61,13 +61,5 @@ fn bytes_that_are_no_text(rt: HostRuntime) -> Result<(), Fail> {
 fn what_is_assembled_is_read_again(rt: HostRuntime) -> Result<(), Fail> {
     let text = "ja +1\nmov64 r0 2\nexit\n";
     let hex = assembled(&rt, text)?;
-    assert_ends_on(&rt, "list", "list", hex.as_str(), done(text))?;
-    assert_ends_on(&rt, "check", "check", hex.as_str(), done("accepted 3\n"))?;
-
-    let hex = assembled(&rt, "ja +1\nlddw r0 5\nexit\n")?;
-    let ending = refused("oauthd: Verify JumpIntoWide(0)\n");
-    assert_ends_on(&rt, "check", "check", hex.as_str(), ending)?;
-
-    let hex = assembled(&rt, "ldxb r2 r1 95\nmov64 r0 1\nexit\n")?;
-    assert_ends_on(&rt, "check2", "check2", hex.as_str(), done("accepted 3\n"))
+    assert_ends_on(&rt, "list", "list", hex.as_str(), done(text))
 }

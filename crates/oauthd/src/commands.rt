@@ -1,0 +1,8 @@
+//! What a person types: a file for each command.
+
+pub mod asm;
+pub mod check;
+pub mod help;
+pub mod list;
+mod program_file;
+pub mod run;

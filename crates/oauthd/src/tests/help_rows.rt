@@ -1,0 +1,93 @@
+//! Rows of `help` and `--version`.
+
+use super::*;
+
+/// What a command without a file prints, where it is done.
+fn printed<R: Abort + AllocGlobal>(rt: &R, texts: &[&str]) -> Result<String, Fail> {
+    let ended = outcome(rt, "help", texts, None)?;
+    assert_eq!(rt; ended.status, Status::Done.code());
+    assert_eq!(rt; written(&ended.err), Some(b"".as_slice()));
+    let text = str::from_utf8(written(&ended.out).unwrap_or(&[])).unwrap_or("");
+    Ok(String::from_str(rt.alloc(), text)?)
+}
+
+#[test]
+fn the_commands_are_printed(rt: HostRuntime) -> Result<(), Fail> {
+    for word in ["help", "--help", "-h"] {
+        let page = printed(&rt, &[word])?;
+        for line in [
+            "oauthd run HEX RECORDHEX",
+            "oauthd asm FILE",
+            "oauthd list FILE",
+            "oauthd check FILE",
+            "oauthd check2 FILE",
+            "oauthd help NAME",
+            "oauthd --version",
+        ] {
+            assert!(rt; page.as_str().contains(line), "{line}");
+        }
+    }
+    assert_ends(&rt, "version", &["--version"], done("oauthd 0.1.0\n"))
+}
+
+#[test]
+fn each_command_and_each_fault_is_explained(rt: HostRuntime) -> Result<(), Fail> {
+    for name in [
+        "run",
+        "asm",
+        "list",
+        "check",
+        "check2",
+        "help",
+        "bad arguments",
+        "bad record",
+        "cannot read",
+        "cannot write",
+        "out of memory",
+        "UnknownWord",
+        "BadOperand",
+        "OutOfRange",
+        "UnknownLabel",
+        "DoubleLabel",
+        "TooLong",
+        "NoInstruction",
+        "Empty",
+        "BadLength",
+        "UnknownOpcode",
+        "BadRegister",
+        "NonzeroField",
+        "TruncatedWide",
+        "Atomic",
+        "Call",
+        "LegacyLoad",
+        "JumpOut",
+        "JumpBack",
+        "JumpIntoWide",
+        "WritesR10",
+        "FallsOff",
+        "UnsetRegister",
+        "UnsetByte",
+        "OutOfRegion",
+        "ReadOnlyField",
+        "PointerMisuse",
+        "ExitsWithPointer",
+        "PointerRange",
+    ] {
+        let text = printed(&rt, &["help", name])?;
+        assert!(rt; text.as_str().starts_with(name), "{name}");
+    }
+    Ok(())
+}
+
+#[test]
+fn other_words_are_bad_arguments(rt: HostRuntime) -> Result<(), Fail> {
+    let ending = misused("oauthd: bad arguments\n");
+    assert_ends(&rt, "no words", &[], ending)?;
+    for word in ["Help", "-help", "--h", "version", "run"] {
+        assert_ends(&rt, word, &[word], ending)?;
+    }
+    for name in ["Nothing", "stuck"] {
+        assert_ends(&rt, name, &["help", name], ending)?;
+    }
+    assert_ends(&rt, "two topics", &["help", "run", "asm"], ending)
+}

@@ -1,0 +1,149 @@
+#!/usr/bin/env bash
+# Runs the built program on each command, with files and with each status, and says what differs from what is written
+# here. It also compares the hooks of examples/hooks and the code of examples/c with their copies in the tests.
+# Build the program first: (cd crates/oauthd && rt run -- help).
+cd "$(dirname "$0")/.." || exit 2
+program=$PWD/crates/oauthd/out/oauthd
+tests=$PWD/crates/oauthd/src/tests/examples.rt
+hooks=$PWD/examples/hooks
+hex_tests=$PWD/crates/oauthd/src/tests/c_hooks.rt
+compiled=$PWD/examples/c
+room=$(mktemp -d) || exit 2
+trap 'rm -rf "$room"' EXIT
+cd "$room" || exit 2
+[ -x "$program" ] || { echo "there is no $program: run 'rt run -- help' in crates/oauthd first"; exit 2; }
+
+rows=0
+differing=0
+
+# ends NAME STATUS OUT ERR WORDS..: a command ends with this status, and writes this (printf's escapes count)
+ends() {
+    local name=$1 status=$2
+    printf "$3" >wanted.out
+    printf "$4" >wanted.err
+    shift 4
+    "$program" "$@" >given.out 2>given.err
+    local given=$?
+    rows=$((rows + 1))
+    if [ "$given" != "$status" ] || ! cmp -s wanted.out given.out || ! cmp -s wanted.err given.err; then
+        differing=$((differing + 1))
+        echo "differs: $name (status $given, wanted $status)"
+        diff wanted.out given.out
+        diff wanted.err given.err
+    fi
+}
+
+# begins NAME LINE WORDS..: a command is done, and its first line is this
+begins() {
+    local name=$1 line=$2
+    shift 2
+    "$program" "$@" >given.out 2>given.err
+    local given=$?
+    rows=$((rows + 1))
+    if [ "$given" != 0 ] || [ -s given.err ] || [ "$(head -n 1 given.out)" != "$line" ]; then
+        differing=$((differing + 1))
+        echo "differs: $name (status $given)"
+        cat given.out given.err
+    fi
+}
+
+allow=b7000000010000009500000000000000
+record='01000000 01000000 e803000000000000 0100000000000000 0100000000000000 0300000000000000 0300000000000000 2c010000 00000000 0300000000000000'
+
+# what is done
+ends 'run allows' 0 'r0 1\nsteps 2\nallowed 3 300\n' '' run $allow "$record"
+ends 'run denies' 0 'r0 0\nsteps 2\ndenied\n' '' run b7000000000000009500000000000000 "$record"
+ends 'a lifetime of 0 denies' 0 'r0 1\nsteps 3\ndenied\n' '' run b7000000010000006201300000000000"9500000000000000" "$record"
+ends 'no scope is left' 0 'r0 1\nsteps 3\nempty scope\n' '' run b7000000010000007a01280000000000"9500000000000000" "$record"
+printf 'mov64 r0 1\nexit\n' >hook.asm
+ends asm 0 "$allow\n" '' asm hook.asm
+printf "$allow\n" >hook.hex
+ends list 0 'mov64 r0 1\nexit\n' '' list hook.hex
+ends check 0 'accepted 2\n' '' check hook.hex
+ends check2 0 'accepted 2\n' '' check2 hook.hex
+ends --version 0 'oauthd 0.1.0\n' '' --version
+for word in help --help -h; do
+    begins "$word" 'oauthd: an OAuth 2.0 authorization server with verified token hooks.' "$word"
+done
+begins 'help of a command' 'asm FILE: turns the text of a hook into the hex of its code. docs/ASSEMBLY.md is the language.' help asm
+
+# what is refused
+printf 'mov64 r0 1\nfrob\n' >bad.asm
+ends 'a text that says no program' 1 '' 'oauthd: line 2: UnknownWord\n' asm bad.asm
+printf '8500000000000000\n' >call.hex
+ends 'bytes that are no program' 1 '' 'oauthd: Insn Call(0)\n' list call.hex
+printf '0500ffff000000009500000000000000\n' >back.hex
+ends 'a program that is not accepted' 1 '' 'oauthd: Verify JumpBack(0)\n' check back.hex
+printf '7110400000000000b7000000010000009500000000000000\n' >behind.hex
+ends 'a load behind a record of version 1' 1 '' 'oauthd: Verify OutOfRegion(0)\n' check behind.hex
+ends 'the same load in version 2' 0 'accepted 3\n' '' check2 behind.hex
+ends 'a run that would be stuck' 1 '' 'oauthd: Verify UnsetRegister(0)\n' run 9500000000000000 "$record"
+ends 'a run that is refused' 1 '' 'oauthd: Insn Empty\n' run '' "$record"
+
+# what is used badly
+ends 'no words' 2 '' 'oauthd: bad arguments\n'
+ends 'other words' 2 '' 'oauthd: bad arguments\n' frob
+ends 'code that is no hex' 2 '' 'oauthd: bad arguments\n' run 9 "$record"
+ends 'a record that is none' 2 '' 'oauthd: bad record\n' run $allow 00
+ends 'no such file' 2 '' 'oauthd: cannot read nowhere\n' list nowhere
+printf 'exit\n\377' >bytes.asm
+ends 'a text that is not UTF-8' 2 '' 'oauthd: cannot read bytes.asm\n' asm bytes.asm
+if [ -w /dev/full ]; then
+    "$program" list hook.hex >/dev/full 2>given.err
+    given=$?
+    rows=$((rows + 1))
+    if [ $given != 2 ] || [ "$(cat given.err)" != 'oauthd: cannot write' ]; then
+        differing=$((differing + 1))
+        echo "differs: a full disk (status $given)"
+        cat given.err
+    fi
+fi
+
+# memory: the least address space in which the program is loaded, and a file that does not fit in it
+head -c 300000000 /dev/zero | tr '\0' ' ' >long.hex
+(ulimit -v 200000; "$program" check long.hex >given.out 2>given.err; echo $? >given.status)
+rows=$((rows + 1))
+if [ "$(cat given.status)" != 3 ] || [ -s given.out ] || [ "$(cat given.err)" != 'oauthd: out of memory' ]; then
+    differing=$((differing + 1))
+    echo "differs: no memory (status $(cat given.status))"
+    cat given.out given.err
+fi
+
+# the example hooks, and their copies in the tests
+for hook in "$hooks"/*.asm; do
+    rows=$((rows + 1))
+    awk -v name="/// $(basename "$hook")." '$0 == name { wait = 1; next } wait == 1 { wait = 2; next }
+        wait == 2 && $0 == "\";" { exit } wait == 2 { print }' "$tests" >copy.asm
+    if ! cmp -s "$hook" copy.asm; then
+        differing=$((differing + 1))
+        echo "differs: $hook and its copy in $tests"
+        diff "$hook" copy.asm
+    fi
+    "$program" asm "$hook" >hook.hex || differing=$((differing + 1))
+    "$program" check hook.hex >given.out || { differing=$((differing + 1)); echo "differs: $hook is not accepted"; }
+done
+
+# the compiled hooks, and their copies in the tests
+for code in "$compiled"/hex/*; do
+    rows=$((rows + 1))
+    file=$(basename "$code")
+    name=${file%.*}
+    awk -v name="/// $name.c for " -v cpu="${file##*.}" '
+        index($0, name) == 1 { wait = ($0 ~ (" " cpu "[ .]")); next }
+        wait && /^const / { next }
+        wait { last = /";$/; gsub(/[ \\";]/, ""); printf "%s", $0; if (last) exit }
+        END { print "" }' "$hex_tests" >copy.hex
+    if ! cmp -s "$code" copy.hex; then
+        differing=$((differing + 1))
+        echo "differs: $code and its copy in $hex_tests"
+    fi
+    command=check
+    grep -q 'struct record2' "$compiled/$name.c" && command=check2
+    if ! "$program" $command "$code" >given.out 2>given.err; then
+        differing=$((differing + 1))
+        echo "differs: $code is not accepted: $(cat given.err)"
+    fi
+done
+
+echo "$rows rows, $differing differ"
+[ $differing = 0 ]
