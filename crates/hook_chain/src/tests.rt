@@ -161,20 +161,31 @@ fn allowed(scope: u64, life: u32) -> Narrowed {
     Narrowed::Allowed { scope, life }
 }
 
+/// Installs a hook. Where memory is refused, the chain is as it was, and the call is made again.
+fn installed(chain: &mut Chain, name: &str, layout: Layout, code: &[u8]) -> Result<(), HookFault> {
+    match chain.install(name, layout, code) {
+        Err(HookFault::Memory) => chain.install(name, layout, code),
+        answer => answer,
+    }
+}
+
 #[test]
 fn hooks_answer_one_after_the_other(rt: HostRuntime) {
     let mut chain = Chain::new(rt.alloc());
-    assert_eq!(rt; chain.install("a", Layout::V1, &caps(299)), Ok(()));
+    assert_eq!(rt; installed(&mut chain, "a", Layout::V1, &caps(299)), Ok(()));
     assert_eq!(rt; chain.decide(&ASK), allowed(3, 299));
-    assert_eq!(rt; chain.install("b", Layout::V1, &caps(250)), Ok(()));
-    assert_eq!(rt; chain.install("c", Layout::V1, &caps(280)), Ok(()));
+    assert_eq!(rt; installed(&mut chain, "b", Layout::V1, &caps(250)), Ok(()));
+    assert_eq!(rt; installed(&mut chain, "c", Layout::V1, &caps(280)), Ok(()));
     assert_eq!(rt; chain.decide(&ASK), allowed(3, 250));
-    assert_eq!(rt; chain.install("d", Layout::V1, &WIDEN), Ok(()));
+    assert_eq!(rt; installed(&mut chain, "d", Layout::V1, &WIDEN), Ok(()));
     assert_eq!(rt; chain.decide(&ASK), allowed(3, 250));
-    assert_eq!(rt; chain.install("e", Layout::V1, &DENY), Ok(()));
+    assert_eq!(rt; installed(&mut chain, "e", Layout::V1, &DENY), Ok(()));
     assert_eq!(rt; chain.decide(&ASK), Narrowed::Denied);
     // The next one isn't run: it would leave no scope.
-    assert_eq!(rt; chain.install("f", Layout::V1, &OTHER_SCOPE), Ok(()));
+    assert_eq!(rt;
+        installed(&mut chain, "f", Layout::V1, &OTHER_SCOPE),
+        Ok(())
+    );
     assert_eq!(rt; chain.decide(&ASK), Narrowed::Denied);
     assert_eq!(rt; chain.remove("e"), Ok(()));
     assert_eq!(rt; chain.decide(&ASK), Narrowed::EmptyScope);
@@ -188,15 +199,18 @@ fn hooks_of_both_versions(rt: HostRuntime) {
         refresh_limit: 86_400,
         ..ASK
     };
-    assert_eq!(rt; chain.install("one", Layout::V1, &caps(200)), Ok(()));
     assert_eq!(rt;
-        chain.install("two", Layout::V2, &HALF_OF_THE_LIMIT),
+        installed(&mut chain, "one", Layout::V1, &caps(200)),
+        Ok(())
+    );
+    assert_eq!(rt;
+        installed(&mut chain, "two", Layout::V2, &HALF_OF_THE_LIMIT),
         Ok(())
     );
     assert_eq!(rt; chain.decide(&ask), allowed(3, 150));
     let read_past_its_end = Err(HookFault::Verify(VerifyFault::OutOfRegion(0)));
     assert_eq!(rt;
-        chain.install("three", Layout::V1, &HALF_OF_THE_LIMIT),
+        installed(&mut chain, "three", Layout::V1, &HALF_OF_THE_LIMIT),
         read_past_its_end
     );
 }
@@ -204,7 +218,7 @@ fn hooks_of_both_versions(rt: HostRuntime) {
 #[test]
 fn what_is_refused(rt: HostRuntime) {
     let mut chain = Chain::new(rt.alloc());
-    assert_eq!(rt; chain.install("h1", Layout::V1, &ALLOW), Ok(()));
+    assert_eq!(rt; installed(&mut chain, "h1", Layout::V1, &ALLOW), Ok(()));
     for (name, code, fault) in [
         ("h1", &ALLOW[..], HookFault::NameTaken),
         ("H1", &ALLOW[..], HookFault::BadName),
@@ -216,13 +230,24 @@ fn what_is_refused(rt: HostRuntime) {
             HookFault::Verify(VerifyFault::UnsetRegister(0)),
         ),
     ] {
-        assert_eq!(rt; chain.install(name, Layout::V1, code), Err(fault), "{name}");
+        assert_eq!(rt;
+            installed(&mut chain, name, Layout::V1, code),
+            Err(fault),
+            "{name}"
+        );
     }
     for name in ["h2", "h3", "h4", "h5", "h6", "h7", "h8"] {
-        assert_eq!(rt; chain.install(name, Layout::V1, &ALLOW), Ok(()), "{name}");
+        assert_eq!(rt;
+            installed(&mut chain, name, Layout::V1, &ALLOW),
+            Ok(()),
+            "{name}"
+        );
     }
     // Room is tested before the code is looked at.
-    assert_eq!(rt; chain.install("h9", Layout::V1, &[]), Err(HookFault::Full));
+    assert_eq!(rt;
+        installed(&mut chain, "h9", Layout::V1, &[]),
+        Err(HookFault::Full)
+    );
     assert_eq!(rt; chain.remove("h4"), Ok(()));
     assert_eq!(rt; chain.remove("h4"), Err(HookFault::Unknown));
     for (i, name) in ["h1", "h2", "h3", "h5", "h6", "h7", "h8"]
