@@ -8,8 +8,8 @@ mod facts;
 mod family;
 mod fault;
 mod record;
-mod records;
 mod store;
+mod tables;
 
 pub use facts::{AuthorizationCode, CodeFacts, NewToken, RefreshToken, TokenStatus};
 pub use family::{Family, Home};

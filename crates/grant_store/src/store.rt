@@ -1,13 +1,12 @@
 //! The store of codes and tokens.
 ghost use Rattle.std.specs.Prelude.{◌≡◌, ◌<◌, ◌≤◌, ℕ, List, [], ◌∷◌, Some, None, length, option_map, OnOk, OnErr, IfOk, IfErr, IfSome};
-ghost use Rattle.consent.specs.History.{Event, Grant, grant_at, with_change};
+ghost use Rattle.consent.specs.History.{Event, Grant, grant_at, unexpired_count, with_change};
 ghost use Rattle.consent.specs.History.Change.{Spent, FamilyEnded, Consented};
 
 use crate::facts::{AuthorizationCode, CodeFacts, NewToken, RefreshToken, TokenStatus};
 use crate::family::{Family, Home};
 use crate::fault::StoreFault;
-use crate::record::Mark;
-use crate::records::Records;
+use crate::tables::Tables;
 use consent::{ClientNo, Kind, Moment, OwnerNo, TokenKind};
 use std::alloc::Global;
 use std::marker::Model;
@@ -15,16 +14,21 @@ use std::marker::Model;
 /// The codes and tokens that were given.
 #[derive(Drop)]
 pub struct Store {
-    records: Records,
+    tables: Tables,
+    alloc: Global,
 }
 
 impl Model for Store {
-    ghost use Rattle.std.specs.Prelude.{List};
+    ghost use Rattle.std.specs.Prelude.{List, []};
     ghost use Rattle.grant_store.specs.Kept.{Kept};
 
     ghost Value = { List Kept };
 
-    ghost view = { λ s. s.records };
+    ghost use Rattle.grant_store.specs.Records.{IsTied, kept_of};
+
+    ghost view = { λ s. kept_of s.tables };
+
+    ghost invariant = { λ s. IsTied s.tables [] };
 }
 
 impl Store {
@@ -37,7 +41,8 @@ impl Store {
         ensures { (moment : ℕ) (number : ℕ → ℕ) → FitsStore result [] moment number }
     {
         Store {
-            records: Records::new(alloc),
+            tables: Tables::new(alloc),
+            alloc,
         }
     }
 
@@ -47,8 +52,8 @@ impl Store {
             option_map code_view result ≡ code_in history number digest.now moment }
         ensures open { IfSome result (λ code. HasFamily self.now code.family moment) }
     {
-        let kept = self.records.at(digest, moment)?;
-        kept.code()
+        let (record, shared) = self.tables.at(digest, moment)?;
+        record.code(shared)
     }
 
     /// The unexpired refresh token of the digest.
@@ -57,8 +62,8 @@ impl Store {
             result ≡ refresh_in history number digest.now moment }
         ensures open { IfSome result (λ token. HasFamily self.now token.family moment) }
     {
-        let kept = self.records.at(digest, moment)?;
-        kept.refresh_token()
+        let (record, shared) = self.tables.at(digest, moment)?;
+        record.refresh_token(shared)
     }
 
     /// The live token of the digest.
@@ -67,8 +72,8 @@ impl Store {
             result ≡ token_in history number digest.now moment }
         ensures open { IfSome result (λ token. HasFamily self.now token.family moment) }
     {
-        let kept = self.records.at(digest, moment)?;
-        kept.live_token()
+        let (record, shared) = self.tables.at(digest, moment)?;
+        record.live_token(shared)
     }
 
     /// Gives a code, and so opens a family (RFC 6749, section 4.1.2).
@@ -89,16 +94,16 @@ impl Store {
             FitsStore self.old history moment number → IsRefused fault history moment (digest.now ∷ [])) }
         ensures err { OnErr result (self.new ≡ self.old) }
     {
-        if self.records.is_full(1, moment) {
+        if self.tables.is_full(1, moment) {
             return Err(StoreFault::Full);
         }
-        if self.records.at(digest, moment).is_some() {
+        if self.tables.record_at(digest, moment).is_some() {
             return Err(StoreFault::DrawTaken);
         }
-        let Ok(number) = self.records.open(digest, facts, moment) else {
+        let Ok(number) = self.tables.open_code(self.alloc, digest, facts, moment) else {
             return Err(StoreFault::Memory);
         };
-        Ok(Family::of_number(number))
+        Ok(Family::of_number(number as u64))
     }
 
     /// Marks the unexpired code of the digest as spent, and nothing where there is none.
@@ -108,14 +113,10 @@ impl Store {
             (code : Grant) → grant_at history digest.now moment ≡ Some code → code.kind ≡ Kind.Code →
             FitsStore self.new (with_change history moment (Spent digest.now)) moment number }
     {
-        let Some(Kind::Code) = self.records.kind_at(digest, moment) else {
+        let Some(Kind::Code) = self.tables.kind_at(digest, moment) else {
             return;
         };
-        let mark = Mark::Spent {
-            digest: *digest,
-            moment,
-        };
-        self.records.mark(&mark);
+        self.tables.spend(digest);
     }
 
     /// Marks the unexpired refresh token of the digest as spent, and nothing where there is none.
@@ -126,14 +127,10 @@ impl Store {
             token.kind ≡ Kind.Token TokenKind.Refresh →
             FitsStore self.new (with_change history moment (Spent digest.now)) moment number }
     {
-        let Some(Kind::Token(TokenKind::Refresh)) = self.records.kind_at(digest, moment) else {
+        let Some(Kind::Token(TokenKind::Refresh)) = self.tables.kind_at(digest, moment) else {
             return;
         };
-        let mark = Mark::Spent {
-            digest: *digest,
-            moment,
-        };
-        self.records.mark(&mark);
+        self.tables.spend(digest);
     }
 
     /// Issues one or two tokens at once (RFC 6749, sections 4.4.3, 5.1 and 6), and answers their family.
@@ -159,16 +156,23 @@ impl Store {
             FitsStore self.old history moment number → IsRefused fault history moment (digests_of tokens.now)) }
         ensures err { OnErr result (self.new ≡ self.old) }
     {
-        if let Some(fault) = self.records.refusal(tokens, moment) {
+        if let Some(fault) = self.tables.refusal(tokens, moment) {
             return Err(fault);
         }
-        let Some(place) = self.records.place(home, moment) else {
-            unreachable!()
-        };
-        let Ok(()) = self.records.add(&place, tokens, moment) else {
-            return Err(StoreFault::Memory);
-        };
-        Ok(Family::of_number(place.family))
+        match home {
+            Home::Family(family) => {
+                let Ok(()) = self.tables.add(family.number() as usize, tokens, moment) else {
+                    return Err(StoreFault::Memory);
+                };
+                Ok(family)
+            }
+            Home::Client(client) => {
+                let Ok(number) = self.tables.add_alone(client, tokens, moment) else {
+                    return Err(StoreFault::Memory);
+                };
+                Ok(Family::of_number(number as u64))
+            }
+        }
     }
 
     /// Ends the family, which something unexpired is of (RFC 7009, section 2.1).
@@ -178,10 +182,7 @@ impl Store {
             (g : Grant) → IsMember history number moment family g →
             FitsStore self.new (with_change history moment (FamilyEnded g.family)) moment number }
     {
-        let mark = Mark::Ended {
-            family: family.number(),
-        };
-        self.records.mark(&mark);
+        self.tables.end(family.number() as usize);
     }
 
     /// Ends each family of the two whose code's scope is not within the mask.
@@ -189,19 +190,24 @@ impl Store {
         ensures fits { (history : List Event) (number : ℕ → ℕ) → FitsStore self.old history moment number →
             FitsStore self.new (with_change history moment (Consented owner client mask)) moment number }
     {
-        let mark = Mark::Lowered {
-            owner,
-            client,
-            mask,
-        };
-        self.records.mark(&mark);
+        self.tables.lower(owner, client, mask);
     }
 
-    /// Lets go of what has expired, which changes no answer. This store keeps all its records.
+    /// Lets go of what has expired, which changes no answer.
     pub fn drop_expired(&mut self, moment: Moment)
         ensures fits { (history : List Event) (number : ℕ → ℕ) → FitsStore self.old history moment number →
             FitsStore self.new history moment number }
+        // Spent ones and those of ended families are unexpired too.
+        ensures kept { (history : List Event) (number : ℕ → ℕ) → FitsStore self.old history moment number →
+            length self.new ≡ unexpired_count history moment }
     {
-        let _ = &mut self.records;
+        self.tables.drop_expired(moment);
+    }
+
+    /// How many codes and tokens it has in memory, with those that have expired and were not let go of.
+    pub fn kept(&self) -> usize
+        ensures { result ≡ length self.now }
+    {
+        self.tables.count()
     }
 }
