@@ -1,0 +1,4 @@
+pub mod Outcomes
+pub mod Halts
+pub mod Requesters
+pub mod Texts

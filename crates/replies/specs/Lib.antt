@@ -1,0 +1,5 @@
+pub mod Reply
+pub mod Written
+pub mod Small
+pub mod SizeLaws
+pub mod SmallLaws

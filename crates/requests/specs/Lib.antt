@@ -1,0 +1,3 @@
+pub mod Asked
+pub mod Target
+pub mod MediaType
