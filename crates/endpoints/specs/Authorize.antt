@@ -1,0 +1,75 @@
+-- GET /authorize (RFC 6749, section 4.1.1; RFC 7636, section 4.3)
+use Rattle.std.specs.Prelude.{◌&&◌, ℕ, List, [], ◌∷◌, not, Option, codes, bytes_eq, length, option_and_then}
+use Rattle.std.specs.Result.{result_ok}
+use Rattle.sha2.specs.Sha256.{sha256}
+use Rattle.pkce.specs.Proof.{is_challenge}
+use Rattle.pkce.specs.Token.{token_text}
+use Rattle.params.specs.Form.{read_params, value_of}
+use Rattle.clients.specs.RegistryRecord.{RegistryRecord}
+use Rattle.clients.specs.Clients.{has_redirect}
+use Rattle.clients.specs.Grants.{has_grant}
+use Rattle.clients.specs.declared.grant.GrantType.TheVariants.{AuthorizationCode}
+use Rattle.consent.specs.History.{Event, is_within, consented_scope}
+use Rattle.consent.specs.History.Change.{CodeGiven}
+use Rattle.requests.specs.Asked.{Asked}
+use Rattle.requests.specs.Target.{query_of}
+use Rattle.replies.specs.declared.error.ErrorName.{ErrorName}
+use Rattle.replies.specs.declared.error.ErrorName.TheVariants.{InvalidRequest, InvalidScope, UnauthorizedClient, UnsupportedResponseType, AccessDenied}
+use Rattle.replies.specs.Reply.{sent_back}
+use Rattle.replies.specs.Written.{error_text}
+use Rattle.points.specs.Outcomes.{Outcome, point, need, only, refuse, unless_taken}
+use Rattle.points.specs.Requesters.{Parameters, KnownClient, client_named, owner_of, scope_within}
+use Rattle.points.specs.Texts.{where_passes}
+
+-- the state, if it was sent
+abbrev pub state_of : Parameters → Option (List ℕ)
+state_of params = value_of (codes "state") params
+
+-- the user agent is sent back with an error (RFC 6749, section 4.1.2.1)
+abbrev pub turned_back : List ℕ → Parameters → ErrorName → Outcome
+turned_back uri params error = only (sent_back uri (codes "error") (error_text error) (state_of params))
+
+-- the challenge, where its method is S256
+abbrev pub challenge_sent : Parameters → Option (List ℕ)
+challenge_sent params =
+    option_and_then (λ method. where_passes (λ challenge. bytes_eq method (codes "S256") && is_challenge challenge) (value_of (codes "code_challenge") params))
+    (value_of (codes "code_challenge_method") params)
+
+-- 7. the code: its text is the draw's, and its digest is kept
+abbrev pub code_given : List Event → ℕ → List ℕ → Parameters → ℕ → ℕ → ℕ → List ℕ → List ℕ → Outcome
+code_given history m draw params client owner scope uri challenge =
+    unless_taken history m (sha256 draw ∷ [])
+    (record {
+      reply = sent_back uri (codes "code") (token_text draw) (state_of params);
+      changes = CodeGiven (length history) client owner scope uri challenge (sha256 draw) ∷ [];
+    })
+
+-- 2 to 7, once the client and its redirect URI are known
+abbrev pub authorize_known : RegistryRecord → List Event → Asked → ℕ → List ℕ → Parameters → KnownClient → List ℕ → Outcome
+authorize_known rules history asked m draw params known uri =
+    let turned = turned_back uri params in
+    need (value_of (codes "response_type") params) (turned InvalidRequest) (λ type.
+    point (not (bytes_eq type (codes "code"))) (turned UnsupportedResponseType)
+    (point (not (has_grant AuthorizationCode known.client.grants)) (turned UnauthorizedClient)
+    (need (challenge_sent params) (turned InvalidRequest) (λ challenge.
+    need (scope_within rules known.client.allowed params) (turned InvalidScope) (λ scope.
+    need (owner_of rules asked) (turned AccessDenied) (λ owner.
+    point (not (is_within scope (consented_scope history owner known.number))) (turned AccessDenied)
+    (code_given history m draw params known.number owner scope uri challenge)))))))
+
+-- 1. the client and its redirect URI; without them nobody is sent anywhere
+abbrev pub known_points : RegistryRecord → Parameters → (KnownClient → List ℕ → Outcome) → Outcome
+known_points rules params next =
+    need (client_named rules params) (refuse InvalidRequest) (λ known.
+    need (where_passes (λ uri. has_redirect uri known.client) (value_of (codes "redirect_uri") params)) (refuse InvalidRequest) (next known))
+
+-- 1 to 7, of the parameters of the query
+abbrev pub query_points : RegistryRecord → List Event → Asked → ℕ → List ℕ → Parameters → Outcome
+query_points rules history asked m draw params = known_points rules params (authorize_known rules history asked m draw params)
+
+-- which come first
+abbrev pub with_query : Asked → (Parameters → Outcome) → Outcome
+with_query asked next = need (result_ok (read_params (query_of asked.target))) (refuse InvalidRequest) next
+
+abbrev pub authorize : RegistryRecord → List Event → Asked → ℕ → List ℕ → Outcome
+authorize rules history asked m draw = with_query asked (query_points rules history asked m draw)

@@ -1,0 +1,108 @@
+-- A history of right changes is bounded.
+use Rattle.std.proofs.Common.{◌≡◌, ◌≤◌, ◌⊎◌, inl, inr, ◌+◌, ℕ, List, [], ◌∷◌, ◌++◌, true, false, Option, Some, append_assoc, append-nil, refl, sym, ap, ◌∙◌, arith, subst}
+use Rattle.std.specs.Prelude.{count_by}
+use Rattle.clients.specs.RegistryRecord.{RegistryRecord}
+use Rattle.consent.specs.History.{Event, Change, event_at, grants, is_code_of, is_within, consented_scope, has_ended, code_terms, IsHistory}
+use Rattle.consent.specs.History.Change.{Consented, CodeGiven, Issued, Spent, FamilyEnded, HookSet, HookGone}
+use Rattle.consent.specs.Covered.{IsCovered, IsConsented}
+use Rattle.consent.specs.CoveredLaws.{is_covered-start, is_covered-push, is_within-trans}
+use Rattle.consent.specs.GrowthLaws.{count_by-append, code_terms-keep}
+use Rattle.endpoints.specs.Bounded.{IsRight, AllRight, IsAllowed, IsConsentedBefore, IsConsentedAt, IsBounded, IsOfCode}
+
+module _ (rules : RegistryRecord) where
+  -- a right code is one that its owner consents to
+  right_consented : (before : List Event) (change : Change) → IsRight rules before change → IsConsented before change
+  right_consented before (CodeGiven family client owner scope redirect challenge digest) right = right.1
+  right_consented before (Consented owner client mask) right = tt
+  right_consented before (Issued family client owner kind digest scope life) right = tt
+  right_consented before (Spent digest) right = tt
+  right_consented before (FamilyEnded family) right = tt
+  right_consented before (HookSet name version code) right = tt
+  right_consented before (HookGone name) right = tt
+
+  abbrev OneCode : List Event → Type 0
+  OneCode history = (family : ℕ) → count_by (is_code_of family) (grants history) ≤ 1
+
+  -- so it is of the first events
+  one_code-before : (before later : List Event) → OneCode (before ++ later) → OneCode before
+  one_code-before before later one family =
+      let parts = count_by-append (is_code_of family) before later in let whole = one family in omega (arith, parts, whole)
+
+  -- an event in the history was right when it happened
+  pub all_right-at : (start before later : List Event) (e : Event) → AllRight rules start (before ++ e ∷ later) → IsRight rules (start ++ before) e.change
+  all_right-at start [] later e all = subst (λ h. IsRight rules h e.change) (sym (append-nil start)) all.0
+  all_right-at start (x ∷ before) later e all =
+      subst (λ h. IsRight rules h e.change) (append_assoc start (x ∷ []) before) (all_right-at (start ++ x ∷ []) before later e all.1)
+
+  -- and so were those before it
+  all_right-before : (start before later : List Event) → AllRight rules start (before ++ later) → AllRight rules start before
+  all_right-before start [] later all = tt
+  all_right-before start (x ∷ before) later all = (all.0, all_right-before (start ++ x ∷ []) before later all.1)
+
+  -- each code's scope is consented to, while its family has not ended
+  covered_after : (before later : List Event) → OneCode (before ++ later) → IsCovered before → AllRight rules before later → IsCovered (before ++ later)
+  covered_after before [] one covered all = subst IsCovered (sym (append-nil before)) covered
+  covered_after before (e ∷ later) one covered all =
+      let same = append_assoc before (e ∷ []) later in
+      subst IsCovered same
+      (covered_after (before ++ e ∷ []) later (subst OneCode (sym same) one)
+      (is_covered-push before e.moment e.change (one_code-before before (e ∷ later) one) (right_consented before e.change all.0) covered) all.1)
+
+  covered_all : (history : List Event) → OneCode history → AllRight rules [] history → IsCovered history
+  covered_all history one all = covered_after [] history one is_covered-start all
+
+  allowed_at : (before : List Event) (change : Change) → IsRight rules before change → IsAllowed rules change
+  allowed_at before (Issued family client owner kind digest scope life) right = (right.0, right.1)
+  allowed_at before (Consented owner client mask) right = tt
+  allowed_at before (CodeGiven family client owner scope redirect challenge digest) right = tt
+  allowed_at before (Spent digest) right = tt
+  allowed_at before (FamilyEnded family) right = tt
+  allowed_at before (HookSet name version code) right = tt
+  allowed_at before (HookGone name) right = tt
+
+  consented_at : (before : List Event) (change : Change) → IsCovered before → IsRight rules before change → IsConsentedBefore before change
+  consented_at before (Issued family client owner kind digest scope life) covered right = by_owner right.2
+    where
+      by_owner : ((owner ≡ 0) ⊎ IsOfCode before family client owner scope) → (owner ≡ 0) ⊎ (is_within scope (consented_scope before owner client) ≡ true)
+      by_owner (inl none) = inl none
+      by_owner (inr of) = inr (is_within-trans scope of.0 (consented_scope before owner client) of.2 (covered family (record { client = client; owner = owner; scope = of.0 }) of.1 of.3))
+  consented_at before (Consented owner client mask) covered right = tt
+  consented_at before (CodeGiven family client owner scope redirect challenge digest) covered right = tt
+  consented_at before (Spent digest) covered right = tt
+  consented_at before (FamilyEnded family) covered right = tt
+  consented_at before (HookSet name version code) covered right = tt
+  consented_at before (HookGone name) covered right = tt
+
+  consented_later : (before between : List Event) (e : Event) → IsCovered (before ++ e ∷ between) → (change : Change) → IsRight rules before change →
+      IsConsentedAt (before ++ e ∷ between) change
+  consented_later before between e covered (Issued family client owner kind digest scope life) right = by_owner right.2
+    where
+      by_owner : ((owner ≡ 0) ⊎ IsOfCode before family client owner scope) →
+          (owner ≡ 0) ⊎ (has_ended (before ++ e ∷ between) family ≡ false → is_within scope (consented_scope (before ++ e ∷ between) owner client) ≡ true)
+      by_owner (inl none) = inl none
+      by_owner (inr of) =
+          inr (λ alive. is_within-trans scope of.0 (consented_scope (before ++ e ∷ between) owner client) of.2
+          (covered family (record { client = client; owner = owner; scope = of.0 }) (code_terms-keep before (e ∷ between) family _ of.1) alive))
+  consented_later before between e covered (Consented owner client mask) right = tt
+  consented_later before between e covered (CodeGiven family client owner scope redirect challenge digest) right = tt
+  consented_later before between e covered (Spent digest) right = tt
+  consented_later before between e covered (FamilyEnded family) right = tt
+  consented_later before between e covered (HookSet name version code) right = tt
+  consented_later before between e covered (HookGone name) right = tt
+
+  -- each token of a history of right changes keeps to allowance, consent and life
+  pub tokens_keep_their_bounds : (history : List Event) (m : ℕ) → IsHistory history m → AllRight rules [] history → IsBounded rules history
+  tokens_keep_their_bounds history m is all = record {
+    allowed = λ before later e whole.
+        allowed_at before e.change (all_right-at [] before later e (subst (λ h. AllRight rules [] h) whole all));
+    consented_before = λ before later e whole.
+        let parts = subst (λ h. AllRight rules [] h) whole all in
+        consented_at before e.change
+        (covered_all before (one_code-before before (e ∷ later) (subst OneCode whole is.one_code)) (all_right-before [] before (e ∷ later) parts))
+        (all_right-at [] before later e parts);
+    consented_after = λ before between later e whole.
+        let parts = subst (λ h. AllRight rules [] h) whole all in
+        consented_later before between e
+        (covered_all (before ++ e ∷ between) (one_code-before (before ++ e ∷ between) later (subst OneCode whole is.one_code)) (all_right-before [] (before ++ e ∷ between) later parts))
+        e.change (all_right-at [] before (between ++ later) e (subst (λ h. AllRight rules [] h) (whole ∙ append_assoc before (e ∷ between) later) all));
+  }

@@ -1,0 +1,89 @@
+-- POST /hooks, POST /hooks/remove and GET /hooks/list: the operator's requests
+use Rattle.std.specs.Prelude.{ℕ, List, [], ◌∷◌, not, codes, bytes_eq, Bool, false, Option, Some, None, if◌then◌else◌, option_and_then, option_map}
+use Rattle.std.specs.Option.{option_map_or}
+use Rattle.std.specs.Result.{result_ok}
+use Rattle.params.specs.Form.{read_params, value_of}
+use Rattle.clients.specs.RegistryRecord.{RegistryRecord}
+use Rattle.consent.specs.History.{Change}
+use Rattle.consent.specs.History.Change.{HookSet, HookGone}
+use Rattle.hook_chain.specs.declared.fault.HookFault.{HookFault}
+use Rattle.hook_chain.specs.declared.fault.HookFault.TheVariants as hook
+use Rattle.hook_chain.specs.Faults.{hook_fault_text}
+use Rattle.requests.specs.Asked.{Asked}
+use Rattle.requests.specs.Target.{query_of}
+use Rattle.replies.specs.declared.error.ErrorName.TheVariants.{InvalidRequest, AccessDenied}
+use Rattle.replies.specs.Reply.{plain}
+use Rattle.replies.specs.Reply.Body.{Hook, HookRefused, Hooks}
+use Rattle.points.specs.Outcomes.{Outcome, point, need, only, refuse, unavailable}
+use Rattle.points.specs.Requesters.{Parameters, form_of}
+use Rattle.endpoints.specs.declared.endpoint.Endpoint.{Endpoint}
+use Rattle.endpoints.specs.declared.endpoint.Endpoint.TheVariants as endpoint
+use Rattle.endpoints.specs.Paths.{endpoint_at}
+
+-- the operator's key was sent
+abbrev pub is_operator : RegistryRecord → Asked → Bool
+is_operator rules asked = option_map_or (λ key. bytes_eq key rules.operator) asked.operator_key false
+
+abbrev pub with_operator : RegistryRecord → Asked → Outcome → Outcome
+with_operator rules asked next = point (not (is_operator rules asked)) (refuse AccessDenied) next
+
+-- WHAT IS ASKED
+
+-- the version of the record that the hook reads: 1 where none is named
+abbrev pub version_asked : Option (List ℕ) → Option ℕ
+version_asked None = Some 1
+version_asked (Some text) =
+    if bytes_eq text (codes "1") then Some 1 else (if bytes_eq text (codes "2") then Some 2 else None)
+
+-- the hook that the query names, with the body for its code
+abbrev pub hook_set : Parameters → List ℕ → List ℕ → Option Change
+hook_set params code name =
+    option_map (λ version. HookSet name version code) (version_asked (value_of (codes "record") params))
+
+abbrev pub installation : Asked → Option Change
+installation asked =
+    option_and_then (λ params. option_and_then (hook_set params asked.body) (value_of (codes "name") params))
+    (result_ok (read_params (query_of asked.target)))
+
+-- the hook that the form names
+abbrev pub removal : Asked → Option Change
+removal asked = option_and_then (λ params. option_map HookGone (value_of (codes "name") params)) (form_of asked)
+
+-- the change of the hooks that a request asks for, if it asks for one
+abbrev pub hook_change_at : Endpoint → Asked → Option Change
+hook_change_at endpoint.InstallHook asked = installation asked
+hook_change_at endpoint.RemoveHook asked = removal asked
+hook_change_at endpoint.ListHooks asked = None
+hook_change_at endpoint.Authorize asked = None
+hook_change_at endpoint.GiveConsent asked = None
+hook_change_at endpoint.IssueToken asked = None
+hook_change_at endpoint.RevokeToken asked = None
+hook_change_at endpoint.Introspect asked = None
+
+-- WHAT IS DONE
+
+-- the name of a hook that is set or gone
+abbrev pub hook_name : Change → List ℕ
+hook_name (HookSet name version code) = name
+hook_name (HookGone name) = name
+hook_name _ = []
+
+-- by the fault that the host has for the change, if it has one
+abbrev pub by_fault : Change → Option HookFault → Outcome
+by_fault change None = record { reply = plain 200 (Hook (hook_name change)); changes = change ∷ [] }
+by_fault change (Some hook.Memory) = unavailable
+by_fault change (Some fault) = only (plain 400 (HookRefused (hook_fault_text fault)))
+
+-- the operator's change, which the host makes or refuses
+abbrev pub change_hooks : RegistryRecord → Option HookFault → Asked → Option Change → Outcome
+change_hooks rules fault asked change =
+    with_operator rules asked (need change (refuse InvalidRequest) (λ change. by_fault change fault))
+
+abbrev pub install_hook : RegistryRecord → Option HookFault → Asked → Outcome
+install_hook rules fault asked = change_hooks rules fault asked (installation asked)
+
+abbrev pub remove_hook : RegistryRecord → Option HookFault → Asked → Outcome
+remove_hook rules fault asked = change_hooks rules fault asked (removal asked)
+
+abbrev pub list_hooks : RegistryRecord → List (List ℕ) → Asked → Outcome
+list_hooks rules names asked = with_operator rules asked (only (plain 200 (Hooks names)))

@@ -1,0 +1,38 @@
+-- POST /introspect (RFC 7662, section 2)
+use Rattle.std.specs.Prelude.{◌+◌, ℕ, List, codes, Option, Some, None}
+use Rattle.params.specs.Form.{value_of}
+use Rattle.params.specs.Scope.{scope_text}
+use Rattle.clients.specs.RegistryRecord.{RegistryRecord}
+use Rattle.clients.specs.ClientRecord.{ClientRecord}
+use Rattle.clients.specs.Clients.{client_at}
+use Rattle.consent.specs.History.{Event, Grant}
+use Rattle.consent.specs.declared.grant.Kind.{Kind}
+use Rattle.consent.specs.declared.grant.Kind.TheVariants.{Code, Token}
+use Rattle.replies.specs.declared.error.ErrorName.TheVariants.{InvalidRequest}
+use Rattle.requests.specs.Asked.{Asked}
+use Rattle.replies.specs.Reply.{Body, plain}
+use Rattle.replies.specs.Reply.Body.{Active, Inactive}
+use Rattle.points.specs.Outcomes.{Outcome, need, only, refuse, unavailable}
+use Rattle.points.specs.Requesters.{Parameters, KnownClient, with_authenticated}
+use Rattle.grants.specs.Tokens.{live_token}
+
+-- what is told of a live token of the client
+abbrev pub told_of : RegistryRecord → ClientRecord → Grant → Kind → Body
+told_of rules client token Code = Inactive
+told_of rules client token (Token kind) =
+    Active client.id (token.moment + token.life) token.moment (scope_text rules.scopes token.scope) kind
+
+-- 3 and 4, by the live token
+abbrev pub told : RegistryRecord → Option Grant → Outcome
+told rules None = only (plain 200 Inactive)
+told rules (Some token) =
+    need (client_at token.client rules.clients) unavailable (λ client. only (plain 200 (told_of rules client token token.kind)))
+
+-- 2. the token; any client may ask of any
+abbrev pub introspect_points : RegistryRecord → List Event → ℕ → Parameters → KnownClient → Outcome
+introspect_points rules history m params known =
+    need (value_of (codes "token") params) (refuse InvalidRequest) (λ text. told rules (live_token history m text))
+
+-- 1. the client
+abbrev pub introspect : RegistryRecord → List Event → Asked → ℕ → Outcome
+introspect rules history asked m = with_authenticated rules asked (introspect_points rules history m)

@@ -1,0 +1,15 @@
+pub mod Hosts
+pub mod Authorize
+pub mod Decided
+pub mod CodeSteps
+pub mod ConsentPath
+pub mod Presented
+pub mod Revoke
+pub mod Introspect
+pub mod HookPaths
+pub mod HookAsking
+pub mod Paths
+pub mod Replies
+pub mod Bounded
+pub mod BoundedLaws
+pub mod Server

@@ -1,0 +1,43 @@
+-- When a server fits a history, and what one request does.
+use Rattle.std.specs.Prelude.{◌≡◌, ℕ, List, [], Bool, Option}
+use Rattle.insn.specs.declared.layout.Layout.{Layout}
+use Rattle.hook_record.specs.declared.Ask.{Ask}
+use Rattle.hook_record.specs.declared.Narrowed.{Narrowed}
+use Rattle.hook_chain.specs.declared.fault.HookFault.{HookFault}
+use Rattle.clients.specs.RegistryRecord.{RegistryRecord}
+use Rattle.consent.specs.History.{Event, with_changes}
+use Rattle.consent.specs.Consents.{FitsConsents}
+use Rattle.consent.specs.declared.parties.Parties.{Parties}
+use Rattle.grant_store.specs.Kept.{Kept}
+use Rattle.grant_store.specs.Fits.{FitsStore}
+use Rattle.replies.specs.Written.{Written, written}
+use Rattle.points.specs.Outcomes.{Outcome}
+use Rattle.endpoints.specs.Hosts.{HostRun}
+use Rattle.endpoints.specs.Bounded.{AllRight}
+
+-- a server as it is seen
+pub record Seen (H : Type 0) : Type 0 where
+  pub rules : RegistryRecord
+  pub host : H
+  pub store : List Kept
+  pub consents : List (Parties × ℕ)
+  -- the greatest moment that a request was handed
+  pub greatest : ℕ
+
+-- From its greatest moment on the server answers as the history says, under these rules, and its host comes from the
+-- first one by the history's hooks. `installs` and `removes` are the host's own relations.
+pub record FitsServer {H : Type 0} (installs : H → List ℕ → Layout → List ℕ → H → Type 0) (removes : H → List ℕ → H → Type 0) (server : Seen H) (rules : RegistryRecord) (first : H) (history : List Event) (m : ℕ) : Type 0 where
+  pub rules_are : server.rules ≡ rules
+  pub greatest_is : server.greatest ≡ m
+  -- the store's number of each family
+  pub number : ℕ → ℕ
+  pub store : FitsStore server.store history m number
+  pub consents : FitsConsents server.consents history
+  pub hosts : HostRun installs removes first history server.host
+  -- what the bounds of all tokens follow from
+  pub right : AllRight rules [] history
+
+-- the reply is the outcome's, and the server fits the history with the outcome's changes
+pub record IsStep {H : Type 0} (installs : H → List ℕ → Layout → List ℕ → H → Type 0) (removes : H → List ℕ → H → Type 0) (outcome : Outcome) (reply : Written) (server : Seen H) (rules : RegistryRecord) (first : H) (history : List Event) (m : ℕ) : Type 0 where
+  pub reply_is : reply ≡ written outcome.reply
+  pub fits : FitsServer installs removes server rules first (with_changes history m outcome.changes) m

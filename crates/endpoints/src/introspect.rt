@@ -1,0 +1,84 @@
+//! POST /introspect (RFC 7662, section 2).
+ghost use Rattle.std.specs.Prelude.{ℕ, List, Bool, Some};
+ghost use Rattle.consent.specs.History.{Event, Grant};
+ghost use Rattle.grant_store.specs.Fits.{FitsStore};
+ghost use Rattle.requests.specs.Asked.{asked_of};
+ghost use Rattle.points.specs.Outcomes.{chosen, only};
+ghost use Rattle.replies.specs.Reply.{plain};
+ghost use Rattle.replies.specs.Reply.Body.{Inactive};
+ghost use Rattle.grants.specs.Done.{IsShort, IsUndone};
+ghost use Rattle.endpoints.specs.Introspect.{told, introspect};
+ghost use Rattle.endpoints.specs.Presented.{IsStatusOf};
+
+use crate::revoke::{live_token, presented_by};
+use grant_store::{Store, TokenStatus};
+use grants::{Setting, halted, unavailable};
+use replies::{ActiveToken, Response, active, inactive};
+use requests::Request;
+use std::alloc::Global;
+
+// No live token was presented.
+fn tell_inactive(alloc: Global) -> Response
+    ensures done { (refused : Bool) × IsUndone (chosen refused (only (plain 200 Inactive))) result }
+    ensures short { IsShort result }
+{
+    let Ok(reply) = inactive(alloc) else {
+        return unavailable();
+    };
+    reply
+}
+
+// What the store tells of a live token.
+fn tell_active(setting: &Setting<'_>, token: &TokenStatus) -> Response
+    ensures done { (history : List Event) (number : ℕ → ℕ) (g : Grant) →
+        IsStatusOf history number setting.entry.now.moment g token.entry.now →
+        (refused : Bool) × IsUndone (chosen refused (told setting.entry.now.rules.now (Some g))) result }
+    ensures short { IsShort result }
+{
+    let Some(client) = setting.rules.client_numbered(token.client) else {
+        return unavailable();
+    };
+    let Ok(scope) = setting
+        .rules
+        .catalogue()
+        .scope_text(setting.alloc, token.scope)
+    else {
+        return unavailable();
+    };
+    let issued = token.moment.get();
+    let told = ActiveToken {
+        client: client.id(),
+        issued,
+        expires: issued + u64::from(token.life),
+        scope: &scope,
+        kind: token.kind,
+    };
+    let Ok(reply) = active(setting.alloc, told) else {
+        return unavailable();
+    };
+    reply
+}
+
+/// Answers POST /introspect: any client may ask of any token.
+pub(crate) fn introspect_path(
+    setting: &Setting<'_>,
+    store: &Store,
+    request: &Request<'_>,
+) -> Response
+    ensures done { (history : List Event) (number : ℕ → ℕ) →
+        FitsStore store.now history setting.entry.now.moment number →
+        (refused : Bool) × IsUndone (chosen refused
+        (introspect setting.entry.now.rules.now history (asked_of request.entry.now) setting.entry.now.moment)) result }
+    ensures short { IsShort result }
+{
+    let presented = match presented_by(setting, request) {
+        Ok(presented) => presented,
+        Err(halt) => {
+            return halted(setting.alloc, halt);
+        }
+    };
+    let Some(token) = live_token(store, setting.moment, presented.digest) else {
+        return tell_inactive(setting.alloc);
+    };
+    tell_active(setting, &token)
+}

@@ -1,0 +1,101 @@
+-- The use of a refresh token, by what the store answers of it.
+use Rattle.std.proofs.Common.{◌≡◌, ℕ, List, Bool, true, false, Option, Some, None, refl, sym}
+use Rattle.std.specs.Prelude.{◌==◌, ◌&&◌, not, option_map, if◌then◌else◌}
+use Rattle.std.specs.Option.{option_and_then}
+use Rattle.std.proofs.lemmas.Bool.{eqb-true, false≢true}
+use Rattle.consent.specs.History.{Event, Grant, grant_at, is_spent, has_ended}
+use Rattle.consent.specs.declared.grant.Kind.{Kind}
+use Rattle.consent.specs.declared.grant.Kind.TheVariants.{Code, Token}
+use Rattle.consent.specs.declared.grant.TokenKind.TheVariants.{Access, Refresh}
+use Rattle.grant_store.specs.Kept.{Kept}
+use Rattle.grant_store.specs.Fits.{seen}
+use Rattle.grant_store.specs.Views.{refresh_in, as_refresh, is_refresh, owner_no}
+use Rattle.replies.specs.declared.error.ErrorName.TheVariants.{InvalidGrant}
+use Rattle.replies.specs.Written.{Written}
+use Rattle.points.specs.Outcomes.{Outcome, point, need, refuse, chosen}
+use Rattle.points.specs.Texts.{where_passes}
+use Rattle.grants.specs.declared.refresh.RefreshStep.{RefreshStep}
+use Rattle.grants.specs.declared.refresh.RefreshStep.TheVariants.{Invalid, End, Use}
+use Rattle.grants.specs.Done.{IsDone}
+use Rattle.grants.specs.Exchange.{ends_family}
+use Rattle.grants.specs.Grants.{owner_number}
+use Rattle.grants.specs.Refresh.{checked, token_points}
+use Rattle.grants.specs.RefreshSteps.{step_told, IsStepOf}
+use Rattle.grants.specs.Tokens.{is_own}
+
+-- the points came to the use of a token, which was done
+pub used_done : (refused : Bool) (points : Outcome) (next : List ℕ → Outcome) (digest used : List ℕ) (reply : Written) (kept : List Kept) (history : List Event) (m : ℕ) →
+    points ≡ next digest → used ≡ digest → IsDone (chosen refused (next used)) reply kept history m →
+    IsDone (chosen refused points) reply kept history m
+used_done refused points next digest used reply kept history m is same done = rw (is, ← same) done
+
+-- the number of an owner says who it is
+pub owner_number-owner_no : (owner : ℕ) → owner ≡ owner_number (owner_no owner)
+owner_number-owner_no owner = by_test (owner == 0) refl
+  where
+    by_test : (b : Bool) → (owner == 0) ≡ b → owner ≡ owner_number (if b then None else Some owner)
+    by_test true is = eqb-true owner 0 is
+    by_test false is = refl
+
+refresh_kind : (k : Kind) → is_refresh k ≡ true → k ≡ Token Refresh
+refresh_kind Code h = absurd (false≢true h)
+refresh_kind (Token Access) h = absurd (false≢true h)
+refresh_kind (Token Refresh) h = refl
+
+pub refresh_points : (history : List Event) (number : ℕ → ℕ) (m client : ℕ) (digest : List ℕ) (next : Grant → Outcome) →
+    IsStepOf history number m client digest next (token_points history m client digest next)
+    (step_told client digest (refresh_in history number digest m))
+refresh_points history number m client digest next = by_grant (grant_at history digest m) refl
+  where
+    other : (c : Bool) (rest : RefreshStep) → c ≡ false →
+        IsStepOf history number m client digest next (refuse InvalidGrant) (if not c then Invalid else rest)
+    other false rest is = refl
+    other true rest is = absurd (false≢true (sym is))
+
+    final : (g : Grant) → grant_at history digest m ≡ Some g → g.kind ≡ Token Refresh → (c s e : Bool) → c ≡ true →
+        (g.client == client) ≡ c → is_spent history digest m ≡ s → has_ended history g.family ≡ e →
+        IsStepOf history number m client digest next
+        (point s (ends_family g) (point e (refuse InvalidGrant) (next g)))
+        (if not c then Invalid
+        else (if s then End (number g.family)
+        else (if e then Invalid
+        else Use (record { digest = digest; owner = owner_no g.owner; scope = g.scope; family = number g.family }))))
+    final g at kind false s e own ci si ei = absurd (false≢true own)
+    final g at kind true true e own ci si ei = (g, record { digest = digest; is_named = at; number_is = refl }, refl)
+    final g at kind true false true own ci si ei = refl
+    final g at kind true false false own ci si ei = (
+      g,
+      record {
+        digest_is = refl;
+        source = record { is_named = at; kind_is = kind; number_is = refl };
+        client_is = eqb-true g.client client ci;
+        owner_is = owner_number-owner_no g.owner;
+        scope_is = refl;
+        unspent = si;
+        alive = ei;
+      },
+      refl,
+    )
+
+    by_kind : (g : Grant) → grant_at history digest m ≡ Some g → (k : Bool) → is_refresh g.kind ≡ k → (c : Bool) → (g.client == client) ≡ c →
+        IsStepOf history number m client digest next
+        (need (if k && c then Some g else None) (refuse InvalidGrant) (checked history m digest next))
+        (step_told client digest (if k then Some (record {
+          client = g.client;
+          owner = owner_no g.owner;
+          scope = g.scope;
+          family = number g.family;
+          spent = is_spent history digest m;
+          ended = has_ended history g.family;
+        }) else None))
+    by_kind g at false ki c ci = refl
+    by_kind g at true ki false ci = other (g.client == client) _ ci
+    by_kind g at true ki true ci =
+        final g at (refresh_kind g.kind ki) (g.client == client) (is_spent history digest m) (has_ended history g.family) ci refl refl refl
+
+    by_grant : (o : Option Grant) → grant_at history digest m ≡ o →
+        IsStepOf history number m client digest next
+        (need (where_passes (is_own is_refresh client) o) (refuse InvalidGrant) (checked history m digest next))
+        (step_told client digest (option_and_then as_refresh (option_map (seen history number digest m) o)))
+    by_grant None at = refl
+    by_grant (Some g) at = by_kind g at (is_refresh g.kind) refl (g.client == client) refl

@@ -1,0 +1,12 @@
+pub mod Tokens
+pub mod Grants
+pub mod Issuing
+pub mod Exchange
+pub mod ExchangeSteps
+pub mod Refresh
+pub mod ClientCredentials
+pub mod RefreshSteps
+pub mod TokenPath
+pub mod Done
+pub mod DoneLaws
+pub mod ShortLaws

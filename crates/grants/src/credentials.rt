@@ -1,0 +1,101 @@
+//! POST /token with grant_type client_credentials (RFC 6749, section 4.4).
+ghost use Rattle.std.specs.Prelude.{◌≡◌, ◌≤◌, ℕ, List, length, Bool, Some};
+ghost use Rattle.clients.specs.ClientRecord.{ClientRecord};
+ghost use Rattle.clients.specs.Clients.{client_at};
+ghost use Rattle.consent.specs.History.{Event};
+ghost use Rattle.grant_store.specs.Fits.{FitsStore};
+ghost use Rattle.points.specs.Outcomes.{chosen};
+ghost use Rattle.grants.specs.ClientCredentials.{client_credentials, granted};
+ghost use Rattle.grants.specs.Done.{IsDone, IsShort};
+ghost use Rattle.grants.specs.Grants.{left_of};
+
+use crate::answering::{refuse, unavailable};
+use crate::ask::{Wish, ask_for};
+use crate::issuing::{access_reply, access_token};
+use crate::setting::Setting;
+use clients::ClientNo;
+use grant_store::{Home, Store};
+use hook_chain::{HookHost, decided};
+use hook_record::{Ask, Kind, Narrowed};
+use params::Params;
+use points::scope_within;
+use replies::{ErrorName, Response};
+
+// An access token of the client's own.
+fn issue_own(
+    setting: &Setting<'_>,
+    store: &mut Store,
+    client: ClientNo,
+    scope: u64,
+    life: u32,
+) -> Response
+    ensures done { (history : List Event) (number : ℕ → ℕ) →
+        FitsStore store.old history setting.entry.now.moment number →
+        (refused : Bool) × IsDone (chosen refused (granted setting.entry.now.rules.now history
+        setting.entry.now.moment setting.entry.now.draws.now client (Narrowed.Allowed scope life)))
+        result store.new history setting.entry.now.moment }
+    ensures short { IsShort result }
+{
+    let Ok(reply) = access_reply(setting, scope, life) else {
+        return unavailable();
+    };
+    let token = access_token(setting, scope, life);
+    let Ok(_) = store.issue(Home::Client(client), &[token], setting.moment) else {
+        return unavailable();
+    };
+    reply
+}
+
+// What the host leaves of the ask.
+fn grant<H: HookHost>(
+    setting: &Setting<'_>,
+    store: &mut Store,
+    host: &H,
+    client: ClientNo,
+    ask: &Ask,
+) -> Response
+    ensures done { (history : List Event) (number : ℕ → ℕ) →
+        FitsStore store.old history setting.entry.now.moment number →
+        (refused : Bool) × IsDone (chosen refused (granted setting.entry.now.rules.now history
+        setting.entry.now.moment setting.entry.now.draws.now client (left_of (H.answer host.now) ask.entry.now)))
+        result store.new history setting.entry.now.moment }
+    ensures short { IsShort result }
+{
+    match decided(host, ask) {
+        Narrowed::Denied => refuse(setting.alloc, ErrorName::UnauthorizedClient),
+        Narrowed::EmptyScope => refuse(setting.alloc, ErrorName::InvalidScope),
+        Narrowed::Allowed { scope, life } => issue_own(setting, store, client, scope, life),
+    }
+}
+
+// The scope that is asked for, within what the client may be allowed.
+pub(crate) fn credentials_path<H: HookHost>(
+    setting: &Setting<'_>,
+    store: &mut Store,
+    host: &H,
+    params: &Params,
+    number: ClientNo,
+) -> Response
+    requires { number ≤ length setting.now.rules.now.clients }
+    ensures done { (history : List Event) (numbers : ℕ → ℕ) (client : ClientRecord) →
+        FitsStore store.old history setting.entry.now.moment numbers →
+        client_at number setting.entry.now.rules.now.clients ≡ Some client →
+        (refused : Bool) × IsDone (chosen refused (client_credentials setting.entry.now.rules.now history
+        (H.answer host.now) setting.entry.now.moment setting.entry.now.draws.now params.now
+        (record { number = number; client = client }))) result store.new history setting.entry.now.moment }
+    ensures short { IsShort result }
+{
+    let limit = setting.rules.client(number).allowed();
+    let Some(scope) = scope_within(setting.rules, limit, params) else {
+        return refuse(setting.alloc, ErrorName::InvalidScope);
+    };
+    let wish = Wish {
+        kind: Kind::ClientCredentials,
+        client: number,
+        owner: None,
+        scope,
+        consented: 0,
+    };
+    let ask = ask_for(setting, wish);
+    grant(setting, store, host, number, &ask)
+}

@@ -1,0 +1,104 @@
+//! POST /token (RFC 6749, section 3.2).
+ghost use Rattle.std.specs.Prelude.{◌≡◌, ◌≤◌, ℕ, List, Bool, length};
+ghost use Rattle.consent.specs.Consents.{FitsConsents};
+ghost use Rattle.consent.specs.History.{Event};
+ghost use Rattle.grant_store.specs.Fits.{FitsStore};
+ghost use Rattle.requests.specs.Asked.{asked_of};
+ghost use Rattle.points.specs.Halts.{Leads};
+ghost use Rattle.points.specs.Outcomes.{Outcome, chosen, need, unavailable};
+ghost use Rattle.points.specs.Requesters.{known_client};
+ghost use Rattle.clients.specs.declared.grant.GrantType.{GrantType};
+ghost use Rattle.grants.specs.Done.{IsDone, IsShort};
+ghost use Rattle.grants.specs.TokenPath.{type_points, token_points, issue_token};
+
+use crate::answering::halted;
+use crate::credentials::credentials_path;
+use crate::exchange::exchange_path;
+use crate::refresh::refresh_path;
+use crate::setting::Setting;
+use clients::{Client, ClientNo, GrantType};
+use consent::Consents;
+use grant_store::Store;
+use hook_chain::HookHost;
+use params::Params;
+use points::{Halt, authenticated_client, form};
+use replies::{ErrorName, Response};
+use requests::Request;
+
+// The grant type, which the client may use.
+fn grant_type(params: &Params, client: &Client) -> Result<GrantType, Halt>
+    ensures { (next : GrantType → Outcome) → Leads result (type_points params.now client.now next) next }
+{
+    let Some(name) = params.get("grant_type") else {
+        return Err(Halt::Refuse(ErrorName::InvalidRequest));
+    };
+    let Some(grant) = GrantType::named(name) else {
+        return Err(Halt::Refuse(ErrorName::UnsupportedGrantType));
+    };
+    if !client.has_grant(grant) {
+        return Err(Halt::Refuse(ErrorName::UnauthorizedClient));
+    }
+    Ok(grant)
+}
+
+// The points of the grant type, for the client of that number.
+fn grant_path<H: HookHost>(
+    setting: &Setting<'_>,
+    store: &mut Store,
+    consents: &Consents,
+    host: &H,
+    params: &Params,
+    number: ClientNo,
+) -> Response
+    requires { number ≤ length setting.now.rules.now.clients }
+    ensures done { (history : List Event) (numbers : ℕ → ℕ) →
+        FitsStore store.old history setting.entry.now.moment numbers → FitsConsents consents.now history →
+        (refused : Bool) × IsDone (chosen refused (need (known_client setting.entry.now.rules.now number) unavailable
+        (token_points setting.entry.now.rules.now history (H.answer host.now) setting.entry.now.moment
+        setting.entry.now.draws.now params.now))) result store.new history setting.entry.now.moment }
+    ensures short { IsShort result }
+{
+    let grant = match grant_type(params, setting.rules.client(number)) {
+        Ok(grant) => grant,
+        Err(halt) => {
+            return halted(setting.alloc, halt);
+        }
+    };
+    match grant {
+        GrantType::AuthorizationCode => {
+            exchange_path(setting, store, consents, host, params, number)
+        }
+        GrantType::RefreshToken => refresh_path(setting, store, consents, host, params, number),
+        GrantType::ClientCredentials => credentials_path(setting, store, host, params, number),
+    }
+}
+
+/// Answers a request for tokens.
+pub fn token_path<H: HookHost>(
+    setting: &Setting<'_>,
+    store: &mut Store,
+    consents: &Consents,
+    host: &H,
+    request: &Request<'_>,
+) -> Response
+    ensures done { (history : List Event) (numbers : ℕ → ℕ) →
+        FitsStore store.old history setting.entry.now.moment numbers → FitsConsents consents.now history →
+        (refused : Bool) × IsDone (chosen refused (issue_token setting.entry.now.rules.now history (H.answer host.now)
+        (asked_of request.entry.now) setting.entry.now.moment setting.entry.now.draws.now))
+        result store.new history setting.entry.now.moment }
+    ensures short { IsShort result }
+{
+    let params = match form(setting.alloc, request) {
+        Ok(params) => params,
+        Err(halt) => {
+            return halted(setting.alloc, halt);
+        }
+    };
+    let number = match authenticated_client(setting.alloc, setting.rules, request, &params) {
+        Ok(number) => number,
+        Err(halt) => {
+            return halted(setting.alloc, halt);
+        }
+    };
+    grant_path(setting, store, consents, host, &params, number)
+}
