@@ -1,0 +1,126 @@
+-- What the parser's answers say of the front of the bytes.
+use Rattle.std.proofs.Common.{◌≡◌, ℕ, ◌+◌, ◌<◌, ◌≤◌, inl, inr, List, [], ◌∷◌, ◌++◌, Some, length, take, drop, refl, sym, ap, ◌∙◌, arith, append-nil, length-append}
+use Rattle.std.proofs.lemmas.List.{take_at, take-append-drop, take-append-le, length-take-le, length-take, length-drop, drop-drop, length-map}
+use Rattle.httparse.specs.Grammar.{RequestHead, print_request, ReadsRequest, HasNoRequest, NeverHasRequest, MayBecomeRequest, Field}
+use Rattle.httparse.specs.Spans.{RequestOverflows, IsWithin, AreFieldsAt, header_bytes, name_and_value}
+use Rattle.httparse.specs.declared.spans.Span.{Span}
+use Rattle.httparse.specs.declared.spans.HeaderSpan.{HeaderSpan}
+use Rattle.httparse.proofs.GrammarLemmas.{request_unique, request_prefix_free, ReadsRequest-append}
+use Rattle.heads.specs.Limits.{head_size_limit, field_line_limit, body_size_limit}
+use Rattle.heads.specs.Fields.{content_length, AreGoodFields}
+use Rattle.heads.specs.Places.{AreFieldsIn}
+use Rattle.heads.specs.declared.fields.FieldSpans.{FieldSpans}
+use Rattle.std.specs.Prelude.{is_some, Option}
+use Rattle.heads.specs.Message.{BeginsWith, IsHopeless, IsGood, fields_of}
+use Rattle.heads.specs.Waiting.{IsUnfinished, Wants}
+use Rattle.heads.specs.ReadingLaws.{reads_head, same_some}
+
+-- an error about the input
+pub hopeless_invalid : (bytes : List ℕ) → NeverHasRequest bytes → IsHopeless bytes
+hopeless_invalid bytes never more m rest b = never more m.head (m.body ++ rest) (reads_head _ m rest b)
+
+-- more lines than there is room for
+pub hopeless_overflow : (bytes : List ℕ) → RequestOverflows field_line_limit bytes → IsHopeless bytes
+hopeless_overflow bytes over more m rest b =
+    let many = over more m.head (m.body ++ rest) (reads_head _ m rest b) in
+    let few = b.good.lines in
+    omega (arith, many, few)
+
+-- a whole head that is not good
+pub hopeless_head : (bytes : List ℕ) (head : RequestHead) (after : List ℕ) → ReadsRequest bytes head after → ¬ (IsGood head) → IsHopeless bytes
+hopeless_head bytes head after whole bad more m rest b =
+    let same = request_prefix_free bytes more head m.head after (m.body ++ rest) whole (reads_head _ m rest b) in
+    bad (rw same.0 b.good)
+
+-- as many bytes as a head may have, and no head at their front
+pub hopeless_long : (bytes : List ℕ) → head_size_limit ≤ length bytes → HasNoRequest bytes → IsHopeless bytes
+hopeless_long bytes long none more m rest b =
+    let t : List ℕ = print_request m.head in
+    let size = b.good.size in
+    let fits : length t ≤ length bytes = omega (arith, long, size) in
+    let front : take (length t) bytes ≡ t =
+    sym (take-append-le (length t) bytes more fits) ∙ ap (take (length t)) b.text ∙ take_at t (m.body ++ rest) (length t) refl in
+    none m.head (drop (length t) bytes) (b.head, sym (take-append-drop (length t) bytes) ∙ ap (λ (l : List ℕ). l ++ drop (length t) bytes) front)
+
+-- ---- more bytes are wanted
+
+-- nothing follows
+no_more : (bytes more : List ℕ) → length (bytes ++ more) < length bytes + 1 → bytes ≡ bytes ++ more
+no_more bytes [] less = sym (append-nil bytes)
+no_more bytes (b ∷ more) less = (let n = length-append bytes (b ∷ more) in absurd (omega (arith, n, less)))
+
+-- no head yet, and fewer bytes than a head may have
+pub wants_head : (bytes : List ℕ) → length bytes < head_size_limit → HasNoRequest bytes → MayBecomeRequest bytes → Wants bytes (length bytes + 1)
+wants_head bytes short none may =
+    let unfinished : IsUnfinished bytes (length bytes + 1) = record {
+      none = λ m rest b. none m.head (m.body ++ rest) (reads_head bytes m rest b);
+      untold = λ must. elim must [
+        | inl f ↦ none f.head f.after f.reads
+        | inr other ↦ elim other [ inl r ↦ r.never may | inr l ↦ (let size = l.size in omega (arith, size, short)) ]
+      ];
+      short = omega (arith, short);
+      message = λ head after size reads good body. absurd (none head after reads);
+    } in
+    record { fewer = omega arith; waiting = λ more less. rw (← no_more bytes more less) unfinished }
+
+-- a good head, and not its whole body
+module _ (head : RequestHead) (size : ℕ) (good : IsGood head) (body : content_length (fields_of head) ≡ Some size) (small : size ≤ body_size_limit) where
+  unfinished_body : (bytes after : List ℕ) → ReadsRequest bytes head after → length bytes < length (print_request head) + size → IsUnfinished bytes (length (print_request head) + size)
+  unfinished_body bytes after whole short = record {
+    none = λ m rest b.
+        let same = request_unique bytes head m.head after (m.body ++ rest) whole (reads_head bytes m rest b) in
+        let long : size ≡ length m.body = same_some _ _ (sym body ∙ ap (λ h. content_length (fields_of h)) same.0 ∙ b.body) in
+        let all : length bytes ≡ length (print_request head) + length after = ap length whole.1 ∙ length-append (print_request head) after in
+        let behind : length after ≡ length m.body + length rest = ap length same.1 ∙ length-append m.body rest in
+        omega (arith, long, all, behind, short);
+    untold = λ must. elim must [
+      | inl f ↦ f.faulty (rw (request_unique bytes head f.head after f.after whole f.reads).0 at good)
+      | inr other ↦ elim other [ inl r ↦ r.none head after whole | inr l ↦ l.none head after whole good ]
+    ];
+    short = (let most = good.size in omega (arith, most, short, small));
+    message = λ other behind n reads fine is.
+        let same = request_unique bytes head other after behind whole reads in
+        let long : size ≡ n = same_some _ _ (sym body ∙ ap (λ h. content_length (fields_of h)) same.0 ∙ is) in
+        ap (λ h. length (print_request h) + size) same.0 ∙ ap (λ k. length (print_request other) + k) long;
+  }
+
+  pub wants_body : (bytes after : List ℕ) → ReadsRequest bytes head after → length bytes < length (print_request head) + size → Wants bytes (length (print_request head) + size)
+  wants_body bytes after whole short = record {
+    fewer = short;
+    waiting = λ more less. unfinished_body (bytes ++ more) (after ++ more) (ReadsRequest-append bytes head after more whole) less;
+  }
+
+-- ---- a whole message
+
+-- a good head, and its whole body
+pub begins_whole : (bytes : List ℕ) (head : RequestHead) (len size : ℕ) → ReadsRequest bytes head (drop len bytes) → IsGood head → content_length (fields_of head) ≡ Some size → len + size ≤ length bytes →
+    BeginsWith bytes (record { head = head; body = take size (drop len bytes) }) (drop (len + size) bytes)
+begins_whole bytes head len size whole good body fits =
+    let few : size ≤ length (drop len bytes) = (let l = length-drop len bytes in omega (arith, l, fits)) in
+    record {
+      head = whole.0;
+      good = good;
+      body = body ∙ ap Some (sym (length-take-le size (drop len bytes) few));
+      text = whole.1 ∙ ap (λ r. print_request head ++ r) (sym (take-append-drop size (drop len bytes)) ∙ ap (λ r. take size (drop len bytes) ++ r) (drop-drop size len bytes));
+    }
+
+-- no more lines than places for them
+pub few_lines : (bytes : List ℕ) (headers : List HeaderSpan) (count : ℕ) (fields : List Field) → AreFieldsAt bytes headers count fields → length headers ≤ field_line_limit → length fields ≤ field_line_limit
+few_lines bytes headers count fields at room =
+    let same = sym (length-map fields name_and_value) ∙ sym (ap length at) ∙ length-map (take count headers) (header_bytes bytes) in
+    let le = length-take count headers in
+    omega (arith, same, le, room)
+
+-- fields whose places were found are good
+pub good_fields : (bytes : List ℕ) (fields : List (List ℕ × List ℕ)) (spans : FieldSpans) → AreFieldsIn bytes fields spans → AreGoodFields fields
+good_fields bytes fields spans is = record {
+  transfer = is.transfer;
+  authorization = is.authorization.once;
+  content_type = is.content_type.once;
+  owner_key = is.owner_key.once;
+  operator_key = is.operator_key.once;
+  body = sym (ap (λ (o : Option ℕ). is_some o) (sym is.body));
+}
+
+pub within_more : (n k : ℕ) (span : Span) → n ≤ k → IsWithin n span → IsWithin k span
+within_more n k span le w = (w.0, (let a = w.1 in omega (arith, a, le)))

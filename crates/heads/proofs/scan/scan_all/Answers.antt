@@ -1,0 +1,77 @@
+use Rattle.std.proofs.Common.{◌≡◌, ℕ, List, ◌+◌, ◌-◌, length, take, drop, [], ◌∷◌, ◌++◌, refl, arith, length-append}
+use Rattle.std.proofs.lemmas.Bool.{true≢false, false≢true}
+use Rattle.std.proofs.lemmas.List.{take_all, length-drop, drop-drop}
+use Rattle.heads.specs.Message.{Message, BeginsWith, IsHopeless}
+use Rattle.heads.specs.Waiting.{Wants}
+use Rattle.heads.specs.Front.{IsFoundWithin, IsWholeAt}
+use Rattle.heads.specs.ReadingLaws.{reads_push, hopeless_has_none}
+use Rattle.heads.specs.WaitingLaws.{waits_for_nothing, waiting_unfinished}
+use Rattle.heads.proofs.scan.scan_all.Goals as goal
+
+tail_is : (n : ℕ) (bytes : List ℕ) → take (length bytes - n) (drop n bytes) ≡ drop n bytes
+tail_is n bytes = take_all _ _ (let l = length-drop n bytes in omega (arith, l))
+
+pub requests-preserved : goal.requests-preserved
+requests-preserved c =
+    let bytes = c.args.bytes.now in
+    let end = c.requests.end in
+    let f = c.in-Whole.found in
+    let rest : List ℕ = drop end bytes in
+    let whole : IsFoundWithin rest f × ((m : Message) × IsWholeAt rest f m) = rw (← tail_is end bytes) c.in-Whole.ensures in
+    let here = length-drop end bytes in
+    let fits = whole.0.end in
+    let some = whole.0.some in
+    let before = c.requests.invariant in
+    let begins : BeginsWith rest whole.1.0 (drop (end + f.end) bytes) = rw (← drop-drop f.end end bytes) whole.1.1.begins in
+    let n = length-append before.messages (whole.1.0 ∷ []) in
+    let count = before.count in
+    let few = before.few in
+    let old = before.end in
+    record {
+      messages = before.messages ++ whole.1.0 ∷ [];
+      count = omega (arith, n, count);
+      few = omega (arith, few, some);
+      end = omega (arith, fits, here, old);
+      reads = reads_push bytes before.messages rest whole.1.0 (drop (end + f.end) bytes) before.reads begins;
+    }
+
+pub returns-in-More : goal.returns-in-More
+returns-in-More c =
+    let bytes = c.args.bytes.now in
+    let end = c.requests.end in
+    let wanted = c.in-More.wanted in
+    let wants : Wants (drop end bytes) wanted = rw (← tail_is end bytes) c.in-More.ensures in
+    let unfinished = waiting_unfinished (drop end bytes) wanted wants.waiting wants.fewer in
+    let before = c.requests.invariant in
+    record {
+      messages = before.messages;
+      count = before.count;
+      end = before.end;
+      reads = record { reads = before.reads; none = unfinished.none };
+      hopeless = λ e. absurd (false≢true e);
+      must = λ must. absurd (unfinished.untold must);
+      nothing = λ e. absurd (false≢true e);
+      short = λ e. unfinished.short;
+      wants = λ e. wants;
+      waiting = wants.waiting;
+    }
+
+pub returns-in-Faulty : goal.returns-in-Faulty
+returns-in-Faulty c =
+    let bytes = c.args.bytes.now in
+    let end = c.requests.end in
+    let rest : List ℕ = drop end bytes in
+    let hopeless : IsHopeless rest = rw (← tail_is end bytes) c.in-Faulty.ensures in
+    let before = c.requests.invariant in
+    record {
+      messages = before.messages;
+      count = before.count;
+      end = before.end;
+      reads = record { reads = before.reads; none = hopeless_has_none rest hopeless };
+      hopeless = λ e. hopeless;
+      must = λ must. refl;
+      nothing = λ e. refl;
+      short = λ e. absurd (true≢false e);
+      wants = λ e. absurd (true≢false e);
+      waiting = waits_for_nothing rest;
+    }

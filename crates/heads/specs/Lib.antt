@@ -1,0 +1,10 @@
+pub mod Limits
+pub mod ContentLength
+pub mod Fields
+pub mod Message
+pub mod Waiting
+pub mod Places
+pub mod Front
+pub mod Scan
+pub mod ReadingLaws
+pub mod WaitingLaws

@@ -1,0 +1,192 @@
+-- An edge goes on by one event.
+use Rattle.std.proofs.Common.{◌≡◌, ◌≢◌, ◌≤◌, ◌<◌, ◌+◌, inl, inr, ℕ, List, [], ◌∷◌, ◌++◌, Bool, true, false, cond, Some, None, length, length-append, append_assoc, drop, refl, ap, ◌∙◌, sym, subst, arith}
+use Rattle.std.proofs.lemmas.List.{length-drop, drop-drop, drop-append-le}
+use Rattle.hook_chain.specs.declared.host.HookHost.{Ghosts as Hosting}
+use Rattle.clients.specs.RegistryRecord.{RegistryRecord}
+use Rattle.consent.specs.History.{Event, with_changes}
+use Rattle.requests.specs.declared.request.Draws.{Draws}
+use Rattle.points.specs.Outcomes.{Outcome}
+use Rattle.endpoints.specs.Bounded.{IsBounded}
+use Rattle.endpoints.specs.BoundedLaws.{tokens_keep_their_bounds}
+use Rattle.endpoints.specs.Server.{Seen, FitsServer}
+use Rattle.heads.specs.Message.{Message}
+use Rattle.heads.specs.ReadingLaws.{messages_cut, nothing_has_none}
+use Rattle.http_edge.specs.Answers.{changes_of, replies_of}
+use Rattle.http_edge.specs.Schedule.{World, Connection, Happening, Opened, Came, HasEnded, Taken, Forgotten, Happens, Run, start, fresh, heard, with_connection, without_connection, moment_after, faulty_if}
+use Rattle.http_edge.specs.Lanes.{SeenLane, lane_at, with_lane, without_lane, fresh_lane, ShowsConnection, ShowsConnections}
+use Rattle.http_edge.specs.Heard.{IsRead, LaneHeard}
+use Rattle.http_edge.specs.Edges.{SeenEdge}
+use Rattle.http_edge.specs.Reached.{Reached, GoesOn, Leads, PieceLeads}
+use Rattle.http_edge.specs.declared.lane.Phase.{Phase}
+use Rattle.http_edge.specs.declared.lane.Phase.TheVariants.{Open, Closing, Ended}
+use Rattle.http_edge.proofs.Showing.{shows_here, shows_none, shows_put, shows_without, shows_added, shows_length}
+
+-- what a server fits is bounded
+pub fits_bounded : {H : Type 0} (hosting : Hosting H) (server : Seen H) (rules : RegistryRecord) (first : H) (history : List Event) (m : ℕ) → FitsServer hosting.installs hosting.removes server rules first history m →
+    IsBounded rules history
+fits_bounded hosting server rules first history m fits = tokens_keep_their_bounds rules history m fits.store.is_history fits.right
+
+run_push : {H : Type 0} (hosting : Hosting H) (rules : RegistryRecord) (first : H) (old middle new : World) (es : List Happening) (e : Happening) →
+    Run hosting rules first old es middle → Happens hosting rules first middle e new → Run hosting rules first old (es ++ e ∷ []) new
+run_push hosting rules first old middle new [] e same happens = (new, (let P : World → Type 0 = λ w. Happens hosting rules first w e new in subst P same happens), refl)
+run_push hosting rules first old middle new (x ∷ es) e run happens = (run.0, run.1, run_push hosting rules first run.0 middle new es e run.2 happens)
+
+-- the world with other connections
+abbrev pub changed : World → List Connection → World
+changed world connections = record { connections = connections; greatest = world.greatest; history = world.history }
+
+-- an event after which the same server has other lanes
+goes_on : {H : Type 0} (hosting : Hosting H) (edge edge' : SeenEdge H) (rules : RegistryRecord) (first : H) (schedule : List Happening) (world : World) (connections : List Connection) (e : Happening) →
+    Reached hosting edge rules first schedule world → edge'.server ≡ edge.server → ShowsConnections edge'.lanes connections → Happens hosting rules first world e (changed world connections) →
+    GoesOn hosting edge' rules first schedule world e
+goes_on hosting edge edge' rules first schedule world connections e reached same shows happens = record {
+  world = changed world connections;
+  happens = happens;
+  reached = record {
+    run = run_push hosting rules first start world (changed world connections) schedule e reached.run happens;
+    server = rw same reached.server;
+    shows = shows;
+    bounded = reached.bounded;
+  };
+}
+
+-- lanes that show are those with these equals
+shows_as : (lanes lanes' : List SeenLane) (ks : List Connection) → lanes' ≡ lanes → ShowsConnections lanes ks → ShowsConnections lanes' ks
+shows_as lanes lanes' ks e s = subst (λ l. ShowsConnections l ks) (sym e) s
+
+shows_fresh : (c : ℕ) → ShowsConnection (fresh_lane c) (fresh c)
+shows_fresh c = record { number = refl; phase = refl; within = omega arith; output = refl; rest = λ e. record { reads = refl; none = nothing_has_none } }
+
+pub on_opened : {H : Type 0} (hosting : Hosting H) (edge edge' : SeenEdge H) (c : ℕ) → edge'.server ≡ edge.server → lane_at edge.lanes c ≡ None → length edge.lanes < 64 →
+    edge'.lanes ≡ edge.lanes ++ fresh_lane c ∷ [] → Leads hosting edge edge' (Opened c)
+on_opened hosting edge edge' c same none few lanes rules first schedule world reached =
+    let size = shows_length edge.lanes world.connections reached.shows in
+    goes_on hosting edge edge' rules first schedule world (world.connections ++ fresh c ∷ []) _ reached same
+    (shows_as _ _ _ lanes (shows_added edge.lanes world.connections (fresh_lane c) (fresh c) reached.shows (shows_fresh c)))
+    (record { absent = shows_none edge.lanes world.connections c reached.shows none; few = omega (arith, size, few); still = record { greatest = refl; history = refl }; connections = refl })
+
+pub on_ended : {H : Type 0} (hosting : Hosting H) (edge edge' : SeenEdge H) (c : ℕ) (lane : SeenLane) → edge'.server ≡ edge.server → lane_at edge.lanes c ≡ Some lane → lane.phase ≢ Ended →
+    edge'.lanes ≡ with_lane c (record { number = lane.number; phase = Ended; rest = []; output = lane.output }) edge.lanes → Leads hosting edge edge' (HasEnded c)
+on_ended hosting edge edge' c lane same here not_ended lanes rules first schedule world reached =
+    let at = shows_here edge.lanes world.connections c lane reached.shows here in
+    let shows = at.2 in
+    let k : Connection = record at.0 { phase = Ended } in
+    goes_on hosting edge edge' rules first schedule world (with_connection c k world.connections) _ reached same
+    (shows_as _ _ _ lanes (shows_put edge.lanes world.connections c _ k reached.shows
+    (record { number = shows.number; phase = refl; within = shows.within; output = shows.output; rest = λ e. absurd (cc) })))
+    (record { before = at.0; here = at.1; not_ended = λ e. not_ended (shows.phase ∙ e); still = record { greatest = refl; history = refl }; connections = refl })
+
+pub on_taken : {H : Type 0} (hosting : Hosting H) (edge edge' : SeenEdge H) (c n : ℕ) (lane : SeenLane) → edge'.server ≡ edge.server → lane_at edge.lanes c ≡ Some lane → n ≤ length lane.output →
+    edge'.lanes ≡ with_lane c (record { number = lane.number; phase = lane.phase; rest = lane.rest; output = drop n lane.output }) edge.lanes → Leads hosting edge edge' (Taken c n)
+on_taken hosting edge edge' c n lane same here fits lanes rules first schedule world reached =
+    let at = shows_here edge.lanes world.connections c lane reached.shows here in
+    let shows = at.2 in
+    let x = at.0 in
+    let k : Connection = record x { taken = x.taken + n } in
+    let size = ap length shows.output in
+    let within = shows.within in
+    let left = length-drop x.taken x.output in
+    let enough : x.taken + n ≤ length x.output = omega (arith, size, within, left, fits) in
+    goes_on hosting edge edge' rules first schedule world (with_connection c k world.connections) _ reached same
+    (shows_as _ _ _ lanes (shows_put edge.lanes world.connections c _ k reached.shows
+    (record { number = shows.number; phase = shows.phase; within = enough; output = ap (drop n) shows.output ∙ drop-drop n x.taken x.output; rest = shows.rest })))
+    (inl (record { before = x; here = at.1; fits = enough; still = record { greatest = refl; history = refl }; connections = refl }))
+
+pub on_taken_nothing : {H : Type 0} (hosting : Hosting H) (edge edge' : SeenEdge H) (c n : ℕ) → edge'.server ≡ edge.server → lane_at edge.lanes c ≡ None → n ≡ 0 → edge'.lanes ≡ edge.lanes →
+    Leads hosting edge edge' (Taken c n)
+on_taken_nothing hosting edge edge' c n same none zero lanes rules first schedule world reached =
+    goes_on hosting edge edge' rules first schedule world world.connections _ reached same (shows_as _ _ _ lanes reached.shows)
+    (inr (record { absent = shows_none edge.lanes world.connections c reached.shows none; nothing = zero; same = refl }))
+
+pub on_forgotten : {H : Type 0} (hosting : Hosting H) (edge edge' : SeenEdge H) (c : ℕ) → edge'.server ≡ edge.server → edge'.lanes ≡ without_lane c edge.lanes → Leads hosting edge edge' (Forgotten c)
+on_forgotten hosting edge edge' c same lanes rules first schedule world reached =
+    goes_on hosting edge edge' rules first schedule world (without_connection c world.connections) _ reached same
+    (shows_as _ _ _ lanes (shows_without edge.lanes world.connections c reached.shows))
+    (record { still = record { greatest = refl; history = refl }; connections = refl })
+
+-- bytes after the 400 of a faulty head
+pub on_passed : {H : Type 0} (hosting : Hosting H) (edge edge' : SeenEdge H) (c : ℕ) (lane : SeenLane) (piece : List ℕ) (moment : ℕ) (draws : List Draws) → edge'.server ≡ edge.server → edge'.lanes ≡ edge.lanes →
+    lane_at edge.lanes c ≡ Some lane → lane.phase ≡ Closing → length piece ≤ 65536 → PieceLeads hosting edge edge' c piece moment draws
+on_passed hosting edge edge' c lane piece moment draws same lanes here closing short rules first schedule world reached =
+    let at = shows_here edge.lanes world.connections c lane reached.shows here in
+    record {
+      marks = [];
+      closes = false;
+      on = goes_on hosting edge edge' rules first schedule world world.connections _ reached same (shows_as _ _ _ lanes reached.shows)
+          (short, inr (record { before = at.0; here = at.1; is_closing = sym at.2.phase ∙ closing; no_marks = refl; no_more = refl; same = refl }));
+    }
+
+rest_kept : (closes : Bool) (kept rest : List ℕ) → kept ≡ cond closes [] rest → ◌≡◌ {A = Phase} (cond closes Closing Open) Open → kept ≡ rest
+rest_kept true kept rest e p = absurd (cc)
+rest_kept false kept rest e p = e
+
+-- the lane after a piece shows the connection after it
+shows_heard : (lane lane' : SeenLane) (k : Connection) (piece : List ℕ) (messages : List Message) (outcomes : List Outcome) (middle : List ℕ) (draws : List Draws) (closes : Bool) → k.phase ≡ Open →
+    ShowsConnection lane k → lane'.number ≡ lane.number → IsRead (lane.rest ++ piece) lane'.rest messages draws closes → lane'.phase ≡ cond closes Closing Open →
+    lane'.output ≡ middle ++ faulty_if closes → middle ≡ lane.output ++ replies_of outcomes → ShowsConnection lane' (heard k piece messages outcomes closes)
+shows_heard lane lane' k piece messages outcomes middle draws closes is_open shows number read phase output said =
+    let le = shows.within in
+    let new : List ℕ = replies_of outcomes ++ faulty_if closes in
+    let n = length-append k.output new in
+    record {
+      number = number ∙ shows.number;
+      phase = phase;
+      within = omega (arith, le, n);
+      output =
+          output ∙ ap (λ o. o ++ faulty_if closes) (said ∙ ap (λ o. o ++ replies_of outcomes) shows.output)
+          ∙ append_assoc (drop k.taken k.output) (replies_of outcomes) (faulty_if closes) ∙ sym (drop-append-le k.taken k.output new le);
+      rest = λ now. rw (rest_kept closes lane'.rest read.rest read.kept_is now) (messages_cut k.stream piece k.messages messages lane.rest read.rest (shows.rest is_open) read.reads);
+    }
+
+-- a piece was heard
+pub on_heard : {H : Type 0} (hosting : Hosting H) (edge edge' : SeenEdge H) (c : ℕ) (lane lane' : SeenLane) (piece : List ℕ) (moment : ℕ) (draws : List Draws) →
+    lane_at edge.lanes c ≡ Some lane → lane.phase ≡ Open → length piece ≤ 65536 → LaneHeard hosting edge.server edge'.server lane lane' piece moment draws → edge'.lanes ≡ with_lane c lane' edge.lanes →
+    PieceLeads hosting edge edge' c piece moment draws
+on_heard hosting edge edge' c lane lane' piece moment draws here is_open short lane_heard lanes rules first schedule world reached =
+    let at = shows_here edge.lanes world.connections c lane reached.shows here in
+    let k = at.0 in
+    let shows = at.2 in
+    let opened : k.phase ≡ Open = sym shows.phase ∙ is_open in
+    let hears = lane_heard.heard in
+    let closes = lane_heard.closes in
+    let messages = hears.messages in
+    let served = hears.serves rules first world.history world.greatest reached.server in
+    let m = moment_after world.greatest moment messages in
+    let k' = heard k piece messages served.outcomes closes in
+    let world' : World = record { connections = with_connection c k' world.connections; greatest = m; history = with_changes world.history m (changes_of served.outcomes) } in
+    let happens : Happens hosting rules first world (Came c piece moment draws served.marks closes) world' = (
+      short,
+      inl (record {
+        before = k;
+        here = at.1;
+        is_open = opened;
+        messages = messages;
+        rest = hears.read.rest;
+        reads = messages_cut k.stream piece k.messages messages lane.rest hears.read.rest (shows.rest opened) hears.read.reads;
+        few = hears.read.few;
+        enough = hears.read.enough;
+        outcomes = served.outcomes;
+        answered = served.answered;
+        may_tell = hears.read.may_tell;
+        must_tell = hears.read.must_tell;
+        greatest = refl;
+        history = refl;
+        connections = refl;
+      }),
+    ) in
+    let shown : ShowsConnection lane' k' =
+    shows_heard lane lane' k piece messages served.outcomes hears.middle draws closes opened shows lane_heard.number_is hears.read lane_heard.phase_is hears.output_is served.output_is in
+    record {
+      marks = served.marks;
+      closes = closes;
+      on = record {
+        world = world';
+        happens = happens;
+        reached = record {
+          run = run_push hosting rules first start world world' schedule _ reached.run happens;
+          server = served.fits;
+          shows = shows_as _ _ _ lanes (shows_put edge.lanes world.connections c lane' k' reached.shows shown);
+          bounded = fits_bounded hosting edge'.server rules first world'.history m served.fits;
+        };
+      };
+    }

@@ -1,0 +1,88 @@
+-- What is refused by what is kept is refused by what is known.
+use Rattle.std.proofs.Common.{◌≡◌, ◌++◌, inl, inr, ℕ, List, Option, Some, None, refl, sym, subst, ◌∙◌, arith}
+use Rattle.std.specs.Prelude.{IsSome, IfErr, Result, Ok, Err}
+use Rattle.std.proofs.lemmas.Bool.{false≢true}
+use Rattle.hook_chain.specs.declared.host.HookHost.{Ghosts as Hosting}
+use Rattle.requests.specs.declared.request.Draws.{Draws}
+use Rattle.heads.specs.Message.{Message, Messages}
+use Rattle.heads.specs.ReadingLaws.{messages_cut}
+use Rattle.http_edge.specs.Schedule.{Connection, connection_at}
+use Rattle.http_edge.specs.Lanes.{SeenLane, lane_at, IsHearing, ShowsConnections}
+use Rattle.http_edge.specs.Edges.{SeenEdge, IsOpenRefusal, IsEndRefusal, IsBytesRefusal, MayHear}
+use Rattle.http_edge.specs.Refusals.{MaySend, Completes, IsPieceRefusal, IsOpeningRefusal, IsEndingRefusal, IsEventRefusal, Refuses}
+use Rattle.http_edge.specs.declared.event.Event.{Event}
+use Rattle.http_edge.specs.declared.event.Event.TheVariants as event
+use Rattle.http_edge.specs.declared.fault.EdgeFault.{EdgeFault}
+use Rattle.http_edge.specs.declared.fault.EdgeFault.TheVariants.{TooMany, NotOpen, AlreadyOpen, PieceTooLong, DrawsShort, TooManyRequests, Memory}
+use Rattle.http_edge.proofs.Showing.{shows_here, shows_none, shows_length}
+
+module _ (lanes : List SeenLane) (ks : List Connection) (c : ℕ) (shows : ShowsConnections lanes ks) where
+  hearing_is : (o : Option SeenLane) → lane_at lanes c ≡ o → (IsHearing o → MaySend (connection_at ks c)) × (MaySend (connection_at ks c) → IsHearing o)
+  hearing_is None e = rw (shows_none lanes ks c shows e) ((λ x. x), (λ x. x))
+  hearing_is (Some lane) e =
+      let at = shows_here lanes ks c lane shows e in
+      rw at.1 (
+        elim [ inl p ↦ inl (sym at.2.phase ∙ p) | inr p ↦ inr (sym at.2.phase ∙ p) ],
+        elim [ inl p ↦ inl (at.2.phase ∙ p) | inr p ↦ inr (at.2.phase ∙ p) ],
+      )
+
+  not_hearing : ¬ (IsHearing (lane_at lanes c)) → ¬ (MaySend (connection_at ks c))
+  not_hearing not may = not ((hearing_is (lane_at lanes c) refl).1 may)
+
+  known : (o : Option SeenLane) → lane_at lanes c ≡ o → IsSome o → IsSome (connection_at ks c)
+  known None e some = absurd (false≢true some)
+  known (Some lane) e some = let at = shows_here lanes ks c lane shows e in rw at.1 refl
+
+  pub opening_refused : (fault : EdgeFault) → IsOpenRefusal fault lanes c → IsOpeningRefusal fault ks c
+  opening_refused AlreadyOpen r = known (lane_at lanes c) refl r
+  opening_refused TooMany r = let size = shows_length lanes ks shows in let many = r.1 in (shows_none lanes ks c shows r.0, omega (arith, size, many))
+  opening_refused Memory r = let size = shows_length lanes ks shows in let few = r.1 in (shows_none lanes ks c shows r.0, omega (arith, size, few))
+  opening_refused NotOpen r = absurd r
+  opening_refused PieceTooLong r = absurd r
+  opening_refused DrawsShort r = absurd r
+  opening_refused TooManyRequests r = absurd r
+
+  pub ending_refused : (fault : EdgeFault) → IsEndRefusal fault lanes c → IsEndingRefusal fault ks c
+  ending_refused NotOpen r = not_hearing r
+  ending_refused AlreadyOpen r = absurd r
+  ending_refused TooMany r = absurd r
+  ending_refused Memory r = absurd r
+  ending_refused PieceTooLong r = absurd r
+  ending_refused DrawsShort r = absurd r
+  ending_refused TooManyRequests r = absurd r
+
+  completes : (piece : List ℕ) (may : MayHear lanes c piece) (messages : List Message) (rest : List ℕ) → Messages (may.lane.rest ++ piece) messages rest → Completes ks c piece messages
+  completes piece may messages rest reads =
+      let at = shows_here lanes ks c may.lane shows may.here in
+      let opened = sym at.2.phase ∙ may.is_open in
+      record { connection = at.0; here = at.1; is_open = opened; short = may.short; rest = rest; reads = messages_cut at.0.stream piece at.0.messages messages may.lane.rest rest (at.2.rest opened) reads }
+
+  pub piece_refused : (fault : EdgeFault) (piece : List ℕ) (draws : List Draws) → IsBytesRefusal fault lanes c piece draws → IsPieceRefusal fault ks c piece draws
+  piece_refused NotOpen piece draws r = not_hearing r
+  piece_refused PieceTooLong piece draws r = ((hearing_is (lane_at lanes c) refl).0 r.0, r.1)
+  piece_refused TooManyRequests piece draws r = (r.1.0, completes piece r.0 r.1.0 r.1.1 r.1.2, r.1.3)
+  piece_refused DrawsShort piece draws r = (r.1.0, completes piece r.0 r.1.0 r.1.1 r.1.2, r.1.3, r.1.4)
+  piece_refused Memory piece draws r = (r.1.0, completes piece r.0 r.1.0 r.1.1 r.1.2, r.1.3, r.1.4)
+  piece_refused AlreadyOpen piece draws r = absurd r.1
+  piece_refused TooMany piece draws r = absurd r.1
+
+err_map : {A E : Type 0} (r : Result A E) (P Q : E → Type 0) → ((e : E) → P e → Q e) → IfErr r P → IfErr r Q
+err_map (Ok x) P Q f is = is
+err_map (Err e) P Q f is = f e is
+
+pub open_refuses : {H A : Type 0} (hosting : Hosting H) (edge : SeenEdge H) (c : ℕ) (e : Event) (r : Result A EdgeFault) → e ≡ event.Open c → IfErr r (λ fault. IsOpenRefusal fault edge.lanes c) → IfErr r (λ fault. Refuses hosting edge e fault)
+open_refuses hosting edge c e r same is =
+    err_map r (λ fault. IsOpenRefusal fault edge.lanes c) (λ fault. Refuses hosting edge e fault)
+    (λ fault x rules first schedule world reached. subst (λ y. IsEventRefusal fault world.connections y) (sym same) (opening_refused edge.lanes world.connections c reached.shows fault x)) is
+
+pub end_refuses : {H A : Type 0} (hosting : Hosting H) (edge : SeenEdge H) (c : ℕ) (e : Event) (r : Result A EdgeFault) → e ≡ event.End c → IfErr r (λ fault. IsEndRefusal fault edge.lanes c) → IfErr r (λ fault. Refuses hosting edge e fault)
+end_refuses hosting edge c e r same is =
+    err_map r (λ fault. IsEndRefusal fault edge.lanes c) (λ fault. Refuses hosting edge e fault)
+    (λ fault x rules first schedule world reached. subst (λ y. IsEventRefusal fault world.connections y) (sym same) (ending_refused edge.lanes world.connections c reached.shows fault x)) is
+
+pub piece_refuses : {H A : Type 0} (hosting : Hosting H) (edge : SeenEdge H) (c : ℕ) (piece : List ℕ) (draws : List Draws) (e : Event) (r : Result A EdgeFault) →
+    ((fault : EdgeFault) (connections : List Connection) → IsPieceRefusal fault connections c piece draws → IsEventRefusal fault connections e) →
+    IfErr r (λ fault. IsBytesRefusal fault edge.lanes c piece draws) → IfErr r (λ fault. Refuses hosting edge e fault)
+piece_refuses hosting edge c piece draws e r same is =
+    err_map r (λ fault. IsBytesRefusal fault edge.lanes c piece draws) (λ fault. Refuses hosting edge e fault)
+    (λ fault x rules first schedule world reached. same fault world.connections (piece_refused edge.lanes world.connections c reached.shows fault piece draws x)) is

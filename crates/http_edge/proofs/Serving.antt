@@ -1,0 +1,142 @@
+-- One more request is answered.
+use Rattle.std.proofs.Common.{◌≡◌, ◌<◌, ℕ, List, [], ◌∷◌, ◌++◌, Bool, false, map, get_or, length, append_assoc, append-nil, refl, ap, ◌∙◌, sym, subst, arith, Option}
+use Rattle.std.proofs.lemmas.List.{length-map, map-append}
+use Rattle.std.proofs.lemmas.List.Concat.{flat_map-append}
+use Rattle.std.specs.Prelude.{max}
+use Rattle.hook_chain.specs.declared.fault.HookFault.{HookFault}
+use Rattle.hook_chain.specs.declared.host.HookHost.{Ghosts as Hosting}
+use Rattle.clients.specs.RegistryRecord.{RegistryRecord}
+use Rattle.consent.specs.History.{Event, Change, event_at, with_changes}
+use Rattle.requests.specs.declared.request.Draws.{Draws}
+use Rattle.requests.specs.Asked.{Asked}
+use Rattle.replies.specs.Written.{Written, written, reply_bytes}
+use Rattle.points.specs.Outcomes.{Outcome}
+use Rattle.endpoints.specs.Hosts.{IsHostFault}
+use Rattle.endpoints.specs.Replies.{outcome, hook_change}
+use Rattle.endpoints.specs.Server.{Seen, FitsServer, IsStep}
+use Rattle.heads.specs.Message.{Message, asked_of_message}
+use Rattle.http_edge.specs.Answers.{Mark, says, IsAnswered, AreAnswered, changes_of, replies_of}
+use Rattle.http_edge.specs.Schedule.{moment_after}
+use Rattle.http_edge.specs.Heard.{IsServed, IsStillNone, IsHeard}
+
+-- changes after changes
+pub changes_join : (history : List Event) (m : ℕ) (a b : List Change) → with_changes (with_changes history m a) m b ≡ with_changes history m (a ++ b)
+changes_join history m a b = append_assoc history (map (event_at m) a) (map (event_at m) b) ∙ ap (λ l. history ++ l) (sym (map-append (event_at m) a b))
+
+changes_push : (os : List Outcome) (o : Outcome) → changes_of (os ++ o ∷ []) ≡ changes_of os ++ o.changes
+changes_push os o = flat_map-append (λ x. x.changes) os (o ∷ []) ∙ ap (λ l. changes_of os ++ l) (append-nil o.changes)
+
+bytes_of : Outcome → List ℕ
+bytes_of o = reply_bytes (written o.reply)
+
+replies_push : (os : List Outcome) (o : Outcome) → replies_of (os ++ o ∷ []) ≡ replies_of os ++ reply_bytes (written o.reply)
+replies_push os o = flat_map-append (λ x. reply_bytes (written x.reply)) os (o ∷ []) ∙ ap (λ l. replies_of os ++ l) (append-nil (reply_bytes (written o.reply)))
+
+module _ {H : Type 0} (hosting : Hosting H) (rules : RegistryRecord) (first : H) (m : ℕ) where
+  answered_push : (history : List Event) (qs : List Asked) (ds : List Draws) (marks : List Mark) (os : List Outcome) (q : Asked) (d : Draws) (mark : Mark) (o : Outcome) →
+      AreAnswered hosting rules first m history qs ds marks os → length qs < length ds →
+      IsAnswered hosting rules first m (with_changes history m (changes_of os)) q (get_or ds (length qs) d) mark o →
+      AreAnswered hosting rules first m history (qs ++ q ∷ []) ds (marks ++ mark ∷ []) (os ++ o ∷ [])
+  answered_push history [] (e ∷ ds) [] [] q d mark o all less is = (rw append-nil at is, tt)
+  answered_push history [] [] marks os q d mark o all less is = absurd (omega (arith, less))
+  answered_push history [] (e ∷ ds) (x ∷ marks) os q d mark o all less is = absurd all
+  answered_push history [] (e ∷ ds) [] (y ∷ os) q d mark o all less is = absurd all
+  answered_push history (p ∷ qs) [] marks os q d mark o all less is = absurd (omega (arith, less))
+  answered_push history (p ∷ qs) (e ∷ ds) [] os q d mark o all less is = absurd all
+  answered_push history (p ∷ qs) (e ∷ ds) (x ∷ marks) [] q d mark o all less is = absurd all
+  answered_push history (p ∷ qs) (e ∷ ds) (x ∷ marks) (y ∷ os) q d mark o all less is =
+      (all.0, answered_push (with_changes history m y.changes) qs ds marks os q d mark o all.1 (omega (arith, less)) (rw (← changes_join history m y.changes (changes_of os)) at is))
+
+max_more : (m moment : ℕ) → max (max m moment) moment ≡ max m moment
+max_more m moment = omega arith
+
+-- what the server does with one more request
+abbrev pub StepsOn : {H : Type 0} → Hosting H → RegistryRecord → H → Seen H → Seen H → Asked → ℕ → Draws → Written → Type 0
+StepsOn hosting rules first server server' asked moment d reply =
+    (h : List Event) (g : ℕ) → FitsServer hosting.installs hosting.removes server rules first h g →
+    (refused : Bool) × (fault : Option HookFault) × IsHostFault hosting.refuses_install hosting.refuses_remove server.host (hook_change asked) fault
+    × IsStep hosting.installs hosting.removes
+    (outcome refused rules (record { answer = hosting.answer server.host; names = hosting.names server.host; fault = fault }) h asked (max g moment) d)
+    reply server' rules first h (max g moment)
+
+-- it answers it after the others
+served_more : {H : Type 0} (hosting : Hosting H) (server server' : Seen H) (output out : List ℕ) (rules : RegistryRecord) (first : H) (history : List Event) (g m moment : ℕ) (messages : List Message) (draws : List Draws) (marks : List Mark) (os : List Outcome) (message : Message) (d : Draws) (reply : Written) →
+    max g moment ≡ m → AreAnswered hosting rules first m history (map asked_of_message messages) draws marks os → out ≡ output ++ replies_of os →
+    FitsServer hosting.installs hosting.removes server rules first (with_changes history m (changes_of os)) g → length messages < length draws →
+    StepsOn hosting rules first server server' (asked_of_message message) moment (get_or draws (length messages) d) reply →
+    IsServed hosting server' output (out ++ reply_bytes reply) rules first history m (messages ++ message ∷ []) draws
+served_more hosting server server' output out rules first history g m moment messages draws marks os message d reply later answered written_is fits less steps =
+    let h = with_changes history m (changes_of os) in
+    let step = steps h g fits in
+    let mark : Mark = record { refused = step.0; fault = step.1 } in
+    let o : Outcome = outcome step.0 rules (says hosting server.host mark) h (asked_of_message message) m (get_or draws (length messages) d) in
+    let done : IsStep hosting.installs hosting.removes o reply server' rules first h m = rw later at step.3 in
+    let size = length-map messages asked_of_message in
+    let is : IsAnswered hosting rules first m h (asked_of_message message) (get_or draws (length messages) d) mark o =
+    record { host = server.host; comes = fits.hosts; fault = step.2; outcome_is = refl } in
+    record {
+      marks = marks ++ mark ∷ [];
+      outcomes = os ++ o ∷ [];
+      answered =
+          rw (map-append asked_of_message messages (message ∷ []))
+          (answered_push hosting rules first m history (map asked_of_message messages) draws marks os (asked_of_message message) d mark o answered (omega (arith, size, less)) (rw size is));
+      output_is =
+          ap (λ x. x ++ reply_bytes reply) written_is ∙ append_assoc output (replies_of os) (reply_bytes reply)
+          ∙ ap (λ x. output ++ (replies_of os ++ reply_bytes x)) done.reply_is ∙ ap (λ x. output ++ x) (sym (replies_push os o));
+      fits =
+          (let P : List Event → Type 0 = λ x. FitsServer hosting.installs hosting.removes server' rules first x m in
+          subst P (changes_join history m (changes_of os) o.changes ∙ ap (with_changes history m) (sym (changes_push os o))) done.fits);
+    }
+
+-- no request is answered yet
+pub served_none : {H : Type 0} (hosting : Hosting H) (server : Seen H) (output : List ℕ) (rules : RegistryRecord) (first : H) (history : List Event) (m : ℕ) (draws : List Draws) →
+    FitsServer hosting.installs hosting.removes server rules first history m → IsServed hosting server output output rules first history m [] draws
+served_none hosting server output rules first history m draws fits = record {
+  marks = [];
+  outcomes = [];
+  answered = tt;
+  output_is = sym (append-nil output);
+  fits = rw append-nil fits;
+}
+
+nothing_answered : {H : Type 0} (hosting : Hosting H) (rules : RegistryRecord) (first : H) (m : ℕ) (history : List Event) (ds : List Draws) (marks : List Mark) (os : List Outcome) → AreAnswered hosting rules first m history [] ds marks os → (marks ≡ []) × (os ≡ [])
+nothing_answered hosting rules first m history ds [] [] all = (refl, refl)
+nothing_answered hosting rules first m history [] (x ∷ marks) os all = absurd all
+nothing_answered hosting rules first m history [] [] (y ∷ os) all = absurd all
+nothing_answered hosting rules first m history (d ∷ ds) (x ∷ marks) os all = absurd all
+nothing_answered hosting rules first m history (d ∷ ds) [] (y ∷ os) all = absurd all
+
+-- one more message is answered
+served_next : {H : Type 0} (hosting : Hosting H) (server server' : Seen H) (output out : List ℕ) (rules : RegistryRecord) (first : H) (history : List Event) (m moment : ℕ) (messages : List Message) (draws : List Draws) (i : ℕ) (message : Message) (d : Draws) (reply : Written) →
+    length messages ≡ i → i < length draws → IsServed hosting server output out rules first history (moment_after m moment messages) messages draws →
+    StepsOn hosting rules first server server' (asked_of_message message) moment (get_or draws i d) reply →
+    IsServed hosting server' output (out ++ reply_bytes reply) rules first history (moment_after m moment (messages ++ message ∷ [])) (messages ++ message ∷ []) draws
+served_next hosting server server' output out rules first history m moment [] draws i message d reply count less served steps =
+    let none = nothing_answered hosting rules first m history draws served.marks served.outcomes served.answered in
+    let said : out ≡ output ++ [] = served.output_is ∙ ap (λ os. output ++ replies_of os) none.1 in
+    let fits : FitsServer hosting.installs hosting.removes server rules first (history ++ []) m =
+    (let P : List Outcome → Type 0 = λ os. FitsServer hosting.installs hosting.removes server rules first (with_changes history m (changes_of os)) m in subst P none.1 served.fits) in
+    served_more hosting server server' output out rules first history m (max m moment) moment [] draws [] [] message d reply refl tt said fits (omega (arith, count, less)) (rw (← count) at steps)
+served_next hosting server server' output out rules first history m moment (x ∷ messages) draws i message d reply count less served steps =
+    served_more hosting server server' output out rules first history (max m moment) (max m moment) moment (x ∷ messages) draws served.marks served.outcomes message d reply (max_more m moment)
+    served.answered served.output_is served.fits (omega (arith, count, less)) (rw (← count) at steps)
+
+-- one more message, which asks this, is answered
+pub served_push : {H : Type 0} (hosting : Hosting H) (server server' : Seen H) (output out : List ℕ) (rules : RegistryRecord) (first : H) (history : List Event) (m moment : ℕ) (messages : List Message) (draws : List Draws) (i : ℕ) (message : Message) (d : Draws) (reply : Written) (asked : Asked) →
+    asked ≡ asked_of_message message → length messages ≡ i → i < length draws → IsServed hosting server output out rules first history (moment_after m moment messages) messages draws →
+    StepsOn hosting rules first server server' asked moment (get_or draws i d) reply →
+    IsServed hosting server' output (out ++ reply_bytes reply) rules first history (moment_after m moment (messages ++ message ∷ [])) (messages ++ message ∷ []) draws
+served_push hosting server server' output out rules first history m moment messages draws i message d reply asked asks count less served steps =
+    let P : Asked → Type 0 = λ q. StepsOn hosting rules first server server' q moment (get_or draws i d) reply in
+    served_next hosting server server' output out rules first history m moment messages draws i message d reply count less served (subst P asks steps)
+
+-- bytes in which there is no message are heard
+pub heard_none : {H : Type 0} (hosting : Hosting H) (server : Seen H) (bytes kept output : List ℕ) (moment : ℕ) (draws : List Draws) → IsStillNone bytes → kept ≡ bytes →
+    IsHeard hosting server server bytes kept output output moment draws false
+heard_none hosting server bytes kept output moment draws none same = record {
+  messages = [];
+  read = record { rest = bytes; reads = record { reads = refl; none = none.none }; few = omega arith; enough = omega arith; kept_is = same; may_tell = λ e. absurd (cc); must_tell = λ must. absurd (none.untold must) };
+  middle = output;
+  serves = λ rules first history m fits. served_none hosting server output rules first history m draws fits;
+  output_is = sym (append-nil output);
+}

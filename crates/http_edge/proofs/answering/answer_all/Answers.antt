@@ -1,0 +1,106 @@
+use Rattle.std.proofs.Common.{◌≡◌, ◌≤◌, ◌+◌, ◌-◌, ℕ, List, ◌++◌, [], ◌∷◌, length, take, drop, refl, ap, ◌∙◌, sym, arith, length-append}
+use Rattle.std.proofs.lemmas.List.{length-drop, drop-drop}
+use Rattle.requests.specs.Asked.{Asked, asked_of}
+use Rattle.replies.specs.Written.{reply_bytes}
+use Rattle.heads.specs.Message.{Message, BeginsWith, HasNone, asked_of_message}
+use Rattle.heads.specs.Front.{IsFront, IsFoundWithin, IsWholeAt}
+use Rattle.heads.specs.declared.front.Found.{Found}
+use Rattle.heads.specs.ReadingLaws.{reads_push, reads_next, reads_same}
+use Rattle.heads.specs.WaitingLaws.{front_whole}
+use Rattle.http_edge.proofs.Fronts.{tail_is, target_fits}
+use Rattle.http_edge.proofs.Serving.{served_none, served_push}
+use Rattle.http_edge.proofs.answering.answer_all.Goals as goal
+
+pub unreachable-requires : goal.unreachable-requires
+unreachable-requires g c =
+    let bytes = c.args.bytes.now in
+    let front : IsFront (drop c.loop-i.start bytes) c.read_front.result = rw (← tail_is c.loop-i.start bytes) c.read_front.ensures in
+    let before = c.loop-i.invariant in
+    let all = c.requires.messages in
+    let count = before.count in
+    let total = all.count_is in
+    let test = c.loop-i-test.true in
+    let some : ¬ (HasNone (drop c.loop-i.start bytes)) = reads_next bytes before.messages all.messages _ all.rest (omega (arith, count, total, test)) before.reads all.reads in
+    let whole = front_whole _ _ front some in
+    c.in_default.not-Whole whole.0 whole.1
+
+pub loop-i-init : goal.loop-i-init
+loop-i-init g c = record {
+  messages = [];
+  count = refl;
+  reads = refl;
+  begun = omega arith;
+  served = λ rules first history m fits. served_none g.H.HookHost c.args.server.now c.args.output.now.items rules first history m c.args.draws.now fits;
+  len = omega arith;
+  room = omega arith;
+}
+
+-- a message's target is small
+target_small : (f : Found) (bytes : List ℕ) (m : Message) {q : Asked} → q ≡ asked_of_message m → IsWholeAt bytes f m → length q.target ≤ 8192
+target_small f bytes m asked at =
+    let size = at.begins.good.size in
+    let fits = target_fits m.head in
+    let same = ap (λ (x : Asked). length x.target) asked in
+    omega (arith, size, fits, same)
+
+pub push-requires : goal.push-requires
+push-requires g c =
+    let before = c.loop-i.invariant in
+    let message = c.in-Whole.ensures.1.0 in
+    let asked : asked_of c.lend-request.result ≡ asked_of_message message = c.lend-request.ensures message c.in-Whole.ensures.1.1 in
+    let short = (c.step-reply.ensures.short (target_small _ _ message asked c.in-Whole.ensures.1.1)).short in
+    let len = before.len in
+    let room = before.room in
+    let test = c.loop-i-test.true in
+    let enough = c.requires.room in
+    omega (arith, short, len, room, test, enough)
+
+pub loop-i-preserved : goal.loop-i-preserved
+loop-i-preserved g c =
+    let bytes = c.args.bytes.now in
+    let start = c.loop-i.start in
+    let rest : List ℕ = drop start bytes in
+    let f = c.in-Whole.found in
+    let tail : List ℕ = take (length bytes - start) (drop start bytes) in
+    let whole : IsFoundWithin tail f × ((m : Message) × IsWholeAt tail f m) = c.in-Whole.ensures in
+    let message = whole.1.0 in
+    let at : IsWholeAt rest f message = rw (← tail_is start bytes) whole.1.1 in
+    let asked : asked_of c.lend-request.result ≡ asked_of_message message = c.lend-request.ensures message whole.1.1 in
+    let here = length-drop start bytes in
+    let fits : f.end ≤ length rest = rw (ap length (sym (tail_is start bytes))) whole.0.end in
+    let before = c.loop-i.invariant in
+    let begins : BeginsWith rest message (drop (start + f.end) bytes) = rw (← drop-drop f.end start bytes) at.begins in
+    let n = length-append before.messages (message ∷ []) in
+    let count = before.count in
+    let begun = before.begun in
+    let len = before.len in
+    let room = before.room in
+    let more_room = c.push.ensures.room in
+    let test = c.loop-i-test.true in
+    let enough = c.requires.draws in
+    record {
+      messages = before.messages ++ message ∷ [];
+      count = omega (arith, n, count);
+      reads = reads_push bytes before.messages rest message (drop (start + f.end) bytes) before.reads begins;
+      begun = omega (arith, fits, here, begun);
+      served = λ rules first history m fit.
+          rw c.push.ensures.items
+          (served_push g.H.HookHost c.loop-i.server c.step-reply.new.self c.args.output.now.items c.loop-i.output.items rules first history m c.args.moment before.messages c.args.draws.now c.loop-i.i message _ c.step-reply.result (asked_of c.lend-request.result) asked count (omega (arith, test, enough))
+          (before.served rules first history m fit)
+          (c.step-reply.ensures.replies rules first));
+      len =
+          (let grown = ap length c.push.ensures.items in
+          let parts = length-append c.loop-i.output.items (reply_bytes c.step-reply.result) in
+          let short = (c.step-reply.ensures.short (target_small f tail message asked whole.1.1)).short in
+          omega (arith, len, grown, parts, short));
+      room = omega (arith, room, more_room);
+    }
+
+pub returns-clause-served : goal.returns-clause-served
+returns-clause-served g c = λ messages rest reads count rules first history m fits.
+    let before = c.loop-i.invariant in
+    let test = c.loop-i-test.false in
+    let le = c.loop-i.auto.i-end in
+    let end : c.loop-i.i ≡ c.args.count = omega (arith, test, le) in
+    let same = reads_same c.args.bytes.now before.messages messages _ rest (before.count ∙ end ∙ sym count) before.reads reads in
+    rw (← same.0) (before.served rules first history m fits)

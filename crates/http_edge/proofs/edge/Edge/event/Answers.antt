@@ -1,0 +1,15 @@
+use Rattle.std.proofs.Common.{sym, subst}
+use Rattle.http_edge.specs.Refusals.{IsEventRefusal}
+use Rattle.http_edge.proofs.RefusingWorlds.{open_refuses, end_refuses, piece_refuses}
+use Rattle.http_edge.proofs.edge.Edge.event.Goals as goal
+
+pub returns-in-Open-clause-refused : goal.returns-in-Open-clause-refused
+returns-in-Open-clause-refused g c = open_refuses g.H.HookHost c.args.self.now c.in-Open.c c.args.event c.open.result c.in-Open.is c.open.ensures.refused
+
+pub returns-in-Bytes-clause-refused : goal.returns-in-Bytes-clause-refused
+returns-in-Bytes-clause-refused g c =
+    piece_refuses g.H.HookHost c.args.self.now c.in-Bytes.connection c.in-Bytes.piece.now c.in-Bytes.draws.now c.args.event c.hear.result
+    (λ fault connections x. subst (λ y. IsEventRefusal fault connections y) (sym c.in-Bytes.is) x) c.hear.ensures.refused
+
+pub returns-in-End-clause-refused : goal.returns-in-End-clause-refused
+returns-in-End-clause-refused g c = end_refuses g.H.HookHost c.args.self.now c.in-End.c c.args.event c.end.result c.in-End.is c.end.ensures.refused

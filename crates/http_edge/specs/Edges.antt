@@ -1,0 +1,42 @@
+-- An edge as it is seen, and why its events are refused.
+use Rattle.std.specs.Prelude.{◌≡◌, ◌≤◌, ◌<◌, ◌++◌, ℕ, List, Some, None, IsSome, length}
+use Rattle.requests.specs.declared.request.Draws.{Draws}
+use Rattle.endpoints.specs.Server.{Seen}
+use Rattle.http_edge.specs.Limits.{connection_limit, piece_limit}
+use Rattle.http_edge.specs.Lanes.{SeenLane, lane_at, output_in, IsHearing}
+use Rattle.http_edge.specs.Heard.{IsHearingRefusal}
+use Rattle.http_edge.specs.declared.lane.Phase.TheVariants.{Open}
+use Rattle.http_edge.specs.declared.fault.EdgeFault.{EdgeFault}
+use Rattle.http_edge.specs.declared.fault.EdgeFault.TheVariants.{TooMany, NotOpen, AlreadyOpen, PieceTooLong, Memory}
+
+pub record SeenEdge (H : Type 0) : Type 0 where
+  pub server : Seen H
+  pub lanes : List SeenLane
+
+abbrev pub output_of : {H : Type 0} → SeenEdge H → ℕ → List ℕ
+output_of edge c = output_in (lane_at edge.lanes c)
+
+-- why a connection is not opened
+abbrev pub IsOpenRefusal : EdgeFault → List SeenLane → ℕ → Type 0
+IsOpenRefusal AlreadyOpen lanes c = IsSome (lane_at lanes c)
+IsOpenRefusal TooMany lanes c = (lane_at lanes c ≡ None) × (connection_limit ≤ length lanes)
+IsOpenRefusal Memory lanes c = (lane_at lanes c ≡ None) × (length lanes < connection_limit)
+IsOpenRefusal fault lanes c = ⊥
+
+-- why a connection's stream does not end
+abbrev pub IsEndRefusal : EdgeFault → List SeenLane → ℕ → Type 0
+IsEndRefusal NotOpen lanes c = ¬ (IsHearing (lane_at lanes c))
+IsEndRefusal fault lanes c = ⊥
+
+-- the connection is open, and the piece is not too long
+pub record MayHear (lanes : List SeenLane) (c : ℕ) (piece : List ℕ) : Type 0 where
+  pub lane : SeenLane
+  pub here : lane_at lanes c ≡ Some lane
+  pub is_open : lane.phase ≡ Open
+  pub short : length piece ≤ piece_limit
+
+-- why a piece is refused
+abbrev pub IsBytesRefusal : EdgeFault → List SeenLane → ℕ → List ℕ → List Draws → Type 0
+IsBytesRefusal NotOpen lanes c piece draws = ¬ (IsHearing (lane_at lanes c))
+IsBytesRefusal PieceTooLong lanes c piece draws = IsHearing (lane_at lanes c) × (piece_limit < length piece)
+IsBytesRefusal fault lanes c piece draws = (may : MayHear lanes c piece) × IsHearingRefusal fault (may.lane.rest ++ piece) draws

@@ -1,0 +1,11 @@
+pub mod Limits
+pub mod Answers
+pub mod Schedule
+pub mod Lanes
+pub mod Places
+pub mod Heard
+pub mod Edges
+pub mod Reached
+pub mod Events
+pub mod Refusals
+pub mod FaultTexts

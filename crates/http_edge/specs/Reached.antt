@@ -1,0 +1,54 @@
+-- The edges that a schedule leads to.
+use Rattle.std.specs.Prelude.{ℕ, List, [], ◌∷◌, ◌++◌, Bool, false, Option, Some, None}
+use Rattle.hook_chain.specs.declared.host.HookHost.{Ghosts as Hosting}
+use Rattle.clients.specs.RegistryRecord.{RegistryRecord}
+use Rattle.requests.specs.declared.request.Draws.{Draws}
+use Rattle.endpoints.specs.Server.{FitsServer}
+use Rattle.endpoints.specs.Bounded.{IsBounded}
+use Rattle.http_edge.specs.Answers.{Mark}
+use Rattle.http_edge.specs.Schedule.{World, Connection, Happening, Came, Happens, Run, start}
+use Rattle.http_edge.specs.Lanes.{ShowsConnections, is_closing_phase}
+use Rattle.http_edge.specs.Edges.{SeenEdge}
+
+-- The schedule leads to the world, and the edge shows it: its server answers as the world's history says, its host comes
+-- from the first one by that history, and it keeps of each connection what is known of it. Every token of that history
+-- keeps to its client's allowance, its owner's consent and its life.
+pub record Reached {H : Type 0} (hosting : Hosting H) (edge : SeenEdge H) (rules : RegistryRecord) (first : H) (schedule : List Happening) (world : World) : Type 0 where
+  pub run : Run hosting rules first start schedule world
+  pub server : FitsServer hosting.installs hosting.removes edge.server rules first world.history world.greatest
+  pub shows : ShowsConnections edge.lanes world.connections
+  pub bounded : IsBounded rules world.history
+
+-- so it is in every world that the edge shows
+abbrev pub InEach : {H : Type 0} → Hosting H → SeenEdge H → (World → Type 0) → Type 0
+InEach hosting edge fact =
+    (rules : RegistryRecord) (first : _) (schedule : List Happening) (world : World) → Reached hosting edge rules first schedule world → fact world
+
+-- one event more leads on from the world before
+pub record GoesOn {H : Type 0} (hosting : Hosting H) (edge : SeenEdge H) (rules : RegistryRecord) (first : H) (schedule : List Happening) (old : World) (e : Happening) : Type 0 where
+  pub world : World
+  pub happens : Happens hosting rules first old e world
+  pub reached : Reached hosting edge rules first (schedule ++ e ∷ []) world
+
+-- wherever the one edge was reached, the event leads to the other
+abbrev pub Leads : {H : Type 0} → Hosting H → SeenEdge H → SeenEdge H → Happening → Type 0
+Leads hosting old new e =
+    (rules : RegistryRecord) (first : _) (schedule : List Happening) (world : World) → Reached hosting old rules first schedule world →
+    GoesOn hosting new rules first schedule world e
+
+-- a piece with some marks leads on
+pub record PieceGoesOn {H : Type 0} (hosting : Hosting H) (edge : SeenEdge H) (rules : RegistryRecord) (first : H) (schedule : List Happening) (old : World) (c : ℕ) (piece : List ℕ) (moment : ℕ) (draws : List Draws) : Type 0 where
+  pub marks : List Mark
+  pub closes : Bool
+  pub on : GoesOn hosting edge rules first schedule old (Came c piece moment draws marks closes)
+
+-- wherever the one edge was reached, the piece leads to the other, with some marks
+abbrev pub PieceLeads : {H : Type 0} → Hosting H → SeenEdge H → SeenEdge H → ℕ → List ℕ → ℕ → List Draws → Type 0
+PieceLeads hosting old new c piece moment draws =
+    (rules : RegistryRecord) (first : _) (schedule : List Happening) (world : World) → Reached hosting old rules first schedule world →
+    PieceGoesOn hosting new rules first schedule world c piece moment draws
+
+-- the connection had the 400 of a faulty head
+abbrev pub is_closing : Option Connection → Bool
+is_closing None = false
+is_closing (Some k) = is_closing_phase k.phase

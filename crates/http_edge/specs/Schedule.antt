@@ -1,0 +1,169 @@
+-- What came and went on connections, and what the server's outputs are then.
+use Rattle.std.specs.Prelude.{◌≡◌, ◌≢◌, ◌⊎◌, ◌≤◌, ◌<◌, ◌+◌, ℕ, List, [], ◌∷◌, ◌++◌, Bool, true, false, not, Option, Some, None, ◌==◌, if◌then◌else◌, find, filter, length, drop, map, max}
+use Rattle.hook_chain.specs.declared.host.HookHost.{Ghosts as Hosting}
+use Rattle.clients.specs.RegistryRecord.{RegistryRecord}
+use Rattle.consent.specs.History.{Event, with_changes}
+use Rattle.requests.specs.declared.request.Draws.{Draws}
+use Rattle.replies.specs.Written.{faulty_bytes}
+use Rattle.points.specs.Outcomes.{Outcome}
+use Rattle.heads.specs.Message.{Message, Messages, IsHopeless, MustTell, asked_of_message}
+use Rattle.http_edge.specs.Limits.{connection_limit, piece_limit, request_limit}
+use Rattle.http_edge.specs.Answers.{Mark, AreAnswered, changes_of, replies_of}
+use Rattle.http_edge.specs.declared.lane.Phase.{Phase}
+use Rattle.http_edge.specs.declared.lane.Phase.TheVariants.{Open, Closing, Ended}
+
+-- an accepted event, with what was free in it: a mark for each request that it completed, and whether the 400 of a
+-- faulty head was given
+pub data Happening : Type 0 where
+  Opened : (c : ℕ) → Happening
+  Came : (c : ℕ) → (piece : List ℕ) → (moment : ℕ) → (draws : List Draws) → (marks : List Mark) → (closes : Bool) → Happening
+  HasEnded : (c : ℕ) → Happening
+  Taken : (c n : ℕ) → Happening
+  Forgotten : (c : ℕ) → Happening
+
+-- a connection from its opening on: all that came, the messages that were answered, all its output, and how much of
+-- that was taken
+pub record Connection : Type 0 where
+  pub number : ℕ
+  pub phase : Phase
+  pub stream : List ℕ
+  pub messages : List Message
+  pub output : List ℕ
+  pub taken : ℕ
+
+-- the connections that were not forgotten, in the order of their opening, the greatest moment that a request was
+-- handed, and what the server has done
+pub record World : Type 0 where
+  pub connections : List Connection
+  pub greatest : ℕ
+  pub history : List Event
+
+-- nothing has happened yet
+abbrev pub start : World
+start = record { connections = []; greatest = 0; history = [] }
+
+-- THE CONNECTIONS
+
+abbrev pub connection_at : List Connection → ℕ → Option Connection
+connection_at connections c = find (λ k. k.number == c) connections
+
+-- the connection of that number is other
+abbrev pub with_connection : ℕ → Connection → List Connection → List Connection
+with_connection c new [] = []
+with_connection c new (k ∷ more) = if k.number == c then new ∷ more else k ∷ with_connection c new more
+
+abbrev pub without_connection : ℕ → List Connection → List Connection
+without_connection c connections = filter (λ k. not (k.number == c)) connections
+
+-- one that was just opened
+abbrev pub fresh : ℕ → Connection
+fresh c = record { number = c; phase = Open; stream = []; messages = []; output = []; taken = 0 }
+
+-- what is to be taken of its output
+abbrev pub untaken : Option Connection → List ℕ
+untaken None = []
+untaken (Some k) = drop k.taken k.output
+
+-- ONE EVENT
+
+-- the 400 of a faulty head, where it is given
+abbrev pub faulty_if : Bool → List ℕ
+faulty_if closes = if closes then faulty_bytes else []
+
+-- only requests move the greatest moment
+abbrev pub moment_after : ℕ → ℕ → List Message → ℕ
+moment_after greatest moment [] = greatest
+moment_after greatest moment (message ∷ messages) = max greatest moment
+
+-- the connection after a piece, with what it completes
+abbrev pub heard : Connection → List ℕ → List Message → List Outcome → Bool → Connection
+heard k piece messages outcomes closes = record {
+  number = k.number;
+  phase = if closes then Closing else Open;
+  stream = k.stream ++ piece;
+  messages = k.messages ++ messages;
+  output = k.output ++ (replies_of outcomes ++ faulty_if closes);
+  taken = k.taken;
+}
+
+-- bytes came on an open connection: the messages that they complete are those of its whole stream, and are answered
+pub record Comes {H : Type 0} (hosting : Hosting H) (rules : RegistryRecord) (first : H) (old new : World) (c : ℕ) (piece : List ℕ) (moment : ℕ) (draws : List Draws) (marks : List Mark) (closes : Bool) : Type 0 where
+  pub before : Connection
+  pub here : connection_at old.connections c ≡ Some before
+  pub is_open : before.phase ≡ Open
+  pub messages : List Message
+  pub rest : List ℕ
+  pub reads : Messages (before.stream ++ piece) (before.messages ++ messages) rest
+  pub few : length messages ≤ request_limit
+  pub enough : length messages ≤ length draws
+  pub outcomes : List Outcome
+  pub answered : AreAnswered hosting rules first new.greatest old.history (map asked_of_message messages) draws marks outcomes
+  -- a faulty head is told of only where nothing good can come, and at the latest where it must be
+  pub may_tell : closes ≡ true → IsHopeless rest
+  pub must_tell : MustTell rest → closes ≡ true
+  pub greatest : new.greatest ≡ moment_after old.greatest moment messages
+  pub history : new.history ≡ with_changes old.history new.greatest (changes_of outcomes)
+  pub connections : new.connections ≡ with_connection c (heard before piece messages outcomes closes) old.connections
+
+-- the server's side is as it was
+pub record IsStill (old new : World) : Type 0 where
+  pub greatest : new.greatest ≡ old.greatest
+  pub history : new.history ≡ old.history
+
+-- bytes that come after the 400 of a faulty head change nothing
+pub record Passes (old new : World) (c : ℕ) (marks : List Mark) (closes : Bool) : Type 0 where
+  pub before : Connection
+  pub here : connection_at old.connections c ≡ Some before
+  pub is_closing : before.phase ≡ Closing
+  pub no_marks : marks ≡ []
+  pub no_more : closes ≡ false
+  pub same : new ≡ old
+
+-- a connection is opened that was not there, and there are not too many
+pub record Opens (old new : World) (c : ℕ) : Type 0 where
+  pub absent : connection_at old.connections c ≡ None
+  pub few : length old.connections < connection_limit
+  pub still : IsStill old new
+  pub connections : new.connections ≡ old.connections ++ fresh c ∷ []
+
+-- the stream of a connection ends
+pub record Ends (old new : World) (c : ℕ) : Type 0 where
+  pub before : Connection
+  pub here : connection_at old.connections c ≡ Some before
+  pub not_ended : before.phase ≢ Ended
+  pub still : IsStill old new
+  pub connections : new.connections ≡ with_connection c (record before { phase = Ended }) old.connections
+
+-- so many bytes of a connection's output are taken
+pub record Takes (old new : World) (c n : ℕ) : Type 0 where
+  pub before : Connection
+  pub here : connection_at old.connections c ≡ Some before
+  pub fits : before.taken + n ≤ length before.output
+  pub still : IsStill old new
+  pub connections : new.connections ≡ with_connection c (record before { taken = before.taken + n }) old.connections
+
+-- of a connection that is not there nothing is taken
+pub record TakesNothing (old new : World) (c n : ℕ) : Type 0 where
+  pub absent : connection_at old.connections c ≡ None
+  pub nothing : n ≡ 0
+  pub same : new ≡ old
+
+-- a connection is forgotten, if it is there
+pub record Forgets (old new : World) (c : ℕ) : Type 0 where
+  pub still : IsStill old new
+  pub connections : new.connections ≡ without_connection c old.connections
+
+abbrev pub Happens : {H : Type 0} → Hosting H → RegistryRecord → H → World → Happening → World → Type 0
+Happens hosting rules first old (Opened c) new = Opens old new c
+Happens hosting rules first old (Came c piece moment draws marks closes) new =
+    (length piece ≤ piece_limit) × (Comes hosting rules first old new c piece moment draws marks closes ⊎ Passes old new c marks closes)
+Happens hosting rules first old (HasEnded c) new = Ends old new c
+Happens hosting rules first old (Taken c n) new = Takes old new c n ⊎ TakesNothing old new c n
+Happens hosting rules first old (Forgotten c) new = Forgets old new c
+
+-- A SCHEDULE
+
+abbrev pub Run : {H : Type 0} → Hosting H → RegistryRecord → H → World → List Happening → World → Type 0
+Run hosting rules first old [] new = new ≡ old
+Run hosting rules first old (e ∷ later) new =
+    (middle : World) × Happens hosting rules first old e middle × Run hosting rules first middle later new

@@ -1,0 +1,41 @@
+//! Requests answered one after another.
+ghost use Rattle.std.specs.Prelude.{◌≡◌, ◌≤◌, ◌+◌, ◌*◌, ℕ, List, length, vec_len, vec_capacity};
+ghost use Rattle.replies.specs.Small.{reply_limit};
+ghost use Rattle.heads.specs.Message.{Message, Reads};
+ghost use Rattle.http_edge.specs.Heard.{HasMessages, Serves};
+
+use endpoints::{Moment, Server};
+use heads::{Front, lend, read_front};
+use hook_chain::HookHost;
+use replies::Response;
+use requests::Draws;
+
+/// Answers the first requests of the bytes, each with draws of its own. There is room for the replies.
+pub(crate) fn answer_all<H: HookHost>(
+    server: &mut Server<H>,
+    bytes: &[u8],
+    count: usize,
+    moment: Moment,
+    draws: &[Draws],
+    output: &mut Vec<u8>,
+)
+    requires messages { HasMessages bytes.now count }
+    requires draws { count ≤ length draws.now }
+    requires room { vec_len output.old + count * reply_limit ≤ vec_capacity output.old }
+    ensures served { (messages : List Message) (rest : List ℕ) → Reads bytes.now messages rest → length messages ≡ count →
+        Serves H.HookHost server.old server.new output.old.items output.new.items messages moment draws.now }
+    ensures room { vec_capacity output.old ≤ vec_capacity output.new }
+    ensures len { vec_len output.new ≤ vec_len output.old + count * reply_limit }
+{
+    let mut start = 0;
+    for i in 0..count {
+        let here = &bytes[start..];
+        let Front::Whole(found) = read_front(here) else {
+            unreachable!();
+        };
+        let request = lend(here, &found);
+        let reply = server.step(&request, moment, &draws[i]);
+        reply.push(output);
+        start += found.end;
+    }
+}

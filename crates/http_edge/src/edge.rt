@@ -1,0 +1,330 @@
+//! Connections of bytes over a server.
+ghost use Rattle.std.specs.Prelude.{None, ◌≡◌, ◌≤◌, ◌<◌, ◌==◌, ℕ, List, [], ◌∷◌, ◌++◌, length, drop, is_some, vec_len, vec_capacity, IfOk, OnOk, OnErr, IfErr};
+ghost use Rattle.std.specs.Option.{option_copied};
+ghost use Rattle.std.specs.List.{position};
+ghost use Rattle.clients.specs.RegistryRecord.{RegistryRecord};
+ghost use Rattle.endpoints.specs.Server.{FitsServer};
+ghost use Rattle.http_edge.specs.declared.lane.Phase.TheVariants.{Open, Ended};
+ghost use Rattle.http_edge.specs.Limits.{piece_limit, room_to_hear};
+ghost use Rattle.http_edge.specs.Schedule.{HasEnded, Opened, Taken, Forgotten, start, connection_at, untaken};
+ghost use Rattle.http_edge.specs.Lanes.{lane_at, fresh_lane, without_lane, rest_in, output_in, is_closing_lane};
+ghost use Rattle.http_edge.specs.Places.{IsPosition};
+ghost use Rattle.http_edge.specs.Heard.{LaneHeard, IsHearingRefusal};
+ghost use Rattle.http_edge.specs.Edges.{output_of, IsOpenRefusal, IsEndRefusal, IsBytesRefusal};
+ghost use Rattle.http_edge.specs.Reached.{Reached, InEach, Leads, PieceLeads, is_closing};
+ghost use Rattle.http_edge.specs.Events.{EventLeads};
+ghost use Rattle.http_edge.specs.Refusals.{Refuses};
+
+use crate::event::Event;
+use crate::fault::EdgeFault;
+use crate::hearing::hear;
+use crate::lane::{Lane, Phase};
+use crate::limits::{CONNECTION_LIMIT, PIECE_LIMIT, ROOM_TO_HEAR};
+use crate::rest::Rest;
+use crate::room::take_front;
+use endpoints::{Moment, Server};
+use hook_chain::HookHost;
+use requests::Draws;
+use std::alloc::{AllocError, Global};
+use std::marker::Model;
+
+/// A server, and the connections over which bytes come to it and go from it.
+#[derive(Drop)]
+pub struct Edge<H> {
+    server: Server<H>,
+    lanes: Vec<Lane>,
+    // Where a rest and a piece lie together while they are read. It is empty otherwise.
+    work: Vec<u8>,
+    alloc: Global,
+}
+
+impl<H> Model for Edge<H> {
+    ghost use Rattle.std.specs.Prelude.{◌≡◌, ◌<◌, ◌≤◌, vec_len, vec_capacity};
+    ghost use Rattle.http_edge.specs.Limits.{room_to_hear};
+    ghost use Rattle.http_edge.specs.Edges.{SeenEdge};
+
+    ghost Value = { SeenEdge H };
+
+    ghost view = { λ e. record { server = e.server; lanes = e.lanes.items } };
+
+    // Where there are connections, there is room for the longest rest and the longest piece.
+    ghost invariant = { λ e. (vec_len e.work ≡ 0) × (0 < vec_len e.lanes → room_to_hear ≤ vec_capacity e.work) };
+}
+
+fn lane_of(lanes: &[Lane], c: u32) -> Option<&Lane>
+    ensures { option_copied result ≡ lane_at lanes.now c }
+{
+    lanes.iter().find(|lane| lane.number == c)
+}
+
+fn has_lane(lanes: &[Lane], c: u32) -> bool
+    ensures { result ≡ is_some (lane_at lanes.now c) }
+{
+    lane_of(lanes, c).is_some()
+}
+
+fn is_closing(lanes: &[Lane], c: u32) -> bool
+    ensures { result ≡ is_closing_lane (lane_at lanes.now c) }
+{
+    match lane_of(lanes, c) {
+        Some(lane) => lane.phase == Phase::Closing,
+        None => false,
+    }
+}
+
+fn output_in(lanes: &[Lane], c: u32) -> &[u8]
+    ensures { result.now ≡ output_in (lane_at lanes.now c) }
+{
+    match lane_of(lanes, c) {
+        Some(lane) => lane.output.as_slice(),
+        None => &[],
+    }
+}
+
+fn position_of(lanes: &[Lane], c: u32) -> Option<usize>
+    ensures { result ≡ position (λ lane. lane.number == c) lanes.now }
+{
+    lanes.iter().position(|lane| lane.number == c)
+}
+
+fn place_of(lanes: &[Lane], c: u32) -> Option<usize>
+    ensures { IsPosition lanes.now c result }
+{
+    position_of(lanes, c)
+}
+
+fn new_lane(alloc: Global, c: u32) -> Lane
+    ensures { result ≡ fresh_lane c }
+{
+    Lane {
+        number: c,
+        phase: Phase::Open,
+        rest: Rest::new(alloc),
+        output: Vec::new(alloc),
+    }
+}
+
+fn add_lane(lanes: &mut Vec<Lane>, alloc: Global, c: u32) -> Result<(), AllocError>
+    ensures added { OnOk result (lanes.new.items ≡ lanes.old.items ++ fresh_lane c ∷ []) }
+    ensures err { OnErr result (lanes.new.items ≡ lanes.old.items) }
+{
+    let Ok(()) = lanes.reserve(1) else {
+        return Err(AllocError);
+    };
+    let Ok(()) = lanes.push(new_lane(alloc, c)) else {
+        unreachable!();
+    };
+    Ok(())
+}
+
+fn remove_lane(lanes: &mut Vec<Lane>, c: u32)
+    ensures { lanes.new.items ≡ without_lane c lanes.old.items }
+{
+    lanes.retain(|lane| lane.number != c);
+}
+
+fn end_lane(lane: &mut Lane)
+    ensures { lane.new ≡ record { number = lane.old.number; phase = Ended; rest = []; output = lane.old.output } }
+{
+    lane.phase = Phase::Ended;
+    lane.rest.clear();
+}
+
+fn take_output(lane: &mut Lane, n: usize)
+    requires { n ≤ length lane.old.output }
+    ensures { lane.new ≡ record { number = lane.old.number; phase = lane.old.phase; rest = lane.old.rest; output = drop n lane.old.output } }
+{
+    take_front(&mut lane.output, n);
+    lane.output.shrink_to_fit();
+}
+
+fn hear_lane<H: HookHost>(
+    server: &mut Server<H>,
+    work: &mut Vec<u8>,
+    lane: &mut Lane,
+    piece: &[u8],
+    moment: Moment,
+    draws: &[Draws],
+) -> Result<(), EdgeFault>
+    requires is_open { lane.old.phase ≡ Open }
+    requires short { length piece.now ≤ piece_limit }
+    requires empty { vec_len work.old ≡ 0 }
+    requires room { room_to_hear ≤ vec_capacity work.old }
+    ensures heard { OnOk result (LaneHeard H.HookHost server.old server.new lane.old lane.new piece.now moment draws.now) }
+    ensures refused { IfErr result (λ fault. IsHearingRefusal fault (lane.old.rest ++ piece.now) draws.now) }
+    ensures server_kept { OnErr result (server.new ≡ server.old) }
+    ensures lane_kept { OnErr result (lane.new ≡ lane.old) }
+    ensures empty { vec_len work.new ≡ 0 }
+    ensures room { vec_capacity work.old ≤ vec_capacity work.new }
+{
+    match hear(
+        server,
+        work,
+        &mut lane.rest,
+        &mut lane.output,
+        piece,
+        moment,
+        draws,
+    ) {
+        Ok(closes) => {
+            if closes {
+                lane.phase = Phase::Closing;
+            }
+            Ok(())
+        }
+        Err(fault) => Err(fault),
+    }
+}
+
+impl<H: HookHost> Edge<H> {
+    /// An edge over a server, without connections.
+    pub fn new(alloc: Global, server: Server<H>) -> Self
+        ensures { (rules : RegistryRecord) (first : H) → FitsServer H.installs H.removes server rules first [] 0 →
+            Reached H.HookHost result rules first [] start }
+    {
+        Edge {
+            server,
+            lanes: Vec::new(alloc),
+            work: Vec::new(alloc),
+            alloc,
+        }
+    }
+
+    /// Whether the connection was answered the 400 of a faulty head.
+    pub fn closing(&self, c: u32) -> bool
+        ensures { InEach H.HookHost self.now (λ world. result ≡ is_closing (connection_at world.connections c)) }
+    {
+        is_closing(&self.lanes, c)
+    }
+
+    /// The bytes to the connection that were not taken yet. Empty where it is not there.
+    pub fn output(&self, c: u32) -> &[u8]
+        ensures kept { result.now ≡ output_of self.now c }
+        ensures output { InEach H.HookHost self.now (λ world. result.now ≡ untaken (connection_at world.connections c)) }
+    {
+        output_in(&self.lanes, c)
+    }
+
+    /// How many bytes from the connection are kept: those that no message was made of yet.
+    pub fn held(&self, c: u32) -> usize
+        ensures { result ≡ length (rest_in (lane_at self.now.lanes c)) }
+    {
+        match lane_of(&self.lanes, c) {
+            Some(lane) => lane.rest.len(),
+            None => 0,
+        }
+    }
+
+    // A connection is opened.
+    fn open(&mut self, c: u32) -> Result<(), EdgeFault>
+        ensures done { OnOk result (Leads H.HookHost self.old self.new (Opened c)) }
+        ensures refused { IfErr result (λ fault. IsOpenRefusal fault self.old.lanes c) }
+        ensures err { OnErr result (self.new ≡ self.old) }
+    {
+        if has_lane(&self.lanes, c) {
+            return Err(EdgeFault::AlreadyOpen);
+        }
+        if self.lanes.len() >= CONNECTION_LIMIT {
+            return Err(EdgeFault::TooMany);
+        }
+        let Ok(()) = self.work.reserve_exact(ROOM_TO_HEAR) else {
+            return Err(EdgeFault::Memory);
+        };
+        let Ok(()) = add_lane(&mut self.lanes, self.alloc, c) else {
+            return Err(EdgeFault::Memory);
+        };
+        Ok(())
+    }
+
+    // A piece came.
+    fn hear(
+        &mut self,
+        c: u32,
+        piece: &[u8],
+        moment: Moment,
+        draws: &[Draws],
+    ) -> Result<(), EdgeFault>
+        ensures done { OnOk result (PieceLeads H.HookHost self.old self.new c piece.now moment draws.now) }
+        ensures refused { IfErr result (λ fault. IsBytesRefusal fault self.old.lanes c piece.now draws.now) }
+        ensures err { OnErr result (self.new ≡ self.old) }
+    {
+        let Some(i) = place_of(&self.lanes, c) else {
+            return Err(EdgeFault::NotOpen);
+        };
+        if self.lanes[i].phase == Phase::Ended {
+            return Err(EdgeFault::NotOpen);
+        }
+        if piece.len() > PIECE_LIMIT {
+            return Err(EdgeFault::PieceTooLong);
+        }
+        if self.lanes[i].phase == Phase::Closing {
+            return Ok(());
+        }
+        if let Err(fault) = hear_lane(
+            &mut self.server,
+            &mut self.work,
+            &mut self.lanes[i],
+            piece,
+            moment,
+            draws,
+        ) {
+            return Err(fault);
+        }
+        Ok(())
+    }
+
+    // The stream of a connection ended.
+    fn end(&mut self, c: u32) -> Result<(), EdgeFault>
+        ensures done { OnOk result (Leads H.HookHost self.old self.new (HasEnded c)) }
+        ensures refused { IfErr result (λ fault. IsEndRefusal fault self.old.lanes c) }
+        ensures err { OnErr result (self.new ≡ self.old) }
+    {
+        let Some(i) = place_of(&self.lanes, c) else {
+            return Err(EdgeFault::NotOpen);
+        };
+        if self.lanes[i].phase == Phase::Ended {
+            return Err(EdgeFault::NotOpen);
+        }
+        end_lane(&mut self.lanes[i]);
+        Ok(())
+    }
+
+    /// An event happens, or is refused and changes nothing.
+    pub fn event(&mut self, event: Event<'_>) -> Result<(), EdgeFault>
+        ensures done { OnOk result (EventLeads H.HookHost self.old self.new event.entry) }
+        // For an opening in the order AlreadyOpen, TooMany, Memory; for bytes in the order NotOpen, PieceTooLong,
+        // TooManyRequests, DrawsShort, Memory.
+        ensures refused { IfErr result (λ fault. Refuses H.HookHost self.old event.entry fault) }
+        ensures err { OnErr result (self.new ≡ self.old) }
+    {
+        match event {
+            Event::Open(c) => self.open(c),
+            Event::Bytes {
+                connection,
+                piece,
+                moment,
+                draws,
+            } => self.hear(connection, piece, moment, draws),
+            Event::End(c) => self.end(c),
+        }
+    }
+
+    /// So many bytes to the connection were taken, at most as many as its output has.
+    pub fn take(&mut self, c: u32, n: usize)
+        requires { n ≤ length (output_of self.old c) }
+        ensures taken { Leads H.HookHost self.old self.new (Taken c n) }
+        ensures left { output_of self.new c ≡ drop n (output_of self.old c) }
+    {
+        if let Some(i) = place_of(&self.lanes, c) {
+            take_output(&mut self.lanes[i], n);
+        }
+    }
+
+    /// The connection is forgotten, if it is there. Its number may be opened again.
+    pub fn forget(&mut self, c: u32)
+        ensures forgotten { Leads H.HookHost self.old self.new (Forgotten c) }
+        ensures gone { lane_at self.new.lanes c ≡ None }
+    {
+        remove_lane(&mut self.lanes, c);
+    }
+}
