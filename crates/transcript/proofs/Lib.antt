@@ -1,0 +1,7 @@
+pub mod Drawing
+pub mod Stating
+pub mod Feeds
+pub mod Leading
+pub mod Printing
+pub mod Appending
+pub mod Failing

@@ -1,0 +1,14 @@
+//! Transcripts: what comes on connections, one event a line, and what the server answers.
+#![tactic(auto)]
+
+mod fault;
+mod line;
+mod number;
+mod piece;
+mod running;
+
+pub use fault::ReplayFault;
+pub use running::{replay, replay_on};
+
+#[cfg(test)]
+mod tests;
