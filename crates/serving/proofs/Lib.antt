@@ -1,0 +1,5 @@
+pub mod Words
+pub mod Pieces
+pub mod Following
+pub mod Connections
+pub mod Exchanging

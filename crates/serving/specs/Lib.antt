@@ -1,0 +1,5 @@
+pub mod Chance
+pub mod Streams
+pub mod FaultTexts
+pub mod Served
+pub mod Answered

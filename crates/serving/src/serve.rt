@@ -1,0 +1,165 @@
+//! A connection served from its opening on.
+ghost use Rattle.std.specs.Prelude.{◌≡◌, ◌<◌, ◌+◌, ℕ, List, [], Option, true, false, Some, None, OnOk, OnErr, IfOk, IfErr};
+ghost use Rattle.clients.specs.RegistryRecord.{RegistryRecord};
+ghost use Rattle.http_edge.specs.Schedule.{World, Happening};
+ghost use Rattle.http_edge.specs.Reached.{Reached};
+ghost use Rattle.serving.specs.Served.{Runs, Goes, Coming, Reading, Finished, Ended, Served, Left, IsAttentive, IsWritten, WriteFails, at, LeadsOn, fault_in, stage_heard, stage_over};
+ghost use Rattle.serving.specs.Answered.{Answers};
+ghost use Rattle.serving.specs.declared.fault.ServeFault.TheVariants.{Write};
+
+use crate::clock::Clock;
+use crate::fault::ServeFault;
+use crate::piece::give;
+use crate::stream::Stream;
+use hook_chain::HookHost;
+use http_edge::{Edge, Event};
+use rand_chacha::ChaCha20Rng;
+
+/// So many bytes has a piece at most.
+pub const PIECE_LIMIT: usize = 512;
+
+/// So many pieces are read of one connection at most.
+pub const READ_LIMIT: u32 = 1_048_576;
+
+/// So many words of the generator are for one piece.
+const WORDS_OF_PIECE: u128 = 1024;
+
+// What came of a read.
+#[derive(Clone, Copy)]
+enum Heard {
+    Piece,
+    End,
+}
+
+// Reads a piece, and gives it to the edge.
+fn hear<H: HookHost, S: Stream, C: Clock>(
+    edge: &mut Edge<H>,
+    c: u32,
+    stream: &mut S,
+    clock: &mut C,
+    rng: &mut ChaCha20Rng,
+) -> Result<Heard, ServeFault>
+    requires attentive { IsAttentive H.HookHost edge.old c }
+    ensures { (n : ℕ) → n < 1048576 → Goes H.HookHost S.does C.tells c (Reading n) (at edge.old stream.old clock.old rng.old) (stage_heard n result) (at edge.new stream.new clock.new rng.new) }
+{
+    let mut buffer = [0; PIECE_LIMIT];
+    let Ok(count) = stream.receive(&mut buffer) else {
+        return Err(ServeFault::Read);
+    };
+    if count == 0 {
+        return Ok(Heard::End);
+    }
+    let place = rng.get_word_pos();
+    let Some(moment) = clock.now() else {
+        rng.set_word_pos(place + WORDS_OF_PIECE);
+        return Err(ServeFault::Clock);
+    };
+    let given = give(edge, c, &buffer[..count], moment, rng);
+    rng.set_word_pos(place + WORDS_OF_PIECE);
+    if let Err(fault) = given {
+        return Err(ServeFault::Refused(fault));
+    }
+    Ok(Heard::Piece)
+}
+
+// Writes all output.
+fn write_output<H: HookHost, S: Stream>(
+    edge: &mut Edge<H>,
+    c: u32,
+    stream: &mut S,
+) -> Result<(), ServeFault>
+    ensures written { OnOk result (IsWritten H.HookHost S.does c edge.old stream.old edge.new stream.new) }
+    ensures fault { IfErr result (λ fault. fault ≡ Write) }
+    ensures failed { OnErr result (WriteFails H.HookHost S.does c edge.old stream.old edge.new stream.new) }
+{
+    'writes: while !edge.output(c).is_empty() {
+        let output = edge.output(c);
+        let Ok(count) = stream.send(output) else {
+            return Err(ServeFault::Write);
+        };
+        if count == 0 {
+            return Err(ServeFault::Write);
+        }
+        edge.take(c, count);
+    }
+    Ok(())
+}
+
+// How the reading ended.
+#[derive(Clone, Copy)]
+enum Over {
+    // The 400 of a faulty head was written.
+    Closed,
+    // No more is read.
+    Finished,
+}
+
+// Reads a piece after another, and writes what is answered.
+fn hear_all<H: HookHost, S: Stream, C: Clock>(
+    edge: &mut Edge<H>,
+    c: u32,
+    stream: &mut S,
+    clock: &mut C,
+    rng: &mut ChaCha20Rng,
+) -> Result<Over, ServeFault>
+    ensures { Goes H.HookHost S.does C.tells c (Reading 0) (at edge.old stream.old clock.old rng.old) (stage_over result) (at edge.new stream.new clock.new rng.new) }
+{
+    for pieces in 0..READ_LIMIT {
+        write_output(edge, c, stream)?;
+        if edge.closing(c) {
+            return Ok(Over::Closed);
+        }
+        match hear(edge, c, stream, clock, rng)? {
+            Heard::Piece => {}
+            Heard::End => return Ok(Over::Finished),
+        }
+    }
+    Ok(Over::Finished)
+}
+
+// Serves a connection that was opened.
+fn attend<H: HookHost, S: Stream, C: Clock>(
+    edge: &mut Edge<H>,
+    c: u32,
+    stream: &mut S,
+    clock: &mut C,
+    rng: &mut ChaCha20Rng,
+) -> Result<(), ServeFault>
+    ensures { Goes H.HookHost S.does C.tells c (Reading 0) (at edge.old stream.old clock.old rng.old) (Served (fault_in result)) (at edge.new stream.new clock.new rng.new) }
+{
+    match hear_all(edge, c, stream, clock, rng)? {
+        Over::Closed => Ok(()),
+        Over::Finished => {
+            if let Err(fault) = edge.event(Event::End(c)) {
+                return Err(ServeFault::Refused(fault));
+            }
+            write_output(edge, c, stream)?;
+            Ok(())
+        }
+    }
+}
+
+/// Serves one connection, with number `c`, from its opening to its end: pieces of at most 512 bytes are read and given to
+/// the edge, and all output is written before the next. It is over where the stream has no more, where 1,048,576 pieces
+/// were read, or where the 400 of a faulty head was written. Whatever ends it, the connection is forgotten; where it
+/// could not be opened, nothing else is done.
+pub fn serve_one<H: HookHost, S: Stream, C: Clock>(
+    edge: &mut Edge<H>,
+    c: u32,
+    stream: &mut S,
+    clock: &mut C,
+    rng: &mut ChaCha20Rng,
+) -> Result<(), ServeFault>
+    ensures served { Runs H.HookHost S.does C.tells c Coming (at edge.old stream.old clock.old rng.old) (Left (fault_in result)) (at edge.new stream.new clock.new rng.new) }
+    ensures reached { (rules : RegistryRecord) (first : H) (schedule : List Happening) (world : World) → Reached H.HookHost edge.old rules first schedule world →
+        LeadsOn H.HookHost edge.new rules first schedule }
+    // All that was written is a front of the replies to the requests in what was read.
+    ensures written { Answers H.HookHost S.does c edge.old stream.old (fault_in result) edge.new stream.new }
+{
+    if let Err(fault) = edge.event(Event::Open(c)) {
+        return Err(ServeFault::Refused(fault));
+    }
+    let result = attend(edge, c, stream, clock, rng);
+    edge.forget(c);
+    result
+}
