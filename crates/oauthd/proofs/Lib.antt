@@ -1,2 +1,4 @@
 mod HexReading
 mod Lists
+mod Naming
+mod Refusing

@@ -13,10 +13,11 @@ use Rattle.oauthd.specs.declared.fault.PerformFault.{PerformFault}
 use Rattle.oauthd.specs.declared.fault.PerformFault.TheVariants.{BadArguments, BadRecord, Insn, Verify, OutOfMemory}
 use Rattle.oauthd.specs.Assembly.{IsAssembledAs}
 use Rattle.oauthd.specs.File.{File, IsCheckedOn, IsListedAs}
-use Rattle.oauthd.specs.declared.commands.help.TheConstants.{PAGE, VERSION}
+use Rattle.manual.specs.declared.page.TheConstants.{PAGE, VERSION}
 use Rattle.oauthd.specs.Help.{IsExplained, IsPage}
 use Rattle.oauthd.specs.HexText.{IsHexOf, IsNoHex}
 use Rattle.oauthd.specs.Judge.{IsJudged}
+use Rattle.oauthd.specs.Transcripts.{IsReplayedAs}
 use Rattle.oauthd.specs.Words.{IsCommand, IsNoCommand, Words}
 
 -- a hook's code and a record, both as hex text, are judged so
@@ -45,6 +46,7 @@ IsAnsweredBy (commands.Run code_hex record_hex) file outcome = IsRunOn code_hex.
 IsAnsweredBy (commands.Assemble path) file outcome = IsAssembledAs path.now file outcome
 IsAnsweredBy (commands.List path) file outcome = IsListedAs path.now file outcome
 IsAnsweredBy (commands.Check layout path) file outcome = IsCheckedOn layout path.now file outcome
+IsAnsweredBy (commands.Replay path) file outcome = IsReplayedAs path.now file outcome
 IsAnsweredBy (commands.Help word) file outcome = IsPage PAGE.now outcome
 IsAnsweredBy (commands.Explain name) file outcome = IsExplained name.now outcome
 IsAnsweredBy commands.Version file outcome = IsPage VERSION.now outcome

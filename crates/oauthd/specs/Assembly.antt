@@ -1,5 +1,5 @@
 -- What `asm` answers to a file.
-use Rattle.std.specs.Prelude.{◌≡◌, ◌≢◌, ◌⊎◌, ⊤, ℕ, List, None, Some, IsSomeAnd, IsUtf8, Result, Ok, Err}
+use Rattle.std.specs.Prelude.{◌≡◌, ◌≢◌, ◌⊎◌, ⊤, ℕ, List, Result, Ok, Err}
 use Rattle.std.specs.String.{string_bytes}
 use Rattle.hex.specs.Hex.{encode_lower}
 use Rattle.insn.specs.declared.instruction.Insn.{Insn}
@@ -12,16 +12,7 @@ use Rattle.oauthd.specs.declared.answer.Answer.{Answer}
 use Rattle.oauthd.specs.declared.answer.Answer.TheVariants as answers
 use Rattle.oauthd.specs.declared.fault.PerformFault.{PerformFault}
 use Rattle.oauthd.specs.declared.fault.PerformFault.TheVariants as faults
-use Rattle.oauthd.specs.File.{File}
-
--- a file is a text
-abbrev pub HoldsText : File → List ℕ → Type 0
-HoldsText file text = (file ≡ Some text) × IsUtf8 text
-
--- why the file of a path is no text: it cannot be read, or it is not UTF-8, which counts for the same
-abbrev pub HoldsNoText : List ℕ → File → PerformFault → Type 0
-HoldsNoText path file (faults.CannotRead named) = ((file ≡ None) ⊎ IsSomeAnd file (λ bytes. IsUtf8 bytes → ⊥)) × (named.now ≡ path)
-HoldsNoText path file fault = ⊥
+use Rattle.oauthd.specs.File.{File, HoldsNoText, HoldsText}
 
 -- a file's text says a program, and the hex is that of the program's bytes, in small letters
 pub record IsAssembled (file : File) (hex : List ℕ) : Type 0 where

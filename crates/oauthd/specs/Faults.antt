@@ -6,7 +6,13 @@ use Rattle.insn.specs.declared.verify_fault.VerifyFault.TheVariants as verify
 use Rattle.assembler.specs.declared.fault.AsmFault.{AsmFault}
 use Rattle.assembler.specs.declared.fault.AsmFault.TheVariants as asm
 use Rattle.oauthd.specs.declared.fault.PerformFault.{PerformFault}
-use Rattle.oauthd.specs.declared.fault.PerformFault.TheVariants.{Text, Insn, Verify, OutOfMemory}
+use Rattle.clients.specs.declared.fault.ConfigFault.{ConfigFault}
+use Rattle.clients.specs.declared.fault.ConfigFault.TheVariants as config
+use Rattle.daemon.specs.declared.fault.ListenFault.{ListenFault}
+use Rattle.daemon.specs.declared.fault.ListenFault.TheVariants as listen
+use Rattle.transcript.specs.declared.fault.ReplayFault.{ReplayFault}
+use Rattle.transcript.specs.declared.fault.ReplayFault.TheVariants as replay
+use Rattle.oauthd.specs.declared.fault.PerformFault.TheVariants.{Text, Insn, Verify, Config, BadLine, Event, CannotListen, NoSeed, OutOfMemory, CannotWrite}
 
 abbrev pub of_decoding : InsnFault → PerformFault
 of_decoding insn.Memory = OutOfMemory
@@ -19,3 +25,18 @@ of_verifying fault = Verify fault
 abbrev pub of_assembling : AsmFault → PerformFault
 of_assembling asm.Memory = OutOfMemory
 of_assembling fault = Text fault
+
+abbrev pub of_configuring : ConfigFault → PerformFault
+of_configuring config.Memory = OutOfMemory
+of_configuring fault = Config fault
+
+abbrev pub of_replaying : ReplayFault → PerformFault
+of_replaying (replay.Config fault) = Config fault
+of_replaying (replay.BadLine line) = BadLine line
+of_replaying (replay.Refused line fault) = Event line fault
+of_replaying replay.Memory = OutOfMemory
+
+abbrev pub of_listening : ListenFault → PerformFault
+of_listening listen.NoSeed = NoSeed
+of_listening listen.NoSocket = CannotListen
+of_listening listen.Unwritten = CannotWrite

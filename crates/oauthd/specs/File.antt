@@ -1,5 +1,5 @@
 -- What the commands answer to a file. A file is its bytes, and nothing where it cannot be read.
-use Rattle.std.specs.Prelude.{◌≡◌, ◌≢◌, ◌⊎◌, ⊤, ℕ, List, length, Option, Some, None, IsSomeAnd, Result, Ok, Err}
+use Rattle.std.specs.Prelude.{◌≡◌, ◌≢◌, ◌⊎◌, ⊤, ℕ, List, length, Option, Some, None, IsSomeAnd, IsUtf8, Result, Ok, Err}
 use Rattle.std.specs.String.{string_bytes}
 use Rattle.insn.specs.declared.instruction.Insn.{Insn}
 use Rattle.insn.specs.declared.layout.Layout.{Layout}
@@ -19,6 +19,19 @@ use Rattle.verifier.specs.Verdicts.{IsVerdict}
 
 abbrev pub File : Type 0
 File = Option (List ℕ)
+
+-- ---- texts
+
+-- a file is a text
+abbrev pub HoldsText : File → List ℕ → Type 0
+HoldsText file text = (file ≡ Some text) × IsUtf8 text
+
+-- why the file of a path is no text: it cannot be read, or it is not UTF-8, which counts for the same
+abbrev pub HoldsNoText : List ℕ → File → PerformFault → Type 0
+HoldsNoText path file (faults.CannotRead named) = ((file ≡ None) ⊎ IsSomeAnd file (λ bytes. IsUtf8 bytes → ⊥)) × (named.now ≡ path)
+HoldsNoText path file fault = ⊥
+
+-- ---- programs
 
 -- a file is hex of the bytes that spell a program
 pub record HoldsProgram (file : File) (program : List Insn) : Type 0 where

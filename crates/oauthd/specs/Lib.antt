@@ -1,12 +1,16 @@
 pub mod Answers
 pub mod Assembly
+pub mod Config
 pub mod Faults
 pub mod File
 pub mod Help
 pub mod HexText
 pub mod Judge
+pub mod Listening
 pub mod Performed
 pub mod Printed
+pub mod Services
 pub mod Statuses
+pub mod Transcripts
 pub mod Verdict
 pub mod Words

@@ -6,13 +6,15 @@ use Rattle.std.specs.String.{string_bytes}
 use Rattle.hook_record.specs.declared.Narrowed.{Narrowed}
 use Rattle.hook_record.specs.declared.Narrowed.TheVariants.{Allowed, Denied, EmptyScope}
 use Rattle.insn.specs.FaultTexts.{insn_fault_text, verify_fault_text}
+use Rattle.clients.specs.FaultTexts.{config_fault_text}
+use Rattle.http_edge.specs.FaultTexts.{edge_fault_text}
 use Rattle.assembler.specs.declared.fault.AsmFault.{AsmFault}
 use Rattle.assembler.specs.Reports.{line_of_fault, name_of_fault}
 use Rattle.oauthd.specs.declared.judge.Judged.{Judged}
 use Rattle.oauthd.specs.declared.answer.Answer.{Answer}
 use Rattle.oauthd.specs.declared.answer.Answer.TheVariants as answers
 use Rattle.oauthd.specs.declared.fault.PerformFault.{PerformFault}
-use Rattle.oauthd.specs.declared.fault.PerformFault.TheVariants.{BadArguments, BadRecord, CannotRead, Text, Insn, Verify, OutOfMemory, CannotWrite}
+use Rattle.oauthd.specs.declared.fault.PerformFault.TheVariants.{BadArguments, BadRecord, CannotRead, Text, Insn, Verify, Config, BadLine, Event, CannotListen, NoSeed, OutOfMemory, CannotWrite}
 
 -- what is left of a grant, in words
 abbrev pub narrowed_text : Narrowed → List ℕ
@@ -30,6 +32,7 @@ answer_text (answers.Judged judged) = judged_text judged ++ codes "\n"
 answer_text (answers.Code hex) = string_bytes hex ++ codes "\n"
 answer_text (answers.Listing text) = string_bytes text
 answer_text (answers.Accepted count) = codes "accepted " ++ decimal count ++ codes "\n"
+answer_text (answers.Replayed output) = output.items
 answer_text (answers.Page text) = text.now
 
 -- a text's fault, behind its line where it has one
@@ -43,6 +46,11 @@ fault_text (CannotRead path) = codes "cannot read " ++ path.now
 fault_text (Text fault) = located_text fault
 fault_text (Insn fault) = codes "Insn " ++ insn_fault_text fault
 fault_text (Verify fault) = codes "Verify " ++ verify_fault_text fault
+fault_text (Config fault) = codes "Config " ++ config_fault_text fault
+fault_text (BadLine line) = codes "line " ++ decimal line ++ codes ": bad line"
+fault_text (Event line fault) = codes "line " ++ decimal line ++ codes ": " ++ edge_fault_text fault
+fault_text CannotListen = codes "cannot listen"
+fault_text NoSeed = codes "no random bytes"
 fault_text OutOfMemory = codes "out of memory"
 fault_text CannotWrite = codes "cannot write"
 

@@ -1,11 +1,13 @@
 //! What a command that is done prints.
 
-ghost use Rattle.std.specs.Prelude.{Some};
+ghost use Rattle.std.specs.Prelude.{Some, OnOk};
+ghost use Rattle.std.specs.Io.KnownBytes.{Appends};
 ghost use Rattle.oauthd.specs.Printed.{answer_text, judged_text};
 
 use crate::judge::Judged;
 use hook_record::Narrowed;
-use std::fmt::{self, Display, Formatter, Write};
+use std::fmt::{self, Display, Formatter};
+use std::io::{self, Write};
 
 /// What a command answers.
 #[derive(Debug, Drop)]
@@ -18,28 +20,33 @@ pub enum Answer {
     Listing(String),
     /// How many instructions a program has that is accepted.
     Accepted(usize),
+    /// What the server of a transcript sent to each connection.
+    Replayed(Vec<u8>),
     /// A text of the program's own.
     Page(&'static str),
 }
 
-impl Display for Answer {
-    ghost output = { λ answer. Some (answer_text answer) };
-
-    fn fmt<W: Write>(&self, f: &mut Formatter<W>) -> fmt::Result {
+impl Answer {
+    /// Writes all of it, to where it is to go.
+    pub fn write_to<W: Write>(&self, to: &mut W) -> io::Result<()>
+        ensures { OnOk result (Appends (W.contents to.old) (W.contents to.new) (answer_text self.now)) }
+    {
         match self {
-            Answer::Judged(judged) => writeln!(f, "{judged}"),
-            Answer::Code(hex) => writeln!(f, "{hex}"),
-            Answer::Listing(text) => write!(f, "{text}"),
-            Answer::Accepted(insns) => writeln!(f, "accepted {insns}"),
-            Answer::Page(text) => write!(f, "{text}"),
+            Answer::Judged(judged) => writeln!(to, "{judged}")?,
+            Answer::Code(hex) => writeln!(to, "{hex}")?,
+            Answer::Listing(text) => to.write_all(text.as_bytes())?,
+            Answer::Accepted(insns) => writeln!(to, "accepted {insns}")?,
+            Answer::Replayed(bytes) => to.write_all(bytes)?,
+            Answer::Page(text) => to.write_all(text.as_bytes())?,
         }
+        to.flush()
     }
 }
 
 impl Display for Judged {
     ghost output = { λ judged. Some (judged_text judged) };
 
-    fn fmt<W: Write>(&self, f: &mut Formatter<W>) -> fmt::Result {
+    fn fmt<W: fmt::Write>(&self, f: &mut Formatter<W>) -> fmt::Result {
         let (r0, steps) = (self.r0, self.steps);
         write!(f, "r0 {r0}\nsteps {steps}\n")?;
         match self.answer {

@@ -8,11 +8,13 @@ ghost use Rattle.oauthd.specs.Words.{file_named_by, words_of, IsCommand, IsNoCom
 use crate::answer::Answer;
 use crate::commands::asm::assembled;
 use crate::commands::check::check;
-use crate::commands::help::{PAGE, TOPICS, VERSION, explained};
+use crate::commands::help::explained;
 use crate::commands::list::listing;
+use crate::commands::replay::replayed;
 use crate::commands::run::run;
 use crate::fault::PerformFault;
 use insn::layout::Layout;
+use manual::{PAGE, VERSION};
 use std::alloc::Global;
 
 /// The words that ask for the page of commands.
@@ -46,6 +48,10 @@ pub enum Command<'w> {
     /// version 1 or 2.
     Check {
         layout: Layout,
+        path: &'w str,
+    },
+    /// `replay FILE`: what the server of the transcript in a file sends to each connection.
+    Replay {
         path: &'w str,
     },
     /// `help`, `--help` and `-h`: the commands.
@@ -88,6 +94,7 @@ fn with_word<'w>(name: &str, word: &'w str) -> Option<Command<'w>>
             layout: Layout::V2,
             path: word,
         }),
+        "replay" => Some(Command::Replay { path: word }),
         "help" => Some(Command::Explain { name: word }),
         _ => None,
     }
@@ -119,6 +126,7 @@ impl<'w> Command<'w> {
             Command::Assemble { path } => Some(path),
             Command::List { path } => Some(path),
             Command::Check { path, .. } => Some(path),
+            Command::Replay { path } => Some(path),
             Command::Help(_) | Command::Explain { .. } | Command::Version => None,
         }
     }
@@ -135,8 +143,9 @@ impl<'w> Command<'w> {
             Command::Assemble { path } => assembled(alloc, path, file),
             Command::List { path } => listing(alloc, path, file),
             Command::Check { layout, path } => check(alloc, layout, path, file),
+            Command::Replay { path } => replayed(alloc, path, file),
             Command::Help(_) => Ok(Answer::Page(PAGE)),
-            Command::Explain { name } => explained(&TOPICS, name),
+            Command::Explain { name } => explained(name),
             Command::Version => Ok(Answer::Page(VERSION)),
         }
     }

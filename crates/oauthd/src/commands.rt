@@ -2,7 +2,10 @@
 
 pub mod asm;
 pub mod check;
+pub mod config_file;
 pub mod help;
 pub mod list;
 mod program_file;
+pub mod replay;
 pub mod run;
+mod text_file;

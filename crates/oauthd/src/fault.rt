@@ -2,15 +2,19 @@
 
 ghost use Rattle.std.specs.Prelude.{◌≡◌, Some};
 ghost use Rattle.oauthd.specs.Statuses.{code_of, status_of};
-ghost use Rattle.oauthd.specs.Faults.{of_assembling, of_decoding, of_verifying};
+ghost use Rattle.oauthd.specs.Faults.{of_assembling, of_configuring, of_decoding, of_listening, of_replaying, of_verifying};
 ghost use Rattle.oauthd.specs.Printed.{fault_text, located_text};
 ghost use Rattle.oauthd.specs.declared.fault.PerformFault.TheVariants.{OutOfMemory};
 
 use assembler::AsmFault;
+use clients::ConfigFault;
+use daemon::ListenFault;
+use http_edge::EdgeFault;
 use insn::fault::InsnFault;
 use insn::verify_fault::VerifyFault;
 use std::alloc::AllocError;
 use std::fmt::{self, Display, Formatter};
+use transcript::ReplayFault;
 
 /// How the program ends.
 #[derive(Clone, Copy, Debug, PartialEq, Eq)]
@@ -49,6 +53,16 @@ pub enum PerformFault<'w> {
     Insn(InsnFault),
     /// The program is not accepted.
     Verify(VerifyFault),
+    /// A registry is refused.
+    Config(ConfigFault),
+    /// The line of a transcript with this number has another form.
+    BadLine(usize),
+    /// The event of the line with this number is refused.
+    Event(usize, EdgeFault),
+    /// There is no socket at the address.
+    CannotListen,
+    /// The system gives no random bytes.
+    NoSeed,
     /// Memory was refused.
     OutOfMemory,
     /// The answer could not be written.
@@ -61,11 +75,17 @@ impl<'w> PerformFault<'w> {
         ensures { result ≡ status_of self.entry }
     {
         match self {
-            PerformFault::Text(_) | PerformFault::Insn(_) | PerformFault::Verify(_) =>
-                Status::Refused,
+            PerformFault::Text(_)
+            | PerformFault::Insn(_)
+            | PerformFault::Verify(_)
+            | PerformFault::Event(_, _) => Status::Refused,
             PerformFault::BadArguments
             | PerformFault::BadRecord
             | PerformFault::CannotRead(_)
+            | PerformFault::Config(_)
+            | PerformFault::BadLine(_)
+            | PerformFault::CannotListen
+            | PerformFault::NoSeed
             | PerformFault::CannotWrite => Status::BadUse,
             PerformFault::OutOfMemory => Status::NoMemory,
         }
@@ -83,6 +103,11 @@ impl<'w> Display for PerformFault<'w> {
             PerformFault::Text(fault) => write!(f, "{}", Located(*fault)),
             PerformFault::Insn(fault) => write!(f, "Insn {fault}"),
             PerformFault::Verify(fault) => write!(f, "Verify {fault}"),
+            PerformFault::Config(fault) => write!(f, "Config {fault}"),
+            PerformFault::BadLine(line) => write!(f, "line {line}: bad line"),
+            PerformFault::Event(line, fault) => write!(f, "line {line}: {fault}"),
+            PerformFault::CannotListen => write!(f, "cannot listen"),
+            PerformFault::NoSeed => write!(f, "no random bytes"),
             PerformFault::OutOfMemory => write!(f, "out of memory"),
             PerformFault::CannotWrite => write!(f, "cannot write"),
         }
@@ -134,6 +159,42 @@ impl<'w> From<VerifyFault> for PerformFault<'w> {
         match fault {
             VerifyFault::Memory => PerformFault::OutOfMemory,
             fault => PerformFault::Verify(fault),
+        }
+    }
+}
+
+impl<'w> From<ConfigFault> for PerformFault<'w> {
+    ghost from_gives = { λ fault f. f ≡ of_configuring fault };
+
+    fn from(fault: ConfigFault) -> PerformFault<'w> {
+        match fault {
+            ConfigFault::Memory => PerformFault::OutOfMemory,
+            fault => PerformFault::Config(fault),
+        }
+    }
+}
+
+impl<'w> From<ReplayFault> for PerformFault<'w> {
+    ghost from_gives = { λ fault f. f ≡ of_replaying fault };
+
+    fn from(fault: ReplayFault) -> PerformFault<'w> {
+        match fault {
+            ReplayFault::Config(fault) => PerformFault::Config(fault),
+            ReplayFault::BadLine(line) => PerformFault::BadLine(line),
+            ReplayFault::Refused(line, fault) => PerformFault::Event(line, fault),
+            ReplayFault::Memory => PerformFault::OutOfMemory,
+        }
+    }
+}
+
+impl<'w> From<ListenFault> for PerformFault<'w> {
+    ghost from_gives = { λ fault f. f ≡ of_listening fault };
+
+    fn from(fault: ListenFault) -> PerformFault<'w> {
+        match fault {
+            ListenFault::NoSeed => PerformFault::NoSeed,
+            ListenFault::NoSocket => PerformFault::CannotListen,
+            ListenFault::Unwritten => PerformFault::CannotWrite,
         }
     }
 }

@@ -12,13 +12,15 @@ mod fault;
 mod hex_text;
 mod judge;
 mod perform;
+mod service;
 #[cfg(test)]
 mod tests;
 
 use command::Command;
 use fault::PerformFault;
-use perform::{failed, perform, report};
-use std::io::{self, Error, ErrorKind};
+use perform::{perform, perform_service, told};
+use service::Service;
+use std::io::{self, Error, ErrorKind, Write};
 use std::process::ExitCode;
 use std::rt::{Env, Files};
 use std::{env, fs};
@@ -54,36 +56,41 @@ fn outcome_of(read: io::Result<Vec<u8>>) -> Result<Option<Vec<u8>>, PerformFault
     }
 }
 
-/// How the program is called.
-#[derive(Drop)]
-struct Invocation {
-    words: Vec<String>,
-    /// What stands in the file that the words name.
-    file: Option<Vec<u8>>,
+/// What stands in a file; `None` where it cannot be read.
+fn file_at(
+    rt: &(impl Files + AllocGlobal),
+    path: &str,
+) -> Result<Option<Vec<u8>>, PerformFault<'static>> {
+    outcome_of(fs::read(rt, path))
 }
 
-/// The words, and what stands in the file that they name.
-fn given(rt: &(impl Env + Files + AllocGlobal)) -> Result<Invocation, PerformFault<'static>> {
-    let words = words(rt)?;
-    let path = Command::from_words(&words).and_then(Command::file);
-    let file = match path {
-        Some(path) => outcome_of(fs::read(rt, path))?,
+/// Carries out the command that words name.
+fn carry_out<W: Write, E: Write>(
+    rt: &HostRuntime,
+    words: &[String],
+    out: &mut W,
+    err: &mut E,
+) -> Result<u8, PerformFault<'static>> {
+    if let Some(service) = Service::from_words(rt.alloc(), words)? {
+        let file = file_at(rt, service.config())?;
+        return Ok(perform_service(rt, words, file.as_deref(), out, err));
+    }
+    let file = match Command::from_words(words).and_then(Command::file) {
+        Some(path) => file_at(rt, path)?,
         None => None,
     };
-    Ok(Invocation { words, file })
+    Ok(perform(rt.alloc(), words, file.as_deref(), out, err))
 }
 
 fn main(rt: HostRuntime) -> ExitCode {
     let mut out = rt.stdout();
     let mut err = rt.stderr();
-    let status = match given(&rt) {
-        Ok(Invocation { words, file }) => {
-            perform(rt.alloc(), &words, file.as_deref(), &mut out, &mut err)
-        }
-        Err(fault) => match report(fault, &mut err) {
-            Ok(status) => status.code(),
-            Err(unwritten) => failed(unwritten, &mut err).code(),
+    let status = match words(&rt) {
+        Ok(words) => match carry_out(&rt, &words, &mut out, &mut err) {
+            Ok(status) => status,
+            Err(fault) => told(fault, &mut err),
         },
+        Err(fault) => told(fault, &mut err),
     };
     ExitCode::from(status)
 }

@@ -1,8 +1,9 @@
 //! The program without its surroundings: words in, lines and a status out.
 
-ghost use Rattle.std.specs.Prelude.{◌≡◌, ◌⊎◌, OnOk, IfOk, IfSome};
+ghost use Rattle.std.specs.Prelude.{◌≡◌, ◌⊎◌, OnOk, OnErr, IfOk, IfErr, IfSome};
 ghost use Rattle.std.specs.Io.KnownBytes.{Appends};
 ghost use Rattle.std.specs.Option.{option_copied};
+ghost use Rattle.oauthd.specs.Listening.{HasServed, ServesNothing, TellsNoService};
 ghost use Rattle.oauthd.specs.Performed.{PrintsAnswer, TellsFault};
 ghost use Rattle.oauthd.specs.Printed.{answer_text, told_text};
 ghost use Rattle.oauthd.specs.Statuses.{code_of, status_of};
@@ -10,9 +11,14 @@ ghost use Rattle.oauthd.specs.declared.fault.Status.{Status};
 
 use crate::command::answer;
 use crate::fault::{PerformFault, Status};
+use crate::service::{Prepared, Service, prepare};
+use daemon::{serve, start};
 use std::alloc::Global;
 use std::fmt::Display;
 use std::io::{self, Write};
+use std::net::Net;
+use std::random::RandomSource;
+use std::rt::Clock;
 
 /// What could not be written to the end.
 #[derive(Clone, Copy, Debug, PartialEq, Eq)]
@@ -39,7 +45,7 @@ pub fn carry_out<W: Write, E: Write>(
         ⊎ ((out.new ≡ out.old) × TellsFault words.now (option_copied file.entry) status (E.contents err.old) (E.contents err.new))) }
 {
     match answer(alloc, words, file) {
-        Ok(answer) => match write_text(out, answer) {
+        Ok(answer) => match answer.write_to(out) {
             Ok(()) => Ok(Status::Done),
             Err(_) => Err(Unwritten::Answer),
         },
@@ -95,5 +101,60 @@ pub fn report<E: Write>(fault: PerformFault<'_>, err: &mut E) -> Result<Status, 
     match write_text(err, format_args!("oauthd: {fault}\n")) {
         Ok(()) => Ok(fault.status()),
         Err(_) => Err(Unwritten::Fault),
+    }
+}
+
+/// Tells a fault in one line, and gives the program's exit status. A write that fails is bad use.
+pub fn told<E: Write>(fault: PerformFault<'_>, err: &mut E) -> u8
+    ensures { (result ≡ code_of Status.BadUse)
+        ⊎ ((result ≡ code_of (status_of fault.entry)) × Appends (E.contents err.old) (E.contents err.new) (told_text fault.entry)) }
+{
+    match report(fault, err) {
+        Ok(status) => status.code(),
+        Err(unwritten) => failed(unwritten, err).code(),
+    }
+}
+
+/// Serves as words say, until that is over.
+fn serve_as<'w, R: Net + Clock + RandomSource + AllocGlobal, W: Write, E: Write>(
+    rt: &R,
+    words: &'w [String],
+    file: Option<&[u8]>,
+    out: &mut W,
+    err: &mut E,
+) -> Result<(), PerformFault<'w>>
+    ensures done { OnOk result (HasServed words.now (option_copied file.entry) (W.contents out.old) (W.contents out.new)) }
+    ensures fault { IfErr result (ServesNothing words.now (option_copied file.entry)) }
+    ensures quiet { OnErr result (err.new ≡ err.old) }
+{
+    let Prepared { service, registry } = prepare(rt.alloc(), words, file)?;
+    let given = match service {
+        Service::Start(given) => given,
+        Service::Serve(given) => {
+            serve(rt, given.address, registry, given.seed, given.count, out)?;
+            return Ok(());
+        }
+    };
+    start(rt, given.address, registry, given.patience, out, err)?;
+    Ok(())
+}
+
+/// Serves as words say, and gives the program's exit status. `words` are those behind the program's name; `file` is what
+/// stands in the registry's file, and `None` where that cannot be read.
+pub fn perform_service<R: Net + Clock + RandomSource + AllocGlobal, W: Write, E: Write>(
+    rt: &R,
+    words: &[String],
+    file: Option<&[u8]>,
+    out: &mut W,
+    err: &mut E,
+) -> u8
+    // Status 2 may be that of a fault that could not be told.
+    ensures { (result ≡ code_of Status.BadUse)
+        ⊎ ((result ≡ code_of Status.Done) × HasServed words.now (option_copied file.entry) (W.contents out.old) (W.contents out.new))
+        ⊎ TellsNoService words.now (option_copied file.entry) result (E.contents err.old) (E.contents err.new) }
+{
+    match serve_as(rt, words, file, out, err) {
+        Ok(()) => Status::Done.code(),
+        Err(fault) => told(fault, err),
     }
 }

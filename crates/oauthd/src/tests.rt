@@ -8,7 +8,9 @@ mod hooks;
 mod machines;
 mod program;
 mod run;
+mod services;
 mod text;
+mod transcripts;
 mod verdict_rows;
 mod words;
 

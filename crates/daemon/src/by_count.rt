@@ -1,0 +1,75 @@
+//! So many connections, one after the other.
+
+ghost use Rattle.std.specs.Prelude.{◌≡◌, [], List, OnOk};
+ghost use Rattle.clients.specs.RegistryRecord.{RegistryRecord};
+ghost use Rattle.http_edge.specs.Schedule.{Happening, World};
+ghost use Rattle.http_edge.specs.Reached.{Reached};
+ghost use Rattle.serving.specs.Served.{LeadsOn};
+ghost use Rattle.daemon.specs.Begun.{IsBegun};
+ghost use Rattle.daemon.specs.Listening.{Announces};
+
+use crate::fault::ListenFault;
+use crate::listening::{listen, next_connection, see_off};
+use crate::machine_clock::MachineClock;
+use clients::Registry;
+use endpoints::Server;
+use hook_chain::{Chain, HookHost};
+use http_edge::Edge;
+use rand_chacha::ChaCha20Rng;
+use rand_core::SeedableRng;
+use serving::serve_one;
+use std::alloc::Global;
+use std::io::Write;
+use std::net::{Net, OpenStream};
+use std::rt::Clock;
+
+/// The number under which each connection is served. The one before is forgotten when the next comes.
+pub const NUMBER: u32 = 1;
+
+/// A new server over a registry, without hooks and without connections.
+pub fn new_edge(alloc: Global, registry: Registry) -> Edge<Chain>
+    ensures { IsBegun ⟦<Chain as HookHost>⟧ registry [] result }
+{
+    let server = Server::new(alloc, registry, Chain::new(alloc));
+    Edge::new(alloc, server)
+}
+
+/// Serves so many connections of a listener, one after the other. The fault of one ends that one alone.
+pub fn serve_each<R: Net + Clock, H: HookHost>(
+    rt: &R,
+    listener: &R::Listener,
+    count: u32,
+    edge: &mut Edge<H>,
+    rng: &mut ChaCha20Rng,
+)
+    ensures { (rules : RegistryRecord) (first : H) (schedule : List Happening) (world : World) →
+        Reached H.HookHost edge.old rules first schedule world → LeadsOn H.HookHost edge.new rules first schedule }
+{
+    let mut clock = MachineClock(rt);
+    for _ in 0..count {
+        let Some(mut stream) = next_connection(rt, listener) else {
+            return;
+        };
+        let _ = stream.set_nodelay(true);
+        let _ = serve_one(edge, NUMBER, &mut stream, &mut clock, rng);
+        see_off(&mut stream);
+    }
+}
+
+/// Listens at an address, tells where, and serves so many connections, one after the other, with draws by a seed.
+pub fn serve<R: Net + Clock + AllocGlobal, W: Write>(
+    rt: &R,
+    address: &str,
+    registry: Registry,
+    seed: [u8; 32],
+    count: u32,
+    out: &mut W,
+) -> Result<(), ListenFault>
+    ensures { OnOk result (Announces (W.contents out.old) (W.contents out.new)) }
+{
+    let listener = listen(rt, address, out)?;
+    let mut edge = new_edge(rt.alloc(), registry);
+    let mut rng = ChaCha20Rng::from_seed(seed);
+    serve_each(rt, &listener, count, &mut edge, &mut rng);
+    Ok(())
+}

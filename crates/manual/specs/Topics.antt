@@ -1,0 +1,21 @@
+-- What topics say of a name.
+use Rattle.std.specs.Prelude.{◌≡◌, ◌≢◌, ℕ, ◌<◌, All, List, length, get_or, Option, Some, None}
+use Rattle.manual.specs.declared.topic.Topic.{Topic}
+
+-- a topic stands in a list under a name, and says this
+pub record IsTextOf (topics : List Topic) (name text : List ℕ) : Type 0 where
+  pub place : ℕ
+  pub topic : Topic
+  pub in_list : place < length topics
+  pub here : topic ≡ get_or topics place topic
+  pub named : topic.name.now ≡ name
+  pub text_is : text ≡ topic.text.now
+
+-- what a list of topics says of a name: the text of the topic of that name, if there is one
+abbrev pub Say : List Topic → List ℕ → Option (List ℕ) → Type 0
+Say topics name (Some text) = IsTextOf topics name text
+Say topics name None = All (λ topic. topic.name.now ≢ name) topics
+
+-- what the manual says of a name: so by some topics of its own, of which the tests say that each fault is one
+abbrev pub IsSaid : List ℕ → Option (List ℕ) → Type 0
+IsSaid name text = (topics : List Topic) × Say topics name text

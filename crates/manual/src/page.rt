@@ -1,0 +1,34 @@
+//! The commands, and the version of the program.
+
+/// The commands, each with an example.
+pub const PAGE: &str = "\
+oauthd: an OAuth 2.0 authorization server with verified token hooks.
+
+oauthd run HEX RECORDHEX   runs the hook of some code on a record
+    oauthd run b7000000010000009500000000000000 0100000001000000e80300000000000001000000000000000100000000000000030000000000000003000000000000002c010000000000000300000000000000
+oauthd asm FILE            prints the hex of the code that the text of a hook says
+    oauthd asm hook.asm
+oauthd list FILE           prints the text of the hook whose hex stands in a file
+    oauthd list hook.hex
+oauthd check FILE          says whether that hook is taken, for records of version 1
+    oauthd check hook.hex
+oauthd check2 FILE         the same, for records of version 2
+    oauthd check2 hook.hex
+oauthd start ADDR CONFIG   serves until it is stopped, at an address, with the registry of a file
+    oauthd start 127.0.0.1:8080 registry.json
+oauthd serve ADDR CONFIG SEEDHEX COUNT
+                           serves so many connections and ends, with draws by a seed
+    oauthd serve 127.0.0.1:8080 registry.json 0707070707070707070707070707070707070707070707070707070707070707 1
+oauthd replay FILE         prints what the server of a transcript sends to each connection
+    oauthd replay transcript.txt
+oauthd help NAME           says what a command or a fault means
+    oauthd help UnsetRegister
+oauthd --version           prints the version
+    oauthd --version
+
+The program ends with 0 where a command is done, 1 where a hook or an event is refused, 2
+where it is used badly, and 3 where memory is refused. A fault is one line on standard error.
+";
+
+/// The version of the program, as it is printed.
+pub const VERSION: &str = "oauthd 0.1.0\n";

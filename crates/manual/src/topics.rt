@@ -1,0 +1,83 @@
+//! What there is to explain: the commands, and each of their faults.
+
+ghost use Rattle.std.specs.Option.{option_copied};
+ghost use Rattle.manual.specs.Topics.{IsSaid};
+
+mod code_faults;
+mod commands;
+mod config_faults;
+mod event_faults;
+mod text_faults;
+mod use_faults;
+mod verdicts;
+
+use crate::topic::text_named;
+use code_faults::CODE_FAULTS;
+use commands::COMMANDS;
+use config_faults::CONFIG_FAULTS;
+use event_faults::EVENT_FAULTS;
+use text_faults::TEXT_FAULTS;
+use use_faults::USE_FAULTS;
+use verdicts::VERDICTS;
+
+/// What a command does.
+fn command(name: &str) -> Option<&'static str>
+    ensures { IsSaid name.now (option_copied result) }
+{
+    text_named(&COMMANDS, name)
+}
+
+/// What a fault means that a command has however its files are.
+fn use_fault(name: &str) -> Option<&'static str>
+    ensures { IsSaid name.now (option_copied result) }
+{
+    text_named(&USE_FAULTS, name)
+}
+
+/// What a fault of the text of a hook means.
+fn text_fault(name: &str) -> Option<&'static str>
+    ensures { IsSaid name.now (option_copied result) }
+{
+    text_named(&TEXT_FAULTS, name)
+}
+
+/// What a fault of the code of a hook means.
+fn code_fault(name: &str) -> Option<&'static str>
+    ensures { IsSaid name.now (option_copied result) }
+{
+    text_named(&CODE_FAULTS, name)
+}
+
+/// What a verdict on a hook means.
+fn verdict(name: &str) -> Option<&'static str>
+    ensures { IsSaid name.now (option_copied result) }
+{
+    text_named(&VERDICTS, name)
+}
+
+/// What a fault of a registry means.
+fn config_fault(name: &str) -> Option<&'static str>
+    ensures { IsSaid name.now (option_copied result) }
+{
+    text_named(&CONFIG_FAULTS, name)
+}
+
+/// What a fault of an event means.
+fn event_fault(name: &str) -> Option<&'static str>
+    ensures { IsSaid name.now (option_copied result) }
+{
+    text_named(&EVENT_FAULTS, name)
+}
+
+/// What the manual says of a name.
+pub fn explained(name: &str) -> Option<&'static str>
+    ensures { IsSaid name.now (option_copied result) }
+{
+    command(name)
+        .or(use_fault(name))
+        .or(text_fault(name))
+        .or(code_fault(name))
+        .or(verdict(name))
+        .or(config_fault(name))
+        .or(event_fault(name))
+}

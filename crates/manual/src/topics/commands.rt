@@ -1,0 +1,80 @@
+//! The commands.
+
+use crate::topic::Topic;
+
+/// What each command does.
+pub const COMMANDS: [Topic; 9] = [
+    Topic {
+        name: "run",
+        text: "\
+run HEX RECORDHEX: runs the hook whose code is HEX on the record RECORDHEX, and prints R0, the steps, and what is left of the grant: allowed SCOPES SECONDS, denied, or empty scope. The hook is checked first. docs/ASSEMBLY.md makes a record field by field.
+
+  oauthd run b7000000010000009500000000000000 0100000001000000e80300000000000001000000000000000100000000000000030000000000000003000000000000002c010000000000000300000000000000
+",
+    },
+    Topic {
+        name: "asm",
+        text: "\
+asm FILE: turns the text of a hook into the hex of its code. docs/ASSEMBLY.md is the language.
+
+  oauthd asm hook.asm > hook.hex
+",
+    },
+    Topic {
+        name: "list",
+        text: "\
+list FILE: turns the hex of a hook's code into text: an instruction a line.
+
+  oauthd list hook.hex
+",
+    },
+    Topic {
+        name: "check",
+        text: "\
+check FILE: says whether a server takes the hook whose hex stands in FILE, for records of version 1, and how many instructions it has.
+
+  oauthd check hook.hex
+",
+    },
+    Topic {
+        name: "check2",
+        text: "\
+check2 FILE: as check, for records of version 2.
+
+  oauthd check2 hook.hex
+",
+    },
+    Topic {
+        name: "start",
+        text: "\
+start ADDR CONFIG [SILENCE [FULL]]: listens at ADDR, which is an IP address or a host's name, a colon and a port, prints listening ADDR, and serves with the registry in the file CONFIG until it is stopped. Port 0 lets the system choose one. SILENCE is after how many seconds a connection is closed on which nothing moves, at least 1, or 60 where it is left out; FULL is after how many it may be closed where another one waits and all places are taken, or 5. Codes and tokens are drawn by random bytes of the system. A connection that a fault ended is told on standard error, in at most one line a second. All that the server knows is in memory alone, and is lost when it is stopped. docs/OPERATING.md says more.
+
+  oauthd start 127.0.0.1:8080 registry.json
+  oauthd start 127.0.0.1:8080 registry.json 30 2
+",
+    },
+    Topic {
+        name: "serve",
+        text: "\
+serve ADDR CONFIG SEEDHEX COUNT: listens at ADDR, prints listening ADDR, serves COUNT connections, one after the other, with the registry in the file CONFIG, and ends. Codes and tokens are drawn by a generator whose seed is SEEDHEX, 64 hex digits: who knows the seed knows each of them, so it is for tests alone.
+
+  oauthd serve 127.0.0.1:8080 registry.json 0707070707070707070707070707070707070707070707070707070707070707 1
+",
+    },
+    Topic {
+        name: "replay",
+        text: "\
+replay FILE: reads the transcript in FILE, gives each of its events to a server, and prints for each connection how many bytes the server sent to it, and the bytes. The first line is config and a registry; each line behind it is an event: open C, bytes C MOMENT DRAWS HEX, or end C. docs/OPERATING.md has the form.
+
+  oauthd replay transcript.txt
+",
+    },
+    Topic {
+        name: "help",
+        text: "\
+help prints the commands; help NAME says of a command or of a fault what it means.
+
+  oauthd help UnsetRegister
+",
+    },
+];

@@ -1,0 +1,74 @@
+//! Faults of the program itself.
+
+use crate::topic::Topic;
+
+/// What the faults mean that a command has however its files are.
+pub const USE_FAULTS: [Topic; 9] = [
+    Topic {
+        name: "bad arguments",
+        text: "\
+bad arguments: the words are no command, or what is to be the hex of a hook's code is no hex. Hex is digits in pairs; blanks and line feeds may part them. help prints the commands.
+
+  oauthd run 9 00          (one digit is no byte)
+",
+    },
+    Topic {
+        name: "bad record",
+        text: "\
+bad record: the record is no hex, or not of 64 bytes with version 1 or of 96 bytes with version 2, or a field has a value that its version lacks. docs/ASSEMBLY.md has the table of the fields.
+
+  oauthd run 9500000000000000 00
+",
+    },
+    Topic {
+        name: "cannot read",
+        text: "\
+cannot read FILE: the file is not there or may not be read, or the text of a hook is not UTF-8. Look at the path and at the file's permissions.
+
+  oauthd asm no-such-file
+",
+    },
+    Topic {
+        name: "cannot write",
+        text: "\
+cannot write: standard output is closed or full. What was printed may be a part of the answer.
+
+  oauthd list hook.hex > /dev/full
+",
+    },
+    Topic {
+        name: "bad line",
+        text: "\
+bad line: the line of a transcript is no event. The first line is config, a space and a registry; the others are open C, bytes C MOMENT DRAWS HEX, and end C, with one space between words, numbers without leading 0, and DRAWS a minus or 128 hex digits for each request, with commas between. No line is empty.
+
+  open 01                  open 1
+  bytes 1 1000 474554      bytes 1 1000 - 474554
+",
+    },
+    Topic {
+        name: "cannot listen",
+        text: "\
+cannot listen: no socket can be had at the address. It may be in use, its port may be below 1024 and reserved, or its host may not be of this machine. An address is an IP address or a host's name, a colon and a port.
+
+  oauthd start 8080 registry.json      oauthd start 127.0.0.1:8080 registry.json
+",
+    },
+    Topic {
+        name: "no random bytes",
+        text: "\
+no random bytes: the system's source of random bytes fails. No connection was served, for codes and tokens could be guessed.
+",
+    },
+    Topic {
+        name: "connection ended",
+        text: "\
+connection ended: FAULT: a connection of start was closed before its client ended it. Read and Write are failures of its socket: mostly the client is gone, or was silent for too long. Clock is a clock that can't be read. Refused is an event that the server did not take, and is told with its name. The server goes on with the others.
+",
+    },
+    Topic {
+        name: "out of memory",
+        text: "\
+out of memory: the system gave no memory. Nothing was printed; the same command may be tried again.
+",
+    },
+];

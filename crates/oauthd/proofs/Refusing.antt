@@ -1,0 +1,27 @@
+-- A hook's code that is no program is told so.
+use Rattle.std.proofs.Common.{◌≡◌, ◌≢◌, ℕ, List, Err, sym, subst}
+use Rattle.insn.specs.declared.fault.InsnFault.{InsnFault}
+use Rattle.insn.specs.declared.fault.InsnFault.TheVariants as insn
+use Rattle.oauthd.specs.declared.fault.PerformFault.{PerformFault}
+use Rattle.oauthd.specs.declared.fault.PerformFault.TheVariants.{Insn}
+use Rattle.oauthd.specs.declared.judge.JudgeFault.TheVariants as judge
+use Rattle.oauthd.specs.Answers.{IsJudgedText, IsRunOn}
+use Rattle.oauthd.specs.Faults.{of_decoding}
+
+told : (code_hex record_hex : List ℕ) (fault : InsnFault) (f : PerformFault) → fault ≢ insn.Memory → f ≡ Insn fault
+    → IsJudgedText code_hex record_hex (Err (judge.Insn fault)) → IsRunOn code_hex record_hex (Err f)
+told code_hex record_hex fault f no_memory is_told judged = subst (λ e. IsRunOn code_hex record_hex (Err e)) (sym is_told) (no_memory, judged)
+
+pub told_insn : (code_hex record_hex : List ℕ) (fault : InsnFault) (f : PerformFault) → f ≡ of_decoding fault
+    → IsJudgedText code_hex record_hex (Err (judge.Insn fault)) → IsRunOn code_hex record_hex (Err f)
+told_insn code_hex record_hex insn.Memory f is_told judged = subst (λ e. IsRunOn code_hex record_hex (Err e)) (sym is_told) tt
+told_insn code_hex record_hex insn.Empty f is_told judged = told code_hex record_hex _ f (λ same. cc) is_told judged
+told_insn code_hex record_hex insn.BadLength f is_told judged = told code_hex record_hex _ f (λ same. cc) is_told judged
+told_insn code_hex record_hex insn.TooLong f is_told judged = told code_hex record_hex _ f (λ same. cc) is_told judged
+told_insn code_hex record_hex (insn.UnknownOpcode i) f is_told judged = told code_hex record_hex _ f (λ same. cc) is_told judged
+told_insn code_hex record_hex (insn.BadRegister i) f is_told judged = told code_hex record_hex _ f (λ same. cc) is_told judged
+told_insn code_hex record_hex (insn.NonzeroField i) f is_told judged = told code_hex record_hex _ f (λ same. cc) is_told judged
+told_insn code_hex record_hex (insn.TruncatedWide i) f is_told judged = told code_hex record_hex _ f (λ same. cc) is_told judged
+told_insn code_hex record_hex (insn.Atomic i) f is_told judged = told code_hex record_hex _ f (λ same. cc) is_told judged
+told_insn code_hex record_hex (insn.Call i) f is_told judged = told code_hex record_hex _ f (λ same. cc) is_told judged
+told_insn code_hex record_hex (insn.LegacyLoad i) f is_told judged = told code_hex record_hex _ f (λ same. cc) is_told judged

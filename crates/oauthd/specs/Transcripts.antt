@@ -1,0 +1,37 @@
+-- What `replay` answers to a file.
+use Rattle.std.specs.Prelude.{◌≡◌, ◌⊎◌, ⊤, ℕ, List, [], Result, Ok, Err}
+use Rattle.hook_chain.specs.contracts.chain.ChainHookHost.TheImpl as chain
+use Rattle.transcript.specs.Replays.{IsReplay, IsReplayFault}
+use Rattle.transcript.specs.declared.fault.ReplayFault.{ReplayFault}
+use Rattle.transcript.specs.declared.fault.ReplayFault.TheVariants as replay
+use Rattle.oauthd.specs.declared.answer.Answer.{Answer}
+use Rattle.oauthd.specs.declared.answer.Answer.TheVariants as answers
+use Rattle.oauthd.specs.declared.fault.PerformFault.{PerformFault}
+use Rattle.oauthd.specs.declared.fault.PerformFault.TheVariants as faults
+use Rattle.oauthd.specs.File.{File, HoldsNoText, HoldsText}
+
+-- a file is a transcript, and the server with the chain of hooks, of which none is there at first, answers it so
+pub record IsReplayed (file : File) (output : List ℕ) : Type 0 where
+  pub text : List ℕ
+  pub held : HoldsText file text
+  pub replay : IsReplay chain.ghosts [] text output
+
+-- a file's text has no answer as a transcript, for this fault
+pub record HasReplayFault (file : File) (fault : ReplayFault) : Type 0 where
+  pub text : List ℕ
+  pub held : HoldsText file text
+  pub fault_is : IsReplayFault chain.ghosts [] text fault
+
+-- why the text of a file has no answer, where it is one
+abbrev pub HasNoReplay : File → PerformFault → Type 0
+HasNoReplay file (faults.Config fault) = HasReplayFault file (replay.Config fault)
+HasNoReplay file (faults.BadLine line) = HasReplayFault file (replay.BadLine line)
+HasNoReplay file (faults.Event line fault) = HasReplayFault file (replay.Refused line fault)
+HasNoReplay file faults.OutOfMemory = ⊤
+HasNoReplay file fault = ⊥
+
+-- what `replay` answers to the file of a path
+abbrev pub IsReplayedAs : List ℕ → File → Result Answer PerformFault → Type 0
+IsReplayedAs path file (Ok (answers.Replayed output)) = IsReplayed file output.items
+IsReplayedAs path file (Ok answer) = ⊥
+IsReplayedAs path file (Err fault) = HoldsNoText path file fault ⊎ HasNoReplay file fault

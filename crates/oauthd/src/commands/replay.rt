@@ -1,0 +1,25 @@
+//! `replay FILE`: what the server of the transcript in a file sends to each connection.
+
+ghost use Rattle.std.specs.Option.{option_copied};
+ghost use Rattle.oauthd.specs.Transcripts.{IsReplayedAs};
+
+use crate::answer::Answer;
+use crate::commands::text_file::text_in;
+use crate::fault::PerformFault;
+use std::alloc::Global;
+use transcript::replay;
+
+/// What the server of the transcript in a file sends to each connection.
+pub fn replayed<'w>(
+    alloc: Global,
+    path: &'w str,
+    file: Option<&[u8]>,
+) -> Result<Answer, PerformFault<'w>>
+    ensures { IsReplayedAs path.now (option_copied file.entry) result }
+{
+    let text = text_in(path, file)?;
+    match replay(alloc, text) {
+        Ok(output) => Ok(Answer::Replayed(output)),
+        Err(fault) => Err(PerformFault::from(fault)),
+    }
+}
