@@ -2,9 +2,12 @@
 //! word `time` the least time of some rounds is printed beside it.
 #![tactic(auto)]
 
+mod draw;
 mod programs;
 mod report;
+mod server_steps;
 mod sets;
+mod stores;
 
 use report::Rounds;
 use std::{env, io};
@@ -17,5 +20,7 @@ fn main(rt: HostRuntime) -> io::Result<()> {
         _ => return println!(&rt; "bench: without words, or with the word time"),
     };
     sets::report_all(&rt, rounds)?;
-    programs::report_all(&rt, rounds)
+    programs::report_all(&rt, rounds)?;
+    stores::report_all(&rt, rounds)?;
+    server_steps::report_all(&rt, rounds)
 }
