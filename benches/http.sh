@@ -1,0 +1,160 @@
+#!/usr/bin/env bash
+# Requests a second of a server beside those of nginx with a fixed reply, and the server's memory. All servers are of one
+# process, and are loaded by turns in one run; what is printed are medians of the rounds. Takes some twenty seconds, and
+# ends with 0 where every request was answered 200. Words: how many rounds (5), and which kinds of runs (all of: one
+# pipelined memory).
+# It wants Debian's packages wrk, nginx, curl and python3, and the program: (cd crates/oauthd && rt run -- help). The
+# variable OAUTHD names another program.
+program=$(realpath -m "${OAUTHD:-$(dirname "$0")/../crates/oauthd/out/oauthd}")
+cd "$(dirname "$0")/.." || exit 2
+rounds=${1:-5}
+shift
+kinds=${*:-one pipelined memory}
+[ -x "$program" ] || { echo "there is no $program: run 'rt run -- help' in crates/oauthd first"; exit 2; }
+PATH=$PATH:/usr/sbin
+for tool in wrk nginx curl python3; do
+    command -v $tool >/dev/null || { echo "there is no $tool: apt-get install $tool"; exit 2; }
+done
+room=$(mktemp -d) || exit 2
+chmod 755 "$room"
+started=()
+trap '[ ${#started[@]} = 0 ] || kill "${started[@]}" 2>/dev/null; wait; rm -rf "$room"' EXIT
+
+# So long is a run. The store has room for 65,536 unexpired tokens, so faster or longer runs would fill it.
+seconds=0.45
+faults=0
+
+# start NAME LIFE: starts a server whose access tokens live so many seconds; $at is where it listens, $pid its process
+start() {
+    sed 's/"access_life": *[0-9]*/"access_life": '"$2"'/' examples/registry.json >"$room/$1.json"
+    : >"$room/$1.out"
+    "$program" start 127.0.0.1:0 "$room/$1.json" >"$room/$1.out" 2>"$room/$1.err" &
+    pid=$!
+    started+=($pid)
+    for _ in $(seq 100); do
+        grep -q '^listening ' "$room/$1.out" && break
+        sleep 0.05
+    done
+    at=$(sed -n 's/^listening //p' "$room/$1.out")
+    [ -n "$at" ] || { echo "no server: $(cat "$room/$1.err")"; exit 1; }
+}
+
+# start_nginx: starts nginx with one worker and a fixed reply of 116 bytes
+start_nginx() {
+    local port token
+    port=$(python3 -c 'import socket; s = socket.socket(); s.bind(("127.0.0.1", 0)); print(s.getsockname()[1])')
+    token=$(printf 'A%.0s' $(seq 43))
+    cat >"$room/nginx.conf" <<CONF
+daemon off;
+worker_processes 1;
+pid $room/nginx.pid;
+error_log $room/nginx.err;
+events { worker_connections 256; }
+http {
+    access_log off;
+    keepalive_timeout 600;
+    keepalive_requests 1000000000;
+    default_type application/json;
+    client_body_temp_path $room/body;
+    proxy_temp_path $room/proxy;
+    fastcgi_temp_path $room/fastcgi;
+    uwsgi_temp_path $room/uwsgi;
+    scgi_temp_path $room/scgi;
+    server {
+        listen 127.0.0.1:$port;
+        location / { return 200 '{"access_token":"$token","expires_in":300,"scope":"read","token_type":"Bearer"}'; }
+    }
+}
+CONF
+    nginx -e "$room/nginx.err" -c "$room/nginx.conf" 2>"$room/nginx.out" &
+    nginx_pid=$!
+    started+=($nginx_pid)
+    nginx_at=127.0.0.1:$port
+    for _ in $(seq 100); do
+        curl -s -o "$room/fixed" "http://$nginx_at/" && break
+        sleep 0.05
+    done
+    [ "$(stat -c %s "$room/fixed" 2>/dev/null)" = 116 ] || { echo "no nginx: $(cat "$room/nginx.err" "$room/nginx.out")"; exit 1; }
+}
+
+bot=$(printf 'bot:b0t' | base64)
+form=grant_type=client_credentials
+
+# load AT CONNECTIONS AT_ONCE PATH BODY: loads a server for a run; $rate is what it answered in a second. On a machine in
+# use wrk may be stopped before it has begun: then it is another run.
+load() {
+    rate=
+    for _ in 1 2 3; do
+        timeout -s INT $seconds wrk -t1 -c"$2" -d60 -s benches/requests.lua "http://$1" -- "$3" "$4" "$bot" "$5" \
+            >"$room/wrk" 2>&1
+        rate=$(sed -n 's/^Requests\/sec: *//p' "$room/wrk")
+        [ -z "$rate" ] || break
+    done
+    if [ -z "$rate" ] || grep -qE 'Non-2xx|Socket errors' "$room/wrk"; then
+        faults=$((faults + 1))
+        echo "NOT ALL ANSWERED 200: $4 with $2 connections: $(grep -E 'Non-2xx|Socket errors|unable|requests in' "$room/wrk" | tr -s ' \n' ' ')"
+        rate=${rate:-0}
+    fi
+}
+
+# memory PID: its memory, in MB
+memory() {
+    awk '/^VmRSS/ { printf "%.2f MB", $2 / 1024 }' "/proc/$1/status"
+}
+
+start tokens 1
+tokens_at=$at
+start asked 3600
+asked_at=$at
+start_nginx
+token=$(curl -sS -u bot:b0t -d $form "http://$asked_at/token" | sed -E 's/.*"access_token":"([^"]*)".*/\1/')
+
+# turn NAME CONNECTIONS AT_ONCE: a run of each server, one after the other
+turn() {
+    local fixed issued
+    load "$nginx_at" "$2" "$3" /token $form
+    fixed=$rate
+    load "$tokens_at" "$2" "$3" /token $form
+    issued=$rate
+    load "$asked_at" "$2" "$3" /introspect "token=$token"
+    echo "$fixed $issued $rate" >>"$room/rates.$1"
+}
+
+# report NAME TEXT: the medians of a kind of run, and the medians of the ratios to nginx in the same turn
+report() {
+    [ -s "$room/rates.$1" ] || return
+    python3 - "$room/rates.$1" "$2" <<'MEDIANS'
+import statistics, sys
+rows = [[float(rate) for rate in line.split()] for line in open(sys.argv[1])]
+fixed, issued, told = (statistics.median(column) for column in zip(*rows))
+first, second = (statistics.median(row[i] / row[0] for row in rows if row[0]) for i in (1, 2))
+print(f"{sys.argv[2]:32}{fixed:9.0f}{issued:9.0f}{first:7.2f}{told:13.0f}{second:7.2f}")
+MEDIANS
+}
+
+# memory_of_tokens COUNT: what a fresh server takes with so many tokens
+memory_of_tokens() {
+    start "tokens$1" 3600
+    python3 benches/clients.py tokens "$at" "$bot" "$1" || faults=$((faults + 1))
+    printf '%-28s%s\n' "memory with $1 tokens" "$(memory $pid)"
+}
+
+for round in $(seq "$rounds"); do
+    for kind in $kinds; do
+        case $kind in
+            one) turn one 1 1 ;;
+            pipelined) turn pipelined 1 8 ;;
+        esac
+    done
+done
+printf '%-32s%9s%9s%7s%13s%7s\n' 'requests a second' nginx /token ratio /introspect ratio
+report one 'one connection'
+report pipelined 'one, pipelined by 8'
+case $kinds in
+    *memory*)
+        memory_of_tokens 0
+        memory_of_tokens 10000
+        memory_of_tokens 65536
+        ;;
+esac
+[ $faults = 0 ]
