@@ -3,3 +3,4 @@ pub mod Places
 pub mod Listed
 pub mod Texts
 pub mod Data
+pub mod Plain

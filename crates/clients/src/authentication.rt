@@ -1,7 +1,7 @@
 //! Client authentication by HTTP Basic or by parameters (RFC 6749, section 2.3.1; RFC 7617).
 
-ghost use Rattle.std.specs.Prelude.{◌≡◌, ◌==◌, true, false, not, drop, bytes_eq, if◌then◌else◌, string_bytes, option_copied, IfOk, IfErr, Ok, Err, None, Some};
-ghost use Rattle.std.specs.List.{position};
+ghost use Rattle.std.specs.Prelude.{◌≡◌, ◌==◌, ◌&&◌, nat_lt, ℕ, List, true, false, not, drop, bytes_eq, if◌then◌else◌, string_bytes, option_copied, IfOk, IfErr, IfSome, Ok, Err, None, Some};
+ghost use Rattle.std.specs.List.{position, list_all};
 ghost use Rattle.std.specs.Option.{ok_or, option_map_or};
 ghost use Rattle.std.specs.Result.{result_ok};
 ghost use Rattle.std.specs.Str.{is_utf8};
@@ -22,7 +22,7 @@ use form_urlencoded::decode;
 use params::{Params, has_replacement};
 use std::alloc::{AllocError, Global};
 use std::error::Error;
-use std::fmt;
+use std::{fmt, str};
 
 /// Why a request authenticates no client.
 #[derive(Clone, Copy, Debug, PartialEq, Eq, Hash)]
@@ -133,6 +133,34 @@ fn form_text(alloc: Global, bytes: &[u8]) -> Result<String, AuthFault>
     Ok(text.into_owned(alloc)?)
 }
 
+// No byte stands for another in a form: there is no `+`, no `%` and nothing beyond ASCII.
+fn is_plain(bytes: &[u8]) -> bool
+    ensures { result ≡ list_all (λ b. nat_lt b 128 && not (b == 37) && not (b == 43)) bytes.now }
+{
+    bytes
+        .iter()
+        .all(|&byte| byte < 128 && byte != b'%' && byte != b'+')
+}
+
+// The text that was form-encoded, where it stands as it is.
+fn plain_text(bytes: &[u8]) -> Option<&str>
+    ensures { IfSome result (λ text. form_text bytes.now ≡ Ok text.now) }
+{
+    if !is_plain(bytes) {
+        return None;
+    }
+    str::from_utf8(bytes).ok()
+}
+
+// The identifier and the secret of a Basic header's text, where both stand as they are.
+fn plain_credentials(text: &str) -> Option<(&str, &str)>
+    ensures { (header : List ℕ) → basic_text header ≡ Ok text.now →
+        IfSome result (λ sent. basic_credentials header ≡ Ok (sent.0.now, sent.1.now)) }
+{
+    let (id, secret) = around_colon(text.as_bytes()).ok()?;
+    Some((plain_text(id)?, plain_text(secret)?))
+}
+
 // What a Basic header says of a client.
 #[derive(Drop)]
 struct Credentials {
@@ -140,12 +168,12 @@ struct Credentials {
     secret: String,
 }
 
-fn read_credentials(alloc: Global, header: &[u8]) -> Result<Credentials, AuthFault>
-    ensures value { GivesUnless AuthFault.Memory (is_basic header.now ≡ true)
-        (seen_by (λ c. (string_bytes c.id, string_bytes c.secret)) result) (basic_credentials header.now) }
-    ensures basic { IfOk result (λ _. is_basic header.now ≡ true) }
+// The same of any Basic header's text.
+fn read_credentials(alloc: Global, text: &str) -> Result<Credentials, AuthFault>
+    ensures { (header : List ℕ) → basic_text header ≡ Ok text.now →
+        GivesUnless AuthFault.Memory (is_basic header ≡ true)
+        (seen_by (λ c. (string_bytes c.id, string_bytes c.secret)) result) (basic_credentials header) }
 {
-    let text = basic_text(alloc, header)?;
     let (id, secret) = around_colon(text.as_bytes())?;
     Ok(Credentials {
         id: form_text(alloc, id)?,
@@ -208,8 +236,13 @@ fn by_header(
     if params.get("client_secret").is_some() {
         return Err(AuthFault::TwoMethods);
     }
-    let sent = read_credentials(alloc, header)?;
-    identified(clients, params.get("client_id"), &sent.id, &sent.secret)
+    let named = params.get("client_id");
+    let text = basic_text(alloc, header)?;
+    if let Some((id, secret)) = plain_credentials(&text) {
+        return identified(clients, named, id, secret);
+    }
+    let sent = read_credentials(alloc, &text)?;
+    identified(clients, named, &sent.id, &sent.secret)
 }
 
 // The client that the parameters authenticate.

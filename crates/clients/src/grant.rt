@@ -24,12 +24,17 @@ impl GrantType {
     pub fn named(name: &str) -> Option<GrantType>
         ensures { result ≡ grant_named name.now }
     {
-        match name {
-            "authorization_code" => Some(GrantType::AuthorizationCode),
-            "refresh_token" => Some(GrantType::RefreshToken),
-            "client_credentials" => Some(GrantType::ClientCredentials),
-            _ => None,
+        let name = name.as_bytes();
+        if name == b"authorization_code".as_slice() {
+            return Some(GrantType::AuthorizationCode);
         }
+        if name == b"refresh_token".as_slice() {
+            return Some(GrantType::RefreshToken);
+        }
+        if name == b"client_credentials".as_slice() {
+            return Some(GrantType::ClientCredentials);
+        }
+        None
     }
 }
 

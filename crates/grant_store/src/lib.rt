@@ -7,6 +7,7 @@
 mod facts;
 mod family;
 mod fault;
+mod place;
 mod record;
 mod store;
 mod tables;

@@ -14,6 +14,7 @@ ghost use Rattle.grant_store.specs.Records.{kind_in, kept_by, kept_of, kept_in, 
 
 use crate::facts::{CodeFacts, NewToken};
 use crate::fault::StoreFault;
+use crate::place::{Digest, Place};
 use crate::record::{Record, Shared};
 use consent::{ClientNo, Kind, Moment, OwnerNo, RECORD_LIMIT, is_within};
 use slab::Slab;
@@ -25,7 +26,7 @@ use std::ops::Bound;
 pub(crate) struct Tables {
     pub(crate) records: HashMap<[u8; 32], Record>,
     /// The records by expiry.
-    pub(crate) order: BTreeSet<(u64, [u8; 32])>,
+    pub(crate) order: BTreeSet<Place>,
     pub(crate) families: Slab<Shared>,
     /// The families that a code opened, by its owner and client.
     pub(crate) owners: BTreeSet<((u32, u32), usize)>,
@@ -146,7 +147,7 @@ impl Tables {
         let Some(key) = self.order.pop_first() else {
             return false;
         };
-        let digest = key.1;
+        let digest = key.1.bytes();
         let Some(record) = self.records.remove(&digest) else {
             return false;
         };
@@ -236,16 +237,16 @@ impl Tables {
     }
 
     // Lets go of what has expired under the digest of a record that is about to come, whose place in the order stays.
-    fn forget(&mut self, key: &(u64, [u8; 32]))
+    fn forget(&mut self, key: &Place)
         ensures forgotten { (n : ℕ) (others : List Coming) → IsTied self.old (record { key = key.now; family = n } ∷ others) → AreOthers key.now.1 others →
             Forgets self.old self.new key.now.1 n (record { key = key.now; family = n } ∷ others) }
         ensures spare { spare self.old.records ≤ spare self.new.records }
     {
-        let digest = key.1;
+        let digest = key.1.bytes();
         let Some(old) = self.records.remove(&digest) else {
             return;
         };
-        retire(&mut self.order, &(old.expiry(), digest), key);
+        retire(&mut self.order, &(old.expiry(), key.1), key);
         leave(&mut self.families, &mut self.owners, old.family);
     }
 
@@ -256,7 +257,7 @@ impl Tables {
             Settles self.old self.new digest.now new others }
         ensures spare { spare self.old.records ≤ spare self.new.records + 1 }
     {
-        self.forget(&(new.expiry(), *digest));
+        self.forget(&(new.expiry(), Digest::of(*digest)));
         let Ok(_) = self.records.insert(*digest, new) else {
             unreachable!()
         };
@@ -273,7 +274,7 @@ impl Tables {
         ensures records { OnErr result (self.new.records.entries ≡ self.old.records.entries) }
         ensures families { OnErr result (self.new.families.slots ≡ self.old.families.slots) }
     {
-        let key = (new.expiry(), *digest);
+        let key = (new.expiry(), Digest::of(*digest));
         make_room(&mut self.order, &mut self.records, key, 1)?;
         enter(&mut self.families, new.family, 1);
         self.settle(digest, new);
@@ -321,8 +322,8 @@ impl Tables {
     {
         let one = Record::of_token(first, moment, number);
         let other = Record::of_token(second, moment, number);
-        let key = (one.expiry(), first.digest);
-        let last = (other.expiry(), second.digest);
+        let key = (one.expiry(), Digest::of(first.digest));
+        let last = (other.expiry(), Digest::of(second.digest));
         make_room_for_two(&mut self.order, &mut self.records, key, last)?;
         enter(&mut self.families, number, 2);
         self.settle(&first.digest, one);
@@ -438,7 +439,7 @@ impl Tables {
 }
 
 // Takes the first place out of the order, unless it is the other one.
-fn retire(order: &mut BTreeSet<(u64, [u8; 32])>, last: &(u64, [u8; 32]), but: &(u64, [u8; 32]))
+fn retire(order: &mut BTreeSet<Place>, last: &Place, but: &Place)
     ensures members { (q : ℕ × List ℕ) → list_any (is_at (order_cmp q)) order.new.keys
         ≡ (if is_at (order_cmp last.now) q && not (is_at (order_cmp but.now) q) then false else list_any (is_at (order_cmp q)) order.old.keys) }
     ensures sorted { IsStrictlySortedBy order_cmp order.old.keys → IsStrictlySortedBy order_cmp order.new.keys }
@@ -450,9 +451,9 @@ fn retire(order: &mut BTreeSet<(u64, [u8; 32])>, last: &(u64, [u8; 32]), but: &(
 
 // Takes a place in the order, and sees to it that so many records more can be kept.
 fn make_room(
-    order: &mut BTreeSet<(u64, [u8; 32])>,
+    order: &mut BTreeSet<Place>,
     records: &mut HashMap<[u8; 32], Record>,
-    key: (u64, [u8; 32]),
+    key: Place,
     more: usize,
 ) -> Result<(), AllocError>
     ensures members { OnOk result ((q : ℕ × List ℕ) → list_any (is_at (order_cmp q)) order.new.keys
@@ -477,10 +478,10 @@ fn make_room(
 
 // Takes two places in the order, or neither, and sees to it that two records more can be kept.
 fn make_room_for_two(
-    order: &mut BTreeSet<(u64, [u8; 32])>,
+    order: &mut BTreeSet<Place>,
     records: &mut HashMap<[u8; 32], Record>,
-    first: (u64, [u8; 32]),
-    second: (u64, [u8; 32]),
+    first: Place,
+    second: Place,
 ) -> Result<(), AllocError>
     ensures members { OnOk result ((q : ℕ × List ℕ) → list_any (is_at (order_cmp q)) order.new.keys
         ≡ (if is_at (order_cmp second) q then true else if is_at (order_cmp first) q then true else list_any (is_at (order_cmp q)) order.old.keys)) }
@@ -585,7 +586,7 @@ fn lower_one(families: &mut Slab<Shared>, number: usize, mask: u64)
 }
 
 // How many records are unexpired. Those that have expired stand first.
-fn count_unexpired(order: &BTreeSet<(u64, [u8; 32])>, moment: Moment) -> usize
+fn count_unexpired(order: &BTreeSet<Place>, moment: Moment) -> usize
     ensures { result ≡ count_by (λ k. nat_lt moment k.0) order.now.keys }
 {
     let mut expired = 0;

@@ -1,7 +1,9 @@
 -- What the parser's answers say of the front of the bytes.
-use Rattle.std.proofs.Common.{◌≡◌, ℕ, ◌+◌, ◌<◌, ◌≤◌, inl, inr, List, [], ◌∷◌, ◌++◌, Some, length, take, drop, refl, sym, ap, ◌∙◌, arith, append-nil, length-append}
+use Rattle.std.proofs.Common.{◌≡◌, ℕ, ◌+◌, ◌<◌, ◌≤◌, inl, inr, List, [], ◌∷◌, ◌++◌, Some, codes, zero, suc, get_or, length, take, drop, refl, sym, ap, ◌∙◌, arith, append-nil, length-append}
+use Rattle.std.proofs.lemmas.Str.{IsUtf8-from_ascii}
+use Rattle.std.proofs.lemmas.List.Elements.{All-nil, All-cons}
 use Rattle.std.proofs.lemmas.List.{take_at, take-append-drop, take-append-le, length-take-le, length-take, length-drop, drop-drop, length-map}
-use Rattle.httparse.specs.Grammar.{RequestHead, print_request, ReadsRequest, HasNoRequest, NeverHasRequest, MayBecomeRequest, Field}
+use Rattle.httparse.specs.Grammar.{is_token_byte, is_uri_byte, lf, IsField, IsRequestHead, RequestHead, print_request, ReadsRequest, HasNoRequest, NeverHasRequest, MayBecomeRequest, Field}
 use Rattle.httparse.specs.Spans.{RequestOverflows, IsWithin, AreFieldsAt, header_bytes, name_and_value}
 use Rattle.httparse.specs.declared.spans.Span.{Span}
 use Rattle.httparse.specs.declared.spans.HeaderSpan.{HeaderSpan}
@@ -10,10 +12,10 @@ use Rattle.heads.specs.Limits.{head_size_limit, field_line_limit, body_size_limi
 use Rattle.heads.specs.Fields.{content_length, AreGoodFields}
 use Rattle.heads.specs.Places.{AreFieldsIn}
 use Rattle.heads.specs.declared.fields.FieldSpans.{FieldSpans}
-use Rattle.std.specs.Prelude.{is_some, Option}
+use Rattle.std.specs.Prelude.{is_some, IsTrue, Option}
 use Rattle.heads.specs.Message.{BeginsWith, IsHopeless, IsGood, fields_of}
 use Rattle.heads.specs.Waiting.{IsUnfinished, Wants}
-use Rattle.heads.specs.ReadingLaws.{reads_head, same_some}
+use Rattle.heads.specs.ReadingLaws.{some_head, reads_head, same_some}
 
 -- an error about the input
 pub hopeless_invalid : (bytes : List ℕ) → NeverHasRequest bytes → IsHopeless bytes
@@ -62,6 +64,32 @@ wants_head bytes short none may =
       message = λ head after size reads good body. absurd (none head after reads);
     } in
     record { fewer = omega arith; waiting = λ more less. rw (← no_more bytes more less) unfinished }
+
+-- the least request
+abbrev least : RequestHead
+least = record { blank = []; method = codes "A"; target = codes "/"; minor = 1; line_end = lf; fields = []; last = lf }
+
+slash : (i : ℕ) → get_or (codes "/") i 0 < 128
+slash zero = omega arith
+slash (suc i) = omega arith
+
+is_head : IsRequestHead least
+unfolding is_token_byte
+is_head = record {
+  method = (omega arith, All-cons (λ x. IsTrue (is_token_byte x)) 65 [] refl (All-nil (λ x. IsTrue (is_token_byte x))));
+  target = (omega arith, All-cons (λ x. IsTrue (is_uri_byte x)) 47 [] refl (All-nil (λ x. IsTrue (is_uri_byte x))));
+  target_text = IsUtf8-from_ascii (codes "/") slash;
+  minor = omega arith;
+  fields = All-nil IsField;
+}
+
+-- nothing yet
+pub wants_first : (bytes : List ℕ) → length bytes ≡ 0 → Wants bytes 1
+wants_first [] e =
+    wants_head [] (omega arith)
+    (λ head after reads. (let some = some_head head in let all = ap length reads.1 ∙ length-append (print_request head) after in omega (arith, some, all)))
+    (inl (print_request least, least, (is_head, sym (append-nil (print_request least)))))
+wants_first (b ∷ bytes) e = absurd (omega (arith, e))
 
 -- a good head, and not its whole body
 module _ (head : RequestHead) (size : ℕ) (good : IsGood head) (body : content_length (fields_of head) ≡ Some size) (small : size ≤ body_size_limit) where

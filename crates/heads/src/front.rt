@@ -51,6 +51,20 @@ pub fn read_front(bytes: &[u8]) -> Front
     }
 }
 
+/// What stands at the front of the bytes behind so many requests, where the front of the first was read before.
+pub fn front_of(bytes: &[u8], index: usize, first: Front) -> Front
+    requires { index ≡ 0 → IsFront bytes.now first }
+    ensures { IsFront bytes.now result }
+{
+    if index == 0 {
+        return first;
+    }
+    if bytes.is_empty() {
+        return Front::More { wanted: 1 };
+    }
+    read_front(bytes)
+}
+
 /// The request whose places were found: slices of the bytes.
 pub fn lend<'a>(bytes: &'a [u8], found: &Found) -> Request<'a>
     requires { IsFoundWithin bytes.now found.now }

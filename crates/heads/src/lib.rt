@@ -9,9 +9,9 @@ mod limits;
 mod scan;
 
 pub use fields::FieldSpans;
-pub use front::{Found, Front, lend, read_front};
+pub use front::{Found, Front, front_of, lend, read_front};
 pub use limits::{
     BODY_SIZE_LIMIT, FIELD_LINE_LIMIT, HEAD_SIZE_LIMIT, LENGTH_DIGIT_LIMIT, MESSAGE_SIZE_LIMIT,
     limits_are_the_defined_ones,
 };
-pub use scan::{Scan, scan_all, scan_on};
+pub use scan::{Scan, scan_all, scan_behind, scan_on};

@@ -1,8 +1,10 @@
 //! All the requests that bytes have.
+ghost use Rattle.std.specs.Prelude.{◌≡◌};
 ghost use Rattle.heads.specs.Waiting.{IsWaiting};
+ghost use Rattle.heads.specs.Front.{IsFront};
 ghost use Rattle.heads.specs.Scan.{IsScan};
 
-use crate::front::{Front, read_front};
+use crate::front::{Front, front_of, read_front};
 
 /// What bytes have: whole requests, and a rest.
 #[derive(Clone, Copy, Debug)]
@@ -38,10 +40,18 @@ pub fn scan_on(bytes: &[u8], wanted: usize) -> Scan
 pub fn scan_all(bytes: &[u8]) -> Scan
     ensures { IsScan bytes.now result }
 {
+    scan_behind(bytes, read_front(bytes))
+}
+
+/// The same, where what stands at the front of the bytes was read before.
+pub fn scan_behind(bytes: &[u8], first: Front) -> Scan
+    requires { IsFront bytes.now first }
+    ensures { IsScan bytes.now result }
+{
     let mut count = 0;
     let mut end = 0;
     'requests: loop {
-        match read_front(&bytes[end..]) {
+        match front_of(&bytes[end..], count, first) {
             Front::Whole(found) => {
                 count += 1;
                 end += found.end;

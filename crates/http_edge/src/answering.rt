@@ -2,23 +2,27 @@
 ghost use Rattle.std.specs.Prelude.{◌≡◌, ◌≤◌, ◌+◌, ◌*◌, ℕ, List, length, vec_len, vec_capacity};
 ghost use Rattle.replies.specs.Small.{reply_limit};
 ghost use Rattle.heads.specs.Message.{Message, Reads};
+ghost use Rattle.heads.specs.Front.{IsFront};
 ghost use Rattle.http_edge.specs.Heard.{HasMessages, Serves};
 
 use endpoints::{Moment, Server};
-use heads::{Front, lend, read_front};
+use heads::{Front, front_of, lend};
 use hook_chain::HookHost;
 use replies::Response;
 use requests::Draws;
 
-/// Answers the first requests of the bytes, each with draws of its own. There is room for the replies.
+/// Answers the first requests of the bytes, each with draws of its own. What stands at their front was read before. There
+/// is room for the replies.
 pub(crate) fn answer_all<H: HookHost>(
     server: &mut Server<H>,
     bytes: &[u8],
+    first: Front,
     count: usize,
     moment: Moment,
     draws: &[Draws],
     output: &mut Vec<u8>,
 )
+    requires first { IsFront bytes.now first }
     requires messages { HasMessages bytes.now count }
     requires draws { count ≤ length draws.now }
     requires room { vec_len output.old + count * reply_limit ≤ vec_capacity output.old }
@@ -30,7 +34,7 @@ pub(crate) fn answer_all<H: HookHost>(
     let mut start = 0;
     for i in 0..count {
         let here = &bytes[start..];
-        let Front::Whole(found) = read_front(here) else {
+        let Front::Whole(found) = front_of(here, i, first) else {
             unreachable!();
         };
         let request = lend(here, &found);

@@ -12,7 +12,7 @@ use crate::limits::{REPLY_LIMIT, REQUEST_LIMIT};
 use crate::rest::Rest;
 use crate::room::put;
 use endpoints::{Moment, Server};
-use heads::{Scan, scan_all};
+use heads::{Scan, read_front, scan_behind};
 use hook_chain::HookHost;
 use replies::push_faulty;
 use requests::Draws;
@@ -96,14 +96,15 @@ fn answer_bytes<H: HookHost>(
     ensures rest_kept { OnErr result (rest.new ≡ rest.old) }
     ensures output_kept { OnErr result (output.new.items ≡ output.old.items) }
 {
-    let scan = scan_all(bytes);
+    let first = read_front(bytes);
+    let scan = scan_behind(bytes, first);
     if let Err(fault) = make_room(output, &scan, draws) {
         return Err(fault);
     }
     if let Err(fault) = keep_rest(rest, bytes, &scan) {
         return Err(fault);
     }
-    answer_all(server, bytes, scan.count, moment, draws, output);
+    answer_all(server, bytes, first, scan.count, moment, draws, output);
     tell(output, scan.faulty);
     output.shrink_to_fit();
     Ok(scan.faulty)

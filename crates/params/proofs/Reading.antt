@@ -1,10 +1,10 @@
 -- Names that stand twice.
-use Rattle.std.proofs.Common.{inl, inr, ◌≡◌, ℕ, List, [], ◌∷◌, ◌++◌, true, ◌∙◌}
+use Rattle.std.proofs.Common.{inl, inr, ◌≡◌, ◌<◌, ℕ, List, [], ◌∷◌, ◌++◌, true, false, ◌∙◌, length, refl, arith, String}
 use Rattle.std.specs.Prelude.{bytes_eq}
 use Rattle.std.specs.List.{list_any}
 use Rattle.std.proofs.lemmas.Bool.{or_left, or_right, or_cases}
 use Rattle.std.proofs.lemmas.List.Folds.{list_any-append}
-use Rattle.params.specs.Form.{any_twice}
+use Rattle.params.specs.Form.{any_twice, names_in, texts_of}
 use Rattle.params.specs.FormLaws.{bytes_eq-sym}
 
 -- a name that stands before stands twice
@@ -15,3 +15,9 @@ any_twice-later (n ∷ names) name left stands =
       | inl e ↦ or_left _ _ (list_any-append (bytes_eq n) names (name ∷ left) ∙ or_right _ _ (or_left _ _ (bytes_eq-sym n name ∙ e)))
       | inr e ↦ or_right _ _ (any_twice-later names name left e)
     ]
+
+-- of fewer than two names none stands twice
+pub few_once : {A : Type 0} (ps : List (String A × String A)) → length ps < 2 → any_twice (names_in (texts_of ps)) ≡ false
+few_once [] few = refl
+few_once (p ∷ []) few = refl
+few_once (p ∷ q ∷ ps) few = absurd (omega (arith, few))

@@ -1,9 +1,10 @@
 -- U+FFFD in a text, and what a search for it answers.
-use Rattle.std.proofs.Common.{zero, suc, inl, inr, ◌≡◌, ℕ, ◌≤◌, List, [], ◌∷◌, ◌++◌, length, drop, Bool, true, false, nat_eq, refl, sym, arith, MatchBool, None}
+use Rattle.std.proofs.Common.{zero, suc, inl, inr, ◌≡◌, ℕ, ◌≤◌, List, [], ◌∷◌, ◌++◌, length, drop, Bool, true, false, nat_eq, refl, sym, arith, MatchBool, None, ◌&&◌, ◌||◌, ◌<◌, take, ap, ◌∙◌, IsAscii}
+use Rattle.std.specs.Cmp.Lexicographic.{pointwise}
 use Rattle.std.specs.List.{starts_with}
 use Rattle.std.specs.Str.Lossy.{replacement_bytes}
 use Rattle.std.specs.Str.Pattern.{FindsText, HasMatch}
-use Rattle.std.proofs.lemmas.Bool.{or_cases, or_left, or_right}
+use Rattle.std.proofs.lemmas.Bool.{ne_eqb, or_cases, or_left, or_right}
 use Rattle.std.proofs.lemmas.Bool.Decides.{Decides-eqb}
 use Rattle.std.proofs.lemmas.Slice.Eq.{starts_is}
 use Rattle.params.specs.Form.{has_replacement}
@@ -31,3 +32,11 @@ contains_is false text h = by (has_replacement text) refl
     by : (b : Bool) → has_replacement text ≡ b → false ≡ b
     by false e = refl
     by true e = let w = place_of text e in absurd (h w.0 w.1 w.2 w.3)
+
+-- ASCII has none
+pub ascii_has_none : (text : List ℕ) → IsAscii text → has_replacement text ≡ false
+ascii_has_none [] ascii = refl
+ascii_has_none (b ∷ text) ascii =
+    let small : b < 128 = ascii 0 in
+    ap (λ first. (first && pointwise nat_eq (0xBF ∷ 0xBD ∷ []) (take 2 text)) || has_replacement text) (ne_eqb 0xEF b (λ same. omega (arith, small, same)))
+    ∙ ascii_has_none text (λ i. ascii (suc i))

@@ -108,6 +108,9 @@ fn any_twice(alloc: Global, pairs: &[(String, String)]) -> Result<bool, AllocErr
     ensures ok { IfOk result (λ twice. twice ≡ any_twice (names_in (texts_of pairs.now))) }
     ensures err { IfErr result (λ _. 0 < length pairs.now) }
 {
+    if pairs.len() < 2 {
+        return Ok(false);
+    }
     let mut names = BTreeMap::new(alloc);
     for (name, _) in pairs {
         if names.insert(name.as_str(), ())?.is_some() {
@@ -121,5 +124,5 @@ fn any_twice(alloc: Global, pairs: &[(String, String)]) -> Result<bool, AllocErr
 pub fn has_replacement(text: &str) -> bool
     ensures { result ≡ has_replacement text.now }
 {
-    text.contains("\u{FFFD}")
+    !text.is_ascii() && text.contains("\u{FFFD}")
 }

@@ -1,3 +1,4 @@
 mod Printing
 mod Joining
 mod Rows
+mod Escapes

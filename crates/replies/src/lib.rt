@@ -8,6 +8,7 @@ mod error;
 pub mod laws;
 mod location;
 mod object;
+mod plain;
 mod response;
 mod token;
 

@@ -15,7 +15,8 @@ pub(crate) fn is_form(content_type: Option<&[u8]>) -> bool
     let Some(value) = content_type else {
         return true;
     };
-    is_form_type(value)
+    // Most clients send it as it is written here.
+    value == FORM || is_form_type(value)
 }
 
 // The media type before any `;`, without spaces around it, ASCII case ignored.

@@ -14,7 +14,7 @@ use Rattle.http_edge.proofs.answering.answer_all.Goals as goal
 pub unreachable-requires : goal.unreachable-requires
 unreachable-requires g c =
     let bytes = c.args.bytes.now in
-    let front : IsFront (drop c.loop-i.start bytes) c.read_front.result = rw (← tail_is c.loop-i.start bytes) c.read_front.ensures in
+    let front : IsFront (drop c.loop-i.start bytes) c.front_of.result = rw (← tail_is c.loop-i.start bytes) c.front_of.ensures in
     let before = c.loop-i.invariant in
     let all = c.requires.messages in
     let count = before.count in
@@ -30,6 +30,7 @@ loop-i-init g c = record {
   count = refl;
   reads = refl;
   begun = omega arith;
+  front = λ e. refl;
   served = λ rules first history m fits. served_none g.H.HookHost c.args.server.now c.args.output.now.items rules first history m c.args.draws.now fits;
   len = omega arith;
   room = omega arith;
@@ -83,6 +84,7 @@ loop-i-preserved g c =
       count = omega (arith, n, count);
       reads = reads_push bytes before.messages rest message (drop (start + f.end) bytes) before.reads begins;
       begun = omega (arith, fits, here, begun);
+      front = λ e. absurd (omega (arith, e));
       served = λ rules first history m fit.
           rw c.push.ensures.items
           (served_push g.H.HookHost c.loop-i.server c.step-reply.new.self c.args.output.now.items c.loop-i.output.items rules first history m c.args.moment before.messages c.args.draws.now c.loop-i.i message _ c.step-reply.result (asked_of c.lend-request.result) asked count (omega (arith, test, enough))

@@ -9,6 +9,7 @@ invariant-loop-i g l = record {
   count : length messages ≡ l.i;
   reads : Reads l.bytes messages (drop l.start l.bytes);
   begun : l.start ≤ length l.bytes;
+  front : l.i ≡ 0 → l.start ≡ 0;
   served : Serves g.H.HookHost l.fn.server l.server l.fn.output.items l.output.items messages l.moment l.draws;
   len : vec_len l.output ≤ vec_len l.fn.output + l.i * 32768;
   room : vec_capacity l.fn.output ≤ vec_capacity l.output;

@@ -6,8 +6,8 @@ use Rattle.http_edge.proofs.hearing.answer_bytes.Goals as goal
 pub returns-clause-heard : goal.returns-clause-heard
 returns-clause-heard g c =
     let bytes : List ℕ = c.args.bytes.now in
-    let scan = c.scan_all-scan.result in
-    let all : IsScan bytes scan = c.scan_all-scan.ensures in
+    let scan = c.scan_behind-scan.result in
+    let all : IsScan bytes scan = c.scan_behind-scan.ensures in
     let serves : Serves g.H.HookHost c.args.server.now c.answer_all.new.server c.make_room.new.output.items c.answer_all.new.output.items all.messages c.args.moment c.args.draws.now =
     c.answer_all.ensures.served all.messages (drop scan.end bytes) all.reads.reads all.count in
     let count = all.count in

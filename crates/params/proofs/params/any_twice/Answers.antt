@@ -5,9 +5,12 @@ use Rattle.std.specs.Ordering.{nat_cmp}
 use Rattle.std.proofs.lemmas.Map.Text.{btree_map_updates_str}
 use Rattle.params.specs.Form.{any_twice, names_in, texts_of}
 use Rattle.params.specs.FormLaws.{any_twice-append}
-use Rattle.params.proofs.Reading.{any_twice-later}
+use Rattle.params.proofs.Reading.{any_twice-later, few_once}
 use Rattle.params.proofs.Taken.{next_item, taken_with}
 use Rattle.params.proofs.params.any_twice.Goals as goal
+
+pub returns-then-pairs-lt2-clause-ok : goal.returns-then-pairs-lt2-clause-ok
+returns-then-pairs-lt2-clause-ok c = sym (few_once c.args.pairs.now c.if-pairs-lt2.true)
 
 pub returns-then-is_some-clause-ok : goal.returns-then-is_some-clause-ok
 returns-then-is_some-clause-ok c =

@@ -1,6 +1,6 @@
 use Rattle.std.proofs.Common.{◌≡◌, ◌≤◌, ◌-◌, List, length, drop}
 use Rattle.heads.specs.Message.{Message, Reads}
-use Rattle.heads.proofs.scan.scan_all.Given as goal
+use Rattle.heads.proofs.scan.scan_behind.Given as goal
 
 abbrev pub invariant-requests : goal.invariant-requests
 invariant-requests l = record {
@@ -8,6 +8,7 @@ invariant-requests l = record {
   count : length messages ≡ l.count;
   few : l.count ≤ l.end;
   end : l.end ≤ length l.bytes;
+  front : l.count ≡ 0 → l.end ≡ 0;
   reads : Reads l.bytes messages (drop l.end l.bytes);
 }
 

@@ -6,7 +6,7 @@ use Rattle.heads.specs.Waiting.{Wants}
 use Rattle.heads.specs.Front.{IsFoundWithin, IsWholeAt}
 use Rattle.heads.specs.ReadingLaws.{reads_push, hopeless_has_none}
 use Rattle.heads.specs.WaitingLaws.{waits_for_nothing, waiting_unfinished}
-use Rattle.heads.proofs.scan.scan_all.Goals as goal
+use Rattle.heads.proofs.scan.scan_behind.Goals as goal
 
 tail_is : (n : ℕ) (bytes : List ℕ) → take (length bytes - n) (drop n bytes) ≡ drop n bytes
 tail_is n bytes = take_all _ _ (let l = length-drop n bytes in omega (arith, l))
@@ -32,6 +32,7 @@ requests-preserved c =
       count = omega (arith, n, count);
       few = omega (arith, few, some);
       end = omega (arith, fits, here, old);
+      front = λ e. absurd (omega (arith, e));
       reads = reads_push bytes before.messages rest whole.1.0 (drop (end + f.end) bytes) before.reads begins;
     }
 
