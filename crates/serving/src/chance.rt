@@ -1,5 +1,5 @@
 //! Draws by a generator (RFC 8439, section 2.4).
-ghost use Rattle.std.specs.Prelude.{◌≡◌};
+ghost use Rattle.std.specs.Prelude.{◌≡◌, ◌≤◌, ◌*◌, take};
 ghost use Rattle.rand_chacha.specs.ChaCha.{ChaCha};
 ghost use Rattle.serving.specs.Chance.{draws_from, next_draws, moved};
 
@@ -24,14 +24,14 @@ pub fn draw(rng: &mut ChaCha20Rng) -> Draws
     Draws { first, second }
 }
 
-/// All draws of a piece, of which the first was drawn already.
-pub(crate) fn draw_all(first: Draws, rng: &mut ChaCha20Rng) -> [Draws; 64]
-    ensures value { (g : ChaCha) → first ≡ draws_from g 0 → rng.old ≡ moved g 16 → result ≡ next_draws g 64 }
-    ensures after { (g : ChaCha) → rng.old ≡ moved g 16 → rng.new ≡ moved g 1024 }
+/// More draws of a piece, behind those that were drawn already.
+pub(crate) fn draw_on(draws: &mut [Draws; 64], from: usize, to: usize, rng: &mut ChaCha20Rng)
+    requires order { from ≤ to }
+    requires room { to ≤ 64 }
+    ensures value { (g : ChaCha) → take from draws.old ≡ next_draws g from → rng.old ≡ moved g (16 * from) → take to draws.new ≡ next_draws g to }
+    ensures after { (g : ChaCha) → rng.old ≡ moved g (16 * from) → rng.new ≡ moved g (16 * to) }
 {
-    let mut draws = [first; DRAWS_OF_PIECE];
-    for i in 1..DRAWS_OF_PIECE {
+    for i in from..to {
         draws[i] = draw(rng);
     }
-    draws
 }
