@@ -1,0 +1,9 @@
+pub mod Putting
+pub mod Others
+pub mod Telling
+pub mod Answering
+pub mod Doing
+pub mod Resting
+pub mod Leading
+pub mod Cutting
+pub mod Leaving

@@ -1,0 +1,46 @@
+use Rattle.std.proofs.Common.{[], Some, inl, inr, refl, sym, subst, ◌∙◌, ℕ}
+use Rattle.std.proofs.lemmas.Bool.{false≢true}
+use Rattle.event_loop.specs.declared.clocks.Times.{Times}
+use Rattle.event_loop.specs.Places.{IsTaken}
+use Rattle.event_loop.specs.Closing.{AreWithin}
+use Rattle.event_loop.specs.Scenes.{Scene}
+use Rattle.event_loop.specs.Served.{IsFirst, begins, stops}
+use Rattle.event_loop.specs.Goes.{Past, scene_of, promises}
+use Rattle.event_loop.proofs.Answering.{served_answered}
+use Rattle.event_loop.proofs.Resting.{free_rests}
+use Rattle.event_loop.proofs.Leaving.{fails_reached}
+use Rattle.event_loop.proofs.serve.serve_all.Goals as goal
+
+pub returns-in_default : goal.returns-in_default
+returns-in_default g c = λ rules host schedule world reached. inr (record { is_clock = refl; clocks = c.read.new.self; told_nothing = c.in_default.ensures; same = refl })
+
+pub returns : goal.returns
+returns g c = λ rules host schedule world reached.
+    let p = promises g.N.Sockets.does g.C.Clocks.tells g.J.Journal.notes g.H.HookHost in
+    let past : Past = record { deeds = []; schedule = schedule; world = world } in
+    let first : Scene g.row.N.Denot g.row.C.Denot g.row.J.Denot g.row.H.Denot = scene_of c.new-service.result (record c.args.tools.now { clocks = c.read.new.self }) [] past in
+    let is_first : IsFirst p rules host first =
+    record { size = c.new-service.ensures.size; free = c.new-service.ensures.free; found = refl; noted = c.new-service.ensures.noted; deeds = refl; reached = reached } in
+    let nobody : (limit : ℕ) → AreWithin limit c.new-service.result.times c.new-service.result.places = λ limit k place here taken. absurd (subst IsTaken (c.new-service.ensures.free k place here) taken) in
+    let wrong = c.rounds-fault.ensures rules host first past (begins is_first) (λ k less. record { rested = λ none place here. free_rests place _ (c.new-service.ensures.free k place here); fair = λ place here. inl (free_rests place _ (c.new-service.ensures.free k place here)) }) (λ busy. elim busy [ inl work ↦ absurd (false≢true (sym c.new-service.ensures.rests.works ∙ work)) | inr told ↦ absurd (c.new-service.ensures.rests.queue told) ]) (record { idle = nobody _; crowded = λ waits. nobody _ }) in
+    let failed = scene_of c.rounds-fault.new.self c.rounds-fault.new.tools wrong.found wrong.next in
+    let last_reached = (served_answered p rules host first wrong.last wrong.served).reached in
+    let shut = c.leave_all.ensures.shut rules host failed wrong.found wrong.next stops (fails_reached p rules host wrong.last failed _ wrong.fails last_reached) in
+    inl (record {
+      first = first;
+      is_first = is_first;
+      limits_are = c.new-service.ensures.limits;
+      schedule_is = refl;
+      world_is = refl;
+      told = subst (λ (t : Times). g.C.Clocks.tells c.args.tools.now.clocks (Some t) c.read.new.self) (sym c.new-service.ensures.times) c.in-Some.ensures;
+      tools_are = record { sockets = refl; clocks = refl; journal = refl; edge = refl; generator = refl };
+      last = wrong.last;
+      served = wrong.served;
+      answered = λ s. served_answered p rules host first s;
+      failed = failed;
+      fails = wrong.fails;
+      end = scene_of c.leave_all.new.self c.leave_all.new.tools wrong.found shut.next;
+      shuts = shut.shuts;
+      free = c.leave_all.ensures.free;
+      tools_are_then = record { sockets = refl; clocks = refl; journal = refl; edge = refl; generator = refl };
+    })

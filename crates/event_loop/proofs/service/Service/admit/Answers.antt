@@ -1,0 +1,81 @@
+use Rattle.std.proofs.Common.{inl, arith, ◌≡◌, ◌∷◌, ◌++◌, [], Some, refl, sym, subst, inr, ◌∙◌}
+use Rattle.http_edge.specs.Schedule.{Opened, connection_at, fresh}
+use Rattle.std.specs.Prelude.{slice_set}
+use Rattle.event_loop.specs.declared.service.Service.{Service}
+use Rattle.event_loop.specs.Deeds as deed
+use Rattle.event_loop.specs.Places.{IsAtRest}
+use Rattle.event_loop.specs.Coming.{opens, denies, finds_nobody, fails, fresh_place}
+use Rattle.event_loop.specs.Served.{goes, comes}
+use Rattle.event_loop.specs.Goes.{Past, promises}
+use Rattle.event_loop.proofs.Doing.{one_more, done_then}
+use Rattle.event_loop.specs.declared.queue.Queue.TheVariants.{Told, Waits}
+use Rattle.event_loop.proofs.Putting.{put_within}
+use Rattle.event_loop.proofs.Others.{opens_other}
+use Rattle.event_loop.proofs.Telling.{opened_here}
+use Rattle.event_loop.proofs.Answering.{served_answered}
+use Rattle.event_loop.proofs.Resting.{put_others, put_settled, all_settled, settled_then, fresh_rests}
+use Rattle.event_loop.proofs.service.Service.admit.Goals as goal
+
+pub returns-in-Ok-clause-leads : goal.returns-in-Ok-clause-leads
+returns-in-Ok-clause-leads g c = λ found rules host first past h settled.
+    let reached = (served_answered (promises g.N.Sockets.does g.C.Clocks.tells g.J.Journal.notes g.H.HookHost) rules host first _ h).reached in
+    let k = c.args.k in
+    let place = fresh_place c.args.self.now.times.steady in
+    let on = c.in-Ok.ensures.done rules host past.schedule past.world reached in
+    let here : connection_at on.world.connections k ≡ Some (fresh k) = opened_here past.world on.world k on.happens in
+    let rests : IsAtRest place (connection_at on.world.connections k) = subst (λ o. IsAtRest place o) (sym here) (fresh_rests c.args.self.now.times.steady (fresh k) refl refl) in
+    let next : Past = record { deeds = deed.Came k ∷ past.deeds; schedule = past.schedule ++ Opened k ∷ []; world = on.world } in
+    let service : Service = record c.args.self.now { places = slice_set c.args.self.now.places k place } in
+    record {
+      goes = record {
+        next = next;
+        served = goes h (comes _ c.requires.told (opens k c.accept.new.self c.event.new.self on c.requires.free c.in-Taken.ensures));
+        settled =
+            all_settled k c.args.self.now past service next (put_others k c.args.self.now service place past.world on.world refl (λ j other. opens_other past.world on.world k j on.happens other)) (λ e. e)
+            (one_more _ _ refl refl (λ j t. inr t)) (λ j less other. settled j less) (put_settled k c.args.self.now service place next refl rests);
+        done = one_more _ _ refl refl (λ j t. inr t);
+        busy = λ e. inl e;
+      };
+      some = λ _. omega arith;
+    }
+
+pub returns-in-Err-clause-leads : goal.returns-in-Err-clause-leads
+returns-in-Err-clause-leads g c = λ found rules host first past h settled.
+    let reached = (served_answered (promises g.N.Sockets.does g.C.Clocks.tells g.J.Journal.notes g.H.HookHost) rules host first _ h).reached in
+    let k = c.args.k in
+    rw c.in-Err.ensures.err
+    (record {
+      goes = record {
+        next = record past { deeds = deed.Closed k ∷ deed.Came k ∷ past.deeds };
+        served =
+            goes h
+            (comes _ c.requires.told
+            (denies k c.accept.new.self c.close.new.self c.in-Err.fault c.note.new.noted c.note.new.journal c.requires.free c.in-Taken.ensures (c.in-Err.ensures.refused rules host past.schedule past.world reached) c.close.ensures c.note.ensures));
+        settled = settled_then c.args.self.now past _ _ refl refl refl (done_then _ (deed.Came k ∷ past.deeds) _ (one_more _ _ refl refl (λ j t. inr t)) (one_more _ _ refl refl (λ j t. inr t))) settled;
+        done = done_then _ (deed.Came k ∷ past.deeds) _ (one_more _ _ refl refl (λ j t. inr t)) (one_more _ _ refl refl (λ j t. inr t));
+        busy = λ e. inl e;
+      };
+      some = λ _. omega arith;
+    })
+
+pub returns-in-Later-clause-leads : goal.returns-in-Later-clause-leads
+returns-in-Later-clause-leads g c = λ found rules host first past h settled. record {
+  goes = record { next = record past { deeds = deed.NobodyCame ∷ past.deeds }; served = goes h (comes _ c.requires.told (finds_nobody c.accept.new.self c.in-Later.ensures)); settled = settled_then c.args.self.now past _ _ refl refl refl (one_more _ _ refl refl (λ j t. inr t)) settled; done = one_more _ _ refl refl (λ j t. inr t); busy = λ e. inl e };
+  some = λ _. omega arith;
+}
+
+pub returns-in-Failed-clause-leads : goal.returns-in-Failed-clause-leads
+returns-in-Failed-clause-leads g c = λ found rules host first past h settled. record {
+  goes = record { next = record past { deeds = deed.ComingFailed ∷ past.deeds }; served = goes h (comes _ c.requires.told (fails c.accept.new.self c.note-in-Failed.new.noted c.note-in-Failed.new.journal c.in-Failed.ensures c.note-in-Failed.ensures)); settled = settled_then c.args.self.now past _ _ refl refl refl (one_more _ _ refl refl (λ j t. inr t)) settled; done = one_more _ _ refl refl (λ j t. inr t); busy = λ e. inl e };
+  some = λ _. omega arith;
+}
+
+pub returns-in-Ok-clause-within : goal.returns-in-Ok-clause-within
+returns-in-Ok-clause-within g c = λ limit all.
+    put_within limit c.args.self.now.times c.args.self.now.places c.args.k (fresh_place c.args.self.now.times.steady) (λ taken. omega arith) all
+
+pub returns-in-Ok-clause-waits : goal.returns-in-Ok-clause-waits
+returns-in-Ok-clause-waits g c = λ waits. (let not : Told ≡ Waits = sym c.requires.told ∙ waits in absurd (cc))
+
+pub returns-in-Err-clause-waits : goal.returns-in-Err-clause-waits
+returns-in-Err-clause-waits g c = λ waits. (let not : Told ≡ Waits = sym c.requires.told ∙ waits in absurd (cc))

@@ -1,0 +1,53 @@
+use Rattle.std.proofs.Common.{◌≡◌, ◌-◌, ap, sym, subst, ◌∙◌, arith, ◌<◌}
+use Rattle.event_loop.specs.declared.place.Place.{Place}
+use Rattle.event_loop.specs.declared.service.Service.{Service}
+use Rattle.event_loop.specs.Places.{IsTaken}
+use Rattle.std.specs.Prelude.{slice_set}
+use Rattle.event_loop.specs.declared.place.Stage.TheVariants.{Free}
+use Rattle.event_loop.specs.declared.queue.Queue.TheVariants.{Told, Waits}
+use Rattle.event_loop.specs.Closing.{AreWithin, IsSilentLongest, gives_way, freed_queue}
+use Rattle.event_loop.specs.Goes.{promises}
+use Rattle.event_loop.proofs.Leaving.{leaves_to}
+use Rattle.event_loop.proofs.Putting.{same_some, put_within}
+use Rattle.event_loop.proofs.service.Service.make_room.Goals as goal
+
+pub returns-clause-leads : goal.returns-clause-leads
+returns-clause-leads g c =
+    let place = c.place_at-place.result in
+    let longest = c.in-Some.ensures.longest.1 in
+    let same : longest.place ≡ place = same_some longest.place place (sym longest.here ∙ c.place_at-place.ensures) in
+    let taken : IsTaken place.stage = subst (λ (q : Place). IsTaken q.stage) same longest.taken in
+    let is_longest : IsSilentLongest c.args.self.now.places place = subst (λ q. IsSilentLongest c.args.self.now.places q) same longest.longest in
+    let long : c.args.self.now.limits.crowded < c.args.self.now.times.steady - place.since = omega (arith, c.saturating_sub.ensures, c.if-saturating_sub-self.false) in
+    leaves_to (promises g.N.Sockets.does g.C.Clocks.tells g.J.Journal.notes g.H.HookHost) c.in-Some.k place c.args.self.now c.args.tools.now c.leave.new.self c.leave.new.tools c.place_at-place.ensures
+    taken (λ found past. gives_way c.in-Waits.is long is_longest) c.leave.ensures.away (ap (λ (s : Service). s.places) c.leave.ensures.rest) (ap (λ (s : Service). s.is_work_left) c.leave.ensures.rest)
+
+pub returns-then-saturating_sub-self-clause-crowded : goal.returns-then-saturating_sub-self-clause-crowded
+returns-then-saturating_sub-self-clause-crowded g c = λ waits j other here taken.
+    let longest = c.in-Some.ensures.longest.1 in
+    let same : longest.place ≡ c.place_at-place.result = same_some longest.place c.place_at-place.result (sym longest.here ∙ c.place_at-place.ensures) in
+    let is_longest : IsSilentLongest c.args.self.now.places c.place_at-place.result = subst (λ q. IsSilentLongest c.args.self.now.places q) same longest.longest in
+    let least = is_longest j other here taken in
+    omega (arith, least, c.saturating_sub.ensures, c.if-saturating_sub-self.true)
+
+pub returns-in_default-clause-crowded : goal.returns-in_default-clause-crowded
+returns-in_default-clause-crowded g c = λ waits. elim (c.in_default.not-Waits waits) [ ]
+
+pub returns-in_default-silent_longest-clause-crowded : goal.returns-in_default-silent_longest-clause-crowded
+returns-in_default-silent_longest-clause-crowded g c = λ waits. c.in_default-silent_longest.ensures.none c.args.self.now.limits.crowded
+
+pub returns-clause-within : goal.returns-clause-within
+returns-clause-within g c = λ limit all.
+    let put : c.leave.new.self.places ≡ slice_set c.args.self.now.places c.in-Some.k (record c.place_at-place.result { stage = Free }) = ap (λ (s : Service). s.places) c.leave.ensures.rest in
+    let times : c.leave.new.self.times ≡ c.args.self.now.times = ap (λ (s : Service). s.times) c.leave.ensures.rest in
+    let within = put_within limit c.args.self.now.times c.args.self.now.places c.in-Some.k (record c.place_at-place.result { stage = Free }) (λ taken. absurd taken) all in
+    subst (λ t. AreWithin limit t c.leave.new.self.places) (sym times) (subst (λ places. AreWithin limit c.args.self.now.times places) (sym put) within)
+
+pub returns-clause-crowded : goal.returns-clause-crowded
+returns-clause-crowded g c = λ waits.
+    let told : c.leave.new.self.queue ≡ Told = ap (λ (s : Service). s.queue) c.leave.ensures.rest ∙ ap freed_queue c.in-Waits.is in
+    let not : Told ≡ Waits = sym told ∙ waits in
+    absurd (cc)
+
+pub returns-clause-limits : goal.returns-clause-limits
+returns-clause-limits g c = ap (λ (s : Service). s.limits) c.leave.ensures.rest

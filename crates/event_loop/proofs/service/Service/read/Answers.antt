@@ -1,0 +1,21 @@
+use Rattle.std.proofs.Common.{refl, sym, subst, ◌∙◌, inl}
+use Rattle.http_edge.specs.Schedule.{connection_at}
+use Rattle.event_loop.specs.Goes.{IsUnread, promises}
+use Rattle.event_loop.proofs.Answering.{served_answered}
+use Rattle.event_loop.proofs.Doing.{none_more}
+use Rattle.event_loop.proofs.Putting.{same_some}
+use Rattle.event_loop.proofs.service.Service.read.Goals as goal
+
+pub returns-else-may_read : goal.returns-else-may_read
+returns-else-may_read g c = λ rules host first found past h. record {
+  goes = record { next = past; served = h; done = none_more past.deeds; others = record { places = λ j other. refl; connections = λ j other. refl }; works = λ e. e };
+  same_work = refl;
+  acts = inl (record {
+    service_is = refl;
+    world_is = refl;
+    rests = λ place here.
+        let reached = (served_answered (promises g.N.Sockets.does g.C.Clocks.tells g.J.Journal.notes g.H.HookHost) rules host first _ h).reached in
+        let unread : IsUnread c.place_at-place.result (connection_at past.world.connections c.args.k) = λ readable. c.may_read.ensures.rests c.if-may_read.false readable rules host past.schedule past.world reached in
+        subst (λ q. IsUnread q (connection_at past.world.connections c.args.k)) (same_some c.place_at-place.result place (sym c.place_at-place.ensures ∙ here)) unread;
+  });
+}

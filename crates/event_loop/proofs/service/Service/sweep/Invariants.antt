@@ -1,0 +1,14 @@
+use Rattle.std.proofs.Common.{◌≡◌, ◌≤◌, ◌<◌, ◌-◌, ℕ, List, Some, length}
+use Rattle.std.specs.Prelude.{slice_get}
+use Rattle.event_loop.specs.declared.place.Place.{Place}
+use Rattle.event_loop.specs.declared.sockets.Ready.{Ready}
+use Rattle.event_loop.specs.Places.{IsTaken}
+use Rattle.event_loop.specs.Goes.{LeadsTo, promises}
+use Rattle.event_loop.proofs.service.Service.sweep.Given as goal
+
+abbrev pub invariant-loop-k : goal.invariant-loop-k
+invariant-loop-k g l = record {
+  leads : (found : List Ready) → LeadsTo (promises g.N.Sockets.does g.C.Clocks.tells g.J.Journal.notes g.H.HookHost) found l.initial.self l.initial.tools found l.self l.tools;
+  below : (j : ℕ) (place : Place) → j < l.k → slice_get l.self.places j ≡ Some place → IsTaken place.stage → l.self.times.steady - place.since ≤ l.self.limits.idle;
+  size : length l.self.places ≡ length l.initial.self.places;
+}

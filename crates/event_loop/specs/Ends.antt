@@ -1,0 +1,65 @@
+-- How the loop ends.
+use Rattle.std.specs.Prelude.{◌≡◌, ◌⊎◌, ◌≤◌, ℕ, List, ◌∷◌, Some, None}
+use Rattle.clients.specs.RegistryRecord.{RegistryRecord}
+use Rattle.http_edge.specs.Schedule.{World, Happening}
+use Rattle.http_edge.specs.Reached.{Reached}
+use Rattle.event_loop.specs.declared.fault.LoopFault.{LoopFault}
+use Rattle.event_loop.specs.declared.fault.LoopFault.TheVariants.{Wait, Clock, Rounds}
+use Rattle.event_loop.specs.declared.limits.Limits.{Limits}
+use Rattle.event_loop.specs.declared.tools.Tools.{Tools}
+use Rattle.event_loop.specs.Deeds as deed
+use Rattle.event_loop.specs.Places.{AllFree}
+use Rattle.event_loop.specs.Scenes.{Promises, Scene}
+use Rattle.event_loop.specs.Answered.{IsAnswered}
+use Rattle.event_loop.specs.Served.{IsFirst, Served, Shuts}
+
+-- these are the tools of the scene
+pub record AreTools {N C J H : Type 0} (tools : Tools N C J H) (s : Scene N C J H) : Type 0 where
+  pub sockets : s.sockets ≡ tools.sockets
+  pub clocks : s.clocks ≡ tools.clocks
+  pub journal : s.journal ≡ tools.journal
+  pub edge : s.course.edge ≡ tools.edge
+  pub generator : s.course.generator ≡ tools.generator
+
+-- so many rounds can be counted
+abbrev pub rounds_limit : ℕ
+rounds_limit = 18446744073709551615
+
+-- why it goes on no more: a wait failed; the clocks told nothing; or so many rounds were made as can be counted
+pub data Fails {N C J H : Type 0} (p : Promises N C J H) (s : Scene N C J H) : LoopFault → Scene N C J H → Type 0 where
+  no_wait : (n : N) → p.does s.sockets deed.WaitFailed n → Fails p s Wait (record s { sockets = n; deeds = deed.WaitFailed ∷ s.deeds })
+  no_time : (c : C) → p.tells s.clocks None c → Fails p s Clock (record s { clocks = c })
+  no_more : rounds_limit ≤ deed.waits s.deeds → Fails p s Rounds s
+
+-- The clocks told the first times, and steps led on, whose every scene is answered, until something failed; then each
+-- connection that was left was closed and forgotten, and all places are free.
+pub record HasServed {N C J H : Type 0} (p : Promises N C J H) (rules : RegistryRecord) (host : H) (limits : Limits) (tools : Tools N C J H) (schedule : List Happening) (world : World) (fault : LoopFault) (tools' : Tools N C J H) : Type 0 where
+  pub first : Scene N C J H
+  pub is_first : IsFirst p rules host first
+  pub limits_are : first.limits ≡ limits
+  pub schedule_is : first.course.schedule ≡ schedule
+  pub world_is : first.course.world ≡ world
+  pub told : p.tells tools.clocks (Some first.times) first.clocks
+  pub tools_are : AreTools (record tools { clocks = first.clocks }) first
+  pub last : Scene N C J H
+  pub served : Served p rules host first last
+  pub answered : (s : Scene N C J H) → Served p rules host first s → IsAnswered p rules host s
+  pub failed : Scene N C J H
+  pub fails : Fails p last fault failed
+  pub end : Scene N C J H
+  pub shuts : Shuts p rules host failed end
+  pub free : AllFree end.places
+  pub tools_are_then : AreTools tools' end
+
+-- nothing was done, since the clocks told nothing
+pub record ServesNothing {N C J H : Type 0} (p : Promises N C J H) (tools : Tools N C J H) (fault : LoopFault) (tools' : Tools N C J H) : Type 0 where
+  pub is_clock : fault ≡ Clock
+  pub clocks : C
+  pub told_nothing : p.tells tools.clocks None clocks
+  pub same : tools' ≡ record tools { clocks = clocks }
+
+-- wherever the edge was reached
+abbrev pub Ends : {N C J H : Type 0} → Promises N C J H → Limits → Tools N C J H → LoopFault → Tools N C J H → Type 0
+Ends {N} {C} {J} {H} p limits tools fault tools' =
+    (rules : RegistryRecord) (host : H) (schedule : List Happening) (world : World) → Reached p.hosting tools.edge rules host schedule world →
+    HasServed p rules host limits tools schedule world fault tools' ⊎ ServesNothing p tools fault tools'

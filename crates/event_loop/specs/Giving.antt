@@ -1,0 +1,81 @@
+-- How bytes of a connection are given to the edge.
+use Rattle.std.specs.Prelude.{◌≡◌, ◌⊎◌, ◌≤◌, ◌*◌, ℕ, true, false, List, [], ◌++◌, length}
+use Rattle.rand_chacha.specs.ChaCha.{ChaCha}
+use Rattle.hook_chain.specs.declared.host.HookHost.{Ghosts as Hosting}
+use Rattle.clients.specs.RegistryRecord.{RegistryRecord}
+use Rattle.http_edge.specs.Schedule.{World, Happening, Came}
+use Rattle.http_edge.specs.Edges.{SeenEdge}
+use Rattle.http_edge.specs.Reached.{PieceGoesOn, is_closing}
+use Rattle.http_edge.specs.Refusals.{IsPieceRefusal}
+use Rattle.http_edge.specs.declared.fault.EdgeFault.{EdgeFault}
+use Rattle.http_edge.specs.declared.fault.EdgeFault.TheVariants.{TooManyRequests}
+use Rattle.serving.specs.Chance.{next_draws, moved}
+use Rattle.event_loop.specs.Courses.{Course, known, led}
+
+-- so many draws may a piece have
+abbrev pub draws_limit : ℕ
+draws_limit = 64
+
+-- where a piece completes too many requests, it is given in cuts of so many bytes
+abbrev pub cut_limit : ℕ
+cut_limit = 512
+
+-- A piece was given to the edge with the generator's next draws, and the generator stands behind them.
+pub record IsGiven {H : Type 0} (hosting : Hosting H) (rules : RegistryRecord) (host : H) (k moment : ℕ) (piece : List ℕ) (course : Course H) : Type 0 where
+  pub edge : SeenEdge H
+  pub generator : ChaCha
+  pub count : ℕ
+  pub few : count ≤ draws_limit
+  pub after : generator ≡ moved course.generator (16 * count)
+  pub on : PieceGoesOn hosting edge rules host course.schedule course.world k piece moment (next_draws course.generator count)
+
+-- It was refused, with such draws.
+pub record IsRefused {H : Type 0} (k : ℕ) (piece : List ℕ) (fault : EdgeFault) (course : Course H) : Type 0 where
+  pub generator : ChaCha
+  pub count : ℕ
+  pub few : count ≤ draws_limit
+  pub after : generator ≡ moved course.generator (16 * count)
+  pub refused : IsPieceRefusal fault course.world.connections k piece (next_draws course.generator count)
+
+-- Bytes are given in pieces, one after another, none after the 400 of a faulty head. A piece that completes too many
+-- requests may be tried again in cuts.
+pub data Gives {H : Type 0} (hosting : Hosting H) (rules : RegistryRecord) (host : H) (k moment : ℕ) (first : Course H) : List ℕ → Course H → Type 0 where
+  nothing : Gives hosting rules host k moment first [] first
+  gives : {bytes : List ℕ} {course : Course H} (piece : List ℕ) → Gives hosting rules host k moment first bytes course → is_closing (known course k) ≡ false →
+      (g : IsGiven hosting rules host k moment piece course) →
+      Gives hosting rules host k moment first (bytes ++ piece)
+      (record (led course g.edge (Came k piece moment (next_draws course.generator g.count) g.on.marks g.on.closes) g.on.on.world) { generator = g.generator })
+  tries : {bytes : List ℕ} {course : Course H} (piece : List ℕ) → Gives hosting rules host k moment first bytes course → (r : IsRefused k piece TooManyRequests course) →
+      Gives hosting rules host k moment first bytes (record course { generator = r.generator })
+
+-- All bytes were given, or the rest comes behind the 400 of a faulty head.
+pub record IsHeard {H : Type 0} (hosting : Hosting H) (rules : RegistryRecord) (host : H) (k moment : ℕ) (bytes : List ℕ) (course course' : Course H) : Type 0 where
+  pub given : List ℕ
+  pub rest : List ℕ
+  pub all : bytes ≡ given ++ rest
+  pub gives : Gives hosting rules host k moment course given course'
+  pub over : (rest ≡ []) ⊎ (is_closing (known course' k) ≡ true)
+
+-- A front of them was given, and then a piece was refused that is no longer cut.
+pub record IsUnheard {H : Type 0} (hosting : Hosting H) (rules : RegistryRecord) (host : H) (k moment : ℕ) (bytes : List ℕ) (fault : EdgeFault) (course course' : Course H) : Type 0 where
+  pub given : List ℕ
+  pub piece : List ℕ
+  pub rest : List ℕ
+  pub all : bytes ≡ given ++ (piece ++ rest)
+  pub before : Course H
+  pub gives : Gives hosting rules host k moment course given before
+  pub refused : IsRefused k piece fault before
+  pub cut : fault ≡ TooManyRequests → length piece ≤ cut_limit
+  pub is_after : course' ≡ record before { generator = refused.generator }
+
+-- wherever the edge was reached, all bytes were given
+pub record GivesAll {H : Type 0} (hosting : Hosting H) (rules : RegistryRecord) (host : H) (k moment : ℕ) (bytes : List ℕ) (course : Course H) (edge : SeenEdge H) (generator : ChaCha) : Type 0 where
+  pub schedule : List Happening
+  pub world : World
+  pub heard : IsHeard hosting rules host k moment bytes course (record { edge = edge; generator = generator; schedule = schedule; world = world })
+
+-- wherever the edge was reached, a front of them
+pub record GivesSome {H : Type 0} (hosting : Hosting H) (rules : RegistryRecord) (host : H) (k moment : ℕ) (bytes : List ℕ) (fault : EdgeFault) (course : Course H) (edge : SeenEdge H) (generator : ChaCha) : Type 0 where
+  pub schedule : List Happening
+  pub world : World
+  pub unheard : IsUnheard hosting rules host k moment bytes fault course (record { edge = edge; generator = generator; schedule = schedule; world = world })

@@ -1,0 +1,276 @@
+-- How each part of the loop leads on.
+use Rattle.std.specs.Prelude.{◌≡◌, ◌≢◌, ◌⊎◌, ◌≤◌, ◌<◌, ◌+◌, ℕ, true, false, List, [], Option, Some, slice_get, None}
+use Rattle.rand_chacha.specs.ChaCha.{ChaCha}
+use Rattle.hook_chain.specs.declared.host.HookHost.{Ghosts as Hosting}
+use Rattle.clients.specs.RegistryRecord.{RegistryRecord}
+use Rattle.http_edge.specs.Schedule.{World, Connection, Happening, connection_at}
+use Rattle.http_edge.specs.Edges.{SeenEdge}
+use Rattle.http_edge.specs.Reached.{Reached, InEach}
+use Rattle.http_edge.specs.declared.fault.EdgeFault.{EdgeFault}
+use Rattle.event_loop.specs.declared.clocks.Times.{Times}
+use Rattle.event_loop.specs.declared.fault.ConnectionFault.{ConnectionFault}
+use Rattle.event_loop.specs.declared.fault.LoopFault.{LoopFault}
+use Rattle.event_loop.specs.declared.place.Place.{Place}
+use Rattle.event_loop.specs.declared.queue.Queue.TheVariants.{Told, Waits}
+use Rattle.event_loop.specs.declared.service.Service.{Service}
+use Rattle.event_loop.specs.declared.sockets.Ready.{Ready}
+use Rattle.event_loop.specs.declared.tools.Tools.{Tools}
+use Rattle.event_loop.specs.Deeds.{Deed, waits, done_since, IsTended}
+use Rattle.event_loop.specs.Giving.{GivesAll, GivesSome}
+use Rattle.event_loop.specs.Places.{IsTaken, MayRead, MayWrite, IsAtRest, AllFree}
+use Rattle.event_loop.specs.Scenes.{Promises, Scene}
+use Rattle.event_loop.specs.Closing.{IsSilentLongest, AreWithin, Closes}
+use Rattle.event_loop.specs.Served.{Served, Shuts}
+use Rattle.event_loop.specs.Ends.{Fails}
+
+abbrev pub promises : {N C J H : Type 0} → (N → Deed → N → Type 0) → (C → Option Times → C → Type 0) → (J → ConnectionFault → J → Type 0) → Hosting H → Promises N C J H
+promises does tells notes hosting = record { does = does; tells = tells; notes = notes; hosting = hosting }
+
+-- it holds of the connection, wherever the edge was reached
+abbrev pub WhereKnown : {H : Type 0} → Hosting H → SeenEdge H → ℕ → (Option Connection → Type 0) → Type 0
+WhereKnown hosting edge k P = InEach hosting edge (λ world. P (connection_at world.connections k))
+
+-- what was done so far
+pub record Past : Type 0 where
+  pub deeds : List Deed
+  pub schedule : List Happening
+  pub world : World
+
+abbrev pub scene_of : {N C J H : Type 0} → Service → Tools N C J H → List Ready → Past → Scene N C J H
+scene_of service tools found past = record {
+  sockets = tools.sockets;
+  clocks = tools.clocks;
+  journal = tools.journal;
+  course = record { edge = tools.edge; generator = tools.generator; schedule = past.schedule; world = past.world };
+  limits = service.limits;
+  places = service.places;
+  found = found;
+  queue = service.queue;
+  times = service.times;
+  noted = service.noted;
+  deeds = past.deeds;
+}
+
+-- something is noted to be left
+abbrev pub IsBusy : Service → Type 0
+IsBusy service = (service.is_work_left ≡ true) ⊎ (service.queue ≡ Told)
+
+-- nothing is noted to be left
+pub record MayRest (service : Service) : Type 0 where
+  pub works : service.is_work_left ≡ false
+  pub queue : service.queue ≢ Told
+
+-- how long it waits by what is noted
+pub data IsLimit (service : Service) : Option ℕ → Type 0 where
+  looks : IsBusy service → IsLimit service (Some 0)
+  rests : MayRest service → IsLimit service (Some 1000)
+  sleeps : MayRest service → AllFree service.places → IsLimit service None
+
+-- deeds were done after others, none of them a wait
+pub record DoneAfter (earlier later : List Deed) : Type 0 where
+  pub waits : waits later ≡ waits earlier
+  pub grows : done_since earlier ≤ done_since later
+  pub tends : (j : ℕ) → IsTended j earlier → IsTended j later
+
+-- wherever the edge was reached, the bytes are given to it
+abbrev pub LeadsToGiving : {H : Type 0} → Hosting H → ℕ → ℕ → List ℕ → SeenEdge H → ChaCha → SeenEdge H → ChaCha → Type 0
+LeadsToGiving hosting k moment bytes edge generator edge' generator' =
+    (rules : RegistryRecord) (host : _) (schedule : List Happening) (world : World) → Reached hosting edge rules host schedule world →
+    GivesAll hosting rules host k moment bytes (record { edge = edge; generator = generator; schedule = schedule; world = world }) edge' generator'
+
+abbrev pub LeadsToRefusal : {H : Type 0} → Hosting H → ℕ → ℕ → List ℕ → EdgeFault → SeenEdge H → ChaCha → SeenEdge H → ChaCha → Type 0
+LeadsToRefusal hosting k moment bytes fault edge generator edge' generator' =
+    (rules : RegistryRecord) (host : _) (schedule : List Happening) (world : World) → Reached hosting edge rules host schedule world →
+    GivesSome hosting rules host k moment bytes fault (record { edge = edge; generator = generator; schedule = schedule; world = world }) edge' generator'
+
+-- AT ONE PLACE
+
+-- a connection is there, and none took no byte of a reply for longer
+pub record IsLongestAt (places : List Place) (k : ℕ) : Type 0 where
+  pub place : Place
+  pub here : slice_get places k ≡ Some place
+  pub taken : IsTaken place.stage
+  pub longest : IsSilentLongest places place
+
+-- the other places are as they were, and so are their connections
+pub record LeavesOthers (k : ℕ) (service : Service) (world : World) (service' : Service) (world' : World) : Type 0 where
+  pub places : (j : ℕ) → j ≢ k → slice_get service'.places j ≡ slice_get service.places j
+  pub connections : (j : ℕ) → j ≢ k → connection_at world'.connections j ≡ connection_at world.connections j
+
+-- steps lead on, which touch one place alone; work that was left stays noted
+pub record GoesAt {N C J H : Type 0} (p : Promises N C J H) (rules : RegistryRecord) (host : H) (first : Scene N C J H) (found : List Ready) (k : ℕ) (service : Service) (past : Past) (service' : Service) (tools' : Tools N C J H) : Type 0 where
+  pub next : Past
+  pub served : Served p rules host first (scene_of service' tools' found next)
+  pub done : DoneAfter past.deeds next.deeds
+  pub others : LeavesOthers k service past.world service' next.world
+  pub works : service.is_work_left ≡ true → service'.is_work_left ≡ true
+
+-- it holds of what is known of the place, and of its connection
+abbrev pub IsKnownAt : ℕ → Service → World → (Place → Option Connection → Type 0) → Type 0
+IsKnownAt k service world P = (place : Place) → slice_get service.places k ≡ Some place → P place (connection_at world.connections k)
+
+-- nothing changed, since nothing is to be done
+pub record IsStill (k : ℕ) (service : Service) (world : World) (service' : Service) (world' : World) (P : Place → Option Connection → Type 0) : Type 0 where
+  pub service_is : service' ≡ service
+  pub world_is : world' ≡ world
+  pub rests : IsKnownAt k service world P
+
+-- steps lead on at one place, or nothing changed, since nothing is to be done
+pub record ActsAt {N C J H : Type 0} (p : Promises N C J H) (rules : RegistryRecord) (host : H) (first : Scene N C J H) (found : List Ready) (k : ℕ) (P : Place → Option Connection → Type 0) (service : Service) (past : Past) (service' : Service) (tools' : Tools N C J H) : Type 0 where
+  pub goes : GoesAt p rules host first found k service past service' tools'
+  pub same_work : service'.is_work_left ≡ service.is_work_left
+  pub acts : IsStill k service past.world service' goes.next.world P ⊎ IsTended k goes.next.deeds
+
+abbrev pub LeadsToActs : {N C J H : Type 0} → Promises N C J H → ℕ → (Place → Option Connection → Type 0) → Service → Tools N C J H → Service → Tools N C J H → Type 0
+LeadsToActs {N} {C} {J} {H} p k P service tools service' tools' =
+    (rules : RegistryRecord) (host : H) (first : Scene N C J H) (found : List Ready) (past : Past) → Served p rules host first (scene_of service tools found past) →
+    ActsAt p rules host first found k P service past service' tools'
+
+-- no read is to be done
+abbrev pub IsUnread : Place → Option Connection → Type 0
+IsUnread place connection = place.readable ≡ true → ¬ (MayRead place connection)
+
+-- no write is to be done
+abbrev pub IsUnwritten : Place → Option Connection → Type 0
+IsUnwritten place connection = place.writable ≡ true → ¬ (MayWrite place connection)
+
+-- a read or a write is to be done
+pub data IsLeft (place : Place) (connection : Option Connection) : Type 0 where
+  a_read : place.readable ≡ true → MayRead place connection → IsLeft place connection
+  a_write : place.writable ≡ true → MayWrite place connection → IsLeft place connection
+
+-- where no work is noted to be left, nothing is to be done at the place
+abbrev pub IsRestedAt : ℕ → Service → World → Type 0
+IsRestedAt k service world = service.is_work_left ≡ false → (place : Place) → slice_get service.places k ≡ Some place → IsAtRest place (connection_at world.connections k)
+
+-- something was done at the place since the last wait, or nothing is to be done
+abbrev pub IsFairAt : ℕ → Service → Past → Type 0
+IsFairAt k service past = (place : Place) → slice_get service.places k ≡ Some place → IsAtRest place (connection_at past.world.connections k) ⊎ IsTended k past.deeds
+
+-- so it is, and where no work is noted to be left, nothing is to be done there
+pub record IsSettledAt (k : ℕ) (service : Service) (past : Past) : Type 0 where
+  pub rested : IsRestedAt k service past.world
+  pub fair : IsFairAt k service past
+
+-- steps lead on, which touch one place alone, and then work is noted that is left there, where something was done
+pub record SettlesAt {N C J H : Type 0} (p : Promises N C J H) (rules : RegistryRecord) (host : H) (first : Scene N C J H) (found : List Ready) (k : ℕ) (service : Service) (past : Past) (service' : Service) (tools' : Tools N C J H) : Type 0 where
+  pub goes : GoesAt p rules host first found k service past service' tools'
+  pub settled : IsSettledAt k service' goes.next
+  pub busy : service'.is_work_left ≡ true → (service.is_work_left ≡ true) ⊎ (0 < done_since goes.next.deeds)
+
+-- a read or a write is to be done at the place
+pub record IsLeftAt (k : ℕ) (service : Service) (world : World) : Type 0 where
+  pub place : Place
+  pub here : slice_get service.places k ≡ Some place
+  pub left : IsLeft place (connection_at world.connections k)
+
+-- it is closed where it is over, and else work is noted that is left there
+pub record TidiesAt {N C J H : Type 0} (p : Promises N C J H) (rules : RegistryRecord) (host : H) (first : Scene N C J H) (found : List Ready) (k : ℕ) (service : Service) (past : Past) (service' : Service) (tools' : Tools N C J H) : Type 0 where
+  pub goes : GoesAt p rules host first found k service past service' tools'
+  pub rested : IsRestedAt k service' goes.next.world
+  pub fair : IsKnownAt k service past.world IsUnread → IsKnownAt k service past.world IsUnwritten → IsFairAt k service' goes.next
+  pub left : service'.is_work_left ≡ true → (service.is_work_left ≡ true) ⊎ IsLeftAt k service past.world
+
+abbrev pub LeadsToTidy : {N C J H : Type 0} → Promises N C J H → ℕ → Service → Tools N C J H → Service → Tools N C J H → Type 0
+LeadsToTidy {N} {C} {J} {H} p k service tools service' tools' =
+    (rules : RegistryRecord) (host : H) (first : Scene N C J H) (found : List Ready) (past : Past) → Served p rules host first (scene_of service tools found past) →
+    TidiesAt p rules host first found k service past service' tools'
+
+abbrev pub LeadsToRest : {N C J H : Type 0} → Promises N C J H → ℕ → Service → Tools N C J H → Service → Tools N C J H → Type 0
+LeadsToRest {N} {C} {J} {H} p k service tools service' tools' =
+    (rules : RegistryRecord) (host : H) (first : Scene N C J H) (found : List Ready) (past : Past) → Served p rules host first (scene_of service tools found past) →
+    SettlesAt p rules host first found k service past service' tools'
+
+-- a connection is closed, wherever the edge was reached
+pub record GoesAway {N C J H : Type 0} (p : Promises N C J H) (rules : RegistryRecord) (host : H) (found : List Ready) (k : ℕ) (place : Place) (service : Service) (tools : Tools N C J H) (past : Past) (service' : Service) (tools' : Tools N C J H) : Type 0 where
+  pub next : Past
+  pub closes : Closes p rules host k place (scene_of service tools found past) (scene_of service' tools' found next)
+
+abbrev pub LeadsAway : {N C J H : Type 0} → Promises N C J H → ℕ → Place → Service → Tools N C J H → Service → Tools N C J H → Type 0
+LeadsAway {N} {C} {J} {H} p k place service tools service' tools' =
+    (rules : RegistryRecord) (host : H) (found : List Ready) (past : Past) → Reached p.hosting tools.edge rules host past.schedule past.world →
+    GoesAway p rules host found k place service tools past service' tools'
+
+-- AT ALL PLACES
+
+abbrev pub IsRested : Service → World → Type 0
+IsRested service world = (k : ℕ) → k < 64 → IsRestedAt k service world
+
+abbrev pub IsSettled : Service → Past → Type 0
+IsSettled service past = (k : ℕ) → k < 64 → IsSettledAt k service past
+
+-- steps lead on, and all work that is left is noted, and none is noted anew where nothing was done
+pub record GoesTo {N C J H : Type 0} (p : Promises N C J H) (rules : RegistryRecord) (host : H) (first : Scene N C J H) (found : List Ready) (service : Service) (past : Past) (service' : Service) (tools' : Tools N C J H) : Type 0 where
+  pub next : Past
+  pub served : Served p rules host first (scene_of service' tools' found next)
+  pub settled : IsSettled service' next
+  pub done : DoneAfter past.deeds next.deeds
+  pub busy : service'.is_work_left ≡ true → (service.is_work_left ≡ true) ⊎ (0 < done_since next.deeds)
+
+abbrev pub LeadsTo : {N C J H : Type 0} → Promises N C J H → List Ready → Service → Tools N C J H → List Ready → Service → Tools N C J H → Type 0
+LeadsTo {N} {C} {J} {H} p found service tools found' service' tools' =
+    (rules : RegistryRecord) (host : H) (first : Scene N C J H) (past : Past) → Served p rules host first (scene_of service tools found past) → IsSettled service past →
+    GoesTo p rules host first found' service past service' tools'
+
+-- so they do, and where it is so then, something was done since the last wait
+pub record DoesTo {N C J H : Type 0} (p : Promises N C J H) (rules : RegistryRecord) (host : H) (first : Scene N C J H) (found : List Ready) (P : Type 0) (service : Service) (past : Past) (service' : Service) (tools' : Tools N C J H) : Type 0 where
+  pub goes : GoesTo p rules host first found service past service' tools'
+  pub some : P → 0 < done_since goes.next.deeds
+
+abbrev pub LeadsToDeeds : {N C J H : Type 0} → Promises N C J H → List Ready → Type 0 → Service → Tools N C J H → Service → Tools N C J H → Type 0
+LeadsToDeeds {N} {C} {J} {H} p found P service tools service' tools' =
+    (rules : RegistryRecord) (host : H) (first : Scene N C J H) (past : Past) → Served p rules host first (scene_of service tools found past) → IsSettled service past →
+    DoesTo p rules host first found P service past service' tools'
+
+-- so it is from where nothing is to be done but what is noted to be left
+abbrev pub LeadsToTurns : {N C J H : Type 0} → Promises N C J H → List Ready → Type 0 → Service → Tools N C J H → Service → Tools N C J H → Type 0
+LeadsToTurns {N} {C} {J} {H} p found P service tools service' tools' =
+    (rules : RegistryRecord) (host : H) (first : Scene N C J H) (past : Past) → Served p rules host first (scene_of service tools found past) → IsRested service past.world →
+    DoesTo p rules host first found P service past service' tools'
+
+-- nobody is silent for too long
+pub record IsQuick (service : Service) : Type 0 where
+  pub idle : AreWithin service.limits.idle service.times service.places
+  pub crowded : service.queue ≡ Waits → AreWithin service.limits.crowded service.times service.places
+
+-- where something is noted to be left, something was done since the last wait
+abbrev pub IsActive : Service → Past → Type 0
+IsActive service past = IsBusy service → 0 < done_since past.deeds
+
+-- steps lead through so many waits
+pub record GoesRound {N C J H : Type 0} (p : Promises N C J H) (rules : RegistryRecord) (host : H) (first : Scene N C J H) (count : ℕ) (past : Past) (service' : Service) (tools' : Tools N C J H) : Type 0 where
+  pub next : Past
+  pub served : Served p rules host first (scene_of service' tools' [] next)
+  pub settled : IsSettled service' next
+  pub active : IsActive service' next
+  pub quick : IsQuick service'
+  pub waits_are : waits next.deeds ≡ waits past.deeds + count
+
+abbrev pub LeadsRound : {N C J H : Type 0} → Promises N C J H → ℕ → Service → Tools N C J H → Service → Tools N C J H → Type 0
+LeadsRound {N} {C} {J} {H} p count service tools service' tools' =
+    (rules : RegistryRecord) (host : H) (first : Scene N C J H) (past : Past) → Served p rules host first (scene_of service tools [] past) → IsSettled service past → IsActive service past → IsQuick service →
+    GoesRound p rules host first count past service' tools'
+
+-- steps lead to a scene where something fails
+pub record GoesWrong {N C J H : Type 0} (p : Promises N C J H) (rules : RegistryRecord) (host : H) (first : Scene N C J H) (fault : LoopFault) (service' : Service) (tools' : Tools N C J H) : Type 0 where
+  pub last : Scene N C J H
+  pub served : Served p rules host first last
+  pub found : List Ready
+  pub next : Past
+  pub fails : Fails p last fault (scene_of service' tools' found next)
+
+abbrev pub LeadsWrong : {N C J H : Type 0} → Promises N C J H → LoopFault → Service → Tools N C J H → Service → Tools N C J H → Type 0
+LeadsWrong {N} {C} {J} {H} p fault service tools service' tools' =
+    (rules : RegistryRecord) (host : H) (first : Scene N C J H) (past : Past) → Served p rules host first (scene_of service tools [] past) → IsSettled service past → IsActive service past → IsQuick service →
+    GoesWrong p rules host first fault service' tools'
+
+-- connections that are left are closed
+pub record GoesShut {N C J H : Type 0} (p : Promises N C J H) (rules : RegistryRecord) (host : H) (first : Scene N C J H) (found : List Ready) (service' : Service) (tools' : Tools N C J H) : Type 0 where
+  pub next : Past
+  pub shuts : Shuts p rules host first (scene_of service' tools' found next)
+  pub reached : Reached p.hosting tools'.edge rules host next.schedule next.world
+
+abbrev pub LeadsShut : {N C J H : Type 0} → Promises N C J H → Service → Tools N C J H → Service → Tools N C J H → Type 0
+LeadsShut {N} {C} {J} {H} p service tools service' tools' =
+    (rules : RegistryRecord) (host : H) (first : Scene N C J H) (found : List Ready) (past : Past) → Shuts p rules host first (scene_of service tools found past) →
+    Reached p.hosting tools.edge rules host past.schedule past.world → GoesShut p rules host first found service' tools'

@@ -1,0 +1,15 @@
+pub mod FaultTexts
+pub mod Deeds
+pub mod Places
+pub mod Courses
+pub mod Giving
+pub mod Noting
+pub mod Scenes
+pub mod Coming
+pub mod Reading
+pub mod Writing
+pub mod Closing
+pub mod Served
+pub mod Answered
+pub mod Ends
+pub mod Goes

@@ -1,0 +1,69 @@
+-- What is to be done at a place.
+use Rattle.std.specs.Prelude.{◌≡◌, ◌≤◌, ◌<◌, ℕ, true, false, List, [], Option, Some, length, slice_get, ⊤}
+use Rattle.http_edge.specs.Schedule.{Connection, untaken}
+use Rattle.http_edge.specs.Reached.{is_closing}
+use Rattle.event_loop.specs.declared.fault.ConnectionFault.{ConnectionFault}
+use Rattle.event_loop.specs.declared.place.Stage.{Stage}
+use Rattle.event_loop.specs.declared.place.Stage.TheVariants.{Free, Open, Ended, Broken}
+use Rattle.event_loop.specs.declared.place.Place.{Place}
+
+-- so many connections are served at once
+abbrev pub places_limit : ℕ
+places_limit = 64
+
+-- so many bytes are read at once
+abbrev pub read_limit : ℕ
+read_limit = 16384
+
+-- where more bytes than that were not taken of a connection's output, it is not read
+abbrev pub backlog_limit : ℕ
+backlog_limit = 65536
+
+-- a connection is there
+abbrev pub IsTaken : Stage → Type 0
+IsTaken Free = ⊥
+IsTaken stage = ⊤
+
+-- it is served
+abbrev pub IsServed : Stage → Type 0
+IsServed Open = ⊤
+IsServed Ended = ⊤
+IsServed stage = ⊥
+
+-- The place's connection, as the edge knows it, is to be read: the edge didn't give it the 400 of a faulty head, and its
+-- backlog is small
+pub record MayRead (p : Place) (connection : Option Connection) : Type 0 where
+  pub is_open : p.stage ≡ Open
+  pub stays : is_closing connection ≡ false
+  pub small : length (untaken connection) ≤ backlog_limit
+
+-- output is left for it
+pub record MayWrite (p : Place) (connection : Option Connection) : Type 0 where
+  pub served : IsServed p.stage
+  pub some_left : 0 < length (untaken connection)
+
+-- nothing is left to be done for it: a fault ended it, or all output is written and it sends no more or had the 400 of a
+-- faulty head
+pub data IsOver (p : Place) (connection : Option Connection) : Type 0 where
+  broken : (fault : ConnectionFault) → p.stage ≡ Broken fault → IsOver p connection
+  ended : p.stage ≡ Ended → untaken connection ≡ [] → IsOver p connection
+  dismissed : p.stage ≡ Open → is_closing connection ≡ true → untaken connection ≡ [] → IsOver p connection
+
+-- nothing is to be done now
+pub record IsAtRest (p : Place) (connection : Option Connection) : Type 0 where
+  pub unread : p.readable ≡ true → ¬ (MayRead p connection)
+  pub unwritten : p.writable ≡ true → ¬ (MayWrite p connection)
+  pub goes_on : ¬ (IsOver p connection)
+
+-- ALL PLACES
+
+abbrev pub IsFreeAt : List Place → ℕ → Type 0
+IsFreeAt places k = (place : Place) → slice_get places k ≡ Some place → place.stage ≡ Free
+
+-- no connection is there
+abbrev pub AllFree : List Place → Type 0
+AllFree places = (k : ℕ) → IsFreeAt places k
+
+-- a connection is at each place
+abbrev pub AllTaken : List Place → Type 0
+AllTaken places = (k : ℕ) (place : Place) → slice_get places k ≡ Some place → IsTaken place.stage

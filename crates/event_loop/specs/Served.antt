@@ -1,0 +1,82 @@
+-- All that the loop does, step by step.
+use Rattle.std.specs.Prelude.{◌≡◌, ◌≢◌, ◌⊎◌, ◌<◌, ℕ, Bool, true, ◌||◌, List, [], ◌∷◌, Option, Some, None, slice_get, slice_set, length}
+use Rattle.clients.specs.RegistryRecord.{RegistryRecord}
+use Rattle.event_loop.specs.declared.clocks.Times.{Times}
+use Rattle.event_loop.specs.declared.place.Place.{Place}
+use Rattle.event_loop.specs.declared.queue.Queue.TheVariants.{Told, Barred, Waits}
+use Rattle.event_loop.specs.declared.sockets.Ready.{Ready}
+use Rattle.event_loop.specs.declared.sockets.Ready.TheVariants as ready
+use Rattle.event_loop.specs.Deeds as deed
+use Rattle.event_loop.specs.Deeds.{done_since, IsTended}
+use Rattle.event_loop.specs.Courses.{known, IsReached}
+use Rattle.event_loop.specs.Places.{IsTaken, MayRead, MayWrite, IsAtRest, AllFree, places_limit}
+use Rattle.event_loop.specs.Scenes.{Promises, Scene}
+use Rattle.event_loop.specs.Coming.{Comes, told_queue}
+use Rattle.event_loop.specs.Reading.{Reads}
+use Rattle.event_loop.specs.Writing.{Writes}
+use Rattle.event_loop.specs.Closing.{AreWithin, Cause, Closes}
+
+-- nothing is to be done now: at no place, and nobody is to be accepted
+pub record IsIdle {N C J H : Type 0} (s : Scene N C J H) : Type 0 where
+  pub places : (k : ℕ) (place : Place) → slice_get s.places k ≡ Some place → IsAtRest place (known s.course k)
+  pub queue : s.queue ≢ Told
+
+-- at each place something was done since the last wait, or nothing is to be done
+abbrev pub IsFair : {N C J H : Type 0} → Scene N C J H → Type 0
+IsFair s = (k : ℕ) (place : Place) → slice_get s.places k ≡ Some place → IsAtRest place (known s.course k) ⊎ IsTended k s.deeds
+
+-- as the clocks told last, nobody is silent for longer than the limit, nor, where another connection waits for a place, for
+-- longer than the other limit
+pub record IsPrompt {N C J H : Type 0} (s : Scene N C J H) : Type 0 where
+  pub idle : AreWithin s.limits.idle s.times s.places
+  pub crowded : s.queue ≡ Waits → AreWithin s.limits.crowded s.times s.places
+
+-- How long it waits, in milliseconds: not at all only where something was done since the last wait; else, where nothing is
+-- to be done, for a second, or, while no connection is there, for ever.
+pub data IsPatient {N C J H : Type 0} (s : Scene N C J H) : Option ℕ → Type 0 where
+  looks : 0 < done_since s.deeds → IsPatient s (Some 0)
+  rests : IsIdle s → IsPatient s (Some 1000)
+  sleeps : IsIdle s → AllFree s.places → IsPatient s None
+
+-- the place, when its connection was found ready
+abbrev pub told_place : Place → Bool → Bool → Bool → Place
+told_place place readable writable hung =
+    record place { readable = place.readable || readable; writable = place.writable || writable; hung = place.hung || hung }
+
+-- One step: a wait, a look at the clocks or at what the wait found, or something done for connections.
+pub data Step {N C J H : Type 0} (p : Promises N C J H) (rules : RegistryRecord) (host : H) (s : Scene N C J H) : Scene N C J H → Type 0 where
+  waits : (limit : Option ℕ) (found : List Ready) (n : N) → IsPatient s limit → IsFair s → IsPrompt s → s.found ≡ [] → p.does s.sockets (deed.Waited limit found) n →
+      Step p rules host s (record s { sockets = n; deeds = deed.Waited limit found ∷ s.deeds; found = found })
+  ticks : (times : Times) (c : C) → p.tells s.clocks (Some times) c → Step p rules host s (record s { clocks = c; times = times })
+  hears_of_listener : (more : List Ready) → s.found ≡ ready.Listener ∷ more → Step p rules host s (record s { found = more; queue = told_queue s.queue })
+  hears_of : (k : ℕ) (readable writable hung : Bool) (more : List Ready) (place place' : Place) → s.found ≡ ready.Connection k readable writable hung ∷ more → slice_get s.places k ≡ Some place →
+      place' ≡ told_place place readable writable hung → Step p rules host s (record s { found = more; places = slice_set s.places k place' })
+  hears_of_none : (k : ℕ) (readable writable hung : Bool) (more : List Ready) → s.found ≡ ready.Connection k readable writable hung ∷ more → slice_get s.places k ≡ None →
+      Step p rules host s (record s { found = more })
+  comes : (s' : Scene N C J H) → s.queue ≡ Told → Comes p rules host s s' → Step p rules host s s'
+  -- after an accept that failed it is tried again
+  tries_again : s.queue ≡ Barred → Step p rules host s (record s { queue = Told })
+  reads : (k : ℕ) (place : Place) (s' : Scene N C J H) → slice_get s.places k ≡ Some place → place.readable ≡ true → MayRead place (known s.course k) → Reads p rules host k place s s' →
+      Step p rules host s s'
+  writes : (k : ℕ) (place : Place) (s' : Scene N C J H) → slice_get s.places k ≡ Some place → MayWrite place (known s.course k) → Writes p rules host k place s s' → Step p rules host s s'
+  closes : (k : ℕ) (place : Place) (s' : Scene N C J H) → slice_get s.places k ≡ Some place → IsTaken place.stage → Cause s k place → Closes p rules host k place s s' → Step p rules host s s'
+
+-- At first no connection is there and nothing was done, and the edge is reached.
+pub record IsFirst {N C J H : Type 0} (p : Promises N C J H) (rules : RegistryRecord) (host : H) (s : Scene N C J H) : Type 0 where
+  pub size : length s.places ≡ places_limit
+  pub free : AllFree s.places
+  pub found : s.found ≡ []
+  pub noted : s.noted ≡ None
+  pub deeds : s.deeds ≡ []
+  pub reached : IsReached p.hosting rules host s.course
+
+-- Steps lead from the first scene to another.
+pub data Served {N C J H : Type 0} (p : Promises N C J H) (rules : RegistryRecord) (host : H) (first : Scene N C J H) : Scene N C J H → Type 0 where
+  begins : IsFirst p rules host first → Served p rules host first first
+  goes : {s s' : Scene N C J H} → Served p rules host first s → Step p rules host s s' → Served p rules host first s'
+
+-- Connections that are left are closed and forgotten, one after another.
+pub data Shuts {N C J H : Type 0} (p : Promises N C J H) (rules : RegistryRecord) (host : H) (first : Scene N C J H) : Scene N C J H → Type 0 where
+  stops : Shuts p rules host first first
+  shuts : {s s' : Scene N C J H} (k : ℕ) (place : Place) → Shuts p rules host first s → slice_get s.places k ≡ Some place → IsTaken place.stage → Closes p rules host k place s s' →
+      Shuts p rules host first s'

@@ -1,0 +1,123 @@
+//! Accepting connections.
+ghost use Rattle.std.specs.Prelude.{◌≡◌, ◌≢◌, ◌<◌, ℕ, ⊤, List, Some, IfSome, IfNone, slice_get};
+ghost use Rattle.event_loop.specs.declared.place.Stage.TheVariants.{Free};
+ghost use Rattle.event_loop.specs.declared.queue.Queue.TheVariants.{Told, Waits};
+ghost use Rattle.event_loop.specs.declared.sockets.Ready.{Ready};
+ghost use Rattle.event_loop.specs.Places.{IsFreeAt, AllTaken};
+ghost use Rattle.event_loop.specs.Closing.{AreWithin};
+ghost use Rattle.event_loop.specs.Goes.{LeadsToDeeds, promises};
+
+use crate::clocks::Clocks;
+use crate::fault::ConnectionFault;
+use crate::journal::Journal;
+use crate::limits::PLACES;
+use crate::noting::note;
+use crate::place::{Place, Stage};
+use crate::queue::Queue;
+use crate::service::Service;
+use crate::sockets::{Accepted, Sockets};
+use crate::tools::Tools;
+use hook_chain::HookHost;
+use http_edge::Event;
+
+impl Service {
+    // A place where no connection is.
+    fn free_place(&self) -> Option<u32>
+        ensures free { IfSome result (λ k. (k < 64) × IsFreeAt self.now.places k) }
+        ensures none { IfNone result (AllTaken self.now.places) }
+    {
+        for k in 0..PLACES {
+            if !self.place_at(k).stage.is_taken() {
+                return Some(k);
+            }
+        }
+        None
+    }
+
+    // Accepts a connection at a place, if one waits.
+    fn admit<N: Sockets, C: Clocks, J: Journal, H: HookHost>(
+        &mut self,
+        tools: &mut Tools<N, C, J, H>,
+        k: u32,
+    )
+        requires bound { k < 64 }
+        requires free { IsFreeAt self.old.places k }
+        requires told { self.old.queue ≡ Told }
+        ensures leads { (found : List Ready) → LeadsToDeeds (promises N.does C.tells J.notes H.HookHost) found ⊤ self.old tools.old self.new tools.new }
+        ensures within { (limit : ℕ) → AreWithin limit self.old.times self.old.places → AreWithin limit self.new.times self.new.places }
+        ensures waits { self.new.queue ≢ Waits }
+        ensures limits { self.new.limits ≡ self.old.limits }
+    {
+        match tools.sockets.accept(k) {
+            Accepted::Taken => match tools.edge.event(Event::Open(k)) {
+                Ok(()) => {
+                    self.places[k as usize] = Place {
+                        stage: Stage::Open,
+                        readable: false,
+                        writable: true,
+                        hung: false,
+                        since: self.times.steady,
+                    };
+                }
+                Err(fault) => {
+                    tools.sockets.close(k);
+                    let cause = ConnectionFault::Refused(fault);
+                    note(
+                        &mut self.noted,
+                        &mut tools.journal,
+                        cause,
+                        self.times.steady,
+                    );
+                }
+            },
+            Accepted::Later => self.queue = Queue::Empty,
+            Accepted::Failed => {
+                self.queue = Queue::Barred;
+                let cause = ConnectionFault::Accept;
+                note(
+                    &mut self.noted,
+                    &mut tools.journal,
+                    cause,
+                    self.times.steady,
+                );
+            }
+        }
+    }
+
+    // Accepts a connection, if one waits. Where all places are taken, the listener is asked whether one waits.
+    fn admit_next<N: Sockets, C: Clocks, J: Journal, H: HookHost>(
+        &mut self,
+        tools: &mut Tools<N, C, J, H>,
+    )
+        requires told { self.old.queue ≡ Told }
+        ensures leads { (found : List Ready) → LeadsToDeeds (promises N.does C.tells J.notes H.HookHost) found ⊤ self.old tools.old self.new tools.new }
+        ensures within { (limit : ℕ) → AreWithin limit self.old.times self.old.places → AreWithin limit self.new.times self.new.places }
+        ensures waits { self.new.queue ≢ Waits }
+        ensures limits { self.new.limits ≡ self.old.limits }
+    {
+        let Some(k) = self.free_place() else {
+            tools.sockets.ask();
+            self.queue = Queue::Asked;
+            return;
+        };
+        self.admit(tools, k);
+    }
+
+    /// Accepts connections while one may wait.
+    pub(crate) fn admit_all<N: Sockets, C: Clocks, J: Journal, H: HookHost>(
+        &mut self,
+        tools: &mut Tools<N, C, J, H>,
+    )
+        ensures leads { (found : List Ready) → LeadsToDeeds (promises N.does C.tells J.notes H.HookHost) found (self.new.queue ≡ Told) self.old tools.old self.new tools.new }
+        ensures within { (limit : ℕ) → AreWithin limit self.old.times self.old.places → AreWithin limit self.new.times self.new.places }
+        ensures waits { self.new.queue ≡ Waits → self.old.queue ≡ Waits }
+        ensures limits { self.new.limits ≡ self.old.limits }
+    {
+        for _nth in 0..PLACES {
+            let Queue::Told = self.queue else {
+                return;
+            };
+            self.admit_next(tools);
+        }
+    }
+}

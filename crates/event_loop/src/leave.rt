@@ -1,0 +1,223 @@
+//! Closing connections.
+ghost use Rattle.std.specs.Prelude.{◌≡◌, ◌≢◌, ◌<◌, ◌≤◌, ◌-◌, ℕ, true, false, List, Some, IfSome, IfNone, slice_get, slice_set, length};
+ghost use Rattle.event_loop.specs.declared.place.Stage.TheVariants.{Free};
+ghost use Rattle.event_loop.specs.declared.sockets.Ready.{Ready};
+ghost use Rattle.event_loop.specs.Places.{AllFree, IsFreeAt, IsTaken, IsOver};
+ghost use Rattle.event_loop.specs.Closing.{AreWithin, freed_queue};
+ghost use Rattle.event_loop.specs.declared.queue.Queue.TheVariants.{Waits};
+ghost use Rattle.event_loop.specs.Goes.{IsLongestAt, WhereKnown, LeadsAway, LeadsShut, LeadsTo, LeadsToTidy, promises};
+
+use crate::clocks::Clocks;
+use crate::journal::Journal;
+use crate::limits::PLACES;
+use crate::noting::note_end;
+use crate::place::{Place, Stage};
+use crate::queue::Queue;
+use crate::read::may_read;
+use crate::service::Service;
+use crate::sockets::Sockets;
+use crate::tools::Tools;
+use crate::write::may_write;
+use hook_chain::HookHost;
+use http_edge::Edge;
+
+// Whether nothing is left to be done for a connection.
+fn is_over<H: HookHost>(edge: &Edge<H>, place: Place, k: u32) -> bool
+    ensures taken { result ≡ true → IsTaken place.stage }
+    ensures over { result ≡ true → WhereKnown H.HookHost edge.now k (IsOver place) }
+    ensures goes_on { result ≡ false → WhereKnown H.HookHost edge.now k (λ connection. ¬ (IsOver place connection)) }
+{
+    if let Stage::Broken(_) = place.stage {
+        return true;
+    }
+    if !place.stage.is_served() {
+        return false;
+    }
+    if !edge.output(k).is_empty() {
+        return false;
+    }
+    if !place.stage.is_open() {
+        return true;
+    }
+    if edge.closing(k) {
+        return true;
+    }
+    false
+}
+
+impl Service {
+    // Closes and forgets a connection, and notes its fault.
+    fn leave<N: Sockets, C: Clocks, J: Journal, H: HookHost>(
+        &mut self,
+        tools: &mut Tools<N, C, J, H>,
+        k: u32,
+        place: Place,
+    )
+        requires bound { k < 64 }
+        ensures away { LeadsAway (promises N.does C.tells J.notes H.HookHost) k place self.old tools.old self.new tools.new }
+        ensures rest { self.new ≡ record self.old { noted = self.new.noted; places = slice_set self.old.places k (record place { stage = Free }); queue = freed_queue self.old.queue } }
+    {
+        tools.sockets.close(k);
+        tools.edge.forget(k);
+        note_end(
+            &mut self.noted,
+            &mut tools.journal,
+            place.stage,
+            self.times.steady,
+        );
+        let stage = Stage::Free;
+        self.places[k as usize] = Place { stage, ..place };
+        self.queue = self.queue.freed();
+    }
+
+    /// Closes a connection that is over. For another, what may be done is noted to be left.
+    pub(crate) fn settle<N: Sockets, C: Clocks, J: Journal, H: HookHost>(
+        &mut self,
+        tools: &mut Tools<N, C, J, H>,
+        k: u32,
+    )
+        requires bound { k < 64 }
+        ensures { LeadsToTidy (promises N.does C.tells J.notes H.HookHost) k self.old tools.old self.new tools.new }
+    {
+        let place = self.place_at(k);
+        if is_over(&tools.edge, place, k) {
+            self.leave(tools, k, place);
+            return;
+        }
+        if may_read(&tools.edge, place, k) {
+            self.is_work_left = true;
+            return;
+        }
+        if may_write(&tools.edge, place, k) {
+            self.is_work_left = true;
+        }
+    }
+
+    // Closes a connection that took no byte of a reply for too long.
+    fn leave_silent<N: Sockets, C: Clocks, J: Journal, H: HookHost>(
+        &mut self,
+        tools: &mut Tools<N, C, J, H>,
+        k: u32,
+    )
+        requires bound { k < 64 }
+        ensures leads { (found : List Ready) → LeadsTo (promises N.does C.tells J.notes H.HookHost) found self.old tools.old found self.new tools.new }
+        ensures within { (place : Place) → slice_get self.new.places k ≡ Some place → IsTaken place.stage → self.old.times.steady - place.since ≤ self.old.limits.idle }
+        ensures others { (j : ℕ) → j ≢ k → slice_get self.new.places j ≡ slice_get self.old.places j }
+        ensures size { length self.new.places ≡ length self.old.places }
+        ensures times { self.new.times ≡ self.old.times }
+        ensures limits { self.new.limits ≡ self.old.limits }
+    {
+        let place = self.place_at(k);
+        if !place.stage.is_taken() {
+            return;
+        }
+        if self.times.steady.saturating_sub(place.since) <= self.limits.idle {
+            return;
+        }
+        self.leave(tools, k, place);
+    }
+
+    // Closes each of them.
+    fn sweep<N: Sockets, C: Clocks, J: Journal, H: HookHost>(
+        &mut self,
+        tools: &mut Tools<N, C, J, H>,
+    )
+        ensures leads { (found : List Ready) → LeadsTo (promises N.does C.tells J.notes H.HookHost) found self.old tools.old found self.new tools.new }
+        ensures within { AreWithin self.new.limits.idle self.new.times self.new.places }
+    {
+        for k in 0..PLACES {
+            self.leave_silent(tools, k);
+        }
+    }
+
+    /// Silent connections are closed, and once a second it is tried again to accept.
+    pub(crate) fn tidy<N: Sockets, C: Clocks, J: Journal, H: HookHost>(
+        &mut self,
+        tools: &mut Tools<N, C, J, H>,
+    )
+        ensures leads { (found : List Ready) → LeadsTo (promises N.does C.tells J.notes H.HookHost) found self.old tools.old found self.new tools.new }
+        ensures within { AreWithin self.new.limits.idle self.new.times self.new.places }
+    {
+        self.sweep(tools);
+        if self.swept == self.times.steady {
+            return;
+        }
+        self.swept = self.times.steady;
+        if let Queue::Barred = self.queue {
+            self.queue = Queue::Told;
+        }
+    }
+
+    // The place whose connection took no byte of a reply for longest, if one took none for some seconds.
+    fn silent_longest(&self) -> Option<u32>
+        ensures longest { IfSome result (λ k. (k < 64) × IsLongestAt self.now.places k) }
+        ensures none { IfNone result ((limit : ℕ) → AreWithin limit self.now.times self.now.places) }
+    {
+        let mut longest = None;
+        let mut most = 0;
+        for k in 0..PLACES {
+            let place = self.place_at(k);
+            let silence = self.times.steady.saturating_sub(place.since);
+            if place.stage.is_taken() && most < silence {
+                longest = Some(k);
+                most = silence;
+            }
+        }
+        longest
+    }
+
+    /// Where all places are taken and another connection waits, the one that was silent longest gives way.
+    pub(crate) fn make_room<N: Sockets, C: Clocks, J: Journal, H: HookHost>(
+        &mut self,
+        tools: &mut Tools<N, C, J, H>,
+    )
+        ensures leads { (found : List Ready) → LeadsTo (promises N.does C.tells J.notes H.HookHost) found self.old tools.old found self.new tools.new }
+        ensures within { (limit : ℕ) → AreWithin limit self.old.times self.old.places → AreWithin limit self.new.times self.new.places }
+        ensures crowded { self.new.queue ≡ Waits → AreWithin self.new.limits.crowded self.new.times self.new.places }
+        ensures limits { self.new.limits ≡ self.old.limits }
+    {
+        let Queue::Waits = self.queue else {
+            return;
+        };
+        let Some(k) = self.silent_longest() else {
+            return;
+        };
+        let place = self.place_at(k);
+        if self.times.steady.saturating_sub(place.since) <= self.limits.crowded {
+            return;
+        }
+        self.leave(tools, k, place);
+    }
+
+    // Closes the connection at a place, if there is one.
+    fn leave_any<N: Sockets, C: Clocks, J: Journal, H: HookHost>(
+        &mut self,
+        tools: &mut Tools<N, C, J, H>,
+        k: u32,
+    )
+        requires bound { k < 64 }
+        ensures shut { LeadsShut (promises N.does C.tells J.notes H.HookHost) self.old tools.old self.new tools.new }
+        ensures free { IsFreeAt self.new.places k }
+        ensures size { length self.new.places ≡ length self.old.places }
+        ensures others { (j : ℕ) → j ≢ k → slice_get self.new.places j ≡ slice_get self.old.places j }
+    {
+        let place = self.place_at(k);
+        if !place.stage.is_taken() {
+            return;
+        }
+        self.leave(tools, k, place);
+    }
+
+    /// Closes each connection that is left.
+    pub(crate) fn leave_all<N: Sockets, C: Clocks, J: Journal, H: HookHost>(
+        &mut self,
+        tools: &mut Tools<N, C, J, H>,
+    )
+        ensures shut { LeadsShut (promises N.does C.tells J.notes H.HookHost) self.old tools.old self.new tools.new }
+        ensures free { AllFree self.new.places }
+    {
+        for k in 0..PLACES {
+            self.leave_any(tools, k);
+        }
+    }
+}

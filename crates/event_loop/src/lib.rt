@@ -1,0 +1,32 @@
+//! Up to 64 connections served at once from one thread, by the readiness of their sockets.
+//!
+//! It knows sockets, clocks and a journal by what they do, and makes no system call.
+#![tactic(auto)]
+
+mod admit;
+mod clocks;
+mod fault;
+mod journal;
+mod leave;
+mod limits;
+mod noting;
+mod place;
+mod queue;
+mod read;
+mod round;
+mod serve;
+mod service;
+mod sockets;
+#[cfg(test)]
+mod tests;
+mod tools;
+mod turn;
+mod write;
+
+pub use clocks::{Clocks, Times};
+pub use fault::{ConnectionFault, LoopFault};
+pub use journal::Journal;
+pub use limits::{Limits, PLACES, READ_LIMIT};
+pub use serve::serve_all;
+pub use sockets::{Accepted, Ready, Received, Sent, Sockets};
+pub use tools::Tools;

@@ -1,0 +1,157 @@
+//! Reading connections.
+ghost use Rattle.std.specs.Prelude.{◌≡◌, ◌<◌, ◌≤◌, true, false, Some, OnOk, IfErr, slice_get, length};
+ghost use Rattle.http_edge.specs.Reached.{is_closing};
+ghost use Rattle.event_loop.specs.Places.{MayRead};
+ghost use Rattle.event_loop.specs.Goes.{WhereKnown, IsUnread, LeadsToActs, LeadsToGiving, LeadsToRefusal, promises};
+
+use crate::clocks::Clocks;
+use crate::fault::ConnectionFault;
+use crate::journal::Journal;
+use crate::limits::{BACKLOG_LIMIT, CUT_LIMIT};
+use crate::place::{Place, Stage};
+use crate::service::Service;
+use crate::sockets::{Received, Sockets};
+use crate::tools::Tools;
+use consent::Moment;
+use hook_chain::HookHost;
+use http_edge::{Edge, EdgeFault, Event};
+use rand_chacha::ChaCha20Rng;
+use requests::Draws;
+use serving::give;
+
+/// Whether a connection may be read.
+pub(crate) fn may_read<H: HookHost>(edge: &Edge<H>, place: Place, k: u32) -> bool
+    ensures readable { result ≡ true → place.readable ≡ true }
+    ensures may { result ≡ true → WhereKnown H.HookHost edge.now k (MayRead place) }
+    ensures rests { result ≡ false → place.readable ≡ true → WhereKnown H.HookHost edge.now k (λ connection. ¬ (MayRead place connection)) }
+{
+    if !place.readable {
+        return false;
+    }
+    if !place.stage.is_open() {
+        return false;
+    }
+    if edge.output(k).len() > BACKLOG_LIMIT {
+        return false;
+    }
+    !edge.closing(k)
+}
+
+// Gives bytes to the edge in cuts, up to the 400 of a faulty head.
+fn give_cuts<H: HookHost>(
+    edge: &mut Edge<H>,
+    generator: &mut ChaCha20Rng,
+    k: u32,
+    bytes: &[u8],
+    moment: Moment,
+) -> Result<(), EdgeFault>
+    ensures heard { OnOk result (LeadsToGiving H.HookHost k moment bytes.now edge.old generator.old edge.new generator.new) }
+    ensures unheard { IfErr result (λ fault. LeadsToRefusal H.HookHost k moment bytes.now fault edge.old generator.old edge.new generator.new) }
+{
+    let mut start = 0;
+    'cuts: while start < bytes.len() {
+        if edge.closing(k) {
+            return Ok(());
+        }
+        let count = CUT_LIMIT.min(bytes.len() - start);
+        let cut = &bytes[start..start + count];
+        if let Err(fault) = give(edge, k, cut, moment, generator) {
+            return Err(fault);
+        }
+        start += count;
+    }
+    Ok(())
+}
+
+// Gives bytes to the edge at once, and in cuts where they complete too many requests.
+fn give_all<H: HookHost>(
+    edge: &mut Edge<H>,
+    generator: &mut ChaCha20Rng,
+    k: u32,
+    bytes: &[u8],
+    moment: Moment,
+) -> Result<(), EdgeFault>
+    requires stays { WhereKnown H.HookHost edge.old k (λ connection. is_closing connection ≡ false) }
+    ensures heard { OnOk result (LeadsToGiving H.HookHost k moment bytes.now edge.old generator.old edge.new generator.new) }
+    ensures unheard { IfErr result (λ fault. LeadsToRefusal H.HookHost k moment bytes.now fault edge.old generator.old edge.new generator.new) }
+{
+    let Err(fault) = give(edge, k, bytes, moment, generator) else {
+        return Ok(());
+    };
+    let EdgeFault::TooManyRequests = fault else {
+        return Err(fault);
+    };
+    if let Err(last) = give_cuts(edge, generator, k, bytes, moment) {
+        return Err(last);
+    }
+    Ok(())
+}
+
+impl Service {
+    // Reads a connection once, and gives what came to the edge.
+    fn read_once<N: Sockets, C: Clocks, J: Journal, H: HookHost>(
+        &mut self,
+        tools: &mut Tools<N, C, J, H>,
+        k: u32,
+        place: Place,
+    )
+        requires bound { k < 64 }
+        requires here { slice_get self.old.places k ≡ Some place }
+        requires readable { place.readable ≡ true }
+        requires may { WhereKnown H.HookHost tools.old.edge k (MayRead place) }
+        ensures { LeadsToActs (promises N.does C.tells J.notes H.HookHost) k IsUnread self.old tools.old self.new tools.new }
+    {
+        let i = k as usize;
+        match tools.sockets.read(k, &mut self.buffer) {
+            Received::Bytes(count) => {
+                let bytes = &self.buffer[..count];
+                match give_all(
+                    &mut tools.edge,
+                    &mut tools.generator,
+                    k,
+                    bytes,
+                    self.times.moment,
+                ) {
+                    Ok(()) => self.places[i] = place.read(count),
+                    Err(fault) => {
+                        let stage = Stage::Broken(ConnectionFault::Refused(fault));
+                        self.places[i] = Place { stage, ..place };
+                    }
+                }
+            }
+            Received::End => match tools.edge.event(Event::End(k)) {
+                Ok(()) => {
+                    let stage = Stage::Ended;
+                    self.places[i] = Place { stage, ..place };
+                }
+                Err(fault) => {
+                    let stage = Stage::Broken(ConnectionFault::Refused(fault));
+                    self.places[i] = Place { stage, ..place };
+                }
+            },
+            Received::Later => {
+                let readable = false;
+                self.places[i] = Place { readable, ..place };
+            }
+            Received::Failed => {
+                let stage = Stage::Broken(ConnectionFault::Read);
+                self.places[i] = Place { stage, ..place };
+            }
+        }
+    }
+
+    /// Reads a connection once, where it may be read.
+    pub(crate) fn read<N: Sockets, C: Clocks, J: Journal, H: HookHost>(
+        &mut self,
+        tools: &mut Tools<N, C, J, H>,
+        k: u32,
+    )
+        requires bound { k < 64 }
+        ensures { LeadsToActs (promises N.does C.tells J.notes H.HookHost) k IsUnread self.old tools.old self.new tools.new }
+    {
+        let place = self.place_at(k);
+        if may_read(&tools.edge, place, k) {
+            self.read_once(tools, k, place);
+        }
+    }
+}

@@ -1,0 +1,86 @@
+//! Rounds.
+ghost use Rattle.std.specs.Prelude.{◌≡◌, true, false, OnOk, IfErr};
+ghost use Rattle.event_loop.specs.Places.{AllFree};
+ghost use Rattle.event_loop.specs.Goes.{IsBusy, IsLimit, MayRest, LeadsRound, LeadsWrong, promises};
+
+use crate::clocks::Clocks;
+use crate::fault::LoopFault;
+use crate::journal::Journal;
+use crate::limits::PLACES;
+use crate::queue::Queue;
+use crate::service::Service;
+use crate::sockets::{Ready, Sockets};
+use crate::tools::Tools;
+use hook_chain::HookHost;
+
+// In milliseconds.
+const SECOND: u64 = 1000;
+
+impl Service {
+    // Whether no connection is there.
+    fn is_empty(&self) -> bool
+        ensures { result ≡ true → AllFree self.now.places }
+    {
+        for k in 0..PLACES {
+            if self.place_at(k).stage.is_taken() {
+                return false;
+            }
+        }
+        true
+    }
+
+    // Whether something may be left to be done.
+    fn is_busy(&self) -> bool
+        ensures busy { result ≡ true → IsBusy self.now }
+        ensures rests { result ≡ false → MayRest self.now }
+    {
+        match self.queue {
+            Queue::Told => true,
+            Queue::Empty => self.is_work_left,
+            Queue::Barred => self.is_work_left,
+            Queue::Asked => self.is_work_left,
+            Queue::Waits => self.is_work_left,
+        }
+    }
+
+    // How long to wait, in milliseconds.
+    fn wait_limit(&self) -> Option<u64>
+        ensures { IsLimit self.now result }
+    {
+        if self.is_busy() {
+            return Some(0);
+        }
+        if let Queue::Barred = self.queue {
+            return Some(SECOND);
+        }
+        if self.is_empty() {
+            return None;
+        }
+        Some(SECOND)
+    }
+
+    /// Waits once, and does what is to be done.
+    pub(crate) fn round<N: Sockets, C: Clocks, J: Journal, H: HookHost>(
+        &mut self,
+        tools: &mut Tools<N, C, J, H>,
+        found: &mut [Ready],
+    ) -> Result<(), LoopFault>
+        ensures goes { OnOk result (LeadsRound (promises N.does C.tells J.notes H.HookHost) 1 self.old tools.old self.new tools.new) }
+        ensures wrong { IfErr result (λ fault. LeadsWrong (promises N.does C.tells J.notes H.HookHost) fault self.old tools.old self.new tools.new) }
+    {
+        let limit = self.wait_limit();
+        let Some(count) = tools.sockets.wait(limit, found) else {
+            return Err(LoopFault::Wait);
+        };
+        let Some(times) = tools.clocks.read() else {
+            return Err(LoopFault::Clock);
+        };
+        self.times = times;
+        self.turns(tools);
+        self.answer_all(tools, &found[..count]);
+        self.tidy(tools);
+        self.make_room(tools);
+        self.admit_all(tools);
+        Ok(())
+    }
+}

@@ -1,0 +1,47 @@
+//! Serving connections.
+ghost use Rattle.event_loop.specs.Ends.{Ends};
+ghost use Rattle.event_loop.specs.Goes.{LeadsWrong, promises};
+
+use crate::clocks::Clocks;
+use crate::fault::LoopFault;
+use crate::journal::Journal;
+use crate::limits::Limits;
+use crate::service::Service;
+use crate::sockets::{Ready, Sockets};
+use crate::tools::Tools;
+use hook_chain::HookHost;
+
+impl Service {
+    // Makes round after round.
+    fn rounds<N: Sockets, C: Clocks, J: Journal, H: HookHost>(
+        &mut self,
+        tools: &mut Tools<N, C, J, H>,
+    ) -> LoopFault
+        ensures { LeadsWrong (promises N.does C.tells J.notes H.HookHost) result self.old tools.old self.new tools.new }
+    {
+        let mut found = [Ready::Listener; 65];
+        for _nth in 0..u64::MAX {
+            if let Err(fault) = self.round(tools, &mut found) {
+                return fault;
+            }
+        }
+        LoopFault::Rounds
+    }
+}
+
+/// Serves up to 64 connections at once, until a wait fails or the clocks tell nothing, and says which. Then each connection
+/// that is left is closed and forgotten.
+pub fn serve_all<N: Sockets, C: Clocks, J: Journal, H: HookHost>(
+    tools: &mut Tools<N, C, J, H>,
+    limits: Limits,
+) -> LoopFault
+    ensures { Ends (promises N.does C.tells J.notes H.HookHost) limits tools.old result tools.new }
+{
+    let Some(times) = tools.clocks.read() else {
+        return LoopFault::Clock;
+    };
+    let mut service = Service::new(limits, times);
+    let fault = service.rounds(tools);
+    service.leave_all(tools);
+    fault
+}

@@ -1,0 +1,13 @@
+//! What the loop works with.
+use http_edge::Edge;
+use rand_chacha::ChaCha20Rng;
+
+/// What the loop works with: sockets, an edge, clocks, a generator of draws, and a journal.
+#[derive(Drop)]
+pub struct Tools<N, C, J, H> {
+    pub sockets: N,
+    pub edge: Edge<H>,
+    pub clocks: C,
+    pub generator: ChaCha20Rng,
+    pub journal: J,
+}

@@ -1,0 +1,66 @@
+//! Writing output.
+ghost use Rattle.std.specs.Prelude.{◌≡◌, ◌<◌, true, false};
+ghost use Rattle.event_loop.specs.Places.{MayWrite};
+ghost use Rattle.event_loop.specs.Goes.{WhereKnown, IsUnwritten, LeadsToActs, promises};
+
+use crate::clocks::Clocks;
+use crate::fault::ConnectionFault;
+use crate::journal::Journal;
+use crate::place::{Place, Stage};
+use crate::service::Service;
+use crate::sockets::{Sent, Sockets};
+use crate::tools::Tools;
+use hook_chain::HookHost;
+use http_edge::Edge;
+
+/// Whether a connection may be written to.
+pub(crate) fn may_write<H: HookHost>(edge: &Edge<H>, place: Place, k: u32) -> bool
+    ensures writable { result ≡ true → place.writable ≡ true }
+    ensures may { result ≡ true → WhereKnown H.HookHost edge.now k (MayWrite place) }
+    ensures rests { result ≡ false → place.writable ≡ true → WhereKnown H.HookHost edge.now k (λ connection. ¬ (MayWrite place connection)) }
+{
+    if !place.writable {
+        return false;
+    }
+    if !place.stage.is_served() {
+        return false;
+    }
+    if edge.output(k).is_empty() {
+        return false;
+    }
+    true
+}
+
+impl Service {
+    /// Writes to a connection once, where there is output and the socket may take it.
+    pub(crate) fn write<N: Sockets, C: Clocks, J: Journal, H: HookHost>(
+        &mut self,
+        tools: &mut Tools<N, C, J, H>,
+        k: u32,
+    )
+        requires bound { k < 64 }
+        ensures { LeadsToActs (promises N.does C.tells J.notes H.HookHost) k IsUnwritten self.old tools.old self.new tools.new }
+    {
+        let i = k as usize;
+        let place = self.place_at(k);
+        if !may_write(&tools.edge, place, k) {
+            return;
+        }
+        let output = tools.edge.output(k);
+        match tools.sockets.write(k, output) {
+            Sent::Bytes(count) => {
+                tools.edge.take(k, count);
+                let since = self.times.steady;
+                self.places[i] = Place { since, ..place };
+            }
+            Sent::Later => {
+                let writable = false;
+                self.places[i] = Place { writable, ..place };
+            }
+            Sent::Failed => {
+                let stage = Stage::Broken(ConnectionFault::Write);
+                self.places[i] = Place { stage, ..place };
+            }
+        }
+    }
+}
