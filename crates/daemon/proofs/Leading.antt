@@ -1,5 +1,5 @@
 -- An edge that is led on from where it was reached.
-use Rattle.std.proofs.Common.{◌≡◌, ℕ, List, [], ◌++◌, sym, subst, append-nil, append_assoc}
+use Rattle.std.proofs.Common.{List, [], ◌++◌, sym, subst, append-nil, append_assoc}
 use Rattle.hook_chain.specs.declared.host.HookHost.{Ghosts as Hosting}
 use Rattle.clients.specs.RegistryRecord.{RegistryRecord}
 use Rattle.http_edge.specs.Edges.{SeenEdge}

@@ -1,2 +1,3 @@
 pub mod Listening
 pub mod Begun
+pub mod Started

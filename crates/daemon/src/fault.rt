@@ -1,5 +1,9 @@
 //! Why a server does not listen.
 
+ghost use Rattle.std.specs.Prelude.{◌≡◌};
+
+use std::alloc::AllocError;
+
 /// Why a server does not listen.
 #[derive(Clone, Copy, Debug, PartialEq, Eq)]
 pub enum ListenFault {
@@ -9,4 +13,16 @@ pub enum ListenFault {
     NoSocket,
     /// Where it listens could not be written.
     Unwritten,
+    /// Memory was refused.
+    Memory,
+}
+
+impl From<AllocError> for ListenFault {
+    ghost use Rattle.daemon.specs.declared.fault.ListenFault.TheVariants.{Memory};
+
+    ghost from_gives = { λ _ fault. fault ≡ Memory };
+
+    fn from(_error: AllocError) -> ListenFault {
+        ListenFault::Memory
+    }
 }

@@ -1,11 +1,14 @@
-//! The server on the machine's sockets and clock: it listens, and serves the connections that come.
+//! The server on the machine's sockets and clocks: it listens, and serves the connections that come.
 #![tactic(auto)]
 
 mod by_count;
 mod fault;
+mod line_journal;
 mod listening;
 mod machine_clock;
+mod machine_clocks;
 mod patience;
+mod sockets;
 #[cfg(test)]
 mod tests;
 mod until_stopped;

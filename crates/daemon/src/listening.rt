@@ -40,7 +40,7 @@ pub fn listen<R: Net, W: Write>(
 }
 
 /// Tells where a server listens.
-fn announce<W: Write>(out: &mut W, address: SocketAddr) -> io::Result<()>
+pub fn announce<W: Write>(out: &mut W, address: SocketAddr) -> io::Result<()>
     ensures { OnOk result (Appends (W.contents out.old) (W.contents out.new) (listening_text address)) }
 {
     writeln!(out, "listening {address}")?;

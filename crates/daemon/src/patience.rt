@@ -1,10 +1,27 @@
 //! How long a server waits for its clients.
 
+ghost use Rattle.std.specs.Prelude.{◌≡◌};
+ghost use Rattle.daemon.specs.Started.{limits_of};
+
+use event_loop::Limits;
+
 /// For how many seconds a server is patient.
 #[derive(Clone, Copy, Debug)]
 pub struct Patience {
-    /// With a connection on which nothing moves.
+    /// With a connection that takes no byte of a reply.
     pub silence: u32,
     /// With the connection that is silent longest, where another one waits and all places are taken.
     pub full: u32,
+}
+
+impl Patience {
+    /// The limits of a loop that is so patient.
+    pub fn limits(self) -> Limits
+        ensures { result ≡ limits_of self }
+    {
+        Limits {
+            idle: u64::from(self.silence),
+            crowded: u64::from(self.full),
+        }
+    }
 }

@@ -1,76 +1,77 @@
 //! Connections until the program is stopped.
 
-ghost use Rattle.std.specs.Prelude.{◌≡◌, OnOk, OnErr};
+ghost use Rattle.std.specs.Prelude.{◌≡◌, [], OnOk, OnErr, IfOk};
+ghost use Rattle.event_loop.specs.Goes.{promises};
 ghost use Rattle.daemon.specs.Listening.{Announces};
+ghost use Rattle.daemon.specs.Started.{Serves, limits_of};
 
-use crate::by_count::{NUMBER, new_edge};
+use crate::by_count::new_edge;
 use crate::fault::ListenFault;
-use crate::listening::{listen, next_connection, see_off};
-use crate::machine_clock::MachineClock;
+use crate::line_journal::LineJournal;
+use crate::listening::announce;
+use crate::machine_clocks::MachineClocks;
 use crate::patience::Patience;
+use crate::sockets::MachineSockets;
 use clients::Registry;
+use event_loop::{Clocks, Journal, LoopFault, Sockets, Tools, serve_all};
+use hook_chain::{Chain, HookHost};
 use rand_chacha::ChaCha20Rng;
 use rand_core::SeedableRng;
-use serving::{ServeFault, serve_one};
 use std::io::Write;
-use std::net::{Net, OpenStream};
+use std::net::Net;
 use std::random::RandomSource;
 use std::rt::Clock;
-use std::time::{Duration, Instant};
 
-/// When a fault was told last.
-#[derive(Clone, Copy)]
-struct Told(Option<Instant>);
-
-impl Told {
-    /// Tells the fault that ended a connection, unless one was told less than a second ago.
-    fn tell<R: Clock, E: Write>(&mut self, rt: &R, fault: ServeFault, err: &mut E) {
-        let Ok(now) = Instant::now(rt) else {
-            return;
-        };
-        if let Some(last) = self.0
-            && now.duration_since(last) < Duration::from_secs(1)
-        {
-            return;
-        }
-        self.0 = Some(now);
-        let _ = writeln!(err, "oauthd: connection ended: {fault}");
-    }
-}
-
-/// Listens at an address, tells where, and serves connections until the program is stopped, with draws by random bytes of
-/// the system. The fault of a connection ends that one alone, and is told to `err`, in at most one line a second.
-pub fn start<R: Net + Clock + RandomSource + AllocGlobal, W: Write, E: Write>(
-    rt: &R,
-    address: &str,
-    registry: Registry,
-    patience: Patience,
-    out: &mut W,
-    err: &mut E,
-) -> Result<(), ListenFault>
-    ensures done { OnOk result (Announces (W.contents out.old) (W.contents out.new)) }
-    ensures quiet { OnErr result (err.new ≡ err.old) }
-{
+/// A generator of draws by random bytes of the system.
+fn random_generator<R: RandomSource>(rt: &R) -> Result<ChaCha20Rng, ListenFault> {
     let mut seed = [0; 32];
     let Ok(()) = rt.fill_bytes(&mut seed) else {
         return Err(ListenFault::NoSeed);
     };
-    let listener = listen(rt, address, out)?;
-    let mut edge = new_edge(rt.alloc(), registry);
-    let mut clock = MachineClock(rt);
-    let mut rng = ChaCha20Rng::from_seed(seed);
-    let mut told = Told(None);
-    let silence = Duration::from_secs(u64::from(patience.silence));
-    for _ in 0..u64::MAX {
-        if let Some(mut stream) = next_connection(rt, &listener) {
-            let _ = stream.set_nodelay(true);
-            let _ = stream.set_read_timeout(Some(silence));
-            let _ = stream.set_write_timeout(Some(silence));
-            if let Err(fault) = serve_one(&mut edge, NUMBER, &mut stream, &mut clock, &mut rng) {
-                told.tell(rt, fault, err);
-            }
-            see_off(&mut stream);
-        }
-    }
-    Ok(())
+    Ok(ChaCha20Rng::from_seed(seed))
+}
+
+/// Sockets that listen at an address. It is told where.
+fn listening_sockets<R: Net + AllocGlobal, W: Write>(
+    rt: &R,
+    address: &str,
+    out: &mut W,
+) -> Result<MachineSockets, ListenFault>
+    ensures done { OnOk result (Announces (W.contents out.old) (W.contents out.new)) }
+{
+    let sockets = MachineSockets::listen(rt, rt.alloc(), address)?;
+    let Some(bound) = sockets.address() else {
+        return Err(ListenFault::NoSocket);
+    };
+    let Ok(()) = announce(out, bound) else {
+        return Err(ListenFault::Unwritten);
+    };
+    Ok(sockets)
+}
+
+/// Listens at an address, tells where, and serves up to 64 connections at once until the program is stopped, with draws by
+/// random bytes of the system. The fault of a connection ends that one alone, and is told to `err`, in at most one line a
+/// second. What it gives is why it can't go on.
+pub fn start<'r, 'e, R: Net + Clock + RandomSource + AllocGlobal, W: Write, E: Write>(
+    rt: &'r R,
+    address: &str,
+    registry: Registry,
+    patience: Patience,
+    out: &mut W,
+    err: &'e mut E,
+) -> Result<LoopFault, ListenFault>
+    ensures done { OnOk result (Announces (W.contents out.old) (W.contents out.new)) }
+    ensures serves { IfOk result (Serves (promises ⟦<MachineSockets as Sockets>⟧.does ⟦<MachineClocks<'r, R> as Clocks>⟧.tells ⟦<LineJournal<'e, E> as Journal>⟧.notes ⟦<Chain as HookHost>⟧) registry [] (limits_of patience)) }
+    ensures quiet { OnErr result (err.new ≡ err.old) }
+{
+    let generator = random_generator(rt)?;
+    let sockets = listening_sockets(rt, address, out)?;
+    let mut tools = Tools {
+        sockets,
+        edge: new_edge(rt.alloc(), registry),
+        clocks: MachineClocks(rt),
+        generator,
+        journal: LineJournal(err),
+    };
+    Ok(serve_all(&mut tools, patience.limits()))
 }

@@ -27,7 +27,8 @@ oauthd --version           prints the version
     oauthd --version
 
 The program ends with 0 where a command is done, 1 where a hook or an event is refused, 2
-where it is used badly, and 3 where memory is refused. A fault is one line on standard error.
+where it is used badly or a server can't go on, and 3 where memory is refused. A fault is one line on
+standard error.
 ";
 
 /// The version of the program, as it is printed.

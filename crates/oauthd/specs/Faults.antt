@@ -40,3 +40,4 @@ abbrev pub of_listening : ListenFault → PerformFault
 of_listening listen.NoSeed = NoSeed
 of_listening listen.NoSocket = CannotListen
 of_listening listen.Unwritten = CannotWrite
+of_listening listen.Memory = OutOfMemory

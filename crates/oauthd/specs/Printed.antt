@@ -8,13 +8,14 @@ use Rattle.hook_record.specs.declared.Narrowed.TheVariants.{Allowed, Denied, Emp
 use Rattle.insn.specs.FaultTexts.{insn_fault_text, verify_fault_text}
 use Rattle.clients.specs.FaultTexts.{config_fault_text}
 use Rattle.http_edge.specs.FaultTexts.{edge_fault_text}
+use Rattle.event_loop.specs.FaultTexts.{loop_fault_text}
 use Rattle.assembler.specs.declared.fault.AsmFault.{AsmFault}
 use Rattle.assembler.specs.Reports.{line_of_fault, name_of_fault}
 use Rattle.oauthd.specs.declared.judge.Judged.{Judged}
 use Rattle.oauthd.specs.declared.answer.Answer.{Answer}
 use Rattle.oauthd.specs.declared.answer.Answer.TheVariants as answers
 use Rattle.oauthd.specs.declared.fault.PerformFault.{PerformFault}
-use Rattle.oauthd.specs.declared.fault.PerformFault.TheVariants.{BadArguments, BadRecord, CannotRead, Text, Insn, Verify, Config, BadLine, Event, CannotListen, NoSeed, OutOfMemory, CannotWrite}
+use Rattle.oauthd.specs.declared.fault.PerformFault.TheVariants.{BadArguments, BadRecord, CannotRead, Text, Insn, Verify, Config, BadLine, Event, CannotListen, NoSeed, Stopped, OutOfMemory, CannotWrite}
 
 -- what is left of a grant, in words
 abbrev pub narrowed_text : Narrowed → List ℕ
@@ -51,6 +52,7 @@ fault_text (BadLine line) = codes "line " ++ decimal line ++ codes ": bad line"
 fault_text (Event line fault) = codes "line " ++ decimal line ++ codes ": " ++ edge_fault_text fault
 fault_text CannotListen = codes "cannot listen"
 fault_text NoSeed = codes "no random bytes"
+fault_text (Stopped fault) = codes "stopped: " ++ loop_fault_text fault
 fault_text OutOfMemory = codes "out of memory"
 fault_text CannotWrite = codes "cannot write"
 

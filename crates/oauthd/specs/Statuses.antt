@@ -3,7 +3,7 @@ use Rattle.std.specs.Prelude.{ℕ, Option, None, Result, Ok, Err}
 use Rattle.std.specs.declared.io.ErrorKind.{ErrorKind}
 use Rattle.std.specs.declared.io.ErrorKind.TheVariants as kinds
 use Rattle.oauthd.specs.declared.fault.PerformFault.{PerformFault}
-use Rattle.oauthd.specs.declared.fault.PerformFault.TheVariants.{BadArguments, BadRecord, CannotRead, Text, Insn, Verify, Config, BadLine, Event, CannotListen, NoSeed, OutOfMemory, CannotWrite}
+use Rattle.oauthd.specs.declared.fault.PerformFault.TheVariants.{BadArguments, BadRecord, CannotRead, Text, Insn, Verify, Config, BadLine, Event, CannotListen, NoSeed, Stopped, OutOfMemory, CannotWrite}
 use Rattle.oauthd.specs.declared.fault.Status.{Status}
 use Rattle.oauthd.specs.declared.fault.Status.TheVariants.{Done, Refused, BadUse, NoMemory}
 
@@ -27,6 +27,7 @@ status_of (BadLine line) = BadUse
 status_of (Event line fault) = Refused
 status_of CannotListen = BadUse
 status_of NoSeed = BadUse
+status_of (Stopped fault) = BadUse
 status_of OutOfMemory = NoMemory
 status_of CannotWrite = BadUse
 

@@ -9,6 +9,7 @@ ghost use Rattle.oauthd.specs.declared.fault.PerformFault.TheVariants.{OutOfMemo
 use assembler::AsmFault;
 use clients::ConfigFault;
 use daemon::ListenFault;
+use event_loop::LoopFault;
 use http_edge::EdgeFault;
 use insn::fault::InsnFault;
 use insn::verify_fault::VerifyFault;
@@ -63,6 +64,8 @@ pub enum PerformFault<'w> {
     CannotListen,
     /// The system gives no random bytes.
     NoSeed,
+    /// A server that served can't go on.
+    Stopped(LoopFault),
     /// Memory was refused.
     OutOfMemory,
     /// The answer could not be written.
@@ -86,6 +89,7 @@ impl<'w> PerformFault<'w> {
             | PerformFault::BadLine(_)
             | PerformFault::CannotListen
             | PerformFault::NoSeed
+            | PerformFault::Stopped(_)
             | PerformFault::CannotWrite => Status::BadUse,
             PerformFault::OutOfMemory => Status::NoMemory,
         }
@@ -108,6 +112,7 @@ impl<'w> Display for PerformFault<'w> {
             PerformFault::Event(line, fault) => write!(f, "line {line}: {fault}"),
             PerformFault::CannotListen => write!(f, "cannot listen"),
             PerformFault::NoSeed => write!(f, "no random bytes"),
+            PerformFault::Stopped(fault) => write!(f, "stopped: {fault}"),
             PerformFault::OutOfMemory => write!(f, "out of memory"),
             PerformFault::CannotWrite => write!(f, "cannot write"),
         }
@@ -195,6 +200,7 @@ impl<'w> From<ListenFault> for PerformFault<'w> {
             ListenFault::NoSeed => PerformFault::NoSeed,
             ListenFault::NoSocket => PerformFault::CannotListen,
             ListenFault::Unwritten => PerformFault::CannotWrite,
+            ListenFault::Memory => PerformFault::OutOfMemory,
         }
     }
 }

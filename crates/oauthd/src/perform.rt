@@ -1,9 +1,9 @@
 //! The program without its surroundings: words in, lines and a status out.
 
-ghost use Rattle.std.specs.Prelude.{◌≡◌, ◌⊎◌, OnOk, OnErr, IfOk, IfErr, IfSome};
+ghost use Rattle.std.specs.Prelude.{◌≡◌, ◌⊎◌, OnOk, IfOk, IfErr, IfSome};
 ghost use Rattle.std.specs.Io.KnownBytes.{Appends};
 ghost use Rattle.std.specs.Option.{option_copied};
-ghost use Rattle.oauthd.specs.Listening.{HasServed, ServesNothing, TellsNoService};
+ghost use Rattle.oauthd.specs.Listening.{HasServed, HasStopped, ServesNothing, TellsNoService, TellsStop};
 ghost use Rattle.oauthd.specs.Performed.{PrintsAnswer, TellsFault};
 ghost use Rattle.oauthd.specs.Printed.{answer_text, told_text};
 ghost use Rattle.oauthd.specs.Statuses.{code_of, status_of};
@@ -115,7 +115,7 @@ pub fn told<E: Write>(fault: PerformFault<'_>, err: &mut E) -> u8
     }
 }
 
-/// Serves as words say, until that is over.
+/// Serves as words say, until that is over, or can't go on.
 fn serve_as<'w, R: Net + Clock + RandomSource + AllocGlobal, W: Write, E: Write>(
     rt: &R,
     words: &'w [String],
@@ -124,8 +124,8 @@ fn serve_as<'w, R: Net + Clock + RandomSource + AllocGlobal, W: Write, E: Write>
     err: &mut E,
 ) -> Result<(), PerformFault<'w>>
     ensures done { OnOk result (HasServed words.now (option_copied file.entry) (W.contents out.old) (W.contents out.new)) }
-    ensures fault { IfErr result (ServesNothing words.now (option_copied file.entry)) }
-    ensures quiet { OnErr result (err.new ≡ err.old) }
+    ensures fault { IfErr result (λ fault. ((err.new ≡ err.old) × ServesNothing words.now (option_copied file.entry) fault)
+        ⊎ HasStopped words.now (option_copied file.entry) fault (W.contents out.old) (W.contents out.new)) }
 {
     let Prepared { service, registry } = prepare(rt.alloc(), words, file)?;
     let given = match service {
@@ -135,8 +135,8 @@ fn serve_as<'w, R: Net + Clock + RandomSource + AllocGlobal, W: Write, E: Write>
             return Ok(());
         }
     };
-    start(rt, given.address, registry, given.patience, out, err)?;
-    Ok(())
+    let fault = start(rt, given.address, registry, given.patience, out, err)?;
+    Err(PerformFault::Stopped(fault))
 }
 
 /// Serves as words say, and gives the program's exit status. `words` are those behind the program's name; `file` is what
@@ -151,7 +151,8 @@ pub fn perform_service<R: Net + Clock + RandomSource + AllocGlobal, W: Write, E:
     // Status 2 may be that of a fault that could not be told.
     ensures { (result ≡ code_of Status.BadUse)
         ⊎ ((result ≡ code_of Status.Done) × HasServed words.now (option_copied file.entry) (W.contents out.old) (W.contents out.new))
-        ⊎ TellsNoService words.now (option_copied file.entry) result (E.contents err.old) (E.contents err.new) }
+        ⊎ TellsNoService words.now (option_copied file.entry) result (E.contents err.old) (E.contents err.new)
+        ⊎ TellsStop words.now (option_copied file.entry) result (W.contents out.old) (W.contents out.new) (E.contents err.new) }
 {
     match serve_as(rt, words, file, out, err) {
         Ok(()) => Status::Done.code(),

@@ -3,7 +3,7 @@
 use crate::topic::Topic;
 
 /// What the faults mean that a command has however its files are.
-pub const USE_FAULTS: [Topic; 9] = [
+pub const USE_FAULTS: [Topic; 10] = [
     Topic {
         name: "bad arguments",
         text: "\
@@ -62,7 +62,13 @@ no random bytes: the system's source of random bytes fails. No connection was se
     Topic {
         name: "connection ended",
         text: "\
-connection ended: FAULT: a connection of start was closed before its client ended it. Read and Write are failures of its socket: mostly the client is gone, or was silent for too long. Clock is a clock that can't be read. Refused is an event that the server did not take, and is told with its name. The server goes on with the others.
+connection ended: FAULT: a connection of start was closed before its client ended it, or one could not be taken. Read and Write are failures of its socket: mostly the client is gone. Accept is one that was not taken, mostly for want of descriptors (ulimit -n); it is tried again. Refused is an event that the server did not take, and is told with its name. The server goes on with the others.
+",
+    },
+    Topic {
+        name: "stopped",
+        text: "\
+stopped: FAULT: start served, and can't go on. Wait is a wait for connections that fails, Clock is a clock of the machine that can't be read, and Rounds are more rounds than can be counted. All connections were closed. Start it again.
 ",
     },
     Topic {

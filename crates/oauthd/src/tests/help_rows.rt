@@ -53,6 +53,7 @@ fn each_command_and_each_fault_is_explained(rt: HostRuntime) -> Result<(), Fail>
         "cannot listen",
         "no random bytes",
         "connection ended",
+        "stopped",
         "out of memory",
         "UnknownWord",
         "BadOperand",

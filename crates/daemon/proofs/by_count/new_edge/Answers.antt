@@ -1,7 +1,3 @@
-use Rattle.std.proofs.Common.{[]}
-use Rattle.http_edge.specs.Reached.{Reached}
-use Rattle.http_edge.specs.Schedule.{start}
-use Rattle.hook_chain.specs.contracts.chain.ChainHookHost.TheImpl.{ghosts}
 use Rattle.daemon.proofs.by_count.new_edge.Goals as goal
 
 pub returns : goal.returns

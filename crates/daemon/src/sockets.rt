@@ -1,0 +1,218 @@
+//! The machine's sockets: a listener, and the connections at their places.
+
+ghost use Rattle.std.specs.Prelude.{◌≤◌, length};
+
+use crate::fault::ListenFault;
+use event_loop::{Accepted, PLACES, Ready, Received, Sent, Sockets};
+use mio::event::Event;
+use mio::net::{TcpListener, TcpStream};
+use mio::{Events, Interest, Poll, Token};
+use std::alloc::{AllocError, Global};
+use std::io::{ErrorKind, Read, Write};
+use std::net::{Net, Shutdown, SocketAddr, ToSocketAddrs};
+use std::time::Duration;
+
+/// The listener is told of under this number, and each connection under that of its place.
+const LISTENER: Token = Token(PLACES as usize);
+
+/// So much may be told at once: of the listener, and of each connection.
+const TOLD_LIMIT: usize = PLACES as usize + 1;
+
+/// So often is a call made that the system breaks off.
+const TRIES: u32 = 16;
+
+/// So many pieces are read of a connection that is seen off.
+const LAST_PIECES: u32 = 64;
+
+/// A listener and the connections at their places, and what tells of them.
+#[derive(Drop)]
+pub struct MachineSockets {
+    poll: Poll,
+    events: Events,
+    listener: TcpListener,
+    streams: Vec<Option<TcpStream>>,
+}
+
+/// A listener at the first of the addresses that a text names at which there can be one.
+fn listener_at<R: Net>(rt: &R, address: &str) -> Option<TcpListener> {
+    for each in address.to_socket_addrs(rt).ok()? {
+        if let Ok(listener) = TcpListener::bind(rt, each) {
+            return Some(listener);
+        }
+    }
+    None
+}
+
+/// So many places without a connection.
+fn free_places(alloc: Global) -> Result<Vec<Option<TcpStream>>, AllocError> {
+    let mut places = Vec::with_capacity(alloc, PLACES as usize)?;
+    for _ in 0..PLACES {
+        places.push(None)?;
+    }
+    Ok(places)
+}
+
+/// What an event tells.
+fn ready_by(event: &Event) -> Ready {
+    let is_over = event.is_error() || event.is_read_closed();
+    match u32::try_from(event.token().0) {
+        Ok(place) if place < PLACES => Ready::Connection {
+            place,
+            readable: event.is_readable() || is_over,
+            writable: event.is_writable(),
+            hung: is_over,
+        },
+        _ => Ready::Listener,
+    }
+}
+
+/// Lets a client have what was written to it. A socket that is closed before all of its bytes are read takes back what
+/// its client has not read, so they are read here, as far as they have come, and dropped.
+fn see_off(mut stream: TcpStream) {
+    let _ = stream.shutdown(Shutdown::Write);
+    let mut buffer = [0; 2048];
+    for _ in 0..LAST_PIECES {
+        let Ok(count) = stream.read(&mut buffer) else {
+            return;
+        };
+        if count == 0 {
+            return;
+        }
+    }
+}
+
+impl MachineSockets {
+    /// Listens at an address.
+    pub fn listen<R: Net>(
+        rt: &R,
+        alloc: Global,
+        address: &str,
+    ) -> Result<MachineSockets, ListenFault> {
+        let events = Events::with_capacity(alloc, TOLD_LIMIT)?;
+        let streams = free_places(alloc)?;
+        let Some(mut listener) = listener_at(rt, address) else {
+            return Err(ListenFault::NoSocket);
+        };
+        let Ok(poll) = Poll::new(rt) else {
+            return Err(ListenFault::NoSocket);
+        };
+        let Ok(()) = poll
+            .registry()
+            .register(&mut listener, LISTENER, Interest::READABLE)
+        else {
+            return Err(ListenFault::NoSocket);
+        };
+        Ok(MachineSockets {
+            poll,
+            events,
+            listener,
+            streams,
+        })
+    }
+
+    /// Where it listens.
+    pub fn address(&self) -> Option<SocketAddr> {
+        self.listener.local_addr().ok()
+    }
+
+    // Puts a connection at its place.
+    fn seat(&mut self, mut stream: TcpStream, place: u32) -> Accepted {
+        let _ = stream.set_nodelay(true);
+        let both = Interest::READABLE | Interest::WRITABLE;
+        let token = Token(place as usize);
+        let Ok(()) = self.poll.registry().register(&mut stream, token, both) else {
+            return Accepted::Failed;
+        };
+        let Some(held) = self.streams.get_mut(place as usize) else {
+            return Accepted::Failed;
+        };
+        *held = Some(stream);
+        Accepted::Taken
+    }
+}
+
+impl Sockets for MachineSockets {
+    // The system promises nothing.
+    ghost does = { λ _ _ _. Unit {0} };
+
+    fn wait(&mut self, limit: Option<u64>, found: &mut [Ready]) -> Option<usize> {
+        let timeout = limit.map(Duration::from_millis);
+        let Ok(()) = self.poll.poll(&mut self.events, timeout) else {
+            return None;
+        };
+        let mut count = 0;
+        for event in self.events.iter() {
+            if count < found.len() {
+                found[count] = ready_by(event);
+                count += 1;
+            }
+        }
+        Some(count)
+    }
+
+    fn ask(&mut self) {
+        let _ = self
+            .poll
+            .registry()
+            .reregister(&mut self.listener, LISTENER, Interest::READABLE);
+    }
+
+    fn accept(&mut self, place: u32) -> Accepted {
+        for _ in 0..TRIES {
+            match self.listener.accept() {
+                Ok((stream, _)) => return self.seat(stream, place),
+                Err(error) => match error.kind() {
+                    ErrorKind::WouldBlock => return Accepted::Later,
+                    ErrorKind::Interrupted | ErrorKind::ConnectionAborted => {}
+                    _ => return Accepted::Failed,
+                },
+            }
+        }
+        Accepted::Failed
+    }
+
+    fn read(&mut self, place: u32, buffer: &mut [u8]) -> Received {
+        let Some(Some(stream)) = self.streams.get_mut(place as usize) else {
+            return Received::Failed;
+        };
+        for _ in 0..TRIES {
+            match stream.read(buffer) {
+                Ok(0) => return Received::End,
+                Ok(count) => return Received::Bytes(count),
+                Err(error) => match error.kind() {
+                    ErrorKind::WouldBlock => return Received::Later,
+                    ErrorKind::Interrupted => {}
+                    _ => return Received::Failed,
+                },
+            }
+        }
+        Received::Failed
+    }
+
+    fn write(&mut self, place: u32, bytes: &[u8]) -> Sent {
+        let Some(Some(stream)) = self.streams.get_mut(place as usize) else {
+            return Sent::Failed;
+        };
+        for _ in 0..TRIES {
+            match stream.write(bytes) {
+                Ok(0) => return Sent::Failed,
+                Ok(count) => return Sent::Bytes(count),
+                Err(error) => match error.kind() {
+                    ErrorKind::WouldBlock => return Sent::Later,
+                    ErrorKind::Interrupted => {}
+                    _ => return Sent::Failed,
+                },
+            }
+        }
+        Sent::Failed
+    }
+
+    fn close(&mut self, place: u32) {
+        let Some(held) = self.streams.get_mut(place as usize) else {
+            return;
+        };
+        if let Some(stream) = held.take() {
+            see_off(stream);
+        }
+    }
+}
