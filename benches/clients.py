@@ -1,8 +1,10 @@
 """Clients for the scripts of this folder.
 
 tokens HOST:PORT CREDENTIALS COUNT: asks for so many tokens of a client on its own, eight at once over one connection.
+idle COUNT HOST:PORT..: opens so many connections to each, says so, and keeps them until a signal ends it.
 """
 
+import signal
 import socket
 import sys
 
@@ -43,5 +45,12 @@ def tokens(at, credentials, count):
     return 1 if refused else 0
 
 
+def idle(count, *ats):
+    connections = [connect(at) for at in ats for _ in range(int(count))]
+    print(f"{len(connections)} idle", flush=True)
+    signal.pause()
+    return 0
+
+
 if __name__ == "__main__":
-    sys.exit({"tokens": tokens}[sys.argv[1]](*sys.argv[2:]))
+    sys.exit({"tokens": tokens, "idle": idle}[sys.argv[1]](*sys.argv[2:]))

@@ -1,11 +1,11 @@
 #!/usr/bin/env bash
 # Where the time of a /token request goes: the server's user and system time a request, with one connection, and the shares
-# of the parts of its user time, by perf. Takes a quarter of a minute. A word says how many seconds are looked at (8).
+# of the parts of its user time, by perf. Takes a quarter of a minute. A word says how many seconds each of the two looks takes (6).
 # It wants Debian's packages wrk and linux-perf, as root or with /proc/sys/kernel/perf_event_paranoid at most 1, and the
 # program: (cd crates/oauthd && rt run -- help). The variable OAUTHD names another program.
 program=$(realpath -m "${OAUTHD:-$(dirname "$0")/../crates/oauthd/out/oauthd}")
 cd "$(dirname "$0")/.." || exit 2
-seconds=${1:-8}
+seconds=${1:-6}
 [ -x "$program" ] || { echo "there is no $program: run 'rt run -- help' in crates/oauthd first"; exit 2; }
 command -v wrk >/dev/null || { echo "there is no wrk: apt-get install wrk"; exit 2; }
 command -v perf >/dev/null || { echo "there is no perf: apt-get install linux-perf"; exit 2; }
@@ -29,19 +29,27 @@ ticks() {
     sed 's/.*) //' "/proc/$server/stat" | cut -d ' ' -f 12,13
 }
 
+# load: requests for so many seconds
+load() {
+    wrk -t1 -c1 -d"$seconds" -s benches/requests.lua "http://$at" -- 1 /token "$(printf 'bot:b0t' | base64)" \
+        grant_type=client_credentials >"$room/wrk"
+    requests=$(sed -nE 's/^ *([0-9]+) requests in.*/\1/p' "$room/wrk")
+    [ -n "$requests" ] && ! grep -q Non-2xx "$room/wrk" || { echo 'NOT all were answered 200:'; cat "$room/wrk"; exit 1; }
+}
+
 read -r user_before system_before < <(ticks)
-wrk -t1 -c1 -d"$seconds" -s benches/requests.lua "http://$at" -- 1 /token "$(printf 'bot:b0t' | base64)" \
-    grant_type=client_credentials >"$room/wrk" &
-loading=$!
-perf record -q -e cpu-clock:u -F 2000 -p "$server" -o "$room/perf" -- sleep "$seconds" 2>"$room/perf.err"
-wait $loading
+load
 read -r user_after system_after < <(ticks)
-requests=$(sed -nE 's/^ *([0-9]+) requests in.*/\1/p' "$room/wrk")
-[ -n "$requests" ] && ! grep -q Non-2xx "$room/wrk" || { echo 'NOT all were answered 200:'; cat "$room/wrk"; exit 1; }
 awk -v n="$requests" -v tick="$(getconf CLK_TCK)" -v user=$((user_after - user_before)) \
     -v system_time=$((system_after - system_before)) 'BEGIN {
     printf "%d requests, each with %.2f microseconds of user time and %.2f of system time\n",
         n, user / tick / n * 1e6, system_time / tick / n * 1e6 }'
+
+# the shares are looked at by themselves: perf takes its own part of the time
+perf record -q -e cpu-clock:u -F 2000 -p "$server" -o "$room/perf" -- sleep "$seconds" 2>"$room/perf.err" &
+looking=$!
+load
+wait $looking
 
 # what a symbol belongs to: the first part of its path, or its name
 cat >"$room/parts" <<'PARTS'
