@@ -7,7 +7,7 @@ use endpoints::{Moment, Server};
 use hook_chain::Chain;
 use http::StatusCode;
 use pkce::token_text;
-use requests::{Draws, Request};
+use messages::{Draws, Request};
 use std::alloc::{AllocError, Global};
 use std::io;
 use std::time::Instant;

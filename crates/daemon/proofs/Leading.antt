@@ -1,6 +1,6 @@
 -- An edge that is led on from where it was reached.
 use Rattle.std.proofs.Common.{List, [], ◌++◌, sym, subst, append-nil, append_assoc}
-use Rattle.hook_chain.specs.declared.host.HookHost.{Ghosts as Hosting}
+use Rattle.hook_host.specs.declared.host.HookHost.{Ghosts as Hosting}
 use Rattle.clients.specs.RegistryRecord.{RegistryRecord}
 use Rattle.http_edge.specs.Edges.{SeenEdge}
 use Rattle.http_edge.specs.Reached.{Reached}

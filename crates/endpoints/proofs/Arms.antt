@@ -13,16 +13,16 @@ use Rattle.consent.specs.Growth.{is_consent}
 use Rattle.consent.specs.GrowthLaws.{with_changes-cons}
 use Rattle.consent.specs.declared.parties.Parties.{Parties}
 use Rattle.grant_store.specs.Kept.{Kept}
-use Rattle.hook_chain.specs.declared.fault.HookFault.{HookFault}
-use Rattle.hook_chain.specs.declared.fault.HookFault.TheVariants as hook
-use Rattle.requests.specs.Asked.{Asked}
-use Rattle.requests.specs.Target.{query_of}
-use Rattle.replies.specs.Written.{Written}
-use Rattle.replies.specs.Reply.{plain}
-use Rattle.replies.specs.Reply.Body.{Hooks}
-use Rattle.replies.specs.declared.error.ErrorName.TheVariants.{InvalidRequest, InvalidScope, AccessDenied}
-use Rattle.points.specs.Outcomes.{Outcome, point, need, only, refuse, unavailable, chosen}
-use Rattle.points.specs.Requesters.{Parameters, KnownClient, form_of, owner_of, client_named, scope_asked}
+use Rattle.hook_host.specs.declared.fault.HookFault.{HookFault}
+use Rattle.hook_host.specs.declared.fault.HookFault.TheVariants as hook
+use Rattle.messages.specs.Asked.{Asked}
+use Rattle.messages.specs.Target.{query_of}
+use Rattle.messages.specs.Written.{Written}
+use Rattle.messages.specs.Reply.{plain}
+use Rattle.messages.specs.Reply.Body.{Hooks}
+use Rattle.messages.specs.declared.error.ErrorName.TheVariants.{InvalidRequest, InvalidScope, AccessDenied}
+use Rattle.grants.specs.Outcomes.{Outcome, point, need, only, refuse, unavailable, chosen}
+use Rattle.grants.specs.Requesters.{Parameters, KnownClient, form_of, owner_of, client_named, scope_asked}
 use Rattle.grants.specs.Done.{IsConsentDone}
 use Rattle.endpoints.specs.Hosts.{HostStep, HostRun}
 use Rattle.endpoints.specs.ConsentPath.{give_consent, consent_points, consent_given}

@@ -7,9 +7,9 @@ use Rattle.insn.specs.declared.fault.InsnFault.TheVariants as insn
 use Rattle.insn.specs.declared.verify_fault.VerifyFault.{VerifyFault}
 use Rattle.insn.specs.declared.verify_fault.VerifyFault.TheVariants as verify
 use Rattle.insn.specs.FaultTexts.{at_slot, insn_fault_text, verify_fault_text}
-use Rattle.hook_chain.specs.declared.fault.HookFault.{HookFault}
-use Rattle.hook_chain.specs.declared.fault.HookFault.TheVariants.{Insn, Verify, NameTaken, BadName, Full, Unknown, Memory}
-use Rattle.hook_chain.specs.Faults.{hook_fault_text}
+use Rattle.hook_host.specs.declared.fault.HookFault.{HookFault}
+use Rattle.hook_host.specs.declared.fault.HookFault.TheVariants.{Insn, Verify, NameTaken, BadName, Full, Unknown, Memory}
+use Rattle.hook_host.specs.Faults.{hook_fault_text}
 
 -- the slot that the fault names: 0 where it names none
 abbrev pub insn_slot : InsnFault → ℕ

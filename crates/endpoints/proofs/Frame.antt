@@ -6,10 +6,10 @@ use Rattle.consent.specs.History.{Event, with_changes}
 use Rattle.grant_store.specs.Fits.{FitsStore}
 use Rattle.hook_record.specs.declared.Ask.{Ask}
 use Rattle.hook_record.specs.declared.Narrowed.{Narrowed}
-use Rattle.hook_chain.specs.declared.fault.HookFault.{HookFault}
-use Rattle.requests.specs.declared.request.Draws.{Draws}
-use Rattle.requests.specs.Asked.{Asked}
-use Rattle.requests.specs.Target.{path_of}
+use Rattle.hook_host.specs.declared.fault.HookFault.{HookFault}
+use Rattle.messages.specs.declared.request.Draws.{Draws}
+use Rattle.messages.specs.Asked.{Asked}
+use Rattle.messages.specs.Target.{path_of}
 use Rattle.std.specs.Prelude.{bytes_eq, Option, Some}
 use Rattle.endpoints.specs.declared.endpoint.Endpoint.{Endpoint}
 use Rattle.endpoints.specs.Paths.{endpoint_at, method_at}
@@ -19,8 +19,8 @@ use Rattle.consent.specs.Consents.{FitsConsents}
 use Rattle.consent.specs.declared.parties.Parties.{Parties}
 use Rattle.grant_store.specs.Kept.{Kept}
 use Rattle.grant_store.specs.FitsLaws.{fits_later}
-use Rattle.replies.specs.Written.{Written, written}
-use Rattle.points.specs.Outcomes.{Outcome, bare, chosen}
+use Rattle.messages.specs.Written.{Written, written}
+use Rattle.grants.specs.Outcomes.{Outcome, bare, chosen}
 use Rattle.grants.specs.Done.{IsDone, IsUndone}
 use Rattle.endpoints.specs.Hosts.{HostRun, IsHostFault}
 use Rattle.endpoints.specs.Server.{Seen, FitsServer, IsStep}

@@ -6,17 +6,17 @@ use Rattle.sha2.specs.Sha256.{sha256}
 use Rattle.pkce.specs.Token.{token_text}
 use Rattle.params.specs.Form.{read_params, value_of}
 use Rattle.params.specs.FormLaws.{length-value_of}
-use Rattle.requests.specs.Target.{query_of}
+use Rattle.messages.specs.Target.{query_of}
 use Rattle.consent.specs.History.{Event, with_change}
 use Rattle.grant_store.specs.declared.facts.CodeFacts.{CodeFacts}
 use Rattle.grant_store.specs.Kept.{Kept}
 use Rattle.grant_store.specs.Fits.{FitsStore, code_given, refusal}
-use Rattle.replies.specs.Reply.{sent_back}
-use Rattle.replies.specs.declared.error.ErrorName.{ErrorName}
-use Rattle.replies.specs.declared.error.ErrorName.TheVariants.{InvalidRequest, InvalidClient, InvalidGrant, InvalidScope, UnauthorizedClient, UnsupportedGrantType, UnsupportedResponseType, AccessDenied}
-use Rattle.replies.specs.Written.{Written, written, error_text}
-use Rattle.replies.specs.SmallLaws.{small_sent_back}
-use Rattle.points.specs.Requesters.{Parameters}
+use Rattle.messages.specs.Reply.{sent_back}
+use Rattle.messages.specs.declared.error.ErrorName.{ErrorName}
+use Rattle.messages.specs.declared.error.ErrorName.TheVariants.{InvalidRequest, InvalidClient, InvalidGrant, InvalidScope, UnauthorizedClient, UnsupportedGrantType, UnsupportedResponseType, AccessDenied}
+use Rattle.messages.specs.Written.{Written, written, error_text}
+use Rattle.messages.specs.SmallLaws.{small_sent_back}
+use Rattle.grants.specs.Requesters.{Parameters}
 use Rattle.endpoints.specs.Authorize.{state_of}
 use Rattle.endpoints.specs.CodeSteps.{HasShortState, code_by}
 use Rattle.grants.specs.Done.{IsDone, IsShort}

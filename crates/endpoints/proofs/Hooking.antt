@@ -8,15 +8,15 @@ use Rattle.insn.specs.declared.layout.Layout.{Layout}
 use Rattle.consent.specs.History.{Change, Event, event_at, with_change, with_changes}
 use Rattle.consent.specs.History.Change.{HookGone}
 use Rattle.consent.specs.GrowthLaws.{with_changes-cons}
-use Rattle.hook_chain.specs.declared.fault.HookFault.{HookFault}
-use Rattle.requests.specs.Asked.{Asked}
-use Rattle.requests.specs.Target.{query_of}
-use Rattle.replies.specs.declared.error.ErrorName.TheVariants.{InvalidRequest, AccessDenied}
-use Rattle.replies.specs.Reply.{plain}
-use Rattle.replies.specs.Reply.Body.{Empty}
-use Rattle.replies.specs.Written.{Written}
-use Rattle.points.specs.Outcomes.{Outcome, point, need, refuse, chosen}
-use Rattle.points.specs.Requesters.{Parameters, form_of, with_form}
+use Rattle.hook_host.specs.declared.fault.HookFault.{HookFault}
+use Rattle.messages.specs.Asked.{Asked}
+use Rattle.messages.specs.Target.{query_of}
+use Rattle.messages.specs.declared.error.ErrorName.TheVariants.{InvalidRequest, AccessDenied}
+use Rattle.messages.specs.Reply.{plain}
+use Rattle.messages.specs.Reply.Body.{Empty}
+use Rattle.messages.specs.Written.{Written}
+use Rattle.grants.specs.Outcomes.{Outcome, point, need, refuse, chosen}
+use Rattle.grants.specs.Requesters.{Parameters, form_of, with_form}
 use Rattle.grants.specs.Done.{IsUndone}
 use Rattle.endpoints.specs.Hosts.{HostRun, HostSteps, IsHooked}
 use Rattle.endpoints.specs.HookPaths.{by_fault, hook_set, with_operator, install_hook, remove_hook}

@@ -15,8 +15,8 @@ use Rattle.consent.specs.ConsentLaws.{fits_consents-changes_other}
 use Rattle.consent.specs.declared.parties.Parties.{Parties}
 use Rattle.grant_store.specs.Kept.{Kept, kept_at}
 use Rattle.grant_store.specs.Fits.{FitsStore, seen}
-use Rattle.replies.specs.Written.{Written, written}
-use Rattle.points.specs.Outcomes.{Outcome, chosen, point, need, refuse, unavailable}
+use Rattle.messages.specs.Written.{Written, written}
+use Rattle.grants.specs.Outcomes.{Outcome, chosen, point, need, refuse, unavailable}
 use Rattle.grants.specs.Done.{IsDone}
 use Rattle.endpoints.specs.Hosts.{HostStep, HostSteps, HostRun, IsHooked}
 use Rattle.endpoints.specs.Server.{Seen, FitsServer, IsStep}

@@ -4,10 +4,10 @@ use Rattle.std.specs.Prelude.{slice_get}
 use Rattle.std.proofs.lemmas.List.{map-append}
 use Rattle.std.proofs.Math.Seq.{take-suc}
 use Rattle.std.proofs.lemmas.Option.{slice_get_cases, slice_get_within, get_or_from_slice_get}
-use Rattle.hook_chain.specs.Names.{AreHookNames}
-use Rattle.replies.specs.Reply.{plain}
-use Rattle.replies.specs.Reply.Body.{Hooks}
-use Rattle.replies.specs.Small.{IsSmall}
+use Rattle.hook_host.specs.Names.{AreHookNames}
+use Rattle.messages.specs.Reply.{plain}
+use Rattle.messages.specs.Reply.Body.{Hooks}
+use Rattle.messages.specs.Small.{IsSmall}
 use native.Mathlib.Numerals.{unary_clauses}
 
 pub map_push : (items : List (Bor (List ℕ))) (name : Bor (List ℕ)) →

@@ -8,10 +8,10 @@ use Rattle.consent.specs.Consents.{FitsConsents}
 use Rattle.consent.specs.declared.parties.Parties.{Parties}
 use Rattle.grant_store.specs.Kept.{Kept}
 use Rattle.grant_store.specs.Fits.{FitsStore}
-use Rattle.replies.specs.Reply.{plain}
-use Rattle.replies.specs.Reply.Body.{Consent}
-use Rattle.replies.specs.Written.{Written, written}
-use Rattle.points.specs.Outcomes.{Outcome}
+use Rattle.messages.specs.Reply.{plain}
+use Rattle.messages.specs.Reply.Body.{Consent}
+use Rattle.messages.specs.Written.{Written, written}
+use Rattle.grants.specs.Outcomes.{Outcome}
 use Rattle.endpoints.specs.ConsentPath.{consent_given}
 use Rattle.grants.specs.Done.{IsUndone, IsConsentDone, IsShort}
 use Rattle.grants.specs.DoneLaws.{undone_done}

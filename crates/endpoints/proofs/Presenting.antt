@@ -9,14 +9,14 @@ use Rattle.clients.specs.RegistryRecord.{RegistryRecord}
 use Rattle.clients.specs.ClientRecord.{ClientRecord}
 use Rattle.clients.specs.Clients.{client_at}
 use Rattle.clients.specs.Authentication.{authenticated}
-use Rattle.requests.specs.Asked.{Asked}
+use Rattle.messages.specs.Asked.{Asked}
 use Rattle.consent.specs.History.Change.{FamilyEnded}
-use Rattle.replies.specs.declared.error.ErrorName.TheVariants.{InvalidGrant, InvalidRequest}
-use Rattle.replies.specs.Reply.{plain}
-use Rattle.replies.specs.Reply.Body.{Empty, Active}
-use Rattle.replies.specs.Written.{Written, written}
-use Rattle.points.specs.Outcomes.{Outcome, need, refuse, unavailable, chosen}
-use Rattle.points.specs.Requesters.{Parameters, KnownClient, known_client, with_form, with_client}
+use Rattle.messages.specs.declared.error.ErrorName.TheVariants.{InvalidGrant, InvalidRequest}
+use Rattle.messages.specs.Reply.{plain}
+use Rattle.messages.specs.Reply.Body.{Empty, Active}
+use Rattle.messages.specs.Written.{Written, written}
+use Rattle.grants.specs.Outcomes.{Outcome, need, refuse, unavailable, chosen}
+use Rattle.grants.specs.Requesters.{Parameters, KnownClient, known_client, with_form, with_client}
 use Rattle.grants.specs.Done.{IsUndone}
 use Rattle.endpoints.specs.Introspect.{told}
 use Rattle.endpoints.specs.Revoke.{revoked}
@@ -25,7 +25,7 @@ use Rattle.consent.specs.declared.grant.TokenKind.{TokenKind}
 use Rattle.consent.specs.declared.grant.Kind.{Kind}
 use Rattle.consent.specs.declared.grant.Kind.TheVariants.{Code, Token}
 use Rattle.grant_store.specs.Views.{token_of, token_in}
-use Rattle.points.specs.Texts.{where_passes, digest_told}
+use Rattle.grants.specs.Texts.{where_passes, digest_told}
 use Rattle.endpoints.specs.Presented.{with_presented, live_of, IsTold}
 
 kept_if : (b : Bool) (x g : Grant) → (if b then Some x else None) ≡ Some g → Some x ≡ Some g

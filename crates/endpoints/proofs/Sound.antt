@@ -8,11 +8,11 @@ use Rattle.consent.specs.History.{Event, Change, Grant, event_at, grant_by, gran
 use Rattle.consent.specs.History.Change.{Consented, CodeGiven, Issued, Spent, FamilyEnded, HookSet, HookGone}
 use Rattle.consent.specs.GrowthLaws.{code_terms-keep, has_ended-push_other}
 use Rattle.consent.specs.HistoryLaws.{grant_at-given}
-use Rattle.points.specs.Outcomes.{status_of, Outcome, point, need, only, refuse, unless_taken, unavailable}
-use Rattle.replies.specs.Reply.{Reply, plain}
-use Rattle.replies.specs.Reply.Body.{Failure}
-use Rattle.replies.specs.declared.error.ErrorName.{ErrorName}
-use Rattle.replies.specs.declared.error.ErrorName.TheVariants.{InvalidRequest, InvalidGrant, InvalidScope}
+use Rattle.grants.specs.Outcomes.{status_of, Outcome, point, need, only, refuse, unless_taken, unavailable}
+use Rattle.messages.specs.Reply.{Reply, plain}
+use Rattle.messages.specs.Reply.Body.{Failure}
+use Rattle.messages.specs.declared.error.ErrorName.{ErrorName}
+use Rattle.messages.specs.declared.error.ErrorName.TheVariants.{InvalidRequest, InvalidGrant, InvalidScope}
 use Rattle.params.specs.Form.{value_of}
 use Rattle.grants.specs.Exchange.{ends_family}
 use Rattle.endpoints.specs.Bounded.{IsRight, AllRight, IsOfCode, allowed_to}
@@ -24,11 +24,11 @@ use Rattle.grant_store.specs.Views.{is_refresh}
 use Rattle.hook_record.specs.declared.Ask.{Ask}
 use Rattle.hook_record.specs.declared.Narrowed.{Narrowed}
 use Rattle.hook_record.specs.declared.Narrowed.TheVariants.{Allowed, Denied, EmptyScope}
-use Rattle.hook_chain.specs.Decisions.{met_with}
-use Rattle.hook_chain.specs.DecisionLaws.{met_with_narrows}
-use Rattle.requests.specs.declared.request.Draws.{Draws}
-use Rattle.points.specs.Requesters.{Parameters, KnownClient, scope_asked, scope_within}
-use Rattle.points.specs.Texts.{where_passes, digest_told}
+use Rattle.hook_host.specs.Decisions.{met_with}
+use Rattle.hook_host.specs.DecisionLaws.{met_with_narrows}
+use Rattle.messages.specs.declared.request.Draws.{Draws}
+use Rattle.grants.specs.Requesters.{Parameters, KnownClient, scope_asked, scope_within}
+use Rattle.grants.specs.Texts.{where_passes, digest_told}
 use Rattle.grants.specs.Tokens.{is_own, refresh_of_client}
 use Rattle.grants.specs.Grants.{left_of, access_issued, refresh_issued, both_reply, both_digests}
 use Rattle.grants.specs.Refresh.{rotated, refreshed, refresh, refresh_ask, checked, token_points, use_points}

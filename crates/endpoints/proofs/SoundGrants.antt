@@ -17,16 +17,16 @@ use Rattle.consent.specs.declared.grant.Kind.TheVariants.{Code, Token}
 use Rattle.hook_record.specs.declared.Ask.{Ask}
 use Rattle.hook_record.specs.declared.Narrowed.{Narrowed}
 use Rattle.hook_record.specs.declared.Narrowed.TheVariants.{Allowed, Denied, EmptyScope}
-use Rattle.hook_chain.specs.Decisions.{met_with}
-use Rattle.hook_chain.specs.DecisionLaws.{met_with_narrows}
-use Rattle.requests.specs.declared.request.Draws.{Draws}
-use Rattle.replies.specs.declared.error.ErrorName.{ErrorName}
-use Rattle.replies.specs.declared.error.ErrorName.TheVariants.{InvalidRequest, InvalidGrant, InvalidScope, UnauthorizedClient}
-use Rattle.points.specs.Outcomes.{Outcome, point, need, refuse}
-use Rattle.replies.specs.Reply.{plain}
-use Rattle.replies.specs.Reply.Body.{Failure}
+use Rattle.hook_host.specs.Decisions.{met_with}
+use Rattle.hook_host.specs.DecisionLaws.{met_with_narrows}
+use Rattle.messages.specs.declared.request.Draws.{Draws}
+use Rattle.messages.specs.declared.error.ErrorName.{ErrorName}
+use Rattle.messages.specs.declared.error.ErrorName.TheVariants.{InvalidRequest, InvalidGrant, InvalidScope, UnauthorizedClient}
+use Rattle.grants.specs.Outcomes.{Outcome, point, need, refuse}
+use Rattle.messages.specs.Reply.{plain}
+use Rattle.messages.specs.Reply.Body.{Failure}
 use Rattle.endpoints.specs.Bounded.{IsRight, AllRight, IsOfCode, allowed_to}
-use Rattle.points.specs.Requesters.{Parameters, scope_asked}
+use Rattle.grants.specs.Requesters.{Parameters, scope_asked}
 use Rattle.grants.specs.Grants.{left_of, access_issued, refresh_issued, access_reply, both_reply, both_digests}
 use Rattle.grants.specs.Exchange.{exchanged, exchanged_for}
 use Rattle.grants.specs.ClientCredentials.{granted, client_credentials, credentials_ask}

@@ -14,15 +14,15 @@ use Rattle.clients.specs.Grants.{has_grant}
 use Rattle.clients.specs.declared.grant.GrantType.TheVariants.{AuthorizationCode}
 use Rattle.consent.specs.History.{Event, Grant, is_within, consented_scope}
 use Rattle.consent.specs.History.Change.{CodeGiven, FamilyEnded}
-use Rattle.requests.specs.Asked.{Asked}
-use Rattle.requests.specs.Target.{query_of}
-use Rattle.replies.specs.declared.error.ErrorName.{ErrorName}
-use Rattle.replies.specs.declared.error.ErrorName.TheVariants.{InvalidRequest, InvalidGrant, InvalidScope, UnauthorizedClient, UnsupportedResponseType, AccessDenied}
-use Rattle.replies.specs.Reply.{plain, sent_back}
-use Rattle.replies.specs.Reply.Body.{Failure, Empty}
-use Rattle.points.specs.Outcomes.{Outcome, status_of, point, need, only, refuse, unavailable}
-use Rattle.points.specs.Requesters.{Parameters, KnownClient, known_client, client_named, owner_of, scope_within}
-use Rattle.points.specs.Texts.{where_passes}
+use Rattle.messages.specs.Asked.{Asked}
+use Rattle.messages.specs.Target.{query_of}
+use Rattle.messages.specs.declared.error.ErrorName.{ErrorName}
+use Rattle.messages.specs.declared.error.ErrorName.TheVariants.{InvalidRequest, InvalidGrant, InvalidScope, UnauthorizedClient, UnsupportedResponseType, AccessDenied}
+use Rattle.messages.specs.Reply.{plain, sent_back}
+use Rattle.messages.specs.Reply.Body.{Failure, Empty}
+use Rattle.grants.specs.Outcomes.{Outcome, status_of, point, need, only, refuse, unavailable}
+use Rattle.grants.specs.Requesters.{Parameters, KnownClient, known_client, client_named, owner_of, scope_within}
+use Rattle.grants.specs.Texts.{where_passes}
 use Rattle.endpoints.specs.Bounded.{AllRight, allowed_to}
 use Rattle.grants.specs.Tokens.{live_token}
 use Rattle.endpoints.specs.Authorize.{authorize, authorize_known, challenge_sent, code_given, state_of, turned_back}

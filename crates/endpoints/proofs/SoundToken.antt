@@ -21,19 +21,19 @@ use Rattle.consent.specs.declared.grant.Kind.TheVariants.{Code, Token}
 use Rattle.hook_record.specs.declared.Ask.{Ask}
 use Rattle.hook_record.specs.declared.Narrowed.{Narrowed}
 use Rattle.hook_record.specs.declared.Narrowed.TheVariants.{Allowed, Denied, EmptyScope}
-use Rattle.hook_chain.specs.Decisions.{met_with}
-use Rattle.hook_chain.specs.DecisionLaws.{met_with_narrows}
-use Rattle.requests.specs.declared.request.Draws.{Draws}
-use Rattle.replies.specs.declared.error.ErrorName.{ErrorName}
-use Rattle.replies.specs.declared.error.ErrorName.TheVariants.{InvalidRequest, InvalidGrant, InvalidScope, UnauthorizedClient, UnsupportedGrantType}
-use Rattle.requests.specs.Asked.{Asked}
-use Rattle.points.specs.Outcomes.{status_of, Outcome, point, need, refuse, unavailable, chosen}
-use Rattle.replies.specs.Reply.{plain}
-use Rattle.replies.specs.Reply.Body.{Failure, Empty}
+use Rattle.hook_host.specs.Decisions.{met_with}
+use Rattle.hook_host.specs.DecisionLaws.{met_with_narrows}
+use Rattle.messages.specs.declared.request.Draws.{Draws}
+use Rattle.messages.specs.declared.error.ErrorName.{ErrorName}
+use Rattle.messages.specs.declared.error.ErrorName.TheVariants.{InvalidRequest, InvalidGrant, InvalidScope, UnauthorizedClient, UnsupportedGrantType}
+use Rattle.messages.specs.Asked.{Asked}
+use Rattle.grants.specs.Outcomes.{status_of, Outcome, point, need, refuse, unavailable, chosen}
+use Rattle.messages.specs.Reply.{plain}
+use Rattle.messages.specs.Reply.Body.{Failure, Empty}
 use Rattle.endpoints.specs.Bounded.{AllRight, allowed_to}
-use Rattle.points.specs.Requesters.{Parameters, KnownClient, known_client, scope_within, form_of, with_client, with_authenticated}
+use Rattle.grants.specs.Requesters.{Parameters, KnownClient, known_client, scope_within, form_of, with_client, with_authenticated}
 use Rattle.pkce.specs.Proof.{proves}
-use Rattle.points.specs.Texts.{digest_told}
+use Rattle.grants.specs.Texts.{digest_told}
 use Rattle.grants.specs.Tokens.{code_of_client, is_own}
 use Rattle.grants.specs.Grants.{left_of}
 use Rattle.grants.specs.Exchange.{exchange, exchange_code, exchange_ask, exchanged, checked, code_points, ends_family}

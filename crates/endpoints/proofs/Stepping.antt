@@ -11,8 +11,8 @@ use Rattle.consent.specs.ConsentLaws.{fits_consents-changes_other, fits_consents
 use Rattle.consent.specs.declared.parties.Parties.{Parties}
 use Rattle.grant_store.specs.Kept.{Kept}
 use Rattle.grant_store.specs.Fits.{FitsStore}
-use Rattle.replies.specs.Written.{Written, written}
-use Rattle.points.specs.Outcomes.{Outcome, chosen}
+use Rattle.messages.specs.Written.{Written, written}
+use Rattle.grants.specs.Outcomes.{Outcome, chosen}
 use Rattle.endpoints.specs.Hosts.{HostStep, HostRun}
 use Rattle.endpoints.specs.Bounded.{IsRight, AllRight}
 use Rattle.grants.specs.Done.{IsDone}

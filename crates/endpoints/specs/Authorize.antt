@@ -11,15 +11,15 @@ use Rattle.clients.specs.Grants.{has_grant}
 use Rattle.clients.specs.declared.grant.GrantType.TheVariants.{AuthorizationCode}
 use Rattle.consent.specs.History.{Event, is_within, consented_scope}
 use Rattle.consent.specs.History.Change.{CodeGiven}
-use Rattle.requests.specs.Asked.{Asked}
-use Rattle.requests.specs.Target.{query_of}
-use Rattle.replies.specs.declared.error.ErrorName.{ErrorName}
-use Rattle.replies.specs.declared.error.ErrorName.TheVariants.{InvalidRequest, InvalidScope, UnauthorizedClient, UnsupportedResponseType, AccessDenied}
-use Rattle.replies.specs.Reply.{sent_back}
-use Rattle.replies.specs.Written.{error_text}
-use Rattle.points.specs.Outcomes.{Outcome, point, need, only, refuse, unless_taken}
-use Rattle.points.specs.Requesters.{Parameters, KnownClient, client_named, owner_of, scope_within}
-use Rattle.points.specs.Texts.{where_passes}
+use Rattle.messages.specs.Asked.{Asked}
+use Rattle.messages.specs.Target.{query_of}
+use Rattle.messages.specs.declared.error.ErrorName.{ErrorName}
+use Rattle.messages.specs.declared.error.ErrorName.TheVariants.{InvalidRequest, InvalidScope, UnauthorizedClient, UnsupportedResponseType, AccessDenied}
+use Rattle.messages.specs.Reply.{sent_back}
+use Rattle.messages.specs.Written.{error_text}
+use Rattle.grants.specs.Outcomes.{Outcome, point, need, only, refuse, unless_taken}
+use Rattle.grants.specs.Requesters.{Parameters, KnownClient, client_named, owner_of, scope_within}
+use Rattle.grants.specs.Texts.{where_passes}
 
 -- the state, if it was sent
 abbrev pub state_of : Parameters → Option (List ℕ)

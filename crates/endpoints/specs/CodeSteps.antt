@@ -2,8 +2,8 @@
 use Rattle.std.specs.Prelude.{◌≤◌, ℕ, List, [], length, unwrap_or}
 use Rattle.grant_store.specs.declared.facts.CodeFacts.{CodeFacts}
 use Rattle.consent.specs.History.{Event}
-use Rattle.points.specs.Outcomes.{Outcome}
-use Rattle.points.specs.Requesters.{Parameters, KnownClient}
+use Rattle.grants.specs.Outcomes.{Outcome}
+use Rattle.grants.specs.Requesters.{Parameters, KnownClient}
 use Rattle.endpoints.specs.declared.authorize.Requester.{Requester}
 use Rattle.endpoints.specs.Authorize.{code_given, state_of}
 

@@ -4,12 +4,12 @@ use Rattle.params.specs.Scope.{scope_text}
 use Rattle.clients.specs.RegistryRecord.{RegistryRecord}
 use Rattle.consent.specs.History.{Event, has_consent_room}
 use Rattle.consent.specs.History.Change.{Consented}
-use Rattle.replies.specs.declared.error.ErrorName.TheVariants.{InvalidRequest, InvalidScope, AccessDenied}
-use Rattle.requests.specs.Asked.{Asked}
-use Rattle.replies.specs.Reply.{plain}
-use Rattle.replies.specs.Reply.Body.{Consent}
-use Rattle.points.specs.Outcomes.{Outcome, point, need, refuse, unavailable}
-use Rattle.points.specs.Requesters.{Parameters, with_form, client_named, owner_of, scope_asked}
+use Rattle.messages.specs.declared.error.ErrorName.TheVariants.{InvalidRequest, InvalidScope, AccessDenied}
+use Rattle.messages.specs.Asked.{Asked}
+use Rattle.messages.specs.Reply.{plain}
+use Rattle.messages.specs.Reply.Body.{Consent}
+use Rattle.grants.specs.Outcomes.{Outcome, point, need, refuse, unavailable}
+use Rattle.grants.specs.Requesters.{Parameters, with_form, client_named, owner_of, scope_asked}
 
 -- 4. the consent is kept. What it is too small for ends with it
 abbrev pub consent_given : RegistryRecord → List Event → ℕ → ℕ → ℕ → Outcome

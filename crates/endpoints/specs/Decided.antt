@@ -1,7 +1,7 @@
 -- What points that take no memory come to.
 use Rattle.std.specs.Prelude.{◌≡◌, Result, Ok, Err}
-use Rattle.replies.specs.declared.error.ErrorName.{ErrorName}
-use Rattle.points.specs.Outcomes.{Outcome}
+use Rattle.messages.specs.declared.error.ErrorName.{ErrorName}
+use Rattle.grants.specs.Outcomes.{Outcome}
 
 -- the points lead on to `next`, or to what is answered to an error
 abbrev pub Decides : {A : Type 0} → Result A ErrorName → Outcome → (A → Outcome) → (ErrorName → Outcome) → Type 0

@@ -2,7 +2,7 @@
 use Rattle.std.specs.Prelude.{ℕ, List}
 use Rattle.consent.specs.History.{Change}
 use Rattle.consent.specs.History.Change.{HookSet}
-use Rattle.hook_chain.specs.Versions.{version_of}
+use Rattle.hook_host.specs.Versions.{version_of}
 use Rattle.endpoints.specs.declared.hooks.HookAsked.{HookAsked}
 
 -- it is set, with this code

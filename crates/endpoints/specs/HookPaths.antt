@@ -6,16 +6,16 @@ use Rattle.params.specs.Form.{read_params, value_of}
 use Rattle.clients.specs.RegistryRecord.{RegistryRecord}
 use Rattle.consent.specs.History.{Change}
 use Rattle.consent.specs.History.Change.{HookSet, HookGone}
-use Rattle.hook_chain.specs.declared.fault.HookFault.{HookFault}
-use Rattle.hook_chain.specs.declared.fault.HookFault.TheVariants as hook
-use Rattle.hook_chain.specs.Faults.{hook_fault_text}
-use Rattle.requests.specs.Asked.{Asked}
-use Rattle.requests.specs.Target.{query_of}
-use Rattle.replies.specs.declared.error.ErrorName.TheVariants.{InvalidRequest, AccessDenied}
-use Rattle.replies.specs.Reply.{plain}
-use Rattle.replies.specs.Reply.Body.{Hook, HookRefused, Hooks}
-use Rattle.points.specs.Outcomes.{Outcome, point, need, only, refuse, unavailable}
-use Rattle.points.specs.Requesters.{Parameters, form_of}
+use Rattle.hook_host.specs.declared.fault.HookFault.{HookFault}
+use Rattle.hook_host.specs.declared.fault.HookFault.TheVariants as hook
+use Rattle.hook_host.specs.Faults.{hook_fault_text}
+use Rattle.messages.specs.Asked.{Asked}
+use Rattle.messages.specs.Target.{query_of}
+use Rattle.messages.specs.declared.error.ErrorName.TheVariants.{InvalidRequest, AccessDenied}
+use Rattle.messages.specs.Reply.{plain}
+use Rattle.messages.specs.Reply.Body.{Hook, HookRefused, Hooks}
+use Rattle.grants.specs.Outcomes.{Outcome, point, need, only, refuse, unavailable}
+use Rattle.grants.specs.Requesters.{Parameters, form_of}
 use Rattle.endpoints.specs.declared.endpoint.Endpoint.{Endpoint}
 use Rattle.endpoints.specs.declared.endpoint.Endpoint.TheVariants as endpoint
 use Rattle.endpoints.specs.Paths.{endpoint_at}

@@ -3,12 +3,12 @@ use Rattle.std.specs.Prelude.{◌≡◌, ℕ, List, [], ◌∷◌, Option, Some,
 use Rattle.insn.specs.declared.layout.Layout.{Layout}
 use Rattle.hook_record.specs.declared.Ask.{Ask}
 use Rattle.hook_record.specs.declared.Narrowed.{Narrowed}
-use Rattle.hook_chain.specs.declared.fault.HookFault.{HookFault}
-use Rattle.hook_chain.specs.Versions.{layout_of}
+use Rattle.hook_host.specs.declared.fault.HookFault.{HookFault}
+use Rattle.hook_host.specs.Versions.{layout_of}
 use Rattle.consent.specs.History.{Event, Change}
 use Rattle.consent.specs.History.Change.{Consented, CodeGiven, Issued, Spent, FamilyEnded, HookSet, HookGone}
-use Rattle.replies.specs.Written.{Written, written}
-use Rattle.points.specs.Outcomes.{Outcome}
+use Rattle.messages.specs.Written.{Written, written}
+use Rattle.grants.specs.Outcomes.{Outcome}
 
 -- what a host says: its answer to each ask, its hooks' names, and the fault that it has for the change that the request
 -- asks for, if any

@@ -8,12 +8,12 @@ use Rattle.clients.specs.Clients.{client_at}
 use Rattle.consent.specs.History.{Event, Grant}
 use Rattle.consent.specs.declared.grant.Kind.{Kind}
 use Rattle.consent.specs.declared.grant.Kind.TheVariants.{Code, Token}
-use Rattle.replies.specs.declared.error.ErrorName.TheVariants.{InvalidRequest}
-use Rattle.requests.specs.Asked.{Asked}
-use Rattle.replies.specs.Reply.{Body, plain}
-use Rattle.replies.specs.Reply.Body.{Active, Inactive}
-use Rattle.points.specs.Outcomes.{Outcome, need, only, refuse, unavailable}
-use Rattle.points.specs.Requesters.{Parameters, KnownClient, with_authenticated}
+use Rattle.messages.specs.declared.error.ErrorName.TheVariants.{InvalidRequest}
+use Rattle.messages.specs.Asked.{Asked}
+use Rattle.messages.specs.Reply.{Body, plain}
+use Rattle.messages.specs.Reply.Body.{Active, Inactive}
+use Rattle.grants.specs.Outcomes.{Outcome, need, only, refuse, unavailable}
+use Rattle.grants.specs.Requesters.{Parameters, KnownClient, with_authenticated}
 use Rattle.grants.specs.Tokens.{live_token}
 
 -- what is told of a live token of the client

@@ -6,11 +6,11 @@ use Rattle.consent.specs.History.{Event, Grant, live_grant, is_code}
 use Rattle.consent.specs.declared.grant.Kind.TheVariants.{Token}
 use Rattle.grant_store.specs.Fits.{IsMember}
 use Rattle.grant_store.specs.declared.facts.TokenStatus.{TokenStatus}
-use Rattle.replies.specs.declared.error.ErrorName.TheVariants.{InvalidRequest}
-use Rattle.requests.specs.Asked.{Asked}
-use Rattle.points.specs.Outcomes.{Outcome, need, refuse}
-use Rattle.points.specs.Requesters.{with_authenticated}
-use Rattle.points.specs.Texts.{digest_told, where_passes}
+use Rattle.messages.specs.declared.error.ErrorName.TheVariants.{InvalidRequest}
+use Rattle.messages.specs.Asked.{Asked}
+use Rattle.grants.specs.Outcomes.{Outcome, need, refuse}
+use Rattle.grants.specs.Requesters.{with_authenticated}
+use Rattle.grants.specs.Texts.{digest_told, where_passes}
 
 -- the points "a form", "the client" and "a token", and then those of the client's number and the digest, where the text
 -- has one

@@ -2,10 +2,10 @@
 use Rattle.std.specs.Prelude.{ℕ, List, Bool, not, bytes_eq, Option, option_and_then}
 use Rattle.clients.specs.RegistryRecord.{RegistryRecord}
 use Rattle.consent.specs.History.{Event, Change}
-use Rattle.requests.specs.declared.request.Draws.{Draws}
-use Rattle.requests.specs.Asked.{Asked}
-use Rattle.requests.specs.Target.{path_of}
-use Rattle.points.specs.Outcomes.{Outcome, point, need, bare, chosen}
+use Rattle.messages.specs.declared.request.Draws.{Draws}
+use Rattle.messages.specs.Asked.{Asked}
+use Rattle.messages.specs.Target.{path_of}
+use Rattle.grants.specs.Outcomes.{Outcome, point, need, bare, chosen}
 use Rattle.endpoints.specs.declared.endpoint.Endpoint.{Endpoint}
 use Rattle.endpoints.specs.declared.endpoint.Endpoint.TheVariants.{Authorize, GiveConsent, IssueToken, RevokeToken, Introspect, InstallHook, RemoveHook, ListHooks}
 use Rattle.endpoints.specs.Paths.{endpoint_at, method_at}

@@ -4,12 +4,12 @@ use Rattle.params.specs.Form.{value_of}
 use Rattle.clients.specs.RegistryRecord.{RegistryRecord}
 use Rattle.consent.specs.History.{Event, Grant}
 use Rattle.consent.specs.History.Change.{FamilyEnded}
-use Rattle.replies.specs.declared.error.ErrorName.TheVariants.{InvalidRequest, InvalidGrant}
-use Rattle.requests.specs.Asked.{Asked}
-use Rattle.replies.specs.Reply.{plain}
-use Rattle.replies.specs.Reply.Body.{Empty}
-use Rattle.points.specs.Outcomes.{Outcome, point, need, refuse, bare}
-use Rattle.points.specs.Requesters.{Parameters, KnownClient, with_authenticated}
+use Rattle.messages.specs.declared.error.ErrorName.TheVariants.{InvalidRequest, InvalidGrant}
+use Rattle.messages.specs.Asked.{Asked}
+use Rattle.messages.specs.Reply.{plain}
+use Rattle.messages.specs.Reply.Body.{Empty}
+use Rattle.grants.specs.Outcomes.{Outcome, point, need, refuse, bare}
+use Rattle.grants.specs.Requesters.{Parameters, KnownClient, with_authenticated}
 use Rattle.grants.specs.Tokens.{live_token}
 
 -- 3 and 4, by the live token

@@ -3,15 +3,15 @@ use Rattle.std.specs.Prelude.{◌≡◌, ℕ, List, [], Bool, Option}
 use Rattle.insn.specs.declared.layout.Layout.{Layout}
 use Rattle.hook_record.specs.declared.Ask.{Ask}
 use Rattle.hook_record.specs.declared.Narrowed.{Narrowed}
-use Rattle.hook_chain.specs.declared.fault.HookFault.{HookFault}
+use Rattle.hook_host.specs.declared.fault.HookFault.{HookFault}
 use Rattle.clients.specs.RegistryRecord.{RegistryRecord}
 use Rattle.consent.specs.History.{Event, with_changes}
 use Rattle.consent.specs.Consents.{FitsConsents}
 use Rattle.consent.specs.declared.parties.Parties.{Parties}
 use Rattle.grant_store.specs.Kept.{Kept}
 use Rattle.grant_store.specs.Fits.{FitsStore}
-use Rattle.replies.specs.Written.{Written, written}
-use Rattle.points.specs.Outcomes.{Outcome}
+use Rattle.messages.specs.Written.{Written, written}
+use Rattle.grants.specs.Outcomes.{Outcome}
 use Rattle.endpoints.specs.Hosts.{HostRun}
 use Rattle.endpoints.specs.Bounded.{AllRight}
 

@@ -5,11 +5,11 @@ ghost use Rattle.clients.specs.Limits.{redirect_limit};
 ghost use Rattle.consent.specs.History.{Event};
 ghost use Rattle.consent.specs.Consents.{FitsConsents};
 ghost use Rattle.grant_store.specs.Fits.{FitsStore};
-ghost use Rattle.requests.specs.Asked.{asked_of};
-ghost use Rattle.requests.specs.Target.{query_of};
-ghost use Rattle.points.specs.Halts.{Leads};
-ghost use Rattle.points.specs.Outcomes.{Outcome, chosen, refuse};
-ghost use Rattle.points.specs.Requesters.{Parameters, KnownClient};
+ghost use Rattle.messages.specs.Asked.{asked_of};
+ghost use Rattle.messages.specs.Target.{query_of};
+ghost use Rattle.grants.specs.Halts.{Leads};
+ghost use Rattle.grants.specs.Outcomes.{Outcome, chosen, refuse};
+ghost use Rattle.grants.specs.Requesters.{Parameters, KnownClient};
 ghost use Rattle.endpoints.specs.Authorize.{authorize, authorize_known, challenge_sent, known_points, turned_back, with_query};
 ghost use Rattle.endpoints.specs.Decided.{Decides};
 ghost use Rattle.endpoints.specs.CodeSteps.{HasShortState, client_in, code_by};
@@ -18,12 +18,12 @@ ghost use Rattle.grants.specs.Done.{IsDone, IsShort, IsUndone};
 use clients::{Client, ClientNo, GrantType, Registry};
 use consent::{Consents, is_within};
 use grant_store::{CodeFacts, Store};
-use grants::{Setting, halted, refuse, text_of, unavailable};
+use grants::{
+    Halt, Setting, halted, named_client, owner, refuse, scope_within, text_of, unavailable,
+};
+use messages::{ErrorName, Request, Response, redirect};
 use params::{ParamFault, Params};
 use pkce::{challenge_ok, digest_of};
-use points::{Halt, named_client, owner, scope_within};
-use replies::{ErrorName, Response, redirect};
-use requests::Request;
 use std::alloc::Global;
 
 /// A client, with its number, and the one of its redirect URIs that was sent.

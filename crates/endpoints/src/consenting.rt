@@ -3,8 +3,8 @@ ghost use Rattle.std.specs.Prelude.{◌≡◌, ℕ, List, Bool};
 ghost use Rattle.consent.specs.History.{Event};
 ghost use Rattle.consent.specs.Consents.{FitsConsents};
 ghost use Rattle.grant_store.specs.Fits.{FitsStore};
-ghost use Rattle.requests.specs.Asked.{asked_of};
-ghost use Rattle.points.specs.Outcomes.{chosen, refuse};
+ghost use Rattle.messages.specs.Asked.{asked_of};
+ghost use Rattle.grants.specs.Outcomes.{chosen, refuse};
 ghost use Rattle.endpoints.specs.Decided.{Decides};
 ghost use Rattle.endpoints.specs.ConsentPath.{consent_given, consent_points, give_consent};
 ghost use Rattle.grants.specs.Done.{IsConsentDone, IsShort};
@@ -12,11 +12,9 @@ ghost use Rattle.grants.specs.Done.{IsConsentDone, IsShort};
 use clients::Registry;
 use consent::{ClientNo, Consents, OwnerNo};
 use grant_store::Store;
-use grants::{Setting, halted, refuse, unavailable};
+use grants::{Setting, form, halted, named_client, owner, refuse, scope, unavailable};
+use messages::{ErrorName, Request, Response};
 use params::Params;
-use points::{form, named_client, owner, scope};
-use replies::{ErrorName, Response};
-use requests::Request;
 
 /// What an owner consents to a client's having: one bit for each name.
 #[derive(Clone, Copy)]
@@ -71,7 +69,7 @@ fn keep(
     let Ok(text) = catalogue.scope_text(setting.alloc, new.mask) else {
         return unavailable();
     };
-    let Ok(reply) = replies::consent(setting.alloc, text.as_str()) else {
+    let Ok(reply) = messages::consent(setting.alloc, text.as_str()) else {
         return unavailable();
     };
     let Ok(()) = consents.set(new.owner, new.client, new.mask) else {

@@ -2,10 +2,10 @@
 ghost use Rattle.std.specs.Prelude.{ℕ, List, Bool, Some};
 ghost use Rattle.consent.specs.History.{Event, Grant};
 ghost use Rattle.grant_store.specs.Fits.{FitsStore};
-ghost use Rattle.requests.specs.Asked.{asked_of};
-ghost use Rattle.points.specs.Outcomes.{chosen, only};
-ghost use Rattle.replies.specs.Reply.{plain};
-ghost use Rattle.replies.specs.Reply.Body.{Inactive};
+ghost use Rattle.messages.specs.Asked.{asked_of};
+ghost use Rattle.grants.specs.Outcomes.{chosen, only};
+ghost use Rattle.messages.specs.Reply.{plain};
+ghost use Rattle.messages.specs.Reply.Body.{Inactive};
 ghost use Rattle.grants.specs.Done.{IsShort, IsUndone};
 ghost use Rattle.endpoints.specs.Introspect.{told, introspect};
 ghost use Rattle.endpoints.specs.Presented.{IsStatusOf};
@@ -13,8 +13,7 @@ ghost use Rattle.endpoints.specs.Presented.{IsStatusOf};
 use crate::revoke::{live_token, presented_by};
 use grant_store::{Store, TokenStatus};
 use grants::{Setting, halted, unavailable};
-use replies::{ActiveToken, Response, active, inactive};
-use requests::Request;
+use messages::{ActiveToken, Request, Response, active, inactive};
 use std::alloc::Global;
 
 // No live token was presented.

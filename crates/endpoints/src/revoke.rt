@@ -3,20 +3,18 @@ ghost use Rattle.std.specs.Prelude.{ℕ, List, Bool, Option, Some, IfSome};
 ghost use Rattle.consent.specs.History.{Event, Grant};
 ghost use Rattle.grant_store.specs.Kept.{HasFamily};
 ghost use Rattle.grant_store.specs.Fits.{FitsStore};
-ghost use Rattle.requests.specs.Asked.{asked_of};
-ghost use Rattle.points.specs.Halts.{Leads};
-ghost use Rattle.points.specs.Outcomes.{Outcome, chosen};
+ghost use Rattle.messages.specs.Asked.{asked_of};
+ghost use Rattle.grants.specs.Halts.{Leads};
+ghost use Rattle.grants.specs.Outcomes.{Outcome, chosen};
 ghost use Rattle.grants.specs.Done.{IsDone, IsShort};
 ghost use Rattle.endpoints.specs.Presented.{with_presented, live_of, IsTold, IsStatusOf};
 ghost use Rattle.endpoints.specs.Revoke.{revoked, revoke_token};
 
 use consent::Moment;
 use grant_store::{Store, TokenStatus};
-use grants::{Setting, halted, refuse};
+use grants::{Halt, Setting, authenticated_client, digest_told, form, halted, refuse};
 use http::StatusCode;
-use points::{Halt, authenticated_client, digest_told, form};
-use replies::{ErrorName, Response};
-use requests::Request;
+use messages::{ErrorName, Request, Response};
 
 /// What is presented: the number of the client that presents it, and the digest of the token that it may be.
 #[derive(Clone, Copy)]

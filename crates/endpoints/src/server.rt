@@ -2,9 +2,9 @@
 ghost use Rattle.std.specs.Prelude.{◌≡◌, ◌<◌, ◌≤◌, ℕ, List, [], Bool, Option, max, length};
 ghost use Rattle.clients.specs.RegistryRecord.{RegistryRecord};
 ghost use Rattle.consent.specs.History.{Event};
-ghost use Rattle.hook_chain.specs.declared.fault.HookFault.{HookFault};
-ghost use Rattle.requests.specs.Asked.{asked_of};
-ghost use Rattle.points.specs.Outcomes.{chosen};
+ghost use Rattle.hook_host.specs.declared.fault.HookFault.{HookFault};
+ghost use Rattle.messages.specs.Asked.{asked_of};
+ghost use Rattle.grants.specs.Outcomes.{chosen};
 ghost use Rattle.grants.specs.Done.{IsShort};
 ghost use Rattle.endpoints.specs.Hosts.{IsHostFault};
 ghost use Rattle.endpoints.specs.HookPaths.{hook_change_at};
@@ -21,10 +21,9 @@ use clients::Registry;
 use consent::{Consents, Moment};
 use grant_store::Store;
 use grants::{Setting, token_path};
-use hook_chain::HookHost;
+use hook_host::HookHost;
 use http::StatusCode;
-use replies::Response;
-use requests::{Draws, Request};
+use messages::{Draws, Request, Response};
 use std::alloc::Global;
 use std::marker::Model;
 

@@ -3,9 +3,9 @@ use Rattle.std.proofs.Common.{◌≡◌, ◌≢◌, ◌⊎◌, inl, inr, ℕ, Li
 use Rattle.std.specs.Prelude.{◌==◌}
 use Rattle.std.proofs.lemmas.Bool.{eqb-true, eq-eqb}
 use Rattle.std.proofs.lemmas.Bool.Decides.{eqb_tells}
-use Rattle.hook_chain.specs.declared.host.HookHost.{Ghosts as Hosting}
+use Rattle.hook_host.specs.declared.host.HookHost.{Ghosts as Hosting}
 use Rattle.clients.specs.RegistryRecord.{RegistryRecord}
-use Rattle.requests.specs.declared.request.Draws.{Draws}
+use Rattle.messages.specs.declared.request.Draws.{Draws}
 use Rattle.http_edge.specs.Answers.{Mark}
 use Rattle.http_edge.specs.Schedule.{World, Connection, Comes, Passes, Opens, Ends, Takes, TakesNothing, Forgets, connection_at, with_connection, without_connection, fresh}
 use Rattle.serving.proofs.Connections.{found_number}

@@ -1,7 +1,7 @@
 -- How bytes of a connection are given to the edge.
 use Rattle.std.specs.Prelude.{◌≡◌, ◌⊎◌, ◌≤◌, ◌*◌, ℕ, true, false, List, [], ◌++◌, length}
 use Rattle.rand_chacha.specs.ChaCha.{ChaCha}
-use Rattle.hook_chain.specs.declared.host.HookHost.{Ghosts as Hosting}
+use Rattle.hook_host.specs.declared.host.HookHost.{Ghosts as Hosting}
 use Rattle.clients.specs.RegistryRecord.{RegistryRecord}
 use Rattle.http_edge.specs.Schedule.{World, Happening, Came}
 use Rattle.http_edge.specs.Edges.{SeenEdge}

@@ -1,7 +1,7 @@
 -- How each part of the loop leads on.
 use Rattle.std.specs.Prelude.{◌≡◌, ◌≢◌, ◌⊎◌, ◌≤◌, ◌<◌, ◌+◌, ℕ, true, false, List, [], Option, Some, slice_get, None}
 use Rattle.rand_chacha.specs.ChaCha.{ChaCha}
-use Rattle.hook_chain.specs.declared.host.HookHost.{Ghosts as Hosting}
+use Rattle.hook_host.specs.declared.host.HookHost.{Ghosts as Hosting}
 use Rattle.clients.specs.RegistryRecord.{RegistryRecord}
 use Rattle.http_edge.specs.Schedule.{World, Connection, Happening, connection_at}
 use Rattle.http_edge.specs.Edges.{SeenEdge}

@@ -1,6 +1,6 @@
 -- What the loop knows and works with, at one time.
 use Rattle.std.specs.Prelude.{ℕ, List, Option}
-use Rattle.hook_chain.specs.declared.host.HookHost.{Ghosts as Hosting}
+use Rattle.hook_host.specs.declared.host.HookHost.{Ghosts as Hosting}
 use Rattle.event_loop.specs.declared.clocks.Times.{Times}
 use Rattle.event_loop.specs.declared.fault.ConnectionFault.{ConnectionFault}
 use Rattle.event_loop.specs.declared.limits.Limits.{Limits}

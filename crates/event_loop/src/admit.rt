@@ -17,7 +17,7 @@ use crate::queue::Queue;
 use crate::service::Service;
 use crate::sockets::{Accepted, Sockets};
 use crate::tools::Tools;
-use hook_chain::HookHost;
+use hook_host::HookHost;
 use http_edge::Event;
 
 impl Service {

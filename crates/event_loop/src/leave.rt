@@ -18,7 +18,7 @@ use crate::service::Service;
 use crate::sockets::Sockets;
 use crate::tools::Tools;
 use crate::write::may_write;
-use hook_chain::HookHost;
+use hook_host::HookHost;
 use http_edge::Edge;
 
 // Whether nothing is left to be done for a connection.

@@ -13,10 +13,10 @@ use crate::service::Service;
 use crate::sockets::{Received, Sockets};
 use crate::tools::Tools;
 use consent::Moment;
-use hook_chain::HookHost;
+use hook_host::HookHost;
 use http_edge::{Edge, EdgeFault, Event};
+use messages::Draws;
 use rand_chacha::ChaCha20Rng;
-use requests::Draws;
 use serving::give;
 
 /// Whether a connection may be read.

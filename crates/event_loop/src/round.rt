@@ -11,7 +11,7 @@ use crate::queue::Queue;
 use crate::service::Service;
 use crate::sockets::{Ready, Sockets};
 use crate::tools::Tools;
-use hook_chain::HookHost;
+use hook_host::HookHost;
 
 // In milliseconds.
 const SECOND: u64 = 1000;

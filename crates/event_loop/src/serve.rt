@@ -9,7 +9,7 @@ use crate::limits::Limits;
 use crate::service::Service;
 use crate::sockets::{Ready, Sockets};
 use crate::tools::Tools;
-use hook_chain::HookHost;
+use hook_host::HookHost;
 
 impl Service {
     // Makes round after round.

@@ -9,7 +9,7 @@ use crate::limits::PLACES;
 use crate::service::Service;
 use crate::sockets::{Ready, Sockets};
 use crate::tools::Tools;
-use hook_chain::HookHost;
+use hook_host::HookHost;
 
 impl Service {
     // A connection is read once and written to once, and closed where it is over.

@@ -10,7 +10,7 @@ use crate::place::{Place, Stage};
 use crate::service::Service;
 use crate::sockets::{Sent, Sockets};
 use crate::tools::Tools;
-use hook_chain::HookHost;
+use hook_host::HookHost;
 use http_edge::Edge;
 
 /// Whether a connection may be written to.

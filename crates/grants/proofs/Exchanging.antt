@@ -14,11 +14,11 @@ use Rattle.grant_store.specs.Views.{code_in, as_code}
 use Rattle.hook_record.specs.declared.Kind.TheVariants as kind
 use Rattle.hook_record.specs.declared.Ask.{Ask}
 use Rattle.hook_record.specs.declared.Narrowed.{Narrowed}
-use Rattle.replies.specs.declared.error.ErrorName.TheVariants.{InvalidGrant}
-use Rattle.requests.specs.declared.request.Draws.{Draws}
-use Rattle.points.specs.Outcomes.{Outcome, point, need, refuse}
-use Rattle.points.specs.Requesters.{KnownClient}
-use Rattle.points.specs.Texts.{where_passes}
+use Rattle.messages.specs.declared.error.ErrorName.TheVariants.{InvalidGrant}
+use Rattle.messages.specs.declared.request.Draws.{Draws}
+use Rattle.grants.specs.Outcomes.{Outcome, point, need, refuse}
+use Rattle.grants.specs.Requesters.{KnownClient}
+use Rattle.grants.specs.Texts.{where_passes}
 use Rattle.grants.specs.declared.exchange.GoodCode.{GoodCode}
 use Rattle.grants.specs.declared.exchange.ExchangeStep.{ExchangeStep}
 use Rattle.grants.specs.declared.exchange.ExchangeStep.TheVariants.{Invalid, End, Exchange}

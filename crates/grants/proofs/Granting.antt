@@ -8,10 +8,10 @@ use Rattle.consent.specs.History.{Event}
 use Rattle.grant_store.specs.Kept.{Kept}
 use Rattle.hook_record.specs.declared.Ask.{Ask}
 use Rattle.hook_record.specs.declared.Narrowed.{Narrowed}
-use Rattle.replies.specs.Written.{Written}
-use Rattle.requests.specs.declared.request.Draws.{Draws}
-use Rattle.points.specs.Outcomes.{Outcome, need, unavailable, chosen}
-use Rattle.points.specs.Requesters.{Parameters, KnownClient, known_client}
+use Rattle.messages.specs.Written.{Written}
+use Rattle.messages.specs.declared.request.Draws.{Draws}
+use Rattle.grants.specs.Outcomes.{Outcome, need, unavailable, chosen}
+use Rattle.grants.specs.Requesters.{Parameters, KnownClient, known_client}
 use Rattle.grants.specs.Done.{IsDone}
 use Rattle.grants.specs.TokenPath.{grant_points, type_points, token_points}
 

@@ -7,9 +7,9 @@ use Rattle.consent.specs.History.Change.{Spent}
 use Rattle.grant_store.specs.declared.facts.NewToken.{NewToken}
 use Rattle.grant_store.specs.Kept.{Kept}
 use Rattle.grant_store.specs.Fits.{FitsStore, refusal, digests_of, token_issued, with_issued}
-use Rattle.replies.specs.Reply.{Reply}
-use Rattle.replies.specs.Written.{Written, written}
-use Rattle.points.specs.Outcomes.{Outcome, unless_taken}
+use Rattle.messages.specs.Reply.{Reply}
+use Rattle.messages.specs.Written.{Written, written}
+use Rattle.grants.specs.Outcomes.{Outcome, unless_taken}
 use Rattle.grants.specs.Done.{IsDone}
 use Rattle.grants.specs.DoneLaws.{unless_taken-free}
 

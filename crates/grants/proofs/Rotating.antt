@@ -10,10 +10,10 @@ use Rattle.consent.specs.declared.grant.TokenKind.TheVariants.{Access, Refresh}
 use Rattle.grant_store.specs.Kept.{Kept}
 use Rattle.grant_store.specs.Fits.{seen}
 use Rattle.grant_store.specs.Views.{refresh_in, as_refresh, is_refresh, owner_no}
-use Rattle.replies.specs.declared.error.ErrorName.TheVariants.{InvalidGrant}
-use Rattle.replies.specs.Written.{Written}
-use Rattle.points.specs.Outcomes.{Outcome, point, need, refuse, chosen}
-use Rattle.points.specs.Texts.{where_passes}
+use Rattle.messages.specs.declared.error.ErrorName.TheVariants.{InvalidGrant}
+use Rattle.messages.specs.Written.{Written}
+use Rattle.grants.specs.Outcomes.{Outcome, point, need, refuse, chosen}
+use Rattle.grants.specs.Texts.{where_passes}
 use Rattle.grants.specs.declared.refresh.RefreshStep.{RefreshStep}
 use Rattle.grants.specs.declared.refresh.RefreshStep.TheVariants.{Invalid, End, Use}
 use Rattle.grants.specs.Done.{IsDone}

@@ -6,10 +6,10 @@ use Rattle.pkce.specs.TokenLaws.{length-token_text}
 use Rattle.params.specs.Limits.{scope_text_limit}
 use Rattle.params.specs.Scope.{scope_text}
 use Rattle.clients.specs.RegistryRecord.{RegistryRecord}
-use Rattle.replies.specs.Reply.{Reply}
-use Rattle.replies.specs.Small.{IsSmall}
-use Rattle.replies.specs.Written.{Written, written}
-use Rattle.requests.specs.declared.request.Draws.{Draws}
+use Rattle.messages.specs.Reply.{Reply}
+use Rattle.messages.specs.Small.{IsSmall}
+use Rattle.messages.specs.Written.{Written, written}
+use Rattle.messages.specs.declared.request.Draws.{Draws}
 use Rattle.grants.specs.Done.{IsShort}
 use Rattle.grants.specs.Grants.{access_reply, both_reply}
 use Rattle.grants.specs.ShortLaws.{written_short}

@@ -7,10 +7,10 @@ use Rattle.hook_record.specs.declared.Kind.TheVariants as kind
 use Rattle.hook_record.specs.declared.Ask.{Ask}
 use Rattle.hook_record.specs.declared.Narrowed.{Narrowed}
 use Rattle.hook_record.specs.declared.Narrowed.TheVariants.{Allowed, Denied, EmptyScope}
-use Rattle.replies.specs.declared.error.ErrorName.TheVariants.{InvalidScope, UnauthorizedClient}
-use Rattle.requests.specs.declared.request.Draws.{Draws}
-use Rattle.points.specs.Outcomes.{Outcome, need, refuse, unless_taken}
-use Rattle.points.specs.Requesters.{Parameters, KnownClient, scope_within}
+use Rattle.messages.specs.declared.error.ErrorName.TheVariants.{InvalidScope, UnauthorizedClient}
+use Rattle.messages.specs.declared.request.Draws.{Draws}
+use Rattle.grants.specs.Outcomes.{Outcome, need, refuse, unless_taken}
+use Rattle.grants.specs.Requesters.{Parameters, KnownClient, scope_within}
 use Rattle.grants.specs.Grants.{ask_for, left_of, access_issued, access_reply}
 
 -- 4. by what the host leaves: a token in a family of its own

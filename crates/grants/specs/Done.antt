@@ -5,8 +5,8 @@ use Rattle.consent.specs.Consents.{FitsConsents}
 use Rattle.consent.specs.declared.parties.Parties.{Parties}
 use Rattle.grant_store.specs.Kept.{Kept}
 use Rattle.grant_store.specs.Fits.{FitsStore}
-use Rattle.replies.specs.Written.{Written, written, reply_bytes}
-use Rattle.points.specs.Outcomes.{Outcome}
+use Rattle.messages.specs.Written.{Written, written, reply_bytes}
+use Rattle.grants.specs.Outcomes.{Outcome}
 
 -- the reply is the outcome's, and the store answers as the history with the outcome's changes
 pub record IsDone (outcome : Outcome) (reply : Written) (kept : List Kept) (history : List Event) (m : ℕ) : Type 0 where

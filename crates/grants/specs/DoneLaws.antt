@@ -12,16 +12,16 @@ use Rattle.grant_store.specs.declared.fault.StoreFault.TheVariants.{Full, DrawTa
 use Rattle.grant_store.specs.declared.facts.NewToken.{NewToken}
 use Rattle.grant_store.specs.Kept.{Kept}
 use Rattle.grant_store.specs.Fits.{FitsStore, refusal, with_issued}
-use Rattle.requests.specs.declared.request.Draws.{Draws}
-use Rattle.replies.specs.Written.{Written, written}
-use Rattle.points.specs.Outcomes.{Outcome, point, unavailable, unless_taken, chosen, refuse}
-use Rattle.replies.specs.declared.error.ErrorName.{ErrorName}
+use Rattle.messages.specs.declared.request.Draws.{Draws}
+use Rattle.messages.specs.Written.{Written, written}
+use Rattle.grants.specs.Outcomes.{Outcome, point, unavailable, unless_taken, chosen, refuse}
+use Rattle.messages.specs.declared.error.ErrorName.{ErrorName}
 use Rattle.grants.specs.Grants.{both_reply, both_digests}
 use Rattle.grants.specs.Refresh.{rotated}
 use Rattle.grants.specs.Done.{IsDone, IsUndone}
-use Rattle.points.specs.Halts.{Leads}
-use Rattle.points.specs.declared.halt.Halt.{Halt}
-use Rattle.points.specs.declared.halt.Halt.TheVariants.{Refuse, NoMemory}
+use Rattle.grants.specs.Halts.{Leads}
+use Rattle.grants.specs.declared.halt.Halt.{Halt}
+use Rattle.grants.specs.declared.halt.Halt.TheVariants.{Refuse, NoMemory}
 
 -- nothing happened
 pub nothing_done : (o : Outcome) (reply : Written) (kept : List Kept) (history : List Event) (m : ℕ) (number : ℕ → ℕ) →

@@ -12,15 +12,15 @@ use Rattle.hook_record.specs.declared.Kind.TheVariants.{Code}
 use Rattle.hook_record.specs.declared.Ask.{Ask}
 use Rattle.hook_record.specs.declared.Narrowed.{Narrowed}
 use Rattle.hook_record.specs.declared.Narrowed.TheVariants.{Allowed, Denied, EmptyScope}
-use Rattle.replies.specs.declared.error.ErrorName.{ErrorName}
-use Rattle.replies.specs.declared.error.ErrorName.TheVariants.{InvalidRequest, InvalidGrant, InvalidScope}
-use Rattle.requests.specs.declared.request.Draws.{Draws}
-use Rattle.replies.specs.Reply.{plain}
-use Rattle.replies.specs.Reply.Body.{Failure}
-use Rattle.points.specs.Outcomes.{Outcome, point, need, refuse, unless_taken}
-use Rattle.points.specs.Requesters.{Parameters, KnownClient}
+use Rattle.messages.specs.declared.error.ErrorName.{ErrorName}
+use Rattle.messages.specs.declared.error.ErrorName.TheVariants.{InvalidRequest, InvalidGrant, InvalidScope}
+use Rattle.messages.specs.declared.request.Draws.{Draws}
+use Rattle.messages.specs.Reply.{plain}
+use Rattle.messages.specs.Reply.Body.{Failure}
+use Rattle.grants.specs.Outcomes.{Outcome, point, need, refuse, unless_taken}
+use Rattle.grants.specs.Requesters.{Parameters, KnownClient}
 use Rattle.pkce.specs.Proof.{proves}
-use Rattle.points.specs.Texts.{digest_told}
+use Rattle.grants.specs.Texts.{digest_told}
 use Rattle.grants.specs.Tokens.{code_of_client}
 use Rattle.grants.specs.Grants.{ask_for, left_of, access_issued, refresh_issued, access_reply, both_reply, both_digests}
 

@@ -6,10 +6,10 @@ use Rattle.grant_store.specs.Kept.{Kept, HasFamily}
 use Rattle.grant_store.specs.Fits.{IsMember}
 use Rattle.grant_store.specs.Views.{CodeView}
 use Rattle.pkce.specs.Proof.{proves}
-use Rattle.replies.specs.declared.error.ErrorName.TheVariants.{InvalidRequest, InvalidGrant}
-use Rattle.points.specs.Outcomes.{Outcome, need, refuse}
-use Rattle.points.specs.Requesters.{Parameters}
-use Rattle.points.specs.Texts.{digest_told}
+use Rattle.messages.specs.declared.error.ErrorName.TheVariants.{InvalidRequest, InvalidGrant}
+use Rattle.grants.specs.Outcomes.{Outcome, need, refuse}
+use Rattle.grants.specs.Requesters.{Parameters}
+use Rattle.grants.specs.Texts.{digest_told}
 use Rattle.grants.specs.declared.issuing.SingleUse.TheVariants as single_use
 use Rattle.grants.specs.declared.issuing.Source.{Source}
 use Rattle.grants.specs.declared.exchange.GoodCode.{GoodCode}

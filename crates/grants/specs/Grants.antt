@@ -11,10 +11,10 @@ use Rattle.consent.specs.declared.grant.TokenKind.TheVariants.{Access, Refresh}
 use Rattle.hook_record.specs.declared.Kind.{Kind}
 use Rattle.hook_record.specs.declared.Ask.{Ask}
 use Rattle.hook_record.specs.declared.Narrowed.{Narrowed}
-use Rattle.hook_chain.specs.Decisions.{met_with}
-use Rattle.requests.specs.declared.request.Draws.{Draws}
-use Rattle.replies.specs.Reply.{Body, Reply, plain}
-use Rattle.replies.specs.Reply.Body.{Tokens}
+use Rattle.hook_host.specs.Decisions.{met_with}
+use Rattle.messages.specs.declared.request.Draws.{Draws}
+use Rattle.messages.specs.Reply.{Body, Reply, plain}
+use Rattle.messages.specs.Reply.Body.{Tokens}
 
 -- the number of an owner: 0 is none
 abbrev pub owner_number : Option ℕ → ℕ

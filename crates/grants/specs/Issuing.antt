@@ -7,7 +7,7 @@ use Rattle.consent.specs.declared.grant.Kind.{Kind}
 use Rattle.consent.specs.declared.grant.Kind.TheVariants.{Code, Token}
 use Rattle.consent.specs.declared.grant.TokenKind.TheVariants.{Access, Refresh}
 use Rattle.grant_store.specs.declared.facts.NewToken.{NewToken}
-use Rattle.requests.specs.declared.request.Draws.{Draws}
+use Rattle.messages.specs.declared.request.Draws.{Draws}
 use Rattle.grants.specs.declared.issuing.SingleUse.{SingleUse}
 use Rattle.grants.specs.declared.issuing.SingleUse.TheVariants as single_use
 use Rattle.grants.specs.declared.issuing.Source.{Source}

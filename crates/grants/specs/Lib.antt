@@ -1,3 +1,7 @@
+pub mod Outcomes
+pub mod Halts
+pub mod Requesters
+pub mod Texts
 pub mod Tokens
 pub mod Grants
 pub mod Issuing

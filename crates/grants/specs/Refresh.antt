@@ -9,11 +9,11 @@ use Rattle.hook_record.specs.declared.Kind.TheVariants.{Refresh}
 use Rattle.hook_record.specs.declared.Ask.{Ask}
 use Rattle.hook_record.specs.declared.Narrowed.{Narrowed}
 use Rattle.hook_record.specs.declared.Narrowed.TheVariants.{Allowed, Denied, EmptyScope}
-use Rattle.replies.specs.declared.error.ErrorName.TheVariants.{InvalidRequest, InvalidGrant, InvalidScope}
-use Rattle.requests.specs.declared.request.Draws.{Draws}
-use Rattle.points.specs.Outcomes.{Outcome, point, need, refuse, unless_taken}
-use Rattle.points.specs.Requesters.{Parameters, KnownClient, scope_within}
-use Rattle.points.specs.Texts.{digest_told}
+use Rattle.messages.specs.declared.error.ErrorName.TheVariants.{InvalidRequest, InvalidGrant, InvalidScope}
+use Rattle.messages.specs.declared.request.Draws.{Draws}
+use Rattle.grants.specs.Outcomes.{Outcome, point, need, refuse, unless_taken}
+use Rattle.grants.specs.Requesters.{Parameters, KnownClient, scope_within}
+use Rattle.grants.specs.Texts.{digest_told}
 use Rattle.grants.specs.Tokens.{refresh_of_client}
 use Rattle.grants.specs.Exchange.{ends_family}
 use Rattle.grants.specs.Grants.{ask_for, left_of, access_issued, refresh_issued, both_reply, both_digests}

@@ -4,8 +4,8 @@ use Rattle.consent.specs.History.{Event, Grant, is_spent, has_ended}
 use Rattle.grant_store.specs.declared.facts.RefreshToken.{RefreshToken}
 use Rattle.grant_store.specs.Kept.{Kept, HasFamily}
 use Rattle.grant_store.specs.Fits.{IsMember}
-use Rattle.replies.specs.declared.error.ErrorName.TheVariants.{InvalidGrant}
-use Rattle.points.specs.Outcomes.{Outcome, refuse}
+use Rattle.messages.specs.declared.error.ErrorName.TheVariants.{InvalidGrant}
+use Rattle.grants.specs.Outcomes.{Outcome, refuse}
 use Rattle.grants.specs.declared.issuing.SingleUse.TheVariants as single_use
 use Rattle.grants.specs.declared.issuing.Source.{Source}
 use Rattle.grants.specs.declared.refresh.Usable.{Usable}

@@ -1,13 +1,13 @@
 -- Replies are short where their texts are.
 use Rattle.std.proofs.Common.{◌≡◌, true, refl, subst, sym, ap}
-use Rattle.replies.specs.declared.error.ErrorName.{ErrorName}
-use Rattle.replies.specs.declared.error.ErrorName.TheVariants.{InvalidRequest, InvalidClient, InvalidGrant, InvalidScope, UnauthorizedClient, UnsupportedGrantType, UnsupportedResponseType, AccessDenied}
-use Rattle.replies.specs.Reply.{Reply, plain}
-use Rattle.replies.specs.Reply.Body.{Empty, Failure}
-use Rattle.replies.specs.Written.{Written, written}
-use Rattle.replies.specs.Small.{IsSmall, is_reply_status}
-use Rattle.replies.specs.SmallLaws.{small_bytes}
-use Rattle.points.specs.Outcomes.{status_of}
+use Rattle.messages.specs.declared.error.ErrorName.{ErrorName}
+use Rattle.messages.specs.declared.error.ErrorName.TheVariants.{InvalidRequest, InvalidClient, InvalidGrant, InvalidScope, UnauthorizedClient, UnsupportedGrantType, UnsupportedResponseType, AccessDenied}
+use Rattle.messages.specs.Reply.{Reply, plain}
+use Rattle.messages.specs.Reply.Body.{Empty, Failure}
+use Rattle.messages.specs.Written.{Written, written}
+use Rattle.messages.specs.Small.{IsSmall, is_reply_status}
+use Rattle.messages.specs.SmallLaws.{small_bytes}
+use Rattle.grants.specs.Outcomes.{status_of}
 use Rattle.grants.specs.Done.{IsShort}
 
 -- a reply that is written of a small one

@@ -9,11 +9,11 @@ use Rattle.clients.specs.declared.grant.GrantType.TheVariants.{AuthorizationCode
 use Rattle.consent.specs.History.{Event}
 use Rattle.hook_record.specs.declared.Ask.{Ask}
 use Rattle.hook_record.specs.declared.Narrowed.{Narrowed}
-use Rattle.replies.specs.declared.error.ErrorName.TheVariants.{InvalidRequest, UnauthorizedClient, UnsupportedGrantType}
-use Rattle.requests.specs.declared.request.Draws.{Draws}
-use Rattle.requests.specs.Asked.{Asked}
-use Rattle.points.specs.Outcomes.{Outcome, point, need, refuse}
-use Rattle.points.specs.Requesters.{Parameters, KnownClient, with_authenticated}
+use Rattle.messages.specs.declared.error.ErrorName.TheVariants.{InvalidRequest, UnauthorizedClient, UnsupportedGrantType}
+use Rattle.messages.specs.declared.request.Draws.{Draws}
+use Rattle.messages.specs.Asked.{Asked}
+use Rattle.grants.specs.Outcomes.{Outcome, point, need, refuse}
+use Rattle.grants.specs.Requesters.{Parameters, KnownClient, with_authenticated}
 use Rattle.grants.specs.Exchange.{exchange}
 use Rattle.grants.specs.Refresh.{refresh}
 use Rattle.grants.specs.ClientCredentials.{client_credentials}

@@ -3,7 +3,7 @@ use Rattle.std.specs.Prelude.{◌==◌, ◌&&◌, ℕ, List, Bool, not, Option, 
 use Rattle.consent.specs.History.{Event, Grant, grant_at, live_grant, is_code}
 use Rattle.consent.specs.declared.grant.Kind.{Kind}
 use Rattle.grant_store.specs.Views.{is_refresh}
-use Rattle.points.specs.Texts.{digest_told, where_passes}
+use Rattle.grants.specs.Texts.{digest_told, where_passes}
 
 -- it is of this kind and this client's
 abbrev pub is_own : (Kind → Bool) → ℕ → Grant → Bool

@@ -1,13 +1,13 @@
 //! Replies with which nothing happens.
 ghost use Rattle.std.specs.Prelude.{◌≡◌, ℕ, Bool, Err};
-ghost use Rattle.replies.specs.Written.{written};
-ghost use Rattle.points.specs.Halts.{Leads};
-ghost use Rattle.points.specs.Outcomes.{Outcome, chosen, refuse, unavailable};
+ghost use Rattle.messages.specs.Written.{written};
+ghost use Rattle.grants.specs.Halts.{Leads};
+ghost use Rattle.grants.specs.Outcomes.{Outcome, chosen, refuse, unavailable};
 ghost use Rattle.grants.specs.Done.{IsShort, IsUndone};
 
+use crate::{Halt, status_of};
 use http::StatusCode;
-use points::{Halt, status_of};
-use replies::{ErrorName, Response, failure};
+use messages::{ErrorName, Response, failure};
 use std::alloc::Global;
 
 /// 503, which takes no memory.

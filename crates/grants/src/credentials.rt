@@ -4,7 +4,7 @@ ghost use Rattle.clients.specs.ClientRecord.{ClientRecord};
 ghost use Rattle.clients.specs.Clients.{client_at};
 ghost use Rattle.consent.specs.History.{Event};
 ghost use Rattle.grant_store.specs.Fits.{FitsStore};
-ghost use Rattle.points.specs.Outcomes.{chosen};
+ghost use Rattle.grants.specs.Outcomes.{chosen};
 ghost use Rattle.grants.specs.ClientCredentials.{client_credentials, granted};
 ghost use Rattle.grants.specs.Done.{IsDone, IsShort};
 ghost use Rattle.grants.specs.Grants.{left_of};
@@ -12,14 +12,14 @@ ghost use Rattle.grants.specs.Grants.{left_of};
 use crate::answering::{refuse, unavailable};
 use crate::ask::{Wish, ask_for};
 use crate::issuing::{access_reply, access_token};
+use crate::scope_within;
 use crate::setting::Setting;
 use clients::ClientNo;
 use grant_store::{Home, Store};
-use hook_chain::{HookHost, decided};
+use hook_host::{HookHost, decided};
 use hook_record::{Ask, Kind, Narrowed};
+use messages::{ErrorName, Response};
 use params::Params;
-use points::scope_within;
-use replies::{ErrorName, Response};
 
 // An access token of the client's own.
 fn issue_own(

@@ -7,8 +7,8 @@ ghost use Rattle.consent.specs.Consents.{FitsConsents};
 ghost use Rattle.grant_store.specs.Fits.{FitsStore};
 ghost use Rattle.grant_store.specs.Kept.{HasFamily};
 ghost use Rattle.grant_store.specs.Views.{code_in};
-ghost use Rattle.points.specs.Halts.{Leads};
-ghost use Rattle.points.specs.Outcomes.{Outcome, chosen};
+ghost use Rattle.grants.specs.Halts.{Leads};
+ghost use Rattle.grants.specs.Outcomes.{Outcome, chosen};
 ghost use Rattle.grants.specs.Done.{IsDone, IsShort};
 ghost use Rattle.grants.specs.Grants.{left_of};
 ghost use Rattle.grants.specs.Issuing.{IsSource};
@@ -21,16 +21,16 @@ use crate::issuing::{
     SingleUse, Source, access_reply, access_token, both_reply, ended, issue_for, refresh_token,
 };
 use crate::setting::Setting;
+use crate::{Halt, digest_told};
 use clients::{ClientNo, GrantType};
 use consent::{Consents, Moment, OwnerNo};
 use grant_store::{Family, Store};
-use hook_chain::{HookHost, decided};
+use hook_host::{HookHost, decided};
 use hook_record::{Ask, Kind, Narrowed};
 use http::StatusCode;
+use messages::{ErrorName, Response, failure};
 use params::Params;
 use pkce::matches;
-use points::{Halt, digest_told};
-use replies::{ErrorName, Response, failure};
 
 /// What is sent for a code: its digest, the redirect URI and the code verifier.
 #[derive(Clone, Copy)]

@@ -5,8 +5,8 @@ ghost use Rattle.consent.specs.History.Change.{Spent};
 ghost use Rattle.grant_store.specs.Fits.{FitsStore, IsMember, with_issued, digests_of, refusal};
 ghost use Rattle.grant_store.specs.Kept.{HasFamily};
 ghost use Rattle.pkce.specs.Token.{token_text};
-ghost use Rattle.replies.specs.Written.{written};
-ghost use Rattle.points.specs.Outcomes.{chosen};
+ghost use Rattle.messages.specs.Written.{written};
+ghost use Rattle.grants.specs.Outcomes.{chosen};
 ghost use Rattle.grants.specs.Done.{IsDone, IsShort};
 ghost use Rattle.grants.specs.Exchange.{ends_family};
 ghost use Rattle.grants.specs.Grants.{access_reply, both_reply};
@@ -17,8 +17,8 @@ use crate::setting::Setting;
 use consent::{Moment, TokenKind};
 use grant_store::{Family, Home, NewToken, Store, StoreFault};
 use http::StatusCode;
+use messages::{ErrorName, Response, failure, tokens};
 use pkce::{digest_of, token_text};
-use replies::{ErrorName, Response, failure, tokens};
 use std::alloc::{AllocError, Global};
 
 /// What is good for one use.

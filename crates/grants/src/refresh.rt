@@ -7,7 +7,7 @@ ghost use Rattle.consent.specs.Consents.{FitsConsents};
 ghost use Rattle.grant_store.specs.Fits.{FitsStore};
 ghost use Rattle.grant_store.specs.Kept.{HasFamily};
 ghost use Rattle.grant_store.specs.Views.{refresh_in};
-ghost use Rattle.points.specs.Outcomes.{Outcome, chosen};
+ghost use Rattle.grants.specs.Outcomes.{Outcome, chosen};
 ghost use Rattle.grants.specs.Done.{IsDone, IsShort};
 ghost use Rattle.grants.specs.Grants.{left_of, owner_number};
 ghost use Rattle.grants.specs.Issuing.{IsSource};
@@ -20,14 +20,14 @@ use crate::issuing::{
     SingleUse, Source, access_token, both_reply, ended, issue_for, refresh_token,
 };
 use crate::setting::Setting;
+use crate::{digest_told, scope_within};
 use clients::ClientNo;
 use consent::{Consents, Moment, OwnerNo};
 use grant_store::{Family, Store};
-use hook_chain::{HookHost, decided};
+use hook_host::{HookHost, decided};
 use hook_record::{Ask, Kind, Narrowed};
+use messages::{ErrorName, Response};
 use params::Params;
-use points::{digest_told, scope_within};
-use replies::{ErrorName, Response};
 
 /// A refresh token that may be used.
 #[derive(Clone, Copy)]

@@ -2,7 +2,7 @@
 
 use clients::Registry;
 use consent::Moment;
-use requests::Draws;
+use messages::Draws;
 use std::alloc::Global;
 
 /// Where memory comes from, the rules, the moment, and the random bytes of what the reply may give.

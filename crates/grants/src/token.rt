@@ -3,10 +3,10 @@ ghost use Rattle.std.specs.Prelude.{◌≡◌, ◌≤◌, ℕ, List, Bool, lengt
 ghost use Rattle.consent.specs.Consents.{FitsConsents};
 ghost use Rattle.consent.specs.History.{Event};
 ghost use Rattle.grant_store.specs.Fits.{FitsStore};
-ghost use Rattle.requests.specs.Asked.{asked_of};
-ghost use Rattle.points.specs.Halts.{Leads};
-ghost use Rattle.points.specs.Outcomes.{Outcome, chosen, need, unavailable};
-ghost use Rattle.points.specs.Requesters.{known_client};
+ghost use Rattle.messages.specs.Asked.{asked_of};
+ghost use Rattle.grants.specs.Halts.{Leads};
+ghost use Rattle.grants.specs.Outcomes.{Outcome, chosen, need, unavailable};
+ghost use Rattle.grants.specs.Requesters.{known_client};
 ghost use Rattle.clients.specs.declared.grant.GrantType.{GrantType};
 ghost use Rattle.grants.specs.Done.{IsDone, IsShort};
 ghost use Rattle.grants.specs.TokenPath.{type_points, token_points, issue_token};
@@ -16,14 +16,13 @@ use crate::credentials::credentials_path;
 use crate::exchange::exchange_path;
 use crate::refresh::refresh_path;
 use crate::setting::Setting;
+use crate::{Halt, authenticated_client, form};
 use clients::{Client, ClientNo, GrantType};
 use consent::Consents;
 use grant_store::Store;
-use hook_chain::HookHost;
+use hook_host::HookHost;
+use messages::{ErrorName, Request, Response};
 use params::Params;
-use points::{Halt, authenticated_client, form};
-use replies::{ErrorName, Response};
-use requests::Request;
 
 // The grant type, which the client may use.
 fn grant_type(params: &Params, client: &Client) -> Result<GrantType, Halt>

@@ -2,7 +2,7 @@
 use Rattle.std.specs.Prelude.{◌≡◌, ℕ, ◌≤◌, ◌⊎◌, List, [], ◌∷◌, ◌++◌, length, map, Some, codes}
 use Rattle.httparse.specs.Grammar.{RequestHead, print_request, IsRequestHead, ReadsRequest, HasNoRequest, MayBecomeRequest}
 use Rattle.httparse.specs.Spans.{name_and_value}
-use Rattle.requests.specs.Asked.{Asked}
+use Rattle.messages.specs.Asked.{Asked}
 use Rattle.heads.specs.Limits.{head_size_limit, field_line_limit}
 use Rattle.heads.specs.Fields.{AreGoodFields, content_length, value_of}
 

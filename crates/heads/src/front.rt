@@ -3,7 +3,7 @@ ghost use Rattle.std.specs.Prelude.{◌≡◌, ◌≤◌, length};
 ghost use Rattle.std.specs.Option.{option_copied};
 ghost use Rattle.httparse.specs.Grammar.{HasNoRequest, MayBecomeRequest};
 ghost use Rattle.httparse.specs.Spans.{IsRequestOf, IsRequestWithin};
-ghost use Rattle.requests.specs.Asked.{asked_of};
+ghost use Rattle.messages.specs.Asked.{asked_of};
 ghost use Rattle.heads.specs.Limits.{field_line_limit};
 ghost use Rattle.heads.specs.Message.{Message, asked_of_message};
 ghost use Rattle.heads.specs.Places.{IsOptionWithin, bytes_at};
@@ -13,7 +13,7 @@ use crate::fields::{FieldSpans, read_fields};
 use crate::limits::{FIELD_LINE_LIMIT, HEAD_SIZE_LIMIT};
 use httparse::Status;
 use httparse::spans::{EMPTY_HEADER_SPAN, HeaderSpan, RequestSpans, Span, parse_request};
-use requests::Request;
+use messages::Request;
 
 // HTTP/1.1.
 const MINOR_VERSION: u8 = 1;

@@ -7,7 +7,7 @@ use Rattle.std.proofs.lemmas.List.Sums.{length-filter, count_by-le-length}
 use Rattle.std.proofs.lemmas.List.Elements.{All-filter}
 use Rattle.std.proofs.lemmas.Map.Views.{Contains-from_any}
 use Rattle.std.proofs.lemmas.Slice.Eq.{bytes_eq-Decides}
-use Rattle.hook_chain.specs.Names.{without, IsHookName, AreHookNames}
+use Rattle.hook_host.specs.Names.{without, IsHookName, AreHookNames}
 use Rattle.hook_chain.specs.Chains.{Named, names_of, has_name, without_name}
 
 named_among : (name : List ℕ) (hooks : List Named) → has_name hooks name ≡ list_any (bytes_eq name) (names_of hooks)

@@ -9,9 +9,9 @@ use Rattle.insn.specs.declared.verify_fault.VerifyFault.{VerifyFault}
 use Rattle.insn.specs.Spelling.{Spells, FirstInsnFault}
 use Rattle.insn.specs.Step.{Safe}
 use Rattle.verifier.specs.Verdicts.{Checked, IsVerdict}
-use Rattle.hook_chain.specs.declared.fault.HookFault.{HookFault}
-use Rattle.hook_chain.specs.declared.fault.HookFault.TheVariants as fault
-use Rattle.hook_chain.specs.Names.{IsHookName, hook_limit}
+use Rattle.hook_host.specs.declared.fault.HookFault.{HookFault}
+use Rattle.hook_host.specs.declared.fault.HookFault.TheVariants as fault
+use Rattle.hook_host.specs.Names.{IsHookName, hook_limit}
 
 -- a hook under its name
 pub record Named : Type 0 where

@@ -1,9 +1,4 @@
-pub mod Decisions
-pub mod Names
-pub mod Versions
 pub mod Exits
 pub mod Chains
-pub mod Faults
-pub mod DecisionLaws
 pub mod ExitLaws
 pub mod ChainLaws

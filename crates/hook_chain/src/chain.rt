@@ -1,7 +1,7 @@
 //! The server's own host: hooks that answer one after the other.
 
 ghost use Rattle.std.specs.Prelude.{◌≡◌, ◌↔◌, ◌<◌, ◌≤◌, ◌∷◌, ◌++◌, [], Contains, IsTrue, IfOk, IfErr, IsOk, OnOk, OnErr, length};
-ghost use Rattle.hook_chain.specs.Names.{hook_limit};
+ghost use Rattle.hook_host.specs.Names.{hook_limit};
 ghost use Rattle.hook_chain.specs.Chains.{HasNoPlace, HasPlace, IsAcceptedCode, IsInstalled, IsNotTaken, IsRemoved, RefusesInstall, RefusesRemove, has_name, hooks_of, names_of};
 ghost use Rattle.hook_chain.specs.Exits.{narrowed_by};
 
@@ -29,7 +29,7 @@ pub struct Chain {
 impl Model for Chain {
     ghost use Rattle.std.specs.Prelude.{List};
     ghost use Rattle.hook_chain.specs.Chains.{Named};
-    ghost use Rattle.hook_chain.specs.Names.{AreHookNames};
+    ghost use Rattle.hook_host.specs.Names.{AreHookNames};
     ghost use Rattle.hook_chain.specs.Chains.{names_of};
 
     ghost Value = { List Named };

@@ -1,19 +1,10 @@
-//! Hosts of token hooks, which answer what may be granted of an ask.
-//!
-//! A host keeps hooks under names, in the order in which they were installed. Whatever it answers, `decided` leaves
-//! nothing of a grant that the ask did not hold.
+//! The hooks of a server, seen as one host: each of them is a verified program, and answers in its turn.
 #![tactic(auto)]
 
 mod chain;
-mod decision;
-mod fault;
 mod hook;
-mod host;
 mod name;
 #[cfg(test)]
 mod tests;
 
 pub use chain::Chain;
-pub use decision::{decided, no_answer_widens};
-pub use fault::HookFault;
-pub use host::HookHost;

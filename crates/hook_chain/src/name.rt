@@ -1,7 +1,7 @@
 //! Names of hooks.
 
 ghost use Rattle.std.specs.Prelude.{◌↔◌, IsTrue};
-ghost use Rattle.hook_chain.specs.Names.{IsHookName, IsNameByte};
+ghost use Rattle.hook_host.specs.Names.{IsHookName, IsNameByte};
 
 /// Of how many bytes a hook's name is at most.
 const NAME_LIMIT: usize = 32;

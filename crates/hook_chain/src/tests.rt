@@ -27,7 +27,7 @@ struct Answering {
 }
 
 impl HookHost for Answering {
-    ghost use Rattle.hook_chain.specs.declared.fault.HookFault.TheVariants.{Full, Unknown};
+    ghost use Rattle.hook_host.specs.declared.fault.HookFault.TheVariants.{Full, Unknown};
 
     ghost answer = { λ host _. host.answer };
 

@@ -1,11 +1,11 @@
 -- An edge goes on by one event.
 use Rattle.std.proofs.Common.{◌≡◌, ◌≢◌, ◌≤◌, ◌<◌, ◌+◌, inl, inr, ℕ, List, [], ◌∷◌, ◌++◌, Bool, true, false, cond, Some, None, length, length-append, append_assoc, drop, refl, ap, ◌∙◌, sym, subst, arith}
 use Rattle.std.proofs.lemmas.List.{length-drop, drop-drop, drop-append-le}
-use Rattle.hook_chain.specs.declared.host.HookHost.{Ghosts as Hosting}
+use Rattle.hook_host.specs.declared.host.HookHost.{Ghosts as Hosting}
 use Rattle.clients.specs.RegistryRecord.{RegistryRecord}
 use Rattle.consent.specs.History.{Event, with_changes}
-use Rattle.requests.specs.declared.request.Draws.{Draws}
-use Rattle.points.specs.Outcomes.{Outcome}
+use Rattle.messages.specs.declared.request.Draws.{Draws}
+use Rattle.grants.specs.Outcomes.{Outcome}
 use Rattle.endpoints.specs.Bounded.{IsBounded}
 use Rattle.endpoints.specs.BoundedLaws.{tokens_keep_their_bounds}
 use Rattle.endpoints.specs.Server.{Seen, FitsServer}

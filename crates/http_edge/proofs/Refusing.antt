@@ -1,6 +1,6 @@
 -- Why bytes are refused.
 use Rattle.std.proofs.Common.{◌++◌, ℕ, List}
-use Rattle.requests.specs.declared.request.Draws.{Draws}
+use Rattle.messages.specs.declared.request.Draws.{Draws}
 use Rattle.http_edge.specs.Lanes.{SeenLane}
 use Rattle.http_edge.specs.Edges.{IsBytesRefusal, MayHear}
 use Rattle.http_edge.specs.Heard.{IsHearingRefusal}

@@ -2,8 +2,8 @@
 use Rattle.std.proofs.Common.{◌≡◌, ◌++◌, inl, inr, ℕ, List, Option, Some, None, refl, sym, subst, ◌∙◌, arith}
 use Rattle.std.specs.Prelude.{IsSome, IfErr, Result, Ok, Err}
 use Rattle.std.proofs.lemmas.Bool.{false≢true}
-use Rattle.hook_chain.specs.declared.host.HookHost.{Ghosts as Hosting}
-use Rattle.requests.specs.declared.request.Draws.{Draws}
+use Rattle.hook_host.specs.declared.host.HookHost.{Ghosts as Hosting}
+use Rattle.messages.specs.declared.request.Draws.{Draws}
 use Rattle.heads.specs.Message.{Message, Messages}
 use Rattle.heads.specs.ReadingLaws.{messages_cut}
 use Rattle.http_edge.specs.Schedule.{Connection, connection_at}

@@ -3,14 +3,14 @@ use Rattle.std.proofs.Common.{◌≡◌, ◌<◌, ℕ, List, [], ◌∷◌, ◌+
 use Rattle.std.proofs.lemmas.List.{length-map, map-append}
 use Rattle.std.proofs.lemmas.List.Concat.{flat_map-append}
 use Rattle.std.specs.Prelude.{max}
-use Rattle.hook_chain.specs.declared.fault.HookFault.{HookFault}
-use Rattle.hook_chain.specs.declared.host.HookHost.{Ghosts as Hosting}
+use Rattle.hook_host.specs.declared.fault.HookFault.{HookFault}
+use Rattle.hook_host.specs.declared.host.HookHost.{Ghosts as Hosting}
 use Rattle.clients.specs.RegistryRecord.{RegistryRecord}
 use Rattle.consent.specs.History.{Event, Change, event_at, with_changes}
-use Rattle.requests.specs.declared.request.Draws.{Draws}
-use Rattle.requests.specs.Asked.{Asked}
-use Rattle.replies.specs.Written.{Written, written, reply_bytes}
-use Rattle.points.specs.Outcomes.{Outcome}
+use Rattle.messages.specs.declared.request.Draws.{Draws}
+use Rattle.messages.specs.Asked.{Asked}
+use Rattle.messages.specs.Written.{Written, written, reply_bytes}
+use Rattle.grants.specs.Outcomes.{Outcome}
 use Rattle.endpoints.specs.Hosts.{IsHostFault}
 use Rattle.endpoints.specs.Replies.{outcome, hook_change}
 use Rattle.endpoints.specs.Server.{Seen, FitsServer, IsStep}

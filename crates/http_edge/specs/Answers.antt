@@ -1,14 +1,14 @@
 -- Requests that are answered one after another.
 use Rattle.std.specs.Prelude.{◌≡◌, ℕ, List, [], ◌∷◌, Bool, Option, ⊤}
 use Rattle.std.specs.List.{flat_map}
-use Rattle.hook_chain.specs.declared.fault.HookFault.{HookFault}
-use Rattle.hook_chain.specs.declared.host.HookHost.{Ghosts as Hosting}
+use Rattle.hook_host.specs.declared.fault.HookFault.{HookFault}
+use Rattle.hook_host.specs.declared.host.HookHost.{Ghosts as Hosting}
 use Rattle.clients.specs.RegistryRecord.{RegistryRecord}
 use Rattle.consent.specs.History.{Event, Change, with_changes}
-use Rattle.requests.specs.declared.request.Draws.{Draws}
-use Rattle.requests.specs.Asked.{Asked}
-use Rattle.replies.specs.Written.{written, reply_bytes}
-use Rattle.points.specs.Outcomes.{Outcome}
+use Rattle.messages.specs.declared.request.Draws.{Draws}
+use Rattle.messages.specs.Asked.{Asked}
+use Rattle.messages.specs.Written.{written, reply_bytes}
+use Rattle.grants.specs.Outcomes.{Outcome}
 use Rattle.endpoints.specs.Hosts.{HostSays, HostRun, IsHostFault}
 use Rattle.endpoints.specs.Replies.{outcome, hook_change}
 

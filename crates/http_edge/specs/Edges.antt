@@ -1,6 +1,6 @@
 -- An edge as it is seen, and why its events are refused.
 use Rattle.std.specs.Prelude.{◌≡◌, ◌≤◌, ◌<◌, ◌++◌, ℕ, List, Some, None, IsSome, length}
-use Rattle.requests.specs.declared.request.Draws.{Draws}
+use Rattle.messages.specs.declared.request.Draws.{Draws}
 use Rattle.endpoints.specs.Server.{Seen}
 use Rattle.http_edge.specs.Limits.{connection_limit, piece_limit}
 use Rattle.http_edge.specs.Lanes.{SeenLane, lane_at, output_in, IsHearing}

@@ -1,5 +1,5 @@
 -- What comes on connections.
-use Rattle.hook_chain.specs.declared.host.HookHost.{Ghosts as Hosting}
+use Rattle.hook_host.specs.declared.host.HookHost.{Ghosts as Hosting}
 use Rattle.http_edge.specs.Edges.{SeenEdge}
 use Rattle.http_edge.specs.Schedule.{Opened, HasEnded}
 use Rattle.http_edge.specs.Reached.{Leads, PieceLeads}

@@ -1,8 +1,8 @@
 -- The edges that a schedule leads to.
 use Rattle.std.specs.Prelude.{ℕ, List, [], ◌∷◌, ◌++◌, Bool, false, Option, Some, None}
-use Rattle.hook_chain.specs.declared.host.HookHost.{Ghosts as Hosting}
+use Rattle.hook_host.specs.declared.host.HookHost.{Ghosts as Hosting}
 use Rattle.clients.specs.RegistryRecord.{RegistryRecord}
-use Rattle.requests.specs.declared.request.Draws.{Draws}
+use Rattle.messages.specs.declared.request.Draws.{Draws}
 use Rattle.endpoints.specs.Server.{FitsServer}
 use Rattle.endpoints.specs.Bounded.{IsBounded}
 use Rattle.http_edge.specs.Answers.{Mark}

@@ -1,7 +1,7 @@
 -- Why an event is refused.
 use Rattle.std.specs.Prelude.{◌≡◌, ◌≤◌, ◌<◌, ◌⊎◌, ◌++◌, ℕ, List, Option, Some, None, IsSome, length}
-use Rattle.hook_chain.specs.declared.host.HookHost.{Ghosts as Hosting}
-use Rattle.requests.specs.declared.request.Draws.{Draws}
+use Rattle.hook_host.specs.declared.host.HookHost.{Ghosts as Hosting}
+use Rattle.messages.specs.declared.request.Draws.{Draws}
 use Rattle.heads.specs.Message.{Message, Messages}
 use Rattle.http_edge.specs.Limits.{connection_limit, piece_limit, request_limit}
 use Rattle.http_edge.specs.Schedule.{Connection, connection_at}

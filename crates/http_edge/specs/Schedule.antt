@@ -1,11 +1,11 @@
 -- What came and went on connections, and what the server's outputs are then.
 use Rattle.std.specs.Prelude.{◌≡◌, ◌≢◌, ◌⊎◌, ◌≤◌, ◌<◌, ◌+◌, ℕ, List, [], ◌∷◌, ◌++◌, Bool, true, false, not, Option, Some, None, ◌==◌, if◌then◌else◌, find, filter, length, drop, map, max}
-use Rattle.hook_chain.specs.declared.host.HookHost.{Ghosts as Hosting}
+use Rattle.hook_host.specs.declared.host.HookHost.{Ghosts as Hosting}
 use Rattle.clients.specs.RegistryRecord.{RegistryRecord}
 use Rattle.consent.specs.History.{Event, with_changes}
-use Rattle.requests.specs.declared.request.Draws.{Draws}
-use Rattle.replies.specs.Written.{faulty_bytes}
-use Rattle.points.specs.Outcomes.{Outcome}
+use Rattle.messages.specs.declared.request.Draws.{Draws}
+use Rattle.messages.specs.Written.{faulty_bytes}
+use Rattle.grants.specs.Outcomes.{Outcome}
 use Rattle.heads.specs.Message.{Message, Messages, IsHopeless, MustTell, asked_of_message}
 use Rattle.http_edge.specs.Limits.{connection_limit, piece_limit, request_limit}
 use Rattle.http_edge.specs.Answers.{Mark, AreAnswered, changes_of, replies_of}

@@ -1,15 +1,14 @@
 //! Requests answered one after another.
 ghost use Rattle.std.specs.Prelude.{◌≡◌, ◌≤◌, ◌+◌, ◌*◌, ℕ, List, length, vec_len, vec_capacity};
-ghost use Rattle.replies.specs.Small.{reply_limit};
+ghost use Rattle.messages.specs.Small.{reply_limit};
 ghost use Rattle.heads.specs.Message.{Message, Reads};
 ghost use Rattle.heads.specs.Front.{IsFront};
 ghost use Rattle.http_edge.specs.Heard.{HasMessages, Serves};
 
 use endpoints::{Moment, Server};
 use heads::{Front, front_of, lend};
-use hook_chain::HookHost;
-use replies::Response;
-use requests::Draws;
+use hook_host::HookHost;
+use messages::{Draws, Response};
 
 /// Answers the first requests of the bytes, each with draws of its own. What stands at their front was read before. There
 /// is room for the replies.

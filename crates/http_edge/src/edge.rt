@@ -23,8 +23,8 @@ use crate::limits::{CONNECTION_LIMIT, PIECE_LIMIT, ROOM_TO_HEAR};
 use crate::rest::Rest;
 use crate::room::take_front;
 use endpoints::{Moment, Server};
-use hook_chain::HookHost;
-use requests::Draws;
+use hook_host::HookHost;
+use messages::Draws;
 use std::alloc::{AllocError, Global};
 use std::marker::Model;
 

@@ -1,6 +1,6 @@
 //! What comes on connections.
 use endpoints::Moment;
-use requests::Draws;
+use messages::Draws;
 
 /// What comes on a connection, by its number.
 #[derive(Clone, Copy, Debug)]

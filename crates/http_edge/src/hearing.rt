@@ -1,6 +1,6 @@
 //! A piece is read and answered.
 ghost use Rattle.std.specs.Prelude.{◌≡◌, ◌≤◌, ◌<◌, ◌+◌, ◌*◌, ℕ, List, [], ◌++◌, Bool, length, drop, vec_len, vec_capacity, IfOk, OnOk, IfErr, OnErr, if◌then◌else◌};
-ghost use Rattle.replies.specs.Small.{reply_limit};
+ghost use Rattle.messages.specs.Small.{reply_limit};
 ghost use Rattle.heads.specs.Scan.{IsScan};
 ghost use Rattle.http_edge.specs.Limits.{piece_limit, request_limit, room_to_hear};
 ghost use Rattle.http_edge.specs.Schedule.{faulty_if};
@@ -13,9 +13,8 @@ use crate::rest::Rest;
 use crate::room::put;
 use endpoints::{Moment, Server};
 use heads::{Scan, read_front, scan_behind};
-use hook_chain::HookHost;
-use replies::push_faulty;
-use requests::Draws;
+use hook_host::HookHost;
+use messages::{Draws, push_faulty};
 
 // So many bytes has the 400 of a faulty head.
 const FAULTY_SIZE: usize = 66;

@@ -1,6 +1,6 @@
 //! The limits of the edge.
 ghost use Rattle.std.specs.Prelude.{◌≡◌};
-ghost use Rattle.replies.specs.Small.{reply_limit};
+ghost use Rattle.messages.specs.Small.{reply_limit};
 ghost use Rattle.http_edge.specs.Limits.{connection_limit, piece_limit, request_limit, room_to_hear};
 
 use heads::MESSAGE_SIZE_LIMIT;

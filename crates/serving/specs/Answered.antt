@@ -1,6 +1,6 @@
 -- What was written to a stream answers what was read from it.
 use Rattle.std.specs.Prelude.{◌≡◌, ◌++◌, ◌≤◌, ◌⊎◌, ℕ, List, [], Option, Some, None, length}
-use Rattle.hook_chain.specs.declared.host.HookHost.{Ghosts as Hosting}
+use Rattle.hook_host.specs.declared.host.HookHost.{Ghosts as Hosting}
 use Rattle.clients.specs.RegistryRecord.{RegistryRecord}
 use Rattle.heads.specs.Message.{Messages}
 use Rattle.http_edge.specs.Schedule.{World, Connection, Happening, Forgotten, connection_at, untaken}

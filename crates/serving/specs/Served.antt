@@ -1,7 +1,7 @@
 -- What is done for one connection, step by step.
 use Rattle.std.specs.Prelude.{◌≡◌, ◌⊎◌, ◌++◌, ◌≤◌, ◌<◌, ◌+◌, ◌*◌, ℕ, List, [], Bool, true, false, Option, Some, None, Result, Ok, Err, length, take, ⊤}
 use Rattle.rand_chacha.specs.ChaCha.{ChaCha}
-use Rattle.hook_chain.specs.declared.host.HookHost.{Ghosts as Hosting}
+use Rattle.hook_host.specs.declared.host.HookHost.{Ghosts as Hosting}
 use Rattle.clients.specs.RegistryRecord.{RegistryRecord}
 use Rattle.http_edge.specs.Schedule.{World, Connection, Happening, Opened, HasEnded, Taken, Forgotten, connection_at}
 use Rattle.http_edge.specs.Lanes.{lane_at}

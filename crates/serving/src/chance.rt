@@ -3,9 +3,9 @@ ghost use Rattle.std.specs.Prelude.{◌≡◌, ◌≤◌, ◌*◌, take};
 ghost use Rattle.rand_chacha.specs.ChaCha.{ChaCha};
 ghost use Rattle.serving.specs.Chance.{draws_from, next_draws, moved};
 
+use messages::Draws;
 use rand_chacha::ChaCha20Rng;
 use rand_core::utils::fill_bytes_via_u32;
-use requests::Draws;
 
 /// So many draws has a piece.
 pub const DRAWS_OF_PIECE: usize = 64;

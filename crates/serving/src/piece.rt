@@ -8,10 +8,10 @@ ghost use Rattle.serving.specs.Served.{WhereReached, PieceGiven, PieceRefused};
 
 use crate::chance::{DRAWS_OF_PIECE, draw, draw_on};
 use consent::Moment;
-use hook_chain::HookHost;
+use hook_host::HookHost;
 use http_edge::{Edge, EdgeFault, Event};
+use messages::Draws;
 use rand_chacha::ChaCha20Rng;
-use requests::Draws;
 
 // Gives a piece to the edge, with these draws.
 fn tell<H: HookHost>(

@@ -11,7 +11,7 @@ use crate::clock::Clock;
 use crate::fault::ServeFault;
 use crate::piece::give;
 use crate::stream::Stream;
-use hook_chain::HookHost;
+use hook_host::HookHost;
 use http_edge::{Edge, Event};
 use rand_chacha::ChaCha20Rng;
 

@@ -3,7 +3,7 @@ use Rattle.std.proofs.Common.{◌≡◌, ◌<◌, ◌≤◌, ℕ, suc, zero, Lis
 use Rattle.std.proofs.lemmas.List.{take_all}
 use Rattle.std.specs.Bool.{◌==◌}
 use Rattle.std.specs.List.{slice_split}
-use Rattle.requests.specs.declared.request.Draws.{Draws}
+use Rattle.messages.specs.declared.request.Draws.{Draws}
 use Rattle.transcript.specs.Pieces.{draws_in, AllDraw, SpellsDraws}
 
 abbrev pub texts : List (Bor (List ℕ)) → List (List ℕ)

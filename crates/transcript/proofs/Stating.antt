@@ -1,7 +1,7 @@
 -- Words of a piece, and what else they could state.
 use Rattle.std.proofs.Common.{◌≡◌, ℕ, List, [], ◌∷◌, codes, Option, Some, None, Result, IfOk, Bor, ◌≤◌, ◌<◌, length, get_or, map, refl, sym, ap, ◌∙◌, subst, arith}
 use Rattle.std.specs.Option.{option_map}
-use Rattle.requests.specs.declared.request.Draws.{Draws}
+use Rattle.messages.specs.declared.request.Draws.{Draws}
 use Rattle.transcript.specs.Numbers.{IsConnection, IsMoment}
 use Rattle.transcript.specs.Pieces.{SpellsDraws, SpellsPiece}
 use Rattle.transcript.specs.declared.line.Line.{Line}

@@ -2,7 +2,7 @@
 use Rattle.std.specs.Prelude.{◌≡◌, ◌≢◌, ◌⊎◌, ◌+◌, ◌++◌, ⊤, ℕ, List, [], ◌∷◌, codes, length, Ok, Err}
 use Rattle.std.specs.Fmt.{decimal}
 use Rattle.std.specs.List.{flat_map}
-use Rattle.hook_chain.specs.declared.host.HookHost.{Ghosts as Hosting}
+use Rattle.hook_host.specs.declared.host.HookHost.{Ghosts as Hosting}
 use Rattle.clients.specs.Registry.{registry_in}
 use Rattle.clients.specs.RegistryRecord.{RegistryRecord}
 use Rattle.clients.specs.declared.fault.ConfigFault.TheVariants as config

@@ -1,7 +1,7 @@
 -- Lines that are run over an edge.
 use Rattle.std.specs.Prelude.{◌≡◌, ◌≢◌, ◌++◌, ℕ, List, [], ◌∷◌}
 use Rattle.std.specs.List.{flat_map}
-use Rattle.hook_chain.specs.declared.host.HookHost.{Ghosts as Hosting}
+use Rattle.hook_host.specs.declared.host.HookHost.{Ghosts as Hosting}
 use Rattle.clients.specs.RegistryRecord.{RegistryRecord}
 use Rattle.http_edge.specs.Schedule.{World, Happening, Opened, Came, HasEnded, Taken, Forgotten, start}
 use Rattle.http_edge.specs.Edges.{SeenEdge, output_of}

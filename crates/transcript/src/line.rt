@@ -9,7 +9,7 @@ ghost use Rattle.transcript.specs.Seen.{stated};
 use crate::number::{connection, moment};
 use crate::piece::{draws, piece};
 use consent::Moment;
-use requests::Draws;
+use messages::Draws;
 use std::alloc::{AllocError, Global};
 
 /// What a line behind the first states.

@@ -3,11 +3,11 @@
 ghost use Rattle.std.specs.Prelude.{◌≡◌, ◌==◌, ℕ, List, map, Some, IfOk, IfSome};
 ghost use Rattle.std.specs.List.{slice_split};
 ghost use Rattle.std.specs.Option.{option_map};
-ghost use Rattle.requests.specs.declared.request.Draws.{Draws};
+ghost use Rattle.messages.specs.declared.request.Draws.{Draws};
 ghost use Rattle.transcript.specs.Pieces.{drawn, draws_in, AllDraw, SpellsDraws, SpellsPiece};
 
 use hex::{FromHex, FromHexError};
-use requests::Draws;
+use messages::Draws;
 use std::alloc::{AllocError, Global};
 
 /// 64 bytes drawn: 32 of the first code or token, and 32 of the second.

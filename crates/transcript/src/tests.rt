@@ -27,7 +27,8 @@ mod tokens;
 
 use crate::fault::ReplayFault;
 use crate::running::replay_on;
-use hook_chain::{Chain, HookHost};
+use hook_chain::Chain;
+use hook_host::HookHost;
 use std::alloc::{AllocError, Global};
 use std::process::Abort;
 use std::str;

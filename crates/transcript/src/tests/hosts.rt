@@ -3,7 +3,7 @@
 ghost use Rattle.std.specs.Prelude.{◌≡◌, []};
 
 use super::*;
-use hook_chain::HookFault;
+use hook_host::HookFault;
 use hook_record::{Ask, Narrowed};
 use insn::layout::Layout;
 
@@ -14,7 +14,7 @@ struct Answering {
 }
 
 impl HookHost for Answering {
-    ghost use Rattle.hook_chain.specs.declared.fault.HookFault.TheVariants.{Full, Unknown};
+    ghost use Rattle.hook_host.specs.declared.fault.HookFault.TheVariants.{Full, Unknown};
 
     ghost answer = { λ host _. host.answer };
 

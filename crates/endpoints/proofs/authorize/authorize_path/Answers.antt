@@ -1,5 +1,5 @@
 use Rattle.std.proofs.Common.{◌∙◌}
-use Rattle.requests.specs.Asked.{asked_of}
+use Rattle.messages.specs.Asked.{asked_of}
 use Rattle.endpoints.specs.Authorize.{authorize, authorize_known, query_points}
 use Rattle.grants.specs.DoneLaws.{done_by, leads_halt, undone_done}
 use Rattle.endpoints.proofs.authorize.authorize_path.Goals as goal

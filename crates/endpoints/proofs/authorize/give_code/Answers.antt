@@ -1,5 +1,5 @@
 use Rattle.std.proofs.Common.{true, false, refl, rules}
-use Rattle.points.specs.Outcomes.{unavailable}
+use Rattle.grants.specs.Outcomes.{unavailable}
 use Rattle.grants.specs.DoneLaws.{nothing_done}
 use Rattle.endpoints.proofs.GivingCodes.{code_done, code_short}
 use Rattle.endpoints.proofs.authorize.give_code.Goals as goal

@@ -1,6 +1,6 @@
 use Rattle.std.proofs.Common.{◌∙◌, ap}
-use Rattle.requests.specs.Asked.{asked_of}
-use Rattle.points.specs.Outcomes.{chosen}
+use Rattle.messages.specs.Asked.{asked_of}
+use Rattle.grants.specs.Outcomes.{chosen}
 use Rattle.endpoints.specs.ConsentPath.{consent_points, give_consent}
 use Rattle.grants.specs.DoneLaws.{leads_halt}
 use Rattle.endpoints.proofs.Lowering.{undone_consented, consented_by}

@@ -1,5 +1,5 @@
 use Rattle.std.proofs.Common.{true, false, refl, rules}
-use Rattle.points.specs.Outcomes.{unavailable}
+use Rattle.grants.specs.Outcomes.{unavailable}
 use Rattle.endpoints.proofs.Lowering.{undone_consented, kept_consented, consent_short}
 use Rattle.endpoints.proofs.consenting.keep.Goals as goal
 

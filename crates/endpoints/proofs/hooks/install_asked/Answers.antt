@@ -1,8 +1,8 @@
 use Rattle.std.proofs.Common.{Some, refl, arith, sym, subst}
-use Rattle.hook_chain.specs.Versions.{layout_of-version_of}
+use Rattle.hook_host.specs.Versions.{layout_of-version_of}
 use Rattle.endpoints.specs.HookAsking.{hook_change}
-use Rattle.replies.specs.Reply.{plain}
-use Rattle.replies.specs.Reply.Body.{Hook}
+use Rattle.messages.specs.Reply.{plain}
+use Rattle.messages.specs.Reply.Body.{Hook}
 use Rattle.grants.specs.ShortLaws.{written_short}
 use Rattle.endpoints.proofs.Hooking.{undone_hooked}
 use Rattle.endpoints.proofs.hooks.install_asked.Goals as goal

@@ -2,11 +2,11 @@ use Rattle.std.proofs.Common.{◌≡◌, None, Some, refl, sym, ap, ◌∙◌}
 use Rattle.std.specs.Prelude.{not, option_map}
 use Rattle.std.specs.Result.{result_ok}
 use Rattle.params.specs.Form.{read_params}
-use Rattle.replies.specs.declared.error.ErrorName.TheVariants.{InvalidRequest}
-use Rattle.requests.specs.Asked.{asked_of}
-use Rattle.requests.specs.Target.{query_of}
-use Rattle.points.specs.Outcomes.{Outcome, need, refuse}
-use Rattle.points.specs.Requesters.{Parameters}
+use Rattle.messages.specs.declared.error.ErrorName.TheVariants.{InvalidRequest}
+use Rattle.messages.specs.Asked.{asked_of}
+use Rattle.messages.specs.Target.{query_of}
+use Rattle.grants.specs.Outcomes.{Outcome, need, refuse}
+use Rattle.grants.specs.Requesters.{Parameters}
 use Rattle.endpoints.specs.HookAsking.{hook_change}
 use Rattle.endpoints.specs.HookPaths.{is_operator, with_operator}
 use Rattle.grants.specs.DoneLaws.{leads_halt}

@@ -1,7 +1,7 @@
 use Rattle.std.proofs.Common.{map, ap, ◌∙◌}
-use Rattle.replies.specs.Reply.{plain}
-use Rattle.replies.specs.Reply.Body.{Hooks}
-use Rattle.replies.specs.Written.{written}
+use Rattle.messages.specs.Reply.{plain}
+use Rattle.messages.specs.Reply.Body.{Hooks}
+use Rattle.messages.specs.Written.{written}
 use Rattle.grants.specs.ShortLaws.{written_short}
 use Rattle.endpoints.proofs.Listing.{names_small}
 use Rattle.endpoints.proofs.hooks.list_path.Goals as goal

@@ -1,11 +1,11 @@
 use Rattle.std.proofs.Common.{◌≡◌, ◌<◌, ◌^◌, refl, arith, rules}
 use Rattle.insn.specs.declared.fault.InsnFault.TheVariants as insn
 use Rattle.insn.specs.declared.verify_fault.VerifyFault.TheVariants as verify
-use Rattle.hook_chain.specs.declared.fault.HookFault.{HookFault}
-use Rattle.hook_chain.specs.declared.fault.HookFault.TheVariants.{Insn, Verify, NameTaken, BadName, Full, Unknown, Memory}
-use Rattle.hook_chain.specs.Faults.{hook_fault_text}
-use Rattle.replies.specs.Reply.{plain}
-use Rattle.replies.specs.Reply.Body.{HookRefused}
+use Rattle.hook_host.specs.declared.fault.HookFault.{HookFault}
+use Rattle.hook_host.specs.declared.fault.HookFault.TheVariants.{Insn, Verify, NameTaken, BadName, Full, Unknown, Memory}
+use Rattle.hook_host.specs.Faults.{hook_fault_text}
+use Rattle.messages.specs.Reply.{plain}
+use Rattle.messages.specs.Reply.Body.{HookRefused}
 use Rattle.endpoints.proofs.FaultSizes.{hook_slot, hook_fault_short}
 use Rattle.grants.specs.ShortLaws.{written_short}
 use Rattle.endpoints.proofs.hooks.refuse_hook.Goals as goal

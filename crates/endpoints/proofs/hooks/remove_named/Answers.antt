@@ -1,7 +1,7 @@
 use Rattle.std.proofs.Common.{Some, refl, arith}
 use Rattle.consent.specs.History.Change.{HookGone}
-use Rattle.replies.specs.Reply.{plain}
-use Rattle.replies.specs.Reply.Body.{Hook}
+use Rattle.messages.specs.Reply.{plain}
+use Rattle.messages.specs.Reply.Body.{Hook}
 use Rattle.grants.specs.ShortLaws.{written_short}
 use Rattle.endpoints.proofs.Hooking.{undone_hooked}
 use Rattle.endpoints.proofs.hooks.remove_named.Goals as goal

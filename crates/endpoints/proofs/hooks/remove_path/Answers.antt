@@ -2,9 +2,9 @@ use Rattle.std.proofs.Common.{◌≡◌, None, Some, refl, sym, ap, ◌∙◌}
 use Rattle.std.specs.Prelude.{codes, not, option_copied, option_map}
 use Rattle.params.specs.Form.{value_of}
 use Rattle.consent.specs.History.Change.{HookGone}
-use Rattle.requests.specs.Asked.{asked_of}
-use Rattle.points.specs.Outcomes.{Outcome}
-use Rattle.points.specs.Requesters.{Parameters, with_form, form_of}
+use Rattle.messages.specs.Asked.{asked_of}
+use Rattle.grants.specs.Outcomes.{Outcome}
+use Rattle.grants.specs.Requesters.{Parameters, with_form, form_of}
 use Rattle.endpoints.specs.HookPaths.{is_operator, with_operator}
 use Rattle.grants.specs.DoneLaws.{leads_halt}
 use Rattle.endpoints.proofs.Presenting.{undone_by}

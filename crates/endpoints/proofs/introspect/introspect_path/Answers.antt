@@ -1,6 +1,6 @@
 use Rattle.std.proofs.Common.{◌≡◌, ℕ, List, Option, None, ap, ◌∙◌}
-use Rattle.requests.specs.Asked.{asked_of}
-use Rattle.points.specs.Outcomes.{Outcome}
+use Rattle.messages.specs.Asked.{asked_of}
+use Rattle.grants.specs.Outcomes.{Outcome}
 use Rattle.endpoints.specs.Presented.{live_of}
 use Rattle.endpoints.specs.Introspect.{told, introspect}
 use Rattle.grants.specs.DoneLaws.{leads_halt}

@@ -3,8 +3,8 @@ use Rattle.std.specs.Prelude.{option_copied}
 use Rattle.params.specs.Scope.{scope_text}
 use Rattle.clients.specs.Clients.{client_at}
 use Rattle.endpoints.proofs.Presenting.{active_told}
-use Rattle.replies.specs.Reply.{plain}
-use Rattle.replies.specs.Reply.Body.{Active}
+use Rattle.messages.specs.Reply.{plain}
+use Rattle.messages.specs.Reply.Body.{Active}
 use Rattle.grants.specs.ShortLaws.{written_short}
 use Rattle.endpoints.proofs.introspect.tell_active.Goals as goal
 

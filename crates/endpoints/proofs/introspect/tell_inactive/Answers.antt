@@ -1,6 +1,6 @@
 use Rattle.std.proofs.Common.{refl}
-use Rattle.replies.specs.Reply.{plain}
-use Rattle.replies.specs.Reply.Body.{Inactive}
+use Rattle.messages.specs.Reply.{plain}
+use Rattle.messages.specs.Reply.Body.{Inactive}
 use Rattle.grants.specs.ShortLaws.{written_short}
 use Rattle.endpoints.proofs.introspect.tell_inactive.Goals as goal
 

@@ -1,10 +1,10 @@
 use Rattle.std.proofs.Common.{◌≡◌, ◌≤◌, None, Some, sym, ap, ◌∙◌}
 use Rattle.std.specs.Prelude.{codes, option_copied}
 use Rattle.params.specs.Form.{value_of}
-use Rattle.replies.specs.declared.error.ErrorName.TheVariants.{InvalidRequest}
-use Rattle.requests.specs.Asked.{asked_of}
-use Rattle.points.specs.Outcomes.{need, refuse}
-use Rattle.points.specs.Texts.{digest_told}
+use Rattle.messages.specs.declared.error.ErrorName.TheVariants.{InvalidRequest}
+use Rattle.messages.specs.Asked.{asked_of}
+use Rattle.grants.specs.Outcomes.{need, refuse}
+use Rattle.grants.specs.Texts.{digest_told}
 use Rattle.endpoints.proofs.Presenting.{presented_to}
 use Rattle.endpoints.proofs.revoke.presented_by.Goals as goal
 

@@ -1,7 +1,7 @@
 use Rattle.std.proofs.Common.{false, refl, rules, ◌∙◌, sym}
 use Rattle.grants.specs.DoneLaws.{undone_done, done_by}
-use Rattle.replies.specs.Reply.{plain}
-use Rattle.replies.specs.Reply.Body.{Empty}
+use Rattle.messages.specs.Reply.{plain}
+use Rattle.messages.specs.Reply.Body.{Empty}
 use Rattle.grants.specs.ShortLaws.{written_short}
 use Rattle.endpoints.proofs.Presenting.{own_revoked, other_refused}
 use Rattle.endpoints.proofs.revoke.revoke_live.Goals as goal

@@ -1,10 +1,10 @@
 use Rattle.std.proofs.Common.{◌≡◌, ℕ, List, Option, None, false, refl, ap, ◌∙◌, rules}
-use Rattle.requests.specs.Asked.{asked_of}
-use Rattle.points.specs.Outcomes.{Outcome, bare}
+use Rattle.messages.specs.Asked.{asked_of}
+use Rattle.grants.specs.Outcomes.{Outcome, bare}
 use Rattle.endpoints.specs.Presented.{live_of}
 use Rattle.endpoints.specs.Revoke.{revoked, revoke_token}
-use Rattle.replies.specs.Reply.{plain}
-use Rattle.replies.specs.Reply.Body.{Empty}
+use Rattle.messages.specs.Reply.{plain}
+use Rattle.messages.specs.Reply.Body.{Empty}
 use Rattle.grants.specs.ShortLaws.{written_short}
 use Rattle.grants.specs.DoneLaws.{undone_done, leads_halt, done_by, nothing_done}
 use Rattle.endpoints.proofs.revoke.revoke_path.Goals as goal

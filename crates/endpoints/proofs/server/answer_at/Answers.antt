@@ -1,11 +1,11 @@
 use Rattle.std.proofs.Common.{None, ◌≡◌, true, refl}
-use Rattle.requests.specs.Asked.{asked_of}
+use Rattle.messages.specs.Asked.{asked_of}
 use Rattle.endpoints.specs.Authorize.{authorize}
 use Rattle.grants.specs.TokenPath.{issue_token}
 use Rattle.endpoints.specs.Revoke.{revoke_token}
 use Rattle.endpoints.specs.Introspect.{introspect}
 use Rattle.endpoints.specs.HookPaths.{install_hook, remove_hook, list_hooks}
-use Rattle.points.specs.Outcomes.{chosen}
+use Rattle.grants.specs.Outcomes.{chosen}
 use Rattle.endpoints.proofs.SoundToken.{issue_token_sound}
 use Rattle.endpoints.proofs.SoundOthers.{authorize_sound, revoke_sound, introspect_sound}
 use Rattle.endpoints.proofs.Frame.{store_step, told_step}

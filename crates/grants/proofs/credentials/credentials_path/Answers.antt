@@ -1,6 +1,6 @@
 use Rattle.std.proofs.Common.{◌≡◌, None, Some, sym, ◌∙◌}
-use Rattle.points.specs.Requesters.{scope_within}
-use Rattle.replies.specs.declared.error.ErrorName.TheVariants.{InvalidScope}
+use Rattle.grants.specs.Requesters.{scope_within}
+use Rattle.messages.specs.declared.error.ErrorName.TheVariants.{InvalidScope}
 use Rattle.grants.specs.DoneLaws.{refuse_done}
 use Rattle.grants.proofs.credentials.credentials_path.Goals as goal
 

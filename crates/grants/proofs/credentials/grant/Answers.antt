@@ -1,6 +1,6 @@
 use Rattle.std.proofs.Common.{sym, ◌∙◌, ◌≡◌}
 use Rattle.hook_record.specs.declared.Narrowed.TheVariants.{Denied, EmptyScope, Allowed}
-use Rattle.replies.specs.declared.error.ErrorName.TheVariants.{InvalidScope, UnauthorizedClient}
+use Rattle.messages.specs.declared.error.ErrorName.TheVariants.{InvalidScope, UnauthorizedClient}
 use Rattle.grants.specs.Grants.{left_of}
 use Rattle.grants.specs.DoneLaws.{refuse_done}
 use Rattle.grants.proofs.credentials.grant.Goals as goal

@@ -1,6 +1,6 @@
 use Rattle.std.proofs.Common.{true, false, refl, length, [], ◌∷◌}
 use Rattle.sha2.specs.Sha256.{sha256}
-use Rattle.points.specs.Outcomes.{unavailable}
+use Rattle.grants.specs.Outcomes.{unavailable}
 use Rattle.grants.specs.Grants.{access_reply, access_issued}
 use Rattle.grants.specs.DoneLaws.{nothing_done}
 use Rattle.grants.proofs.Issued.{given_done}

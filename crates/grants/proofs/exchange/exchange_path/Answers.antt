@@ -1,6 +1,6 @@
 use Rattle.std.proofs.Common.{◌≡◌, ◌∙◌}
-use Rattle.replies.specs.declared.error.ErrorName.TheVariants.{InvalidGrant}
-use Rattle.points.specs.Outcomes.{refuse}
+use Rattle.messages.specs.declared.error.ErrorName.TheVariants.{InvalidGrant}
+use Rattle.grants.specs.Outcomes.{refuse}
 use Rattle.grants.specs.Exchange.{ends_family, exchange, exchange_code}
 use Rattle.grants.specs.DoneLaws.{undone_done, leads_halt, done_by}
 use Rattle.grants.proofs.Exchanging.{after_sent}

@@ -1,5 +1,5 @@
 use Rattle.std.proofs.Common.{[], ◌∷◌, true, false, refl}
-use Rattle.points.specs.Outcomes.{unavailable}
+use Rattle.grants.specs.Outcomes.{unavailable}
 use Rattle.grants.specs.Grants.{access_reply}
 use Rattle.grants.specs.Issuing.{access_token}
 use Rattle.grants.specs.DoneLaws.{nothing_done}

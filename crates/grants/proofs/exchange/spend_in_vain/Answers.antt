@@ -1,7 +1,7 @@
 use Rattle.std.proofs.Common.{true, false, refl}
-use Rattle.replies.specs.Reply.{plain}
-use Rattle.replies.specs.Reply.Body.{Failure}
-use Rattle.points.specs.Outcomes.{unavailable}
+use Rattle.messages.specs.Reply.{plain}
+use Rattle.messages.specs.Reply.Body.{Failure}
+use Rattle.grants.specs.Outcomes.{unavailable}
 use Rattle.grants.specs.DoneLaws.{nothing_done}
 use Rattle.grants.specs.ShortLaws.{written_short}
 use Rattle.grants.proofs.exchange.spend_in_vain.Goals as goal

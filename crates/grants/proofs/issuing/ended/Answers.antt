@@ -1,6 +1,6 @@
 use Rattle.std.proofs.Common.{true, false, refl}
-use Rattle.replies.specs.declared.error.ErrorName.TheVariants.{InvalidGrant}
-use Rattle.points.specs.Outcomes.{unavailable}
+use Rattle.messages.specs.declared.error.ErrorName.TheVariants.{InvalidGrant}
+use Rattle.grants.specs.Outcomes.{unavailable}
 use Rattle.grants.specs.DoneLaws.{nothing_done}
 use Rattle.grants.specs.ShortLaws.{written_short, failure_small}
 use Rattle.grants.proofs.issuing.ended.Goals as goal

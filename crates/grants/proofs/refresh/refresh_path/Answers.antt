@@ -1,7 +1,7 @@
 use Rattle.std.proofs.Common.{◌≡◌, None, Some, sym, ap, ◌∙◌}
 use Rattle.std.specs.Prelude.{codes, option_copied}
 use Rattle.params.specs.Form.{value_of}
-use Rattle.points.specs.Texts.{digest_told}
+use Rattle.grants.specs.Texts.{digest_told}
 use Rattle.grants.specs.DoneLaws.{undone_done}
 use Rattle.grants.proofs.refresh.refresh_path.Goals as goal
 

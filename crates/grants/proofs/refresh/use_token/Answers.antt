@@ -1,5 +1,5 @@
 use Rattle.std.proofs.Common.{◌≡◌, None, Some, refl, sym, ◌∙◌}
-use Rattle.points.specs.Requesters.{scope_within}
+use Rattle.grants.specs.Requesters.{scope_within}
 use Rattle.grants.specs.Grants.{left_of}
 use Rattle.grants.specs.Refresh.{refreshed, refresh_ask}
 use Rattle.grants.specs.DoneLaws.{undone_done}

@@ -1,8 +1,8 @@
 use Rattle.std.proofs.Common.{◌∙◌, ap}
 use Rattle.clients.specs.declared.grant.GrantType.{GrantType}
 use Rattle.clients.specs.declared.grant.GrantType.TheVariants.{AuthorizationCode, RefreshToken, ClientCredentials}
-use Rattle.points.specs.Outcomes.{Outcome}
-use Rattle.points.specs.Requesters.{KnownClient}
+use Rattle.grants.specs.Outcomes.{Outcome}
+use Rattle.grants.specs.Requesters.{KnownClient}
 use Rattle.grants.specs.TokenPath.{grant_points, type_points}
 use Rattle.grants.specs.DoneLaws.{undone_done, leads_halt}
 use Rattle.grants.proofs.Granting.{grant_done}

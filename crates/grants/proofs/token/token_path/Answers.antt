@@ -1,8 +1,8 @@
 use Rattle.std.proofs.Common.{◌∙◌}
 use Rattle.clients.specs.Authentication.{authenticated}
-use Rattle.requests.specs.Asked.{asked_of}
-use Rattle.points.specs.Outcomes.{Outcome, need, unavailable}
-use Rattle.points.specs.Requesters.{Parameters, known_client, with_client}
+use Rattle.messages.specs.Asked.{asked_of}
+use Rattle.grants.specs.Outcomes.{Outcome, need, unavailable}
+use Rattle.grants.specs.Requesters.{Parameters, known_client, with_client}
 use Rattle.grants.specs.TokenPath.{token_points, issue_token}
 use Rattle.grants.specs.DoneLaws.{undone_done, leads_halt, done_by}
 use Rattle.grants.proofs.token.token_path.Goals as goal

@@ -1,7 +1,7 @@
 use Rattle.std.proofs.Common.{◌≡◌, ◌≤◌, ◌+◌, ◌-◌, ℕ, List, ◌++◌, [], ◌∷◌, length, take, drop, refl, ap, ◌∙◌, sym, arith, length-append}
 use Rattle.std.proofs.lemmas.List.{length-drop, drop-drop}
-use Rattle.requests.specs.Asked.{Asked, asked_of}
-use Rattle.replies.specs.Written.{reply_bytes}
+use Rattle.messages.specs.Asked.{Asked, asked_of}
+use Rattle.messages.specs.Written.{reply_bytes}
 use Rattle.heads.specs.Message.{Message, BeginsWith, HasNone, asked_of_message}
 use Rattle.heads.specs.Front.{IsFront, IsFoundWithin, IsWholeAt}
 use Rattle.heads.specs.declared.front.Found.{Found}

@@ -1,5 +1,5 @@
 use Rattle.std.proofs.Common.{ℕ, List, [], Result, Ok, Err, IfOk, rules}
-use Rattle.hook_chain.specs.declared.host.HookHost.{Ghosts as Hosting}
+use Rattle.hook_host.specs.declared.host.HookHost.{Ghosts as Hosting}
 use Rattle.clients.specs.RegistryRecord.{RegistryRecord}
 use Rattle.http_edge.specs.Schedule.{start}
 use Rattle.http_edge.specs.Edges.{SeenEdge}

@@ -1,8 +1,8 @@
 use Rattle.std.proofs.Common.{◌≡◌, ℕ, List, Bool, true, false, None, Some, max, refl, sym, ap, ◌∙◌}
 use Rattle.std.specs.Prelude.{not, bytes_eq, option_and_then}
 use Rattle.grant_store.specs.FitsLaws.{fits_later}
-use Rattle.requests.specs.Asked.{asked_of}
-use Rattle.requests.specs.Target.{path_of}
+use Rattle.messages.specs.Asked.{asked_of}
+use Rattle.messages.specs.Target.{path_of}
 use Rattle.endpoints.specs.Paths.{endpoint_at, method_at}
 use Rattle.grants.specs.ShortLaws.{written_short, not_found_small, not_allowed_small}
 use Rattle.endpoints.proofs.Sound.{not_false}

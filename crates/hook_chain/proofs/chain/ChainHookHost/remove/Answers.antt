@@ -2,7 +2,7 @@ use Rattle.std.proofs.Common.{rules, ◌≡◌, List, not, ap, sym, ◌∙◌, s
 use Rattle.std.specs.Str.{bytes_eq}
 use Rattle.std.proofs.lemmas.List.Elements.{All-contains}
 use Rattle.std.proofs.lemmas.Fn.{filter_same}
-use Rattle.hook_chain.specs.Names.{IsHookName}
+use Rattle.hook_host.specs.Names.{IsHookName}
 use Rattle.hook_chain.specs.Chains.{Named, names_of, without_name}
 use Rattle.hook_chain.specs.ChainLaws.{contains_name, names_without, hook_names_without}
 use Rattle.hook_chain.proofs.chain.ChainHookHost.remove.Goals as goal

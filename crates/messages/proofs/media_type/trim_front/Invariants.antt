@@ -1,0 +1,13 @@
+use Rattle.std.proofs.Common.{◌≡◌, ◌≤◌, ◌+◌, ◌-◌, length, drop}
+use Rattle.std.specs.List.{prefix_len}
+use Rattle.messages.specs.MediaType.{is_space}
+use Rattle.messages.proofs.media_type.trim_front.Given as goal
+
+abbrev pub invariant-loop-start : goal.invariant-loop-start
+invariant-loop-start l = record {
+  inside : l.start ≤ length l.text;
+  spaces : prefix_len is_space l.text ≡ l.start + prefix_len is_space (drop l.start l.text);
+}
+
+abbrev pub decreases-loop-start : goal.decreases-loop-start
+decreases-loop-start l = length l.text - l.start

@@ -1,0 +1,25 @@
+//! The messages of an authorization server, as values: requests, which are slices of the bytes that came, and replies,
+//! their texts and their bytes.
+#![tactic(auto)]
+
+mod body;
+mod build;
+mod bytes;
+mod error;
+pub mod laws;
+mod location;
+mod media_type;
+mod object;
+mod parts;
+mod plain;
+mod request;
+mod response;
+mod target;
+mod token;
+
+pub use build::{active, consent, failure, hook, hook_refused, hooks, inactive, redirect, tokens};
+pub use bytes::push_faulty;
+pub use error::ErrorName;
+pub use request::{Draws, Request};
+pub use response::Response;
+pub use token::ActiveToken;

@@ -1,4 +1,0 @@
-pub mod Outcomes
-pub mod Halts
-pub mod Requesters
-pub mod Texts
