@@ -1,11 +1,11 @@
 -- The exit that the relation of steps gives a run is the one that is found within as many steps as there are instructions.
-use Rattle.std.proofs.Common.{◌≡◌, ℕ, zero, suc, ◌<◌, ◌≤◌, List, length, Option, Some, None, refl, sym, ap, ◌∙◌, arith}
+use Rattle.std.proofs.Common.{◌≡◌, ◌↔◌, ◌+◌, ℕ, zero, suc, ◌<◌, ◌≤◌, List, length, Option, Some, None, refl, sym, ap, ◌∙◌, arith}
 use Rattle.insn.specs.declared.instruction.Insn.{Insn}
 use Rattle.insn.specs.declared.layout.Layout.{Layout}
-use Rattle.insn.specs.Values.{◌>>=◌, Config, start}
-use Rattle.insn.specs.Step.{step, steps, exit_at, IsExit}
-use Rattle.insn.specs.RunLaws.{exit_ends}
-use Rattle.hook_chain.specs.Exits.{exit_or, exit_within}
+use Rattle.insn.specs.Values.{◌>>=◌, Config, IsRecord, start}
+use Rattle.insn.specs.Step.{step, steps, exit_at, IsExit, Safe}
+use Rattle.insn.specs.RunLaws.{exit_ends, one_exit}
+use Rattle.hook_chain.specs.Exits.{exit_or, exit_within, Exit, IsRunTo}
 
 bind_some : {A B : Type 0} (o : Option A) (f : A → Option B) (b : B) → (o >>= f) ≡ Some b → (a : A) × (o ≡ Some a) × (f a ≡ Some b)
 bind_some None f b e = absurd cc
@@ -46,3 +46,58 @@ module _ (layout : Layout) (program : List Insn) where
   run_exit bytes after r0 count exit few =
       let counted = exit.counted in
       exit_found exit.before (length program) (start bytes) exit.last r0 exit.reached exit.exits (omega arith) ∙ ap (λ (l : List ℕ). Some (record { r0 = r0; bytes = l })) exit.left
+
+  -- an exit that is found lies at the end of some steps
+  record Found (c : Config) (exit : Exit) : Type 0 where
+    before : ℕ
+    last : Config
+    reached : steps layout program before c ≡ Some last
+    exits : exit_at layout program last ≡ Some exit.r0
+    left : last.state.bytes ≡ exit.bytes
+
+  found_here : (n : ℕ) (c : Config) (exit : Exit) (r0 : ℕ) → exit_at layout program c ≡ Some r0 → exit_within layout program (suc n) c ≡ Some exit → Found c exit
+  found_here n c exit r0 here is =
+      let e : Some (record { r0 = r0; bytes = c.state.bytes }) ≡ Some exit = sym (ap (λ (o : Option ℕ). exit_or o c.state.bytes (step layout program c >>= exit_within layout program n)) here) ∙ is in
+      let same : record { r0 = r0; bytes = c.state.bytes } ≡ exit = cc in
+      record {
+        before = 0;
+        last = c;
+        reached = refl;
+        exits = here ∙ ap (λ (x : Exit). Some x.r0) same;
+        left = ap (λ (x : Exit). x.bytes) same;
+      }
+
+  found_later : (n : ℕ) (c d : Config) (exit : Exit) → step layout program c ≡ Some d → Found d exit → Found c exit
+  found_later n c d exit there later = record {
+    before = suc later.before;
+    last = later.last;
+    reached = first_step later.before c ∙ ap (λ (o : Option Config). o >>= steps layout program later.before) there ∙ later.reached;
+    exits = later.exits;
+    left = later.left;
+  }
+
+  found : (n : ℕ) (c : Config) (exit : Exit) → exit_within layout program n c ≡ Some exit → Found c exit
+  found zero c exit is = absurd cc
+  found (suc n) c exit is = go (exit_at layout program c) refl (found n) where
+    go : (o : Option ℕ) → exit_at layout program c ≡ o → ((d : Config) (exit : Exit) → exit_within layout program n d ≡ Some exit → Found d exit) → Found c exit
+    go (Some r0) here ahead = found_here n c exit r0 here is
+    go None here ahead =
+        let later : (step layout program c >>= exit_within layout program n) ≡ Some exit = sym (ap (λ (o : Option ℕ). exit_or o c.state.bytes (step layout program c >>= exit_within layout program n)) here) ∙ is in
+        let d = bind_some (step layout program c) (exit_within layout program n) exit later in
+        found_later n c d.0 exit d.1 (ahead d.0 exit d.2)
+
+  run_of_exit : (bytes : List ℕ) (exit : Exit) → exit_within layout program (length program) (start bytes) ≡ Some exit → IsRunTo layout program bytes exit
+  run_of_exit bytes exit is =
+      let it = found (length program) (start bytes) exit is in
+      record { count = it.before + 1; run = record { before = it.before; last = it.last; counted = refl; reached = it.reached; exits = it.exits; left = it.left } }
+
+  exit_of_run : (bytes : List ℕ) (exit : Exit) → IsRecord layout bytes → Safe layout program → IsRunTo layout program bytes exit → exit_within layout program (length program) (start bytes) ≡ Some exit
+  exit_of_run bytes exit fits safe is =
+      let other = safe.exits bytes fits in
+      let same = (one_exit layout program bytes is.run other.exit).1 in
+      run_exit bytes exit.bytes exit.r0 is.count is.run (let few = other.few in omega (arith, same))
+
+-- of a safe program, the exit that is found is the one that the relation of steps gives
+pub exits_are_runs : (layout : Layout) (program : List Insn) (bytes : List ℕ) (exit : Exit) → IsRecord layout bytes → Safe layout program
+    → exit_within layout program (length program) (start bytes) ≡ Some exit ↔ IsRunTo layout program bytes exit
+exits_are_runs layout program bytes exit fits safe = (run_of_exit layout program bytes exit, exit_of_run layout program bytes exit fits safe)

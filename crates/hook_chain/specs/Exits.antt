@@ -5,7 +5,7 @@ use Rattle.insn.specs.declared.instruction.Insn.{Insn}
 use Rattle.insn.specs.declared.layout.Layout.{Layout}
 use Rattle.insn.specs.declared.layout.Layout.TheVariants.{V1, V2}
 use Rattle.insn.specs.Values.{◌>>=◌, Config, record_size, start}
-use Rattle.insn.specs.Step.{exit_at, step}
+use Rattle.insn.specs.Step.{exit_at, step, IsExit}
 use Rattle.hook_record.specs.declared.Ask.{Ask}
 use Rattle.hook_record.specs.declared.Narrowed.{Narrowed}
 use Rattle.hook_record.specs.declared.Narrowed.TheVariants.{Denied, EmptyScope, Allowed}
@@ -27,6 +27,11 @@ exit_or None bytes later = later
 abbrev pub exit_within : Layout → List Insn → ℕ → Config → Option Exit
 exit_within layout program zero c = None
 exit_within layout program (suc n) c = exit_or (exit_at layout program c) c.state.bytes (step layout program c >>= exit_within layout program n)
+
+-- the run exits so, after some number of steps
+pub record IsRunTo (layout : Layout) (program : List Insn) (bytes : List ℕ) (exit : Exit) : Type 0 where
+  pub count : ℕ
+  pub run : IsExit layout program bytes exit.r0 count exit.bytes
 
 -- the record of an ask
 abbrev pub record_of : Layout → Ask → List ℕ

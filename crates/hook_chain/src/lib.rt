@@ -3,6 +3,7 @@
 
 mod chain;
 mod hook;
+pub mod laws;
 mod name;
 #[cfg(test)]
 mod tests;

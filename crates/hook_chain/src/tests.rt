@@ -1,6 +1,7 @@
 ghost use Rattle.std.specs.Prelude.{◌≡◌, []};
 
-use crate::{Chain, HookFault, HookHost, decided};
+use crate::Chain;
+use hook_host::{HookFault, HookHost, decided};
 use hook_record::{Ask, Kind, Narrowed};
 use insn::fault::InsnFault;
 use insn::layout::Layout;
