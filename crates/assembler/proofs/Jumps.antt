@@ -11,8 +11,8 @@ use Rattle.insn.specs.declared.operation.Cond.{Cond}
 use Rattle.insn.specs.declared.register.RegNo.{RegNo}
 use Rattle.insn.specs.declared.instruction.Operand.{Operand as Source}
 use Rattle.insn.specs.declared.instruction.Operand.TheVariants.{Reg, Imm}
-use Rattle.insn.specs.Text.{Word, Register, Number, Target, register_word, distance_word, is_name, SaysOperand}
-use Rattle.insn.specs.declared.mnemonic.Mnemonic.TheVariants.{JumpIf}
+use Rattle.assembly.specs.Text.{Word, Register, Number, Target, register_word, distance_word, is_name, SaysOperand}
+use Rattle.assembly.specs.declared.mnemonic.Mnemonic.TheVariants.{JumpIf}
 use Rattle.assembler.specs.declared.draft.Draft.{Draft}
 use Rattle.assembler.specs.declared.draft.Draft.TheVariants.{Whole, ToLabel}
 use Rattle.assembler.specs.Faults.{Anywhere, OneOf}

@@ -13,7 +13,7 @@ use Rattle.std.proofs.lemmas.Slice.Eq.{bytes_eq-Decides}
 use Rattle.std.specs.Result.{OkIff, result_ok}
 use mir.Syntax.{Width}
 use mir.Val.{to_z, of_z}
-use Rattle.insn.specs.Text.{Word, is_digit, is_positive, is_natural, distance_word, register_word}
+use Rattle.assembly.specs.Text.{Word, is_digit, is_positive, is_natural, distance_word, register_word}
 use Rattle.insn.specs.Instruction.{reg_number}
 use Rattle.insn.specs.declared.register.RegNo.{RegNo}
 use Rattle.insn.specs.declared.register.RegNo.TheVariants.{R0, R1, R2, R3, R4, R5, R6, R7, R8, R9, R10}

@@ -6,10 +6,10 @@ use Rattle.insn.specs.declared.instruction.Insn.{Insn}
 use Rattle.insn.specs.declared.instruction.Insn.TheVariants as insn
 use Rattle.insn.specs.declared.instruction.Operand.TheVariants.{Reg, Imm}
 use Rattle.insn.specs.Instruction.{Fits}
-use Rattle.insn.specs.Text.{Word, Operand, Register, Number, Target, register_word, operands_of, SaysOperand, SaysOperands}
-use Rattle.insn.specs.declared.mnemonic.Mnemonic.{Mnemonic}
-use Rattle.insn.specs.declared.mnemonic.Mnemonic.TheVariants.{Alu, Divide, Remainder, Negate, MoveSigned, SwapBytes, LoadWide, Load, LoadSigned, StoreReg, StoreImm, Jump, JumpLong, JumpIf, Exit}
-use Rattle.insn.specs.Text.{mnemonic_of}
+use Rattle.assembly.specs.Text.{Word, Operand, Register, Number, Target, register_word, operands_of, SaysOperand, SaysOperands}
+use Rattle.assembly.specs.declared.mnemonic.Mnemonic.{Mnemonic}
+use Rattle.assembly.specs.declared.mnemonic.Mnemonic.TheVariants.{Alu, Divide, Remainder, Negate, MoveSigned, SwapBytes, LoadWide, Load, LoadSigned, StoreReg, StoreImm, Jump, JumpLong, JumpIf, Exit}
+use Rattle.assembly.specs.Text.{mnemonic_of}
 use Rattle.assembler.specs.Faults.{Anywhere}
 
 -- the field that an operand has to fit

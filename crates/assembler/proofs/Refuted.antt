@@ -10,14 +10,14 @@ use Rattle.std.proofs.lemmas.List.Sums.{sum_by-append, sum_by-cons}
 use Rattle.insn.specs.declared.instruction.Insn.{Insn}
 use Rattle.insn.specs.Instruction.{slots_of}
 use Rattle.insn.specs.Program.{slot_count, SLOT_LIMIT}
-use Rattle.insn.specs.Text.{Word, is_digit, is_positive, is_natural, is_number, is_distance, is_name, Operand, Register, Number, Target, operands_of, distance_word, Line, Blank, Label, Statement, lines_in, SaysOperand, SaysOperands, SaysInsn, labels_in, names_in, AllDiffer, Text}
-use Rattle.insn.specs.Text.{mnemonic_of}
+use Rattle.assembly.specs.Text.{Word, is_digit, is_positive, is_natural, is_number, is_distance, is_name, Operand, Register, Number, Target, operands_of, distance_word, Line, Blank, Label, Statement, lines_in, SaysOperand, SaysOperands, SaysInsn, labels_in, names_in, AllDiffer, Text}
+use Rattle.assembly.specs.Text.{mnemonic_of}
 use Rattle.assembler.specs.declared.fault.AsmFault.{AsmFault}
 use Rattle.assembler.specs.declared.fault.AsmFault.TheVariants.{UnknownWord, BadOperand, OutOfRange, UnknownLabel, DoubleLabel, TooLong, Memory, NoInstruction}
 use Rattle.assembler.specs.Faults.{Anywhere, OneOf, SaysFitting, Drafts, FirstWrong, FirstLost, FirstTextFault, HasName, HasFormOf, HaveForms, HasForm, HasUnknownWord, HasBadOperand, IsOutOfRange, IsDoubleLabel, IsTooLong, LacksLabel}
 use Rattle.assembler.proofs.Numbers.{decimal_natural, decimal_positive}
 use Rattle.assembler.proofs.Reading.{Field, AReg, ASource, AnImm, AnOffset, AWide, ANear, AFar, FitsIn, FitIn, fields_of, fit_fields}
-use Rattle.insn.specs.TextNameLaws.{same_slots}
+use Rattle.assembly.specs.TextNameLaws.{same_slots}
 use Rattle.assembler.proofs.Texts.{labels_named, says_drafts, split_drafts, names_append, not_differ}
 
 -- ---- slots by names

@@ -11,14 +11,14 @@ use Rattle.insn.specs.declared.instruction.Insn.{Insn}
 use Rattle.insn.specs.Instruction.{slots_of, Fits}
 use Rattle.insn.specs.SlotLaws.{slots_of_bounds}
 use Rattle.insn.specs.Program.{slot_count, IsProgram}
-use Rattle.insn.specs.Text.{Word, operands_of, Line, Blank, Label, Statement, SaysInsn, SaysOperands, labels_in, slot_of, LeadsTo, Says, names_in, lines_in, Text}
-use Rattle.insn.specs.declared.mnemonic.Mnemonic.{Mnemonic}
+use Rattle.assembly.specs.Text.{Word, operands_of, Line, Blank, Label, Statement, SaysInsn, SaysOperands, labels_in, slot_of, LeadsTo, Says, names_in, lines_in, Text}
+use Rattle.assembly.specs.declared.mnemonic.Mnemonic.{Mnemonic}
 use Rattle.assembler.specs.declared.draft.Jump.{Jump}
 use Rattle.assembler.specs.declared.draft.Jump.TheVariants.{Always, Long, If64Imm, If64Reg, If32Imm, If32Reg}
 use Rattle.assembler.specs.declared.draft.Draft.{Draft}
 use Rattle.assembler.specs.declared.draft.Draft.TheVariants.{Whole, ToLabel}
 use Rattle.assembler.specs.declared.sheet.Place.{Place}
-use Rattle.insn.specs.Text.{mnemonic_of, mnemonic_name}
+use Rattle.assembly.specs.Text.{mnemonic_of, mnemonic_name}
 use Rattle.assembler.specs.Faults.{Anywhere, OneOf, SaysFitting, AreRight, FirstLost, FirstTextFault}
 use Rattle.assembler.specs.Drafts.{draft_slots, jump_over, Nowhere, At, IsDraft, SaysDraft}
 use Rattle.assembler.specs.Sheets.{AreFrom, with_zero, zeroed, IsSheet, resolution, resolution_of, FirstLostPlace, Unresolved}

@@ -12,7 +12,7 @@ use Rattle.std.proofs.lemmas.Int.{ints}
 use Rattle.insn.specs.declared.instruction.Insn.{Insn}
 use Rattle.insn.specs.Instruction.{slots_of, Fits}
 use Rattle.insn.specs.Program.{slot_count, SLOT_LIMIT}
-use Rattle.insn.specs.Text.{Word, operands_of, Line, Blank, Label, Statement, SaysOperands, labels_in, slot_of, names_in, AllDiffer, line_of, words_in}
+use Rattle.assembly.specs.Text.{Word, operands_of, Line, Blank, Label, Statement, SaysOperands, labels_in, slot_of, names_in, AllDiffer, line_of, words_in}
 use Rattle.assembler.specs.declared.draft.Jump.TheVariants.{Always, Long, If64Imm, If64Reg, If32Imm, If32Reg}
 use Rattle.assembler.specs.declared.draft.Draft.{Draft}
 use Rattle.assembler.specs.declared.draft.Draft.TheVariants.{Whole, ToLabel}
@@ -20,8 +20,8 @@ use Rattle.assembler.specs.declared.draft.WordFault.{WordFault}
 use Rattle.assembler.specs.declared.draft.WordFault.TheVariants.{UnknownWord, BadOperand, OutOfRange}
 use Rattle.assembler.specs.declared.slot_number.SlotNumber.{SlotNumber}
 use Rattle.assembler.specs.declared.sheet.Place.{Place}
-use Rattle.insn.specs.declared.mnemonic.Mnemonic.{Mnemonic}
-use Rattle.insn.specs.Text.{mnemonic_of, mnemonic_name}
+use Rattle.assembly.specs.declared.mnemonic.Mnemonic.{Mnemonic}
+use Rattle.assembly.specs.Text.{mnemonic_of, mnemonic_name}
 use Rattle.assembler.specs.Faults.{Anywhere, SaysFitting, Drafts, AreRight, FirstWrong, FaultIn, HasUnknownWord, HasBadOperand, IsOutOfRange, IsDoubleLabel, IsTooLong}
 use Rattle.assembler.specs.Drafts.{draft_slots, jump_over, Nowhere, At, IsDraft, SaysDraft, StatementDraft}
 use Rattle.assembler.specs.Sheets.{lines_of, AreFrom, with_zero, zeroed, AreRead, fault_at, find_in}

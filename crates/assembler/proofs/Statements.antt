@@ -5,16 +5,16 @@ use Rattle.insn.specs.declared.register.RegNo.TheVariants.{R0}
 use Rattle.insn.specs.declared.instruction.Insn.{Insn}
 use Rattle.insn.specs.declared.instruction.Insn.TheVariants as insn
 use Rattle.insn.specs.declared.instruction.Operand.TheVariants.{Reg, Imm}
-use Rattle.insn.specs.Text.{Word, Operand, Register, Number, Target, name_of, operands_of}
-use Rattle.insn.specs.declared.mnemonic.Mnemonic.{Mnemonic}
-use Rattle.insn.specs.declared.mnemonic.Mnemonic.TheVariants.{Alu, Divide, Remainder, Negate, MoveSigned, SwapBytes, LoadWide, Load, LoadSigned, StoreReg, StoreImm, Jump, JumpLong, JumpIf, Exit}
+use Rattle.assembly.specs.Text.{Word, Operand, Register, Number, Target, name_of, operands_of}
+use Rattle.assembly.specs.declared.mnemonic.Mnemonic.{Mnemonic}
+use Rattle.assembly.specs.declared.mnemonic.Mnemonic.TheVariants.{Alu, Divide, Remainder, Negate, MoveSigned, SwapBytes, LoadWide, Load, LoadSigned, StoreReg, StoreImm, Jump, JumpLong, JumpIf, Exit}
 use Rattle.assembler.specs.declared.form.OperandKind.{OperandKind}
 use Rattle.assembler.specs.declared.form.OperandKind.TheVariants as kind
-use Rattle.insn.specs.Text.{mnemonic_of, mnemonic_name}
+use Rattle.assembly.specs.Text.{mnemonic_of, mnemonic_name}
 use Rattle.assembler.specs.Forms.{kinds_of, IsOfKind, HaveKinds}
 use Rattle.assembler.specs.Faults.{Anywhere, HasForm, HaveForms, HasName, HasFormOf, SaysFitting}
 use Rattle.assembler.specs.Drafts.{DraftOf}
-use Rattle.insn.specs.TextNameLaws.{mnemonic_name-injective}
+use Rattle.assembly.specs.TextNameLaws.{mnemonic_name-injective}
 
 -- an instruction of a name has its mnemonic
 pub of_mnemonic : (w : Word) (m : Mnemonic) (i : Insn) → w ≡ mnemonic_name m → w ≡ name_of i → mnemonic_of i ≡ m

@@ -6,7 +6,7 @@ use Rattle.std.proofs.lemmas.Bool.{both_ways, or_left, or_right, or_cases, cases
 use Rattle.std.proofs.lemmas.Slice.Eq.{bytes_eq-Decides}
 use Rattle.insn.specs.declared.instruction.Insn.{Insn}
 use Rattle.insn.specs.Instruction.{slots_of, Fits}
-use Rattle.insn.specs.Text.{Word, Operand, Register, Number, Target, operands_of, Line, Blank, Label, Statement, SaysOperand, SaysOperands, SaysInsn, labels_in, slot_of, LeadsTo, Says, names_in, AllDiffer}
+use Rattle.assembly.specs.Text.{Word, Operand, Register, Number, Target, operands_of, Line, Blank, Label, Statement, SaysOperand, SaysOperands, SaysInsn, labels_in, slot_of, LeadsTo, Says, names_in, AllDiffer}
 use Rattle.assembler.specs.Faults.{Drafts}
 
 -- ---- where names may lead further

@@ -13,15 +13,15 @@ use Rattle.insn.specs.declared.instruction.Insn.TheVariants as insn
 use Rattle.insn.specs.declared.instruction.Operand.{Operand as Source}
 use Rattle.insn.specs.declared.instruction.Operand.TheVariants.{Reg, Imm}
 use Rattle.insn.specs.Instruction.{slots_of, Fits}
-use Rattle.insn.specs.Text.{Word, Target, register_word, distance_word, is_name, operands_of, SaysOperand, SaysOperands, Statement}
-use Rattle.insn.specs.declared.mnemonic.Mnemonic.{Mnemonic}
+use Rattle.assembly.specs.Text.{Word, Target, register_word, distance_word, is_name, operands_of, SaysOperand, SaysOperands, Statement}
+use Rattle.assembly.specs.declared.mnemonic.Mnemonic.{Mnemonic}
 use Rattle.assembler.specs.declared.draft.Jump.{Jump}
 use Rattle.assembler.specs.declared.draft.Jump.TheVariants.{Always, Long, If64Imm, If64Reg, If32Imm, If32Reg}
 use Rattle.assembler.specs.declared.draft.Draft.{Draft}
 use Rattle.assembler.specs.declared.draft.Draft.TheVariants.{Whole, ToLabel}
 use Rattle.assembler.specs.declared.draft.WordFault.{WordFault}
 use Rattle.assembler.specs.declared.draft.WordFault.TheVariants.{UnknownWord, BadOperand, OutOfRange}
-use Rattle.insn.specs.Text.{mnemonic_of, mnemonic_name}
+use Rattle.assembly.specs.Text.{mnemonic_of, mnemonic_name}
 use Rattle.assembler.specs.Faults.{Anywhere, OneOf, HasUnknownWord, HasBadOperand, IsOutOfRange}
 
 -- a jump over so many slots

@@ -1,9 +1,9 @@
 -- Which kinds of operands stand behind a mnemonic, and which words have the form of each.
 use Rattle.std.specs.Prelude.{◌≡◌, ◌⊎◌, ⊤, true, ◌||◌, List, [], ◌∷◌}
 use Rattle.insn.specs.declared.register.RegNo.{RegNo}
-use Rattle.insn.specs.declared.mnemonic.Mnemonic.{Mnemonic}
-use Rattle.insn.specs.declared.mnemonic.Mnemonic.TheVariants.{Alu, Divide, Remainder, Negate, MoveSigned, SwapBytes, LoadWide, Load, LoadSigned, StoreReg, StoreImm, Jump, JumpLong, JumpIf, Exit}
-use Rattle.insn.specs.Text.{register_word, is_number, is_distance, is_name, Word}
+use Rattle.assembly.specs.declared.mnemonic.Mnemonic.{Mnemonic}
+use Rattle.assembly.specs.declared.mnemonic.Mnemonic.TheVariants.{Alu, Divide, Remainder, Negate, MoveSigned, SwapBytes, LoadWide, Load, LoadSigned, StoreReg, StoreImm, Jump, JumpLong, JumpIf, Exit}
+use Rattle.assembly.specs.Text.{register_word, is_number, is_distance, is_name, Word}
 use Rattle.assembler.specs.declared.form.OperandKind.{OperandKind}
 use Rattle.assembler.specs.declared.form.OperandKind.TheVariants.{Register, Source, Number, Target}
 

@@ -1,6 +1,6 @@
 -- What stands on a line, as its type has it.
 use Rattle.std.specs.Prelude.{map}
-use Rattle.insn.specs.Text as text
+use Rattle.assembly.specs.Text as text
 use Rattle.assembler.specs.declared.line.Line.{Line}
 use Rattle.assembler.specs.declared.line.Line.TheVariants.{Blank, Label, Statement}
 

@@ -7,7 +7,7 @@ use Rattle.std.specs.Ordering.{nat_cmp}
 use Rattle.std.specs.Option.{option_map}
 use Rattle.insn.specs.declared.instruction.Insn.{Insn}
 use Rattle.insn.specs.Program.{slot_count, SLOT_LIMIT}
-use Rattle.insn.specs.Text.{Word, Line, Blank, Label, Statement, labels_in, slot_of, names_in, AllDiffer, line_of, words_in}
+use Rattle.assembly.specs.Text.{Word, Line, Blank, Label, Statement, labels_in, slot_of, names_in, AllDiffer, line_of, words_in}
 use Rattle.assembler.specs.declared.slot_number.SlotNumber.{SlotNumber}
 use Rattle.assembler.specs.declared.draft.Draft.{Draft}
 use Rattle.assembler.specs.declared.draft.Draft.TheVariants.{Whole, ToLabel}

@@ -3,7 +3,7 @@
 ghost use Rattle.std.specs.Prelude.{◌≡◌, ◌==◌, List, map, Some, IfOk, IfErr};
 ghost use Rattle.std.specs.List.{slice_split};
 ghost use Rattle.insn.specs.declared.instruction.Insn.{Insn};
-ghost use Rattle.insn.specs.Text.{Text};
+ghost use Rattle.assembly.specs.Text.{Text};
 ghost use Rattle.assembler.specs.Faults.{FirstTextFault};
 ghost use Rattle.assembler.specs.Sheets.{find_in, resolution, Unresolved};
 

@@ -3,12 +3,12 @@
 ghost use Rattle.std.specs.Prelude.{◌≡◌, [], ◌∷◌, length, map};
 ghost use Rattle.assembler.specs.Forms.{kinds_of};
 ghost use Rattle.assembler.specs.Drafts.{condition_of, draft_slots, jump_over, DraftOf, HasTarget, IsSource, StatementDraft};
-ghost use Rattle.insn.specs.declared.mnemonic.Mnemonic.TheVariants as mnemonic;
+ghost use Rattle.assembly.specs.declared.mnemonic.Mnemonic.TheVariants as mnemonic;
 
 use crate::form::{have_form, kinds};
 use crate::operand::{distance, immediate, is_name, natural, offset, register};
+use assembly::mnemonic::Mnemonic;
 use insn::instruction::{Insn, Operand};
-use insn::mnemonic::Mnemonic;
 use insn::operation::{
     AluOp, Cond, Extension, SignedSize, Signedness, Size, SwapBits, SwapKind, Width,
 };

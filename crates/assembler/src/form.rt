@@ -4,7 +4,7 @@ ghost use Rattle.std.specs.Prelude.{◌≡◌, map, MatchBool};
 ghost use Rattle.assembler.specs.Forms.{kinds_of, HaveKinds, IsOfKind};
 
 use crate::operand::{is_distance, is_name, is_number, register};
-use insn::mnemonic::Mnemonic;
+use assembly::mnemonic::Mnemonic;
 
 /// What stands at the place of an operand.
 #[derive(Clone, Copy, Debug, PartialEq, Eq)]

@@ -2,7 +2,7 @@
 
 ghost use Rattle.std.specs.Prelude.{◌≡◌, ℕ, List};
 ghost use Rattle.insn.specs.declared.instruction.Insn.{Insn};
-ghost use Rattle.insn.specs.Text.{Text};
+ghost use Rattle.assembly.specs.Text.{Text};
 ghost use Rattle.assembler.specs.declared.fault.AsmFault.{AsmFault};
 ghost use Rattle.assembler.specs.declared.fault.AsmFault.TheVariants.{Memory};
 ghost use Rattle.assembler.specs.Faults.{FirstTextFault};

@@ -2,8 +2,8 @@
 
 ghost use Rattle.std.specs.Prelude.{◌≡◌, ◌==◌, ◌||◌, map, IfOk};
 ghost use Rattle.std.specs.Option.{option_map};
-ghost use Rattle.insn.specs.Text as text;
-ghost use Rattle.insn.specs.Text.{line_of, words_in};
+ghost use Rattle.assembly.specs.Text as text;
+ghost use Rattle.assembly.specs.Text.{line_of, words_in};
 ghost use Rattle.assembler.specs.Lines.{line_seen};
 
 use crate::operand::is_name;

@@ -5,8 +5,8 @@ ghost use Rattle.std.specs.Fmt.{decimal, signed_decimal};
 ghost use Rattle.std.specs.Int.{w16, w32};
 ghost use Rattle.std.specs.List.{list_all};
 ghost use Rattle.insn.specs.declared.register.RegNo.{RegNo};
-ghost use Rattle.insn.specs.Text as text;
-ghost use Rattle.insn.specs.Text.{distance_word, register_word};
+ghost use Rattle.assembly.specs.Text as text;
+ghost use Rattle.assembly.specs.Text.{distance_word, register_word};
 ghost use Rattle.assembler.specs.Operands.{IsSmall, number_of};
 
 use insn::register::RegNo;

@@ -6,7 +6,7 @@ use Rattle.insn.specs.declared.instruction.Insn.{Insn}
 use Rattle.insn.specs.declared.layout.Layout.{Layout}
 use Rattle.insn.specs.declared.fault.InsnFault.TheVariants as insn
 use Rattle.insn.specs.declared.verify_fault.VerifyFault.{VerifyFault}
-use Rattle.insn.specs.Spelling.{Spells, FirstInsnFault}
+use Rattle.encoding.specs.Spelling.{Spells, FirstInsnFault}
 use Rattle.insn.specs.Step.{Safe}
 use Rattle.verifier.specs.Verdicts.{Checked, IsVerdict}
 use Rattle.hook_host.specs.declared.fault.HookFault.{HookFault}

@@ -4,13 +4,10 @@ pub mod Word
 pub mod Values
 pub mod Memory
 pub mod Step
-pub mod Spelling
 pub mod FirstLook
 pub mod Shapes
 pub mod Faults
-pub mod Text
 pub mod FaultTexts
-pub mod OpcodeLaws
 pub mod WordLaws
 pub mod SlotLaws
 pub mod MemoryLaws
@@ -20,6 +17,3 @@ pub mod FaultLaws
 pub mod ShapeLaws
 pub mod RunLaws
 pub mod WayLaws
-pub mod TextWordLaws
-pub mod TextNameLaws
-pub mod TextLaws

@@ -3,7 +3,6 @@
 ghost use Rattle.std.specs.Prelude.{◌≡◌, Some};
 ghost use Rattle.insn.specs.declared.fault.InsnFault.TheVariants.{Memory};
 ghost use Rattle.insn.specs.FaultTexts.{insn_fault_text};
-ghost use Rattle.insn.specs.Spelling.{slot_fault_at};
 
 use std::alloc::{AllocError, AllocFailed};
 use std::fmt::{self, Display, Formatter, Write};
@@ -68,34 +67,5 @@ impl<T: Drop> From<AllocFailed<T>> for InsnFault {
 
     fn from(_e: AllocFailed<T>) -> InsnFault {
         InsnFault::Memory
-    }
-}
-
-/// What is wrong with one instruction's bytes.
-#[derive(Clone, Copy, Debug, PartialEq, Eq)]
-pub enum SlotFault {
-    UnknownOpcode,
-    BadRegister,
-    NonzeroField,
-    TruncatedWide,
-    Atomic,
-    Call,
-    LegacyLoad,
-}
-
-impl SlotFault {
-    /// The fault at a slot.
-    pub fn at(self, slot: usize) -> InsnFault
-        ensures { result ≡ slot_fault_at self slot }
-    {
-        match self {
-            SlotFault::UnknownOpcode => InsnFault::UnknownOpcode(slot),
-            SlotFault::BadRegister => InsnFault::BadRegister(slot),
-            SlotFault::NonzeroField => InsnFault::NonzeroField(slot),
-            SlotFault::TruncatedWide => InsnFault::TruncatedWide(slot),
-            SlotFault::Atomic => InsnFault::Atomic(slot),
-            SlotFault::Call => InsnFault::Call(slot),
-            SlotFault::LegacyLoad => InsnFault::LegacyLoad(slot),
-        }
     }
 }

@@ -2,8 +2,6 @@
 
 ghost use Rattle.std.specs.Prelude.{◌≡◌, ◌≢◌, ◌↔◌, ℕ, List, Some, None, Contains, IfSome, IsSome};
 ghost use Rattle.std.specs.List.{AllByRecursion};
-ghost use Rattle.insn.specs.declared.fault.InsnFault.{InsnFault};
-ghost use Rattle.insn.specs.declared.fault.InsnFault.TheVariants.{Memory};
 ghost use Rattle.insn.specs.declared.instruction.Insn.{Insn};
 ghost use Rattle.insn.specs.declared.layout.Layout.{Layout};
 ghost use Rattle.insn.specs.declared.register.RegNo.TheVariants.{R10};
@@ -16,25 +14,8 @@ ghost use Rattle.insn.specs.Memory.{parts_of, value_in};
 ghost use Rattle.insn.specs.Program.{begins_at};
 ghost use Rattle.insn.specs.Shapes.{shape_config, shape_of, ways, HasNoBranch, IsRunShape, MovesNoPointer, NoMovedPointer, OnWay};
 ghost use Rattle.insn.specs.Instruction.{Fits};
-ghost use Rattle.insn.specs.Spelling.{FirstInsnFault, Spells};
 ghost use Rattle.insn.specs.Step.{effect, step, IsEffect, IsExit, IsStuck, Reaches};
 ghost use Rattle.insn.specs.Values.{entry, Config, IsRecord, IsState, State};
-
-/// No bytes spell two programs.
-pub fn bytes_spell_one_program()
-    ensures { (bytes : List ℕ) (p q : List Insn) → Spells bytes p → Spells bytes q → p ≡ q }
-{}
-
-/// Bytes have one first fault, want of memory aside.
-pub fn bytes_have_one_first_fault()
-    ensures { (bytes : List ℕ) (f g : InsnFault) → f ≢ Memory → g ≢ Memory →
-        FirstInsnFault bytes f → FirstInsnFault bytes g → f ≡ g }
-{}
-
-/// Each program has one spelling.
-pub fn a_program_has_one_spelling()
-    ensures { (a b : List ℕ) (p : List Insn) → Spells a p → Spells b p → a ≡ b }
-{}
 
 /// The entry of a record is a state, and what an instruction does to a state leads to a state.
 #[tactic(auto, using(crate::specs::StateLaws::entry_is_state, crate::specs::StateLaws::effect_is_effect))]

@@ -8,9 +8,9 @@ use Rattle.std.specs.Option.{option_map}
 use Rattle.insn.specs.declared.instruction.Insn.{Insn}
 use Rattle.insn.specs.Instruction.{Fits, slots_of}
 use Rattle.insn.specs.Program.{IsProgram}
-use Rattle.insn.specs.Text.{Word, Operand, Register, Number, Target, Line, Blank, Statement, is_empty, before_comment, words_in, labelled, one_word_line, line_of, lines_in, name_of, operands_of, operand_word, SaysOperand, SaysOperands, LeadsTo, labels_in, Says, names_in, AllDiffer, Text, canonical_line, canonical_text}
-use Rattle.insn.specs.TextWordLaws.{is_plain, plain, PlainWord, list_all-imp, IsShortOperand, plain_operand}
-use Rattle.insn.specs.TextNameLaws.{plain_name, short_operands}
+use Rattle.assembly.specs.Text.{Word, Operand, Register, Number, Target, Line, Blank, Statement, is_empty, before_comment, words_in, labelled, one_word_line, line_of, lines_in, name_of, operands_of, operand_word, SaysOperand, SaysOperands, LeadsTo, labels_in, Says, names_in, AllDiffer, Text, canonical_line, canonical_text}
+use Rattle.assembly.specs.TextWordLaws.{is_plain, plain, PlainWord, list_all-imp, IsShortOperand, plain_operand}
+use Rattle.assembly.specs.TextNameLaws.{plain_name, short_operands}
 
 -- ---- splitting
 

@@ -2,7 +2,7 @@
 use Rattle.std.specs.Prelude.{Bool, true, false, List}
 use Rattle.std.specs.List.{filter}
 use Rattle.insn.specs.declared.instruction.Insn.{Insn}
-use Rattle.insn.specs.Text.{Operand, Register, Number, Target, operands_of}
+use Rattle.assembly.specs.Text.{Operand, Register, Number, Target, operands_of}
 
 -- an operand is a register or a number, and no target
 abbrev pub is_value : Operand → Bool

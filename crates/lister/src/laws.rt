@@ -5,7 +5,7 @@ ghost use Rattle.std.specs.List.{AllByRecursion};
 ghost use Rattle.insn.specs.declared.instruction.Insn.{Insn};
 ghost use Rattle.insn.specs.Instruction.{Fits};
 ghost use Rattle.insn.specs.Program.{IsProgram};
-ghost use Rattle.insn.specs.Text.{canonical_text, Text};
+ghost use Rattle.assembly.specs.Text.{canonical_text, Text};
 
 /// No text says two programs.
 pub fn a_text_says_one_program()

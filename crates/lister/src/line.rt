@@ -2,10 +2,11 @@
 
 ghost use Rattle.std.specs.Prelude.{Some};
 ghost use Rattle.std.specs.List.{flat_map};
-ghost use Rattle.insn.specs.Text.{canonical_line, operand_word, operands_of};
+ghost use Rattle.assembly.specs.Text.{canonical_line, operand_word, operands_of};
 ghost use Rattle.lister.specs.Values.{values_of};
 
 use crate::operand::{Register, Source, Target};
+use assembly::mnemonic::Mnemonic;
 use insn::instruction::Insn;
 use std::fmt::{self, Display, Formatter, Write};
 
@@ -17,7 +18,7 @@ impl Display for Line {
     ghost output = { λ line. Some (canonical_line line.0) };
 
     fn fmt<W: Write>(&self, f: &mut Formatter<W>) -> fmt::Result {
-        let (mnemonic, operands) = (self.0.mnemonic(), Operands(self.0));
+        let (mnemonic, operands) = (Mnemonic::of(self.0), Operands(self.0));
         write!(f, "{mnemonic}{operands}\n")
     }
 }

@@ -2,7 +2,7 @@
 
 ghost use Rattle.std.specs.Prelude.{◌≡◌, IfOk};
 ghost use Rattle.std.specs.String.{string_bytes};
-ghost use Rattle.insn.specs.Text.{canonical_text, Text};
+ghost use Rattle.assembly.specs.Text.{canonical_text, Text};
 
 use crate::line::Line;
 use insn::program::Program;

@@ -1,7 +1,7 @@
 //! The words of operands.
 
 ghost use Rattle.std.specs.Prelude.{Some};
-ghost use Rattle.insn.specs.Text.{register_word, source_operand, operand_word, distance_word};
+ghost use Rattle.assembly.specs.Text.{register_word, source_operand, operand_word, distance_word};
 
 use insn::instruction::Operand;
 use insn::register::RegNo;

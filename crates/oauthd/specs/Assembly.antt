@@ -3,8 +3,8 @@ use Rattle.std.specs.Prelude.{◌≡◌, ◌≢◌, ◌⊎◌, ⊤, ℕ, List, R
 use Rattle.std.specs.String.{string_bytes}
 use Rattle.hex.specs.Hex.{encode_lower}
 use Rattle.insn.specs.declared.instruction.Insn.{Insn}
-use Rattle.insn.specs.Spelling.{Spells}
-use Rattle.insn.specs.Text.{Text}
+use Rattle.encoding.specs.Spelling.{Spells}
+use Rattle.assembly.specs.Text.{Text}
 use Rattle.assembler.specs.declared.fault.AsmFault.{AsmFault}
 use Rattle.assembler.specs.declared.fault.AsmFault.TheVariants as asm
 use Rattle.assembler.specs.Faults.{FirstTextFault}

@@ -7,8 +7,8 @@ use Rattle.insn.specs.declared.fault.InsnFault.{InsnFault}
 use Rattle.insn.specs.declared.fault.InsnFault.TheVariants as insn
 use Rattle.insn.specs.declared.verify_fault.VerifyFault.{VerifyFault}
 use Rattle.insn.specs.declared.verify_fault.VerifyFault.TheVariants as verify
-use Rattle.insn.specs.Spelling.{FirstInsnFault, Spells}
-use Rattle.insn.specs.Text.{canonical_text}
+use Rattle.encoding.specs.Spelling.{FirstInsnFault, Spells}
+use Rattle.assembly.specs.Text.{canonical_text}
 use Rattle.oauthd.specs.declared.answer.Answer.{Answer}
 use Rattle.oauthd.specs.declared.answer.Answer.TheVariants as answers
 use Rattle.oauthd.specs.declared.fault.PerformFault.{PerformFault}

@@ -6,7 +6,7 @@ use Rattle.insn.specs.declared.fault.InsnFault.{InsnFault}
 use Rattle.insn.specs.declared.verify_fault.VerifyFault.{VerifyFault}
 use Rattle.insn.specs.declared.layout.Layout.TheVariants.{V1, V2}
 use Rattle.insn.specs.FaultTexts.{at_slot, insn_fault_text, verify_fault_text}
-use Rattle.insn.specs.Spelling.{FirstInsnFault, Spells}
+use Rattle.encoding.specs.Spelling.{FirstInsnFault, Spells}
 use Rattle.insn.specs.Step.{IsExit}
 use Rattle.insn.specs.Values.{record_size}
 use Rattle.hook_record.specs.Narrowing.{narrowed}

@@ -4,9 +4,9 @@ ghost use Rattle.std.specs.Prelude.{◌≡◌, ◌≢◌, ℕ, length, Some, IfS
 ghost use Rattle.insn.specs.Values.{record_size};
 ghost use Rattle.oauthd.specs.Judge.{asked_in, judge_fault_text, IsAnswer, IsJudged};
 
+use encoding::decode;
 use flat_machine::run;
 use hook_record::{Ask, Narrowed, narrow, read, read_v2};
-use insn::decoding::decode;
 use insn::fault::InsnFault;
 use insn::layout::Layout;
 use insn::verify_fault::VerifyFault;

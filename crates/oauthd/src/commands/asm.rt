@@ -7,7 +7,7 @@ use crate::answer::Answer;
 use crate::commands::text_file::text_in;
 use crate::fault::PerformFault;
 use assembler::assemble;
-use insn::encoding::encode;
+use encoding::encode;
 use std::alloc::Global;
 
 /// The bytes of the program that the text of a file says, as hex.

@@ -6,7 +6,7 @@ ghost use Rattle.oauthd.specs.File.{HoldsNoProgram, HoldsProgram};
 
 use crate::fault::PerformFault;
 use crate::hex_text::bytes_of_hex;
-use insn::decoding::decode;
+use encoding::decode;
 use insn::program::Program;
 use std::alloc::Global;
 

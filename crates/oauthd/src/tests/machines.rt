@@ -3,8 +3,8 @@
 use super::c_hooks::HOOKS;
 use super::*;
 use crate::hex_text::bytes_of_hex;
+use encoding::decode;
 use flat_machine::run;
-use insn::decoding::decode;
 use insn::fault::InsnFault;
 use insn::layout::Layout;
 use insn::verify_fault::VerifyFault;

@@ -1,7 +1,7 @@
 use Rattle.std.proofs.Common.{rules, ◌≡◌, ◌==◌, ◌∙◌, sym, ap, map, IfErr, List, ℕ, Bor, subst}
 use Rattle.std.specs.List.{slice_split}
 use Rattle.insn.specs.Program.{IsProgram}
-use Rattle.insn.specs.Text.{Line, lines_in, Text}
+use Rattle.assembly.specs.Text.{Line, lines_in, Text}
 use Rattle.assembler.specs.Faults.{FirstTextFault}
 use Rattle.assembler.specs.Sheets.{find_in, lines_of, IsSheet}
 use Rattle.assembler.proofs.Resolving.{is_text, unresolved_fault, only_err, no_instruction}

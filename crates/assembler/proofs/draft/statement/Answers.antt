@@ -1,7 +1,7 @@
 use Rattle.std.proofs.Common.{rules, tests, ◌≡◌, List, ap, sym, ◌∙◌, subst, true, false}
 use Rattle.std.proofs.lemmas.Bool.{MatchBool-at_true, MatchBool-at_false}
 use Rattle.insn.specs.declared.instruction.Insn.{Insn}
-use Rattle.insn.specs.Text.{Word}
+use Rattle.assembly.specs.Text.{Word}
 use Rattle.assembler.specs.declared.form.OperandKind.{OperandKind}
 use Rattle.assembler.specs.Forms.{kinds_of, HaveKinds}
 use Rattle.assembler.specs.Faults.{Anywhere, HasName, HasFormOf, SaysFitting}

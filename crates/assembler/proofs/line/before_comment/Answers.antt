@@ -1,6 +1,6 @@
 use Rattle.std.proofs.Common.{◌≡◌, ◌≢◌, ℕ, length, take, unwrap_or, rules, tests, sym, ap, ◌∙◌, refl, arith, take_all}
 use Rattle.std.proofs.lemmas.Iterator.{YieldsList-from_slice, IsFirst-from_position, index_from_first}
-use Rattle.insn.specs.Text.{before_comment}
+use Rattle.assembly.specs.Text.{before_comment}
 use Rattle.assembler.proofs.Lines.{before_comment_end, comment_hit, comment_miss}
 use Rattle.assembler.proofs.line.before_comment.Goals as goal
 

@@ -1,5 +1,5 @@
 use Rattle.std.proofs.Common.{◌≡◌, ◌≢◌, ◌++◌, ◌∷◌, [], rules, sym, ap, ◌∙◌}
-use Rattle.insn.specs.Text.{labelled}
+use Rattle.assembly.specs.Text.{labelled}
 use Rattle.assembler.proofs.Lines.{labelled_colon, labelled_other}
 use Rattle.assembler.proofs.line.labelled.Goals as goal
 

@@ -1,7 +1,7 @@
 use Rattle.std.proofs.Common.{rules, tests, w64, ◌∷◌, true, subst, sym, ◌∙◌, ℤ, Some, None, ◌≡◌, ◌≤◌, ◌^◌, inl, inr, false, arith, pos}
 use Rattle.std.specs.Fmt.{signed_decimal}
 use Rattle.std.specs.Result.{result_ok}
-use Rattle.insn.specs.Text.{is_positive}
+use Rattle.assembly.specs.Text.{is_positive}
 use Rattle.assembler.specs.Operands.{IsSmall, number_of}
 use Rattle.assembler.proofs.Numbers.{no_negative, negative_word, if_none, not_below, not_converted, converted, negated, below}
 use Rattle.assembler.proofs.operand.negative.Goals as goal

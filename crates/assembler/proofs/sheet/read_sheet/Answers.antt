@@ -3,7 +3,7 @@ use Rattle.std.specs.Cmp.Lexicographic.{slice_cmp}
 use Rattle.std.specs.Ordering.{nat_cmp}
 use Rattle.std.specs.BTreeMap.{get_by}
 use Rattle.insn.specs.Program.{SLOT_LIMIT}
-use Rattle.insn.specs.Text.{Word}
+use Rattle.assembly.specs.Text.{Word}
 use Rattle.assembler.specs.Drafts.{IsDraft, StatementDraft, draft_slots}
 use Rattle.assembler.specs.Faults.{FaultIn}
 use Rattle.assembler.specs.declared.fault.AsmFault.{AsmFault}

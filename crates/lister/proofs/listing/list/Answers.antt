@@ -1,7 +1,7 @@
 use Rattle.std.proofs.Common.{◌≡◌, arith}
 use Rattle.std.proofs.lemmas.Grind.{common_steps}
 use Rattle.std.specs.String.{string_bytes}
-use Rattle.insn.specs.Text.{canonical_text}
+use Rattle.assembly.specs.Text.{canonical_text}
 use Rattle.lister.proofs.Lines.{says_by_bytes}
 use Rattle.lister.proofs.listing.list.Goals as goal
 

@@ -1,6 +1,6 @@
 use Rattle.std.proofs.Common.{◌≡◌, take, flat_map}
 use Rattle.std.specs.String.{string_bytes}
-use Rattle.insn.specs.Text.{canonical_line}
+use Rattle.assembly.specs.Text.{canonical_line}
 use Rattle.lister.proofs.listing.list.Given as goal
 
 abbrev pub invariant-loop-insn : goal.invariant-loop-insn

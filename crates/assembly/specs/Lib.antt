@@ -1,0 +1,4 @@
+pub mod Text
+pub mod TextWordLaws
+pub mod TextNameLaws
+pub mod TextLaws

@@ -1,0 +1,395 @@
+-- The one spelling of a program: the rows of the table of opcodes, one after the other (RFC 9669, sections 3 to 5).
+use Rattle.std.specs.Prelude.{◌≡◌, ℕ, ◌+◌, ◌-◌, ◌*◌, ◌/◌, ◌%◌, ◌^◌, ◌<◌, ◌≤◌, ◌==◌, ◌&&◌, ◌||◌, not, nat_lt, Bool, true, false, if◌then◌else◌, ℤ, pos, negsuc, FitsSigned, List, [], ◌∷◌, ◌++◌, get_or, length, map, take, Option, Some, None}
+use Rattle.std.specs.Int.{w16, w32, cast_signed, cast_unsigned, to_le_bytes}
+use Rattle.std.specs.List.{flat_map, list_any, AllByRecursion}
+use Rattle.std.specs.Option.{option_or}
+use Rattle.insn.specs.declared.operation.Width.{Width}
+use Rattle.insn.specs.declared.operation.Width.TheVariants.{W32, W64}
+use Rattle.insn.specs.declared.operation.Signedness.{Signedness}
+use Rattle.insn.specs.declared.operation.Signedness.TheVariants.{Unsigned, Signed}
+use Rattle.insn.specs.declared.operation.Size.{Size}
+use Rattle.insn.specs.declared.operation.Size.TheVariants.{One, Two, Four, Eight}
+use Rattle.insn.specs.declared.operation.SignedSize.{SignedSize}
+use Rattle.insn.specs.declared.operation.AluOp.{AluOp}
+use Rattle.insn.specs.declared.operation.AluOp.TheVariants.{Add, Sub, Mul, Or, And, Lsh, Rsh, Xor, Mov, Arsh}
+use Rattle.insn.specs.declared.operation.Cond.{Cond}
+use Rattle.insn.specs.declared.operation.Cond.TheVariants.{Eq, Gt, Ge, Set, Ne, Sgt, Sge, Lt, Le, Slt, Sle}
+use Rattle.insn.specs.declared.operation.Extension.{Extension}
+use Rattle.insn.specs.declared.operation.Extension.TheVariants.{From8To64, From16To64, From32To64, From8To32, From16To32}
+use Rattle.insn.specs.declared.operation.SwapKind.{SwapKind}
+use Rattle.insn.specs.declared.operation.SwapKind.TheVariants.{ToLittle, ToBig, Swap}
+use Rattle.insn.specs.declared.operation.SwapBits.{SwapBits}
+use Rattle.insn.specs.declared.operation.SwapBits.TheVariants.{B16, B32, B64}
+use Rattle.insn.specs.declared.instruction.Operand.TheVariants.{Reg, Imm}
+use Rattle.insn.specs.declared.instruction.Insn.{Insn}
+use Rattle.insn.specs.declared.instruction.Insn.TheVariants.{Alu64Imm, Alu64Reg, Alu32Imm, Alu32Reg, Divide, Remainder, Negate, MoveSigned, SwapBytes, LoadWide, Load, LoadSigned, StoreReg, StoreImm, Jump, JumpLong, Jump64IfImm, Jump64IfReg, Jump32IfImm, Jump32IfReg, Exit}
+use Rattle.encoding.specs.declared.slot.Slot.{Slot}
+use Rattle.encoding.specs.declared.slot_fault.SlotFault.{SlotFault}
+use Rattle.encoding.specs.declared.slot_fault.SlotFault.TheVariants.{UnknownOpcode, BadRegister, NonzeroField, TruncatedWide, Atomic, Call, LegacyLoad}
+use Rattle.insn.specs.declared.fault.InsnFault.{InsnFault}
+use Rattle.insn.specs.declared.fault.InsnFault.TheVariants as faults
+use Rattle.insn.specs.Instruction.{read_size, reg_number, slots_of, Fits}
+use Rattle.insn.specs.Program.{IsProgram, SLOT_LIMIT, slot_count}
+
+-- ---- slots
+
+-- the eight bytes of a slot, little-endian
+abbrev pub slot_bytes : Slot → List ℕ
+slot_bytes s =
+    s.opcode ∷ (s.src * 16 + s.dst) ∷ (to_le_bytes w16 (cast_unsigned w16 s.offset) ++ to_le_bytes w32 (cast_unsigned w32 s.imm))
+
+-- each field has its own size
+pub record IsSlot (s : Slot) : Type 0 where
+  pub opcode : s.opcode < 256
+  pub dst : s.dst < 16
+  pub src : s.src < 16
+  pub offset : FitsSigned w16 s.offset
+  pub imm : FitsSigned w32 s.imm
+
+-- ---- opcodes
+
+-- an operation on a register and a number, and one on two registers
+abbrev pub imm_opcode : Width → ℕ → ℕ
+imm_opcode W32 code = 0x04 + 16 * code
+imm_opcode W64 code = 0x07 + 16 * code
+
+abbrev pub reg_opcode : Width → ℕ → ℕ
+reg_opcode W32 code = 0x0c + 16 * code
+reg_opcode W64 code = 0x0f + 16 * code
+
+-- a conditional jump on a register and a number, and one on two registers
+abbrev pub jump_imm_opcode : Width → ℕ → ℕ
+jump_imm_opcode W32 code = 0x06 + 16 * code
+jump_imm_opcode W64 code = 0x05 + 16 * code
+
+abbrev pub jump_reg_opcode : Width → ℕ → ℕ
+jump_reg_opcode W32 code = 0x0e + 16 * code
+jump_reg_opcode W64 code = 0x0d + 16 * code
+
+-- the high half of an operation's opcode
+abbrev pub op_code : AluOp → ℕ
+op_code Add = 0x0
+op_code Sub = 0x1
+op_code Mul = 0x2
+op_code Or = 0x4
+op_code And = 0x5
+op_code Lsh = 0x6
+op_code Rsh = 0x7
+op_code Xor = 0xa
+op_code Mov = 0xb
+op_code Arsh = 0xc
+
+-- the high half of the opcode of a division, of a remainder, of a negation and of a byte swap
+abbrev pub DIVIDE : ℕ
+DIVIDE = 0x3
+
+abbrev pub REMAINDER : ℕ
+REMAINDER = 0x9
+
+abbrev pub NEGATE : ℕ
+NEGATE = 0x8
+
+abbrev pub SWAP : ℕ
+SWAP = 0xd
+
+-- the high half of a conditional jump's opcode
+abbrev pub cond_code : Cond → ℕ
+cond_code Eq = 0x1
+cond_code Gt = 0x2
+cond_code Ge = 0x3
+cond_code Set = 0x4
+cond_code Ne = 0x5
+cond_code Sgt = 0x6
+cond_code Sge = 0x7
+cond_code Lt = 0xa
+cond_code Le = 0xb
+cond_code Slt = 0xc
+cond_code Sle = 0xd
+
+-- the offset field of a division and of a move with sign extension
+abbrev pub signedness_code : Signedness → ℤ
+signedness_code Unsigned = pos 0
+signedness_code Signed = pos 1
+
+abbrev pub extension_code : Extension → ℤ
+extension_code From8To64 = pos 8
+extension_code From16To64 = pos 16
+extension_code From32To64 = pos 32
+extension_code From8To32 = pos 8
+extension_code From16To32 = pos 16
+
+abbrev pub extension_opcode : Extension → ℕ
+extension_opcode From8To64 = 0xbf
+extension_opcode From16To64 = 0xbf
+extension_opcode From32To64 = 0xbf
+extension_opcode From8To32 = 0xbc
+extension_opcode From16To32 = 0xbc
+
+abbrev pub swap_opcode : SwapKind → ℕ
+swap_opcode ToLittle = imm_opcode W32 SWAP
+swap_opcode ToBig = reg_opcode W32 SWAP
+swap_opcode Swap = imm_opcode W64 SWAP
+
+abbrev pub swap_code : SwapBits → ℤ
+swap_code B16 = pos 16
+swap_code B32 = pos 32
+swap_code B64 = pos 64
+
+-- what a size adds to an opcode
+abbrev pub size_code : Size → ℕ
+size_code One = 0x10
+size_code Two = 0x08
+size_code Four = 0x00
+size_code Eight = 0x18
+
+abbrev pub load_opcode : Size → ℕ
+load_opcode size = 0x61 + size_code size
+
+abbrev pub load_signed_opcode : SignedSize → ℕ
+load_signed_opcode size = 0x81 + size_code (read_size size)
+
+abbrev pub store_imm_opcode : Size → ℕ
+store_imm_opcode size = 0x62 + size_code size
+
+abbrev pub store_reg_opcode : Size → ℕ
+store_reg_opcode size = 0x63 + size_code size
+
+-- the wide load, the two plain jumps and the exit
+abbrev pub LOAD_WIDE : ℕ
+LOAD_WIDE = 0x18
+
+abbrev pub JUMP : ℕ
+JUMP = 0x05
+
+abbrev pub JUMP_LONG : ℕ
+JUMP_LONG = 0x06
+
+abbrev pub EXIT : ℕ
+EXIT = 0x95
+
+-- ---- the table: the slots of each instruction
+
+abbrev pub slot : ℕ → ℕ → ℕ → ℤ → ℤ → Slot
+slot opcode dst src offset imm = record { opcode = opcode; dst = dst; src = src; offset = offset; imm = imm }
+
+abbrev pub slots : Insn → List Slot
+slots (Alu64Imm op dst imm) = slot (imm_opcode W64 (op_code op)) (reg_number dst) 0 (pos 0) imm ∷ []
+slots (Alu64Reg op dst src) = slot (reg_opcode W64 (op_code op)) (reg_number dst) (reg_number src) (pos 0) (pos 0) ∷ []
+slots (Alu32Imm op dst imm) = slot (imm_opcode W32 (op_code op)) (reg_number dst) 0 (pos 0) imm ∷ []
+slots (Alu32Reg op dst src) = slot (reg_opcode W32 (op_code op)) (reg_number dst) (reg_number src) (pos 0) (pos 0) ∷ []
+slots (Divide width signedness dst (Imm imm)) = slot (imm_opcode width DIVIDE) (reg_number dst) 0 (signedness_code signedness) imm ∷ []
+slots (Divide width signedness dst (Reg src)) = slot (reg_opcode width DIVIDE) (reg_number dst) (reg_number src) (signedness_code signedness) (pos 0) ∷ []
+slots (Remainder width signedness dst (Imm imm)) = slot (imm_opcode width REMAINDER) (reg_number dst) 0 (signedness_code signedness) imm ∷ []
+slots (Remainder width signedness dst (Reg src)) = slot (reg_opcode width REMAINDER) (reg_number dst) (reg_number src) (signedness_code signedness) (pos 0) ∷ []
+slots (Negate width dst) = slot (imm_opcode width NEGATE) (reg_number dst) 0 (pos 0) (pos 0) ∷ []
+slots (MoveSigned extension dst src) = slot (extension_opcode extension) (reg_number dst) (reg_number src) (extension_code extension) (pos 0) ∷ []
+slots (SwapBytes kind bits dst) = slot (swap_opcode kind) (reg_number dst) 0 (pos 0) (swap_code bits) ∷ []
+slots (LoadWide dst value) = slot LOAD_WIDE (reg_number dst) 0 (pos 0) (cast_signed w32 (value % 2 ^ 32)) ∷ slot 0 0 0 (pos 0) (cast_signed w32 (value / 2 ^ 32)) ∷ []
+slots (Load size dst src offset) = slot (load_opcode size) (reg_number dst) (reg_number src) offset (pos 0) ∷ []
+slots (LoadSigned size dst src offset) = slot (load_signed_opcode size) (reg_number dst) (reg_number src) offset (pos 0) ∷ []
+slots (StoreReg size dst src offset) = slot (store_reg_opcode size) (reg_number dst) (reg_number src) offset (pos 0) ∷ []
+slots (StoreImm size dst offset imm) = slot (store_imm_opcode size) (reg_number dst) 0 offset imm ∷ []
+slots (Jump offset) = slot JUMP 0 0 offset (pos 0) ∷ []
+slots (JumpLong offset) = slot JUMP_LONG 0 0 (pos 0) offset ∷ []
+slots (Jump64IfImm cond dst offset imm) = slot (jump_imm_opcode W64 (cond_code cond)) (reg_number dst) 0 offset imm ∷ []
+slots (Jump64IfReg cond dst src offset) = slot (jump_reg_opcode W64 (cond_code cond)) (reg_number dst) (reg_number src) offset (pos 0) ∷ []
+slots (Jump32IfImm cond dst offset imm) = slot (jump_imm_opcode W32 (cond_code cond)) (reg_number dst) 0 offset imm ∷ []
+slots (Jump32IfReg cond dst src offset) = slot (jump_reg_opcode W32 (cond_code cond)) (reg_number dst) (reg_number src) offset (pos 0) ∷ []
+slots Exit = slot EXIT 0 0 (pos 0) (pos 0) ∷ []
+
+-- the first of an instruction's slots
+abbrev pub first_slot : Insn → Slot
+first_slot i = get_or (slots i) 0 (slot 0 0 0 (pos 0) (pos 0))
+
+-- ---- the first fault of an instruction
+
+-- what a row of the table says of a field: it is 0, it is used, or it has one of some values
+pub data Field : Type 0 where
+  Unused : Field
+  Used : Field
+  OneOf : List ℕ → Field
+
+pub record Fields : Type 0 where
+  pub dst : Field
+  pub src : Field
+  pub offset : Field
+  pub imm : Field
+
+abbrev pub uses : Field → Field → Field → Field → Fields
+uses dst src offset imm = record { dst = dst; src = src; offset = offset; imm = imm }
+
+abbrev pub is_one_of : List ℕ → ℕ → Bool
+is_one_of numbers n = list_any (λ m. m == n) numbers
+
+-- the opcodes of operations, and of jumps, whose high halves are these
+abbrev pub op_codes : List ℕ
+op_codes = map op_code (Add ∷ Sub ∷ Mul ∷ Or ∷ And ∷ Lsh ∷ Rsh ∷ Xor ∷ Mov ∷ Arsh ∷ [])
+
+abbrev pub cond_codes : List ℕ
+cond_codes = map cond_code (Eq ∷ Gt ∷ Ge ∷ Set ∷ Ne ∷ Sgt ∷ Sge ∷ Lt ∷ Le ∷ Slt ∷ Sle ∷ [])
+
+-- opcodes, and how they use the fields
+pub record Row : Type 0 where
+  pub opcodes : List ℕ
+  pub fields : Fields
+
+abbrev pub row : List ℕ → Fields → Row
+row opcodes fields = record { opcodes = opcodes; fields = fields }
+
+-- the table of opcodes, a line for each use of dst, src, offset and imm (RFC 9669, appendix A)
+abbrev pub opcode_table : List Row
+opcode_table =
+    -- a wide load
+    row (0x18 ∷ []) (uses Used Unused Unused Used)
+    -- operations on a register and a number, in 32 bits and in 64: the high halves are those of op_code
+    ∷ row (0x04 ∷ 0x14 ∷ 0x24 ∷ 0x44 ∷ 0x54 ∷ 0x64 ∷ 0x74 ∷ 0xa4 ∷ 0xb4 ∷ 0xc4 ∷ []) (uses Used Unused Unused Used)
+    ∷ row (0x07 ∷ 0x17 ∷ 0x27 ∷ 0x47 ∷ 0x57 ∷ 0x67 ∷ 0x77 ∷ 0xa7 ∷ 0xb7 ∷ 0xc7 ∷ []) (uses Used Unused Unused Used)
+    -- operations on two registers, but the move
+    ∷ row (0x0c ∷ 0x1c ∷ 0x2c ∷ 0x4c ∷ 0x5c ∷ 0x6c ∷ 0x7c ∷ 0xac ∷ 0xcc ∷ []) (uses Used Used Unused Unused)
+    ∷ row (0x0f ∷ 0x1f ∷ 0x2f ∷ 0x4f ∷ 0x5f ∷ 0x6f ∷ 0x7f ∷ 0xaf ∷ 0xcf ∷ []) (uses Used Used Unused Unused)
+    -- moves of a register: the offset is 0, or says how many bits are extended
+    ∷ row (0xbc ∷ []) (uses Used Used (OneOf (0 ∷ 8 ∷ 16 ∷ [])) Unused)
+    ∷ row (0xbf ∷ []) (uses Used Used (OneOf (0 ∷ 8 ∷ 16 ∷ 32 ∷ [])) Unused)
+    -- divisions and remainders: the offset says whether they are signed
+    ∷ row (0x34 ∷ 0x37 ∷ 0x94 ∷ 0x97 ∷ []) (uses Used Unused (OneOf (0 ∷ 1 ∷ [])) Used)
+    ∷ row (0x3c ∷ 0x3f ∷ 0x9c ∷ 0x9f ∷ []) (uses Used Used (OneOf (0 ∷ 1 ∷ [])) Unused)
+    -- negations
+    ∷ row (0x84 ∷ 0x87 ∷ []) (uses Used Unused Unused Unused)
+    -- byte swaps: the number says how many bits
+    ∷ row (0xd4 ∷ 0xd7 ∷ 0xdc ∷ []) (uses Used Unused Unused (OneOf (16 ∷ 32 ∷ 64 ∷ [])))
+    -- loads, those with sign extension, stores of a register, and of a number
+    ∷ row (0x61 ∷ 0x69 ∷ 0x71 ∷ 0x79 ∷ []) (uses Used Used Used Unused)
+    ∷ row (0x81 ∷ 0x89 ∷ 0x91 ∷ []) (uses Used Used Used Unused)
+    ∷ row (0x63 ∷ 0x6b ∷ 0x73 ∷ 0x7b ∷ []) (uses Used Used Used Unused)
+    ∷ row (0x62 ∷ 0x6a ∷ 0x72 ∷ 0x7a ∷ []) (uses Used Unused Used Used)
+    -- jumps, on no condition, of a register and a number, and of two registers
+    ∷ row (0x05 ∷ []) (uses Unused Unused Used Unused)
+    ∷ row (0x06 ∷ []) (uses Unused Unused Unused Used)
+    ∷ row (0x15 ∷ 0x25 ∷ 0x35 ∷ 0x45 ∷ 0x55 ∷ 0x65 ∷ 0x75 ∷ 0xa5 ∷ 0xb5 ∷ 0xc5 ∷ 0xd5 ∷ []) (uses Used Unused Used Used)
+    ∷ row (0x16 ∷ 0x26 ∷ 0x36 ∷ 0x46 ∷ 0x56 ∷ 0x66 ∷ 0x76 ∷ 0xa6 ∷ 0xb6 ∷ 0xc6 ∷ 0xd6 ∷ []) (uses Used Unused Used Used)
+    ∷ row (0x1d ∷ 0x2d ∷ 0x3d ∷ 0x4d ∷ 0x5d ∷ 0x6d ∷ 0x7d ∷ 0xad ∷ 0xbd ∷ 0xcd ∷ 0xdd ∷ []) (uses Used Used Used Unused)
+    ∷ row (0x1e ∷ 0x2e ∷ 0x3e ∷ 0x4e ∷ 0x5e ∷ 0x6e ∷ 0x7e ∷ 0xae ∷ 0xbe ∷ 0xce ∷ 0xde ∷ []) (uses Used Used Used Unused)
+    -- the exit
+    ∷ row (0x95 ∷ []) (uses Unused Unused Unused Unused)
+    ∷ []
+
+abbrev pub in_rows : List Row → ℕ → Option Fields
+in_rows [] opcode = None
+in_rows (row ∷ later) opcode = if is_one_of row.opcodes opcode then Some row.fields else in_rows later opcode
+
+-- how an opcode uses the fields, where the table has it
+unfoldable pub fields_of : ℕ → Option Fields
+fields_of opcode = in_rows opcode_table opcode
+
+-- the name of an opcode that the table lacks
+abbrev pub refused_as : ℕ → SlotFault
+refused_as opcode =
+    if is_one_of (0xc3 ∷ 0xdb ∷ []) opcode then Atomic
+    else if opcode == 0x85 then Call
+    else if is_one_of (0x20 ∷ 0x28 ∷ 0x30 ∷ 0x40 ∷ 0x48 ∷ 0x50 ∷ []) opcode then LegacyLoad
+    else UnknownOpcode
+
+-- a field that is not used is 0, and one of some values has one of them
+abbrev pub allows : Field → ℤ → Bool
+allows Used n = true
+allows Unused (pos n) = n == 0
+allows Unused (negsuc n) = false
+allows (OneOf values) (pos n) = is_one_of values n
+allows (OneOf values) (negsuc n) = false
+
+-- the number of a register that is used is above 10
+abbrev pub is_above : Field → ℕ → Bool
+is_above Unused n = false
+is_above Used n = nat_lt 10 n
+is_above (OneOf values) n = false
+
+abbrev pub is_bad_register : Fields → Slot → Bool
+is_bad_register f s = is_above f.dst s.dst || is_above f.src s.src
+
+-- a field has a value that its row lacks
+abbrev pub is_bad_field : Fields → Slot → Bool
+is_bad_field f s = not (allows f.dst (pos s.dst) && allows f.src (pos s.src) && allows f.offset s.offset && allows f.imm s.imm)
+
+-- the fault of a slot by itself: the registers count before the other fields
+abbrev pub field_fault : Fields → Slot → Option SlotFault
+field_fault f s = if is_bad_register f s then Some BadRegister else if is_bad_field f s then Some NonzeroField else None
+
+-- the second slot of a wide load begins with four bytes, of which one is not 0
+abbrev pub is_bad_second : List ℕ → Bool
+is_bad_second bytes = list_any (λ b. nat_lt 0 b) (take 4 bytes)
+
+-- a wide load lacks its second slot, or one of its two has a fault
+abbrev pub wide_fault : Fields → Slot → List ℕ → Option SlotFault
+wide_fault f s behind =
+    if nat_lt (length behind) 8 then Some TruncatedWide
+    else option_or (field_fault f s) (if is_bad_second behind then Some NonzeroField else None)
+
+abbrev pub fault_with : Option Fields → Slot → List ℕ → Option SlotFault
+fault_with None s behind = Some (refused_as s.opcode)
+fault_with (Some f) s behind = if s.opcode == LOAD_WIDE then wide_fault f s behind else field_fault f s
+
+-- The opcode counts first, then the second slot of a wide load that is not there, then the registers, then the other fields.
+abbrev pub slot_fault : Slot → List ℕ → Option SlotFault
+slot_fault s behind = fault_with (fields_of s.opcode) s behind
+
+-- ---- programs
+
+-- the bytes of some instructions
+abbrev pub spelling : List Insn → List ℕ
+spelling insns = flat_map slot_bytes (flat_map slots insns)
+
+-- a slot is all of an instruction
+abbrev pub IsAllOf : Insn → Slot → Type 0
+IsAllOf i s = (slots i ≡ s ∷ []) × Fits i
+
+-- a slot and the bytes behind it begin with an instruction
+pub record BeginsWith (s : Slot) (behind : List ℕ) (i : Insn) : Type 0 where
+  pub fit : Fits i
+  pub room : 8 * slots_of i ≤ 8 + length behind
+  pub spelled : spelling (i ∷ []) ≡ slot_bytes s ++ take (8 * (slots_of i - 1)) behind
+
+-- the bytes are a program's
+pub record Spells (bytes : List ℕ) (program : List Insn) : Type 0 where
+  pub in_bounds : IsProgram program
+  pub fit : AllByRecursion Fits program
+  pub spelled : bytes ≡ spelling program
+
+-- the first instruction that is none is at this slot, and has this fault
+pub record FaultAt (bytes : List ℕ) (at : ℕ) (fault : SlotFault) : Type 0 where
+  pub before : List Insn
+  pub here : Slot
+  pub rest : List ℕ
+  pub fit : AllByRecursion Fits before
+  pub sizes : IsSlot here
+  pub at_slot : at ≡ slot_count before
+  pub spelled : bytes ≡ spelling before ++ (slot_bytes here ++ rest)
+  pub faulty : slot_fault here rest ≡ Some fault
+
+-- as many bytes as some slots have, and no more than a program may have
+pub record IsWhole (bytes : List ℕ) : Type 0 where
+  pub some : 1 ≤ length bytes
+  pub slots : length bytes % 8 ≡ 0
+  pub short : length bytes ≤ 8 * SLOT_LIMIT
+
+abbrev pub slot_fault_at : SlotFault → ℕ → InsnFault
+slot_fault_at UnknownOpcode at = faults.UnknownOpcode at
+slot_fault_at BadRegister at = faults.BadRegister at
+slot_fault_at NonzeroField at = faults.NonzeroField at
+slot_fault_at TruncatedWide at = faults.TruncatedWide at
+slot_fault_at Atomic at = faults.Atomic at
+slot_fault_at Call at = faults.Call at
+slot_fault_at LegacyLoad at = faults.LegacyLoad at
+
+-- The first fault: no bytes, then a bad length, then too many slots, then the first faulty instruction.
+abbrev pub FirstInsnFault : List ℕ → InsnFault → Type 0
+FirstInsnFault bytes faults.Empty = length bytes ≡ 0
+FirstInsnFault bytes faults.BadLength = (1 ≤ length bytes) × (1 ≤ length bytes % 8)
+FirstInsnFault bytes faults.TooLong = (length bytes % 8 ≡ 0) × (8 * SLOT_LIMIT < length bytes)
+FirstInsnFault bytes (faults.UnknownOpcode at) = IsWhole bytes × FaultAt bytes at UnknownOpcode
+FirstInsnFault bytes (faults.BadRegister at) = IsWhole bytes × FaultAt bytes at BadRegister
+FirstInsnFault bytes (faults.NonzeroField at) = IsWhole bytes × FaultAt bytes at NonzeroField
+FirstInsnFault bytes (faults.TruncatedWide at) = IsWhole bytes × FaultAt bytes at TruncatedWide
+FirstInsnFault bytes (faults.Atomic at) = IsWhole bytes × FaultAt bytes at Atomic
+FirstInsnFault bytes (faults.Call at) = IsWhole bytes × FaultAt bytes at Call
+FirstInsnFault bytes (faults.LegacyLoad at) = IsWhole bytes × FaultAt bytes at LegacyLoad
+FirstInsnFault bytes faults.Memory = Unit {0}

@@ -1,6 +1,0 @@
-use Rattle.std.proofs.Common.{◌≡◌, take}
-use Rattle.insn.specs.Spelling.{spelling}
-use Rattle.insn.proofs.encoding.encode.Given as goal
-
-abbrev pub invariant-loop-insn : goal.invariant-loop-insn
-invariant-loop-insn l = l.bytes.items ≡ spelling (take l.insn-index l.insn-items)
