@@ -1,0 +1,4 @@
+use Rattle.verifier.proofs.known.Known.operate_64.Goals as goal
+
+pub returns : goal.returns
+returns c = rw c.operation.ensures at c.operate.ensures
