@@ -10,7 +10,7 @@ ghost use Rattle.consent.specs.Limits.{record_limit};
 ghost use Rattle.consent.specs.History.{are_taken};
 ghost use Rattle.grant_store.specs.Kept.{kept_at, kept_unexpired};
 ghost use Rattle.grant_store.specs.Fits.{digests_of, refusal_by};
-ghost use Rattle.grant_store.specs.Records.{kind_in, kept_by, kept_of, kept_in, shared_at, order_cmp, IsOwned, IsNextOwned, start_of, owner_cmp, HasEntered, HasLeft, HasEnded, HasOpened, HasClosed, HasLowered, lowered_by, TellsSame, Coming, coming_of, AreOthers, IsTied, AllLive, Forgets, Settles, Mark, marked, IsUnused, own_place, place_of, code_shared, code_kept, token_kept, spent_in};
+ghost use Rattle.grant_store.specs.Records.{kind_in, kept_by, kept_of, kept_in, shared_at, order_cmp, IsOwned, IsNextOwned, start_of, owner_cmp, HasEntered, HasLeft, HasEnded, HasOpened, HasClosed, HasLowered, lowered_by, TellsSame, Coming, coming_of, AreOthers, IsTied, AllLive, Forgets, Settles, Mark, marked, IsUnused, own_place, place_of, code_shared, code_kept, token_kept, IsUntaken, AddsTokens, spent_in};
 
 use crate::facts::{CodeFacts, NewToken};
 use crate::fault::StoreFault;
@@ -314,9 +314,8 @@ impl Tables {
         requires few { length self.old.records.entries < 2 ^ 63 }
         requires apart { bytes_eq first.now.digest second.now.digest ≡ false }
         ensures tied { IsTied self.new [] }
-        ensures tells { OnOk result (kept_at (kept_of self.old) first.now.digest moment ≡ None → kept_at (kept_of self.old) second.now.digest moment ≡ None →
-            TellsSame (kept_of self.old ++ token_kept (place_of number (shared_at self.old.families.slots number)) moment first.now
-            ∷ token_kept (place_of number (shared_at self.old.families.slots number)) moment second.now ∷ []) (kept_of self.new) moment) }
+        ensures tells { OnOk result (IsUntaken self.old moment first.now → IsUntaken self.old moment second.now →
+            AddsTokens self.old self.new number moment (first.now ∷ second.now ∷ [])) }
         ensures records { OnErr result (self.new.records.entries ≡ self.old.records.entries) }
         ensures families { OnErr result (self.new.families.slots ≡ self.old.families.slots) }
     {

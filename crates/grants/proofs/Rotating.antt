@@ -21,6 +21,7 @@ use Rattle.grants.specs.Exchange.{ends_family}
 use Rattle.grants.specs.Grants.{owner_number}
 use Rattle.grants.specs.Refresh.{checked, token_points}
 use Rattle.grants.specs.RefreshSteps.{step_told, IsStepOf}
+use Rattle.grants.specs.Sought.{Sought}
 use Rattle.grants.specs.Tokens.{is_own}
 
 -- the points came to the use of a token, which was done
@@ -42,33 +43,33 @@ refresh_kind Code h = absurd (false≢true h)
 refresh_kind (Token Access) h = absurd (false≢true h)
 refresh_kind (Token Refresh) h = refl
 
-pub refresh_points : (history : List Event) (number : ℕ → ℕ) (m client : ℕ) (digest : List ℕ) (next : Grant → Outcome) →
-    IsStepOf history number m client digest next (token_points history m client digest next)
-    (step_told client digest (refresh_in history number digest m))
-refresh_points history number m client digest next = by_grant (grant_at history digest m) refl
+pub refresh_points : (it : Sought) (next : Grant → Outcome) →
+    IsStepOf it next (token_points it.history it.moment it.client it.digest next)
+    (step_told it.client it.digest (refresh_in it.history it.number it.digest it.moment))
+refresh_points it next = by_grant (grant_at it.history it.digest it.moment) refl
   where
     other : (c : Bool) (rest : RefreshStep) → c ≡ false →
-        IsStepOf history number m client digest next (refuse InvalidGrant) (if not c then Invalid else rest)
+        IsStepOf it next (refuse InvalidGrant) (if not c then Invalid else rest)
     other false rest is = refl
     other true rest is = absurd (false≢true (sym is))
 
-    final : (g : Grant) → grant_at history digest m ≡ Some g → g.kind ≡ Token Refresh → (c s e : Bool) → c ≡ true →
-        (g.client == client) ≡ c → is_spent history digest m ≡ s → has_ended history g.family ≡ e →
-        IsStepOf history number m client digest next
+    final : (g : Grant) → grant_at it.history it.digest it.moment ≡ Some g → g.kind ≡ Token Refresh → (c s e : Bool) → c ≡ true →
+        (g.client == it.client) ≡ c → is_spent it.history it.digest it.moment ≡ s → has_ended it.history g.family ≡ e →
+        IsStepOf it next
         (point s (ends_family g) (point e (refuse InvalidGrant) (next g)))
         (if not c then Invalid
-        else (if s then End (number g.family)
+        else (if s then End (it.number g.family)
         else (if e then Invalid
-        else Use (record { digest = digest; owner = owner_no g.owner; scope = g.scope; family = number g.family }))))
+        else Use (record { digest = it.digest; owner = owner_no g.owner; scope = g.scope; family = it.number g.family }))))
     final g at kind false s e own ci si ei = absurd (false≢true own)
-    final g at kind true true e own ci si ei = (g, record { digest = digest; is_named = at; number_is = refl }, refl)
+    final g at kind true true e own ci si ei = (g, record { digest = it.digest; is_named = at; number_is = refl }, refl)
     final g at kind true false true own ci si ei = refl
     final g at kind true false false own ci si ei = (
       g,
       record {
         digest_is = refl;
         source = record { is_named = at; kind_is = kind; number_is = refl };
-        client_is = eqb-true g.client client ci;
+        client_is = eqb-true g.client it.client ci;
         owner_is = owner_number-owner_no g.owner;
         scope_is = refl;
         unspent = si;
@@ -77,25 +78,25 @@ refresh_points history number m client digest next = by_grant (grant_at history 
       refl,
     )
 
-    by_kind : (g : Grant) → grant_at history digest m ≡ Some g → (k : Bool) → is_refresh g.kind ≡ k → (c : Bool) → (g.client == client) ≡ c →
-        IsStepOf history number m client digest next
-        (need (if k && c then Some g else None) (refuse InvalidGrant) (checked history m digest next))
-        (step_told client digest (if k then Some (record {
+    by_kind : (g : Grant) → grant_at it.history it.digest it.moment ≡ Some g → (k : Bool) → is_refresh g.kind ≡ k → (c : Bool) → (g.client == it.client) ≡ c →
+        IsStepOf it next
+        (need (if k && c then Some g else None) (refuse InvalidGrant) (checked it.history it.moment it.digest next))
+        (step_told it.client it.digest (if k then Some (record {
           client = g.client;
           owner = owner_no g.owner;
           scope = g.scope;
-          family = number g.family;
-          spent = is_spent history digest m;
-          ended = has_ended history g.family;
+          family = it.number g.family;
+          spent = is_spent it.history it.digest it.moment;
+          ended = has_ended it.history g.family;
         }) else None))
     by_kind g at false ki c ci = refl
-    by_kind g at true ki false ci = other (g.client == client) _ ci
+    by_kind g at true ki false ci = other (g.client == it.client) _ ci
     by_kind g at true ki true ci =
-        final g at (refresh_kind g.kind ki) (g.client == client) (is_spent history digest m) (has_ended history g.family) ci refl refl refl
+        final g at (refresh_kind g.kind ki) (g.client == it.client) (is_spent it.history it.digest it.moment) (has_ended it.history g.family) ci refl refl refl
 
-    by_grant : (o : Option Grant) → grant_at history digest m ≡ o →
-        IsStepOf history number m client digest next
-        (need (where_passes (is_own is_refresh client) o) (refuse InvalidGrant) (checked history m digest next))
-        (step_told client digest (option_and_then as_refresh (option_map (seen history number digest m) o)))
+    by_grant : (o : Option Grant) → grant_at it.history it.digest it.moment ≡ o →
+        IsStepOf it next
+        (need (where_passes (is_own is_refresh it.client) o) (refuse InvalidGrant) (checked it.history it.moment it.digest next))
+        (step_told it.client it.digest (option_and_then as_refresh (option_map (seen it.history it.number it.digest it.moment) o)))
     by_grant None at = refl
-    by_grant (Some g) at = by_kind g at (is_refresh g.kind) refl (g.client == client) refl
+    by_grant (Some g) at = by_kind g at (is_refresh g.kind) refl (g.client == it.client) refl

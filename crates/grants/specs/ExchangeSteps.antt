@@ -3,8 +3,8 @@ use Rattle.std.specs.Prelude.{◌≡◌, ◌==◌, ℕ, List, not, codes, bytes_
 use Rattle.params.specs.Form.{value_of}
 use Rattle.consent.specs.History.{Event, Grant}
 use Rattle.grant_store.specs.Kept.{Kept, HasFamily}
-use Rattle.grant_store.specs.Fits.{IsMember}
-use Rattle.grant_store.specs.Views.{CodeView}
+use Rattle.grant_store.specs.Fits.{FitsStore, IsMember}
+use Rattle.grant_store.specs.Views.{CodeView, code_in}
 use Rattle.pkce.specs.Proof.{proves}
 use Rattle.messages.specs.declared.error.ErrorName.TheVariants.{InvalidRequest, InvalidGrant}
 use Rattle.grants.specs.Outcomes.{Outcome, need, refuse}
@@ -12,11 +12,13 @@ use Rattle.grants.specs.Requesters.{Parameters}
 use Rattle.grants.specs.Texts.{digest_told}
 use Rattle.grants.specs.declared.issuing.SingleUse.TheVariants as single_use
 use Rattle.grants.specs.declared.issuing.Source.{Source}
+use Rattle.grants.specs.declared.exchange.Presented.{Presented}
 use Rattle.grants.specs.declared.exchange.GoodCode.{GoodCode}
 use Rattle.grants.specs.declared.exchange.ExchangeStep.{ExchangeStep}
 use Rattle.grants.specs.declared.exchange.ExchangeStep.TheVariants.{Invalid, End, Exchange}
-use Rattle.grants.specs.Exchange.{ends_family}
+use Rattle.grants.specs.Exchange.{ends_family, code_points}
 use Rattle.grants.specs.Issuing.{IsSource}
+use Rattle.grants.specs.Sought.{Sought, sought}
 
 -- 3 and the code's text, where `next` are the points of the redirect URI, the verifier and the code's digest
 abbrev pub sent_points : Parameters → (List ℕ → List ℕ → List ℕ → Outcome) → Outcome
@@ -52,17 +54,29 @@ abbrev pub source_of : GoodCode → Source
 source_of code = record { kind = single_use.Code; digest = code.digest; family = code.family }
 
 -- the code of the history that may be exchanged
-pub record IsGoodCode (history : List Event) (number : ℕ → ℕ) (m client : ℕ) (digest : List ℕ) (code : GoodCode) (g : Grant) : Type 0 where
-  pub digest_is : code.digest ≡ digest
-  pub source : IsSource history number m (source_of code) g
-  pub client_is : g.client ≡ client
+pub record IsGoodCode (s : Sought) (code : GoodCode) (g : Grant) : Type 0 where
+  pub digest_is : code.digest ≡ s.digest
+  pub source : IsSource s.history s.number s.moment (source_of code) g
+  pub client_is : g.client ≡ s.client
   pub owner_is : g.owner ≡ code.owner
   pub scope_is : g.scope ≡ code.scope
 
 -- the points come to the step, where `next` are the host's
-abbrev pub IsStepOf : List Event → (ℕ → ℕ) → ℕ → ℕ → List ℕ → (Grant → Outcome) → Outcome → ExchangeStep → Type 0
-IsStepOf history number m client digest next points Invalid = points ≡ refuse InvalidGrant
-IsStepOf history number m client digest next points (End family) =
-    (g : Grant) × IsMember history number m family g × (points ≡ ends_family g)
-IsStepOf history number m client digest next points (Exchange code) =
-    (g : Grant) × IsGoodCode history number m client digest code g × (points ≡ next g)
+abbrev pub IsStepOf : Sought → (Grant → Outcome) → Outcome → ExchangeStep → Type 0
+IsStepOf s next points Invalid = points ≡ refuse InvalidGrant
+IsStepOf s next points (End family) =
+    (g : Grant) × IsMember s.history s.number s.moment family g × (points ≡ ends_family g)
+IsStepOf s next points (Exchange code) = (g : Grant) × IsGoodCode s code g × (points ≡ next g)
+
+-- what the store answers of the code comes to the step
+abbrev pub Tells : List Kept → ℕ → ℕ → Presented → ExchangeStep → Type 0
+Tells kept m client sent step =
+    (history : List Event) (number : ℕ → ℕ) → FitsStore kept history m number →
+    step ≡ step_told client sent.uri.now sent.verifier.now sent.digest (code_in history number sent.digest m)
+
+-- whatever history the store answers as, the points of the code come to the step
+abbrev pub StepsTo : List Kept → ℕ → ℕ → Presented → ExchangeStep → Type 0
+StepsTo kept m client sent step =
+    (history : List Event) (number : ℕ → ℕ) (next : Grant → Outcome) → FitsStore kept history m number →
+    IsStepOf (sought history number m client sent.digest) next
+    (code_points history m client sent.uri.now sent.verifier.now sent.digest next) step

@@ -3,7 +3,7 @@ use Rattle.std.specs.Prelude.{◌≡◌, ◌==◌, ℕ, List, false, not, Option
 use Rattle.consent.specs.History.{Event, Grant, is_spent, has_ended}
 use Rattle.grant_store.specs.declared.facts.RefreshToken.{RefreshToken}
 use Rattle.grant_store.specs.Kept.{Kept, HasFamily}
-use Rattle.grant_store.specs.Fits.{IsMember}
+use Rattle.grant_store.specs.Fits.{FitsStore, IsMember}
 use Rattle.messages.specs.declared.error.ErrorName.TheVariants.{InvalidGrant}
 use Rattle.grants.specs.Outcomes.{Outcome, refuse}
 use Rattle.grants.specs.declared.issuing.SingleUse.TheVariants as single_use
@@ -14,6 +14,8 @@ use Rattle.grants.specs.declared.refresh.RefreshStep.TheVariants.{Invalid, End, 
 use Rattle.grants.specs.Exchange.{ends_family}
 use Rattle.grants.specs.Grants.{owner_number}
 use Rattle.grants.specs.Issuing.{IsSource}
+use Rattle.grants.specs.Refresh.{token_points}
+use Rattle.grants.specs.Sought.{Sought, sought}
 
 -- the refresh token of the digest, that the store has
 abbrev pub usable : List ℕ → RefreshToken → Usable
@@ -38,19 +40,24 @@ abbrev pub source_of : Usable → Source
 source_of token = record { kind = single_use.RefreshToken; digest = token.digest; family = token.family }
 
 -- the token of the history that may be used
-pub record IsUsable (history : List Event) (number : ℕ → ℕ) (m client : ℕ) (digest : List ℕ) (token : Usable) (g : Grant) : Type 0 where
-  pub digest_is : token.digest ≡ digest
-  pub source : IsSource history number m (source_of token) g
-  pub client_is : g.client ≡ client
+pub record IsUsable (s : Sought) (token : Usable) (g : Grant) : Type 0 where
+  pub digest_is : token.digest ≡ s.digest
+  pub source : IsSource s.history s.number s.moment (source_of token) g
+  pub client_is : g.client ≡ s.client
   pub owner_is : g.owner ≡ owner_number token.owner
   pub scope_is : g.scope ≡ token.scope
-  pub unspent : is_spent history digest m ≡ false
-  pub alive : has_ended history g.family ≡ false
+  pub unspent : is_spent s.history s.digest s.moment ≡ false
+  pub alive : has_ended s.history g.family ≡ false
 
 -- the points come to the step, where `next` are those from the scope's on
-abbrev pub IsStepOf : List Event → (ℕ → ℕ) → ℕ → ℕ → List ℕ → (Grant → Outcome) → Outcome → RefreshStep → Type 0
-IsStepOf history number m client digest next points Invalid = points ≡ refuse InvalidGrant
-IsStepOf history number m client digest next points (End family) =
-    (g : Grant) × IsMember history number m family g × (points ≡ ends_family g)
-IsStepOf history number m client digest next points (Use token) =
-    (g : Grant) × IsUsable history number m client digest token g × (points ≡ next g)
+abbrev pub IsStepOf : Sought → (Grant → Outcome) → Outcome → RefreshStep → Type 0
+IsStepOf s next points Invalid = points ≡ refuse InvalidGrant
+IsStepOf s next points (End family) =
+    (g : Grant) × IsMember s.history s.number s.moment family g × (points ≡ ends_family g)
+IsStepOf s next points (Use token) = (g : Grant) × IsUsable s token g × (points ≡ next g)
+
+-- whatever history the store answers as, the points of the token come to the step
+abbrev pub StepsTo : List Kept → ℕ → ℕ → List ℕ → RefreshStep → Type 0
+StepsTo kept m client digest step =
+    (history : List Event) (number : ℕ → ℕ) (next : Grant → Outcome) → FitsStore kept history m number →
+    IsStepOf (sought history number m client digest) next (token_points history m client digest next) step

@@ -13,6 +13,7 @@ use Rattle.messages.specs.declared.error.ErrorName.TheVariants.{InvalidRequest, 
 use Rattle.messages.specs.declared.request.Draws.{Draws}
 use Rattle.messages.specs.Asked.{Asked}
 use Rattle.grants.specs.Outcomes.{Outcome, point, need, refuse}
+use Rattle.grants.specs.Works.{Work, Deciders, AnswersWith}
 use Rattle.grants.specs.Requesters.{Parameters, KnownClient, with_authenticated}
 use Rattle.grants.specs.Exchange.{exchange}
 use Rattle.grants.specs.Refresh.{refresh}
@@ -40,3 +41,7 @@ token_points rules history answer m draws params known =
 abbrev pub issue_token : RegistryRecord → List Event → (Ask → Narrowed) → Asked → ℕ → Draws → Outcome
 issue_token rules history answer asked m draws =
     with_authenticated rules asked (token_points rules history answer m draws)
+
+-- whatever history the store and the consents answer as, what was asked was answered
+abbrev pub IssuesToken : Work → Deciders → Asked → Type 0
+IssuesToken work by asked = AnswersWith work by (λ history. issue_token work.rules history by.answer asked work.moment work.draws)

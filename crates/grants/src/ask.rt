@@ -1,8 +1,7 @@
 //! What a host is asked.
-ghost use Rattle.std.specs.Prelude.{◌≡◌, ◌≤◌, length, Some};
-ghost use Rattle.clients.specs.ClientRecord.{ClientRecord};
-ghost use Rattle.clients.specs.Clients.{client_at};
-ghost use Rattle.grants.specs.Grants.{ask_for, owner_number};
+ghost use Rattle.std.specs.Prelude.{◌≡◌, ◌≤◌, length};
+ghost use Rattle.grants.specs.Grants.{owner_number};
+ghost use Rattle.grants.specs.Paths.{AsksFor};
 
 use crate::setting::Setting;
 use clients::ClientNo;
@@ -32,9 +31,7 @@ fn owner_number(owner: Option<OwnerNo>) -> u64
 // The ask of a grant to a client of the registry.
 pub(crate) fn ask_for(setting: &Setting<'_>, wish: Wish) -> Ask
     requires { wish.client ≤ length setting.now.rules.now.clients }
-    ensures { (client : ClientRecord) → client_at wish.client setting.entry.now.rules.now.clients ≡ Some client →
-        result ≡ ask_for setting.entry.now.rules.now wish.kind setting.entry.now.moment wish.client client
-        (owner_number wish.owner) wish.scope wish.consented }
+    ensures { AsksFor setting.entry.now.rules.now setting.entry.now.moment wish result }
 {
     let client = setting.rules.client(wish.client);
     Ask {

@@ -1,5 +1,5 @@
 //! The points that read only the request and the registry.
-ghost use Rattle.std.specs.Prelude.{◌≡◌, ◌≤◌, ℕ, length, IfOk, IfSome, option_and_then};
+ghost use Rattle.std.specs.Prelude.{◌≡◌, ◌≤◌, length, IfOk, IfSome, option_and_then};
 ghost use Rattle.clients.specs.Authentication.{authenticated};
 ghost use Rattle.messages.specs.Asked.{asked_of};
 ghost use Rattle.grants.specs.Halts.{Leads};

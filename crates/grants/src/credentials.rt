@@ -1,13 +1,9 @@
 //! POST /token with grant_type client_credentials (RFC 6749, section 4.4).
-ghost use Rattle.std.specs.Prelude.{◌≡◌, ◌≤◌, ℕ, List, length, Bool, Some};
-ghost use Rattle.clients.specs.ClientRecord.{ClientRecord};
-ghost use Rattle.clients.specs.Clients.{client_at};
-ghost use Rattle.consent.specs.History.{Event};
-ghost use Rattle.grant_store.specs.Fits.{FitsStore};
-ghost use Rattle.grants.specs.Outcomes.{chosen};
-ghost use Rattle.grants.specs.ClientCredentials.{client_credentials, granted};
-ghost use Rattle.grants.specs.Done.{IsDone, IsShort};
+ghost use Rattle.std.specs.Prelude.{◌≤◌, length};
+ghost use Rattle.grants.specs.Done.{IsShort};
 ghost use Rattle.grants.specs.Grants.{left_of};
+ghost use Rattle.grants.specs.Works.{work_of};
+ghost use Rattle.grants.specs.Paths.{GrantsOwn, AnswersCredentials};
 
 use crate::answering::{refuse, unavailable};
 use crate::ask::{Wish, ask_for};
@@ -29,11 +25,8 @@ fn issue_own(
     scope: u64,
     life: u32,
 ) -> Response
-    ensures done { (history : List Event) (number : ℕ → ℕ) →
-        FitsStore store.old history setting.entry.now.moment number →
-        (refused : Bool) × IsDone (chosen refused (granted setting.entry.now.rules.now history
-        setting.entry.now.moment setting.entry.now.draws.now client (Narrowed.Allowed scope life)))
-        result store.new history setting.entry.now.moment }
+    ensures done { GrantsOwn (work_of setting.entry.now store.old store.new result) client
+        (Narrowed.Allowed scope life) }
     ensures short { IsShort result }
 {
     let Ok(reply) = access_reply(setting, scope, life) else {
@@ -54,11 +47,8 @@ fn grant<H: HookHost>(
     client: ClientNo,
     ask: &Ask,
 ) -> Response
-    ensures done { (history : List Event) (number : ℕ → ℕ) →
-        FitsStore store.old history setting.entry.now.moment number →
-        (refused : Bool) × IsDone (chosen refused (granted setting.entry.now.rules.now history
-        setting.entry.now.moment setting.entry.now.draws.now client (left_of (H.answer host.now) ask.entry.now)))
-        result store.new history setting.entry.now.moment }
+    ensures done { GrantsOwn (work_of setting.entry.now store.old store.new result) client
+        (left_of (H.answer host.now) ask.entry.now) }
     ensures short { IsShort result }
 {
     match decided(host, ask) {
@@ -77,12 +67,8 @@ pub(crate) fn credentials_path<H: HookHost>(
     number: ClientNo,
 ) -> Response
     requires { number ≤ length setting.now.rules.now.clients }
-    ensures done { (history : List Event) (numbers : ℕ → ℕ) (client : ClientRecord) →
-        FitsStore store.old history setting.entry.now.moment numbers →
-        client_at number setting.entry.now.rules.now.clients ≡ Some client →
-        (refused : Bool) × IsDone (chosen refused (client_credentials setting.entry.now.rules.now history
-        (H.answer host.now) setting.entry.now.moment setting.entry.now.draws.now params.now
-        (record { number = number; client = client }))) result store.new history setting.entry.now.moment }
+    ensures done { AnswersCredentials (work_of setting.entry.now store.old store.new result)
+        (H.answer host.now) params.now number }
     ensures short { IsShort result }
 {
     let limit = setting.rules.client(number).allowed();

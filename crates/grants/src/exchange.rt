@@ -1,19 +1,13 @@
 //! POST /token with grant_type authorization_code (RFC 6749, section 4.1.3).
-ghost use Rattle.std.specs.Prelude.{◌≡◌, ◌≤◌, ℕ, List, length, true, false, Bool, Some};
-ghost use Rattle.clients.specs.ClientRecord.{ClientRecord};
-ghost use Rattle.clients.specs.Clients.{client_at};
-ghost use Rattle.consent.specs.History.{Event, Grant};
-ghost use Rattle.consent.specs.Consents.{FitsConsents};
-ghost use Rattle.grant_store.specs.Fits.{FitsStore};
+ghost use Rattle.std.specs.Prelude.{◌≡◌, ◌≤◌, ℕ, List, length, true, false};
 ghost use Rattle.grant_store.specs.Kept.{HasFamily};
-ghost use Rattle.grant_store.specs.Views.{code_in};
 ghost use Rattle.grants.specs.Halts.{Leads};
-ghost use Rattle.grants.specs.Outcomes.{Outcome, chosen};
-ghost use Rattle.grants.specs.Done.{IsDone, IsShort};
+ghost use Rattle.grants.specs.Outcomes.{Outcome};
+ghost use Rattle.grants.specs.Done.{IsShort};
 ghost use Rattle.grants.specs.Grants.{left_of};
-ghost use Rattle.grants.specs.Issuing.{IsSource};
-ghost use Rattle.grants.specs.Exchange.{code_points, exchange, exchange_code, exchanged, exchanged_for, spent_in_vain};
-ghost use Rattle.grants.specs.ExchangeSteps.{sent_points, step_told, source_of, IsGoodCode, IsOpenStep, IsStepOf};
+ghost use Rattle.grants.specs.ExchangeSteps.{Tells, StepsTo, sent_points, source_of, IsOpenStep};
+ghost use Rattle.grants.specs.Works.{work_of, deciders};
+ghost use Rattle.grants.specs.Paths.{SpendsInVain, ExchangesFor, ExchangesLeft, ExchangesCode, AnswersExchange};
 
 use crate::answering::{halted, refuse, unavailable};
 use crate::ask::{Wish, ask_for};
@@ -101,9 +95,7 @@ fn step_of_code(
     client: ClientNo,
     sent: &Presented<'_>,
 ) -> ExchangeStep
-    ensures value { (history : List Event) (number : ℕ → ℕ) → FitsStore store.now history moment number →
-        result ≡ step_told client sent.now.uri.now sent.now.verifier.now sent.now.digest
-        (code_in history number sent.now.digest moment) }
+    ensures value { Tells store.now moment client sent.now result }
     ensures open { IsOpenStep store.now moment result }
 {
     let Some(code) = store.code(&sent.digest, moment) else {
@@ -136,10 +128,7 @@ fn exchange_step(
     client: ClientNo,
     sent: &Presented<'_>,
 ) -> ExchangeStep
-    ensures points { (history : List Event) (number : ℕ → ℕ) (next : Grant → Outcome) →
-        FitsStore store.now history moment number →
-        IsStepOf history number moment client sent.now.digest next
-        (code_points history moment client sent.now.uri.now sent.now.verifier.now sent.now.digest next) result }
+    ensures points { StepsTo store.now moment client sent.now result }
     ensures open { IsOpenStep store.now moment result }
 {
     step_of_code(store, moment, client, sent)
@@ -152,11 +141,7 @@ fn spend_in_vain(
     code: &GoodCode,
     error: ErrorName,
 ) -> Response
-    ensures done { (history : List Event) (number : ℕ → ℕ) (g : Grant) →
-        FitsStore store.old history setting.entry.now.moment number →
-        IsSource history number setting.entry.now.moment (source_of code.now) g →
-        (refused : Bool) × IsDone (chosen refused (spent_in_vain code.now.digest error))
-        result store.new history setting.entry.now.moment }
+    ensures done { SpendsInVain (work_of setting.entry.now store.old store.new result) code.now error }
     ensures short { IsShort result }
 {
     let Ok(reply) = failure(setting.alloc, StatusCode::BAD_REQUEST, error) else {
@@ -175,12 +160,7 @@ fn issue_access(
     life: u32,
 ) -> Response
     requires { HasFamily store.old code.now.family setting.now.moment }
-    ensures done { (history : List Event) (number : ℕ → ℕ) (g : Grant) →
-        FitsStore store.old history setting.entry.now.moment number →
-        IsSource history number setting.entry.now.moment (source_of code.now) g →
-        (refused : Bool) × IsDone (chosen refused (exchanged_for false setting.entry.now.rules.now history
-        setting.entry.now.moment setting.entry.now.draws.now code.now.digest g scope life))
-        result store.new history setting.entry.now.moment }
+    ensures done { ExchangesFor false (work_of setting.entry.now store.old store.new result) code.now scope life }
     ensures short { IsShort result }
 {
     let Ok(reply) = access_reply(setting, scope, life) else {
@@ -202,12 +182,7 @@ fn issue_both(
     life: u32,
 ) -> Response
     requires { HasFamily store.old code.now.family setting.now.moment }
-    ensures done { (history : List Event) (number : ℕ → ℕ) (g : Grant) →
-        FitsStore store.old history setting.entry.now.moment number →
-        IsSource history number setting.entry.now.moment (source_of code.now) g →
-        (refused : Bool) × IsDone (chosen refused (exchanged_for true setting.entry.now.rules.now history
-        setting.entry.now.moment setting.entry.now.draws.now code.now.digest g scope life))
-        result store.new history setting.entry.now.moment }
+    ensures done { ExchangesFor true (work_of setting.entry.now store.old store.new result) code.now scope life }
     ensures short { IsShort result }
 {
     let Ok(reply) = both_reply(setting, scope, life) else {
@@ -234,13 +209,8 @@ fn answer<H: HookHost>(
 ) -> Response
     requires listed { number ≤ length setting.now.rules.now.clients }
     requires open { HasFamily store.old code.now.family setting.now.moment }
-    ensures done { (history : List Event) (numbers : ℕ → ℕ) (g : Grant) (client : ClientRecord) →
-        FitsStore store.old history setting.entry.now.moment numbers →
-        IsSource history numbers setting.entry.now.moment (source_of code.now) g →
-        client_at number setting.entry.now.rules.now.clients ≡ Some client →
-        (refused : Bool) × IsDone (chosen refused (exchanged setting.entry.now.rules.now history
-        setting.entry.now.moment setting.entry.now.draws.now client code.now.digest g
-        (left_of (H.answer host.now) ask.entry.now))) result store.new history setting.entry.now.moment }
+    ensures done { ExchangesLeft (work_of setting.entry.now store.old store.new result) number code.now
+        (left_of (H.answer host.now) ask.entry.now) }
     ensures short { IsShort result }
 {
     match decided(host, ask) {
@@ -271,13 +241,8 @@ fn exchange_code<H: HookHost>(
 ) -> Response
     requires listed { number ≤ length setting.now.rules.now.clients }
     requires open { HasFamily store.old code.now.family setting.now.moment }
-    ensures done { (history : List Event) (numbers : ℕ → ℕ) (digest : List ℕ) (g : Grant) (client : ClientRecord) →
-        FitsStore store.old history setting.entry.now.moment numbers → FitsConsents consents.now history →
-        IsGoodCode history numbers setting.entry.now.moment number digest code.now g →
-        client_at number setting.entry.now.rules.now.clients ≡ Some client →
-        (refused : Bool) × IsDone (chosen refused (exchange_code setting.entry.now.rules.now history
-        (H.answer host.now) setting.entry.now.moment setting.entry.now.draws.now client digest g))
-        result store.new history setting.entry.now.moment }
+    ensures done { ExchangesCode (work_of setting.entry.now store.old store.new result)
+        (deciders consents.now (H.answer host.now)) number code.now }
     ensures short { IsShort result }
 {
     let wish = Wish {
@@ -301,12 +266,8 @@ pub(crate) fn exchange_path<H: HookHost>(
     number: ClientNo,
 ) -> Response
     requires { number ≤ length setting.now.rules.now.clients }
-    ensures done { (history : List Event) (numbers : ℕ → ℕ) (client : ClientRecord) →
-        FitsStore store.old history setting.entry.now.moment numbers → FitsConsents consents.now history →
-        client_at number setting.entry.now.rules.now.clients ≡ Some client →
-        (refused : Bool) × IsDone (chosen refused (exchange setting.entry.now.rules.now history (H.answer host.now)
-        setting.entry.now.moment setting.entry.now.draws.now params.now (record { number = number; client = client })))
-        result store.new history setting.entry.now.moment }
+    ensures done { AnswersExchange (work_of setting.entry.now store.old store.new result)
+        (deciders consents.now (H.answer host.now)) params.now number }
     ensures short { IsShort result }
 {
     let sent = match read_code(params) {

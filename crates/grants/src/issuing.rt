@@ -1,16 +1,15 @@
 //! Tokens that are issued, and what they are issued for.
-ghost use Rattle.std.specs.Prelude.{◌≡◌, ◌<◌, ◌≤◌, ℕ, List, Bool, None, length, IfOk, OnOk, OnErr, string_bytes};
-ghost use Rattle.consent.specs.History.{Event, Grant, with_change};
-ghost use Rattle.consent.specs.History.Change.{Spent};
-ghost use Rattle.grant_store.specs.Fits.{FitsStore, IsMember, with_issued, digests_of, refusal};
+ghost use Rattle.std.specs.Prelude.{◌≡◌, ◌<◌, ◌≤◌, ℕ, List, None, length, IfOk, OnOk, OnErr, string_bytes};
+ghost use Rattle.consent.specs.History.{Event};
+ghost use Rattle.grant_store.specs.Fits.{FitsStore, digests_of, refusal};
 ghost use Rattle.grant_store.specs.Kept.{HasFamily};
 ghost use Rattle.pkce.specs.Token.{token_text};
 ghost use Rattle.messages.specs.Written.{written};
-ghost use Rattle.grants.specs.Outcomes.{chosen};
-ghost use Rattle.grants.specs.Done.{IsDone, IsShort};
-ghost use Rattle.grants.specs.Exchange.{ends_family};
+ghost use Rattle.grants.specs.Done.{IsShort};
 ghost use Rattle.grants.specs.Grants.{access_reply, both_reply};
-ghost use Rattle.grants.specs.Issuing.{IsSource, access_token, refresh_token};
+ghost use Rattle.grants.specs.Issuing.{IssuesFor, access_token, refresh_token};
+ghost use Rattle.grants.specs.Works.{work_of};
+ghost use Rattle.grants.specs.Paths.{EndsFamily};
 
 use crate::answering::unavailable;
 use crate::setting::Setting;
@@ -45,10 +44,7 @@ pub(crate) fn issue_for(
 ) -> Result<(), StoreFault>
     requires one_or_two { (0 < length tokens.now) × (length tokens.now ≤ 2) }
     requires is_open { HasFamily store.old source.now.family moment }
-    ensures done { OnOk result ((history : List Event) (number : ℕ → ℕ) (g : Grant) →
-        FitsStore store.old history moment number → IsSource history number moment source.now g →
-        FitsStore store.new (with_change (with_issued history moment g.family g.client g.owner tokens.now) moment
-        (Spent source.now.digest)) moment number) }
+    ensures done { OnOk result (IssuesFor store.old store.new moment source.now tokens.now) }
     ensures can { OnOk result ((history : List Event) (number : ℕ → ℕ) →
         FitsStore store.old history moment number → refusal history moment (digests_of tokens.now) ≡ None) }
     ensures err { OnErr result (store.new ≡ store.old) }
@@ -129,10 +125,7 @@ pub(crate) fn both_reply(
 // invalid_grant, with which the family of the code or token ends.
 pub(crate) fn ended(setting: &Setting<'_>, store: &mut Store, family: Family) -> Response
     requires { HasFamily store.old family setting.now.moment }
-    ensures done { (history : List Event) (number : ℕ → ℕ) (g : Grant) →
-        FitsStore store.old history setting.entry.now.moment number →
-        IsMember history number setting.entry.now.moment family g →
-        (refused : Bool) × IsDone (chosen refused (ends_family g)) result store.new history setting.entry.now.moment }
+    ensures done { EndsFamily (work_of setting.entry.now store.old store.new result) family }
     ensures short { IsShort result }
 {
     let Ok(reply) = failure(

@@ -1,18 +1,15 @@
 //! POST /token with grant_type refresh_token, which rotates (RFC 6749, section 6).
-ghost use Rattle.std.specs.Prelude.{◌≡◌, ◌≤◌, ℕ, List, Bool, Some, length};
-ghost use Rattle.clients.specs.ClientRecord.{ClientRecord};
-ghost use Rattle.clients.specs.Clients.{client_at};
-ghost use Rattle.consent.specs.History.{Event, Grant, consented_scope};
+ghost use Rattle.std.specs.Prelude.{◌≡◌, ◌≤◌, ℕ, List, length};
+ghost use Rattle.consent.specs.History.{Event, consented_scope};
 ghost use Rattle.consent.specs.Consents.{FitsConsents};
 ghost use Rattle.grant_store.specs.Fits.{FitsStore};
 ghost use Rattle.grant_store.specs.Kept.{HasFamily};
 ghost use Rattle.grant_store.specs.Views.{refresh_in};
-ghost use Rattle.grants.specs.Outcomes.{Outcome, chosen};
-ghost use Rattle.grants.specs.Done.{IsDone, IsShort};
+ghost use Rattle.grants.specs.Done.{IsShort};
 ghost use Rattle.grants.specs.Grants.{left_of, owner_number};
-ghost use Rattle.grants.specs.Issuing.{IsSource};
-ghost use Rattle.grants.specs.Refresh.{rotated, refreshed, use_points, token_points, refresh};
-ghost use Rattle.grants.specs.RefreshSteps.{step_told, source_of, IsOpenStep, IsUsable, IsStepOf};
+ghost use Rattle.grants.specs.RefreshSteps.{StepsTo, step_told, IsOpenStep};
+ghost use Rattle.grants.specs.Works.{work_of, deciders};
+ghost use Rattle.grants.specs.Paths.{Rotates, RotatesLeft, UsesToken, UsesDigest, AnswersRefresh};
 
 use crate::answering::{refuse, unavailable};
 use crate::ask::{Wish, ask_for};
@@ -74,9 +71,7 @@ fn step_of_token(store: &Store, moment: Moment, client: ClientNo, digest: &[u8; 
 
 // The same, as the points say it of the history.
 fn refresh_step(store: &Store, moment: Moment, client: ClientNo, digest: &[u8; 32]) -> RefreshStep
-    ensures points { (history : List Event) (number : ℕ → ℕ) (next : Grant → Outcome) →
-        FitsStore store.now history moment number →
-        IsStepOf history number moment client digest.now next (token_points history moment client digest.now next) result }
+    ensures points { StepsTo store.now moment client digest.now result }
     ensures open { IsOpenStep store.now moment result }
 {
     step_of_token(store, moment, client, digest)
@@ -91,11 +86,7 @@ fn rotate(
     life: u32,
 ) -> Response
     requires { HasFamily store.old token.now.family setting.now.moment }
-    ensures done { (history : List Event) (number : ℕ → ℕ) (g : Grant) →
-        FitsStore store.old history setting.entry.now.moment number →
-        IsSource history number setting.entry.now.moment (source_of token.now) g → g.scope ≡ token.now.scope →
-        (refused : Bool) × IsDone (chosen refused (rotated setting.entry.now.rules.now history setting.entry.now.moment
-        setting.entry.now.draws.now token.now.digest g scope life)) result store.new history setting.entry.now.moment }
+    ensures done { Rotates (work_of setting.entry.now store.old store.new result) token.now scope life }
     ensures short { IsShort result }
 {
     let Ok(reply) = both_reply(setting, scope, life) else {
@@ -125,12 +116,8 @@ fn answer<H: HookHost>(
     ask: &Ask,
 ) -> Response
     requires { HasFamily store.old token.now.family setting.now.moment }
-    ensures done { (history : List Event) (number : ℕ → ℕ) (g : Grant) →
-        FitsStore store.old history setting.entry.now.moment number →
-        IsSource history number setting.entry.now.moment (source_of token.now) g → g.scope ≡ token.now.scope →
-        (refused : Bool) × IsDone (chosen refused (refreshed setting.entry.now.rules.now history setting.entry.now.moment
-        setting.entry.now.draws.now token.now.digest g (left_of (H.answer host.now) ask.entry.now)))
-        result store.new history setting.entry.now.moment }
+    ensures done { RotatesLeft (work_of setting.entry.now store.old store.new result) token.now
+        (left_of (H.answer host.now) ask.entry.now) }
     ensures short { IsShort result }
 {
     match decided(host, ask) {
@@ -163,13 +150,8 @@ fn use_token<H: HookHost>(
 ) -> Response
     requires listed { number ≤ length setting.now.rules.now.clients }
     requires open { HasFamily store.old token.now.family setting.now.moment }
-    ensures done { (history : List Event) (numbers : ℕ → ℕ) (digest : List ℕ) (g : Grant) (client : ClientRecord) →
-        FitsStore store.old history setting.entry.now.moment numbers → FitsConsents consents.now history →
-        IsUsable history numbers setting.entry.now.moment number digest token.now g →
-        client_at number setting.entry.now.rules.now.clients ≡ Some client →
-        (refused : Bool) × IsDone (chosen refused (use_points setting.entry.now.rules.now history (H.answer host.now)
-        setting.entry.now.moment setting.entry.now.draws.now params.now client digest g))
-        result store.new history setting.entry.now.moment }
+    ensures done { UsesToken (work_of setting.entry.now store.old store.new result)
+        (deciders consents.now (H.answer host.now)) params.now number token.now }
     ensures short { IsShort result }
 {
     let Some(scope) = scope_within(setting.rules, token.scope, params) else {
@@ -197,13 +179,8 @@ fn refresh_at<H: HookHost>(
     digest: &[u8; 32],
 ) -> Response
     requires { number ≤ length setting.now.rules.now.clients }
-    ensures done { (history : List Event) (numbers : ℕ → ℕ) (client : ClientRecord) →
-        FitsStore store.old history setting.entry.now.moment numbers → FitsConsents consents.now history →
-        client_at number setting.entry.now.rules.now.clients ≡ Some client →
-        (refused : Bool) × IsDone (chosen refused (token_points history setting.entry.now.moment number digest.now
-        (use_points setting.entry.now.rules.now history (H.answer host.now) setting.entry.now.moment
-        setting.entry.now.draws.now params.now client digest.now)))
-        result store.new history setting.entry.now.moment }
+    ensures done { UsesDigest (work_of setting.entry.now store.old store.new result)
+        (deciders consents.now (H.answer host.now)) params.now number digest.now }
     ensures short { IsShort result }
 {
     match refresh_step(store, setting.moment, number, digest) {
@@ -225,12 +202,8 @@ pub(crate) fn refresh_path<H: HookHost>(
     number: ClientNo,
 ) -> Response
     requires { number ≤ length setting.now.rules.now.clients }
-    ensures done { (history : List Event) (numbers : ℕ → ℕ) (client : ClientRecord) →
-        FitsStore store.old history setting.entry.now.moment numbers → FitsConsents consents.now history →
-        client_at number setting.entry.now.rules.now.clients ≡ Some client →
-        (refused : Bool) × IsDone (chosen refused (refresh setting.entry.now.rules.now history (H.answer host.now)
-        setting.entry.now.moment setting.entry.now.draws.now params.now (record { number = number; client = client })))
-        result store.new history setting.entry.now.moment }
+    ensures done { AnswersRefresh (work_of setting.entry.now store.old store.new result)
+        (deciders consents.now (H.answer host.now)) params.now number }
     ensures short { IsShort result }
 {
     let Some(text) = params.get("refresh_token") else {

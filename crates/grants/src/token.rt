@@ -1,15 +1,13 @@
 //! POST /token (RFC 6749, section 3.2).
-ghost use Rattle.std.specs.Prelude.{◌≡◌, ◌≤◌, ℕ, List, Bool, length};
-ghost use Rattle.consent.specs.Consents.{FitsConsents};
-ghost use Rattle.consent.specs.History.{Event};
-ghost use Rattle.grant_store.specs.Fits.{FitsStore};
+ghost use Rattle.std.specs.Prelude.{◌≤◌, length};
 ghost use Rattle.messages.specs.Asked.{asked_of};
 ghost use Rattle.grants.specs.Halts.{Leads};
-ghost use Rattle.grants.specs.Outcomes.{Outcome, chosen, need, unavailable};
-ghost use Rattle.grants.specs.Requesters.{known_client};
+ghost use Rattle.grants.specs.Outcomes.{Outcome};
 ghost use Rattle.clients.specs.declared.grant.GrantType.{GrantType};
-ghost use Rattle.grants.specs.Done.{IsDone, IsShort};
-ghost use Rattle.grants.specs.TokenPath.{type_points, token_points, issue_token};
+ghost use Rattle.grants.specs.Done.{IsShort};
+ghost use Rattle.grants.specs.TokenPath.{IssuesToken, type_points};
+ghost use Rattle.grants.specs.Works.{work_of, deciders};
+ghost use Rattle.grants.specs.Paths.{AnswersGrant};
 
 use crate::answering::halted;
 use crate::credentials::credentials_path;
@@ -50,11 +48,8 @@ fn grant_path<H: HookHost>(
     number: ClientNo,
 ) -> Response
     requires { number ≤ length setting.now.rules.now.clients }
-    ensures done { (history : List Event) (numbers : ℕ → ℕ) →
-        FitsStore store.old history setting.entry.now.moment numbers → FitsConsents consents.now history →
-        (refused : Bool) × IsDone (chosen refused (need (known_client setting.entry.now.rules.now number) unavailable
-        (token_points setting.entry.now.rules.now history (H.answer host.now) setting.entry.now.moment
-        setting.entry.now.draws.now params.now))) result store.new history setting.entry.now.moment }
+    ensures done { AnswersGrant (work_of setting.entry.now store.old store.new result)
+        (deciders consents.now (H.answer host.now)) params.now number }
     ensures short { IsShort result }
 {
     let grant = match grant_type(params, setting.rules.client(number)) {
@@ -80,11 +75,8 @@ pub fn token_path<H: HookHost>(
     host: &H,
     request: &Request<'_>,
 ) -> Response
-    ensures done { (history : List Event) (numbers : ℕ → ℕ) →
-        FitsStore store.old history setting.entry.now.moment numbers → FitsConsents consents.now history →
-        (refused : Bool) × IsDone (chosen refused (issue_token setting.entry.now.rules.now history (H.answer host.now)
-        (asked_of request.entry.now) setting.entry.now.moment setting.entry.now.draws.now))
-        result store.new history setting.entry.now.moment }
+    ensures done { IssuesToken (work_of setting.entry.now store.old store.new result)
+        (deciders consents.now (H.answer host.now)) (asked_of request.entry.now) }
     ensures short { IsShort result }
 {
     let params = match form(setting.alloc, request) {

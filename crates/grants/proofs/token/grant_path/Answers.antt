@@ -18,15 +18,15 @@ returns-in-Err-clause-done g c = λ history numbers fits consents.
 
 pub returns-in-AuthorizationCode-clause-done : goal.returns-in-AuthorizationCode-clause-done
 returns-in-AuthorizationCode-clause-done g c = λ history numbers fits consents.
-    let done = c.exchange_path.ensures.done history numbers c.client.result.now fits consents c.client.ensures.value in
+    let done = c.exchange_path.ensures.done c.client.result.now c.client.ensures.value history numbers fits consents in
     (done.0, grant_done c.args.setting.now.rules.now history (g.H.HookHost.answer c.args.host.now) c.args.setting.now.moment c.args.setting.now.draws.now c.args.params.now c.args.number c.client.result.now AuthorizationCode done.0 _ _ c.client.ensures.value (λ next. c.in-Ok.ensures next ∙ ap next c.in-AuthorizationCode.is) done.1)
 
 pub returns-in-RefreshToken-clause-done : goal.returns-in-RefreshToken-clause-done
 returns-in-RefreshToken-clause-done g c = λ history numbers fits consents.
-    let done = c.refresh_path.ensures.done history numbers c.client.result.now fits consents c.client.ensures.value in
+    let done = c.refresh_path.ensures.done c.client.result.now c.client.ensures.value history numbers fits consents in
     (done.0, grant_done c.args.setting.now.rules.now history (g.H.HookHost.answer c.args.host.now) c.args.setting.now.moment c.args.setting.now.draws.now c.args.params.now c.args.number c.client.result.now RefreshToken done.0 _ _ c.client.ensures.value (λ next. c.in-Ok.ensures next ∙ ap next c.in-RefreshToken.is) done.1)
 
 pub returns-in-ClientCredentials-clause-done : goal.returns-in-ClientCredentials-clause-done
 returns-in-ClientCredentials-clause-done g c = λ history numbers fits consents.
-    let done = c.credentials_path.ensures.done history numbers c.client.result.now fits c.client.ensures.value in
+    let done = c.credentials_path.ensures.done c.client.result.now c.client.ensures.value history numbers fits in
     (done.0, grant_done c.args.setting.now.rules.now history (g.H.HookHost.answer c.args.host.now) c.args.setting.now.moment c.args.setting.now.draws.now c.args.params.now c.args.number c.client.result.now ClientCredentials done.0 _ _ c.client.ensures.value (λ next. c.in-Ok.ensures next ∙ ap next c.in-ClientCredentials.is) done.1)
