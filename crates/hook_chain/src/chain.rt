@@ -7,7 +7,7 @@ ghost use Rattle.hook_chain.specs.Exits.{narrowed_by};
 
 use crate::hook::Hook;
 use crate::name::is_hook_name;
-use crate::{HookFault, HookHost};
+use hook_host::{HookFault, HookHost};
 use hook_record::{Ask, Narrowed};
 use insn::decoding::decode;
 use insn::layout::Layout;
