@@ -4,7 +4,5 @@
 mod chain;
 mod hook;
 mod name;
-#[cfg(test)]
-mod tests;
 
 pub use chain::Chain;

@@ -1,6 +1,9 @@
+//! Hooks one after the other, and what is made of an answer.
+
 ghost use Rattle.std.specs.Prelude.{◌≡◌, []};
 
-use crate::{Chain, HookFault, HookHost, decided};
+use hook_chain::Chain;
+use hook_host::{HookFault, HookHost, decided};
 use hook_record::{Ask, Kind, Narrowed};
 use insn::fault::InsnFault;
 use insn::layout::Layout;
