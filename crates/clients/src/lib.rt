@@ -20,6 +20,3 @@ pub use consent::{ClientNo, OwnerNo};
 pub use fault::ConfigFault;
 pub use grant::GrantType;
 pub use registry::Registry;
-
-#[cfg(test)]
-mod tests;

@@ -9,8 +9,6 @@ mod machine_clock;
 mod machine_clocks;
 mod patience;
 mod sockets;
-#[cfg(test)]
-mod tests;
 mod until_stopped;
 
 pub use by_count::serve;

@@ -16,6 +16,3 @@ pub use facts::{AuthorizationCode, CodeFacts, NewToken, RefreshToken, TokenStatu
 pub use family::{Family, Home};
 pub use fault::StoreFault;
 pub use store::Store;
-
-#[cfg(test)]
-mod tests;

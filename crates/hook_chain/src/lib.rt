@@ -5,7 +5,5 @@ mod chain;
 mod hook;
 pub mod laws;
 mod name;
-#[cfg(test)]
-mod tests;
 
 pub use chain::Chain;

@@ -2,6 +2,7 @@
 
 mod assembly_rows;
 mod c_hooks;
+mod chains;
 mod examples;
 mod help_rows;
 mod hooks;
@@ -9,9 +10,11 @@ mod machines;
 mod program;
 mod run;
 mod services;
+mod sockets;
 mod text;
 mod transcripts;
 mod verdict_rows;
+mod word_sets;
 mod words;
 
 use crate::fault::Status;

@@ -9,6 +9,3 @@ mod token;
 
 pub use proof::{challenge_ok, matches};
 pub use token::{digest_of, read_token, token_text};
-
-#[cfg(test)]
-mod tests;

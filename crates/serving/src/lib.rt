@@ -16,6 +16,3 @@ pub use fault::ServeFault;
 pub use piece::give;
 pub use serve::serve_one;
 pub use stream::Stream;
-
-#[cfg(test)]
-mod tests;

@@ -12,6 +12,7 @@
 //! - `--`: what follows comes to another server.
 
 mod authorization;
+mod code_proofs;
 mod consents;
 mod drawn;
 mod faults;
@@ -22,6 +23,8 @@ mod memory;
 mod order;
 mod owner_grants;
 mod parameters;
+mod registries;
+mod store;
 mod streams;
 mod tokens;
 

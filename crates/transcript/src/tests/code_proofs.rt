@@ -1,5 +1,7 @@
-// Vectors from RFC 7636, and what no clause says: that calls which take memory succeed.
-use super::*;
+//! Proofs of codes and the texts of tokens: vectors from RFC 7636, and what no clause says: that calls which take memory
+//! succeed.
+
+use pkce::{challenge_ok, digest_of, matches, read_token, token_text};
 use std::alloc::AllocError;
 
 #[test]

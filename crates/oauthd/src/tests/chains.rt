@@ -1,6 +1,8 @@
+//! Hooks one after the other, and what is made of an answer.
+
 ghost use Rattle.std.specs.Prelude.{◌≡◌, []};
 
-use crate::Chain;
+use hook_chain::Chain;
 use hook_host::{HookFault, HookHost, decided};
 use hook_record::{Ask, Kind, Narrowed};
 use insn::fault::InsnFault;

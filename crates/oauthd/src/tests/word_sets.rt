@@ -1,13 +1,15 @@
+//! What is known of words: rows of scalars and of their parts.
+
 ghost use Rattle.std.specs.Prelude.{◌≡◌};
 ghost use Rattle.std.specs.Int.RustNames.{bit_and};
 
-use super::*;
 use insn::operation::{BinOp, Cond, ExtendBits, UnOp, Width};
 use known_bits::KnownBits;
 use range::domain::Domain;
 use range::half::HalfRange;
 use range::signed::SRange;
 use range::unsigned::URange;
+use scalar::Scalar;
 
 const GREATEST: u64 = 0xffff_ffff_ffff_ffff;
 

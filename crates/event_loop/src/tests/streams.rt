@@ -1,20 +1,16 @@
-//! Services whose stream or clock fails, and what the next connection is answered then.
+//! One connection served over a stream or by a clock that fails, and what the next connection is answered then.
 
-use super::*;
-use clients::{ConfigFault, Registry};
+use super::{Allowing, new_edge};
+use clients::ConfigFault;
 use consent::Moment;
-use endpoints::Server;
-use hook_chain::Chain;
 use http_edge::Edge;
 use rand_chacha::ChaCha20Rng;
 use rand_core::SeedableRng;
+use serving::{Clock, ServeFault, draw, serve_one};
 use std::alloc::{AllocError, Global};
 use std::io::{self, ErrorKind, Read, Write};
 use std::process::Abort;
 use std::test::Fail;
-
-const REGISTRY: &str =
-    r#"{"access_life":300,"refresh_life":86400,"operator":"op-key","owners":["ann-key"],"scopes":["read"],"clients":[{"id":"bot","secret":"b0t","redirects":[],"scope":"read","grants":["client_credentials"]}]}"#;
 
 /// A client asks for a token.
 const REQUEST: &str =
@@ -109,16 +105,10 @@ struct Outcome {
     next: Vec<u8>,
 }
 
-fn edge(alloc: Global) -> Result<Edge<Chain>, ConfigFault> {
-    let registry = Registry::read(alloc, REGISTRY.as_bytes())?;
-    let host = Chain::new(alloc);
-    Ok(Edge::new(alloc, Server::new(alloc, registry, host)))
-}
-
 /// Serves a connection whose stream is this text: how that ended, and what was written.
 fn served(
     alloc: Global,
-    edge: &mut Edge<Chain>,
+    edge: &mut Edge<Allowing>,
     rng: &mut ChaCha20Rng,
     text: &str,
     course: Course,
@@ -136,7 +126,7 @@ fn served(
 }
 
 fn outcome_of(alloc: Global, course: Course) -> Result<Outcome, ConfigFault> {
-    let mut edge = edge(alloc)?;
+    let mut edge = new_edge(alloc)?;
     let mut rng = ChaCha20Rng::from_seed([0; 32]);
     let requests = REQUEST.repeat(alloc, 3)?;
     let questions = questions(alloc)?;

@@ -1,7 +1,8 @@
-//! Rows from outside the clauses, and what no clause says: that calls which take memory succeed. What wants memory that
-//! is refused is tried once more, so that the rows hold with each allocation refused in turn.
+//! Registries, and who asks by them: rows from outside the clauses, and what no clause says: that calls which take memory
+//! succeed. What wants memory that is refused is tried once more, so that the rows hold with each allocation refused in
+//! turn.
 
-use super::*;
+use clients::{AuthFault, ClientNo, ConfigFault, GrantType, Registry};
 use params::{ParamFault, Params};
 use std::alloc::{AllocError, Global};
 use std::process::Abort;
