@@ -138,7 +138,7 @@ fn report_checked_run(rt: &HostRuntime, rounds: Rounds, work: &Work) -> io::Resu
     report::print(rt, rounds, &name, &came, least, steps as u128)
 }
 
-/// Runs a verified program on the machine without tests in rounds, and prints how it ended.
+/// Runs a verified program on the machine that tests no access, in rounds, and prints how it ended.
 fn report_flat_run(
     rt: &HostRuntime,
     rounds: Rounds,
