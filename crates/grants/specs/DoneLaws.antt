@@ -1,23 +1,13 @@
 -- What was done gives the outcome.
-use Rattle.std.proofs.Common.{◌≡◌, ℕ, List, [], ◌∷◌, ◌++◌, Bool, true, false, Option, Some, None, refl, sym, ap, ◌∙◌, append_assoc, append-nil}
-use Rattle.std.specs.Prelude.{not, if◌then◌else◌, Result, Err}
-use Rattle.std.proofs.lemmas.Bool.{false≢true}
-use Rattle.sha2.specs.Sha256.{sha256}
-use Rattle.clients.specs.RegistryRecord.{RegistryRecord}
-use Rattle.consent.specs.History.{Event, Change, Grant, has_room, is_taken, with_change, with_changes}
-use Rattle.consent.specs.History.Change.{Issued, Spent}
-use Rattle.consent.specs.declared.grant.TokenKind.TheVariants.{Access, Refresh}
-use Rattle.grant_store.specs.declared.fault.StoreFault.{StoreFault}
+use Rattle.std.proofs.Common.{◌≡◌, ℕ, List, [], Bool, true, false, Some, None, refl, append-nil}
+use Rattle.std.specs.Prelude.{not, if◌then◌else◌, Err}
+use Rattle.consent.specs.History.{Event, has_room, is_taken}
 use Rattle.grant_store.specs.declared.fault.StoreFault.TheVariants.{Full, DrawTaken}
-use Rattle.grant_store.specs.declared.facts.NewToken.{NewToken}
 use Rattle.grant_store.specs.Kept.{Kept}
-use Rattle.grant_store.specs.Fits.{FitsStore, refusal, with_issued}
-use Rattle.messages.specs.declared.request.Draws.{Draws}
+use Rattle.grant_store.specs.Fits.{FitsStore, refusal}
 use Rattle.messages.specs.Written.{Written, written}
 use Rattle.grants.specs.Outcomes.{Outcome, point, unavailable, unless_taken, chosen, refuse}
 use Rattle.messages.specs.declared.error.ErrorName.{ErrorName}
-use Rattle.grants.specs.Grants.{both_reply, both_digests}
-use Rattle.grants.specs.Refresh.{rotated}
 use Rattle.grants.specs.Done.{IsDone, IsUndone}
 use Rattle.grants.specs.Halts.{Leads}
 use Rattle.grants.specs.declared.halt.Halt.{Halt}

@@ -1,11 +1,11 @@
 -- What is asked of the host before a grant, and the tokens that are issued for it.
-use Rattle.std.specs.Prelude.{ℕ, List, [], ◌∷◌, ◌++◌, Bool, true, false, Option, Some, None}
+use Rattle.std.specs.Prelude.{ℕ, List, [], ◌∷◌, Option, Some, None}
 use Rattle.sha2.specs.Sha256.{sha256}
 use Rattle.pkce.specs.Token.{token_text}
 use Rattle.params.specs.Scope.{scope_text}
 use Rattle.clients.specs.RegistryRecord.{RegistryRecord}
 use Rattle.clients.specs.ClientRecord.{ClientRecord}
-use Rattle.consent.specs.History.{Event, Change, consented_scope}
+use Rattle.consent.specs.History.{Change}
 use Rattle.consent.specs.History.Change.{Issued}
 use Rattle.consent.specs.declared.grant.TokenKind.TheVariants.{Access, Refresh}
 use Rattle.hook_record.specs.declared.Kind.{Kind}
@@ -13,7 +13,7 @@ use Rattle.hook_record.specs.declared.Ask.{Ask}
 use Rattle.hook_record.specs.declared.Narrowed.{Narrowed}
 use Rattle.hook_host.specs.Decisions.{met_with}
 use Rattle.messages.specs.declared.request.Draws.{Draws}
-use Rattle.messages.specs.Reply.{Body, Reply, plain}
+use Rattle.messages.specs.Reply.{Reply, plain}
 use Rattle.messages.specs.Reply.Body.{Tokens}
 
 -- the number of an owner: 0 is none

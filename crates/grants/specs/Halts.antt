@@ -1,5 +1,5 @@
 -- What the first points of a list come to.
-use Rattle.std.specs.Prelude.{◌≡◌, ℕ, Result, Ok, Err}
+use Rattle.std.specs.Prelude.{◌≡◌, Result, Ok, Err}
 use Rattle.grants.specs.declared.halt.Halt.{Halt}
 use Rattle.grants.specs.declared.halt.Halt.TheVariants.{Refuse, NoMemory}
 use Rattle.grants.specs.Outcomes.{Outcome, refuse}

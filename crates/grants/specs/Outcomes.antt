@@ -3,7 +3,7 @@ use Rattle.std.specs.Prelude.{ℕ, List, [], Bool, true, false, not, Option, Som
 use Rattle.consent.specs.History.{Change, Event, has_room, is_taken}
 use Rattle.messages.specs.declared.error.ErrorName.{ErrorName}
 use Rattle.messages.specs.declared.error.ErrorName.TheVariants.{InvalidRequest, InvalidClient, InvalidGrant, InvalidScope, UnauthorizedClient, UnsupportedGrantType, UnsupportedResponseType, AccessDenied}
-use Rattle.messages.specs.Reply.{Body, Reply, plain}
+use Rattle.messages.specs.Reply.{Reply, plain}
 use Rattle.messages.specs.Reply.Body.{Empty, Failure}
 
 pub record Outcome : Type 0 where

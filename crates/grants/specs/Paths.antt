@@ -1,4 +1,4 @@
--- What the paths to the tokens of a grant type do, from their last steps on.
+-- What each step of a path to the tokens of a grant type does. Only clauses within the crate cite it.
 use Rattle.std.specs.Prelude.{◌≡◌, ℕ, List, Bool, Some}
 use Rattle.clients.specs.ClientRecord.{ClientRecord}
 use Rattle.clients.specs.RegistryRecord.{RegistryRecord}
@@ -15,7 +15,7 @@ use Rattle.grants.specs.declared.exchange.GoodCode.{GoodCode}
 use Rattle.grants.specs.declared.refresh.Usable.{Usable}
 use Rattle.grants.specs.Outcomes.{Outcome, need, unavailable}
 use Rattle.grants.specs.Requesters.{Parameters, KnownClient, known_client}
-use Rattle.grants.specs.Grants.{ask_for, owner_number, left_of}
+use Rattle.grants.specs.Grants.{ask_for, owner_number}
 use Rattle.grants.specs.Issuing.{IsSource}
 use Rattle.grants.specs.Sought.{sought}
 use Rattle.grants.specs.Works.{Work, Deciders, Does, Answers, AnswersWith}
@@ -32,18 +32,18 @@ AsksFor rules m wish ask =
     (client : ClientRecord) → client_at wish.client rules.clients ≡ Some client →
     ask ≡ ask_for rules wish.kind m wish.client client (owner_number wish.owner) wish.scope wish.consented
 
--- the claim holds of the client of the number
+-- it holds of the client of the number
 abbrev pub ForClient : Work → ℕ → (KnownClient → Type 0) → Type 0
 ForClient work number claim =
     (client : ClientRecord) → client_at number work.rules.clients ≡ Some client → claim (record { number = number; client = client })
 
--- the outcome of the code or refresh token that the source is was done
+-- whatever history the store answers as, the outcome of the code or refresh token that the source stands for was done
 abbrev pub AnswersFor : Work → Source → (List Event → Grant → Outcome) → Type 0
 AnswersFor work source outcome =
     (history : List Event) (number : ℕ → ℕ) (g : Grant) → FitsStore work.before history work.moment number →
     IsSource history number work.moment source g → Does work history (outcome history g)
 
--- the family of that number ends
+-- the family that has that number in the store ends, whatever history it answers as
 abbrev pub EndsFamily : Work → ℕ → Type 0
 EndsFamily work family =
     (history : List Event) (number : ℕ → ℕ) (g : Grant) → FitsStore work.before history work.moment number →
@@ -51,30 +51,32 @@ EndsFamily work family =
 
 -- A CLIENT'S OWN GRANT
 
--- the client is given what the host left
+-- the client is granted what the host left
 abbrev pub GrantsOwn : Work → ℕ → Narrowed → Type 0
 GrantsOwn work client left = Answers work (λ history. granted work.rules history work.moment work.draws client left)
 
+-- the points of the grant type were gone through
 abbrev pub AnswersCredentials : Work → (Ask → Narrowed) → Parameters → ℕ → Type 0
 AnswersCredentials work answer params number = ForClient work number (λ known. Answers work (λ history.
     client_credentials work.rules history answer work.moment work.draws params known))
 
 -- THE EXCHANGE OF A CODE
 
+-- the host refused, and the code is spent
 abbrev pub SpendsInVain : Work → GoodCode → ErrorName → Type 0
 SpendsInVain work code error = AnswersFor work (exchanging.source_of code) (λ _ _. spent_in_vain code.digest error)
 
--- it is exchanged for an access token, and for a refresh token where that is said
+-- the code is exchanged for an access token, and for a refresh token where that is said
 abbrev pub ExchangesFor : Bool → Work → GoodCode → ℕ → ℕ → Type 0
 ExchangesFor refreshes work code scope life = AnswersFor work (exchanging.source_of code) (λ history g.
     exchanged_for refreshes work.rules history work.moment work.draws code.digest g scope life)
 
--- it is exchanged for what the host left
+-- or for what the host left
 abbrev pub ExchangesLeft : Work → ℕ → GoodCode → Narrowed → Type 0
 ExchangesLeft work number code left = ForClient work number (λ known. AnswersFor work (exchanging.source_of code) (λ history g.
     exchanged work.rules history work.moment work.draws known.client code.digest g left))
 
--- the host is asked about the code of the history that may be exchanged
+-- the host is asked, and the code exchanged for what it leaves
 abbrev pub ExchangesCode : Work → Deciders → ℕ → GoodCode → Type 0
 ExchangesCode work by number code = ForClient work number (λ known.
     (history : List Event) (numbers : ℕ → ℕ) (digest : List ℕ) (g : Grant) →
@@ -82,19 +84,20 @@ ExchangesCode work by number code = ForClient work number (λ known.
     exchanging.IsGoodCode (sought history numbers work.moment number digest) code g →
     Does work history (exchange_code work.rules history by.answer work.moment work.draws known.client digest g))
 
+-- the points of the grant type were gone through
 abbrev pub AnswersExchange : Work → Deciders → Parameters → ℕ → Type 0
 AnswersExchange work by params number = ForClient work number (λ known. AnswersWith work by (λ history.
     exchange work.rules history by.answer work.moment work.draws params known))
 
 -- THE USE OF A REFRESH TOKEN
 
--- the outcome of the refresh token of the history that the store's is was done
+-- whatever history the store answers as, the outcome of the refresh token there that this one stands for was done
 abbrev pub AnswersUse : Work → Usable → (List Event → Grant → Outcome) → Type 0
 AnswersUse work token outcome =
     (history : List Event) (number : ℕ → ℕ) (g : Grant) → FitsStore work.before history work.moment number →
     IsSource history number work.moment (refreshing.source_of token) g → g.scope ≡ token.scope → Does work history (outcome history g)
 
--- it is used up for an access token of this scope and life, and a refresh token of its own scope
+-- the token is used up for an access token of this scope and life, and a refresh token of its own scope
 abbrev pub Rotates : Work → Usable → ℕ → ℕ → Type 0
 Rotates work token scope life = AnswersUse work token (λ history g.
     rotated work.rules history work.moment work.draws token.digest g scope life)
@@ -104,7 +107,7 @@ abbrev pub RotatesLeft : Work → Usable → Narrowed → Type 0
 RotatesLeft work token left = AnswersUse work token (λ history g.
     refreshed work.rules history work.moment work.draws token.digest g left)
 
--- the scope that is asked for is looked at, and the host is asked about the token of the history that may be used
+-- the scope that is asked for is looked at, the host is asked, and the token is used up for what it leaves
 abbrev pub UsesToken : Work → Deciders → Parameters → ℕ → Usable → Type 0
 UsesToken work by params number token = ForClient work number (λ known.
     (history : List Event) (numbers : ℕ → ℕ) (digest : List ℕ) (g : Grant) →
@@ -112,19 +115,20 @@ UsesToken work by params number token = ForClient work number (λ known.
     refreshing.IsUsable (sought history numbers work.moment number digest) token g →
     Does work history (use_points work.rules history by.answer work.moment work.draws params known.client digest g))
 
--- the token of the digest is used
+-- the token of the digest is looked for, and used
 abbrev pub UsesDigest : Work → Deciders → Parameters → ℕ → List ℕ → Type 0
 UsesDigest work by params number digest = ForClient work number (λ known. AnswersWith work by (λ history.
     token_points history work.moment number digest
     (use_points work.rules history by.answer work.moment work.draws params known.client digest)))
 
+-- the points of the grant type were gone through
 abbrev pub AnswersRefresh : Work → Deciders → Parameters → ℕ → Type 0
 AnswersRefresh work by params number = ForClient work number (λ known. AnswersWith work by (λ history.
     refresh work.rules history by.answer work.moment work.draws params known))
 
 -- EACH GRANT TYPE
 
--- the points of the grant type that the parameters name were gone through
+-- the points of the grant type that the parameters name were gone through, for the client of the number
 abbrev pub AnswersGrant : Work → Deciders → Parameters → ℕ → Type 0
 AnswersGrant work by params number = AnswersWith work by (λ history. need (known_client work.rules number) unavailable
     (token.token_points work.rules history by.answer work.moment work.draws params))

@@ -1,5 +1,5 @@
 -- POST /token with grant_type refresh_token, which rotates (RFC 6749, section 6; RFC 9700, section 4.14.2)
-use Rattle.std.specs.Prelude.{ℕ, List, [], ◌∷◌, not, codes}
+use Rattle.std.specs.Prelude.{ℕ, List, [], ◌∷◌, codes}
 use Rattle.params.specs.Form.{value_of}
 use Rattle.clients.specs.RegistryRecord.{RegistryRecord}
 use Rattle.clients.specs.ClientRecord.{ClientRecord}

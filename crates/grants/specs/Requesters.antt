@@ -1,5 +1,5 @@
 -- Who asks, for which client, and for which scope.
-use Rattle.std.specs.Prelude.{ℕ, List, Bool, not, Option, Some, None, Result, Ok, Err, option_map, option_and_then, codes, if◌then◌else◌}
+use Rattle.std.specs.Prelude.{ℕ, List, Option, Some, None, Result, Ok, Err, option_map, option_and_then, codes, if◌then◌else◌}
 use Rattle.std.specs.Result.{result_ok}
 use Rattle.params.specs.Form.{read_params, value_of}
 use Rattle.params.specs.Scope.{scope_mask}
@@ -13,8 +13,8 @@ use Rattle.clients.specs.declared.authentication.AuthFault.TheVariants as auth
 use Rattle.consent.specs.History.{is_within}
 use Rattle.messages.specs.Asked.{Asked}
 use Rattle.messages.specs.MediaType.{is_form}
-use Rattle.messages.specs.declared.error.ErrorName.TheVariants.{InvalidRequest, InvalidClient, InvalidScope}
-use Rattle.grants.specs.Outcomes.{Outcome, point, need, refuse, unavailable}
+use Rattle.messages.specs.declared.error.ErrorName.TheVariants.{InvalidRequest, InvalidClient}
+use Rattle.grants.specs.Outcomes.{Outcome, need, refuse, unavailable}
 
 abbrev pub Parameters : Type 0
 Parameters = List (List ℕ × List ℕ)

@@ -1,5 +1,5 @@
 -- Replies are short where their texts are.
-use Rattle.std.proofs.Common.{◌≡◌, true, refl, subst, sym, ap}
+use Rattle.std.proofs.Common.{◌≡◌, true, refl}
 use Rattle.messages.specs.declared.error.ErrorName.{ErrorName}
 use Rattle.messages.specs.declared.error.ErrorName.TheVariants.{InvalidRequest, InvalidClient, InvalidGrant, InvalidScope, UnauthorizedClient, UnsupportedGrantType, UnsupportedResponseType, AccessDenied}
 use Rattle.messages.specs.Reply.{Reply, plain}

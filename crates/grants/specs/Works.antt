@@ -41,7 +41,7 @@ pub record Deciders : Type 0 where
 abbrev pub deciders : List (Parties × ℕ) → (Ask → Narrowed) → Deciders
 deciders consents answer = record { consents = consents; answer = answer }
 
--- after the history, the outcome was done, or memory was refused for it
+-- after the history, the outcome was done, or 503 was answered since memory was refused
 abbrev pub Does : Work → List Event → Outcome → Type 0
 Does work history outcome = (refused : Bool) × IsDone (chosen refused outcome) work.reply work.after history work.moment
 

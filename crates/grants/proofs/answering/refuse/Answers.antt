@@ -1,4 +1,3 @@
-use Rattle.std.proofs.Common.{rules, ap, ◌∙◌}
 use Rattle.grants.specs.ShortLaws.{written_short, failure_small}
 use Rattle.grants.proofs.answering.refuse.Goals as goal
 
