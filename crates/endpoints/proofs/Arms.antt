@@ -1,11 +1,10 @@
 -- What the changes of a consent and of the hooks are.
-use Rattle.std.proofs.Common.{◌≡◌, ℕ, List, [], ◌∷◌, ◌++◌, Bool, true, false, Option, Some, None, refl, sym, ap, ◌∙◌, append-nil}
+use Rattle.std.proofs.Common.{◌≡◌, ℕ, List, [], ◌∷◌, Bool, true, false, Option, Some, None, refl, sym, ap, append-nil}
 use Rattle.std.specs.Prelude.{not, option_map, option_and_then, codes}
 use Rattle.std.specs.List.{list_all}
 use Rattle.std.specs.Result.{result_ok}
 use Rattle.insn.specs.declared.layout.Layout.{Layout}
 use Rattle.params.specs.Form.{read_params, value_of}
-use Rattle.params.specs.Scope.{scope_text}
 use Rattle.clients.specs.RegistryRecord.{RegistryRecord}
 use Rattle.consent.specs.History.{Event, Change, event_at, has_consent_room, with_change, with_changes}
 use Rattle.consent.specs.History.Change.{Consented, CodeGiven, Issued, Spent, FamilyEnded, HookSet, HookGone}
@@ -24,10 +23,10 @@ use Rattle.messages.specs.declared.error.ErrorName.TheVariants.{InvalidRequest, 
 use Rattle.grants.specs.Outcomes.{Outcome, point, need, only, refuse, unavailable, chosen}
 use Rattle.grants.specs.Requesters.{Parameters, KnownClient, form_of, owner_of, client_named, scope_asked}
 use Rattle.grants.specs.Done.{IsConsentDone}
-use Rattle.endpoints.specs.Hosts.{HostStep, HostRun}
+use Rattle.endpoints.specs.Hosts.{HostRun}
 use Rattle.endpoints.specs.ConsentPath.{give_consent, consent_points, consent_given}
 use Rattle.endpoints.specs.HookPaths.{is_operator, change_hooks, install_hook, remove_hook, list_hooks, installation, removal, hook_set, by_fault, version_asked}
-use Rattle.endpoints.specs.Server.{Seen, FitsServer, IsStep}
+use Rattle.endpoints.specs.Server.{FitsServer, IsStep}
 use Rattle.endpoints.proofs.Sound.{IsSound, still, sound_point}
 use Rattle.endpoints.proofs.Stepping.{AllRightAfter, host_push}
 use Rattle.endpoints.proofs.Frame.{whole_step}

@@ -5,21 +5,19 @@ use Rattle.std.specs.List.{list_all}
 use Rattle.std.proofs.lemmas.Bool.{and_parts}
 use Rattle.insn.specs.declared.layout.Layout.{Layout}
 use Rattle.clients.specs.RegistryRecord.{RegistryRecord}
-use Rattle.consent.specs.History.{Event, Change, Grant, IsHistory, event_at, grant_at, grant_of, is_spent, has_ended, code_terms, spends, with_change, with_changes}
+use Rattle.consent.specs.History.{Event, Change, Grant, IsHistory, event_at, grant_at, grant_of, spends, with_change, with_changes}
 use Rattle.consent.specs.History.Change.{Consented, CodeGiven, Issued, Spent, FamilyEnded, HookSet, HookGone}
 use Rattle.consent.specs.Growth.{is_consent, may_end}
 use Rattle.consent.specs.GrowthLaws.{grant_at-push_none, unexpired_count-push_none, is_spent-push_other, has_ended-push_other, code_terms-push_none, with_changes-cons}
 use Rattle.consent.specs.HistoryLaws.{is_history-push}
-use Rattle.consent.specs.Consents.{FitsConsents}
 use Rattle.consent.specs.ConsentLaws.{fits_consents-changes_other}
 use Rattle.consent.specs.declared.parties.Parties.{Parties}
-use Rattle.grant_store.specs.Kept.{Kept, kept_at}
+use Rattle.grant_store.specs.Kept.{Kept}
 use Rattle.grant_store.specs.Fits.{FitsStore, seen}
-use Rattle.messages.specs.Written.{Written, written}
-use Rattle.grants.specs.Outcomes.{Outcome, chosen, point, need, refuse, unavailable}
-use Rattle.grants.specs.Done.{IsDone}
-use Rattle.endpoints.specs.Hosts.{HostStep, HostSteps, HostRun, IsHooked}
-use Rattle.endpoints.specs.Server.{Seen, FitsServer, IsStep}
+use Rattle.messages.specs.Written.{Written}
+use Rattle.grants.specs.Outcomes.{Outcome}
+use Rattle.endpoints.specs.Hosts.{HostSteps, HostRun, IsHooked}
+use Rattle.endpoints.specs.Server.{FitsServer, IsStep}
 use Rattle.endpoints.proofs.Stepping.{AllRightAfter, host_push}
 use Rattle.endpoints.proofs.Frame.{whole_step}
 

@@ -1,10 +1,9 @@
 -- What the points of the token endpoint do is right, and changes no consent and no hook.
 use Rattle.std.proofs.Common.{◌≡◌, ◌≤◌, ℕ, List, [], ◌∷◌, ◌++◌, Bool, true, false, Option, Some, None, bit_and, refl, sym, ap, ◌∙◌, arith, append_assoc, append-nil, subst, inl, inr}
-use Rattle.std.specs.Prelude.{◌⊎◌, ◌==◌, ◌&&◌, not, codes, if◌then◌else◌, option_and_then}
-use Rattle.std.proofs.lemmas.Bool.{eqb-true, eq-eqb, false≢true, and_parts}
-use Rattle.std.proofs.lemmas.Nat.Bits.{bit_at_and, same_from_bits}
+use Rattle.std.specs.Prelude.{◌⊎◌, ◌==◌, not, codes, if◌then◌else◌, option_and_then}
+use Rattle.std.proofs.lemmas.Bool.{eq-eqb, false≢true, and_parts}
 use Rattle.clients.specs.RegistryRecord.{RegistryRecord}
-use Rattle.consent.specs.History.{Event, Change, Grant, event_at, grant_by, grant_at, is_code, is_within, code_terms, has_ended, is_spent, has_room, is_taken, with_change, Terms}
+use Rattle.consent.specs.History.{Event, Change, Grant, event_at, grant_by, grant_at, is_code, is_within, code_terms, has_ended, is_spent, has_room, is_taken, with_change}
 use Rattle.consent.specs.History.Change.{Consented, CodeGiven, Issued, Spent, FamilyEnded, HookSet, HookGone}
 use Rattle.consent.specs.GrowthLaws.{code_terms-keep, has_ended-push_other}
 use Rattle.consent.specs.HistoryLaws.{grant_at-given}
@@ -19,7 +18,6 @@ use Rattle.endpoints.specs.Bounded.{IsRight, AllRight, IsOfCode, allowed_to}
 use Rattle.consent.specs.declared.grant.Kind.{Kind}
 use Rattle.consent.specs.declared.grant.Kind.TheVariants.{Code, Token}
 use Rattle.consent.specs.CoveredLaws.{is_within-trans}
-use Rattle.clients.specs.ClientRecord.{ClientRecord}
 use Rattle.grant_store.specs.Views.{is_refresh}
 use Rattle.hook_record.specs.declared.Ask.{Ask}
 use Rattle.hook_record.specs.declared.Narrowed.{Narrowed}

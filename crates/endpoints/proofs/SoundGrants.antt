@@ -1,37 +1,28 @@
 -- What an exchange of a code and a client's own grant do is right.
-use Rattle.std.proofs.Common.{◌≡◌, ◌≤◌, ℕ, List, [], ◌∷◌, ◌++◌, Bool, true, false, Option, Some, None, bit_and, length, refl, sym, ap, ◌∙◌, arith, subst, inl, inr}
-use Rattle.std.specs.Prelude.{◌⊎◌, ◌==◌, ◌&&◌, not, codes, bytes_eq}
+use Rattle.std.proofs.Common.{◌≡◌, ◌≤◌, ℕ, List, [], ◌∷◌, Bool, true, false, Option, Some, bit_and, length, refl, sym, ap, ◌∙◌, arith, subst, inl, inr}
 use Rattle.std.specs.Option.{option_map_or}
-use Rattle.std.proofs.lemmas.Bool.{eqb-true, eq-eqb, false≢true, and_parts}
+use Rattle.std.proofs.lemmas.Bool.{eq-eqb}
 use Rattle.sha2.specs.Sha256.{sha256}
 use Rattle.clients.specs.RegistryRecord.{RegistryRecord}
 use Rattle.clients.specs.ClientRecord.{ClientRecord}
 use Rattle.clients.specs.Clients.{client_at}
-use Rattle.consent.specs.History.{Event, event_at, Change, Grant, grant_by, grant_at, is_code, is_within, code_terms, has_ended, is_spent, with_change, Terms, terms_of, IsHistory}
+use Rattle.consent.specs.History.{Event, event_at, Change, Grant, grant_by, grant_at, is_within, code_terms, has_ended}
 use Rattle.consent.specs.History.Change.{Consented, CodeGiven, Issued, Spent, FamilyEnded, HookSet, HookGone}
 use Rattle.consent.specs.GrowthLaws.{code_terms-keep, has_ended-push_other}
-use Rattle.consent.specs.HistoryLaws.{grant_at-given, code_terms-of_code}
+use Rattle.consent.specs.HistoryLaws.{grant_at-given}
 use Rattle.consent.specs.CoveredLaws.{is_within-trans}
-use Rattle.consent.specs.declared.grant.Kind.{Kind}
-use Rattle.consent.specs.declared.grant.Kind.TheVariants.{Code, Token}
+use Rattle.consent.specs.declared.grant.Kind.TheVariants.{Code}
 use Rattle.hook_record.specs.declared.Ask.{Ask}
 use Rattle.hook_record.specs.declared.Narrowed.{Narrowed}
 use Rattle.hook_record.specs.declared.Narrowed.TheVariants.{Allowed, Denied, EmptyScope}
 use Rattle.hook_host.specs.Decisions.{met_with}
 use Rattle.hook_host.specs.DecisionLaws.{met_with_narrows}
 use Rattle.messages.specs.declared.request.Draws.{Draws}
-use Rattle.messages.specs.declared.error.ErrorName.{ErrorName}
-use Rattle.messages.specs.declared.error.ErrorName.TheVariants.{InvalidRequest, InvalidGrant, InvalidScope, UnauthorizedClient}
-use Rattle.grants.specs.Outcomes.{Outcome, point, need, refuse}
-use Rattle.messages.specs.Reply.{plain}
-use Rattle.messages.specs.Reply.Body.{Failure}
-use Rattle.endpoints.specs.Bounded.{IsRight, AllRight, IsOfCode, allowed_to}
-use Rattle.grants.specs.Requesters.{Parameters, scope_asked}
-use Rattle.grants.specs.Grants.{left_of, access_issued, refresh_issued, access_reply, both_reply, both_digests}
-use Rattle.grants.specs.Exchange.{exchanged, exchanged_for}
-use Rattle.grants.specs.ClientCredentials.{granted, client_credentials, credentials_ask}
-use Rattle.endpoints.proofs.Sound.{IsSound, still, sound_point, sound_need, unless_sound, not_false, all_right-at, same_grant}
-use Rattle.endpoints.proofs.Stepping.{AllQuiet, AllRightAfter}
+use Rattle.endpoints.specs.Bounded.{IsRight, AllRight, allowed_to}
+use Rattle.grants.specs.Grants.{access_issued, refresh_issued, access_reply, both_reply, both_digests}
+use Rattle.grants.specs.Exchange.{exchanged_for}
+use Rattle.grants.specs.ClientCredentials.{granted}
+use Rattle.endpoints.proofs.Sound.{IsSound, still, unless_sound, all_right-at, same_grant}
 
 code_change : (rules : RegistryRecord) (before : List Event) (moment : ℕ) (c : Change) (g : Grant) →
     grant_by moment c ≡ Some g → IsRight rules before c → g.kind ≡ Code → is_within g.scope (allowed_to rules g.client) ≡ true

@@ -1,6 +1,6 @@
 -- What /authorize, /revoke and /introspect do is right.
-use Rattle.std.proofs.Common.{◌≡◌, ℕ, List, [], ◌∷◌, Bool, true, false, Option, Some, None, length, refl, sym, ap, ◌∙◌, arith}
-use Rattle.std.specs.Prelude.{◌==◌, ◌&&◌, not, codes, bytes_eq, option_and_then}
+use Rattle.std.proofs.Common.{◌≡◌, ℕ, List, [], ◌∷◌, true, Option, Some, None, length, ap, ◌∙◌}
+use Rattle.std.specs.Prelude.{◌==◌, not, codes, bytes_eq, option_and_then}
 use Rattle.std.specs.Option.{option_map_or}
 use Rattle.std.specs.Result.{result_ok}
 use Rattle.sha2.specs.Sha256.{sha256}
@@ -20,10 +20,10 @@ use Rattle.messages.specs.declared.error.ErrorName.{ErrorName}
 use Rattle.messages.specs.declared.error.ErrorName.TheVariants.{InvalidRequest, InvalidGrant, InvalidScope, UnauthorizedClient, UnsupportedResponseType, AccessDenied}
 use Rattle.messages.specs.Reply.{plain, sent_back}
 use Rattle.messages.specs.Reply.Body.{Failure, Empty}
-use Rattle.grants.specs.Outcomes.{Outcome, status_of, point, need, only, refuse, unavailable}
+use Rattle.grants.specs.Outcomes.{Outcome, status_of, point, need, refuse, unavailable}
 use Rattle.grants.specs.Requesters.{Parameters, KnownClient, known_client, client_named, owner_of, scope_within}
 use Rattle.grants.specs.Texts.{where_passes}
-use Rattle.endpoints.specs.Bounded.{AllRight, allowed_to}
+use Rattle.endpoints.specs.Bounded.{allowed_to}
 use Rattle.grants.specs.Tokens.{live_token}
 use Rattle.endpoints.specs.Authorize.{authorize, authorize_known, challenge_sent, code_given, state_of, turned_back}
 use Rattle.endpoints.specs.Revoke.{revoke_token, revoke_points, revoked}

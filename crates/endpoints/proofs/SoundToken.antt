@@ -1,9 +1,8 @@
 -- What POST /token does is right.
-use Rattle.std.proofs.Common.{◌≡◌, ℕ, List, [], ◌∷◌, Bool, true, false, Option, Some, None, bit_and, refl, sym, ap, ◌∙◌, arith, subst}
-use Rattle.std.specs.Prelude.{◌==◌, ◌&&◌, not, codes, bytes_eq, option_map, Result, Ok, Err}
-use Rattle.std.specs.Result.{result_ok}
+use Rattle.std.proofs.Common.{◌≡◌, ℕ, List, [], Bool, true, false, Option, Some, None, bit_and, refl, sym, ap, ◌∙◌, arith, subst}
+use Rattle.std.specs.Prelude.{◌==◌, not, codes, bytes_eq, option_map, Result, Ok, Err}
 use Rattle.std.proofs.lemmas.Bool.{eq-eqb, and_parts}
-use Rattle.params.specs.Form.{read_params, value_of}
+use Rattle.params.specs.Form.{value_of}
 use Rattle.clients.specs.RegistryRecord.{RegistryRecord}
 use Rattle.clients.specs.ClientRecord.{ClientRecord}
 use Rattle.clients.specs.Clients.{client_at}
@@ -15,7 +14,6 @@ use Rattle.clients.specs.declared.grant.GrantType.{GrantType}
 use Rattle.clients.specs.declared.grant.GrantType.TheVariants.{AuthorizationCode, RefreshToken, ClientCredentials}
 use Rattle.consent.specs.History.{Event, Grant, grant_at, is_code, is_within, has_ended, is_spent, code_terms, IsHistory}
 use Rattle.consent.specs.HistoryLaws.{code_terms-of_code}
-use Rattle.consent.specs.CoveredLaws.{is_within-trans}
 use Rattle.consent.specs.declared.grant.Kind.{Kind}
 use Rattle.consent.specs.declared.grant.Kind.TheVariants.{Code, Token}
 use Rattle.hook_record.specs.declared.Ask.{Ask}
@@ -29,7 +27,7 @@ use Rattle.messages.specs.declared.error.ErrorName.TheVariants.{InvalidRequest, 
 use Rattle.messages.specs.Asked.{Asked}
 use Rattle.grants.specs.Outcomes.{status_of, Outcome, point, need, refuse, unavailable, chosen}
 use Rattle.messages.specs.Reply.{plain}
-use Rattle.messages.specs.Reply.Body.{Failure, Empty}
+use Rattle.messages.specs.Reply.Body.{Failure}
 use Rattle.endpoints.specs.Bounded.{AllRight, allowed_to}
 use Rattle.grants.specs.Requesters.{Parameters, KnownClient, known_client, scope_within, form_of, with_client, with_authenticated}
 use Rattle.pkce.specs.Proof.{proves}

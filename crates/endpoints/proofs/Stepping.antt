@@ -1,5 +1,5 @@
 -- What a request does to the server, by what it does to the store.
-use Rattle.std.proofs.Common.{◌≡◌, ◌≤◌, ℕ, List, [], ◌∷◌, ◌++◌, Bool, true, false, refl, sym, ap, ◌∙◌, append_assoc, append-nil, subst}
+use Rattle.std.proofs.Common.{◌≡◌, ℕ, List, [], ◌∷◌, ◌++◌, false, refl, sym, append_assoc, append-nil, subst}
 use Rattle.insn.specs.declared.layout.Layout.{Layout}
 use Rattle.clients.specs.RegistryRecord.{RegistryRecord}
 use Rattle.consent.specs.History.{Event, Change, event_at, with_change, with_changes}
@@ -7,12 +7,11 @@ use Rattle.consent.specs.History.Change.{Consented, CodeGiven, Issued, Spent, Fa
 use Rattle.consent.specs.Growth.{is_consent}
 use Rattle.consent.specs.GrowthLaws.{with_changes-cons}
 use Rattle.consent.specs.Consents.{FitsConsents}
-use Rattle.consent.specs.ConsentLaws.{fits_consents-changes_other, fits_consents-push_other}
+use Rattle.consent.specs.ConsentLaws.{fits_consents-push_other}
 use Rattle.consent.specs.declared.parties.Parties.{Parties}
 use Rattle.grant_store.specs.Kept.{Kept}
-use Rattle.grant_store.specs.Fits.{FitsStore}
-use Rattle.messages.specs.Written.{Written, written}
-use Rattle.grants.specs.Outcomes.{Outcome, chosen}
+use Rattle.messages.specs.Written.{Written}
+use Rattle.grants.specs.Outcomes.{Outcome}
 use Rattle.endpoints.specs.Hosts.{HostStep, HostRun}
 use Rattle.endpoints.specs.Bounded.{IsRight, AllRight}
 use Rattle.grants.specs.Done.{IsDone}

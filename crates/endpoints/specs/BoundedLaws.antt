@@ -1,8 +1,8 @@
 -- A history of right changes is bounded.
-use Rattle.std.proofs.Common.{◌≡◌, ◌≤◌, ◌⊎◌, inl, inr, ◌+◌, ℕ, List, [], ◌∷◌, ◌++◌, true, false, Option, Some, append_assoc, append-nil, refl, sym, ap, ◌∙◌, arith, subst}
+use Rattle.std.proofs.Common.{◌≡◌, ◌≤◌, ◌⊎◌, inl, inr, ℕ, List, [], ◌∷◌, ◌++◌, true, false, append_assoc, append-nil, sym, ◌∙◌, arith, subst}
 use Rattle.std.specs.Prelude.{count_by}
 use Rattle.clients.specs.RegistryRecord.{RegistryRecord}
-use Rattle.consent.specs.History.{Event, Change, event_at, grants, is_code_of, is_within, consented_scope, has_ended, code_terms, IsHistory}
+use Rattle.consent.specs.History.{Event, Change, grants, is_code_of, is_within, consented_scope, has_ended, IsHistory}
 use Rattle.consent.specs.History.Change.{Consented, CodeGiven, Issued, Spent, FamilyEnded, HookSet, HookGone}
 use Rattle.consent.specs.Covered.{IsCovered, IsConsented}
 use Rattle.consent.specs.CoveredLaws.{is_covered-start, is_covered-push, is_within-trans}

@@ -18,7 +18,6 @@ use Rattle.grants.specs.Outcomes.{Outcome, point, need, only, refuse, unavailabl
 use Rattle.grants.specs.Requesters.{Parameters, form_of}
 use Rattle.endpoints.specs.declared.endpoint.Endpoint.{Endpoint}
 use Rattle.endpoints.specs.declared.endpoint.Endpoint.TheVariants as endpoint
-use Rattle.endpoints.specs.Paths.{endpoint_at}
 
 -- the operator's key was sent
 abbrev pub is_operator : RegistryRecord → Asked → Bool

@@ -1,10 +1,13 @@
 pub mod Hosts
+pub mod Answering
 pub mod Authorize
 pub mod Decided
 pub mod CodeSteps
 pub mod ConsentPath
+pub mod ConsentSteps
 pub mod Presented
 pub mod Revoke
+pub mod Revoking
 pub mod Introspect
 pub mod HookPaths
 pub mod HookAsking
@@ -13,3 +16,4 @@ pub mod Replies
 pub mod Bounded
 pub mod BoundedLaws
 pub mod Server
+pub mod Steps

@@ -1,9 +1,6 @@
 -- When a server fits a history, and what one request does.
-use Rattle.std.specs.Prelude.{◌≡◌, ℕ, List, [], Bool, Option}
+use Rattle.std.specs.Prelude.{◌≡◌, ℕ, List, []}
 use Rattle.insn.specs.declared.layout.Layout.{Layout}
-use Rattle.hook_record.specs.declared.Ask.{Ask}
-use Rattle.hook_record.specs.declared.Narrowed.{Narrowed}
-use Rattle.hook_host.specs.declared.fault.HookFault.{HookFault}
 use Rattle.clients.specs.RegistryRecord.{RegistryRecord}
 use Rattle.consent.specs.History.{Event, with_changes}
 use Rattle.consent.specs.Consents.{FitsConsents}

@@ -1,19 +1,20 @@
 //! GET /authorize (RFC 6749, section 4.1.1; RFC 7636, section 4.3).
-ghost use Rattle.std.specs.Prelude.{◌≡◌, ◌≤◌, ℕ, List, Bool, IfOk, IsErrOf, length, option_copied};
+ghost use Rattle.std.specs.Prelude.{◌≡◌, ◌≤◌, ℕ, List, IfOk, IsErrOf, length, option_copied};
 ghost use Rattle.params.specs.Form.{IsFormRefusal};
 ghost use Rattle.clients.specs.Limits.{redirect_limit};
 ghost use Rattle.consent.specs.History.{Event};
 ghost use Rattle.consent.specs.Consents.{FitsConsents};
-ghost use Rattle.grant_store.specs.Fits.{FitsStore};
 ghost use Rattle.messages.specs.Asked.{asked_of};
 ghost use Rattle.messages.specs.Target.{query_of};
 ghost use Rattle.grants.specs.Halts.{Leads};
-ghost use Rattle.grants.specs.Outcomes.{Outcome, chosen, refuse};
+ghost use Rattle.grants.specs.Outcomes.{Outcome, refuse};
 ghost use Rattle.grants.specs.Requesters.{Parameters, KnownClient};
-ghost use Rattle.endpoints.specs.Authorize.{authorize, authorize_known, challenge_sent, known_points, turned_back, with_query};
+ghost use Rattle.grants.specs.Works.{work_of};
+ghost use Rattle.endpoints.specs.Answering.{IsReplied};
+ghost use Rattle.endpoints.specs.Authorize.{challenge_sent, known_points, turned_back, with_query};
 ghost use Rattle.endpoints.specs.Decided.{Decides};
-ghost use Rattle.endpoints.specs.CodeSteps.{HasShortState, client_in, code_by};
-ghost use Rattle.grants.specs.Done.{IsDone, IsShort, IsUndone};
+ghost use Rattle.endpoints.specs.CodeSteps.{Authorizes, DecidesCode, GivesCode, HasShortState, client_in};
+ghost use Rattle.grants.specs.Done.{IsShort};
 
 use clients::{Client, ClientNo, GrantType, Registry};
 use consent::{Consents, is_within};
@@ -91,10 +92,8 @@ fn decision<'p>(
     params: &'p Params,
     known: Requester<'_, 'p>,
 ) -> Result<CodeFacts<'p>, ErrorName>
-    ensures points { (history : List Event) (draw : List ℕ) → FitsConsents consents.now history → Decides result
-        (authorize_known setting.entry.now.rules.now history (asked_of request.entry.now) setting.entry.now.moment draw
-        params.now (client_in known.entry) known.entry.redirect.now)
-        (code_by history setting.entry.now.moment draw params.now) (turned_back known.entry.redirect.now params.now) }
+    ensures points { (history : List Event) → FitsConsents consents.now history →
+        DecidesCode setting.entry.now history (asked_of request.entry.now) params.now known.entry result }
     ensures sent_to { IfOk result (λ facts. facts.redirect.now ≡ known.entry.redirect.now) }
 {
     let wanted = params
@@ -125,7 +124,7 @@ fn decision<'p>(
 
 // The user agent is sent back with an error (RFC 6749, section 4.1.2.1).
 fn turned_back(alloc: Global, uri: &str, params: &Params, error: ErrorName) -> Response
-    ensures value { (refused : Bool) × IsUndone (chosen refused (turned_back uri.now params.now error)) result }
+    ensures value { IsReplied (turned_back uri.now params.now error) result }
     ensures short { length uri.now ≤ redirect_limit → HasShortState params.now → IsShort result }
 {
     let Ok(reply) = redirect(alloc, uri, "error", error.text(), params.get("state")) else {
@@ -141,10 +140,7 @@ fn give_code(
     params: &Params,
     facts: &CodeFacts<'_>,
 ) -> Response
-    ensures done { (history : List Event) (number : ℕ → ℕ) → FitsStore store.old history setting.entry.now.moment number →
-        (refused : Bool) × IsDone (chosen refused
-        (code_by history setting.entry.now.moment setting.entry.now.draws.now.first params.now facts.entry.now))
-        result store.new history setting.entry.now.moment }
+    ensures done { GivesCode (work_of setting.entry.now store.old store.new result) params.now facts.entry.now }
     ensures short { length facts.entry.now.redirect.now ≤ redirect_limit → HasShortState params.now → IsShort result }
 {
     let draw = &setting.draws.first;
@@ -168,10 +164,7 @@ pub(crate) fn authorize_path(
     consents: &Consents,
     request: &Request<'_>,
 ) -> Response
-    ensures done { (history : List Event) (number : ℕ → ℕ) → FitsStore store.old history setting.entry.now.moment number →
-        FitsConsents consents.now history → (refused : Bool) × IsDone (chosen refused
-        (authorize setting.entry.now.rules.now history (asked_of request.entry.now) setting.entry.now.moment
-        setting.entry.now.draws.now.first)) result store.new history setting.entry.now.moment }
+    ensures done { Authorizes (work_of setting.entry.now store.old store.new result) consents.now (asked_of request.entry.now) }
     ensures short { length request.entry.now.target.now ≤ 8192 → IsShort result }
 {
     let params = match sent(setting.alloc, request) {

@@ -1,13 +1,13 @@
 //! POST /consent.
-ghost use Rattle.std.specs.Prelude.{◌≡◌, ℕ, List, Bool};
+ghost use Rattle.std.specs.Prelude.{List};
 ghost use Rattle.consent.specs.History.{Event};
-ghost use Rattle.consent.specs.Consents.{FitsConsents};
-ghost use Rattle.grant_store.specs.Fits.{FitsStore};
 ghost use Rattle.messages.specs.Asked.{asked_of};
-ghost use Rattle.grants.specs.Outcomes.{chosen, refuse};
+ghost use Rattle.grants.specs.Outcomes.{refuse};
+ghost use Rattle.grants.specs.Works.{work_of};
 ghost use Rattle.endpoints.specs.Decided.{Decides};
-ghost use Rattle.endpoints.specs.ConsentPath.{consent_given, consent_points, give_consent};
-ghost use Rattle.grants.specs.Done.{IsConsentDone, IsShort};
+ghost use Rattle.endpoints.specs.ConsentPath.{consent_points};
+ghost use Rattle.endpoints.specs.ConsentSteps.{GivesConsent, KeepsConsent, consent_by};
+ghost use Rattle.grants.specs.Done.{IsShort};
 
 use clients::Registry;
 use consent::{ClientNo, Consents, OwnerNo};
@@ -32,7 +32,7 @@ fn consented(
 ) -> Result<NewConsent, ErrorName>
     ensures { (history : List Event) → Decides result
         (consent_points rules.now history (asked_of request.entry.now) params.now)
-        (λ new. consent_given rules.now history new.owner new.client new.mask) refuse }
+        (consent_by rules.now history) refuse }
 {
     let Some(owner) = owner(rules, request) else {
         return Err(ErrorName::AccessDenied);
@@ -59,10 +59,7 @@ fn keep(
     consents: &mut Consents,
     new: &NewConsent,
 ) -> Response
-    ensures done { (history : List Event) (number : ℕ → ℕ) → FitsStore store.old history setting.entry.now.moment number →
-        FitsConsents consents.old history → (refused : Bool) × IsConsentDone (chosen refused
-        (consent_given setting.entry.now.rules.now history new.entry.now.owner new.entry.now.client new.entry.now.mask))
-        result store.new consents.new history setting.entry.now.moment }
+    ensures done { KeepsConsent (work_of setting.entry.now store.old store.new result) consents.old consents.new new.entry.now }
     ensures short { IsShort result }
 {
     let catalogue = setting.rules.catalogue();
@@ -86,10 +83,8 @@ pub(crate) fn consent_path(
     consents: &mut Consents,
     request: &Request<'_>,
 ) -> Response
-    ensures done { (history : List Event) (number : ℕ → ℕ) → FitsStore store.old history setting.entry.now.moment number →
-        FitsConsents consents.old history → (refused : Bool) × IsConsentDone (chosen refused
-        (give_consent setting.entry.now.rules.now history (asked_of request.entry.now)))
-        result store.new consents.new history setting.entry.now.moment }
+    ensures done { GivesConsent (work_of setting.entry.now store.old store.new result) consents.old consents.new
+        (asked_of request.entry.now) }
     ensures short { IsShort result }
 {
     let params = match form(setting.alloc, request) {

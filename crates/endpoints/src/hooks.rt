@@ -1,24 +1,22 @@
 //! The operator's requests.
-ghost use Rattle.std.specs.Prelude.{◌≡◌, ℕ, List, Bool, Option, Some, IfOk, string_bytes, option_map, option_and_then, map, codes};
-ghost use Rattle.std.specs.Result.{result_ok};
-ghost use Rattle.params.specs.Form.{read_params, value_of};
+ghost use Rattle.std.specs.Prelude.{◌≡◌, ℕ, List, Some, IfOk, string_bytes, option_map, option_and_then, map, codes};
+ghost use Rattle.params.specs.Form.{value_of};
 ghost use Rattle.consent.specs.History.{Change};
 ghost use Rattle.consent.specs.History.Change.{HookGone};
 ghost use Rattle.hook_host.specs.Names.{AreHookNames};
-ghost use Rattle.hook_host.specs.declared.fault.HookFault.{HookFault};
 ghost use Rattle.hook_host.specs.Faults.{hook_fault_text};
 ghost use Rattle.hook_host.specs.Versions.{version_of};
 ghost use Rattle.messages.specs.Asked.{asked_of};
-ghost use Rattle.messages.specs.Target.{query_of};
-ghost use Rattle.messages.specs.declared.error.ErrorName.TheVariants.{InvalidRequest};
 ghost use Rattle.messages.specs.Reply.{plain};
 ghost use Rattle.messages.specs.Reply.Body.{HookRefused};
 ghost use Rattle.messages.specs.Written.{written};
 ghost use Rattle.grants.specs.Halts.{Leads};
-ghost use Rattle.grants.specs.Outcomes.{Outcome, chosen, need, refuse};
+ghost use Rattle.grants.specs.Outcomes.{Outcome};
 ghost use Rattle.grants.specs.Requesters.{Parameters, with_form};
-ghost use Rattle.grants.specs.Done.{IsShort, IsUndone};
-ghost use Rattle.endpoints.specs.Hosts.{IsHostFault, IsHooked};
+ghost use Rattle.grants.specs.Done.{IsShort};
+ghost use Rattle.endpoints.specs.Answering.{IsReplied};
+ghost use Rattle.endpoints.specs.Authorize.{with_query};
+ghost use Rattle.endpoints.specs.Hosts.{HostAnswers};
 ghost use Rattle.endpoints.specs.HookPaths.{by_fault, version_asked, with_operator, hook_set, install_hook, remove_hook, list_hooks, installation, removal};
 ghost use Rattle.endpoints.specs.HookAsking.{hook_change};
 
@@ -71,8 +69,7 @@ fn hook_asked(params: &Params) -> Option<HookAsked<'_>>
 // The parameters of the query, from the operator.
 fn operator_query(setting: &Setting<'_>, request: &Request<'_>) -> Result<Params, Halt>
     ensures { (next : Parameters → Outcome) → Leads result
-        (with_operator setting.entry.now.rules.now (asked_of request.entry.now)
-        (need (result_ok (read_params (query_of (asked_of request.entry.now).target))) (refuse InvalidRequest) next)) next }
+        (with_operator setting.entry.now.rules.now (asked_of request.entry.now) (with_query (asked_of request.entry.now) next)) next }
 {
     operator(setting, request)?;
     match Params::read(setting.alloc, request.query()) {
@@ -106,7 +103,7 @@ fn refused_reply(alloc: Global, fault: HookFault) -> Result<Response, AllocError
 
 // The host has that fault for the change.
 fn refuse_hook(alloc: Global, fault: HookFault) -> Response
-    ensures done { (change : Change) → (refused : Bool) × IsUndone (chosen refused (by_fault change (Some fault))) result }
+    ensures done { (change : Change) → IsReplied (by_fault change (Some fault)) result }
     ensures short { IsShort result }
 {
     if fault == HookFault::Memory {
@@ -125,9 +122,8 @@ fn install_asked<H: HookHost>(
     asked: HookAsked<'_>,
     code: &[u8],
 ) -> Response
-    ensures done { (refused : Bool) × (fault : Option HookFault) ×
-        IsHostFault H.refuses_install H.refuses_remove host.old (Some (hook_change code.now asked.entry)) fault ×
-        IsHooked H.installs H.removes (chosen refused (by_fault (hook_change code.now asked.entry) fault)) result host.old host.new }
+    ensures done { HostAnswers H.HookHost (Some (hook_change code.now asked.entry)) (by_fault (hook_change code.now asked.entry))
+        result host.old host.new }
     ensures short { IsShort result }
 {
     let Ok(reply) = hook(alloc, asked.name) else {
@@ -141,9 +137,7 @@ fn install_asked<H: HookHost>(
 
 // Removes the hook of the name.
 fn remove_named<H: HookHost>(alloc: Global, host: &mut H, name: &str) -> Response
-    ensures done { (refused : Bool) × (fault : Option HookFault) ×
-        IsHostFault H.refuses_install H.refuses_remove host.old (Some (HookGone name.now)) fault ×
-        IsHooked H.installs H.removes (chosen refused (by_fault (HookGone name.now) fault)) result host.old host.new }
+    ensures done { HostAnswers H.HookHost (Some (HookGone name.now)) (by_fault (HookGone name.now)) result host.old host.new }
     ensures short { IsShort result }
 {
     let Ok(reply) = hook(alloc, name) else {
@@ -173,11 +167,8 @@ pub(crate) fn install_path<H: HookHost>(
     host: &mut H,
     request: &Request<'_>,
 ) -> Response
-    ensures done { (refused : Bool) × (fault : Option HookFault) ×
-        IsHostFault H.refuses_install H.refuses_remove host.old (installation (asked_of request.entry.now)) fault ×
-        IsHooked H.installs H.removes
-        (chosen refused (install_hook setting.entry.now.rules.now fault (asked_of request.entry.now)))
-        result host.old host.new }
+    ensures done { HostAnswers H.HookHost (installation (asked_of request.entry.now))
+        (λ fault. install_hook setting.entry.now.rules.now fault (asked_of request.entry.now)) result host.old host.new }
     ensures short { IsShort result }
 {
     let params = match operator_query(setting, request) {
@@ -198,11 +189,8 @@ pub(crate) fn remove_path<H: HookHost>(
     host: &mut H,
     request: &Request<'_>,
 ) -> Response
-    ensures done { (refused : Bool) × (fault : Option HookFault) ×
-        IsHostFault H.refuses_install H.refuses_remove host.old (removal (asked_of request.entry.now)) fault ×
-        IsHooked H.installs H.removes
-        (chosen refused (remove_hook setting.entry.now.rules.now fault (asked_of request.entry.now)))
-        result host.old host.new }
+    ensures done { HostAnswers H.HookHost (removal (asked_of request.entry.now))
+        (λ fault. remove_hook setting.entry.now.rules.now fault (asked_of request.entry.now)) result host.old host.new }
     ensures short { IsShort result }
 {
     let params = match operator_form(setting, request) {
@@ -223,8 +211,7 @@ pub(crate) fn list_path<H: HookHost>(
     host: &H,
     request: &Request<'_>,
 ) -> Response
-    ensures done { (refused : Bool) × IsUndone
-        (chosen refused (list_hooks setting.entry.now.rules.now (H.names host.now) (asked_of request.entry.now))) result }
+    ensures done { IsReplied (list_hooks setting.entry.now.rules.now (H.names host.now) (asked_of request.entry.now)) result }
     ensures short { IsShort result }
 {
     if let Err(halt) = operator(setting, request) {

@@ -1,14 +1,15 @@
 //! POST /introspect (RFC 7662, section 2).
-ghost use Rattle.std.specs.Prelude.{ℕ, List, Bool, Some};
+ghost use Rattle.std.specs.Prelude.{ℕ, List, Some};
 ghost use Rattle.consent.specs.History.{Event, Grant};
-ghost use Rattle.grant_store.specs.Fits.{FitsStore};
 ghost use Rattle.messages.specs.Asked.{asked_of};
-ghost use Rattle.grants.specs.Outcomes.{chosen, only};
+ghost use Rattle.grants.specs.Outcomes.{only};
 ghost use Rattle.messages.specs.Reply.{plain};
 ghost use Rattle.messages.specs.Reply.Body.{Inactive};
-ghost use Rattle.grants.specs.Done.{IsShort, IsUndone};
-ghost use Rattle.endpoints.specs.Introspect.{told, introspect};
+ghost use Rattle.grants.specs.Done.{IsShort};
+ghost use Rattle.endpoints.specs.Answering.{IsReplied};
+ghost use Rattle.endpoints.specs.Introspect.{told};
 ghost use Rattle.endpoints.specs.Presented.{IsStatusOf};
+ghost use Rattle.endpoints.specs.Revoking.{Introspects};
 
 use crate::revoke::{live_token, presented_by};
 use grant_store::{Store, TokenStatus};
@@ -18,7 +19,7 @@ use std::alloc::Global;
 
 // No live token was presented.
 fn tell_inactive(alloc: Global) -> Response
-    ensures done { (refused : Bool) × IsUndone (chosen refused (only (plain 200 Inactive))) result }
+    ensures done { IsReplied (only (plain 200 Inactive)) result }
     ensures short { IsShort result }
 {
     let Ok(reply) = inactive(alloc) else {
@@ -31,7 +32,7 @@ fn tell_inactive(alloc: Global) -> Response
 fn tell_active(setting: &Setting<'_>, token: &TokenStatus) -> Response
     ensures done { (history : List Event) (number : ℕ → ℕ) (g : Grant) →
         IsStatusOf history number setting.entry.now.moment g token.entry.now →
-        (refused : Bool) × IsUndone (chosen refused (told setting.entry.now.rules.now (Some g))) result }
+        IsReplied (told setting.entry.now.rules.now (Some g)) result }
     ensures short { IsShort result }
 {
     let Some(client) = setting.rules.client_numbered(token.client) else {
@@ -64,10 +65,7 @@ pub(crate) fn introspect_path(
     store: &Store,
     request: &Request<'_>,
 ) -> Response
-    ensures done { (history : List Event) (number : ℕ → ℕ) →
-        FitsStore store.now history setting.entry.now.moment number →
-        (refused : Bool) × IsUndone (chosen refused
-        (introspect setting.entry.now.rules.now history (asked_of request.entry.now) setting.entry.now.moment)) result }
+    ensures done { Introspects setting.entry.now store.now (asked_of request.entry.now) result }
     ensures short { IsShort result }
 {
     let presented = match presented_by(setting, request) {

@@ -1,14 +1,15 @@
 //! POST /revoke (RFC 7009, section 2).
-ghost use Rattle.std.specs.Prelude.{ℕ, List, Bool, Option, Some, IfSome};
-ghost use Rattle.consent.specs.History.{Event, Grant};
+ghost use Rattle.std.specs.Prelude.{ℕ, List, Option, IfSome};
+ghost use Rattle.consent.specs.History.{Event};
 ghost use Rattle.grant_store.specs.Kept.{HasFamily};
 ghost use Rattle.grant_store.specs.Fits.{FitsStore};
 ghost use Rattle.messages.specs.Asked.{asked_of};
 ghost use Rattle.grants.specs.Halts.{Leads};
-ghost use Rattle.grants.specs.Outcomes.{Outcome, chosen};
-ghost use Rattle.grants.specs.Done.{IsDone, IsShort};
-ghost use Rattle.endpoints.specs.Presented.{with_presented, live_of, IsTold, IsStatusOf};
-ghost use Rattle.endpoints.specs.Revoke.{revoked, revoke_token};
+ghost use Rattle.grants.specs.Outcomes.{Outcome};
+ghost use Rattle.grants.specs.Done.{IsShort};
+ghost use Rattle.grants.specs.Works.{work_of};
+ghost use Rattle.endpoints.specs.Presented.{IsTold, live_of, with_presented};
+ghost use Rattle.endpoints.specs.Revoking.{Revokes, RevokesLive};
 
 use consent::Moment;
 use grant_store::{Store, TokenStatus};
@@ -61,10 +62,7 @@ fn revoke_live(
     token: &TokenStatus,
 ) -> Response
     requires open { HasFamily store.old token.now.family setting.now.moment }
-    ensures done { (history : List Event) (number : ℕ → ℕ) (g : Grant) →
-        FitsStore store.old history setting.entry.now.moment number →
-        IsStatusOf history number setting.entry.now.moment g token.entry.now →
-        (refused : Bool) × IsDone (chosen refused (revoked client (Some g))) result store.new history setting.entry.now.moment }
+    ensures done { RevokesLive (work_of setting.entry.now store.old store.new result) client token.entry.now }
     ensures short { IsShort result }
 {
     if token.client.get() != client {
@@ -80,11 +78,7 @@ pub(crate) fn revoke_path(
     store: &mut Store,
     request: &Request<'_>,
 ) -> Response
-    ensures done { (history : List Event) (number : ℕ → ℕ) →
-        FitsStore store.old history setting.entry.now.moment number →
-        (refused : Bool) × IsDone (chosen refused
-        (revoke_token setting.entry.now.rules.now history (asked_of request.entry.now) setting.entry.now.moment))
-        result store.new history setting.entry.now.moment }
+    ensures done { Revokes (work_of setting.entry.now store.old store.new result) (asked_of request.entry.now) }
     ensures short { IsShort result }
 {
     let presented = match presented_by(setting, request) {

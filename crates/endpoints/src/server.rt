@@ -1,15 +1,9 @@
 //! The server.
-ghost use Rattle.std.specs.Prelude.{◌≡◌, ◌<◌, ◌≤◌, ℕ, List, [], Bool, Option, max, length};
-ghost use Rattle.clients.specs.RegistryRecord.{RegistryRecord};
-ghost use Rattle.consent.specs.History.{Event};
-ghost use Rattle.hook_host.specs.declared.fault.HookFault.{HookFault};
+ghost use Rattle.std.specs.Prelude.{◌≡◌, ◌≤◌, [], max, length};
 ghost use Rattle.messages.specs.Asked.{asked_of};
-ghost use Rattle.grants.specs.Outcomes.{chosen};
 ghost use Rattle.grants.specs.Done.{IsShort};
-ghost use Rattle.endpoints.specs.Hosts.{IsHostFault};
-ghost use Rattle.endpoints.specs.HookPaths.{hook_change_at};
-ghost use Rattle.endpoints.specs.Replies.{outcome, outcome_at, hook_change};
-ghost use Rattle.endpoints.specs.Server.{FitsServer, IsStep};
+ghost use Rattle.endpoints.specs.Server.{FitsServer};
+ghost use Rattle.endpoints.specs.Steps.{Steps, StepsAt, arrival_in, server_in};
 
 use crate::authorize::authorize_path;
 use crate::consenting::consent_path;
@@ -70,14 +64,8 @@ impl<H: HookHost> Server<H> {
     /// Answers a request at the greatest moment so far: the reply of the first point of its endpoint's list that holds, or
     /// the 503 of refused memory, with which nothing happens. What no endpoint answers (404, 405) takes no memory.
     pub fn step(&mut self, request: &Request<'_>, moment: Moment, draws: &Draws) -> Response
-        ensures replies { (rules : RegistryRecord) (first : H) (history : List Event) (m : ℕ) →
-            FitsServer H.installs H.removes self.old rules first history m →
-            (refused : Bool) × (fault : Option HookFault) ×
-            IsHostFault H.refuses_install H.refuses_remove self.old.host (hook_change (asked_of request.now)) fault ×
-            IsStep H.installs H.removes (outcome refused rules
-            (record { answer = H.answer self.old.host; names = H.names self.old.host; fault = fault })
-            history (asked_of request.now) (max m moment) draws.now)
-            result self.new rules first history (max m moment) }
+        ensures replies { Steps H.HookHost self.old
+            (record { asked = asked_of request.now; moment = moment; draws = draws.now }) result self.new }
         ensures short { length request.now.target.now ≤ 8192 → IsShort result }
     {
         self.greatest = greater(self.greatest, moment);
@@ -114,16 +102,9 @@ fn answer_at<H: HookHost>(
     endpoint: Endpoint,
     request: &Request<'_>,
 ) -> Response
-    ensures replies { (first : H) (history : List Event) →
-        FitsServer H.installs H.removes (record { rules = setting.entry.now.rules.now; host = host.old; store = store.old; consents = consents.old; greatest = setting.entry.now.moment })
-        setting.entry.now.rules.now first history setting.entry.now.moment →
-        (refused : Bool) × (fault : Option HookFault) ×
-        IsHostFault H.refuses_install H.refuses_remove host.old (hook_change_at endpoint (asked_of request.entry.now)) fault ×
-        IsStep H.installs H.removes (chosen refused (outcome_at endpoint setting.entry.now.rules.now
-        (record { answer = H.answer host.old; names = H.names host.old; fault = fault })
-        history (asked_of request.entry.now) setting.entry.now.moment setting.entry.now.draws.now))
-        result (record { rules = setting.entry.now.rules.now; host = host.new; store = store.new; consents = consents.new; greatest = setting.entry.now.moment })
-        setting.entry.now.rules.now first history setting.entry.now.moment }
+    ensures replies { StepsAt H.HookHost endpoint (server_in setting.entry.now host.old store.old consents.old)
+        (arrival_in setting.entry.now (asked_of request.entry.now)) result
+        (server_in setting.entry.now host.new store.new consents.new) }
     ensures short { length request.entry.now.target.now ≤ 8192 → IsShort result }
 {
     match endpoint {

@@ -1,5 +1,5 @@
 -- What is known while fewer bytes have come than are wanted.
-use Rattle.std.proofs.Common.{◌≡◌, ℕ, ◌<◌, List, [], ◌++◌, length, refl, arith, append_assoc, append-nil}
+use Rattle.std.proofs.Common.{◌≡◌, ℕ, ◌<◌, List, [], ◌++◌, length, refl, arith, append-nil}
 use Rattle.heads.specs.Message.{HasNone}
 use Rattle.heads.specs.Waiting.{IsUnfinished, IsWaiting}
 use Rattle.heads.specs.Front.{IsFront}
@@ -11,11 +11,6 @@ use Rattle.heads.specs.declared.front.Front.TheVariants.{Whole, More, Faulty}
 -- where nothing is wanted, nothing is said
 pub waits_for_nothing : (rest : List ℕ) → IsWaiting rest 0
 waits_for_nothing rest more less = absurd (omega (arith, less))
-
--- it waits for as many bytes behind a piece
-pub IsWaiting-append : (rest piece : List ℕ) (wanted : ℕ) → IsWaiting rest wanted → IsWaiting (rest ++ piece) wanted
-IsWaiting-append rest piece wanted waits more less =
-    rw (append_assoc rest piece more) (waits (piece ++ more) (rw (append_assoc rest piece more) at less))
 
 -- where there are fewer bytes than wanted, they are unfinished
 pub waiting_unfinished : (rest : List ℕ) (wanted : ℕ) → IsWaiting rest wanted → length rest < wanted → IsUnfinished rest wanted

@@ -14,4 +14,4 @@ pub use limits::{
     BODY_SIZE_LIMIT, FIELD_LINE_LIMIT, HEAD_SIZE_LIMIT, LENGTH_DIGIT_LIMIT, MESSAGE_SIZE_LIMIT,
     limits_are_the_defined_ones,
 };
-pub use scan::{Scan, scan_all, scan_behind, scan_on};
+pub use scan::{Scan, scan_behind};

@@ -32,7 +32,7 @@ returns-in-Ok-decision c = record {
   done = λ history number fits consents.
       let next = query_points c.args.setting.now.rules.now history (asked_of c.args.request.now) c.args.setting.now.moment c.args.setting.now.draws.now.first in
       let after = authorize_known c.args.setting.now.rules.now history (asked_of c.args.request.now) c.args.setting.now.moment c.args.setting.now.draws.now.first c.in-Ok.params in
-      let path = c.in-Ok.ensures.leads next ∙ c.in-Ok-known.ensures.points after ∙ c.in-Ok-decision.ensures.points history c.args.setting.now.draws.now.first consents in
+      let path = c.in-Ok.ensures.leads next ∙ c.in-Ok-known.ensures.points after ∙ c.in-Ok-decision.ensures.points history consents c.args.setting.now.draws.now.first in
       let done = c.give_code.ensures.done history number fits in
       (done.0, done_by done.0 _ _ _ _ history c.args.setting.now.moment path done.1);
   short = λ within. c.give_code.ensures.short (rw c.in-Ok-decision.ensures.sent_to c.in-Ok-known.ensures.short) (c.in-Ok.ensures.short within);
@@ -43,7 +43,7 @@ returns c = record {
   done = λ history number fits consents.
       let next = query_points c.args.setting.now.rules.now history (asked_of c.args.request.now) c.args.setting.now.moment c.args.setting.now.draws.now.first in
       let after = authorize_known c.args.setting.now.rules.now history (asked_of c.args.request.now) c.args.setting.now.moment c.args.setting.now.draws.now.first c.in-Ok.params in
-      let path = c.in-Ok.ensures.leads next ∙ c.in-Ok-known.ensures.points after ∙ c.in-Err-decision.ensures.points history c.args.setting.now.draws.now.first consents in
+      let path = c.in-Ok.ensures.leads next ∙ c.in-Ok-known.ensures.points after ∙ c.in-Err-decision.ensures.points history consents c.args.setting.now.draws.now.first in
       let undone = c.turned_back.ensures.value in
       (undone.0, done_by undone.0 _ _ _ _ history c.args.setting.now.moment path (undone_done _ _ _ history c.args.setting.now.moment number undone.1 fits));
   short = λ within. c.turned_back.ensures.short c.in-Ok-known.ensures.short (c.in-Ok.ensures.short within);

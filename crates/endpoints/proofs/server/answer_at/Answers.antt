@@ -1,4 +1,4 @@
-use Rattle.std.proofs.Common.{None, ◌≡◌, true, refl}
+use Rattle.std.proofs.Common.{None}
 use Rattle.messages.specs.Asked.{asked_of}
 use Rattle.endpoints.specs.Authorize.{authorize}
 use Rattle.grants.specs.TokenPath.{issue_token}

@@ -1,6 +1,5 @@
-use Rattle.std.proofs.Common.{◌≡◌, ℕ, List, Bool, true, false, None, Some, max, refl, sym, ap, ◌∙◌}
-use Rattle.std.specs.Prelude.{not, bytes_eq, option_and_then}
-use Rattle.grant_store.specs.FitsLaws.{fits_later}
+use Rattle.std.proofs.Common.{◌≡◌, true, false, None, Some, sym, ap, ◌∙◌}
+use Rattle.std.specs.Prelude.{not, bytes_eq}
 use Rattle.messages.specs.Asked.{asked_of}
 use Rattle.messages.specs.Target.{path_of}
 use Rattle.endpoints.specs.Paths.{endpoint_at, method_at}

@@ -1,0 +1,23 @@
+-- What stands on the way to a consent.
+use Rattle.std.specs.Prelude.{ℕ, List}
+use Rattle.clients.specs.RegistryRecord.{RegistryRecord}
+use Rattle.consent.specs.History.{Event}
+use Rattle.consent.specs.declared.parties.Parties.{Parties}
+use Rattle.messages.specs.Asked.{Asked}
+use Rattle.grants.specs.Outcomes.{Outcome}
+use Rattle.grants.specs.Works.{Work}
+use Rattle.endpoints.specs.declared.consenting.NewConsent.{NewConsent}
+use Rattle.endpoints.specs.Answering.{AnswersConsents}
+use Rattle.endpoints.specs.ConsentPath.{consent_given, give_consent}
+
+-- this consent
+abbrev pub consent_by : RegistryRecord → List Event → NewConsent → Outcome
+consent_by rules history new = consent_given rules history new.owner new.client new.mask
+
+-- it is kept
+abbrev pub KeepsConsent : Work → List (Parties × ℕ) → List (Parties × ℕ) → NewConsent → Type 0
+KeepsConsent work before after new = AnswersConsents work before after (λ history. consent_by work.rules history new)
+
+-- the request is answered by all points
+abbrev pub GivesConsent : Work → List (Parties × ℕ) → List (Parties × ℕ) → Asked → Type 0
+GivesConsent work before after asked = AnswersConsents work before after (λ history. give_consent work.rules history asked)
