@@ -26,7 +26,7 @@ AnswersConsents work before after outcome =
 abbrev pub IsReplied : Outcome → Written → Type 0
 IsReplied outcome reply = (refused : Bool) × IsUndone (chosen refused outcome) reply
 
--- whatever history the store answers as, the reply is its outcome's
+-- whatever history the store answers as, the reply is its outcome's, and nothing was done
 abbrev pub RepliesAs : List Kept → ℕ → (List Event → Outcome) → Written → Type 0
 RepliesAs store m outcome reply =
     (history : List Event) (number : ℕ → ℕ) → FitsStore store history m number → IsReplied (outcome history) reply

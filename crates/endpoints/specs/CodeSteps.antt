@@ -23,11 +23,11 @@ abbrev pub code_by : List Event → ℕ → List ℕ → Parameters → CodeFact
 code_by history m draw params facts =
     code_given history m draw params facts.client facts.owner facts.scope facts.redirect.now facts.challenge.now
 
--- the code of these facts is given
+-- the code of these facts is given, whatever has happened before
 abbrev pub GivesCode : Work → Parameters → CodeFacts → Type 0
 GivesCode work params facts = Answers work (λ history. code_by history work.moment work.draws.first params facts)
 
--- the request is answered by all points
+-- a request for a code is answered by all points
 abbrev pub Authorizes : Work → List (Parties × ℕ) → Asked → Type 0
 Authorizes work consents asked =
     AnswersConsented work consents (λ history. authorize work.rules history asked work.moment work.draws.first)

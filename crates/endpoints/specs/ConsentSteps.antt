@@ -10,14 +10,14 @@ use Rattle.endpoints.specs.declared.consenting.NewConsent.{NewConsent}
 use Rattle.endpoints.specs.Answering.{AnswersConsents}
 use Rattle.endpoints.specs.ConsentPath.{consent_given, give_consent}
 
--- this consent
+-- what comes of this consent
 abbrev pub consent_by : RegistryRecord → List Event → NewConsent → Outcome
 consent_by rules history new = consent_given rules history new.owner new.client new.mask
 
--- it is kept
+-- the consent is kept, whatever has happened before
 abbrev pub KeepsConsent : Work → List (Parties × ℕ) → List (Parties × ℕ) → NewConsent → Type 0
 KeepsConsent work before after new = AnswersConsents work before after (λ history. consent_by work.rules history new)
 
--- the request is answered by all points
+-- a request to consent is answered by all points
 abbrev pub GivesConsent : Work → List (Parties × ℕ) → List (Parties × ℕ) → Asked → Type 0
 GivesConsent work before after asked = AnswersConsents work before after (λ history. give_consent work.rules history asked)

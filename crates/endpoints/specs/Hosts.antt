@@ -62,8 +62,8 @@ pub record IsHooked {H : Type 0} (installs : H → List ℕ → Layout → List 
   pub reply_is : reply ≡ written outcome.reply
   pub steps : HostSteps installs removes old outcome.changes new
 
--- The host has one of its own faults for the change, if any, or none. By that the reply is the outcome's, or the 503 of
--- refused memory, and the host has made the outcome's changes.
+-- The host has one of its own faults for the change that is asked for, or none. By that the reply is the outcome's, or the
+-- 503 of refused memory, and the host has made the outcome's changes.
 abbrev pub HostAnswers : {H : Type 0} → Hosting H → Option Change → (Option HookFault → Outcome) → Written → H → H → Type 0
 HostAnswers hosting change outcome reply old new =
     (refused : Bool) × (fault : Option HookFault) × IsHostFault hosting.refuses_install hosting.refuses_remove old change fault
