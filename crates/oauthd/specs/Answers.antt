@@ -18,7 +18,6 @@ use Rattle.oauthd.specs.Help.{IsExplained, IsPage}
 use Rattle.oauthd.specs.HexText.{IsHexOf, IsNoHex}
 use Rattle.oauthd.specs.Judge.{IsJudged}
 use Rattle.oauthd.specs.Transcripts.{IsReplayedAs}
-use Rattle.oauthd.specs.Words.{IsCommand, IsNoCommand, Words}
 
 -- a hook's code and a record, both as hex text, are judged so
 pub record IsJudgedText (code_hex record_hex : List ℕ) (judged : Result Judged JudgeFault) : Type 0 where
@@ -50,8 +49,3 @@ IsAnsweredBy (commands.Replay path) file outcome = IsReplayedAs path.now file ou
 IsAnsweredBy (commands.Help word) file outcome = IsPage PAGE.now outcome
 IsAnsweredBy (commands.Explain name) file outcome = IsExplained name.now outcome
 IsAnsweredBy commands.Version file outcome = IsPage VERSION.now outcome
-
--- what words are answered: those of a command as it answers, and others as bad arguments
-abbrev pub IsAnswered : Words → File → Result Answer PerformFault → Type 0
-IsAnswered words file outcome =
-    ((command : Command) × IsCommand words command × IsAnsweredBy command file outcome) ⊎ (IsNoCommand words × (outcome ≡ Err BadArguments))

@@ -1,6 +1,8 @@
 pub mod Answers
 pub mod Assembly
+pub mod Calls
 pub mod Config
+pub mod Endings
 pub mod Faults
 pub mod File
 pub mod Help

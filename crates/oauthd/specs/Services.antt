@@ -1,5 +1,5 @@
--- The commands that serve connections: their words, and what they need before they listen.
-use Rattle.std.specs.Prelude.{◌≡◌, ◌<◌, ◌^◌, ⊤, ℕ, List, [], ◌∷◌, map, codes, length, Result, Ok, Err}
+-- The commands that serve connections: their words, and the file that they name.
+use Rattle.std.specs.Prelude.{◌≡◌, ◌<◌, ◌^◌, ℕ, List, [], ◌∷◌, map, codes, length}
 use Rattle.std.specs.Str.Parse.{IsNumeral, digits_value}
 use Rattle.std.specs.String.{string_bytes}
 use Rattle.daemon.specs.declared.patience.Patience.{Patience}
@@ -7,11 +7,6 @@ use Rattle.oauthd.specs.declared.service.ServeWords.{ServeWords}
 use Rattle.oauthd.specs.declared.service.StartWords.{StartWords}
 use Rattle.oauthd.specs.declared.service.Service.{Service}
 use Rattle.oauthd.specs.declared.service.Service.TheVariants.{Serve, Start}
-use Rattle.oauthd.specs.declared.service.Prepared.{Prepared}
-use Rattle.oauthd.specs.declared.fault.PerformFault.{PerformFault}
-use Rattle.oauthd.specs.declared.fault.PerformFault.TheVariants.{BadArguments, OutOfMemory}
-use Rattle.oauthd.specs.Config.{HoldsNoRegistry, HoldsRegistry}
-use Rattle.oauthd.specs.File.{File}
 use Rattle.oauthd.specs.HexText.{IsHexOf}
 use Rattle.oauthd.specs.Words.{Words}
 
@@ -62,21 +57,3 @@ IsNoService words = (service : Service) → NameService (map string_bytes words)
 abbrev pub config_of : Service → List ℕ
 config_of (Serve given) = given.config.now
 config_of (Start given) = given.config.now
-
--- words name a service, and its file holds a registry
-pub record IsReady (words : Words) (file : File) (prepared : Prepared) : Type 0 where
-  pub named : IsService words prepared.service
-  pub held : HoldsRegistry file prepared.registry
-
--- words name a service, and its file holds no registry
-pub record IsNotReady (words : Words) (file : File) (fault : PerformFault) : Type 0 where
-  pub service : Service
-  pub named : IsService words service
-  pub held : HoldsNoRegistry (config_of service) file fault
-
--- what words need before a server listens: the words come first, then the file, then its registry
-abbrev pub IsPrepared : Words → File → Result Prepared PerformFault → Type 0
-IsPrepared words file (Ok prepared) = IsReady words file prepared
-IsPrepared words file (Err BadArguments) = IsNoService words
-IsPrepared words file (Err OutOfMemory) = ⊤
-IsPrepared words file (Err fault) = IsNotReady words file fault

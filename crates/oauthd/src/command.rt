@@ -1,8 +1,8 @@
-//! The commands, and what they answer.
+//! The commands that answer, and what they answer.
 
 ghost use Rattle.std.specs.Prelude.{◌≡◌, ◌≢◌, [], ◌∷◌, IfSome, IfNone};
 ghost use Rattle.std.specs.Option.{option_copied};
-ghost use Rattle.oauthd.specs.Answers.{IsAnswered, IsAnsweredBy};
+ghost use Rattle.oauthd.specs.Answers.{IsAnsweredBy};
 ghost use Rattle.oauthd.specs.Words.{file_named_by, words_of, IsCommand, IsNoCommand};
 
 use crate::answer::Answer;
@@ -148,19 +148,5 @@ impl<'w> Command<'w> {
             Command::Explain { name } => explained(name),
             Command::Version => Ok(Answer::Page(VERSION)),
         }
-    }
-}
-
-/// What words answer. `file` is what stands in the file that they name, and `None` where that cannot be read.
-pub fn answer<'w>(
-    alloc: Global,
-    words: &'w [String],
-    file: Option<&[u8]>,
-) -> Result<Answer, PerformFault<'w>>
-    ensures { IsAnswered words.now (option_copied file.entry) result }
-{
-    match Command::from_words(words) {
-        Some(command) => command.answer(alloc, file),
-        None => Err(PerformFault::BadArguments),
     }
 }

@@ -3,22 +3,25 @@
 ghost use Rattle.std.specs.Prelude.{◌≡◌, ◌⊎◌, OnOk, IfOk, IfErr, IfSome};
 ghost use Rattle.std.specs.Io.KnownBytes.{Appends};
 ghost use Rattle.std.specs.Option.{option_copied};
-ghost use Rattle.oauthd.specs.Listening.{HasServed, HasStopped, ServesNothing, TellsNoService, TellsStop};
-ghost use Rattle.oauthd.specs.Performed.{PrintsAnswer, TellsFault};
-ghost use Rattle.oauthd.specs.Printed.{answer_text, told_text};
-ghost use Rattle.oauthd.specs.Statuses.{code_of, status_of};
-ghost use Rattle.oauthd.specs.declared.fault.Status.{Status};
+ghost use Rattle.oauthd.specs.Endings.{EndsWords};
+ghost use Rattle.oauthd.specs.Listening.{EndsService, HasServed, HasStopped, ServesNothing};
+ghost use Rattle.oauthd.specs.Performed.{EndsCommand};
+ghost use Rattle.oauthd.specs.Printed.{told_text};
+ghost use Rattle.oauthd.specs.Statuses.{status_of};
 
-use crate::command::answer;
+use crate::call::Call;
+use crate::command::Command;
+use crate::commands::config_file::registry_in;
 use crate::fault::{PerformFault, Status};
-use crate::service::{Prepared, Service, prepare};
+use crate::named_file::file_at;
+use crate::service::Service;
 use daemon::{serve, start};
 use std::alloc::Global;
 use std::fmt::Display;
 use std::io::{self, Write};
 use std::net::Net;
 use std::random::RandomSource;
-use std::rt::Clock;
+use std::rt::{Clock, Files};
 
 /// What could not be written to the end.
 #[derive(Clone, Copy, Debug, PartialEq, Eq)]
@@ -29,22 +32,19 @@ pub enum Unwritten {
     Fault,
 }
 
-/// Carries out the command that words name. `words` are those behind the program's name; `file` is what stands in the
-/// file that they name, and `None` where that cannot be read. The answer goes to `out`, once all of it is known; a
-/// fault goes to `err` as one line.
+/// Carries out a command that answers. `file` is what stands in the file that it names, and `None` where that cannot be
+/// read. The answer goes to `out`, once all of it is known; a fault goes to `err` as one line.
 pub fn carry_out<W: Write, E: Write>(
     alloc: Global,
-    words: &[String],
+    command: Command<'_>,
     file: Option<&[u8]>,
     out: &mut W,
     err: &mut E,
 ) -> Result<Status, Unwritten>
-    // It is done, and tells no fault; or it tells one, and prints nothing.
     ensures { IfOk result (λ status.
-        ((err.new ≡ err.old) × PrintsAnswer words.now (option_copied file.entry) status (W.contents out.old) (W.contents out.new))
-        ⊎ ((out.new ≡ out.old) × TellsFault words.now (option_copied file.entry) status (E.contents err.old) (E.contents err.new))) }
+        EndsCommand W.contents E.contents command.entry (option_copied file.entry) status out.old out.new err.old err.new) }
 {
-    match answer(alloc, words, file) {
+    match command.answer(alloc, file) {
         Ok(answer) => match answer.write_to(out) {
             Ok(()) => Ok(Status::Done),
             Err(_) => Err(Unwritten::Answer),
@@ -53,22 +53,21 @@ pub fn carry_out<W: Write, E: Write>(
     }
 }
 
-/// Carries out the command that words name, and gives the program's exit status. A write that fails is bad use.
-pub fn perform<W: Write, E: Write>(
+/// Carries out a command that answers, and says how the program then ends. A write that fails is bad use.
+pub fn perform_command<W: Write, E: Write>(
     alloc: Global,
-    words: &[String],
+    command: Command<'_>,
     file: Option<&[u8]>,
     out: &mut W,
     err: &mut E,
-) -> u8
-    // Status 2 may be that of a write that failed, and all others are those of a command that was carried out.
-    ensures { (result ≡ code_of Status.BadUse) ⊎ ((status : Status) × (result ≡ code_of status)
-        × (((err.new ≡ err.old) × PrintsAnswer words.now (option_copied file.entry) status (W.contents out.old) (W.contents out.new))
-        ⊎ ((out.new ≡ out.old) × TellsFault words.now (option_copied file.entry) status (E.contents err.old) (E.contents err.new)))) }
+) -> Status
+    // Bad use may be that of a write that failed.
+    ensures { (result ≡ Status.BadUse)
+        ⊎ EndsCommand W.contents E.contents command.entry (option_copied file.entry) result out.old out.new err.old err.new }
 {
-    match carry_out(alloc, words, file, out, err) {
-        Ok(status) => status.code(),
-        Err(unwritten) => failed(unwritten, err).code(),
+    match carry_out(alloc, command, file, out, err) {
+        Ok(status) => status,
+        Err(unwritten) => failed(unwritten, err),
     }
 }
 
@@ -104,30 +103,30 @@ pub fn report<E: Write>(fault: PerformFault<'_>, err: &mut E) -> Result<Status, 
     }
 }
 
-/// Tells a fault in one line, and gives the program's exit status. A write that fails is bad use.
-pub fn told<E: Write>(fault: PerformFault<'_>, err: &mut E) -> u8
-    ensures { (result ≡ code_of Status.BadUse)
-        ⊎ ((result ≡ code_of (status_of fault.entry)) × Appends (E.contents err.old) (E.contents err.new) (told_text fault.entry)) }
+/// Tells a fault in one line, and says how the program then ends. A write that fails is bad use.
+pub fn told<E: Write>(fault: PerformFault<'_>, err: &mut E) -> Status
+    ensures { (result ≡ Status.BadUse)
+        ⊎ ((result ≡ status_of fault.entry) × Appends (E.contents err.old) (E.contents err.new) (told_text fault.entry)) }
 {
     match report(fault, err) {
-        Ok(status) => status.code(),
-        Err(unwritten) => failed(unwritten, err).code(),
+        Ok(status) => status,
+        Err(unwritten) => failed(unwritten, err),
     }
 }
 
-/// Serves as words say, until that is over, or can't go on.
+/// Serves, until that is over, or can't go on.
 fn serve_as<'w, R: Net + Clock + RandomSource + AllocGlobal, W: Write, E: Write>(
     rt: &R,
-    words: &'w [String],
+    service: Service<'w>,
     file: Option<&[u8]>,
     out: &mut W,
     err: &mut E,
 ) -> Result<(), PerformFault<'w>>
-    ensures done { OnOk result (HasServed words.now (option_copied file.entry) (W.contents out.old) (W.contents out.new)) }
-    ensures fault { IfErr result (λ fault. ((err.new ≡ err.old) × ServesNothing words.now (option_copied file.entry) fault)
-        ⊎ HasStopped words.now (option_copied file.entry) fault (W.contents out.old) (W.contents out.new)) }
+    ensures done { OnOk result (HasServed service.entry (option_copied file.entry) (W.contents out.old) (W.contents out.new)) }
+    ensures fault { IfErr result (λ fault. ((err.new ≡ err.old) × ServesNothing service.entry (option_copied file.entry) fault)
+        ⊎ HasStopped service.entry (option_copied file.entry) fault (W.contents out.old) (W.contents out.new)) }
 {
-    let Prepared { service, registry } = prepare(rt.alloc(), words, file)?;
+    let registry = registry_in(rt.alloc(), service.config(), file)?;
     let given = match service {
         Service::Start(given) => given,
         Service::Serve(given) => {
@@ -139,23 +138,49 @@ fn serve_as<'w, R: Net + Clock + RandomSource + AllocGlobal, W: Write, E: Write>
     Err(PerformFault::Stopped(fault))
 }
 
-/// Serves as words say, and gives the program's exit status. `words` are those behind the program's name; `file` is what
-/// stands in the registry's file, and `None` where that cannot be read.
+/// Serves, and says how the program then ends. `file` is what stands in the registry's file, and `None` where that cannot
+/// be read.
 pub fn perform_service<R: Net + Clock + RandomSource + AllocGlobal, W: Write, E: Write>(
     rt: &R,
-    words: &[String],
+    service: Service<'_>,
     file: Option<&[u8]>,
     out: &mut W,
     err: &mut E,
-) -> u8
-    // Status 2 may be that of a fault that could not be told.
-    ensures { (result ≡ code_of Status.BadUse)
-        ⊎ ((result ≡ code_of Status.Done) × HasServed words.now (option_copied file.entry) (W.contents out.old) (W.contents out.new))
-        ⊎ TellsNoService words.now (option_copied file.entry) result (E.contents err.old) (E.contents err.new)
-        ⊎ TellsStop words.now (option_copied file.entry) result (W.contents out.old) (W.contents out.new) (E.contents err.new) }
+) -> Status
+    // Bad use may be that of a fault that could not be told.
+    ensures { (result ≡ Status.BadUse)
+        ⊎ EndsService W.contents E.contents service.entry (option_copied file.entry) result out.old out.new err.old err.new }
 {
-    match serve_as(rt, words, file, out, err) {
-        Ok(()) => Status::Done.code(),
+    match serve_as(rt, service, file, out, err) {
+        Ok(()) => Status::Done,
         Err(fault) => told(fault, err),
+    }
+}
+
+/// Does what words call for, and says how the program then ends. `words` are those behind the program's name. They are read
+/// first, and then the file that they name.
+pub fn perform<R: Files + Net + Clock + RandomSource + AllocGlobal, W: Write, E: Write>(
+    rt: &R,
+    words: &[String],
+    out: &mut W,
+    err: &mut E,
+) -> Status
+    // Bad use may be that of a write that failed.
+    ensures { (result ≡ Status.BadUse)
+        ⊎ EndsWords W.contents E.contents words.now result out.old out.new err.old err.new }
+{
+    let call = match Call::from_words(rt.alloc(), words) {
+        Ok(call) => call,
+        Err(fault) => return told(fault, err),
+    };
+    let file = match file_at(rt, call.file()) {
+        Ok(file) => file,
+        Err(fault) => return told(fault, err),
+    };
+    match call {
+        Call::Command(command) => {
+            perform_command(rt.alloc(), command, file.as_deref(), out, err)
+        }
+        Call::Service(service) => perform_service(rt, service, file.as_deref(), out, err),
     }
 }

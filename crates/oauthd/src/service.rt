@@ -1,13 +1,9 @@
-//! The commands that serve connections: what their words give them, and what they need before they listen.
+//! The commands that serve connections, and what their words give them.
 
 ghost use Rattle.std.specs.Prelude.{◌≡◌, ◌∷◌, ◌<◌, ℕ, List, map, IfOk, IfSome, IfNone, string_bytes};
-ghost use Rattle.std.specs.Option.{option_copied};
-ghost use Rattle.oauthd.specs.Services.{config_of, GiveServe, GiveStart, IsNoService, IsNumber, IsPrepared, IsSeed, IsService, SayPatience};
+ghost use Rattle.oauthd.specs.Services.{config_of, GiveServe, GiveStart, IsNoService, IsNumber, IsSeed, IsService, SayPatience};
 
-use crate::commands::config_file::registry_in;
-use crate::fault::PerformFault;
 use crate::hex_text::bytes_of_hex;
-use clients::Registry;
 use daemon::Patience;
 use std::alloc::{AllocError, Global};
 
@@ -151,27 +147,4 @@ impl<'w> Service<'w> {
             Service::Start(given) => given.config,
         }
     }
-}
-
-/// A service, and the registry in its file.
-#[derive(Drop)]
-pub struct Prepared<'w> {
-    pub service: Service<'w>,
-    pub registry: Registry,
-}
-
-/// What words need before a server listens. `file` is what stands in the file that they name, and `None` where that
-/// cannot be read. The words are tested first, then the file, and then its registry.
-pub fn prepare<'w>(
-    alloc: Global,
-    words: &'w [String],
-    file: Option<&[u8]>,
-) -> Result<Prepared<'w>, PerformFault<'w>>
-    ensures { IsPrepared words.now (option_copied file.entry) result }
-{
-    let Some(service) = Service::from_words(alloc, words)? else {
-        return Err(PerformFault::BadArguments);
-    };
-    let registry = registry_in(alloc, service.config(), file)?;
-    Ok(Prepared { service, registry })
 }

@@ -1,4 +1,4 @@
-//! Rows of the commands, by `perform` alone.
+//! Rows of the commands, without the files that they name.
 
 mod assembly_rows;
 mod c_hooks;
@@ -17,10 +17,11 @@ mod verdict_rows;
 mod word_sets;
 mod words;
 
-use crate::fault::Status;
-use crate::perform::perform;
+use crate::call::Call;
+use crate::fault::{PerformFault, Status};
+use crate::perform::{perform_command, told};
 use std::alloc::{AllocError, Global};
-use std::io::Cursor;
+use std::io::{Cursor, Write};
 use std::process::Abort;
 use std::test::Fail;
 
@@ -114,6 +115,22 @@ fn words_of(alloc: Global, texts: &[&str]) -> Result<Vec<String>, AllocError> {
         words.push(String::from_str(alloc, text)?)?;
     }
     Ok(words)
+}
+
+/// Carries out the command that words name, with this in its file, and gives the exit status.
+fn perform<W: Write, E: Write>(
+    alloc: Global,
+    words: &[String],
+    file: Option<&[u8]>,
+    out: &mut W,
+    err: &mut E,
+) -> u8 {
+    let status = match Call::from_words(alloc, words) {
+        Ok(Call::Command(command)) => perform_command(alloc, command, file, out, err),
+        Ok(Call::Service(_)) => told(PerformFault::BadArguments, err),
+        Err(fault) => told(fault, err),
+    };
+    status.code()
 }
 
 /// Carries out the command of some words. Only the words and the command itself take memory.

@@ -24,8 +24,16 @@ fn served<R: Net + Clock + RandomSource + AllocGlobal>(
 ) -> Result<Ended, AllocError> {
     let words = words_of(rt.alloc(), texts)?;
     let (mut out, mut err) = (blank_page(), blank_page());
-    let status = perform_service(rt, &words, file, &mut out, &mut err);
-    Ok(Ended { status, out, err })
+    let status = match Call::from_words(rt.alloc(), &words) {
+        Ok(Call::Service(service)) => perform_service(rt, service, file, &mut out, &mut err),
+        Ok(Call::Command(_)) => told(PerformFault::BadArguments, &mut err),
+        Err(fault) => told(fault, &mut err),
+    };
+    Ok(Ended {
+        status: status.code(),
+        out,
+        err,
+    })
 }
 
 /// Asserts that words serve nothing, and how that is told.

@@ -1,0 +1,44 @@
+//! What a command line calls for.
+
+ghost use Rattle.std.specs.Prelude.{◌≡◌};
+ghost use Rattle.std.specs.Option.{option_copied};
+ghost use Rattle.oauthd.specs.Calls.{file_of, IsRead};
+
+use crate::command::Command;
+use crate::fault::PerformFault;
+use crate::service::Service;
+use std::alloc::Global;
+
+/// What a command line calls for, with what its words give.
+#[derive(Clone, Copy, Debug)]
+pub enum Call<'w> {
+    /// A command that answers, and is over.
+    Command(Command<'w>),
+    /// A command that serves connections.
+    Service(Service<'w>),
+}
+
+impl<'w> Call<'w> {
+    /// What words call for: those behind the program's name. They are read here alone.
+    pub fn from_words(alloc: Global, words: &'w [String]) -> Result<Call<'w>, PerformFault<'static>>
+        ensures { IsRead words.now result }
+    {
+        if let Some(service) = Service::from_words(alloc, words)? {
+            return Ok(Call::Service(service));
+        }
+        match Command::from_words(words) {
+            Some(command) => Ok(Call::Command(command)),
+            None => Err(PerformFault::BadArguments),
+        }
+    }
+
+    /// The path of the file that is read for it.
+    pub fn file(self) -> Option<&'w str>
+        ensures { option_copied result ≡ file_of self.entry }
+    {
+        match self {
+            Call::Command(command) => command.file(),
+            Call::Service(service) => Some(service.config()),
+        }
+    }
+}
