@@ -1,5 +1,5 @@
 -- What the commands answer.
-use Rattle.std.specs.Prelude.{◌≡◌, ◌≢◌, ◌⊎◌, ℕ, List, Result, Ok, Err, ⊤}
+use Rattle.std.specs.Prelude.{◌≢◌, ◌⊎◌, ℕ, List, Result, Ok, Err, ⊤}
 use Rattle.insn.specs.declared.fault.InsnFault.TheVariants as insn
 use Rattle.insn.specs.declared.verify_fault.VerifyFault.TheVariants as verify
 use Rattle.oauthd.specs.declared.command.Command.{Command}

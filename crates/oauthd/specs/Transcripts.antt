@@ -1,5 +1,5 @@
 -- What `replay` answers to a file.
-use Rattle.std.specs.Prelude.{◌≡◌, ◌⊎◌, ⊤, ℕ, List, [], Result, Ok, Err}
+use Rattle.std.specs.Prelude.{◌⊎◌, ⊤, ℕ, List, [], Result, Ok, Err}
 use Rattle.hook_chain.specs.contracts.chain.ChainHookHost.TheImpl as chain
 use Rattle.transcript.specs.Replays.{IsReplay, IsReplayFault}
 use Rattle.transcript.specs.declared.fault.ReplayFault.{ReplayFault}
