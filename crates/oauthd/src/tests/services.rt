@@ -16,6 +16,22 @@ const ODD: &str = "0707070707070707070707070707070707070707070707070707070707070
 /// It without its last byte.
 const SHORT: &str = "07070707070707070707070707070707070707070707070707070707070707";
 
+/// Serves as words say, with this in the registry's file, and gives the exit status.
+pub fn serve_by<R: Net + Clock + RandomSource + AllocGlobal, W: Write, E: Write>(
+    rt: &R,
+    words: &[String],
+    file: Option<&[u8]>,
+    out: &mut W,
+    err: &mut E,
+) -> u8 {
+    let status = match Call::from_words(rt.alloc(), words) {
+        Ok(Call::Service(service)) => perform_service(rt, service, file, out, err),
+        Ok(Call::Command(_)) => told(PerformFault::BadArguments, err),
+        Err(fault) => told(fault, err),
+    };
+    status.code()
+}
+
 /// Serves as some words say.
 fn served<R: Net + Clock + RandomSource + AllocGlobal>(
     rt: &R,
@@ -24,16 +40,8 @@ fn served<R: Net + Clock + RandomSource + AllocGlobal>(
 ) -> Result<Ended, AllocError> {
     let words = words_of(rt.alloc(), texts)?;
     let (mut out, mut err) = (blank_page(), blank_page());
-    let status = match Call::from_words(rt.alloc(), &words) {
-        Ok(Call::Service(service)) => perform_service(rt, service, file, &mut out, &mut err),
-        Ok(Call::Command(_)) => told(PerformFault::BadArguments, &mut err),
-        Err(fault) => told(fault, &mut err),
-    };
-    Ok(Ended {
-        status: status.code(),
-        out,
-        err,
-    })
+    let status = serve_by(rt, &words, file, &mut out, &mut err);
+    Ok(Ended { status, out, err })
 }
 
 /// Asserts that words serve nothing, and how that is told.

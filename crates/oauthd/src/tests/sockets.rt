@@ -1,9 +1,8 @@
 //! Clients of `serve` and `start`, over the machine's sockets.
 
-use super::services::SEED;
+use super::services::{SEED, serve_by};
 use super::transcripts::REGISTRY;
 use super::*;
-use crate::perform::perform_service;
 use std::cell::Cell;
 use std::io::{self, ErrorKind, Read, Write};
 use std::net::{Net, OpenStream, Shutdown, SocketAddr, TcpStream};
@@ -169,7 +168,7 @@ fn served<R: Net + Clock + RandomSource + AllocGlobal>(
     };
     let mut err = blank_page();
     let file = Some(REGISTRY.as_bytes());
-    let status = perform_service(&visited, &words, file, &mut door, &mut err);
+    let status = serve_by(&visited, &words, file, &mut door, &mut err);
     match visited.clients.replace(None) {
         Some(clients) => Ok(Visit {
             status,
