@@ -1,4 +1,4 @@
-use Rattle.std.proofs.Common.{◌≡◌, ◌∙◌, ap, refl}
+use Rattle.std.proofs.Common.{◌∙◌, ap, refl}
 use Rattle.http_edge.specs.Lanes.{lane_at}
 use Rattle.http_edge.proofs.Going.{on_forgotten}
 use Rattle.http_edge.proofs.Placing.{without_is_gone}
