@@ -40,51 +40,45 @@ impl<S: Read + OpenStream> Clients<S> {
     }
 }
 
+/// Where the clients of a server are, once they have come.
+type Seats<R> = Cell<Option<Clients<<R as Net>::Stream>>>;
+
+/// Clients of a server that tells in a line where it listens.
+fn clients_of<R: Net>(rt: &R, line: &Page) -> io::Result<Clients<R::Stream>> {
+    let line = str::from_utf8(written(line).unwrap_or(&[])).unwrap_or("");
+    let address = line.strip_prefix("listening ").unwrap_or("").trim_end();
+    let mut asking = TcpStream::connect(rt, address)?;
+    asking.write_all(REQUEST)?;
+    asking.shutdown(Shutdown::Write)?;
+    asking.set_nonblocking(true)?;
+    let silent = TcpStream::connect(rt, address)?;
+    Ok(Clients {
+        asking,
+        silent,
+        reply: blank_page(),
+        has_ended: false,
+    })
+}
+
 /// A machine that has clients. They listen at each look at its steady clock, which fails once all has come.
 #[derive(Drop)]
 struct Visited<'r, R: Net> {
     rt: &'r R,
-    clients: Cell<Option<Clients<R::Stream>>>,
+    seats: &'r Seats<R>,
     looks: Cell<u32>,
 }
 
 impl<'r, R: Net> Visited<'r, R> {
-    fn new(rt: &'r R) -> Visited<'r, R> {
-        Visited {
-            rt,
-            clients: Cell::new(None),
-            looks: Cell::new(0),
-        }
-    }
-
-    /// The clients come to where a server says that it listens.
-    fn visit(&self, line: &Page) -> io::Result<()> {
-        let line = str::from_utf8(written(line).unwrap_or(&[])).unwrap_or("");
-        let address = line.strip_prefix("listening ").unwrap_or("").trim_end();
-        let mut asking = TcpStream::connect(self.rt, address)?;
-        asking.write_all(REQUEST)?;
-        asking.shutdown(Shutdown::Write)?;
-        asking.set_nonblocking(true)?;
-        let silent = TcpStream::connect(self.rt, address)?;
-        self.clients.set(Some(Clients {
-            asking,
-            silent,
-            reply: blank_page(),
-            has_ended: false,
-        }));
-        Ok(())
-    }
-
     /// The clients listen. Whether all has come, or they have waited for long enough.
     fn is_over(&self) -> bool {
         let looks = self.looks.get().saturating_add(1);
         self.looks.set(looks);
-        let Some(mut clients) = self.clients.replace(None) else {
+        let Some(mut clients) = self.seats.replace(None) else {
             return false;
         };
         clients.listen();
         let has_ended = clients.has_ended;
-        self.clients.set(Some(clients));
+        self.seats.set(Some(clients));
         has_ended || looks > LOOKS
     }
 }
@@ -132,18 +126,21 @@ impl<'r, R: Net> Net for Visited<'r, R> {
 
 /// Where a server says that it listens. Clients come as soon as it is said.
 #[derive(Drop)]
-struct Door<'v, 'r, R: Net> {
-    visited: &'v Visited<'r, R>,
+struct Door<'r, R: Net> {
+    rt: &'r R,
+    seats: &'r Seats<R>,
     line: Page,
 }
 
-impl<'v, 'r, R: Net> Write for Door<'v, 'r, R> {
+impl<'r, R: Net> Write for Door<'r, R> {
     fn write(&mut self, buf: &[u8]) -> io::Result<usize> {
         self.line.write(buf)
     }
 
     fn flush(&mut self) -> io::Result<()> {
-        self.visited.visit(&self.line)
+        let clients = clients_of(self.rt, &self.line)?;
+        self.seats.set(Some(clients));
+        Ok(())
     }
 }
 
@@ -161,15 +158,22 @@ fn served<R: Net + Clock + RandomSource + AllocGlobal>(
     texts: &[&str],
 ) -> Result<Visit<R::Stream>, Fail> {
     let words = words_of(rt.alloc(), texts)?;
-    let visited = Visited::new(rt);
+    let seats = Cell::new(None);
+    let visited = Visited {
+        rt,
+        seats: &seats,
+        looks: Cell::new(0),
+    };
     let mut door = Door {
-        visited: &visited,
+        rt,
+        seats: &seats,
         line: blank_page(),
     };
     let mut err = blank_page();
     let file = Some(REGISTRY.as_bytes());
     let status = serve_by(&visited, &words, file, &mut door, &mut err);
-    match visited.clients.replace(None) {
+    let clients = seats.replace(None);
+    match clients {
         Some(clients) => Ok(Visit {
             status,
             err,
@@ -179,17 +183,22 @@ fn served<R: Net + Clock + RandomSource + AllocGlobal>(
     }
 }
 
+/// Asserts what stands on a page.
+fn assert_written(rt: &impl Abort, page: &Page, text: &str) {
+    assert_eq!(rt; written(page), Some(text.as_bytes()));
+}
+
 #[test]
 fn a_client_of_serve_reads_its_reply(rt: HostRuntime) -> Result<(), Fail> {
     let mut visit = served(&rt, &["serve", "127.0.0.1:0", "config", SEED, "1"])?;
     assert_eq!(rt; visit.status, Status::Done.code());
-    assert_eq!(rt; written(&visit.err), Some(b"".as_slice()));
+    assert_written(&rt, &visit.err, "");
     visit.clients.asking.set_nonblocking(false)?;
     for _ in 0..LOOKS {
         visit.clients.listen();
     }
     assert!(rt; visit.clients.has_ended);
-    assert_eq!(rt; written(&visit.clients.reply), Some(REPLY.as_bytes()));
+    assert_written(&rt, &visit.clients.reply, REPLY);
     Ok(())
 }
 
@@ -198,9 +207,8 @@ fn a_connection_of_start_comes_is_read_and_written_and_closed(rt: HostRuntime) -
     let visit = served(&rt, &["start", "127.0.0.1:0", "config"])?;
     assert_eq!(rt; visit.status, Status::BadUse.code());
     // No connection ended by a fault, and no accept failed.
-    let told = "oauthd: stopped: Clock\n";
-    assert_eq!(rt; written(&visit.err), Some(told.as_bytes()));
+    assert_written(&rt, &visit.err, "oauthd: stopped: Clock\n");
     assert!(rt; visit.clients.has_ended);
-    assert_eq!(rt; written(&visit.clients.reply), Some(REPLY.as_bytes()));
+    assert_written(&rt, &visit.clients.reply, REPLY);
     Ok(())
 }
