@@ -33,7 +33,6 @@ const MOST_SCOPES: usize = 64;
 const MOST_CLIENTS: usize = 256;
 
 /// The registry that a server is started with.
-#[derive(Drop)]
 pub struct Registry {
     access_life: u32,
     refresh_life: u32,
@@ -41,6 +40,20 @@ pub struct Registry {
     owners: Numbering,
     catalogue: Catalogue,
     clients: Clients,
+}
+
+// It is written out, so that whoever lets go of a registry calls this, and is not proved over all that a registry is made of.
+impl Drop for Registry {
+    fn drop(self) {
+        let Registry {
+            access_life: _,
+            refresh_life: _,
+            operator: _operator,
+            owners: _owners,
+            catalogue: _catalogue,
+            clients: _clients,
+        } = self;
+    }
 }
 
 impl Model for Registry {

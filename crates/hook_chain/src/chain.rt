@@ -20,10 +20,19 @@ const MAX_HOOKS: usize = 8;
 
 /// Hooks that answer in the order in which they were installed, each on what the one before left, up to the first that
 /// doesn't allow. Without hooks all is allowed that is asked.
-#[derive(Drop)]
 pub struct Chain {
     alloc: Global,
     hooks: Vec<Hook>,
+}
+
+// It is written out, so that whoever lets go of a chain calls this, and is not proved over all that a chain is made of.
+impl Drop for Chain {
+    fn drop(self) {
+        let Chain {
+            alloc: _,
+            hooks: _hooks,
+        } = self;
+    }
 }
 
 impl Model for Chain {

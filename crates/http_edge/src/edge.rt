@@ -29,13 +29,24 @@ use std::alloc::{AllocError, Global};
 use std::marker::Model;
 
 /// A server, and the connections over which bytes come to it and go from it.
-#[derive(Drop)]
 pub struct Edge<H> {
     server: Server<H>,
     lanes: Vec<Lane>,
     // Where a rest and a piece lie together while they are read. It is empty otherwise.
     work: Vec<u8>,
     alloc: Global,
+}
+
+// It is written out, so that whoever lets go of an edge calls this, and is not proved over all that an edge is made of.
+impl<H: Drop> Drop for Edge<H> {
+    fn drop(self) {
+        let Edge {
+            server: _server,
+            lanes: _lanes,
+            work: _work,
+            alloc: _,
+        } = self;
+    }
 }
 
 impl<H> Model for Edge<H> {
