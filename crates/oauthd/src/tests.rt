@@ -2,7 +2,6 @@
 
 mod assembly_rows;
 mod c_hooks;
-mod chains;
 mod examples;
 mod help_rows;
 mod hooks;
@@ -14,7 +13,6 @@ mod sockets;
 mod text;
 mod transcripts;
 mod verdict_rows;
-mod word_sets;
 mod words;
 
 use crate::call::Call;

@@ -2,13 +2,10 @@
 #![tactic(auto)]
 
 mod fault;
-mod line;
+pub mod line;
 mod number;
 mod piece;
 mod running;
 
 pub use fault::ReplayFault;
 pub use running::{replay, replay_on};
-
-#[cfg(test)]
-mod tests;

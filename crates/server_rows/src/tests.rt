@@ -28,14 +28,13 @@ mod store;
 mod streams;
 mod tokens;
 
-use crate::fault::ReplayFault;
-use crate::running::replay_on;
 use hook_chain::Chain;
 use hook_host::HookHost;
 use std::alloc::{AllocError, Global};
 use std::process::Abort;
 use std::str;
 use std::test::Fail;
+use transcript::{ReplayFault, replay_on};
 
 /// Two clients and an owner.
 const REGISTRY: &str =
@@ -236,7 +235,12 @@ fn comes(row: &str) -> bool {
 }
 
 /// The transcript of rows.
-fn transcript(alloc: Global, registry: &str, rows: &str, cut: Cut) -> Result<String, AllocError> {
+fn transcript_of(
+    alloc: Global,
+    registry: &str,
+    rows: &str,
+    cut: Cut,
+) -> Result<String, AllocError> {
     let json = registry.replace(alloc, '\n', "")?;
     let mut text = format!(in alloc; "config {json}\n")?;
     for row in rows.split('\n') {
@@ -348,7 +352,7 @@ fn answers<H: HookHost + Drop>(
     rows: &str,
     cut: Cut,
 ) -> Result<(Vec<u8>, String), ReplayFault> {
-    let transcript = transcript(alloc, registry, rows, cut)?;
+    let transcript = transcript_of(alloc, registry, rows, cut)?;
     let found = replayed(alloc, host, transcript.as_str())?;
     let wanted = answer(alloc, rows)?;
     Ok((found, wanted))

@@ -1,10 +1,10 @@
 //! Events that are refused, and given again.
 
 use super::*;
-use crate::line::{Line, statement};
 use clients::{ConfigFault, Registry};
 use endpoints::Server;
 use http_edge::{Edge, EdgeFault, Event};
+use transcript::line::{Line, statement};
 
 /// What a request is answered that memory is refused for.
 const UNAVAILABLE: &str = "HTTP/1.1 503 Service Unavailable\r\nContent-Length: 0\r\n\r\n";

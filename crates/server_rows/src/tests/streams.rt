@@ -23,7 +23,7 @@ const WHOLE_REPLIES: &str =
 fn whole_replies(rt: HostRuntime) -> Result<(), Fail> {
     let alloc = rt.alloc();
     let rows = again(|| written_out(alloc, WHOLE))?;
-    let text = again(|| transcript(alloc, REGISTRY, rows.as_str(), Cut::Nowhere))?;
+    let text = again(|| transcript_of(alloc, REGISTRY, rows.as_str(), Cut::Nowhere))?;
     if let Ok(found) = replayed(alloc, Chain::new(alloc), text.as_str())
         && output_of_first(found.as_slice()) == WHOLE_REPLIES
     {

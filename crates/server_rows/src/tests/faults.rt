@@ -322,7 +322,7 @@ const ROWS: &str =
 #[test]
 fn a_transcript_and_its_answer(rt: HostRuntime) -> Result<(), Fail> {
     let alloc = rt.alloc();
-    let text = again(|| transcript(alloc, REGISTRY, ROWS, Cut::Nowhere))?;
+    let text = again(|| transcript_of(alloc, REGISTRY, ROWS, Cut::Nowhere))?;
     let text = again(|| written_out(alloc, text.as_str()))?;
     let found = again(|| replayed(alloc, Chain::new(alloc), text.as_str()))?;
     let answer =

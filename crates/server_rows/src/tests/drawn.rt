@@ -142,7 +142,7 @@ fn drawn_connection(
 fn drawn_transcript(alloc: Global, seed: u8) -> Result<String, AllocError> {
     let requests = written_out(alloc, REQUESTS)?;
     let mut generator = ChaCha20Rng::from_seed([seed; 32]);
-    let mut text = transcript(alloc, REGISTRY, "", Cut::Nowhere)?;
+    let mut text = transcript_of(alloc, REGISTRY, "", Cut::Nowhere)?;
     for number in 0..8 {
         let lines = drawn_connection(alloc, &mut generator, requests.as_str(), number)?;
         text.push_str(lines.as_str())?;

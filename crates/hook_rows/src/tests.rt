@@ -1,0 +1,4 @@
+//! Rows: values and what comes of them.
+
+mod chains;
+mod word_sets;
