@@ -8,6 +8,7 @@ program=$(realpath -m "${OAUTHD:-$(dirname "$0")/../crates/oauthd/out/oauthd}")
 cd "$(dirname "$0")/.." || exit 2
 root=$PWD
 [ -x "$program" ] || { echo "there is no $program: run 'rt run -- help' in crates/oauthd first"; exit 2; }
+unset CPU
 clang=${CLANG:-clang-19}
 objcopy=${OBJCOPY:-llvm-objcopy-19}
 for tool in "$clang" "$objcopy" "${READELF:-${objcopy/objcopy/readelf}}"; do
