@@ -185,6 +185,29 @@ int hook(struct record *record)
 }
 C
 
+refused 'an answer that a switch leaves unset' 'uninitialized' <<'C'
+int hook(struct record *record)
+{
+    int answer;
+    switch (record->kind) {
+    case GRANT_CODE: answer = ALLOW; break;
+    case GRANT_REFRESH: answer = DENY; break;
+    }
+    return answer;
+}
+C
+refused 'an answer that a loop leaves unset' 'may be uninitialized' <<'C'
+int hook(struct record *record)
+{
+    int answer;
+#pragma unroll
+    for (int i = 0; i < 8; i++)
+        if (record->owner == 3 * i)
+            answer = ALLOW;
+    return answer;
+}
+C
+
 # data and tables
 refused 'a static table' "'hook' needs the address of '.rodata" <<'C'
 static const u32 lives[4] = { 60, 120, 180, 240 };
@@ -297,7 +320,7 @@ int hook(struct record *record)
     return lives[record->owner & 3] ? ALLOW : DENY;
 }
 C
-faulty 'a variable that is set and read under the same condition' 'Verify UnsetByte' <<'C'
+refused 'a variable that is set and read under the same condition' 'may be uninitialized' <<'C'
 int hook(struct record *record)
 {
     volatile u32 most;
