@@ -207,6 +207,25 @@ int hook(struct record *record)
     return answer;
 }
 C
+taken 'an answer whose upper half is left over' <<'C'
+int hook(struct record *record)
+{
+    u64 wide = record->owner << 32 | record->client;
+    asm volatile("" : "+r"(wide));
+    return (int)wide;
+}
+C
+answers 1 1 0 'allowed 7 300'
+answers 1 1 1 denied
+taken 'the same, compared' <<'C'
+int hook(struct record *record)
+{
+    u64 wide = record->owner << 32 | record->client;
+    asm volatile("" : "+r"(wide));
+    return (int)wide == 1 ? ALLOW : DENY;
+}
+C
+answers 1 1 1 'allowed 7 300'
 
 # data and tables
 refused 'a static table' "'hook' needs the address of '.rodata" <<'C'
@@ -292,6 +311,23 @@ int hook(struct record *record)
 }
 C
 answers 1 5 5 denied
+taken 'memcpy of a constant number of bytes' <<'C'
+int hook(struct record *record)
+{
+    u8 bytes[64];
+    __builtin_memcpy(bytes, record, sizeof bytes);
+    return bytes[record->owner & 63] ? ALLOW : DENY;
+}
+C
+answers 1 5 16 'allowed 7 300'
+answers 1 5 17 denied
+refused 'a signed division for v3' 'unsupported signed division' <<'C'
+int hook(struct record *record)
+{
+    s64 moment = (s64)record->now;
+    return moment / (s64)record->client > 3 ? ALLOW : DENY;
+}
+C
 refused 'memset of an uncertain number of bytes' "built-in function 'memset' is not supported" <<'C'
 int hook(struct record *record)
 {
@@ -476,6 +512,29 @@ int hook(struct record *record)
     return *client == 7 ? ALLOW : DENY;
 }
 C
+faulty 'a number of the record or of the stack, of which clang makes the same' 'Verify UnsetRegister' <<'C'
+int hook(struct record *record)
+{
+    u64 own = 7;
+    asm volatile("" : : "r"(&own) : "memory");
+    u64 client = record->kind == GRANT_CODE ? record->client : own;
+    return client == 7 ? ALLOW : DENY;
+}
+C
+taken 'a number of the record that is loaded first' <<'C'
+int hook(struct record *record)
+{
+    u64 own = 7;
+    asm volatile("" : : "r"(&own) : "memory");
+    u64 client = record->client;
+    asm volatile("" : "+r"(client));
+    if (record->kind != GRANT_CODE)
+        client = own;
+    return client == 7 ? ALLOW : DENY;
+}
+C
+answers 2 1 1 'allowed 7 300'
+answers 1 1 1 denied
 
 # the record
 refused 'a field that may not be written' 'const-qualified' <<'C'
@@ -537,8 +596,10 @@ fi
 
 # The way at the head of docs/HOOKS.md: its C is written to the file that it names, each line behind a $ is run, and what
 # follows it is what it prints. Tokens are `..` there; a free port takes the place of 8080.
+
+# plain FILE: the file, with .. for each token
 plain() {
-    sed -E 's/"[A-Za-z0-9_-]{43}"/".."/g'
+    sed -E 's/"[A-Za-z0-9_-]{43}"/".."/g' "$1"
 }
 awk '/^## / { here = /^## From an empty folder/ } here && /^```/ { fence = fence == "" ? $0 : ""; print "```" fence; next }
     here && fence != ""' "$root/docs/HOOKS.md" | sed 's/^``````/```/' >way
@@ -566,6 +627,7 @@ step() {
             done
             ;;
         'kill '*)
+            [ "$!" = "$server" ] || { differs "docs/HOOKS.md: $command is not for the server"; exit 1; }
             eval "$command" >../given 2>&1
             wait "$server" 2>/dev/null
             server=
@@ -576,7 +638,8 @@ step() {
         echo >>../given
         echo >>../wanted
         sed "s/:8080/:$port/" ../wanted >../wanted.here
-        diff -B ../wanted.here <(plain <../given) || differs "docs/HOOKS.md: $command"
+        plain ../given >../given.here
+        diff -B ../wanted.here ../given.here || differs "docs/HOOKS.md: $command"
     fi
     command=
     : >../wanted
