@@ -594,14 +594,15 @@ else
     echo "the hex of examples/c is that of clang 19, and is not compared"
 fi
 
-# The way at the head of docs/HOOKS.md: its C is written to the file that it names, each line behind a $ is run, and what
-# follows it is what it prints. Tokens are `..` there; a free port takes the place of 8080.
+# The way at the head of docs/HOOKS.md: its C is written to the file that it names, each line behind a $ is run, and
+# what follows it is what it prints. Tokens are `..` there; a free port takes the place of 8080.
 
 # plain FILE: the file, with .. for each token
 plain() {
     sed -E 's/"[A-Za-z0-9_-]{43}"/".."/g' "$1"
 }
-awk '/^## / { here = /^## From an empty folder/ } here && /^```/ { fence = fence == "" ? $0 : ""; print "```" fence; next }
+awk '/^## / { here = /^## From an empty folder/ }
+    here && /^```/ { fence = fence == "" ? $0 : ""; print "```" fence; next }
     here && fence != ""' "$root/docs/HOOKS.md" | sed 's/^``````/```/' >way
 port=18080
 while (exec 3<>"/dev/tcp/127.0.0.1/$port") 2>/dev/null; do port=$((port + 1)); done
