@@ -249,7 +249,8 @@ refused 'a string' "'hook' needs the address of '.rodata" <<'C'
 int hook(struct record *record)
 {
     const char *grades = "abcdefg";
-    return grades[record->client & 7] > 'c' ? ALLOW : DENY;
+    record->life = (u32)grades[record->client & 7];
+    return ALLOW;
 }
 C
 refused 'a counter' "'hook' needs the address of 'asked_before'" <<'C'
@@ -321,7 +322,7 @@ int hook(struct record *record)
 C
 answers 1 5 16 'allowed 7 300'
 answers 1 5 17 denied
-refused 'a signed division for v3' 'unsupported signed division' <<'C'
+refused 'a signed division for v3' 'signed division' <<'C'
 int hook(struct record *record)
 {
     s64 moment = (s64)record->now;
@@ -336,7 +337,7 @@ int hook(struct record *record)
     return seen[record->owner & 63] ? DENY : ALLOW;
 }
 C
-refused 'a table that is greater than the stack' 'stack limit is exceeded' <<'C'
+refused 'a table that is greater than the stack' 'BPF stack limit' <<'C'
 int hook(struct record *record)
 {
     u8 seen[600] = { 0 };
