@@ -4,7 +4,7 @@
  * in the record, and anything else to deny it. Whatever it writes, a grant is never widened: of the scope what was
  * asked stays at most, and the lesser lifetime counts.
  *
- * All fields may be read; only `scope` and `life` may be written.
+ * All fields may be read; only `scope` and `life` may be written, and all others are `const`.
  */
 #ifndef OAUTHD_HOOK_H
 #define OAUTHD_HOOK_H
@@ -25,35 +25,48 @@ enum grant_kind { GRANT_CODE = 1, GRANT_REFRESH = 2, GRANT_CLIENT_CREDENTIALS = 
 
 /* Version 1: 64 bytes. */
 struct record {
-    u32 version;       /* 1 */
-    u32 kind;          /* enum grant_kind */
-    u64 now;           /* the moment, in Unix seconds */
-    u64 client;        /* the client's number in the registry, from 1 */
-    u64 owner;         /* the owner's number in the registry, from 1; 0 where the grant has no owner */
+    const u32 version; /* 1 */
+    const u32 kind;    /* enum grant_kind */
+    const u64 now;     /* the moment, in Unix seconds */
+    const u64 client;  /* the client's number in the registry, from 1 */
+    const u64 owner;   /* the owner's number in the registry, from 1; 0 where the grant has no owner */
     const u64 asked;   /* the scope that was asked: bit i is the i-th name of the registry's scopes */
     u64 scope;         /* the scope to grant; may be written */
     u32 life;          /* the lifetime of the access token in seconds; may be written */
-    u32 zero;
-    u64 allowed;       /* the scope that the registry allows the client */
+    const u32 zero;
+    const u64 allowed; /* the scope that the registry allows the client */
 };
 
 /* Version 2: 96 bytes, the first 64 as above with version 2. */
 struct record2 {
-    u32 version;       /* 2 */
-    u32 kind;
-    u64 now;
-    u64 client;
-    u64 owner;
+    const u32 version; /* 2 */
+    const u32 kind;
+    const u64 now;
+    const u64 client;
+    const u64 owner;
     const u64 asked;
     u64 scope;
     u32 life;
-    u32 zero;
-    u64 allowed;
-    u64 consented;     /* the scope that the owner consented to the client's having; 0 without an owner */
-    u32 access_life;   /* the configured lifetime of access tokens, in seconds */
-    u32 refresh_life;  /* the configured lifetime of refresh tokens, in seconds */
-    u64 reserved[2];
+    const u32 zero;
+    const u64 allowed;
+    const u64 consented;    /* the scope that the owner consented to the client's having; 0 without an owner */
+    const u32 access_life;  /* the configured lifetime of access tokens, in seconds */
+    const u32 refresh_life; /* the configured lifetime of refresh tokens, in seconds */
+    const u64 reserved[2];
 };
+
+/* Writes into the record what may be written of it, from a copy: `*record = copy` would write all else, too. */
+static inline __attribute__((always_inline)) void write_back(struct record *record, const struct record *copy)
+{
+    record->scope = copy->scope;
+    record->life = copy->life;
+}
+
+static inline __attribute__((always_inline)) void write_back2(struct record2 *record, const struct record2 *copy)
+{
+    record->scope = copy->scope;
+    record->life = copy->life;
+}
 
 _Static_assert(sizeof(struct record) == 64, "a record of version 1 has 64 bytes");
 _Static_assert(sizeof(struct record2) == 96, "a record of version 2 has 96 bytes");
