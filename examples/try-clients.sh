@@ -150,6 +150,141 @@ if is_wanted authlib; then
     fi
 fi
 
+if is_wanted go; then
+    sources=/usr/share/gocode/src/golang.org/x/oauth2
+    if command -v go >/dev/null && [ -d $sources ]; then
+        echo "$(go version | cut -d ' ' -f 3), golang.org/x/oauth2 $(dpkg-query -W -f '${Version}' golang-golang-x-oauth2-dev)"
+        if GO111MODULE=off GOPATH=/usr/share/gocode GOCACHE=$room/go-cache GOFLAGS=-p=1 \
+            go build -o "$room/go-client" "$here/go_client.go" 2>"$room/err"; then
+            goes Go in-header "$all" "$all" "$room/go-client"
+            goes Go in-params "$all" "$all" "$room/go-client"
+            goes Go auto-detect "$all" "$all" "$room/go-client"
+        else
+            differs "Go built nothing: $(cat "$room/err")"
+        fi
+    else
+        lacks golang.org/x/oauth2 golang-go golang-golang-x-oauth2-dev
+    fi
+fi
+
+if is_wanted perl; then
+    if perl -MNet::OAuth2 -MLWP::Protocol::https -e '' 2>/dev/null; then
+        perl -MNet::OAuth2 -e 'print "Net::OAuth2 $Net::OAuth2::VERSION\n"'
+        goes Net::OAuth2 parameters "$all" "$all" perl "$here/perl_client.pl"
+        goes Net::OAuth2 header "$all" "$none" perl "$here/perl_client.pl"
+        goes Net::OAuth2 header-encoded "$all" "$all" perl "$here/perl_client.pl"
+    else
+        lacks Net::OAuth2 libnet-oauth2-perl liblwp-protocol-https-perl
+    fi
+fi
+
+if is_wanted ruby; then
+    if command -v ruby >/dev/null && ruby -e 'require "oauth2"' 2>/dev/null; then
+        ruby -e 'require "oauth2"; puts "the gem oauth2 #{OAuth2::Version}"'
+        goes 'gem oauth2' request_body "$all" "$all" ruby "$here/ruby_client.rb"
+        goes 'gem oauth2' basic_auth "$all" "$none" ruby "$here/ruby_client.rb"
+        goes 'gem oauth2' basic_auth-encoded "$all" "$all" ruby "$here/ruby_client.rb"
+    else
+        lacks 'the gem oauth2' ruby-oauth2
+    fi
+fi
+
+# asks NAME WAY WANTED LINES: Apache with the lines of one module lets a request with an access token through, and none
+# with another one; WANTED is the two statuses, and the one that comes after the token was revoked
+asks() {
+    local httpd token statuses=()
+    printf '%s\n' "$4" >"$room/asking.conf"
+    placed "$here/httpd.conf" >"$room/httpd.conf"
+    apache2 -f "$room/httpd.conf" -DFOREGROUND 2>"$room/err" &
+    httpd=$!
+    started+=($httpd)
+    tried=$((tried + 1))
+    if listens "$httpd_port"; then
+        token=$(curl -sS -u "${plain[0]}:${plain[1]}" -d grant_type=client_credentials "$AUTH/token" |
+            sed -nE 's/.*"access_token":"([^"]*)".*/\1/p')
+        statuses+=("$(shown_page "$token")" "$(shown_page none)")
+        curl -sS -u "${plain[0]}:${plain[1]}" -d "token=$token" "$AUTH/revoke"
+        statuses+=("$(shown_page "$token")")
+    else
+        statuses+=("no Apache: $(cat "$room/err")")
+    fi
+    echo "$1, $2: ${statuses[*]}"
+    [ "${statuses[*]}" = "$3" ] || { differs "wanted $3"; tail -n 5 "$room/httpd.log"; }
+    kill $httpd 2>/dev/null
+    wait $httpd 2>/dev/null
+}
+
+# shown_page TOKEN: the status that a request for a page with the token gets
+shown_page() {
+    curl -sS --max-time 20 -o /dev/null -w '%{http_code}' -H "Authorization: Bearer $1" "http://127.0.0.1:$httpd_port/"
+}
+
+mkdir "$room/pages"
+echo 'a page' >"$room/pages/index.html"
+modules=/usr/lib/apache2/modules
+encoded_signs=$(python3 -c 'import sys, urllib.parse; print(urllib.parse.quote_plus(sys.argv[1]))' "${signs[1]}")
+
+# openidc WAY CLIENT SECRET: the lines of mod_auth_openidc that ask of a token in the way, as the client
+openidc() {
+    echo "LoadModule auth_openidc_module $modules/mod_auth_openidc.so
+OIDCOAuthIntrospectionEndpoint $AUTH/introspect
+OIDCOAuthIntrospectionEndpointAuth $1
+OIDCOAuthClientID $2
+OIDCOAuthClientSecret \"$3\"
+OIDCOAuthRemoteUserClaim client_id
+OIDCOAuthTokenIntrospectionInterval ${4:--1}
+OIDCOAuthAcceptTokenAs header
+OIDCCABundlePath $CA
+<Location />
+    AuthType oauth20
+    Require valid-user
+</Location>"
+}
+
+if is_wanted openidc; then
+    if command -v apache2 >/dev/null && [ -e $modules/mod_auth_openidc.so ]; then
+        echo "mod_auth_openidc $(dpkg-query -W -f '${Version}' libapache2-mod-auth-openidc)"
+        asks mod_auth_openidc 'client_secret_basic, secret of plain' '200 401 401' "$(openidc client_secret_basic "${plain[@]}")"
+        asks mod_auth_openidc 'client_secret_basic, secret of signs' '401 401 401' "$(openidc client_secret_basic "${signs[@]}")"
+        asks mod_auth_openidc 'client_secret_basic, secret of signs, encoded' '200 401 401' \
+            "$(openidc client_secret_basic signs "$encoded_signs")"
+        asks mod_auth_openidc 'client_secret_post, secret of signs' '200 401 401' "$(openidc client_secret_post "${signs[@]}")"
+        asks mod_auth_openidc 'client_secret_post, what it was told is kept' '200 401 200' \
+            "$(openidc client_secret_post "${signs[@]}" 0)"
+    else
+        lacks mod_auth_openidc libapache2-mod-auth-openidc apache2-bin
+    fi
+fi
+
+# oauth2 WAY CLIENT SECRET: the same of mod_oauth2, whose words are form-encoded
+oauth2() {
+    echo "LoadModule oauth2_module $modules/mod_oauth2.so
+<Location />
+    AuthType oauth2
+    OAuth2TokenVerify introspect $AUTH/introspect introspect.ssl_verify=false&introspect.auth=$1&client_id=$2&client_secret=$3&expiry=${4:-0}
+    OAuth2TargetPass remote_user_claim=client_id
+    Require valid-user
+</Location>"
+}
+
+if is_wanted oauth2; then
+    if command -v apache2 >/dev/null && [ -e $modules/mod_oauth2.so ]; then
+        echo "mod_oauth2 $(dpkg-query -W -f '${Version}' libapache2-mod-oauth2) on liboauth2 $(dpkg-query -W -f '${Version}' liboauth2-0)"
+        asks mod_oauth2 'client_secret_basic, secret of plain' '200 401 401' "$(oauth2 client_secret_basic "${plain[@]}")"
+        asks mod_oauth2 'client_secret_basic, secret of signs' '401 401 401' "$(oauth2 client_secret_basic signs "$encoded_signs")"
+        asks mod_oauth2 'client_secret_post, secret of signs' '200 401 401' "$(oauth2 client_secret_post signs "$encoded_signs")"
+    else
+        lacks mod_oauth2 libapache2-mod-oauth2 apache2-bin
+    fi
+fi
+
+if is_wanted raw; then
+    python3 "$here/raw.py" "$server" "${plain[@]}" "$tls_port" 2>"$room/err" | tee "$room/raw"
+    tried=$((tried + $(grep -c '^raw, [^,]*, \|^raw, .*: ' "$room/raw")))
+    differing=$((differing + $(grep -c '^DIFFERS' "$room/raw")))
+    [ ! -s "$room/err" ] || { differs 'raw.py ended early'; cat "$room/err"; }
+fi
+
 [ -s "$room/server.log" ] && { differs 'wanted no line on the standard error of the server'; cat "$room/server.log"; }
 printf '%s tried, %s differ, %s clients not installed\n' "$tried" "$differing" "$missing"
 [ "$differing" = 0 ]
