@@ -247,6 +247,10 @@ def credentials():
     bare = base64.b64encode(f"{identifier}:{secret}".encode())
     padded = bare if bare.endswith(b"=") else base64.b64encode(f"{identifier}:{secret}=".encode())
     tries("base64 without its padding", post(b"/token", ALONE, b"Authorization: Basic " + padded.rstrip(b"=") + b"\r\n"), refused)
+    for name, text in (("with / = : & ? and a %, as it is", "other:5%-a/b=c:d&e?f~g"), ("with + and %2B, as it is", "signs:50%+tax%2Bmore/and=so:on&x"),
+                       ("with + and %2B, encoded", "signs:" + urllib.parse.quote_plus("50%+tax%2Bmore/and=so:on&x"))):
+        header = b"Authorization: Basic " + base64.b64encode(text.encode()) + b"\r\n"
+        tries(f"a secret {name}", post(b"/token", ALONE, header), refused if "+" in text else "200 tokens, kept")
     tries("Bearer", post(b"/introspect", b"token=x", b"Authorization: Bearer x\r\n" + FORM), refused)
     tries("no credentials", post(b"/token", ALONE, FORM), refused)
     tries("client_id alone", post(b"/token", ALONE + b"&client_id=" + identifier.encode(), FORM), refused)
