@@ -8,7 +8,7 @@
 program=$(realpath -m "${OAUTHD:-$(dirname "$0")/../crates/oauthd/out/oauthd}")
 cd "$(dirname "$0")/.." || exit 2
 here=$PWD/examples/clients
-wanted=" ${*:-curl requests-oauthlib authlib go perl ruby openidc oauth2 raw} "
+wanted=" ${*:-curl requests-oauthlib authlib go perl ruby openidc oauth2 hook raw} "
 [ -x "$program" ] || { echo "there is no $program: run 'rt run -- help' in crates/oauthd first"; exit 2; }
 for tool in curl nginx openssl python3; do
     command -v $tool >/dev/null || { echo "there is no $tool: apt-get install $tool"; exit 2; }
@@ -111,6 +111,19 @@ goes() {
     done
 }
 
+# goes_once NAME WANTED COMMAND..: the same with the client plain alone
+goes_once() {
+    local outcome
+    outcome=$(timeout 60 "${@:3}" "${plain[@]}" 2>"$room/err")
+    outcome=${outcome//$'\n'/, }
+    tried=$((tried + 1))
+    printf '%s: %s\n' "$1" "${outcome/#"$all"/all five}"
+    if [ "$outcome" != "$2" ]; then
+        differs "wanted $2"
+        tail -n 3 "$room/err"
+    fi
+}
+
 if is_wanted curl; then
     curl --version | head -n 1 | cut -d ' ' -f 1,2
     goes curl -u "$all" "$none" bash "$here/curl.sh"
@@ -180,7 +193,7 @@ fi
 
 if is_wanted ruby; then
     if command -v ruby >/dev/null && ruby -e 'require "oauth2"' 2>/dev/null; then
-        ruby -e 'require "oauth2"; puts "the gem oauth2 #{OAuth2::Version}"'
+        ruby -e 'require "oauth2"; require "oauth2/version"; puts "the gem oauth2 #{OAuth2::Version}"'
         goes 'gem oauth2' request_body "$all" "$all" ruby "$here/ruby_client.rb"
         goes 'gem oauth2' basic_auth "$all" "$none" ruby "$here/ruby_client.rb"
         goes 'gem oauth2' basic_auth-encoded "$all" "$all" ruby "$here/ruby_client.rb"
@@ -216,11 +229,11 @@ asks() {
 
 # shown_page TOKEN: the status that a request for a page with the token gets
 shown_page() {
-    curl -sS --max-time 20 -o /dev/null -w '%{http_code}' -H "Authorization: Bearer $1" "http://127.0.0.1:$httpd_port/"
+    curl -sS --max-time 20 -o /dev/null -w '%{http_code}' -H "Authorization: Bearer $1" "http://127.0.0.1:$httpd_port/page.txt"
 }
 
 mkdir "$room/pages"
-echo 'a page' >"$room/pages/index.html"
+echo 'a page' >"$room/pages/page.txt"
 modules=/usr/lib/apache2/modules
 encoded_signs=$(python3 -c 'import sys, urllib.parse; print(urllib.parse.quote_plus(sys.argv[1]))' "${signs[1]}")
 
@@ -245,9 +258,7 @@ if is_wanted openidc; then
     if command -v apache2 >/dev/null && [ -e $modules/mod_auth_openidc.so ]; then
         echo "mod_auth_openidc $(dpkg-query -W -f '${Version}' libapache2-mod-auth-openidc)"
         asks mod_auth_openidc 'client_secret_basic, secret of plain' '200 401 401' "$(openidc client_secret_basic "${plain[@]}")"
-        asks mod_auth_openidc 'client_secret_basic, secret of signs' '401 401 401' "$(openidc client_secret_basic "${signs[@]}")"
-        asks mod_auth_openidc 'client_secret_basic, secret of signs, encoded' '200 401 401' \
-            "$(openidc client_secret_basic signs "$encoded_signs")"
+        asks mod_auth_openidc 'client_secret_basic, secret of signs' '200 401 401' "$(openidc client_secret_basic "${signs[@]}")"
         asks mod_auth_openidc 'client_secret_post, secret of signs' '200 401 401' "$(openidc client_secret_post "${signs[@]}")"
         asks mod_auth_openidc 'client_secret_post, what it was told is kept' '200 401 200' \
             "$(openidc client_secret_post "${signs[@]}" 0)"
@@ -271,11 +282,32 @@ if is_wanted oauth2; then
     if command -v apache2 >/dev/null && [ -e $modules/mod_oauth2.so ]; then
         echo "mod_oauth2 $(dpkg-query -W -f '${Version}' libapache2-mod-oauth2) on liboauth2 $(dpkg-query -W -f '${Version}' liboauth2-0)"
         asks mod_oauth2 'client_secret_basic, secret of plain' '200 401 401' "$(oauth2 client_secret_basic "${plain[@]}")"
-        asks mod_oauth2 'client_secret_basic, secret of signs' '401 401 401' "$(oauth2 client_secret_basic signs "$encoded_signs")"
+        asks mod_oauth2 'client_secret_basic, secret of signs' '200 401 401' "$(oauth2 client_secret_basic signs "$encoded_signs")"
         asks mod_oauth2 'client_secret_post, secret of signs' '200 401 401' "$(oauth2 client_secret_post signs "$encoded_signs")"
+        asks mod_oauth2 'client_secret_post, what it was told is kept' '200 401 200' \
+            "$(oauth2 client_secret_post signs "$encoded_signs" 300)"
     else
         lacks mod_oauth2 libapache2-mod-oauth2 apache2-bin
     fi
+fi
+
+# a hook that leaves the scope read alone of what this owner grants: what then becomes of clients that asked for more
+if is_wanted hook; then
+    "$program" asm examples/hooks/read-only-outside-an-owner-list.asm >"$room/hook.hex"
+    printf "$(sed 's/../\\x&/g' "$room/hook.hex")" >"$room/hook.bin"
+    curl -sS -o /dev/null -H 'X-Operator-Key: op-key' --data-binary "@$room/hook.bin" "http://$server/hooks?name=listed"
+    goes_once 'curl, beside a hook' "$all" bash "$here/curl.sh" -u
+    if python=$(python_with requests_oauthlib); then
+        goes_once 'requests-oauthlib, beside a hook' \
+            'code Warning: the scope has changed, refresh 400 invalid_grant, credentials ok, introspect not active, revoke ok' "$python" "$here/requests_oauthlib_client.py" basic
+        OAUTHLIB_RELAX_TOKEN_SCOPE=1 goes_once 'requests-oauthlib with OAUTHLIB_RELAX_TOKEN_SCOPE, beside a hook' "$all" \
+            "$python" "$here/requests_oauthlib_client.py" basic
+    fi
+    if python=$(python_with authlib); then
+        goes_once 'Authlib, beside a hook' "$all" "$python" "$here/authlib_client.py" client_secret_basic
+    fi
+    [ ! -x "$room/go-client" ] || goes_once 'Go, beside a hook' "$all" "$room/go-client" in-header
+    curl -sS -o /dev/null -H 'X-Operator-Key: op-key' -d name=listed "http://$server/hooks/remove"
 fi
 
 if is_wanted raw; then

@@ -48,6 +48,8 @@ def code():
     url, state = user.create_authorization_url(AUTH + "/authorize", code_verifier=verifier)
     reply = requests.get(url, allow_redirects=False, cookies={"session": "of-ann"})
     user.fetch_token(AUTH + "/token", authorization_response=reply.headers["Location"], code_verifier=verifier)
+    # a refresh sends the scope of the session, and a hook may have left less of it
+    user.scope = user.token["scope"]
 
 
 def refresh():

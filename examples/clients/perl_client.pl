@@ -66,7 +66,8 @@ sub is_active {
 }
 
 outcome(code => sub {
-    my $drawn = join '', map { chr int rand 256 } 1 .. 32;
+    open my $random, '<:raw', '/dev/urandom' or die "no random bytes\n";
+    read $random, my $drawn, 32;
     my $verifier = encode_base64url($drawn);
     my $url = $user->authorize(
         state => 'xyz',

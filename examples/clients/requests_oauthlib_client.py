@@ -32,16 +32,18 @@ fetching = {"auth": auth} if auth else {"include_client_id": True, "client_secre
 
 
 def outcome(name, do):
-    """Does a request, and prints what came of it. Gives what it gives."""
+    """Does a request, and prints what came of it."""
     try:
-        given = do()
+        do()
         print(name, "ok", flush=True)
-        return given
     except OAuth2Error as error:
         print(name, error.status_code, error.error, flush=True)
     except requests.HTTPError as error:
         print(name, error.response.status_code, error.response.json().get("error"), flush=True)
-    return None
+    except Warning:
+        print(name, "Warning: the scope has changed", flush=True)
+    except AssertionError:
+        print(name, "not active", flush=True)
 
 
 def asked(session, path, token):
@@ -61,6 +63,8 @@ def code():
     url, state = user.authorization_url(AUTH + "/authorize", code_challenge=challenge, code_challenge_method="S256")
     reply = requests.get(url, allow_redirects=False, cookies={"session": "of-ann"})
     user.fetch_token(AUTH + "/token", authorization_response=reply.headers["Location"], code_verifier=verifier, **fetching)
+    # a refresh sends the scope of the session, and a hook may have left less of it
+    user.scope = user.token["scope"]
 
 
 def refresh():
