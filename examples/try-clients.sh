@@ -4,11 +4,11 @@
 # in it. Starts all it needs on ports of its own, in a folder of its own, prints a line for each way of each client, says
 # what is not installed, and ends with 0 where all is as wanted. Words name the clients to try; without words all are.
 # Build the program first: (cd crates/oauthd && rt run -- help). The variable OAUTHD names another one, PYTHON another
-# python3 for the libraries of Python.
+# python3 for the libraries of Python. It takes a minute on an idle machine.
 program=$(realpath -m "${OAUTHD:-$(dirname "$0")/../crates/oauthd/out/oauthd}")
 cd "$(dirname "$0")/.." || exit 2
 here=$PWD/examples/clients
-wanted=" ${*:-curl requests-oauthlib authlib go perl ruby openidc oauth2 hook raw} "
+wanted=" ${*:-curl requests-oauthlib authlib go perl ruby fetch openidc oauth2 hook raw} "
 [ -x "$program" ] || { echo "there is no $program: run 'rt run -- help' in crates/oauthd first"; exit 2; }
 for tool in curl nginx openssl python3; do
     command -v $tool >/dev/null || { echo "there is no $tool: apt-get install $tool"; exit 2; }
@@ -76,7 +76,7 @@ started+=($!)
 listens "$tls_port" || { echo "no nginx: $(cat "$room/nginx.err" "$room/nginx.log")"; exit 1; }
 export AUTH=https://localhost:$tls_port CA=$room/cert.pem
 # where each kind of client looks for certificates
-export CURL_CA_BUNDLE=$CA REQUESTS_CA_BUNDLE=$CA SSL_CERT_FILE=$CA PERL_LWP_SSL_CA_FILE=$CA HTTPS_CA_FILE=$CA
+export CURL_CA_BUNDLE=$CA REQUESTS_CA_BUNDLE=$CA SSL_CERT_FILE=$CA PERL_LWP_SSL_CA_FILE=$CA HTTPS_CA_FILE=$CA NODE_EXTRA_CA_CERTS=$CA
 
 # the owner consents to what both clients may have
 for id in plain signs; do
@@ -199,6 +199,17 @@ if is_wanted ruby; then
         goes 'gem oauth2' basic_auth-encoded "$all" "$all" ruby "$here/ruby_client.rb"
     else
         lacks 'the gem oauth2' ruby-oauth2
+    fi
+fi
+
+if is_wanted fetch; then
+    if command -v node >/dev/null; then
+        echo "Node $(node --version)"
+        goes fetch basic "$all" "$none" node "$here/fetch_client.mjs"
+        goes fetch basic-encoded "$all" "$all" node "$here/fetch_client.mjs"
+        goes fetch parameters "$all" "$all" node "$here/fetch_client.mjs"
+    else
+        lacks Node nodejs
     fi
 fi
 

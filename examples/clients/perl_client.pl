@@ -76,12 +76,12 @@ outcome(code => sub {
     );
     my $reply = $agent->get($url, Cookie => 'session=of-ann');
     my %sent_back = URI->new($reply->header('Location'))->query_form;
-    $token = $user->get_access_token($sent_back{code}, redirect_uri => 'https://app.example/cb', code_verifier => $verifier);
+    $token = $user->get_access_token($sent_back{code}, code_verifier => $verifier);
 });
 outcome(refresh => sub {
     $token ||= Net::OAuth2::AccessToken->new(profile => $user, access_token => 'none', refresh_token => 'none');
     my $before = $token->refresh_token;
-    $user->update_access_token($token, grant_type => 'refresh_token');
+    $user->update_access_token($token);
     die "no new refresh token\n" if $token->refresh_token eq $before;
 });
 outcome(credentials => sub {

@@ -68,7 +68,7 @@ def said(reply):
     if reply is None:
         return "no reply"
     status, fields, body = reply
-    if fields.get("server", "").startswith("nginx") and body[:1] != "{":
+    if body[:1] == "<":
         return f"{status} of nginx"
     if not body:
         return f"{status} no body"
@@ -165,6 +165,8 @@ def heads():
     tries("HTTP/1.0", post(b"/token", ALONE, version=b"1.0"), "400 no body, closed")
     tries("no Host", post(b"/token", ALONE).replace(b"Host: localhost\r\n", b""), "200 tokens, kept")
     tries("a whole URL as target", post(b"http://localhost/token", ALONE), "404 no body, kept")
+    tries("another Host", post(b"/token", ALONE).replace(b"Host: localhost", b"Host: other.example"), "200 tokens, kept")
+    tries("HEAD of /nothing", b"HEAD /nothing HTTP/1.1\r\nHost: localhost\r\n\r\n", "404 no body, kept", is_head=True)
     tries("HEAD of /token", b"HEAD /token HTTP/1.1\r\nHost: localhost\r\n\r\n", "405 no body, kept", is_head=True)
     tries("HEAD of /authorize", authorize(b"").replace(b"GET", b"HEAD", 1), "405 no body, kept", is_head=True)
     tries("OPTIONS of /token", b"OPTIONS /token HTTP/1.1\r\nHost: localhost\r\n\r\n", "405 no body, kept")
@@ -176,6 +178,16 @@ def heads():
         tries("a chunked body", chunked, "200 tokens, kept", through_nginx=True)
         tries("HTTP/1.0", post(b"/token", ALONE, version=b"1.0"), "200 tokens, closed", through_nginx=True)
         tries("a whole URL as target", post(b"https://localhost/token", ALONE), "200 tokens, kept", through_nginx=True)
+        tries("no Host", post(b"/token", ALONE).replace(b"Host: localhost\r\n", b""), "400 of nginx, closed", through_nginx=True)
+        tries("HEAD of /token", b"HEAD /token HTTP/1.1\r\nHost: localhost\r\n\r\n", "405 no body, kept", through_nginx=True, is_head=True)
+        tries("OPTIONS of /token", b"OPTIONS /token HTTP/1.1\r\nHost: localhost\r\n\r\n", "405 no body, kept", through_nginx=True)
+        tries("the path with a slash behind it", post(b"/token/", ALONE), "404 of nginx, kept", through_nginx=True)
+        tries("a query behind /token", post(b"/token?x=1", ALONE), "200 tokens, kept", through_nginx=True)
+        tries("a form without Content-Type", post(b"/token", ALONE, BASIC), "200 tokens, kept", through_nginx=True)
+        tries("a body in JSON", post(b"/token", b"{}", BASIC + b"Content-Type: application/json\r\n"), "400 invalid_request, kept", through_nginx=True)
+        tries("grant_type twice", post(b"/token", ALONE + b"&" + ALONE), "400 invalid_request, kept", through_nginx=True)
+        tries("Authorization twice", post(b"/token", ALONE, BASIC + BASIC + FORM), "400 of nginx, closed", through_nginx=True)
+        tries("a body of 65,537 bytes", post(b"/token", b"a=" + b"b" * 65535), "413 of nginx, closed", through_nginx=True)
         wire = Wire(through_nginx=True)
         wire.socket.sendall(head + b"\r\n\r\n")
         first = said(wire.reply())
@@ -203,7 +215,8 @@ def faulty_heads():
     tries("a head of 8,193 bytes", few + b"X: " + b"y" * (padding + 1) + b"\r\n\r\n", wanted)
     tries("a space before a colon", few + b"X : y\r\n\r\n", wanted)
     tries("a header line that goes on in the next one", few + b"X: y\r\n z\r\n\r\n", wanted)
-    tries("bytes that are no HTTP", b"\x16\x03\x01\x02\x00\x01\x00\r\n\r\n", wanted)
+    tries("a zero byte in a header line", few + b"X: a\0b\r\n\r\n", wanted)
+    tries("the start of TLS", b"\x16\x03\x01\x02\x00\x01\x00\x01\xfc\x03\x03", wanted)
     tries("HTTP/2 without TLS", b"PRI * HTTP/2.0\r\n\r\nSM\r\n\r\n", wanted)
     wire = Wire()
     wire.socket.sendall(NEXT + few + b"Transfer-Encoding: chunked\r\n\r\n" + NEXT)
@@ -217,6 +230,7 @@ def forms():
     asked = json.dumps({"grant_type": "client_credentials"}).encode()
     tries("a body in JSON", post(b"/token", asked, BASIC + b"Content-Type: application/json\r\n"), refused)
     tries("a form that is called text/plain", post(b"/token", ALONE, BASIC + b"Content-Type: text/plain\r\n"), refused)
+    tries("a form that is called multipart/form-data", post(b"/token", ALONE, BASIC + b"Content-Type: multipart/form-data; boundary=x\r\n"), refused)
     tries("a form without Content-Type", post(b"/token", ALONE, BASIC), "200 tokens, kept")
     tries("a form with a charset", post(b"/token", ALONE, BASIC + FORM.replace(b"\r\n", b";charset=UTF-8\r\n")), "200 tokens, kept")
     tries("a form with a tab before its Content-Type", post(b"/token", ALONE, BASIC + FORM.replace(b": ", b":\t")), "200 tokens, kept")
