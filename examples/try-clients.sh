@@ -4,7 +4,7 @@
 # in it. Starts all it needs on ports of its own, in a folder of its own, prints a line for each way of each client, says
 # what is not installed, and ends with 0 where all is as wanted. Words name the clients to try; without words all are.
 # Build the program first: (cd crates/oauthd && rt run -- help). The variable OAUTHD names another one, PYTHON another
-# python3 for the libraries of Python. It takes a minute on an idle machine.
+# python3 for the libraries of Python. It takes half a minute of one processor.
 program=$(realpath -m "${OAUTHD:-$(dirname "$0")/../crates/oauthd/out/oauthd}")
 cd "$(dirname "$0")/.." || exit 2
 here=$PWD/examples/clients
@@ -221,7 +221,7 @@ asks() {
     placed "$here/httpd.conf" >"$room/httpd.conf"
     apache2 -f "$room/httpd.conf" -DFOREGROUND 2>"$room/err" &
     httpd=$!
-    started+=($httpd)
+    started+=("$httpd")
     tried=$((tried + 1))
     if listens "$httpd_port"; then
         token=$(curl -sS -u "${plain[0]}:${plain[1]}" -d grant_type=client_credentials "$AUTH/token" |

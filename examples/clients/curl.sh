@@ -1,3 +1,4 @@
+#!/usr/bin/env bash
 # The five requests of a client by curl. Words: a way (-u, -u-encoded, --data-urlencode), a client's identifier and its
 # secret. The variable AUTH has the server's address. Prints a line for each request: `ok`, or the status and the error.
 way=$1
