@@ -1,5 +1,5 @@
 #!/usr/bin/env bash
-# Runs a script as root under a systemd of its own, on this machine's files as they are now: own-systemd.sh SCRIPT FOLDER
+# own-systemd.sh SCRIPT FOLDER: runs `SCRIPT inside` as root, under a systemd of its own, on this machine's files.
 # All that it writes lies over them in memory, and is gone when it ends, but for FOLDER, which it sees as /given. It has
 # a network of its own, without a way out, and so all ports. It sees docs, examples and the built program in
 # /root/oauthd. It is ended after 300 seconds. Needs root, and Linux with overlay file systems and control groups.
@@ -60,7 +60,7 @@ After=systemd-journald.service
 Type=oneshot
 Environment=HOME=/root
 WorkingDirectory=/root/oauthd
-ExecStart=/bin/bash /run/script
+ExecStart=/bin/bash /run/script inside
 ExecStopPost=/bin/sh -c 'echo $EXIT_STATUS >/given/.status; systemctl --force --force poweroff'
 StandardOutput=file:/given/.out
 StandardError=inherit

@@ -1,0 +1,150 @@
+#!/usr/bin/env bash
+# Runs the lines of docs/OPERATING.md, "From an empty machine to the first token", as they stand there, under a systemd
+# of its own (examples/own-systemd.sh), and then tries what the page says of the result. Prints a line for each check,
+# ends with 0 where all is as wanted, and leaves nothing behind. It takes two minutes. Needs root, and Debian's packages
+# nginx, curl, openssl and python3.
+# Build the program first: (cd crates/oauthd && rt run -- help). The variable OAUTHD names another one.
+if [ "$1" != inside ]; then
+    given=$(mktemp -d) || exit 2
+    trap 'rmdir "$given"' EXIT
+    "$(dirname "$0")/own-systemd.sh" "$0" "$given"
+    exit
+fi
+
+awk '/^## /{on=($0=="## From an empty machine to the first token")} on&&/^```/{code=($0=="```sh"); next} on&&code' \
+    docs/OPERATING.md >/run/page
+bash -ev /run/page 2>&1 || { echo "NOT AS WANTED page: a line of it failed"; exit 1; }
+echo
+
+checks=0
+differing=0
+# check NAME WANTED GOT: is this text what it should be? WANTED is a pattern of the shell.
+check() {
+    checks=$((checks + 1))
+    case $3 in
+        $2) echo "ok $1: $3" ;;
+        *) differing=$((differing + 1)); echo "NOT AS WANTED $1: $3, wanted: $2" ;;
+    esac
+}
+registered() { python3 -c "import json; print(json.load(open('/etc/oauthd/registry.json'))$1)"; }
+web() { curl -s --cacert /etc/ssl/certs/auth.example.pem --max-time 20 "$@"; }
+status() { web -o /dev/null -w '%{http_code}' "$@"; }
+auth=https://auth.example
+bot=bot:$(registered '["clients"][1]["secret"]')
+ann=$(registered '["owners"][0]')
+token() { web -u "$bot" -d grant_type=client_credentials $auth/token; }
+opened() { for _ in $(seq 100); do [ -e /run/oauthd/open ] && return; sleep 0.1; done; echo "NOT AS WANTED: never opened"; }
+request="/authorize?response_type=code&client_id=app&redirect_uri=https://app.example/cb&scope=read&state=a%26b"
+request="$request&code_challenge=E9Melhoa2OwvFrEMTJguCHaoeK1t8URWbuGJSstw-cM&code_challenge_method=S256"
+
+# The unit
+process=$(systemctl show -p MainPID --value oauthd)
+check user oauthd "$(stat -c %U /proc/"$process")"
+check privileges '0000000000000000 1' "$(awk '/^CapEff|^NoNewPrivs/{print $2}' /proc/"$process"/status | xargs)"
+check files-it-may-write '' "$(nsenter -t "$process" -m -- setpriv --reuid oauthd --regid oauthd --clear-groups \
+    find / -xdev -writable -not -type l -not -path '/proc/*' -not -path '/tmp*' -not -path '/var/tmp*' -not -path '/dev/*' \
+    -not -path '/run/oauthd' 2>/dev/null | head -3 | xargs)"
+check others-read-no-registry 'cat: *Permission denied' "$(setpriv --reuid nobody --regid nogroup --clear-groups \
+    cat /etc/oauthd/registry.json 2>&1)"
+check login-reads-no-registry 'cat: *Permission denied' "$(setpriv --reuid oauthd-login --regid oauthd-login --clear-groups \
+    cat /etc/oauthd/registry.json 2>&1)"
+check exposure 'OK*' "OK $(systemd-analyze security oauthd --no-pager | tail -n 1 | grep -o '[0-9.]* [A-Z]*')"
+
+# TLS, and what the outside gets
+for version in 1.0 1.1; do
+    check "tls-$version" 000 "$(status --tls-max "$version" --ciphers DEFAULT:@SECLEVEL=0 $auth/)"
+done
+for version in 1.2 1.3; do check "tls-$version" 404 "$(status --tlsv$version --tls-max $version $auth/)"; done
+check hsts '*trict-*ransport-*ecurity: max-age=31536000*' "$(web -si $auth/token | grep -i strict | tr -d '\r')"
+check metadata 'https://auth.example/token S256' "$(web $auth/.well-known/oauth-authorization-server | python3 -c \
+    'import json, sys; m = json.load(sys.stdin); print(m["token_endpoint"], *m["code_challenge_methods_supported"])')"
+for path in /hooks /hooks/list /consent /owner /login/owner /%6fwner //owner /authorize/../owner; do
+    check "outside$path" 404 "$(status --path-as-is -H "X-Operator-Key: $(cut -d' ' -f2 /etc/oauthd/operator)" -H "X-Owner-Key: $ann" "$auth$path")"
+done
+check not-logged-in "302 /login?back=$request" "$(web -o /dev/null -w '%{http_code} %header{location}' "$auth$request")"
+check key-from-outside "302 /login?back=*" "$(web -H "X-Owner-Key: $ann" -o /dev/null -w '%{http_code} %header{location}' "$auth$request")"
+
+# Many connections at once: each is answered
+cat >/run/many.py <<'PY'
+import base64, collections, http.client, ssl, sys, threading
+context = ssl.create_default_context(cafile="/etc/ssl/certs/auth.example.pem")
+headers = {"Authorization": "Basic " + base64.b64encode(sys.argv[1].encode()).decode(),
+           "Content-Type": "application/x-www-form-urlencoded"}
+seen = collections.Counter()
+begin = threading.Barrier(80)
+def ask():
+    connection = http.client.HTTPSConnection("auth.example", context=context)
+    connection.connect()
+    begin.wait()
+    for _ in range(20):
+        connection.request("POST", "/introspect", "token=none", headers)
+        reply = connection.getresponse()
+        reply.read()
+        seen[reply.status] += 1
+threads = [threading.Thread(target=ask) for _ in range(80)]
+for thread in threads: thread.start()
+for thread in threads: thread.join()
+print(*(f"{seen[status]} times {status}" for status in sorted(seen)))
+PY
+check 80-connections '1600 times 200' "$(python3 /run/many.py "$bot")"
+
+# Who asks without end
+check rate '*429' "$(for _ in $(seq 80); do echo "url=$auth/token"; done | web -K - -u "bot:wrong" -d grant_type=client_credentials \
+    -o /dev/null -w '%{http_code}\n' | sort | uniq -c | xargs)"
+sleep 5
+
+# A restart forgets all, and nothing is let through before the hooks are there
+hooks() { curl -s -H @/etc/oauthd/operator http://127.0.0.1:8080/hooks/list; }
+check hooks '{"hooks":\["capped"\]}' "$(hooks)"
+before=$(token | python3 -c 'import json, sys; print(json.load(sys.stdin)["access_token"])')
+check before-a-restart '{"active":true*' "$(web -u "$bot" -d "token=$before" $auth/introspect)"
+systemctl kill -s KILL oauthd
+check just-killed '50[23]' "$(status -u "$bot" -d "token=$before" $auth/introspect)"
+opened
+check hooks-after-it '{"hooks":\["capped"\]}' "$(hooks)"
+check after-a-restart '{"active":false}' "$(web -u "$bot" -d "token=$before" $auth/introspect)"
+systemctl stop oauthd
+check stopped 503 "$(status -u "$bot" -d grant_type=client_credentials $auth/token)"
+mv /etc/oauthd/hooks/10.capped.bin /etc/oauthd/hooks/10.capped.bin.kept
+head -c 12 /dev/urandom >/etc/oauthd/hooks/10.faulty.bin
+chmod 644 /etc/oauthd/hooks/10.faulty.bin
+systemctl start oauthd 2>/dev/null
+check refused-hook 503 "$(status -u "$bot" -d grant_type=client_credentials $auth/token)"
+systemctl stop oauthd
+
+# Signals, and a front that passes line feeds
+serve() { /usr/local/bin/oauthd start 127.0.0.1:8080 /etc/oauthd/registry.json >/run/served & sleep 1; }
+for signal in TERM INT HUP USR1 USR2; do
+    serve
+    kill -s "$signal" $!
+    sleep 0.5
+    if kill -0 $! 2>/dev/null; then
+        check "SIG$signal" 'ends it' 'goes on'
+        kill -s KILL $!
+    else
+        check "SIG$signal" 'ends it' 'ends it'
+    fi
+    wait $! 2>/dev/null
+done
+serve
+check line-feed '{"scope":"read"}' "$(python3 - "$ann" <<'PY'
+import socket, sys
+body = b"client_id=app&scope=read"
+head = b"POST /consent HTTP/1.1\r\nHost: a\r\nX-Note: a\nX-Owner-Key: " + sys.argv[1].encode()
+with socket.create_connection(("127.0.0.1", 8080)) as server:
+    server.sendall(head + b"\r\nContent-Length: %d\r\n\r\n" % len(body) + body)
+    print(server.recv(4096).decode().split("\r\n\r\n")[-1])
+PY
+)"
+kill $!
+
+# No secret in a log
+secrets=$(python3 - <<'PY'
+import json
+registry = json.load(open("/etc/oauthd/registry.json"))
+print("\n".join([registry["operator"], *registry["owners"], *(client["secret"] for client in registry["clients"])]))
+PY
+)
+check secrets-in-logs 0 "$( (journalctl --no-pager; cat /var/log/nginx/*) | grep -cF "$secrets")"
+echo "$checks checks, $differing not as wanted"
+[ "$differing" = 0 ]
