@@ -16,7 +16,7 @@ room=$(mktemp -d /tmp/own-systemd.XXXXXX) || exit 2
 groups=/sys/fs/cgroup
 [ -e $groups/cgroup.controllers ] || groups=/sys/fs/cgroup/systemd
 own=$groups/${room##*/}
-trap 'rmdir "$room"; find "$own" -depth -type d -exec rmdir {} + 2>/dev/null' EXIT
+trap 'kill %1 2>/dev/null; rmdir "$room"; find "$own" -depth -type d -exec rmdir {} + 2>/dev/null' EXIT
 mkdir "$own" || exit 2
 
 inside() {
@@ -40,14 +40,13 @@ inside() {
         mount -t cgroup -o none,name=systemd cgroup sys/fs/cgroup/systemd
     fi
     for name in dev run tmp; do mount -t tmpfs tmpfs "$name"; done
-    for name in null zero full random urandom tty; do
-        touch "dev/$name"
-        mount --bind "/dev/$name" "dev/$name"
-    done
+    cp -a /dev/{null,zero,full,random,urandom,tty} dev
+    cp -a /dev/null dev/console
+    mkdir dev/pts dev/mqueue dev/hugepages
     mkdir -m 1777 dev/shm
+    mount -t devpts -o newinstance,ptmxmode=0666 devpts dev/pts
+    ln -s pts/ptmx dev/ptmx
     ln -s /proc/self/fd dev/fd
-    touch dev/console
-    mount --bind /dev/null dev/console
     mount --bind "$given" given
     cp "$script" run/script
     printf '[Unit]\nRequires=script.service\nAfter=script.service\n' >etc/systemd/system/script.target
@@ -69,7 +68,7 @@ UNIT
     pivot_root . old
     umount -l /old
     exec env -i container=unshare PATH=/usr/sbin:/usr/bin:/sbin:/bin /lib/systemd/systemd --unit=script.target \
-        --log-target=null --show-status=no </dev/null
+        --log-target=journal --show-status=no </dev/null
 }
 export -f inside
 export room given script program groups repository=$PWD
@@ -80,6 +79,7 @@ echo 2 >"$given/.status"
     echo "$BASHPID" >"$own/cgroup.procs"
     exec timeout -k 2 300 unshare --mount --pid --net --uts --ipc --cgroup --fork --kill-child bash -ec inside
 ) >"$given/.boot" 2>&1 &
+trap 'exit 2' INT TERM
 tail -n +1 --pid=$! -s 0.3 -f "$given/.out"
 wait $!
 status=$(cat "$given/.status")

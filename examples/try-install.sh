@@ -11,9 +11,10 @@ if [ "$1" != inside ]; then
     exit
 fi
 
+echo 'APT::Get::Upgrade "false";' >/etc/apt/apt.conf.d/99offline     # the packages that are here will do
 awk '/^## /{on=($0=="## From an empty machine to the first token")} on&&/^```/{code=($0=="```sh"); next} on&&code' \
     docs/OPERATING.md >/run/page
-bash -ev /run/page 2>&1 || { echo "NOT AS WANTED page: a line of it failed"; exit 1; }
+bash -ev /run/page 2>&1 || { echo "NOT AS WANTED page: a line of it failed"; journalctl --no-pager -u "oauthd*" | tail -n 20; exit 1; }
 echo
 
 checks=0
