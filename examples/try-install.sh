@@ -6,7 +6,7 @@
 # Build the program first: (cd crates/oauthd && rt run -- help). The variable OAUTHD names another one.
 if [ "$1" != inside ]; then
     given=$(mktemp -d) || exit 2
-    trap 'rmdir "$given"' EXIT
+    trap 'rm -rf "$given"' EXIT
     "$(dirname "$0")/own-systemd.sh" "$0" "$given"
     exit
 fi
@@ -42,9 +42,8 @@ request="$request&code_challenge=E9Melhoa2OwvFrEMTJguCHaoeK1t8URWbuGJSstw-cM&cod
 process=$(systemctl show -p MainPID --value oauthd)
 check user oauthd "$(stat -c %U /proc/"$process")"
 check privileges '0000000000000000 1' "$(awk '/^CapEff|^NoNewPrivs/{print $2}' /proc/"$process"/status | xargs)"
-check files-it-may-write '' "$(nsenter -t "$process" -m -- setpriv --reuid oauthd --regid oauthd --clear-groups \
-    find / -xdev -writable -not -type l -not -path '/proc/*' -not -path '/tmp*' -not -path '/var/tmp*' -not -path '/dev/*' \
-    -not -path '/run/oauthd' 2>/dev/null | head -3 | xargs)"
+check files-it-may-write /run/oauthd/open "$(nsenter -t "$process" -m -- setpriv --reuid oauthd --regid oauthd --clear-groups \
+    find /etc /run /srv /usr/local /var -maxdepth 3 -writable -type f 2>/dev/null | head -n 3 | xargs)"
 check others-read-no-registry 'cat: *Permission denied' "$(setpriv --reuid nobody --regid nogroup --clear-groups \
     cat /etc/oauthd/registry.json 2>&1)"
 check login-reads-no-registry 'cat: *Permission denied' "$(setpriv --reuid oauthd-login --regid oauthd-login --clear-groups \
