@@ -48,7 +48,7 @@ check others-read-no-registry 'cat: *Permission denied' "$(setpriv --reuid nobod
     cat /etc/oauthd/registry.json 2>&1)"
 check login-reads-no-registry 'cat: *Permission denied' "$(setpriv --reuid oauthd-login --regid oauthd-login --clear-groups \
     cat /etc/oauthd/registry.json 2>&1)"
-check exposure 'OK*' "OK $(systemd-analyze security oauthd --no-pager | tail -n 1 | grep -o '[0-9.]* [A-Z]*')"
+check exposure '0.* SAFE*' "$(systemd-analyze security oauthd --no-pager | sed -n 's/.*oauthd.service: //p')"
 
 # TLS, and what the outside gets
 for version in 1.0 1.1; do
@@ -89,9 +89,12 @@ PY
 check 80-connections '1600 times 200' "$(python3 /run/many.py "$bot")"
 
 # Who asks without end
-check rate '*429' "$(for _ in $(seq 80); do echo "url=$auth/token"; done | web -K - -u "bot:wrong" -d grant_type=client_credentials \
-    -o /dev/null -w '%{http_code}\n' | sort | uniq -c | xargs)"
-sleep 5
+asked_often() { for _ in $(seq 80); do printf 'url=%s/token\noutput=/dev/null\n' $auth; done |
+    web -K - "$@" -d grant_type=client_credentials -w '%{http_code}\n' | sort | uniq -c | xargs; }
+check rate-of-a-client '* 401 * 429' "$(asked_often -u bot:wrong)"
+check rate-of-another-one 200 "$(status -u "$bot" -d grant_type=client_credentials $auth/token)"
+check rate-of-an-address '* 401 * 429' "$(asked_often --interface 127.0.0.3 -d client_id=bot -d client_secret=wrong)"
+check introspection-from-elsewhere 403 "$(status --interface 127.0.0.3 -u "$bot" -d token=none $auth/introspect)"
 
 # A restart forgets all, and nothing is let through before the hooks are there
 hooks() { curl -s -H @/etc/oauthd/operator http://127.0.0.1:8080/hooks/list; }
@@ -112,31 +115,44 @@ systemctl start oauthd 2>/dev/null
 check refused-hook 503 "$(status -u "$bot" -d grant_type=client_credentials $auth/token)"
 systemctl stop oauthd
 
-# Signals, and a front that passes line feeds
-serve() { /usr/local/bin/oauthd start 127.0.0.1:8080 /etc/oauthd/registry.json >/run/served & sleep 1; }
-for signal in TERM INT HUP USR1 USR2; do
-    serve
-    kill -s "$signal" $!
-    sleep 0.5
-    if kill -0 $! 2>/dev/null; then
-        check "SIG$signal" 'ends it' 'goes on'
-        kill -s KILL $!
-    else
-        check "SIG$signal" 'ends it' 'ends it'
-    fi
-    wait $! 2>/dev/null
-done
-serve
-check line-feed '{"scope":"read"}' "$(python3 - "$ann" <<'PY'
-import socket, sys
-body = b"client_id=app&scope=read"
-head = b"POST /consent HTTP/1.1\r\nHost: a\r\nX-Note: a\nX-Owner-Key: " + sys.argv[1].encode()
-with socket.create_connection(("127.0.0.1", 8080)) as server:
-    server.sendall(head + b"\r\nContent-Length: %d\r\n\r\n" % len(body) + body)
-    print(server.recv(4096).decode().split("\r\n\r\n")[-1])
+# Signals, and line feeds within a header's value: to the server itself, and through nginx
+cat >/run/signals.py <<'PY'
+import signal, socket, ssl, subprocess, sys
+command = ["/usr/local/bin/oauthd", "start", "127.0.0.1:8080", "/etc/oauthd/registry.json"]
+def server():
+    begun = subprocess.Popen(command, stdout=subprocess.PIPE)
+    begun.stdout.readline()
+    return begun
+def asked(stream, path, host, body):
+    head = f"{path} HTTP/1.1\r\nHost: {host}\r\nX-Note: a\nX-Owner-Key: {sys.argv[1]}\r\nContent-Length: {len(body)}\r\n\r\n"
+    stream.sendall((head + body).encode())
+    return stream.recv(4096).decode()
+for name in "TERM", "INT", "HUP", "USR1", "USR2":
+    begun = server()
+    begun.send_signal(signal.Signals["SIG" + name])
+    try:
+        print(f"SIG{name}: {-begun.wait(5) == signal.Signals['SIG' + name]}")
+    except subprocess.TimeoutExpired:
+        print(f"SIG{name}: goes on")
+        begun.kill()
+begun = server()
+with socket.create_connection(("127.0.0.1", 8080)) as stream:
+    print("line-feed:", asked(stream, "POST /consent", "a", "client_id=app&scope=read").split("\r\n\r\n")[-1])
+open("/run/oauthd/open", "w").close()
+context = ssl.create_default_context(cafile="/etc/ssl/certs/auth.example.pem")
+with context.wrap_socket(socket.create_connection(("auth.example", 443)), server_hostname="auth.example") as stream:
+    print("line-feed-through-nginx:", [line for line in asked(stream, "GET " + sys.argv[2], "auth.example", "").split("\r\n")
+                                       if line.startswith("Location")][0][:23])
+begun.kill()
 PY
-)"
-kill $!
+mkdir /run/oauthd
+while IFS=': ' read -r name got; do
+    case $name in
+        SIG*) check "$name-ends-it" True "$got" ;;
+        line-feed) check line-feed-makes-a-header '{"scope":"read"}' "$got" ;;
+        *) check "$name" 'Location: /login?back=*' "$got" ;;
+    esac
+done < <(python3 /run/signals.py "$ann" "$request" 2>&1)
 
 # No secret in a log
 secrets=$(python3 - <<'PY'
@@ -147,4 +163,4 @@ PY
 )
 check secrets-in-logs 0 "$( (journalctl --no-pager; cat /var/log/nginx/*) | grep -cF "$secrets")"
 echo "$checks checks, $differing not as wanted"
-[ "$differing" = 0 ]
+[ "$checks" = 46 ] && [ "$differing" = 0 ]
