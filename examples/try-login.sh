@@ -39,4 +39,5 @@ echo '127.0.0.1 app.example' >>/etc/hosts
 systemctl reload nginx
 /usr/bin/python3 examples/login/client.py 9100 https://auth.example "$(registered '["clients"][0]["secret"]')" &
 curl -s -o /dev/null --retry 60 --retry-delay 1 --retry-connrefused http://127.0.0.1:9100/ || echo "the client does not answer"
-python3 examples/login/browser.py /given/consent.png "$(registered '["owners"][0]')"
+# Chromium would give itself a higher priority than it was started with.
+setpriv --bounding-set -sys_nice --inh-caps -sys_nice python3 examples/login/browser.py /given/consent.png "$(registered '["owners"][0]')"
