@@ -41,7 +41,7 @@ for attempt in range(100):
 browser = "/session/" + command("POST", "/session", {"capabilities": {"alwaysMatch": {
     "acceptInsecureCerts": True, "goog:loggingPrefs": {"performance": "ALL"},
     "goog:chromeOptions": {"args": ["--headless", "--no-sandbox", "--disable-dev-shm-usage", "--disable-gpu",
-                                    "--window-size=800,560"]}}}})["sessionId"]
+                                    "--window-size=700,640"]}}}})["sessionId"]
 
 
 def visit(address):

@@ -45,6 +45,7 @@ PAGE = """<!DOCTYPE html>
 <title>{title}</title>
 <style>
 body {{ font: 1.1em/1.5 sans-serif; max-width: 26em; margin: 3em auto; padding: 0 1em; color: #222 }}
+h1 {{ font-size: 1.5em }}
 input, button {{ font: inherit; padding: .4em .8em; margin: .2em .4em .2em 0 }}
 label {{ display: block }}
 .wrong {{ color: #a00 }}
@@ -142,6 +143,8 @@ class Login:
             reply = connection.getresponse()
             reply.read()
             return reply.status, reply.getheader("Location")
+        except (OSError, http.client.HTTPException):
+            return 503, None
         finally:
             connection.close()
 
