@@ -90,7 +90,7 @@ check 80-connections '1600 times 200' "$(python3 /run/many.py "$bot")"
 
 # Who asks without end
 asked_often() { for _ in $(seq 150); do printf 'url=%s/token\noutput=/dev/null\n' $auth; done |
-    web -Z --parallel-max 30 -K - "$@" -d grant_type=client_credentials -w '%{http_code}\n' | sort | uniq -c | xargs; }
+    web -Z --parallel-max 30 -K - "$@" -d grant_type=client_credentials -w '%{http_code}\n' 2>/dev/null | sort | uniq -c | xargs; }
 check rate-of-a-client '* 401 * 429' "$(asked_often -u bot:wrong)"
 check rate-of-another-one 200 "$(status -u "$bot" -d grant_type=client_credentials $auth/token)"
 check rate-of-an-address '* 401 * 429' "$(asked_often --interface 127.0.0.3 -d client_id=bot -d client_secret=wrong)"
