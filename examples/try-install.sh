@@ -56,6 +56,7 @@ for version in 1.0 1.1; do
 done
 for version in 1.2 1.3; do check "tls-$version" 404 "$(status --tlsv$version --tls-max $version $auth/)"; done
 check hsts '*trict-*ransport-*ecurity: max-age=31536000*' "$(web -si $auth/token | grep -i strict | tr -d '\r')"
+check port-80 000 "$(status http://auth.example/)"
 check metadata 'https://auth.example/token S256' "$(web $auth/.well-known/oauth-authorization-server | python3 -c \
     'import json, sys; m = json.load(sys.stdin); print(m["token_endpoint"], *m["code_challenge_methods_supported"])')"
 for path in /hooks /hooks/list /consent /owner /login/owner /%6fwner //owner /authorize/../owner; do
@@ -106,6 +107,9 @@ check just-killed '50[23]' "$(status -u "$bot" -d "token=$before" $auth/introspe
 opened
 check hooks-after-it '{"hooks":\["capped"\]}' "$(hooks)"
 check after-a-restart '{"active":false}' "$(web -u "$bot" -d "token=$before" $auth/introspect)"
+install -m 755 crates/oauthd/out/oauthd /usr/local/bin/oauthd
+systemctl restart oauthd
+check another-version 200 "$(status -u "$bot" -d grant_type=client_credentials $auth/token)"
 systemctl stop oauthd
 check stopped 503 "$(status -u "$bot" -d grant_type=client_credentials $auth/token)"
 mv /etc/oauthd/hooks/10.capped.bin /etc/oauthd/hooks/10.capped.bin.kept
@@ -163,4 +167,4 @@ PY
 )
 check secrets-in-logs 0 "$( (journalctl --no-pager; cat /var/log/nginx/*) | grep -cF "$secrets")"
 echo "$checks checks, $differing not as wanted"
-[ "$checks" = 42 ] && [ "$differing" = 0 ]
+[ "$checks" = 44 ] && [ "$differing" = 0 ]
