@@ -286,7 +286,7 @@ class Handler(http.server.BaseHTTPRequestHandler):
             rows = "".join(self.form(name, "", (
                 f'<p>{html.escape(login.clients.get(client, {}).get("name", client))}: {html.escape(", ".join(scopes))} '
                 f'<input type="hidden" name="client" value="{html.escape(client)}">'
-                '<button name="do" value="withdraw">Withdraw</button></p>')) for client, scopes in kept.items() if scopes)
+                '<button name="do" value="withdraw">Withdraw</button></p>')) for client, scopes in list(kept.items()) if scopes)
             return self.page("What you have allowed", (rows or "<p>Nothing.</p>") + leave)
         asked = login.asked(back)
         if asked is None:
@@ -339,7 +339,7 @@ class Handler(http.server.BaseHTTPRequestHandler):
                 kept = login.kept.get(session.user, {}).get(client, [])
                 if not login.allow(session.user, client, kept + [s for s in scopes if s not in kept]):
                     return self.page("Not now", "<p>The server could not keep this. Try again later.</p>", 503)
-        elif back:
+        elif do == "deny" and back:
             with login.sessions_lock:
                 session.denied = back               # oauthd tells the client
         self.send(back or "/login")
