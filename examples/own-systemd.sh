@@ -2,7 +2,7 @@
 # own-systemd.sh SCRIPT FOLDER: runs `SCRIPT inside` as root, under a systemd of its own, on this machine's files.
 # All that it writes lies over them in memory, and is gone when it ends, but for FOLDER, which it sees as /given. It has
 # a network of its own, without a way out, and so all ports. It sees docs, examples and the built program in
-# /root/oauthd. It is ended after 300 seconds. Needs root, and Linux with overlay file systems and control groups.
+# /root/oauthd. It is ended after 900 seconds. Needs root, and Linux with overlay file systems and control groups.
 # Ends with the script's status. Tried with version 252 of systemd on control groups of version 1.
 script=$(realpath "$1") given=$(realpath "$2")
 program=$(realpath -m "${OAUTHD:-$(dirname "$0")/../crates/oauthd/out/oauthd}")
@@ -77,7 +77,7 @@ export room given script program groups repository=$PWD
 echo 2 >"$given/.status"
 (
     echo "$BASHPID" >"$own/cgroup.procs"
-    exec timeout -k 2 300 unshare --mount --pid --net --uts --ipc --cgroup --fork --kill-child bash -ec inside
+    exec timeout -k 2 900 unshare --mount --pid --net --uts --ipc --cgroup --fork --kill-child bash -ec inside
 ) >"$given/.boot" 2>&1 &
 trap 'exit 2' INT TERM
 tail -n +1 --pid=$! -s 0.3 -f "$given/.out"
