@@ -16,7 +16,17 @@ room=$(mktemp -d /tmp/own-systemd.XXXXXX) || exit 2
 groups=/sys/fs/cgroup
 [ -e $groups/cgroup.controllers ] || groups=/sys/fs/cgroup/systemd
 own=$groups/${room##*/}
-trap 'kill %1 2>/dev/null; rmdir "$room"; find "$own" -depth -type d -exec rmdir {} + 2>/dev/null' EXIT
+leave() {
+    kill %1 2>/dev/null
+    wait
+    for _ in $(seq 50); do      # its processes may take a moment to end
+        find "$own" -depth -type d -exec rmdir {} \; 2>/dev/null
+        [ -d "$own" ] || break
+        sleep 0.2
+    done
+    rmdir "$room"
+}
+trap leave EXIT
 mkdir "$own" || exit 2
 
 inside() {
