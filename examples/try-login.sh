@@ -1,0 +1,43 @@
+#!/usr/bin/env bash
+# Installs server, nginx and login by the lines of docs/OPERATING.md under a systemd of its own
+# (examples/own-systemd.sh), and goes through login and consent in Chromium, with a client of requests-oauthlib. Prints a
+# line for each check, ends with 0 where all is as wanted, and leaves nothing behind but a picture of the consent page,
+# if a word names a file for it. It takes two to five minutes. Needs root, and Debian's packages nginx, curl, openssl, python3,
+# chromium, chromium-driver and python3-requests-oauthlib.
+# Build the program first: (cd crates/oauthd && rt run -- help). The variable OAUTHD names another one.
+if [ "$1" != inside ]; then
+    for name in chromium chromedriver; do
+        command -v $name >/dev/null || { echo "there is no $name: apt-get install chromium chromium-driver"; exit 2; }
+    done
+    given=$(mktemp -d) || exit 2
+    trap 'rm -rf "$given"' EXIT
+    "$(dirname "$0")/own-systemd.sh" "$0" "$given"
+    status=$?
+    [ -z "$1" ] || cp "$given/consent.png" "$1"
+    exit $status
+fi
+
+echo 'APT::Get::Upgrade "false";' >/etc/apt/apt.conf.d/99offline     # the packages that are here will do
+awk '/^## /{on=($0=="## From an empty machine to the first token")} on&&/^```/{code=($0=="```sh"); next} on&&code' \
+    docs/OPERATING.md >/run/page
+bash -e /run/page >/run/page.out 2>&1 || { tail /run/page.out; echo "NOT AS WANTED page: a line of it failed"; exit 1; }
+
+# The client: https://app.example, by the same nginx
+registered() { python3 -c "import json; print(json.load(open('/etc/oauthd/registry.json'))$1)"; }
+openssl req -x509 -newkey ec -pkeyopt ec_paramgen_curve:P-256 -nodes -days 30 -subj /CN=app.example \
+    -keyout /run/app.key -out /run/app.pem 2>/dev/null
+cat >/etc/nginx/conf.d/app.conf <<'NGINX'
+server {
+    listen 443 ssl;
+    server_name app.example;
+    ssl_certificate /run/app.pem;
+    ssl_certificate_key /run/app.key;
+    location / { proxy_pass http://127.0.0.1:9100; }
+}
+NGINX
+echo '127.0.0.1 app.example' >>/etc/hosts
+systemctl reload nginx
+/usr/bin/python3 examples/login/client.py 9100 https://auth.example "$(registered '["clients"][0]["secret"]')" &
+curl -s -o /dev/null --retry 60 --retry-delay 1 --retry-connrefused http://127.0.0.1:9100/ || echo "the client does not answer"
+# Chromium would give itself a higher priority than it was started with.
+setpriv --bounding-set -sys_nice --inh-caps -sys_nice python3 examples/login/browser.py /given/consent.png "$(registered '["owners"][0]')"
