@@ -1,5 +1,5 @@
 -- An edge goes on by one event.
-use Rattle.std.proofs.Common.{◌≡◌, ◌≢◌, ◌≤◌, ◌<◌, ◌+◌, inl, inr, ℕ, List, [], ◌∷◌, ◌++◌, Bool, true, false, cond, Some, None, length, length-append, append_assoc, drop, refl, ap, ◌∙◌, sym, subst, arith}
+use Rattle.std.proofs.Common.{◌≡◌, ◌≤◌, ◌<◌, ◌+◌, inl, inr, ℕ, List, [], ◌∷◌, ◌++◌, Bool, true, false, cond, Some, None, length, length-append, append_assoc, drop, refl, ap, ◌∙◌, sym, subst, arith}
 use Rattle.std.proofs.lemmas.List.{length-drop, drop-drop, drop-append-le}
 use Rattle.hook_host.specs.declared.host.HookHost.{Ghosts as Hosting}
 use Rattle.clients.specs.RegistryRecord.{RegistryRecord}
@@ -12,13 +12,14 @@ use Rattle.endpoints.specs.Server.{Seen, FitsServer}
 use Rattle.heads.specs.Message.{Message}
 use Rattle.heads.specs.ReadingLaws.{messages_cut, nothing_has_none}
 use Rattle.http_edge.specs.Answers.{changes_of, replies_of}
-use Rattle.http_edge.specs.Schedule.{World, Connection, Happening, Opened, Came, HasEnded, Taken, Forgotten, Happens, Run, start, fresh, heard, with_connection, without_connection, moment_after, faulty_if}
+use Rattle.http_edge.specs.Schedule.{World, Connection, Happening, Opened, Came, HasEnded, Taken, Forgotten, Happens, Run, ended, has_ended, start, fresh, heard, with_connection, without_connection, moment_after, faulty_if}
 use Rattle.http_edge.specs.Lanes.{SeenLane, lane_at, with_lane, without_lane, fresh_lane, ShowsConnection, ShowsConnections}
 use Rattle.http_edge.specs.Heard.{IsRead, LaneHeard}
 use Rattle.http_edge.specs.Edges.{SeenEdge}
 use Rattle.http_edge.specs.Reached.{Reached, GoesOn, Leads, PieceLeads}
 use Rattle.http_edge.specs.declared.lane.Phase.{Phase}
-use Rattle.http_edge.specs.declared.lane.Phase.TheVariants.{Open, Closing, Ended}
+use Rattle.http_edge.specs.declared.lane.Phase.TheVariants.{Open, Closing}
+use Rattle.http_edge.proofs.Phases.{ended_not_open}
 use Rattle.http_edge.proofs.Showing.{shows_here, shows_none, shows_put, shows_without, shows_added, shows_length}
 
 -- what a server fits is bounded
@@ -55,7 +56,7 @@ shows_as : (lanes lanes' : List SeenLane) (ks : List Connection) → lanes' ≡ 
 shows_as lanes lanes' ks e s = subst (λ l. ShowsConnections l ks) (sym e) s
 
 shows_fresh : (c : ℕ) → ShowsConnection (fresh_lane c) (fresh c)
-shows_fresh c = record { number = refl; phase = refl; within = omega arith; output = refl; rest = λ e. record { reads = refl; none = nothing_has_none } }
+shows_fresh c = record { number = refl; phase = refl; within = omega arith; output = refl; rest = λ e. record { reads = refl; none = nothing_has_none }; nothing_held = λ e. refl }
 
 pub on_opened : {H : Type 0} (hosting : Hosting H) (edge edge' : SeenEdge H) (c : ℕ) → edge'.server ≡ edge.server → lane_at edge.lanes c ≡ None → length edge.lanes < 64 →
     edge'.lanes ≡ edge.lanes ++ fresh_lane c ∷ [] → Leads hosting edge edge' (Opened c)
@@ -65,16 +66,23 @@ on_opened hosting edge edge' c same none few lanes rules first schedule world re
     (shows_as _ _ _ lanes (shows_added edge.lanes world.connections (fresh_lane c) (fresh c) reached.shows (shows_fresh c)))
     (record { absent = shows_none edge.lanes world.connections c reached.shows none; few = omega (arith, size, few); still = record { greatest = refl; history = refl }; connections = refl })
 
-pub on_ended : {H : Type 0} (hosting : Hosting H) (edge edge' : SeenEdge H) (c : ℕ) (lane : SeenLane) → edge'.server ≡ edge.server → lane_at edge.lanes c ≡ Some lane → lane.phase ≢ Ended →
-    edge'.lanes ≡ with_lane c (record { number = lane.number; phase = Ended; rest = []; output = lane.output }) edge.lanes → Leads hosting edge edge' (HasEnded c)
+pub on_ended : {H : Type 0} (hosting : Hosting H) (edge edge' : SeenEdge H) (c : ℕ) (lane : SeenLane) → edge'.server ≡ edge.server → lane_at edge.lanes c ≡ Some lane → has_ended lane.phase ≡ false →
+    edge'.lanes ≡ with_lane c (record { number = lane.number; phase = ended lane.phase; rest = []; output = lane.output }) edge.lanes → Leads hosting edge edge' (HasEnded c)
 on_ended hosting edge edge' c lane same here not_ended lanes rules first schedule world reached =
     let at = shows_here edge.lanes world.connections c lane reached.shows here in
     let shows = at.2 in
-    let k : Connection = record at.0 { phase = Ended } in
+    let k : Connection = record at.0 { phase = ended at.0.phase } in
     goes_on hosting edge edge' rules first schedule world (with_connection c k world.connections) _ reached same
     (shows_as _ _ _ lanes (shows_put edge.lanes world.connections c _ k reached.shows
-    (record { number = shows.number; phase = refl; within = shows.within; output = shows.output; rest = λ e. absurd (cc) })))
-    (record { before = at.0; here = at.1; not_ended = λ e. not_ended (shows.phase ∙ e); still = record { greatest = refl; history = refl }; connections = refl })
+    (record {
+      number = shows.number;
+      phase = ap ended shows.phase;
+      within = shows.within;
+      output = shows.output;
+      rest = λ e. absurd (ended_not_open at.0.phase e);
+      nothing_held = λ e. refl;
+    })))
+    (record { before = at.0; here = at.1; not_ended = sym (ap has_ended shows.phase) ∙ not_ended; still = record { greatest = refl; history = refl }; connections = refl })
 
 pub on_taken : {H : Type 0} (hosting : Hosting H) (edge edge' : SeenEdge H) (c n : ℕ) (lane : SeenLane) → edge'.server ≡ edge.server → lane_at edge.lanes c ≡ Some lane → n ≤ length lane.output →
     edge'.lanes ≡ with_lane c (record { number = lane.number; phase = lane.phase; rest = lane.rest; output = drop n lane.output }) edge.lanes → Leads hosting edge edge' (Taken c n)
@@ -89,7 +97,7 @@ on_taken hosting edge edge' c n lane same here fits lanes rules first schedule w
     let enough : x.taken + n ≤ length x.output = omega (arith, size, within, left, fits) in
     goes_on hosting edge edge' rules first schedule world (with_connection c k world.connections) _ reached same
     (shows_as _ _ _ lanes (shows_put edge.lanes world.connections c _ k reached.shows
-    (record { number = shows.number; phase = shows.phase; within = enough; output = ap (drop n) shows.output ∙ drop-drop n x.taken x.output; rest = shows.rest })))
+    (record { number = shows.number; phase = shows.phase; within = enough; output = ap (drop n) shows.output ∙ drop-drop n x.taken x.output; rest = shows.rest; nothing_held = shows.nothing_held })))
     (inl (record { before = x; here = at.1; fits = enough; still = record { greatest = refl; history = refl }; connections = refl }))
 
 pub on_taken_nothing : {H : Type 0} (hosting : Hosting H) (edge edge' : SeenEdge H) (c n : ℕ) → edge'.server ≡ edge.server → lane_at edge.lanes c ≡ None → n ≡ 0 → edge'.lanes ≡ edge.lanes →
@@ -120,6 +128,10 @@ rest_kept : (closes : Bool) (kept rest : List ℕ) → kept ≡ cond closes [] r
 rest_kept true kept rest e p = absurd (cc)
 rest_kept false kept rest e p = e
 
+nothing_kept : (closes : Bool) (kept rest : List ℕ) → kept ≡ cond closes [] rest → (◌≡◌ {A = Phase} (cond closes Closing Open) Open → ⊥) → kept ≡ []
+nothing_kept true kept rest e p = e
+nothing_kept false kept rest e p = absurd (p refl)
+
 -- the lane after a piece shows the connection after it
 shows_heard : (lane lane' : SeenLane) (k : Connection) (piece : List ℕ) (messages : List Message) (outcomes : List Outcome) (middle : List ℕ) (draws : List Draws) (closes : Bool) → k.phase ≡ Open →
     ShowsConnection lane k → lane'.number ≡ lane.number → IsRead (lane.rest ++ piece) lane'.rest messages draws closes → lane'.phase ≡ cond closes Closing Open →
@@ -136,6 +148,7 @@ shows_heard lane lane' k piece messages outcomes middle draws closes is_open sho
           output ∙ ap (λ o. o ++ faulty_if closes) (said ∙ ap (λ o. o ++ replies_of outcomes) shows.output)
           ∙ append_assoc (drop k.taken k.output) (replies_of outcomes) (faulty_if closes) ∙ sym (drop-append-le k.taken k.output new le);
       rest = λ now. rw (rest_kept closes lane'.rest read.rest read.kept_is now) (messages_cut k.stream piece k.messages messages lane.rest read.rest (shows.rest is_open) read.reads);
+      nothing_held = nothing_kept closes lane'.rest read.rest read.kept_is;
     }
 
 -- a piece was heard

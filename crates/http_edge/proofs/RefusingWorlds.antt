@@ -1,12 +1,12 @@
 -- What is refused by what is kept is refused by what is known.
-use Rattle.std.proofs.Common.{◌≡◌, ◌++◌, inl, inr, ℕ, List, Option, Some, None, refl, sym, subst, ◌∙◌, arith}
+use Rattle.std.proofs.Common.{◌≡◌, ◌++◌, ℕ, List, Option, Some, None, refl, ap, sym, subst, ◌∙◌, arith}
 use Rattle.std.specs.Prelude.{IsSome, IfErr, Result, Ok, Err}
 use Rattle.std.proofs.lemmas.Bool.{false≢true}
 use Rattle.hook_host.specs.declared.host.HookHost.{Ghosts as Hosting}
 use Rattle.messages.specs.declared.request.Draws.{Draws}
 use Rattle.heads.specs.Message.{Message, Messages}
 use Rattle.heads.specs.ReadingLaws.{messages_cut}
-use Rattle.http_edge.specs.Schedule.{Connection, connection_at}
+use Rattle.http_edge.specs.Schedule.{Connection, connection_at, has_ended}
 use Rattle.http_edge.specs.Lanes.{SeenLane, lane_at, IsHearing, ShowsConnections}
 use Rattle.http_edge.specs.Edges.{SeenEdge, IsOpenRefusal, IsEndRefusal, IsBytesRefusal, MayHear}
 use Rattle.http_edge.specs.Refusals.{MaySend, Completes, IsPieceRefusal, IsOpeningRefusal, IsEndingRefusal, IsEventRefusal, Refuses}
@@ -21,10 +21,7 @@ module _ (lanes : List SeenLane) (ks : List Connection) (c : ℕ) (shows : Shows
   hearing_is None e = rw (shows_none lanes ks c shows e) ((λ x. x), (λ x. x))
   hearing_is (Some lane) e =
       let at = shows_here lanes ks c lane shows e in
-      rw at.1 (
-        elim [ inl p ↦ inl (sym at.2.phase ∙ p) | inr p ↦ inr (sym at.2.phase ∙ p) ],
-        elim [ inl p ↦ inl (at.2.phase ∙ p) | inr p ↦ inr (at.2.phase ∙ p) ],
-      )
+      rw at.1 ((λ hears. sym (ap has_ended at.2.phase) ∙ hears), (λ hears. ap has_ended at.2.phase ∙ hears))
 
   not_hearing : ¬ (IsHearing (lane_at lanes c)) → ¬ (MaySend (connection_at ks c))
   not_hearing not may = not ((hearing_is (lane_at lanes c) refl).1 may)

@@ -2,9 +2,9 @@
 use Rattle.std.proofs.Common.{◌≡◌, ℕ, List, [], ◌∷◌, ◌++◌, Option, Some, None, Bool, true, false, not, cond, eqb, length, refl, sym, ap, subst, arith}
 use Rattle.std.specs.Prelude.{◌==◌, is_some}
 use Rattle.std.proofs.lemmas.Bool.{false≢true}
-use Rattle.http_edge.specs.Schedule.{Connection, connection_at, with_connection, without_connection, untaken}
-use Rattle.http_edge.specs.Reached.{is_closing}
-use Rattle.http_edge.specs.Lanes.{SeenLane, lane_at, with_lane, without_lane, output_in, is_closing_phase, is_closing_lane, ShowsConnection, ShowsConnections}
+use Rattle.http_edge.specs.Schedule.{Connection, is_closing_phase, connection_at, with_connection, without_connection, untaken}
+use Rattle.http_edge.specs.Reached.{IsHeld, is_closing}
+use Rattle.http_edge.specs.Lanes.{SeenLane, lane_at, with_lane, without_lane, output_in, rest_in, is_closing_lane, ShowsConnection, ShowsConnections}
 
 same_lane : (a b : SeenLane) → Some a ≡ Some b → a ≡ b
 same_lane a b e = ap (λ o. elim o [ Some x ↦ x | None ↦ a ]) e
@@ -86,3 +86,12 @@ shows_output lanes ks c s = (shows_one lanes ks c (lane_at lanes c) s refl).0
 
 pub shows_closing : (lanes : List SeenLane) (ks : List Connection) (c : ℕ) → ShowsConnections lanes ks → is_closing_lane (lane_at lanes c) ≡ is_closing (connection_at ks c)
 shows_closing lanes ks c s = (shows_one lanes ks c (lane_at lanes c) s refl).1
+
+held_of : (lanes : List SeenLane) (ks : List Connection) (c : ℕ) (o : Option SeenLane) → ShowsConnections lanes ks → lane_at lanes c ≡ o → IsHeld (connection_at ks c) (length (rest_in o))
+held_of lanes ks c None s e = rw (shows_none lanes ks c s e) refl
+held_of lanes ks c (Some lane) s e =
+    let at = shows_here lanes ks c lane s e in
+    rw at.1 ((λ is_open. (lane.rest, at.2.rest is_open, refl)), (λ closed. ap length (at.2.nothing_held closed)))
+
+pub shows_held : (lanes : List SeenLane) (ks : List Connection) (c : ℕ) → ShowsConnections lanes ks → IsHeld (connection_at ks c) (length (rest_in (lane_at lanes c)))
+shows_held lanes ks c s = held_of lanes ks c (lane_at lanes c) s refl

@@ -1,9 +1,9 @@
 -- What the edge keeps of connections.
-use Rattle.std.specs.Prelude.{◌≡◌, ◌≤◌, ◌⊎◌, ℕ, List, [], ◌∷◌, Option, Some, None, ◌==◌, find, filter, not, Bool, true, false, if◌then◌else◌, length, ⊤}
+use Rattle.std.specs.Prelude.{◌≡◌, ◌≢◌, ◌≤◌, ℕ, List, [], ◌∷◌, Option, Some, None, ◌==◌, find, filter, not, Bool, false, if◌then◌else◌, length, ⊤}
 use Rattle.heads.specs.Message.{Messages}
-use Rattle.http_edge.specs.Schedule.{Connection, untaken}
+use Rattle.http_edge.specs.Schedule.{Connection, has_ended, is_closing_phase, untaken}
 use Rattle.http_edge.specs.declared.lane.Phase.{Phase}
-use Rattle.http_edge.specs.declared.lane.Phase.TheVariants.{Open, Closing}
+use Rattle.http_edge.specs.declared.lane.Phase.TheVariants.{Open}
 
 -- a connection's rest that was not read, and its output that was not taken
 pub record SeenLane : Type 0 where
@@ -35,11 +35,6 @@ abbrev pub rest_in : Option SeenLane → List ℕ
 rest_in None = []
 rest_in (Some lane) = lane.rest
 
--- the 400 of a faulty head was given
-abbrev pub is_closing_phase : Phase → Bool
-is_closing_phase Closing = true
-is_closing_phase phase = false
-
 abbrev pub is_closing_lane : Option SeenLane → Bool
 is_closing_lane None = false
 is_closing_lane (Some lane) = is_closing_phase lane.phase
@@ -47,7 +42,7 @@ is_closing_lane (Some lane) = is_closing_phase lane.phase
 -- bytes may still come
 abbrev pub IsHearing : Option SeenLane → Type 0
 IsHearing None = ⊥
-IsHearing (Some lane) = (lane.phase ≡ Open) ⊎ (lane.phase ≡ Closing)
+IsHearing (Some lane) = has_ended lane.phase ≡ false
 
 -- what is kept of a connection is what is known of it: an open one's rest is that of its whole stream
 pub record ShowsConnection (lane : SeenLane) (k : Connection) : Type 0 where
@@ -56,6 +51,7 @@ pub record ShowsConnection (lane : SeenLane) (k : Connection) : Type 0 where
   pub within : k.taken ≤ length k.output
   pub output : lane.output ≡ untaken (Some k)
   pub rest : k.phase ≡ Open → Messages k.stream k.messages lane.rest
+  pub nothing_held : k.phase ≢ Open → lane.rest ≡ []
 
 -- of all connections, in their order
 abbrev pub ShowsConnections : List SeenLane → List Connection → Type 0

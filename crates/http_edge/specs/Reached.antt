@@ -1,14 +1,16 @@
 -- The edges that a schedule leads to.
-use Rattle.std.specs.Prelude.{ℕ, List, [], ◌∷◌, ◌++◌, Bool, false, Option, Some, None}
+use Rattle.std.specs.Prelude.{◌≡◌, ◌≢◌, length, ℕ, List, [], ◌∷◌, ◌++◌, Bool, false, Option, Some, None}
 use Rattle.hook_host.specs.declared.host.HookHost.{Ghosts as Hosting}
 use Rattle.clients.specs.RegistryRecord.{RegistryRecord}
 use Rattle.messages.specs.declared.request.Draws.{Draws}
 use Rattle.endpoints.specs.Server.{FitsServer}
+use Rattle.heads.specs.Message.{Messages}
 use Rattle.endpoints.specs.Bounded.{IsBounded}
 use Rattle.http_edge.specs.Answers.{Mark}
-use Rattle.http_edge.specs.Schedule.{World, Connection, Happening, Came, Happens, Run, start}
-use Rattle.http_edge.specs.Lanes.{ShowsConnections, is_closing_phase}
+use Rattle.http_edge.specs.Schedule.{World, Connection, Happening, Came, Happens, Run, is_closing_phase, start}
+use Rattle.http_edge.specs.Lanes.{ShowsConnections}
 use Rattle.http_edge.specs.Edges.{SeenEdge}
+use Rattle.http_edge.specs.declared.lane.Phase.TheVariants.{Open}
 
 -- The schedule leads to the world, and the edge shows it: its server answers as the world's history says, its host comes
 -- from the first one by that history, and it keeps of each connection what is known of it. Every token of that history
@@ -48,7 +50,13 @@ PieceLeads hosting old new c piece moment draws =
     (rules : RegistryRecord) (first : _) (schedule : List Happening) (world : World) → Reached hosting old rules first schedule world →
     PieceGoesOn hosting new rules first schedule world c piece moment draws
 
--- the connection had the 400 of a faulty head
+-- So many bytes of the connection's stream are in no message yet. None are kept where it is not there, where it ended, or
+-- where a faulty head was told of
+abbrev pub IsHeld : Option Connection → ℕ → Type 0
+IsHeld None n = n ≡ 0
+IsHeld (Some k) n = (k.phase ≡ Open → (rest : List ℕ) × Messages k.stream k.messages rest × (n ≡ length rest)) × (k.phase ≢ Open → n ≡ 0)
+
+-- the connection was answered the 400 of a faulty head, whether or not its stream has ended since
 abbrev pub is_closing : Option Connection → Bool
 is_closing None = false
 is_closing (Some k) = is_closing_phase k.phase

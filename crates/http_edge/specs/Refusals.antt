@@ -1,13 +1,13 @@
 -- Why an event is refused.
-use Rattle.std.specs.Prelude.{◌≡◌, ◌≤◌, ◌<◌, ◌⊎◌, ◌++◌, ℕ, List, Option, Some, None, IsSome, length}
+use Rattle.std.specs.Prelude.{◌≡◌, ◌≤◌, ◌<◌, ◌++◌, ℕ, List, false, Option, Some, None, IsSome, length}
 use Rattle.hook_host.specs.declared.host.HookHost.{Ghosts as Hosting}
 use Rattle.messages.specs.declared.request.Draws.{Draws}
 use Rattle.heads.specs.Message.{Message, Messages}
 use Rattle.http_edge.specs.Limits.{connection_limit, piece_limit, request_limit}
-use Rattle.http_edge.specs.Schedule.{Connection, connection_at}
+use Rattle.http_edge.specs.Schedule.{Connection, connection_at, has_ended}
 use Rattle.http_edge.specs.Edges.{SeenEdge}
 use Rattle.http_edge.specs.Reached.{InEach}
-use Rattle.http_edge.specs.declared.lane.Phase.TheVariants.{Open, Closing}
+use Rattle.http_edge.specs.declared.lane.Phase.TheVariants.{Open}
 use Rattle.http_edge.specs.declared.event.Event.{Event}
 use Rattle.http_edge.specs.declared.event.Event.TheVariants as event
 use Rattle.http_edge.specs.declared.fault.EdgeFault.{EdgeFault}
@@ -16,7 +16,7 @@ use Rattle.http_edge.specs.declared.fault.EdgeFault.TheVariants.{TooMany, NotOpe
 -- bytes may still come on the connection
 abbrev pub MaySend : Option Connection → Type 0
 MaySend None = ⊥
-MaySend (Some k) = (k.phase ≡ Open) ⊎ (k.phase ≡ Closing)
+MaySend (Some k) = has_ended k.phase ≡ false
 
 -- The connection is open, the piece is not too long, and these are the messages that it completes
 pub record Completes (connections : List Connection) (c : ℕ) (piece : List ℕ) (messages : List Message) : Type 0 where

@@ -1,5 +1,5 @@
 -- What came and went on connections, and what the server's outputs are then.
-use Rattle.std.specs.Prelude.{◌≡◌, ◌≢◌, ◌⊎◌, ◌≤◌, ◌<◌, ◌+◌, ℕ, List, [], ◌∷◌, ◌++◌, Bool, true, false, not, Option, Some, None, ◌==◌, if◌then◌else◌, find, filter, length, drop, map, max}
+use Rattle.std.specs.Prelude.{◌≡◌, ◌⊎◌, ◌≤◌, ◌<◌, ◌+◌, ℕ, List, [], ◌∷◌, ◌++◌, Bool, true, false, not, Option, Some, None, ◌==◌, if◌then◌else◌, find, filter, length, drop, map, max}
 use Rattle.hook_host.specs.declared.host.HookHost.{Ghosts as Hosting}
 use Rattle.clients.specs.RegistryRecord.{RegistryRecord}
 use Rattle.consent.specs.History.{Event, with_changes}
@@ -10,7 +10,7 @@ use Rattle.heads.specs.Message.{Message, Messages, IsHopeless, MustTell, asked_o
 use Rattle.http_edge.specs.Limits.{connection_limit, piece_limit, request_limit}
 use Rattle.http_edge.specs.Answers.{Mark, AreAnswered, changes_of, replies_of}
 use Rattle.http_edge.specs.declared.lane.Phase.{Phase}
-use Rattle.http_edge.specs.declared.lane.Phase.TheVariants.{Open, Closing, Ended}
+use Rattle.http_edge.specs.declared.lane.Phase.TheVariants.{Open, Closing, Ended, Closed}
 
 -- an accepted event, with what was free in it: a mark for each request that it completed, and whether the 400 of a
 -- faulty head was given
@@ -20,6 +20,24 @@ pub data Happening : Type 0 where
   HasEnded : (c : ℕ) → Happening
   Taken : (c n : ℕ) → Happening
   Forgotten : (c : ℕ) → Happening
+
+-- its stream has ended
+abbrev pub has_ended : Phase → Bool
+has_ended Open = false
+has_ended Closing = false
+has_ended Ended = true
+has_ended Closed = true
+
+-- the 400 of a faulty head was given
+abbrev pub is_closing_phase : Phase → Bool
+is_closing_phase Open = false
+is_closing_phase Closing = true
+is_closing_phase Ended = false
+is_closing_phase Closed = true
+
+-- the phase once the stream has ended
+abbrev pub ended : Phase → Phase
+ended phase = if is_closing_phase phase then Closed else Ended
 
 -- a connection from its opening on: all that came, the messages that were answered, all its output, and how much of
 -- that was taken
@@ -130,9 +148,9 @@ pub record Opens (old new : World) (c : ℕ) : Type 0 where
 pub record Ends (old new : World) (c : ℕ) : Type 0 where
   pub before : Connection
   pub here : connection_at old.connections c ≡ Some before
-  pub not_ended : before.phase ≢ Ended
+  pub not_ended : has_ended before.phase ≡ false
   pub still : IsStill old new
-  pub connections : new.connections ≡ with_connection c (record before { phase = Ended }) old.connections
+  pub connections : new.connections ≡ with_connection c (record before { phase = ended before.phase }) old.connections
 
 -- so many bytes of a connection's output are taken
 pub record Takes (old new : World) (c n : ℕ) : Type 0 where

@@ -4,14 +4,14 @@ ghost use Rattle.std.specs.Option.{option_copied};
 ghost use Rattle.std.specs.List.{position};
 ghost use Rattle.clients.specs.RegistryRecord.{RegistryRecord};
 ghost use Rattle.endpoints.specs.Server.{FitsServer};
-ghost use Rattle.http_edge.specs.declared.lane.Phase.TheVariants.{Open, Ended};
+ghost use Rattle.http_edge.specs.declared.lane.Phase.TheVariants.{Open};
 ghost use Rattle.http_edge.specs.Limits.{piece_limit, room_to_hear};
-ghost use Rattle.http_edge.specs.Schedule.{HasEnded, Opened, Taken, Forgotten, start, connection_at, untaken};
+ghost use Rattle.http_edge.specs.Schedule.{HasEnded, Opened, Taken, Forgotten, start, connection_at, ended, untaken};
 ghost use Rattle.http_edge.specs.Lanes.{lane_at, fresh_lane, without_lane, rest_in, output_in, is_closing_lane};
 ghost use Rattle.http_edge.specs.Places.{IsPosition};
 ghost use Rattle.http_edge.specs.Heard.{LaneHeard, IsHearingRefusal};
 ghost use Rattle.http_edge.specs.Edges.{output_of, IsOpenRefusal, IsEndRefusal, IsBytesRefusal};
-ghost use Rattle.http_edge.specs.Reached.{Reached, InEach, Leads, PieceLeads, is_closing};
+ghost use Rattle.http_edge.specs.Reached.{Reached, InEach, Leads, PieceLeads, is_closing, IsHeld};
 ghost use Rattle.http_edge.specs.Events.{EventLeads};
 ghost use Rattle.http_edge.specs.Refusals.{Refuses};
 
@@ -78,7 +78,7 @@ fn is_closing(lanes: &[Lane], c: u32) -> bool
     ensures { result ≡ is_closing_lane (lane_at lanes.now c) }
 {
     match lane_of(lanes, c) {
-        Some(lane) => lane.phase == Phase::Closing,
+        Some(lane) => lane.phase.is_closing(),
         None => false,
     }
 }
@@ -89,6 +89,15 @@ fn output_in(lanes: &[Lane], c: u32) -> &[u8]
     match lane_of(lanes, c) {
         Some(lane) => lane.output.as_slice(),
         None => &[],
+    }
+}
+
+fn held_in(lanes: &[Lane], c: u32) -> usize
+    ensures { result ≡ length (rest_in (lane_at lanes.now c)) }
+{
+    match lane_of(lanes, c) {
+        Some(lane) => lane.rest.len(),
+        None => 0,
     }
 }
 
@@ -135,9 +144,9 @@ fn remove_lane(lanes: &mut Vec<Lane>, c: u32)
 }
 
 fn end_lane(lane: &mut Lane)
-    ensures { lane.new ≡ record { number = lane.old.number; phase = Ended; rest = []; output = lane.old.output } }
+    ensures { lane.new ≡ record { number = lane.old.number; phase = ended lane.old.phase; rest = []; output = lane.old.output } }
 {
-    lane.phase = Phase::Ended;
+    lane.phase = lane.phase.ended();
     lane.rest.clear();
 }
 
@@ -201,7 +210,7 @@ impl<H: HookHost> Edge<H> {
         }
     }
 
-    /// Whether the connection was answered the 400 of a faulty head.
+    /// Whether the connection was answered the 400 of a faulty head, also after its stream has ended.
     pub fn closing(&self, c: u32) -> bool
         ensures { InEach H.HookHost self.now (λ world. result ≡ is_closing (connection_at world.connections c)) }
     {
@@ -216,14 +225,13 @@ impl<H: HookHost> Edge<H> {
         output_in(&self.lanes, c)
     }
 
-    /// How many bytes from the connection are kept: those that no message was made of yet.
+    /// How many bytes from the connection are kept: those that no message was made of yet. 0 where its stream has ended, or
+    /// it was answered the 400 of a faulty head.
     pub fn held(&self, c: u32) -> usize
-        ensures { result ≡ length (rest_in (lane_at self.now.lanes c)) }
+        ensures kept { result ≡ length (rest_in (lane_at self.now.lanes c)) }
+        ensures held { InEach H.HookHost self.now (λ world. IsHeld (connection_at world.connections c) result) }
     {
-        match lane_of(&self.lanes, c) {
-            Some(lane) => lane.rest.len(),
-            None => 0,
-        }
+        held_in(&self.lanes, c)
     }
 
     // A connection is opened.
@@ -262,13 +270,13 @@ impl<H: HookHost> Edge<H> {
         let Some(i) = place_of(&self.lanes, c) else {
             return Err(EdgeFault::NotOpen);
         };
-        if self.lanes[i].phase == Phase::Ended {
+        if self.lanes[i].phase.has_ended() {
             return Err(EdgeFault::NotOpen);
         }
         if piece.len() > PIECE_LIMIT {
             return Err(EdgeFault::PieceTooLong);
         }
-        if self.lanes[i].phase == Phase::Closing {
+        if self.lanes[i].phase.is_closing() {
             return Ok(());
         }
         if let Err(fault) = hear_lane(
@@ -293,7 +301,7 @@ impl<H: HookHost> Edge<H> {
         let Some(i) = place_of(&self.lanes, c) else {
             return Err(EdgeFault::NotOpen);
         };
-        if self.lanes[i].phase == Phase::Ended {
+        if self.lanes[i].phase.has_ended() {
             return Err(EdgeFault::NotOpen);
         }
         end_lane(&mut self.lanes[i]);

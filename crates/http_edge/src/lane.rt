@@ -1,4 +1,7 @@
 //! What is kept of a connection.
+ghost use Rattle.std.specs.Prelude.{◌≡◌};
+ghost use Rattle.http_edge.specs.Schedule.{ended, has_ended, is_closing_phase};
+
 use crate::rest::Rest;
 use std::marker::Model;
 
@@ -7,10 +10,45 @@ use std::marker::Model;
 pub enum Phase {
     /// It sends requests.
     Open,
-    /// It was answered the 400 of a faulty head.
+    /// It was answered the 400 of a faulty head. What comes is dropped.
     Closing,
-    /// It sends no more.
+    /// Its stream has ended.
     Ended,
+    /// It was answered the 400 of a faulty head, and then its stream ended.
+    Closed,
+}
+
+impl Phase {
+    /// Whether its stream has ended.
+    pub(crate) fn has_ended(self) -> bool
+        ensures { result ≡ has_ended self }
+    {
+        match self {
+            Phase::Open | Phase::Closing => false,
+            Phase::Ended | Phase::Closed => true,
+        }
+    }
+
+    /// Whether it was answered the 400 of a faulty head.
+    pub(crate) fn is_closing(self) -> bool
+        ensures { result ≡ is_closing_phase self }
+    {
+        match self {
+            Phase::Closing | Phase::Closed => true,
+            Phase::Open | Phase::Ended => false,
+        }
+    }
+
+    /// The phase in which it is once its stream has ended.
+    pub(crate) fn ended(self) -> Phase
+        ensures { result ≡ ended self }
+    {
+        if self.is_closing() {
+            Phase::Closed
+        } else {
+            Phase::Ended
+        }
+    }
 }
 
 /// A connection: its rest that no message was made of yet, and its output that was not taken yet.

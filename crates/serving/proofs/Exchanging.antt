@@ -8,10 +8,9 @@ use Rattle.messages.specs.declared.request.Draws.{Draws}
 use Rattle.heads.specs.Message.{Messages}
 use Rattle.heads.specs.ReadingLaws.{nothing_has_none}
 use Rattle.http_edge.specs.Answers.{Mark, replies_of}
-use Rattle.http_edge.specs.Schedule.{World, Connection, Happening, Opened, Came, HasEnded, Taken, Comes, Passes, Opens, Ends, Takes, connection_at, fresh, heard, untaken, faulty_if}
+use Rattle.http_edge.specs.Schedule.{ended, World, Connection, Happening, Opened, Came, HasEnded, Taken, Comes, Passes, Opens, Ends, Takes, connection_at, fresh, heard, untaken, faulty_if}
 use Rattle.http_edge.specs.Edges.{SeenEdge, output_of}
 use Rattle.http_edge.specs.Reached.{Reached, GoesOn, Leads, PieceLeads, is_closing}
-use Rattle.http_edge.specs.declared.lane.Phase.TheVariants as Phase
 use Rattle.serving.specs.Streams.{Doing, Received, ReadFailed, Sent, Carries, nothing, receives, sends, fails_to_receive, fails_to_send}
 use Rattle.serving.specs.Served.{Scene, Stage, Coming, Reading, Finished, Ended, Served, Left, MayWrite, IsAttentive, Writes, WriteFails, Step, Runs, none, more, begins, goes, opens, denies, hears, refuses, loses_time, breaks, finishes, stops, closes, ends, ends_nothing, is_over, writes, fails_to_write, forgets}
 use Rattle.serving.specs.Answered.{Exchange, MayLose, IsServed, IsDenied, Answers}
@@ -135,7 +134,7 @@ module _ {H S : Type 0} (hosting : Hosting H) (does : S → Doing → S → Type
       let ending : Ends x.world on.world c = on.happens in
       let k = ending.before in
       let same : x.connection ≡ k = same_connection x.connection k (sym x.here ∙ ending.here) in
-      let k' : Connection = record k { phase = Phase.Ended } in
+      let k' : Connection = record k { phase = ended k.phase } in
       record {
         heard = x.heard;
         written = x.written;

@@ -5,8 +5,7 @@ use Rattle.std.proofs.lemmas.Bool.Decides.{nat_tests}
 use Rattle.hook_host.specs.declared.host.HookHost.{Ghosts as Hosting}
 use Rattle.clients.specs.RegistryRecord.{RegistryRecord}
 use Rattle.http_edge.specs.Answers.{Mark}
-use Rattle.http_edge.specs.declared.lane.Phase.TheVariants.{Ended}
-use Rattle.http_edge.specs.Schedule.{World, Connection, Happening, Opened, Came, HasEnded, Taken, Forgotten, Comes, Passes, Happens, Run, start, fresh, heard, connection_at, with_connection}
+use Rattle.http_edge.specs.Schedule.{ended, World, Connection, Happening, Opened, Came, HasEnded, Taken, Forgotten, Comes, Passes, Happens, Run, start, fresh, heard, connection_at, with_connection}
 use Rattle.http_edge.specs.Lanes.{SeenLane, lane_at, output_in, ShowsConnections}
 use Rattle.http_edge.specs.Edges.{SeenEdge}
 use Rattle.transcript.specs.Lines.{Statement, Opens, Brings, Ends}
@@ -110,7 +109,7 @@ happens_whole hosting rules first old new line (Came c piece moment draws marks 
         (with_whole old.connections ns c comes.before (heard comes.before piece comes.messages comes.outcomes closes) comes.here refl refl whole)
     by_way (inr passes) = subst (λ (w : World). AreWhole w.connections ns) (sym passes.same) whole
 happens_whole hosting rules first old new line (HasEnded c) ns stands h whole =
-    same_numbers new.connections ns (subst (λ (ks : List Connection). AreWhole ks ns) (sym h.connections) (with_whole old.connections ns c h.before (record h.before { phase = Ended }) h.here refl refl whole))
+    same_numbers new.connections ns (subst (λ (ks : List Connection). AreWhole ks ns) (sym h.connections) (with_whole old.connections ns c h.before (record h.before { phase = ended h.before.phase }) h.here refl refl whole))
 happens_whole hosting rules first old new line (Taken c n) ns stands h whole = absurd ((not_stated stands.statement (Taken c n) stands.marks stands.closes stands.event_is).0 c n refl)
 happens_whole hosting rules first old new line (Forgotten c) ns stands h whole = absurd ((not_stated stands.statement (Forgotten c) stands.marks stands.closes stands.event_is).1 c refl)
 

@@ -2,23 +2,27 @@ use Rattle.std.proofs.Common.{◌≡◌, ◌∙◌, Some, refl, sym, ap, arith}
 use Rattle.http_edge.specs.Lanes.{SeenLane}
 use Rattle.http_edge.specs.Places.{IsPlace}
 use Rattle.http_edge.specs.Edges.{MayHear}
-use Rattle.http_edge.specs.declared.lane.Phase.TheVariants.{Open}
+use Rattle.http_edge.specs.declared.lane.Phase.TheVariants.{Open, Closing}
 use Rattle.http_edge.proofs.Phases.{closing_by, open_by}
 use Rattle.http_edge.proofs.Placing.{lane_is, put_at}
 use Rattle.http_edge.proofs.Refusing.{refused_is}
 use Rattle.http_edge.proofs.Going.{on_passed, on_heard}
 use Rattle.http_edge.proofs.edge.Edge.hear.Goals as goal
 
-pub returns-then-eq-2-clause-done : goal.returns-then-eq-2-clause-done
-returns-then-eq-2-clause-done g c = λ rules first schedule world reached.
+pub returns-then-is_closing-clause-done : goal.returns-then-is_closing-clause-done
+returns-then-is_closing-clause-done g c = λ rules first schedule world reached.
     let lanes = c.self.inside.lanes.items in
     let now = rw (← c.self.view_is) at reached in
     let place : IsPlace lanes c.args.c c.in-Some.i = rw c.deref.ensures.value at c.in-Some.ensures in
-    let read = lane_is lanes c.args.c c.in-Some.i c.index-2.result.now place c.index-2.ensures in
-    let seen : c.behind-self-2.inside.phase ≡ place.lane.phase = ap (λ (l : SeenLane). l.phase) c.behind-self-2.view_is ∙ ap (λ (l : SeenLane). l.phase) (sym read) in
-    let closing = closing_by c.behind-self-2.inside.phase (sym c.eq-2.ensures ∙ c.if-eq-2.true) in
+    let read = lane_is lanes c.args.c c.in-Some.i c.index.result.now place c.index.ensures in
+    let read-2 = lane_is lanes c.args.c c.in-Some.i c.index-2.result.now place c.index-2.ensures in
+    let seen : c.behind-self.inside.phase ≡ place.lane.phase = ap (λ (l : SeenLane). l.phase) c.behind-self.view_is ∙ ap (λ (l : SeenLane). l.phase) (sym read) in
+    let seen-2 : c.behind-self-2.inside.phase ≡ place.lane.phase = ap (λ (l : SeenLane). l.phase) c.behind-self-2.view_is ∙ ap (λ (l : SeenLane). l.phase) (sym read-2) in
+    let not_ended = rw seen at (sym c.has_ended.ensures ∙ c.if-has_ended.false) in
+    let told = rw seen-2 at (sym c.is_closing.ensures ∙ c.if-is_closing.true) in
+    let closing : place.lane.phase ≡ Closing = closing_by place.lane.phase not_ended told in
     rw (← c.self.view_is)
-    (on_passed g.H.HookHost _ _ c.args.c place.lane c.args.piece.now c.args.moment c.args.draws.now refl refl place.here (sym seen ∙ closing) (let test = c.if-piece-gt-PIECE_LIMIT.false in omega (arith, test)) rules first schedule world now)
+    (on_passed g.H.HookHost _ _ c.args.c place.lane c.args.piece.now c.args.moment c.args.draws.now refl refl place.here closing (let test = c.if-piece-gt-PIECE_LIMIT.false in omega (arith, test)) rules first schedule world now)
 
 pub returns-clause-done : goal.returns-clause-done
 returns-clause-done g c = λ rules first schedule world reached.
@@ -31,8 +35,8 @@ returns-clause-done g c = λ rules first schedule world reached.
     let read-2 = lane_is lanes c.args.c c.in-Some.i c.index-2.result.now place c.index-2.ensures in
     let seen : c.behind-self.inside.phase ≡ r.phase = ap (λ (l : SeenLane). l.phase) c.behind-self.view_is ∙ ap (λ (l : SeenLane). l.phase) (sym read ∙ same) in
     let seen-2 : c.behind-self-2.inside.phase ≡ r.phase = ap (λ (l : SeenLane). l.phase) c.behind-self-2.view_is ∙ ap (λ (l : SeenLane). l.phase) (sym read-2 ∙ same) in
-    let not_ended = rw seen at (sym c.eq.ensures ∙ c.if-eq.false) in
-    let not_closing = rw seen-2 at (sym c.eq-2.ensures ∙ c.if-eq-2.false) in
+    let not_ended = rw seen at (sym c.has_ended.ensures ∙ c.if-has_ended.false) in
+    let not_closing = rw seen-2 at (sym c.is_closing.ensures ∙ c.if-is_closing.false) in
     let opened : r.phase ≡ Open = open_by r.phase not_ended not_closing in
     on_heard g.H.HookHost _ _ c.args.c r c.hear_lane.new.lane c.args.piece.now c.args.moment c.args.draws.now (place.here ∙ ap Some same) opened (let test = c.if-piece-gt-PIECE_LIMIT.false in omega (arith, test)) c.in_default-hear_lane.ensures.heard
     (put_at lanes c.args.c c.in-Some.i place c.hear_lane.new.lane c.hear_lane.new.lane refl) rules first schedule world now
@@ -47,8 +51,8 @@ returns-in-Err-clause-refused g c =
     let read-2 = lane_is lanes c.args.c c.in-Some.i c.index-2.result.now place c.index-2.ensures in
     let seen : c.behind-self.inside.phase ≡ r.phase = ap (λ (l : SeenLane). l.phase) c.behind-self.view_is ∙ ap (λ (l : SeenLane). l.phase) (sym read ∙ same) in
     let seen-2 : c.behind-self-2.inside.phase ≡ r.phase = ap (λ (l : SeenLane). l.phase) c.behind-self-2.view_is ∙ ap (λ (l : SeenLane). l.phase) (sym read-2 ∙ same) in
-    let not_ended = rw seen at (sym c.eq.ensures ∙ c.if-eq.false) in
-    let not_closing = rw seen-2 at (sym c.eq-2.ensures ∙ c.if-eq-2.false) in
+    let not_ended = rw seen at (sym c.has_ended.ensures ∙ c.if-has_ended.false) in
+    let not_closing = rw seen-2 at (sym c.is_closing.ensures ∙ c.if-is_closing.false) in
     let opened : r.phase ≡ Open = open_by r.phase not_ended not_closing in
     let may : MayHear lanes c.args.c c.args.piece.now = record { lane = r; here = place.here ∙ ap Some same; is_open = opened; short = let test = c.if-piece-gt-PIECE_LIMIT.false in omega (arith, test) } in
     rw (← c.self.view_is) (refused_is c.in-Err.fault lanes c.args.c c.args.piece.now c.args.draws.now may c.in-Err.ensures.refused)
