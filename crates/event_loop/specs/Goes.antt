@@ -7,8 +7,6 @@ use Rattle.http_edge.specs.Schedule.{World, Connection, Happening, connection_at
 use Rattle.http_edge.specs.Edges.{SeenEdge}
 use Rattle.http_edge.specs.Reached.{Reached, InEach}
 use Rattle.http_edge.specs.declared.fault.EdgeFault.{EdgeFault}
-use Rattle.event_loop.specs.declared.clocks.Times.{Times}
-use Rattle.event_loop.specs.declared.fault.ConnectionFault.{ConnectionFault}
 use Rattle.event_loop.specs.declared.fault.LoopFault.{LoopFault}
 use Rattle.event_loop.specs.declared.place.Place.{Place}
 use Rattle.event_loop.specs.declared.queue.Queue.TheVariants.{Told, Barred, Waits}
@@ -22,9 +20,6 @@ use Rattle.event_loop.specs.Scenes.{Promises, Scene}
 use Rattle.event_loop.specs.Closing.{IsSilentLongest, AreWithin, Closes}
 use Rattle.event_loop.specs.Served.{HadTurn, Served, Shuts}
 use Rattle.event_loop.specs.Ends.{Fails}
-
-abbrev pub promises : {N C J H : Type 0} → (N → Deed → N → Type 0) → (C → Option Times → C → Type 0) → (J → ConnectionFault → J → Type 0) → Hosting H → Promises N C J H
-promises does tells notes hosting = record { does = does; tells = tells; notes = notes; hosting = hosting }
 
 -- it holds of the connection, wherever the edge was reached
 abbrev pub WhereKnown : {H : Type 0} → Hosting H → SeenEdge H → ℕ → (Option Connection → Type 0) → Type 0

@@ -5,7 +5,8 @@ ghost use Rattle.event_loop.specs.declared.queue.Queue.TheVariants.{Told, Waits}
 ghost use Rattle.event_loop.specs.declared.sockets.Ready.{Ready};
 ghost use Rattle.event_loop.specs.Places.{IsFreeAt, AllTaken};
 ghost use Rattle.event_loop.specs.Closing.{AreWithin};
-ghost use Rattle.event_loop.specs.Goes.{IsTried, LeadsToAccepts, promises};
+ghost use Rattle.event_loop.specs.Goes.{IsTried, LeadsToAccepts};
+ghost use Rattle.event_loop.specs.Scenes.{promises};
 
 use crate::clocks::Clocks;
 use crate::fault::ConnectionFault;

@@ -5,7 +5,8 @@ ghost use Rattle.event_loop.specs.declared.sockets.Ready.{Ready};
 ghost use Rattle.event_loop.specs.Places.{AllFree, IsFreeAt, IsTaken, IsOver};
 ghost use Rattle.event_loop.specs.Closing.{AreWithin, freed_queue};
 ghost use Rattle.event_loop.specs.declared.queue.Queue.TheVariants.{Waits};
-ghost use Rattle.event_loop.specs.Goes.{IsLongestAt, IsTried, WhereKnown, LeadsAway, LeadsShut, LeadsTo, LeadsToTidy, promises};
+ghost use Rattle.event_loop.specs.Goes.{IsLongestAt, IsTried, WhereKnown, LeadsAway, LeadsShut, LeadsTo, LeadsToTidy};
+ghost use Rattle.event_loop.specs.Scenes.{promises};
 
 use crate::clocks::Clocks;
 use crate::journal::Journal;

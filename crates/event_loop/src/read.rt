@@ -3,7 +3,8 @@ ghost use Rattle.std.specs.Prelude.{◌≡◌, ◌<◌, ◌≤◌, true, false, 
 ghost use Rattle.http_edge.specs.Reached.{is_closing};
 ghost use Rattle.event_loop.specs.Deeds.{Reading};
 ghost use Rattle.event_loop.specs.Places.{MayRead, IsUnread};
-ghost use Rattle.event_loop.specs.Goes.{WhereKnown, LeadsToActs, LeadsToGiving, LeadsToRefusal, promises};
+ghost use Rattle.event_loop.specs.Goes.{WhereKnown, LeadsToActs, LeadsToGiving, LeadsToRefusal};
+ghost use Rattle.event_loop.specs.Scenes.{promises};
 
 use crate::clocks::Clocks;
 use crate::fault::ConnectionFault;

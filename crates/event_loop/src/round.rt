@@ -1,7 +1,8 @@
 //! Rounds.
 ghost use Rattle.std.specs.Prelude.{◌≡◌, ◌≤◌, length, true, false, OnOk, IfErr};
 ghost use Rattle.event_loop.specs.Places.{AllFree};
-ghost use Rattle.event_loop.specs.Goes.{IsBusy, IsLimit, MayRest, LeadsRound, LeadsWrong, promises};
+ghost use Rattle.event_loop.specs.Goes.{IsBusy, IsLimit, MayRest, LeadsRound, LeadsWrong};
+ghost use Rattle.event_loop.specs.Scenes.{promises};
 
 use crate::clocks::Clocks;
 use crate::fault::LoopFault;

@@ -1,7 +1,8 @@
 //! Turns.
 ghost use Rattle.std.specs.Prelude.{◌<◌, List, [], ◌∷◌};
 ghost use Rattle.event_loop.specs.declared.sockets.Ready.{Ready};
-ghost use Rattle.event_loop.specs.Goes.{LeadsToHearing, LeadsReading, LeadsWriting, LeadsToRest, promises};
+ghost use Rattle.event_loop.specs.Goes.{LeadsToHearing, LeadsReading, LeadsWriting, LeadsToRest};
+ghost use Rattle.event_loop.specs.Scenes.{promises};
 
 use crate::clocks::Clocks;
 use crate::journal::Journal;

@@ -2,7 +2,8 @@
 ghost use Rattle.std.specs.Prelude.{◌≡◌, ◌<◌, true, false};
 ghost use Rattle.event_loop.specs.Deeds.{Writing};
 ghost use Rattle.event_loop.specs.Places.{MayWrite, IsUnwritten};
-ghost use Rattle.event_loop.specs.Goes.{WhereKnown, LeadsToActs, promises};
+ghost use Rattle.event_loop.specs.Goes.{WhereKnown, LeadsToActs};
+ghost use Rattle.event_loop.specs.Scenes.{promises};
 
 use crate::clocks::Clocks;
 use crate::fault::ConnectionFault;

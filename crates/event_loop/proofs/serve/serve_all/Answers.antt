@@ -3,9 +3,9 @@ use Rattle.event_loop.specs.declared.clocks.Times.{Times}
 use Rattle.event_loop.specs.declared.queue.Queue.TheVariants.{Told, Empty, Barred}
 use Rattle.event_loop.specs.Places.{IsTaken}
 use Rattle.event_loop.specs.Closing.{AreWithin}
-use Rattle.event_loop.specs.Scenes.{Scene}
+use Rattle.event_loop.specs.Scenes.{Scene, promises}
 use Rattle.event_loop.specs.Served.{IsFirst, begins, stops}
-use Rattle.event_loop.specs.Goes.{Past, IsReady, scene_of, promises}
+use Rattle.event_loop.specs.Goes.{Past, IsReady, scene_of}
 use Rattle.event_loop.proofs.Answering.{served_answered}
 use Rattle.event_loop.proofs.Resting.{free_rests}
 use Rattle.event_loop.proofs.Leading.{rested_settled}

@@ -6,7 +6,8 @@ use Rattle.event_loop.specs.Deeds as deed
 use Rattle.event_loop.specs.Places.{IsAtRest}
 use Rattle.event_loop.specs.Coming.{opens, denies, finds_nobody, fails, fresh_place}
 use Rattle.event_loop.specs.Served.{goes, comes}
-use Rattle.event_loop.specs.Goes.{Past, promises}
+use Rattle.event_loop.specs.Goes.{Past}
+use Rattle.event_loop.specs.Scenes.{promises}
 use Rattle.event_loop.proofs.Doing.{one_more, done_then}
 use Rattle.event_loop.specs.declared.queue.Queue.TheVariants.{Told, Barred, Waits}
 use Rattle.event_loop.proofs.Putting.{put_within}

@@ -2,7 +2,8 @@ use Rattle.std.proofs.Common.{ℕ, List, ◌<◌, ◌≡◌}
 use Rattle.event_loop.specs.declared.sockets.Ready.{Ready}
 use Rattle.event_loop.specs.declared.queue.Queue.TheVariants.{Waits}
 use Rattle.event_loop.specs.Closing.{AreWithin}
-use Rattle.event_loop.specs.Goes.{IsTried, LeadsToAccepts, promises}
+use Rattle.event_loop.specs.Goes.{IsTried, LeadsToAccepts}
+use Rattle.event_loop.specs.Scenes.{promises}
 use Rattle.event_loop.proofs.service.Service.admit_all.Given as goal
 
 abbrev pub invariant-loop-nth : goal.invariant-loop-nth

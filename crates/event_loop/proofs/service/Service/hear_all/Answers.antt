@@ -1,7 +1,8 @@
 use Rattle.std.proofs.Common.{◌+◌, arith, subst, drop, add-one, drop-cons, ◌∷◌, ◌≡◌, List}
 use Rattle.std.proofs.lemmas.List.{drop_all}
 use Rattle.event_loop.specs.declared.sockets.Ready.{Ready}
-use Rattle.event_loop.specs.Goes.{LeadsToHearing, promises}
+use Rattle.event_loop.specs.Goes.{LeadsToHearing}
+use Rattle.event_loop.specs.Scenes.{promises}
 use Rattle.event_loop.proofs.service.Service.hear_all.Goals as goal
 
 pub loop-index-init : goal.loop-index-init

@@ -1,5 +1,6 @@
 use Rattle.std.proofs.Common.{drop}
-use Rattle.event_loop.specs.Goes.{LeadsToHearing, promises}
+use Rattle.event_loop.specs.Goes.{LeadsToHearing}
+use Rattle.event_loop.specs.Scenes.{promises}
 use Rattle.event_loop.proofs.service.Service.hear_all.Given as goal
 
 abbrev pub invariant-loop-index : goal.invariant-loop-index

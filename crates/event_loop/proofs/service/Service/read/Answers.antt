@@ -1,7 +1,7 @@
 use Rattle.std.proofs.Common.{refl, sym, subst, ◌∙◌, inl}
 use Rattle.http_edge.specs.Schedule.{connection_at}
 use Rattle.event_loop.specs.Places.{IsUnread}
-use Rattle.event_loop.specs.Goes.{promises}
+use Rattle.event_loop.specs.Scenes.{promises}
 use Rattle.event_loop.proofs.Answering.{served_answered}
 use Rattle.event_loop.proofs.Doing.{none_more}
 use Rattle.event_loop.proofs.Putting.{same_some}

@@ -1,4 +1,5 @@
-use Rattle.event_loop.specs.Goes.{LeadsReading, promises}
+use Rattle.event_loop.specs.Goes.{LeadsReading}
+use Rattle.event_loop.specs.Scenes.{promises}
 use Rattle.event_loop.proofs.service.Service.read_all.Given as goal
 
 abbrev pub invariant-loop-k : goal.invariant-loop-k

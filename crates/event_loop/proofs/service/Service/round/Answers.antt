@@ -4,7 +4,8 @@ use Rattle.event_loop.specs.Closing.{AreWithin}
 use Rattle.event_loop.specs.Deeds as deed
 use Rattle.event_loop.specs.Served.{goes, waits}
 use Rattle.event_loop.specs.Ends.{no_wait, no_time}
-use Rattle.event_loop.specs.Goes.{Past, scene_of, promises}
+use Rattle.event_loop.specs.Goes.{Past, scene_of}
+use Rattle.event_loop.specs.Scenes.{promises}
 use Rattle.event_loop.proofs.Doing.{done_then}
 use Rattle.event_loop.proofs.Leading.{to_then}
 use Rattle.event_loop.proofs.Leaving.{may_wait, told_or_not}

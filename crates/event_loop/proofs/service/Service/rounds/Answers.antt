@@ -1,6 +1,7 @@
 use Rattle.std.proofs.Common.{[], arith}
 use Rattle.event_loop.specs.Ends.{no_more}
-use Rattle.event_loop.specs.Goes.{scene_of, promises}
+use Rattle.event_loop.specs.Goes.{scene_of}
+use Rattle.event_loop.specs.Scenes.{promises}
 use Rattle.event_loop.proofs.Leading.{no_round, round_then, then_wrong}
 use Rattle.event_loop.proofs.service.Service.rounds.Goals as goal
 

@@ -7,7 +7,7 @@ use Rattle.event_loop.specs.Deeds.{Writing}
 use Rattle.event_loop.specs.Places.{IsUnwritten}
 use Rattle.event_loop.specs.Writing.{sends, finds_no_room, fails}
 use Rattle.event_loop.specs.Served.{goes, writes}
-use Rattle.event_loop.specs.Goes.{promises}
+use Rattle.event_loop.specs.Scenes.{promises}
 use Rattle.event_loop.proofs.Others.{takes_other}
 use Rattle.event_loop.proofs.Answering.{served_answered}
 use Rattle.event_loop.proofs.Doing.{none_more, one_more, not_another}

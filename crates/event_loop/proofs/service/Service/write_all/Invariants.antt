@@ -1,4 +1,5 @@
-use Rattle.event_loop.specs.Goes.{LeadsWriting, promises}
+use Rattle.event_loop.specs.Goes.{LeadsWriting}
+use Rattle.event_loop.specs.Scenes.{promises}
 use Rattle.event_loop.proofs.service.Service.write_all.Given as goal
 
 abbrev pub invariant-loop-k : goal.invariant-loop-k
