@@ -1,7 +1,7 @@
 //! Connections until the program is stopped.
 
 ghost use Rattle.std.specs.Prelude.{◌≡◌, [], OnOk, OnErr, IfOk};
-ghost use Rattle.event_loop.specs.Goes.{promises};
+ghost use Rattle.event_loop.specs.Scenes.{promises};
 ghost use Rattle.daemon.specs.Listening.{Announces};
 ghost use Rattle.daemon.specs.Started.{Serves, limits_of};
 

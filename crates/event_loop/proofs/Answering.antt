@@ -13,7 +13,7 @@ use Rattle.event_loop.specs.declared.place.Stage.TheVariants.{Free, Open, Ended,
 use Rattle.event_loop.specs.Deeds as deed
 use Rattle.event_loop.specs.Deeds.{Deed}
 use Rattle.event_loop.specs.Courses.{known, IsReached}
-use Rattle.event_loop.specs.Places.{IsTaken, IsServed, IsFreeAt, MayRead}
+use Rattle.event_loop.specs.Places.{IsTaken, IsServed, IsFreeAt, MayRead, read_limit}
 use Rattle.event_loop.specs.Scenes.{Promises, Scene}
 use Rattle.event_loop.specs.Coming.{Comes, opens, denies, finds_nobody, fails, asks, fresh_place}
 use Rattle.event_loop.specs.Reading as reading
@@ -21,7 +21,7 @@ use Rattle.event_loop.specs.Reading.{Reads, read_place}
 use Rattle.event_loop.specs.Writing as writing
 use Rattle.event_loop.specs.Writing.{Writes}
 use Rattle.event_loop.specs.Closing.{Closes, leaves}
-use Rattle.event_loop.specs.Served.{Step, Served, waits, ticks, hears_of_listener, hears_of, hears_of_none, comes, tries_again, reads, writes, closes, begins, goes}
+use Rattle.event_loop.specs.Served.{Step, Served, waits, hears_of_listener, hears_of, hears_of_none, comes, tries_again, reads, writes, closes, begins, goes}
 use Rattle.event_loop.specs.Answered.{Exchange, IsAnswered, read_at, written_at}
 use Rattle.event_loop.proofs.Putting.{set_cases}
 use Rattle.event_loop.proofs.Others.{no_other, is_itself, opens_other, ends_other, takes_other, forgets_other}
@@ -85,10 +85,10 @@ module _ {N C J H : Type 0} where
         ]
 
     -- a deed at one place is none at another
-    read_other : (j k : ℕ) (bytes : List ℕ) (deeds : List Deed) → k ≢ j → read_at k (deed.Read j bytes ∷ deeds) ≡ read_at k deeds
+    read_other : (j k : ℕ) (bytes : List ℕ) (deeds : List Deed) → k ≢ j → read_at k (deed.Read j read_limit bytes ∷ deeds) ≡ read_at k deeds
     read_other j k bytes deeds other = rw (no_other j j k (is_itself j) other) refl
 
-    read_here : (j : ℕ) (bytes : List ℕ) (deeds : List Deed) → read_at j (deed.Read j bytes ∷ deeds) ≡ read_at j deeds ++ bytes
+    read_here : (j : ℕ) (bytes : List ℕ) (deeds : List Deed) → read_at j (deed.Read j read_limit bytes ∷ deeds) ≡ read_at j deeds ++ bytes
     read_here j bytes deeds = rw (is_itself j) refl
 
     wrote_other : (j k : ℕ) (bytes : List ℕ) (deeds : List Deed) → k ≢ j → written_at k (deed.Wrote j bytes ∷ deeds) ≡ written_at k deeds
@@ -123,14 +123,14 @@ module _ {N C J H : Type 0} where
     }
 
     comes_answered : (s' : Scene N C J H) → Comes p rules host s s' → IsAnswered p rules host s'
-    comes_answered s' (opens j n e on free done) = record {
+    comes_answered s' (opens j n e on within free done) = record {
       reached = on.reached;
       exchanges =
           at_places _ j (fresh_place s.times.steady) refl
           (λ taken. exchange_of _ j (fresh_place s.times.steady) [] [] [] (came_here j s.deeds).0 (came_here j s.deeds).1 (talk_opened s.course.world on.world j on.happens) (λ is_open stays. refl))
           (λ k other. opens_other s.course.world on.world j k on.happens other) (λ k other. (came_other j k s.deeds other).0) (λ k other. (came_other j k s.deeds other).1);
     }
-    comes_answered s' (denies j n n' fault last journal free done refused closed noted) = record {
+    comes_answered s' (denies j n n' fault last journal within free done refused closed noted) = record {
       reached = before.reached;
       exchanges = λ k place here taken. elim (eqb_tells k j) [
         | inl is ↦ absurd (not_free s.places j place free (subst (λ i. slice_get s.places i ≡ Some place) is.1 here) taken)
@@ -149,7 +149,7 @@ module _ {N C J H : Type 0} where
         let t : Talk (read_at j s.deeds) (written_at j s.deeds) [] (known s.course j) = subst (λ lost. Talk (read_at j s.deeds) (written_at j s.deeds) lost (known s.course j)) nothing_lost (talk_of s j place x) in
         let t' = talk_given p.hosting rules host j s.times.moment s.course heard.given course (read_at j s.deeds) (written_at j s.deeds) heard.gives before.reached t in
         let none_left : is_closing (known course j) ≡ false → heard.rest ≡ [] = λ stays. elim heard.over [ inl none ↦ none | inr closed ↦ absurd (false≢true (sym stays ∙ closed)) ] in
-        let all : read_at j (deed.Read j bytes ∷ s.deeds) ≡ (read_at j s.deeds ++ heard.given) ++ heard.rest =
+        let all : read_at j (deed.Read j read_limit bytes ∷ s.deeds) ≡ (read_at j s.deeds ++ heard.given) ++ heard.rest =
         read_here j bytes s.deeds ∙ ap (λ l. read_at j s.deeds ++ l) heard.all ∙ sym (append_assoc (read_at j s.deeds) heard.given heard.rest) in
         record {
           reached = gives_reached p.hosting rules host j s.times.moment s.course heard.given course heard.gives before.reached;
@@ -166,7 +166,7 @@ module _ {N C J H : Type 0} where
         let t : Talk (read_at j s.deeds) (written_at j s.deeds) [] (known s.course j) = subst (λ lost. Talk (read_at j s.deeds) (written_at j s.deeds) lost (known s.course j)) nothing_lost (talk_of s j place x) in
         let t' = talk_given p.hosting rules host j s.times.moment s.course unheard.given unheard.before (read_at j s.deeds) (written_at j s.deeds) unheard.gives before.reached t in
         let lost : List ℕ = unheard.piece ++ unheard.rest in
-        let all : read_at j (deed.Read j bytes ∷ s.deeds) ≡ (read_at j s.deeds ++ unheard.given) ++ lost =
+        let all : read_at j (deed.Read j read_limit bytes ∷ s.deeds) ≡ (read_at j s.deeds ++ unheard.given) ++ lost =
         read_here j bytes s.deeds ∙ ap (λ l. read_at j s.deeds ++ l) unheard.all ∙ sym (append_assoc (read_at j s.deeds) unheard.given lost) in
         let same : (k : ℕ) → known course k ≡ known unheard.before k = λ k. ap (λ c. known c k) unheard.is_after in
         let t'' : Talk (read_at j s.deeds ++ unheard.given) (written_at j s.deeds) [] (known course j) = subst (λ o. Talk (read_at j s.deeds ++ unheard.given) (written_at j s.deeds) [] o) (sym (same j)) t' in
@@ -220,17 +220,16 @@ module _ {N C J H : Type 0} where
     }
 
     step_answered : (s' : Scene N C J H) → Step p rules host s s' → IsAnswered p rules host s'
-    step_answered s' (waits limit found n patient fair prompt none done) = idles _ refl refl (λ k. refl) (λ k. refl)
-    step_answered s' (ticks times c told) = idles _ refl refl (λ k. refl) (λ k. refl)
+    step_answered s' (waits limit room found n times c may done told) = idles _ refl refl (λ k. refl) (λ k. refl)
     step_answered s' (hears_of_listener more is) = idles _ refl refl (λ k. refl) (λ k. refl)
     step_answered s' (hears_of j readable writable hung more place place' is here told) =
         let same : place'.stage ≡ place.stage = ap (λ (q : Place). q.stage) told in
         notes_place _ j place place' here refl refl (λ t. subst IsTaken same t) (λ e. sym same ∙ e) (λ k. refl) (λ k. refl)
     step_answered s' (hears_of_none j readable writable hung more is none) = idles _ refl refl (λ k. refl) (λ k. refl)
     step_answered s' (comes s'' told coming) = comes_answered s'' coming
-    step_answered s' (tries_again barred) = idles _ refl refl (λ k. refl) (λ k. refl)
-    step_answered s' (reads j place s'' here readable may reading) = reads_answered j place s'' here may reading
-    step_answered s' (writes j place s'' here may writing) = writes_answered j place s'' here (served_taken place.stage may.served) writing
+    step_answered s' (tries_again since barred later) = idles _ refl refl (λ k. refl) (λ k. refl)
+    step_answered s' (reads j place s'' here readable unread may reading) = reads_answered j place s'' here may reading
+    step_answered s' (writes j place s'' here writable unwritten may writing) = writes_answered j place s'' here (served_taken place.stage may.served) writing
     step_answered s' (closes j place s'' here taken cause closing) = closes_answered j place s'' closing
 
   -- so it is wherever steps lead to

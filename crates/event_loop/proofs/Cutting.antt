@@ -38,7 +38,7 @@ module _ {H : Type 0} (hosting : Hosting H) (rules : RegistryRecord) (host : H) 
   pub refuses_piece : (course : Course H) (piece : List ℕ) (generator : ChaCha) (fault : EdgeFault) → Reached hosting course.edge rules host course.schedule course.world →
       PieceRefused hosting course.edge k piece course.generator generator fault → IsRefused k piece fault course
   refuses_piece course piece generator fault reached refused =
-      record { generator = generator; count = refused.count; few = refused.few; after = refused.after; refused = refused.refused rules host course.schedule course.world reached }
+      record { generator = generator; count = refused.count; few = refused.few; enough = refused.enough; after = refused.after; refused = refused.refused rules host course.schedule course.world reached }
 
   -- what was given after a try that failed
   pub tried_first : (first middle last : Course H) (bytes : List ℕ) → Gives hosting rules host k moment first [] middle → Gives hosting rules host k moment middle bytes last → Gives hosting rules host k moment first bytes last

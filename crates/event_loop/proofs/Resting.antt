@@ -1,18 +1,25 @@
 -- Where nothing is to be done.
-use Rattle.std.proofs.Common.{◌≡◌, ◌≢◌, inl, inr, ◌<◌, ℕ, List, [], Bool, true, false, Option, Some, length, refl, sym, ap, subst, ◌∙◌, arith, ◌-◌}
+use Rattle.std.proofs.Common.{◌≡◌, ◌≢◌, inl, inr, ◌<◌, ℕ, suc, List, [], Bool, true, false, Option, Some, length, refl, sym, ap, subst, ◌∙◌, arith, ◌-◌}
 use Rattle.std.specs.Prelude.{slice_get, slice_set}
 use Rattle.std.proofs.lemmas.Bool.{false≢true}
 use Rattle.std.proofs.lemmas.Bool.Decides.{eqb_tells}
+use Rattle.clients.specs.RegistryRecord.{RegistryRecord}
 use Rattle.http_edge.specs.Schedule.{World, Connection, connection_at, untaken}
 use Rattle.http_edge.specs.Reached.{is_closing}
 use Rattle.event_loop.specs.declared.clocks.Times.{Times}
 use Rattle.event_loop.specs.declared.place.Place.{Place}
 use Rattle.event_loop.specs.declared.place.Stage.TheVariants.{Free}
 use Rattle.event_loop.specs.declared.service.Service.{Service}
-use Rattle.event_loop.specs.Places.{IsTaken, IsServed, MayRead, MayWrite, IsOver, IsAtRest, broken, ended, dismissed}
+use Rattle.event_loop.specs.declared.sockets.Ready.{Ready}
+use Rattle.event_loop.specs.declared.tools.Tools.{Tools}
+use Rattle.event_loop.specs.Deeds.{Deed, Reading, Writing, done_since}
+use Rattle.event_loop.specs.Places.{IsTaken, IsServed, MayRead, MayWrite, IsUnread, IsUnwritten, IsOver, IsAtRest, broken, ended, dismissed}
+use Rattle.event_loop.specs.Scenes.{Promises, Scene}
 use Rattle.event_loop.specs.Coming.{fresh_place}
-use Rattle.event_loop.specs.Goes.{Past, DoneAfter, IsKnownAt, IsFairAt, IsSettledAt, IsSettled, IsUnread, IsUnwritten, IsStill, IsLeft, a_read, a_write, IsLeftAt, LeavesOthers, IsRestedAt}
-use Rattle.event_loop.proofs.Putting.{set_other, set_same}
+use Rattle.event_loop.specs.Served.{HadTurn, Served}
+use Rattle.event_loop.specs.Goes.{Past, DoneAfter, IsKnownAt, IsHeardAt, IsSettledAt, IsSettled, IsStill, IsLeft, a_read, a_write, IsLeftAt, LeavesOthers, IsRestedAt, IsRested, TidiesAt, scene_of}
+use Rattle.event_loop.proofs.Putting.{set_other, set_same, same_some}
+use Rattle.event_loop.proofs.Doing.{none_more}
 
 -- at a free place nothing is to be done
 pub free_rests : (p : Place) (o : Option Connection) → p.stage ≡ Free → IsAtRest p o
@@ -40,90 +47,105 @@ fresh_rests now k none stays = record {
     not_over (ended is empty) = absurd (cc)
     not_over (dismissed is closing empty) = false≢true (sym stays ∙ closing)
 
-not_true : (b : Bool) → (b ≡ true → ⊥) → b ≡ false
-not_true true f = absurd (f refl)
-not_true false f = refl
-
--- work that was left stays noted
-pub left_before : (a b : Bool) → (a ≡ true → b ≡ true) → b ≡ false → a ≡ false
-left_before a b stays is = not_true a (λ e. false≢true (sym is ∙ stays e))
-
 -- where nothing changed, there is still nothing to be done
 pub unwritten_still : (k : ℕ) (b c : Service) (v u : World) → IsStill k b v c u IsUnwritten → IsKnownAt k c u IsUnwritten
 unwritten_still k b c v u still =
     subst (λ s. IsKnownAt k s u IsUnwritten) (sym still.service_is) (subst (λ w. IsKnownAt k b w IsUnwritten) (sym still.world_is) still.rests)
 
-pub unread_still : (k : ℕ) (a b c : Service) (w v u : World) → IsStill k a w b v IsUnread → IsStill k b v c u IsUnwritten → IsKnownAt k c u IsUnread
-unread_still k a b c w v u unread unwritten =
-    let first : IsKnownAt k b v IsUnread = subst (λ s. IsKnownAt k s v IsUnread) (sym unread.service_is) (subst (λ x. IsKnownAt k a x IsUnread) (sym unread.world_is) unread.rests) in
-    subst (λ s. IsKnownAt k s u IsUnread) (sym unwritten.service_is) (subst (λ x. IsKnownAt k b x IsUnread) (sym unwritten.world_is) first)
+pub unread_still : (k : ℕ) (b c : Service) (v u : World) → IsKnownAt k b v IsUnread → IsStill k b v c u IsUnwritten → IsKnownAt k c u IsUnread
+unread_still k b c v u unread still =
+    subst (λ s. IsKnownAt k s u IsUnread) (sym still.service_is) (subst (λ x. IsKnownAt k b x IsUnread) (sym still.world_is) unread)
+
+-- where nothing was to be read, nothing is
+pub still_unread : (k : ℕ) (a b : Service) (w v : World) → IsStill k a w b v IsUnread → IsKnownAt k b v IsUnread
+still_unread k a b w v still =
+    subst (λ s. IsKnownAt k s v IsUnread) (sym still.service_is) (subst (λ x. IsKnownAt k a x IsUnread) (sym still.world_is) still.rests)
+
+-- what rests needs no turn
+pub rests_turned : (k : ℕ) (place : Place) (o : Option Connection) (deeds : List Deed) → IsAtRest place o → HadTurn k place o deeds
+rests_turned k place o deeds rests = record { read = inl rests.unread; written = inl rests.unwritten; goes_on = rests.goes_on }
+
+-- what had its turn, had it
+turned_then : (k : ℕ) (place : Place) (o : Option Connection) (earlier later : List Deed) → DoneAfter earlier later → HadTurn k place o earlier → HadTurn k place o later
+turned_then k place o earlier later done turn = record {
+  read = elim turn.read [
+    | inl unread ↦ inl unread
+    | inr tended ↦ elim tended [ inl read ↦ inr (inl (done.keeps (Reading k) read)) | inr written ↦ inr (inr (done.keeps (Writing k) written)) ]
+  ];
+  written = elim turn.written [ inl unwritten ↦ inl unwritten | inr written ↦ inr (done.keeps (Writing k) written) ];
+  goes_on = turn.goes_on;
+}
 
 -- what is done at one place leaves another at rest
-pub rested_other : (k j : ℕ) (service : Service) (world : World) (service' : Service) (world' : World) → LeavesOthers k service world service' world' →
-    (service.is_work_left ≡ true → service'.is_work_left ≡ true) → j ≢ k → IsRestedAt j service world → IsRestedAt j service' world'
-rested_other k j service world service' world' others stays other rested none place here =
-    let before = rested (left_before service.is_work_left service'.is_work_left stays none) place (sym (others.places j other) ∙ here) in
-    subst (λ o. IsAtRest place o) (sym (others.connections j other)) before
+pub rested_other : (k j : ℕ) (service : Service) (world : World) (service' : Service) (world' : World) → LeavesOthers k service world service' world' → j ≢ k →
+    IsRestedAt j service world → IsRestedAt j service' world'
+rested_other k j service world service' world' others other rested none place here =
+    subst (λ o. IsAtRest place o) (sym (others.connections j other)) (rested (sym (others.due j other) ∙ none) place (sym (others.places j other) ∙ here))
 
 pub others_then : (k : ℕ) (a : Service) (w : World) (b : Service) (v : World) (c : Service) (u : World) → LeavesOthers k a w b v → LeavesOthers k b v c u → LeavesOthers k a w c u
 others_then k a w b v c u one two = record {
   places = λ j other. two.places j other ∙ one.places j other;
+  due = λ j other. two.due j other ∙ one.due j other;
   connections = λ j other. two.connections j other ∙ one.connections j other;
 }
 
+-- nothing changed
+pub no_others : (k : ℕ) (a : Service) (w : World) → LeavesOthers k a w a w
+no_others k a w = record { places = λ j other. refl; due = λ j other. refl; connections = λ j other. refl }
+
 -- where neither a read nor a write was to be done and nothing changed, none is left
-pub none_left : (k : ℕ) (a b c : Service) (w v u : World) → IsStill k a w b v IsUnread → IsStill k b v c u IsUnwritten → IsLeftAt k c u → ⊥
-none_left k a b c w v u unread unwritten left =
+pub none_left : (k : ℕ) (b c : Service) (v u : World) → IsKnownAt k b v IsUnread → IsStill k b v c u IsUnwritten → IsLeftAt k c u → ⊥
+none_left k b c v u unread unwritten left =
     let here : slice_get b.places k ≡ Some left.place = subst (λ (s : Service). slice_get s.places k ≡ Some left.place) unwritten.service_is left.here in
-    let first : slice_get a.places k ≡ Some left.place = subst (λ (s : Service). slice_get s.places k ≡ Some left.place) unread.service_is here in
     let still : IsLeft left.place (connection_at v.connections k) = subst (λ (x : World). IsLeft left.place (connection_at x.connections k)) unwritten.world_is left.left in
-    not_left still here first
+    not_left still here
   where
-    not_left : IsLeft left.place (connection_at v.connections k) → slice_get b.places k ≡ Some left.place → slice_get a.places k ≡ Some left.place → ⊥
-    not_left (a_write writable may) here first = unwritten.rests left.place here writable may
-    not_left (a_read readable may) here first = unread.rests left.place first readable (subst (λ (x : World). MayRead left.place (connection_at x.connections k)) unread.world_is may)
+    not_left : IsLeft left.place (connection_at v.connections k) → slice_get b.places k ≡ Some left.place → ⊥
+    not_left (a_write writable may) here = unwritten.rests left.place here writable may
+    not_left (a_read readable may) here = unread left.place here readable may
 
--- and what was done there
-pub fair_other : (k j : ℕ) (service : Service) (past : Past) (service' : Service) (past' : Past) → LeavesOthers k service past.world service' past'.world → DoneAfter past.deeds past'.deeds →
-    j ≢ k → IsFairAt j service past → IsFairAt j service' past'
-fair_other k j service past service' past' others done other fair place here =
-    elim (fair place (sym (others.places j other) ∙ here)) [
-      | inl rests ↦ inl (subst (λ o. IsAtRest place o) (sym (others.connections j other)) rests)
-      | inr tended ↦ inr (done.tends j tended)
-    ]
+-- what was heard at another place is
+pub heard_other : (k j : ℕ) (service : Service) (past : Past) (service' : Service) (past' : Past) → LeavesOthers k service past.world service' past'.world → DoneAfter past.deeds past'.deeds →
+    j ≢ k → IsHeardAt j service past → IsHeardAt j service' past'
+heard_other k j service past service' past' others done other (inl unread) =
+    inl (λ place here. subst (λ o. IsUnread place o) (sym (others.connections j other)) (unread place (sym (others.places j other) ∙ here)))
+heard_other k j service past service' past' others done other (inr read) = inr (done.keeps (Reading j) read)
 
-pub settled_other : (k j : ℕ) (service : Service) (past : Past) (service' : Service) (past' : Past) → LeavesOthers k service past.world service' past'.world →
-    (service.is_work_left ≡ true → service'.is_work_left ≡ true) → DoneAfter past.deeds past'.deeds → j ≢ k → IsSettledAt j service past → IsSettledAt j service' past'
-settled_other k j service past service' past' others stays done other settled = record {
-  rested = rested_other k j service past.world service' past'.world others stays other settled.rested;
-  fair = fair_other k j service past service' past' others done other settled.fair;
+-- and what was settled there
+pub settled_other : (k j : ℕ) (service : Service) (past : Past) (service' : Service) (past' : Past) → LeavesOthers k service past.world service' past'.world → DoneAfter past.deeds past'.deeds →
+    j ≢ k → IsSettledAt j service past → IsSettledAt j service' past'
+settled_other k j service past service' past' others done other settled = record {
+  rested = rested_other k j service past.world service' past'.world others other settled.rested;
+  turned = λ place here.
+      turned_then j place (connection_at past'.world.connections j) past.deeds past'.deeds done
+      (subst (λ o. HadTurn j place o past.deeds) (sym (others.connections j other)) (settled.turned place (sym (others.places j other) ∙ here)));
+  active = λ e. (let some = settled.active (sym (others.due j other) ∙ e) in omega (arith, some, done.grows));
 }
 
 -- where one place is settled and the others are, all are
-pub all_settled : (k : ℕ) (service : Service) (past : Past) (service' : Service) (past' : Past) → LeavesOthers k service past.world service' past'.world →
-    (service.is_work_left ≡ true → service'.is_work_left ≡ true) → DoneAfter past.deeds past'.deeds → ((j : ℕ) → j < 64 → j ≢ k → IsSettledAt j service past) → IsSettledAt k service' past' → IsSettled service' past'
-all_settled k service past service' past' others stays done settled here j less =
+pub all_settled : (k : ℕ) (service : Service) (past : Past) (service' : Service) (past' : Past) → LeavesOthers k service past.world service' past'.world → DoneAfter past.deeds past'.deeds →
+    IsSettled service past → IsSettledAt k service' past' → IsSettled service' past'
+all_settled k service past service' past' others done settled here j less =
     elim (eqb_tells j k) [
       | inl is ↦ subst (λ i. IsSettledAt i service' past') (sym is.1) here
-      | inr is ↦ settled_other k j service past service' past' others stays done is.1 (settled j less is.1)
+      | inr is ↦ settled_other k j service past service' past' others done is.1 (settled j less)
     ]
 
 -- where more was done and no place changed, they are as settled
-pub settled_then : (service : Service) (past : Past) (service' : Service) (past' : Past) → service'.places ≡ service.places → service'.is_work_left ≡ service.is_work_left → past'.world ≡ past.world →
+pub settled_then : (service : Service) (past : Past) (service' : Service) (past' : Past) → service'.places ≡ service.places → service'.due ≡ service.due → past'.world ≡ past.world →
     DoneAfter past.deeds past'.deeds → IsSettled service past → IsSettled service' past'
-settled_then service past service' past' places work world done settled j less = record {
-  rested = λ none place here. subst (λ (w : World). IsAtRest place (connection_at w.connections j)) (sym world) ((settled j less).rested (sym work ∙ none) place (ap (λ ps. slice_get ps j) (sym places) ∙ here));
-  fair = λ place here. elim ((settled j less).fair place (ap (λ ps. slice_get ps j) (sym places) ∙ here)) [
-    | inl rests ↦ inl (subst (λ (w : World). IsAtRest place (connection_at w.connections j)) (sym world) rests)
-    | inr tended ↦ inr (done.tends j tended)
-  ];
-}
+settled_then service past service' past' places due world done settled j less =
+    settled_other (suc j) j service past service' past'
+    (record { places = λ i other. ap (λ l. slice_get l i) places; due = λ i other. ap (λ l. slice_get l i) due; connections = λ i other. ap (λ (w : World). connection_at w.connections i) world }) done
+    (λ is. absurd (omega (arith, is))) (settled j less)
 
 -- a place was put among others
 pub put_others : (k : ℕ) (service service' : Service) (place : Place) (world world' : World) → service'.places ≡ slice_set service.places k place →
-    ((j : ℕ) → j ≢ k → connection_at world'.connections j ≡ connection_at world.connections j) → LeavesOthers k service world service' world'
-put_others k service service' place world world' put same = record {
+    ((j : ℕ) → j ≢ k → slice_get service'.due j ≡ slice_get service.due j) → ((j : ℕ) → j ≢ k → connection_at world'.connections j ≡ connection_at world.connections j) →
+    LeavesOthers k service world service' world'
+put_others k service service' place world world' put due same = record {
   places = λ j other. ap (λ places. slice_get places j) put ∙ set_other service.places k j place other;
+  due = due;
   connections = same;
 }
 
@@ -135,11 +157,50 @@ put_at_rest k service service' place world' put rests place' here =
     subst (λ q. IsAtRest q (connection_at world'.connections k)) (sym is) rests
 
 pub put_settled : (k : ℕ) (service service' : Service) (place : Place) (past' : Past) → service'.places ≡ slice_set service.places k place →
-    IsAtRest place (connection_at past'.world.connections k) → IsSettledAt k service' past'
-put_settled k service service' place past' put rests = record {
+    IsAtRest place (connection_at past'.world.connections k) → (slice_get service'.due k ≡ Some true → 0 < done_since past'.deeds) → IsSettledAt k service' past'
+put_settled k service service' place past' put rests active = record {
   rested = λ none place' here. put_at_rest k service service' place past'.world put rests place' here;
-  fair = λ place' here. inl (put_at_rest k service service' place past'.world put rests place' here);
+  turned = λ place' here. rests_turned k place' _ past'.deeds (put_at_rest k service service' place past'.world put rests place' here);
+  active = active;
 }
+
+-- a connection that is not over stays, and it is noted whether something is due there
+pub stays_tidy : {N C J H : Type 0} (p : Promises N C J H) (rules : RegistryRecord) (host : H) (first : Scene N C J H) (found : List Ready) (k : ℕ) (service : Service) (tools : Tools N C J H) (past : Past) (place : Place) (due : List Bool) →
+    slice_get service.places k ≡ Some place → ¬ (IsOver place (connection_at past.world.connections k)) → ((j : ℕ) → j ≢ k → slice_get due j ≡ slice_get service.due j) →
+    (slice_get due k ≡ Some false → IsAtRest place (connection_at past.world.connections k)) → (slice_get due k ≡ Some true → IsLeft place (connection_at past.world.connections k)) →
+    Served p rules host first (scene_of service tools found past) → TidiesAt p rules host first found k service past (record service { due = due }) tools
+stays_tidy p rules host first found k service tools past place due here goes_on others rests left h = record {
+  goes = record {
+    next = past;
+    served = h;
+    done = none_more past.deeds;
+    others = record { places = λ j other. refl; due = others; connections = λ j other. refl };
+    alone = λ other differs not. not;
+  };
+  rested = λ none place' here'. subst (λ q. IsAtRest q (connection_at past.world.connections k)) (same_some place place' (sym here ∙ here')) (rests none);
+  turned = λ unread unwritten place' here'. record {
+    read = elim unread [ inl none ↦ inl (none place' here') | inr tended ↦ inr tended ];
+    written = elim unwritten [ inl none ↦ inl (none place' here') | inr done ↦ inr done ];
+    goes_on = subst (λ q. ¬ (IsOver q (connection_at past.world.connections k))) (same_some place place' (sym here ∙ here')) goes_on;
+  };
+  left = λ e. record { place = place; here = here; left = left e };
+}
+
+-- what was put there is no other
+pub not_due : (due : List Bool) (k : ℕ) → slice_get (slice_set due k false) k ≡ Some true → ⊥
+not_due due k e = false≢true (sym (set_same due k false true e))
+
+pub not_rested : (due : List Bool) (k : ℕ) → slice_get (slice_set due k true) k ≡ Some false → ⊥
+not_rested due k e = false≢true (set_same due k true false e)
+
+-- where a place was found ready, something may be due there, and the others rest as they did
+pub told_rested : (k : ℕ) (service service' : Service) (world : World) (place : Place) → service'.places ≡ slice_set service.places k place → service'.due ≡ slice_set service.due k true →
+    IsRested service world → IsRested service' world
+told_rested k service service' world place places due rested j less =
+    elim (eqb_tells j k) [
+      | inl is ↦ λ none. absurd (not_rested service.due k (subst (λ i. slice_get (slice_set service.due k true) i ≡ Some false) is.1 (ap (λ l. slice_get l j) (sym due) ∙ none)))
+      | inr is ↦ rested_other k j service world service' world (put_others k service service' place world world places (λ i other. ap (λ l. slice_get l i) due ∙ set_other service.due k i true other) (λ i other. refl)) is.1 (rested j less)
+    ]
 
 -- a connection is at the place, silent for so many seconds, one at least
 pub record IsSilentFor (times : Times) (places : List Place) (k silence : ℕ) : Type 0 where

@@ -15,7 +15,7 @@ use Rattle.event_loop.specs.Scenes.{Promises, Scene}
 abbrev pub read_at : ℕ → List Deed → List ℕ
 read_at k [] = []
 read_at k (Came j ∷ earlier) = if j == k then [] else read_at k earlier
-read_at k (Read j bytes ∷ earlier) = if j == k then read_at k earlier ++ bytes else read_at k earlier
+read_at k (Read j room bytes ∷ earlier) = if j == k then read_at k earlier ++ bytes else read_at k earlier
 read_at k (deed ∷ earlier) = read_at k earlier
 
 -- what was written there since then

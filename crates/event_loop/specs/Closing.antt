@@ -35,7 +35,7 @@ pub data Cause {N C J H : Type 0} (s : Scene N C J H) (k : ℕ) (place : Place) 
 abbrev pub freed_queue : Queue → Queue
 freed_queue Told = Told
 freed_queue Empty = Empty
-freed_queue Barred = Told
+freed_queue (Barred since) = Told
 freed_queue Asked = Empty
 freed_queue Waits = Told
 

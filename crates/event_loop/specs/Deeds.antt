@@ -1,5 +1,5 @@
 -- What sockets do.
-use Rattle.std.specs.Prelude.{◌≡◌, ◌⊎◌, ℕ, suc, ◌≤◌, ◌<◌, List, [], ◌∷◌, take, Option, Some, None, ⊤}
+use Rattle.std.specs.Prelude.{◌≡◌, ◌⊎◌, ℕ, suc, ◌≤◌, ◌<◌, List, [], ◌∷◌, length, take, Option, Some, None, ⊤}
 use Rattle.event_loop.specs.declared.sockets.Ready.{Ready}
 use Rattle.event_loop.specs.declared.sockets.Accepted.{Accepted}
 use Rattle.event_loop.specs.declared.sockets.Accepted.TheVariants as accepted
@@ -8,16 +8,16 @@ use Rattle.event_loop.specs.declared.sockets.Received.TheVariants as received
 use Rattle.event_loop.specs.declared.sockets.Sent.{Sent}
 use Rattle.event_loop.specs.declared.sockets.Sent.TheVariants as sent
 
--- One call of the sockets, and what came of it. A wait has its limit in milliseconds, and what it found ready; the others
--- have the place of their connection.
+-- One call of the sockets, and what came of it. A wait has its limit in milliseconds, how much it had room for, and what
+-- it found ready; the others have the place of their connection, and a read how many bytes it had room for.
 pub data Deed : Type 0 where
-  Waited : (limit : Option ℕ) → (found : List Ready) → Deed
-  WaitFailed : Deed
+  Waited : (limit : Option ℕ) → (room : ℕ) → (found : List Ready) → Deed
+  WaitFailed : (limit : Option ℕ) → (room : ℕ) → Deed
   Asked : Deed
   Came : (k : ℕ) → Deed
   NobodyCame : Deed
   ComingFailed : Deed
-  Read : (k : ℕ) → (bytes : List ℕ) → Deed
+  Read : (k room : ℕ) → (bytes : List ℕ) → Deed
   ReadEnd : (k : ℕ) → Deed
   ReadNothing : (k : ℕ) → Deed
   ReadFailed : (k : ℕ) → Deed
@@ -27,8 +27,8 @@ pub data Deed : Type 0 where
   Closed : (k : ℕ) → Deed
 
 abbrev pub wait_deed : Option ℕ → Option ℕ → List Ready → Deed
-wait_deed limit (Some n) found = Waited limit (take n found)
-wait_deed limit None found = WaitFailed
+wait_deed limit (Some n) found = Waited limit (length found) (take n found)
+wait_deed limit None found = WaitFailed limit (length found)
 
 abbrev pub FindsWithin : Option ℕ → ℕ → Type 0
 FindsWithin (Some n) room = n ≤ room
@@ -40,7 +40,7 @@ accept_deed accepted.Later k = NobodyCame
 accept_deed accepted.Failed k = ComingFailed
 
 abbrev pub read_deed : Received → ℕ → List ℕ → Deed
-read_deed (received.Bytes n) k buffer = Read k (take n buffer)
+read_deed (received.Bytes n) k buffer = Read k (length buffer) (take n buffer)
 read_deed received.End k buffer = ReadEnd k
 read_deed received.Later k buffer = ReadNothing k
 read_deed received.Failed k buffer = ReadFailed k
@@ -61,29 +61,38 @@ SendsWithin result room = ⊤
 -- how often was waited; the last deed is the first
 abbrev pub waits : List Deed → ℕ
 waits [] = 0
-waits (Waited limit found ∷ earlier) = suc (waits earlier)
+waits (Waited limit room found ∷ earlier) = suc (waits earlier)
 waits (deed ∷ earlier) = waits earlier
 
 -- how much was done since the last wait
 abbrev pub done_since : List Deed → ℕ
 done_since [] = 0
-done_since (Waited limit found ∷ earlier) = 0
+done_since (Waited limit room found ∷ earlier) = 0
 done_since (deed ∷ earlier) = suc (done_since earlier)
 
--- it is a read, a write or a close at that place
-abbrev pub IsAt : ℕ → Deed → Type 0
-IsAt k (Read j bytes) = j ≡ k
-IsAt k (ReadEnd j) = j ≡ k
-IsAt k (ReadNothing j) = j ≡ k
-IsAt k (ReadFailed j) = j ≡ k
-IsAt k (Wrote j bytes) = j ≡ k
-IsAt k (WroteNothing j) = j ≡ k
-IsAt k (WriteFailed j) = j ≡ k
-IsAt k (Closed j) = j ≡ k
-IsAt k deed = ⊥
+-- what is to be done again and again: a place is read, a place is written to, and connections are accepted
+pub data Task : Type 0 where
+  Reading : (k : ℕ) → Task
+  Writing : (k : ℕ) → Task
+  Accepting : Task
 
--- something was done at that place since the last wait
-abbrev pub IsTended : ℕ → List Deed → Type 0
-IsTended k [] = ⊥
-IsTended k (Waited limit found ∷ earlier) = ⊥
-IsTended k (deed ∷ earlier) = IsAt k deed ⊎ IsTended k earlier
+-- the task that a deed is done for, whatever came of it
+abbrev pub task_of : Deed → Option Task
+task_of Asked = Some Accepting
+task_of (Came k) = Some Accepting
+task_of NobodyCame = Some Accepting
+task_of ComingFailed = Some Accepting
+task_of (Read k room bytes) = Some (Reading k)
+task_of (ReadEnd k) = Some (Reading k)
+task_of (ReadNothing k) = Some (Reading k)
+task_of (ReadFailed k) = Some (Reading k)
+task_of (Wrote k bytes) = Some (Writing k)
+task_of (WroteNothing k) = Some (Writing k)
+task_of (WriteFailed k) = Some (Writing k)
+task_of deed = None
+
+-- it was done since the last wait
+abbrev pub IsDone : Task → List Deed → Type 0
+IsDone task [] = ⊥
+IsDone task (Waited limit room found ∷ earlier) = ⊥
+IsDone task (deed ∷ earlier) = (task_of deed ≡ Some task) ⊎ IsDone task earlier

@@ -1,17 +1,18 @@
 -- How the loop ends.
-use Rattle.std.specs.Prelude.{◌≡◌, ◌⊎◌, ◌≤◌, ℕ, List, ◌∷◌, Some, None}
+use Rattle.std.specs.Prelude.{◌≡◌, ◌⊎◌, ◌≤◌, ℕ, List, ◌∷◌, Option, Some, None}
 use Rattle.clients.specs.RegistryRecord.{RegistryRecord}
 use Rattle.http_edge.specs.Schedule.{World, Happening}
 use Rattle.http_edge.specs.Reached.{Reached}
 use Rattle.event_loop.specs.declared.fault.LoopFault.{LoopFault}
 use Rattle.event_loop.specs.declared.fault.LoopFault.TheVariants.{Wait, Clock, Rounds}
 use Rattle.event_loop.specs.declared.limits.Limits.{Limits}
+use Rattle.event_loop.specs.declared.sockets.Ready.{Ready}
 use Rattle.event_loop.specs.declared.tools.Tools.{Tools}
 use Rattle.event_loop.specs.Deeds as deed
 use Rattle.event_loop.specs.Places.{AllFree}
 use Rattle.event_loop.specs.Scenes.{Promises, Scene}
 use Rattle.event_loop.specs.Answered.{IsAnswered}
-use Rattle.event_loop.specs.Served.{IsFirst, Served, Shuts}
+use Rattle.event_loop.specs.Served.{IsFirst, MayWait, Served, Shuts}
 
 -- these are the tools of the scene
 pub record AreTools {N C J H : Type 0} (tools : Tools N C J H) (s : Scene N C J H) : Type 0 where
@@ -25,14 +26,17 @@ pub record AreTools {N C J H : Type 0} (tools : Tools N C J H) (s : Scene N C J 
 abbrev pub rounds_limit : ℕ
 rounds_limit = 18446744073709551615
 
--- why it goes on no more: a wait failed; the clocks told nothing; or so many rounds were made as can be counted
+-- why it goes on no more: a wait failed; behind a wait the clocks told nothing, and what it found was not looked at; or so
+-- many rounds were made as can be counted
 pub data Fails {N C J H : Type 0} (p : Promises N C J H) (s : Scene N C J H) : LoopFault → Scene N C J H → Type 0 where
-  no_wait : (n : N) → p.does s.sockets deed.WaitFailed n → Fails p s Wait (record s { sockets = n; deeds = deed.WaitFailed ∷ s.deeds })
-  no_time : (c : C) → p.tells s.clocks None c → Fails p s Clock (record s { clocks = c })
+  no_wait : (limit : Option ℕ) (room : ℕ) (n : N) → MayWait s limit room → p.does s.sockets (deed.WaitFailed limit room) n →
+      Fails p s Wait (record s { sockets = n; deeds = deed.WaitFailed limit room ∷ s.deeds })
+  no_time : (limit : Option ℕ) (room : ℕ) (found : List Ready) (n : N) (c : C) → MayWait s limit room → p.does s.sockets (deed.Waited limit room found) n → p.tells s.clocks None c →
+      Fails p s Clock (record s { sockets = n; clocks = c; deeds = deed.Waited limit room found ∷ s.deeds; found = found })
   no_more : rounds_limit ≤ deed.waits s.deeds → Fails p s Rounds s
 
--- The clocks told the first times, and steps led on, whose every scene is answered, until something failed; then each
--- connection that was left was closed and forgotten, and all places are free.
+-- The clocks told the first times, and steps led on, whose every scene is answered, until something failed; then nothing
+-- was done but that each connection that was left was closed and forgotten, and all places are free.
 pub record HasServed {N C J H : Type 0} (p : Promises N C J H) (rules : RegistryRecord) (host : H) (limits : Limits) (tools : Tools N C J H) (schedule : List Happening) (world : World) (fault : LoopFault) (tools' : Tools N C J H) : Type 0 where
   pub first : Scene N C J H
   pub is_first : IsFirst p rules host first

@@ -8,7 +8,7 @@ use Rattle.http_edge.specs.Edges.{SeenEdge}
 use Rattle.http_edge.specs.Reached.{PieceGoesOn, is_closing}
 use Rattle.http_edge.specs.Refusals.{IsPieceRefusal}
 use Rattle.http_edge.specs.declared.fault.EdgeFault.{EdgeFault}
-use Rattle.http_edge.specs.declared.fault.EdgeFault.TheVariants.{TooManyRequests}
+use Rattle.http_edge.specs.declared.fault.EdgeFault.TheVariants.{TooManyRequests, DrawsShort}
 use Rattle.serving.specs.Chance.{next_draws, moved}
 use Rattle.event_loop.specs.Courses.{Course, known, led}
 
@@ -29,11 +29,12 @@ pub record IsGiven {H : Type 0} (hosting : Hosting H) (rules : RegistryRecord) (
   pub after : generator ≡ moved course.generator (16 * count)
   pub on : PieceGoesOn hosting edge rules host course.schedule course.world k piece moment (next_draws course.generator count)
 
--- It was refused, with such draws.
+-- It was refused, with such draws; for want of draws only where it had as many as a piece may have.
 pub record IsRefused {H : Type 0} (k : ℕ) (piece : List ℕ) (fault : EdgeFault) (course : Course H) : Type 0 where
   pub generator : ChaCha
   pub count : ℕ
   pub few : count ≤ draws_limit
+  pub enough : fault ≡ DrawsShort → count ≡ draws_limit
   pub after : generator ≡ moved course.generator (16 * count)
   pub refused : IsPieceRefusal fault course.world.connections k piece (next_draws course.generator count)
 

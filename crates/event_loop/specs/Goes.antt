@@ -1,4 +1,4 @@
--- How each part of the loop leads on.
+-- How each part of the loop leads on. Only the contracts of its parts and their proofs cite this: no public clause does.
 use Rattle.std.specs.Prelude.{◌≡◌, ◌≢◌, ◌⊎◌, ◌≤◌, ◌<◌, ◌+◌, ℕ, true, false, List, [], Option, Some, slice_get, None}
 use Rattle.rand_chacha.specs.ChaCha.{ChaCha}
 use Rattle.hook_host.specs.declared.host.HookHost.{Ghosts as Hosting}
@@ -7,24 +7,19 @@ use Rattle.http_edge.specs.Schedule.{World, Connection, Happening, connection_at
 use Rattle.http_edge.specs.Edges.{SeenEdge}
 use Rattle.http_edge.specs.Reached.{Reached, InEach}
 use Rattle.http_edge.specs.declared.fault.EdgeFault.{EdgeFault}
-use Rattle.event_loop.specs.declared.clocks.Times.{Times}
-use Rattle.event_loop.specs.declared.fault.ConnectionFault.{ConnectionFault}
 use Rattle.event_loop.specs.declared.fault.LoopFault.{LoopFault}
 use Rattle.event_loop.specs.declared.place.Place.{Place}
-use Rattle.event_loop.specs.declared.queue.Queue.TheVariants.{Told, Waits}
+use Rattle.event_loop.specs.declared.queue.Queue.TheVariants.{Told, Barred, Waits}
 use Rattle.event_loop.specs.declared.service.Service.{Service}
 use Rattle.event_loop.specs.declared.sockets.Ready.{Ready}
 use Rattle.event_loop.specs.declared.tools.Tools.{Tools}
-use Rattle.event_loop.specs.Deeds.{Deed, waits, done_since, IsTended}
+use Rattle.event_loop.specs.Deeds.{Deed, Task, Reading, Writing, Accepting, IsDone, waits, done_since}
 use Rattle.event_loop.specs.Giving.{GivesAll, GivesSome}
-use Rattle.event_loop.specs.Places.{IsTaken, MayRead, MayWrite, IsAtRest, AllFree}
+use Rattle.event_loop.specs.Places.{IsTaken, MayRead, MayWrite, IsUnread, IsUnwritten, IsAtRest, AllFree}
 use Rattle.event_loop.specs.Scenes.{Promises, Scene}
 use Rattle.event_loop.specs.Closing.{IsSilentLongest, AreWithin, Closes}
-use Rattle.event_loop.specs.Served.{Served, Shuts}
+use Rattle.event_loop.specs.Served.{HadTurn, Served, Shuts}
 use Rattle.event_loop.specs.Ends.{Fails}
-
-abbrev pub promises : {N C J H : Type 0} → (N → Deed → N → Type 0) → (C → Option Times → C → Type 0) → (J → ConnectionFault → J → Type 0) → Hosting H → Promises N C J H
-promises does tells notes hosting = record { does = does; tells = tells; notes = notes; hosting = hosting }
 
 -- it holds of the connection, wherever the edge was reached
 abbrev pub WhereKnown : {H : Type 0} → Hosting H → SeenEdge H → ℕ → (Option Connection → Type 0) → Type 0
@@ -51,26 +46,36 @@ scene_of service tools found past = record {
   deeds = past.deeds;
 }
 
--- something is noted to be left
-abbrev pub IsBusy : Service → Type 0
-IsBusy service = (service.is_work_left ≡ true) ⊎ (service.queue ≡ Told)
+-- something may be due at some place
+pub record IsDueSomewhere (service : Service) : Type 0 where
+  pub k : ℕ
+  pub within : k < 64
+  pub here : slice_get service.due k ≡ Some true
 
--- nothing is noted to be left
+-- nothing is due at any place
+abbrev pub IsDueNowhere : Service → Type 0
+IsDueNowhere service = (k : ℕ) → k < 64 → slice_get service.due k ≡ Some false
+
+-- something is noted to be due
+abbrev pub IsBusy : Service → Type 0
+IsBusy service = IsDueSomewhere service ⊎ (service.queue ≡ Told)
+
+-- nothing is noted to be due
 pub record MayRest (service : Service) : Type 0 where
-  pub works : service.is_work_left ≡ false
+  pub due : IsDueNowhere service
   pub queue : service.queue ≢ Told
 
 -- how long it waits by what is noted
 pub data IsLimit (service : Service) : Option ℕ → Type 0 where
   looks : IsBusy service → IsLimit service (Some 0)
   rests : MayRest service → IsLimit service (Some 1000)
-  sleeps : MayRest service → AllFree service.places → IsLimit service None
+  sleeps : MayRest service → AllFree service.places → ((since : ℕ) → service.queue ≢ Barred since) → IsLimit service None
 
 -- deeds were done after others, none of them a wait
 pub record DoneAfter (earlier later : List Deed) : Type 0 where
   pub waits : waits later ≡ waits earlier
   pub grows : done_since earlier ≤ done_since later
-  pub tends : (j : ℕ) → IsTended j earlier → IsTended j later
+  pub keeps : (task : Task) → IsDone task earlier → IsDone task later
 
 -- wherever the edge was reached, the bytes are given to it
 abbrev pub LeadsToGiving : {H : Type 0} → Hosting H → ℕ → ℕ → List ℕ → SeenEdge H → ChaCha → SeenEdge H → ChaCha → Type 0
@@ -95,15 +100,16 @@ pub record IsLongestAt (places : List Place) (k : ℕ) : Type 0 where
 -- the other places are as they were, and so are their connections
 pub record LeavesOthers (k : ℕ) (service : Service) (world : World) (service' : Service) (world' : World) : Type 0 where
   pub places : (j : ℕ) → j ≢ k → slice_get service'.places j ≡ slice_get service.places j
+  pub due : (j : ℕ) → j ≢ k → slice_get service'.due j ≡ slice_get service.due j
   pub connections : (j : ℕ) → j ≢ k → connection_at world'.connections j ≡ connection_at world.connections j
 
--- steps lead on, which touch one place alone; work that was left stays noted
-pub record GoesAt {N C J H : Type 0} (p : Promises N C J H) (rules : RegistryRecord) (host : H) (first : Scene N C J H) (found : List Ready) (k : ℕ) (service : Service) (past : Past) (service' : Service) (tools' : Tools N C J H) : Type 0 where
+-- steps lead on, which touch one place alone, and do one task alone
+pub record GoesAt {N C J H : Type 0} (p : Promises N C J H) (rules : RegistryRecord) (host : H) (first : Scene N C J H) (found : List Ready) (k : ℕ) (task : Task) (service : Service) (past : Past) (service' : Service) (tools' : Tools N C J H) : Type 0 where
   pub next : Past
   pub served : Served p rules host first (scene_of service' tools' found next)
   pub done : DoneAfter past.deeds next.deeds
   pub others : LeavesOthers k service past.world service' next.world
-  pub works : service.is_work_left ≡ true → service'.is_work_left ≡ true
+  pub alone : (other : Task) → other ≢ task → ¬ (IsDone other past.deeds) → ¬ (IsDone other next.deeds)
 
 -- it holds of what is known of the place, and of its connection
 abbrev pub IsKnownAt : ℕ → Service → World → (Place → Option Connection → Type 0) → Type 0
@@ -115,61 +121,55 @@ pub record IsStill (k : ℕ) (service : Service) (world : World) (service' : Ser
   pub world_is : world' ≡ world
   pub rests : IsKnownAt k service world P
 
--- steps lead on at one place, or nothing changed, since nothing is to be done
-pub record ActsAt {N C J H : Type 0} (p : Promises N C J H) (rules : RegistryRecord) (host : H) (first : Scene N C J H) (found : List Ready) (k : ℕ) (P : Place → Option Connection → Type 0) (service : Service) (past : Past) (service' : Service) (tools' : Tools N C J H) : Type 0 where
-  pub goes : GoesAt p rules host first found k service past service' tools'
-  pub same_work : service'.is_work_left ≡ service.is_work_left
-  pub acts : IsStill k service past.world service' goes.next.world P ⊎ IsTended k goes.next.deeds
+-- a task is done at one place, or nothing changed, since it is not to be done
+pub record ActsAt {N C J H : Type 0} (p : Promises N C J H) (rules : RegistryRecord) (host : H) (first : Scene N C J H) (found : List Ready) (k : ℕ) (task : Task) (P : Place → Option Connection → Type 0) (service : Service) (past : Past) (service' : Service) (tools' : Tools N C J H) : Type 0 where
+  pub goes : GoesAt p rules host first found k task service past service' tools'
+  pub due : service'.due ≡ service.due
+  pub acts : IsStill k service past.world service' goes.next.world P ⊎ IsDone task goes.next.deeds
 
-abbrev pub LeadsToActs : {N C J H : Type 0} → Promises N C J H → ℕ → (Place → Option Connection → Type 0) → Service → Tools N C J H → Service → Tools N C J H → Type 0
-LeadsToActs {N} {C} {J} {H} p k P service tools service' tools' =
-    (rules : RegistryRecord) (host : H) (first : Scene N C J H) (found : List Ready) (past : Past) → Served p rules host first (scene_of service tools found past) →
-    ActsAt p rules host first found k P service past service' tools'
-
--- no read is to be done
-abbrev pub IsUnread : Place → Option Connection → Type 0
-IsUnread place connection = place.readable ≡ true → ¬ (MayRead place connection)
-
--- no write is to be done
-abbrev pub IsUnwritten : Place → Option Connection → Type 0
-IsUnwritten place connection = place.writable ≡ true → ¬ (MayWrite place connection)
+-- so it is where it was not done since the last wait
+abbrev pub LeadsToActs : {N C J H : Type 0} → Promises N C J H → ℕ → Task → (Place → Option Connection → Type 0) → Service → Tools N C J H → Service → Tools N C J H → Type 0
+LeadsToActs {N} {C} {J} {H} p k task P service tools service' tools' =
+    (rules : RegistryRecord) (host : H) (first : Scene N C J H) (found : List Ready) (past : Past) → ¬ (IsDone task past.deeds) → Served p rules host first (scene_of service tools found past) →
+    ActsAt p rules host first found k task P service past service' tools'
 
 -- a read or a write is to be done
 pub data IsLeft (place : Place) (connection : Option Connection) : Type 0 where
   a_read : place.readable ≡ true → MayRead place connection → IsLeft place connection
   a_write : place.writable ≡ true → MayWrite place connection → IsLeft place connection
 
--- where no work is noted to be left, nothing is to be done at the place
-abbrev pub IsRestedAt : ℕ → Service → World → Type 0
-IsRestedAt k service world = service.is_work_left ≡ false → (place : Place) → slice_get service.places k ≡ Some place → IsAtRest place (connection_at world.connections k)
-
--- something was done at the place since the last wait, or nothing is to be done
-abbrev pub IsFairAt : ℕ → Service → Past → Type 0
-IsFairAt k service past = (place : Place) → slice_get service.places k ≡ Some place → IsAtRest place (connection_at past.world.connections k) ⊎ IsTended k past.deeds
-
--- so it is, and where no work is noted to be left, nothing is to be done there
-pub record IsSettledAt (k : ℕ) (service : Service) (past : Past) : Type 0 where
-  pub rested : IsRestedAt k service past.world
-  pub fair : IsFairAt k service past
-
--- steps lead on, which touch one place alone, and then work is noted that is left there, where something was done
-pub record SettlesAt {N C J H : Type 0} (p : Promises N C J H) (rules : RegistryRecord) (host : H) (first : Scene N C J H) (found : List Ready) (k : ℕ) (service : Service) (past : Past) (service' : Service) (tools' : Tools N C J H) : Type 0 where
-  pub goes : GoesAt p rules host first found k service past service' tools'
-  pub settled : IsSettledAt k service' goes.next
-  pub busy : service'.is_work_left ≡ true → (service.is_work_left ≡ true) ⊎ (0 < done_since goes.next.deeds)
-
--- a read or a write is to be done at the place
+-- so it is at the place
 pub record IsLeftAt (k : ℕ) (service : Service) (world : World) : Type 0 where
   pub place : Place
   pub here : slice_get service.places k ≡ Some place
   pub left : IsLeft place (connection_at world.connections k)
 
--- it is closed where it is over, and else work is noted that is left there
+-- where nothing is noted to be due, nothing is to be done at the place
+abbrev pub IsRestedAt : ℕ → Service → World → Type 0
+IsRestedAt k service world = slice_get service.due k ≡ Some false → IsKnownAt k service world IsAtRest
+
+-- no read is to be done at the place, or one was done since the last wait
+abbrev pub IsHeardAt : ℕ → Service → Past → Type 0
+IsHeardAt k service past = IsKnownAt k service past.world IsUnread ⊎ IsDone (Reading k) past.deeds
+
+-- the place had its turn, and where nothing is noted to be due, nothing is to be done there, and else something was done
+pub record IsSettledAt (k : ℕ) (service : Service) (past : Past) : Type 0 where
+  pub rested : IsRestedAt k service past.world
+  pub turned : IsKnownAt k service past.world (λ place connection. HadTurn k place connection past.deeds)
+  pub active : slice_get service.due k ≡ Some true → 0 < done_since past.deeds
+
+-- steps lead on, which touch one place alone, and it is settled
+pub record SettlesAt {N C J H : Type 0} (p : Promises N C J H) (rules : RegistryRecord) (host : H) (first : Scene N C J H) (found : List Ready) (k : ℕ) (service : Service) (past : Past) (service' : Service) (tools' : Tools N C J H) : Type 0 where
+  pub goes : GoesAt p rules host first found k (Writing k) service past service' tools'
+  pub settled : IsSettledAt k service' goes.next
+
+-- it is closed where it is over, and else it is noted whether something is due there
 pub record TidiesAt {N C J H : Type 0} (p : Promises N C J H) (rules : RegistryRecord) (host : H) (first : Scene N C J H) (found : List Ready) (k : ℕ) (service : Service) (past : Past) (service' : Service) (tools' : Tools N C J H) : Type 0 where
-  pub goes : GoesAt p rules host first found k service past service' tools'
+  pub goes : GoesAt p rules host first found k (Writing k) service past service' tools'
   pub rested : IsRestedAt k service' goes.next.world
-  pub fair : IsKnownAt k service past.world IsUnread → IsKnownAt k service past.world IsUnwritten → IsFairAt k service' goes.next
-  pub left : service'.is_work_left ≡ true → (service.is_work_left ≡ true) ⊎ IsLeftAt k service past.world
+  pub turned : IsKnownAt k service past.world IsUnread ⊎ (IsDone (Reading k) past.deeds ⊎ IsDone (Writing k) past.deeds) → IsKnownAt k service past.world IsUnwritten ⊎ IsDone (Writing k) past.deeds →
+      IsKnownAt k service' goes.next.world (λ place connection. HadTurn k place connection goes.next.deeds)
+  pub left : slice_get service'.due k ≡ Some true → IsLeftAt k service past.world
 
 abbrev pub LeadsToTidy : {N C J H : Type 0} → Promises N C J H → ℕ → Service → Tools N C J H → Service → Tools N C J H → Type 0
 LeadsToTidy {N} {C} {J} {H} p k service tools service' tools' =
@@ -178,7 +178,7 @@ LeadsToTidy {N} {C} {J} {H} p k service tools service' tools' =
 
 abbrev pub LeadsToRest : {N C J H : Type 0} → Promises N C J H → ℕ → Service → Tools N C J H → Service → Tools N C J H → Type 0
 LeadsToRest {N} {C} {J} {H} p k service tools service' tools' =
-    (rules : RegistryRecord) (host : H) (first : Scene N C J H) (found : List Ready) (past : Past) → Served p rules host first (scene_of service tools found past) →
+    (rules : RegistryRecord) (host : H) (first : Scene N C J H) (found : List Ready) (past : Past) → IsHeardAt k service past → ¬ (IsDone (Writing k) past.deeds) → Served p rules host first (scene_of service tools found past) →
     SettlesAt p rules host first found k service past service' tools'
 
 -- a connection is closed, wherever the edge was reached
@@ -199,56 +199,90 @@ IsRested service world = (k : ℕ) → k < 64 → IsRestedAt k service world
 abbrev pub IsSettled : Service → Past → Type 0
 IsSettled service past = (k : ℕ) → k < 64 → IsSettledAt k service past
 
--- steps lead on, and all work that is left is noted, and none is noted anew where nothing was done
-pub record GoesTo {N C J H : Type 0} (p : Promises N C J H) (rules : RegistryRecord) (host : H) (first : Scene N C J H) (found : List Ready) (service : Service) (past : Past) (service' : Service) (tools' : Tools N C J H) : Type 0 where
+-- steps lead on, and all places are settled
+pub record GoesTo {N C J H : Type 0} (p : Promises N C J H) (rules : RegistryRecord) (host : H) (first : Scene N C J H) (found : List Ready) (past : Past) (service' : Service) (tools' : Tools N C J H) : Type 0 where
   pub next : Past
   pub served : Served p rules host first (scene_of service' tools' found next)
   pub settled : IsSettled service' next
   pub done : DoneAfter past.deeds next.deeds
-  pub busy : service'.is_work_left ≡ true → (service.is_work_left ≡ true) ⊎ (0 < done_since next.deeds)
 
 abbrev pub LeadsTo : {N C J H : Type 0} → Promises N C J H → List Ready → Service → Tools N C J H → List Ready → Service → Tools N C J H → Type 0
 LeadsTo {N} {C} {J} {H} p found service tools found' service' tools' =
     (rules : RegistryRecord) (host : H) (first : Scene N C J H) (past : Past) → Served p rules host first (scene_of service tools found past) → IsSettled service past →
-    GoesTo p rules host first found' service past service' tools'
+    GoesTo p rules host first found' past service' tools'
 
--- so they do, and where it is so then, something was done since the last wait
-pub record DoesTo {N C J H : Type 0} (p : Promises N C J H) (rules : RegistryRecord) (host : H) (first : Scene N C J H) (found : List Ready) (P : Type 0) (service : Service) (past : Past) (service' : Service) (tools' : Tools N C J H) : Type 0 where
-  pub goes : GoesTo p rules host first found service past service' tools'
-  pub some : P → 0 < done_since goes.next.deeds
+-- so they do, and where it is so then, it was tried to accept since the last wait
+pub record Accepts {N C J H : Type 0} (p : Promises N C J H) (rules : RegistryRecord) (host : H) (first : Scene N C J H) (found : List Ready) (P : Type 0) (past : Past) (service' : Service) (tools' : Tools N C J H) : Type 0 where
+  pub goes : GoesTo p rules host first found past service' tools'
+  pub tried : P → IsDone Accepting goes.next.deeds
 
-abbrev pub LeadsToDeeds : {N C J H : Type 0} → Promises N C J H → List Ready → Type 0 → Service → Tools N C J H → Service → Tools N C J H → Type 0
-LeadsToDeeds {N} {C} {J} {H} p found P service tools service' tools' =
+abbrev pub LeadsToAccepts : {N C J H : Type 0} → Promises N C J H → List Ready → Type 0 → Service → Tools N C J H → Service → Tools N C J H → Type 0
+LeadsToAccepts {N} {C} {J} {H} p found P service tools service' tools' =
     (rules : RegistryRecord) (host : H) (first : Scene N C J H) (past : Past) → Served p rules host first (scene_of service tools found past) → IsSettled service past →
-    DoesTo p rules host first found P service past service' tools'
+    Accepts p rules host first found P past service' tools'
 
--- so it is from where nothing is to be done but what is noted to be left
-abbrev pub LeadsToTurns : {N C J H : Type 0} → Promises N C J H → List Ready → Type 0 → Service → Tools N C J H → Service → Tools N C J H → Type 0
-LeadsToTurns {N} {C} {J} {H} p found P service tools service' tools' =
+-- what was found ready is noted at its place
+abbrev pub LeadsToHearing : {N C J H : Type 0} → Promises N C J H → List Ready → Service → Tools N C J H → List Ready → Service → Type 0
+LeadsToHearing {N} {C} {J} {H} p found service tools found' service' =
     (rules : RegistryRecord) (host : H) (first : Scene N C J H) (past : Past) → Served p rules host first (scene_of service tools found past) → IsRested service past.world →
-    DoesTo p rules host first found P service past service' tools'
+    Served p rules host first (scene_of service' tools found' past) × IsRested service' past.world
 
--- nobody is silent for too long
+-- each place below i was read, where it may be; those from i on were not, and none was written to
+pub record GoesReading {N C J H : Type 0} (p : Promises N C J H) (rules : RegistryRecord) (host : H) (first : Scene N C J H) (found : List Ready) (i : ℕ) (past : Past) (service' : Service) (tools' : Tools N C J H) : Type 0 where
+  pub next : Past
+  pub served : Served p rules host first (scene_of service' tools' found next)
+  pub rested : IsRested service' next.world
+  pub heard : (j : ℕ) → j < i → IsHeardAt j service' next
+  pub unread : (j : ℕ) → i ≤ j → ¬ (IsDone (Reading j) next.deeds)
+  pub unwritten : (j : ℕ) → ¬ (IsDone (Writing j) next.deeds)
+  pub done : DoneAfter past.deeds next.deeds
+
+abbrev pub LeadsReading : {N C J H : Type 0} → Promises N C J H → ℕ → Service → Tools N C J H → Service → Tools N C J H → Type 0
+LeadsReading {N} {C} {J} {H} p i service tools service' tools' =
+    (rules : RegistryRecord) (host : H) (first : Scene N C J H) (found : List Ready) (past : Past) → ((task : Task) → ¬ (IsDone task past.deeds)) → IsRested service past.world →
+    Served p rules host first (scene_of service tools found past) → GoesReading p rules host first found i past service' tools'
+
+-- each place below i is settled; those from i on were heard, and not written to
+pub record GoesWriting {N C J H : Type 0} (p : Promises N C J H) (rules : RegistryRecord) (host : H) (first : Scene N C J H) (found : List Ready) (i : ℕ) (past : Past) (service' : Service) (tools' : Tools N C J H) : Type 0 where
+  pub next : Past
+  pub served : Served p rules host first (scene_of service' tools' found next)
+  pub below : (j : ℕ) → j < i → IsSettledAt j service' next
+  pub rested : (j : ℕ) → i ≤ j → j < 64 → IsRestedAt j service' next.world
+  pub heard : (j : ℕ) → i ≤ j → j < 64 → IsHeardAt j service' next
+  pub unwritten : (j : ℕ) → i ≤ j → ¬ (IsDone (Writing j) next.deeds)
+  pub done : DoneAfter past.deeds next.deeds
+
+abbrev pub LeadsWriting : {N C J H : Type 0} → Promises N C J H → ℕ → Service → Tools N C J H → Service → Tools N C J H → Type 0
+LeadsWriting {N} {C} {J} {H} p i service tools service' tools' =
+    (rules : RegistryRecord) (host : H) (first : Scene N C J H) (found : List Ready) (past : Past) → IsRested service past.world → ((j : ℕ) → j < 64 → IsHeardAt j service past) →
+    ((j : ℕ) → ¬ (IsDone (Writing j) past.deeds)) → Served p rules host first (scene_of service tools found past) → GoesWriting p rules host first found i past service' tools'
+
+-- where an accept failed and was not tried again, it failed in this second
+abbrev pub IsTried : Service → Type 0
+IsTried service = (since : ℕ) → service.queue ≡ Barred since → since ≡ service.times.steady
+
+-- nobody is silent for too long, nor is accepting barred
 pub record IsQuick (service : Service) : Type 0 where
   pub idle : AreWithin service.limits.idle service.times service.places
   pub crowded : service.queue ≡ Waits → AreWithin service.limits.crowded service.times service.places
+  pub tried : IsTried service
 
--- where something is noted to be left, something was done since the last wait
-abbrev pub IsActive : Service → Past → Type 0
-IsActive service past = IsBusy service → 0 < done_since past.deeds
+-- all places are settled, and nobody is to be accepted, or it was tried since the last wait
+pub record IsReady (service : Service) (past : Past) : Type 0 where
+  pub settled : IsSettled service past
+  pub queue : service.queue ≢ Told ⊎ IsDone Accepting past.deeds
+  pub quick : IsQuick service
 
 -- steps lead through so many waits
 pub record GoesRound {N C J H : Type 0} (p : Promises N C J H) (rules : RegistryRecord) (host : H) (first : Scene N C J H) (count : ℕ) (past : Past) (service' : Service) (tools' : Tools N C J H) : Type 0 where
   pub next : Past
   pub served : Served p rules host first (scene_of service' tools' [] next)
-  pub settled : IsSettled service' next
-  pub active : IsActive service' next
-  pub quick : IsQuick service'
+  pub ready : IsReady service' next
   pub waits_are : waits next.deeds ≡ waits past.deeds + count
 
 abbrev pub LeadsRound : {N C J H : Type 0} → Promises N C J H → ℕ → Service → Tools N C J H → Service → Tools N C J H → Type 0
 LeadsRound {N} {C} {J} {H} p count service tools service' tools' =
-    (rules : RegistryRecord) (host : H) (first : Scene N C J H) (past : Past) → Served p rules host first (scene_of service tools [] past) → IsSettled service past → IsActive service past → IsQuick service →
+    (rules : RegistryRecord) (host : H) (first : Scene N C J H) (past : Past) → Served p rules host first (scene_of service tools [] past) → IsReady service past →
     GoesRound p rules host first count past service' tools'
 
 -- steps lead to a scene where something fails
@@ -261,7 +295,7 @@ pub record GoesWrong {N C J H : Type 0} (p : Promises N C J H) (rules : Registry
 
 abbrev pub LeadsWrong : {N C J H : Type 0} → Promises N C J H → LoopFault → Service → Tools N C J H → Service → Tools N C J H → Type 0
 LeadsWrong {N} {C} {J} {H} p fault service tools service' tools' =
-    (rules : RegistryRecord) (host : H) (first : Scene N C J H) (past : Past) → Served p rules host first (scene_of service tools [] past) → IsSettled service past → IsActive service past → IsQuick service →
+    (rules : RegistryRecord) (host : H) (first : Scene N C J H) (past : Past) → Served p rules host first (scene_of service tools [] past) → IsReady service past →
     GoesWrong p rules host first fault service' tools'
 
 -- connections that are left are closed

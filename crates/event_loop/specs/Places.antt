@@ -11,6 +11,10 @@ use Rattle.event_loop.specs.declared.place.Place.{Place}
 abbrev pub places_limit : ℕ
 places_limit = 64
 
+-- so much may be found ready at once: the listener, and each connection
+abbrev pub ready_limit : ℕ
+ready_limit = 65
+
 -- so many bytes are read at once
 abbrev pub read_limit : ℕ
 read_limit = 16384
@@ -49,10 +53,18 @@ pub data IsOver (p : Place) (connection : Option Connection) : Type 0 where
   ended : p.stage ≡ Ended → untaken connection ≡ [] → IsOver p connection
   dismissed : p.stage ≡ Open → is_closing connection ≡ true → untaken connection ≡ [] → IsOver p connection
 
+-- no read is to be done now
+abbrev pub IsUnread : Place → Option Connection → Type 0
+IsUnread p connection = p.readable ≡ true → ¬ (MayRead p connection)
+
+-- no write is to be done now
+abbrev pub IsUnwritten : Place → Option Connection → Type 0
+IsUnwritten p connection = p.writable ≡ true → ¬ (MayWrite p connection)
+
 -- nothing is to be done now
 pub record IsAtRest (p : Place) (connection : Option Connection) : Type 0 where
-  pub unread : p.readable ≡ true → ¬ (MayRead p connection)
-  pub unwritten : p.writable ≡ true → ¬ (MayWrite p connection)
+  pub unread : IsUnread p connection
+  pub unwritten : IsUnwritten p connection
   pub goes_on : ¬ (IsOver p connection)
 
 -- ALL PLACES

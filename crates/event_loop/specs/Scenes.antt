@@ -17,6 +17,9 @@ pub record Promises (N C J H : Type 0) : Type 1 where
   pub notes : J → ConnectionFault → J → Type 0
   pub hosting : Hosting H
 
+abbrev pub promises : {N C J H : Type 0} → (N → Deed → N → Type 0) → (C → Option Times → C → Type 0) → (J → ConnectionFault → J → Type 0) → Hosting H → Promises N C J H
+promises does tells notes hosting = record { does = does; tells = tells; notes = notes; hosting = hosting }
+
 -- What the loop works with: sockets, clocks, a journal, and an edge with its draws, on its course. What it knows: its
 -- limits, its places, what the last wait found and was not looked at yet, who waits to be accepted, what the clocks told
 -- last, and when a fault was noted last. What the sockets did so far, the last deed first.

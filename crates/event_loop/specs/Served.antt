@@ -1,15 +1,16 @@
 -- All that the loop does, step by step.
-use Rattle.std.specs.Prelude.{◌≡◌, ◌≢◌, ◌⊎◌, ◌<◌, ℕ, Bool, true, ◌||◌, List, [], ◌∷◌, Option, Some, None, slice_get, slice_set, length}
+use Rattle.std.specs.Prelude.{◌≡◌, ◌≢◌, ◌⊎◌, ◌<◌, ◌≤◌, ℕ, Bool, true, ◌||◌, List, [], ◌∷◌, Option, Some, None, slice_get, slice_set, length}
 use Rattle.clients.specs.RegistryRecord.{RegistryRecord}
 use Rattle.event_loop.specs.declared.clocks.Times.{Times}
 use Rattle.event_loop.specs.declared.place.Place.{Place}
-use Rattle.event_loop.specs.declared.queue.Queue.TheVariants.{Told, Barred, Waits}
+use Rattle.event_loop.specs.declared.queue.Queue.TheVariants.{Told, Empty, Barred, Waits}
 use Rattle.event_loop.specs.declared.sockets.Ready.{Ready}
 use Rattle.event_loop.specs.declared.sockets.Ready.TheVariants as ready
 use Rattle.event_loop.specs.Deeds as deed
-use Rattle.event_loop.specs.Deeds.{done_since, IsTended}
+use Rattle.event_loop.specs.Deeds.{Deed, Reading, Writing, Accepting, IsDone, done_since}
 use Rattle.event_loop.specs.Courses.{known, IsReached}
-use Rattle.event_loop.specs.Places.{IsTaken, MayRead, MayWrite, IsAtRest, AllFree, places_limit}
+use Rattle.http_edge.specs.Schedule.{Connection}
+use Rattle.event_loop.specs.Places.{IsTaken, MayRead, MayWrite, IsUnread, IsUnwritten, IsOver, IsAtRest, AllFree, places_limit, ready_limit}
 use Rattle.event_loop.specs.Scenes.{Promises, Scene}
 use Rattle.event_loop.specs.Coming.{Comes, told_queue}
 use Rattle.event_loop.specs.Reading.{Reads}
@@ -21,52 +22,72 @@ pub record IsIdle {N C J H : Type 0} (s : Scene N C J H) : Type 0 where
   pub places : (k : ℕ) (place : Place) → slice_get s.places k ≡ Some place → IsAtRest place (known s.course k)
   pub queue : s.queue ≢ Told
 
--- at each place something was done since the last wait, or nothing is to be done
-abbrev pub IsFair : {N C J H : Type 0} → Scene N C J H → Type 0
-IsFair s = (k : ℕ) (place : Place) → slice_get s.places k ≡ Some place → IsAtRest place (known s.course k) ⊎ IsTended k s.deeds
+-- The place had its turn since the last wait: no read is to be done there, or one was done, or a write, which may have made
+-- room for one; no write is to be done, or one was done; and its connection is not over.
+pub record HadTurn (k : ℕ) (place : Place) (connection : Option Connection) (deeds : List Deed) : Type 0 where
+  pub read : IsUnread place connection ⊎ (IsDone (Reading k) deeds ⊎ IsDone (Writing k) deeds)
+  pub written : IsUnwritten place connection ⊎ IsDone (Writing k) deeds
+  pub goes_on : ¬ (IsOver place connection)
 
--- as the clocks told last, nobody is silent for longer than the limit, nor, where another connection waits for a place, for
--- longer than the other limit
+-- so did each place; and nobody is to be accepted, or it was tried
+pub record IsFair {N C J H : Type 0} (s : Scene N C J H) : Type 0 where
+  pub places : (k : ℕ) (place : Place) → slice_get s.places k ≡ Some place → HadTurn k place (known s.course k) s.deeds
+  pub queue : s.queue ≢ Told ⊎ IsDone Accepting s.deeds
+
+-- As the clocks told last, nobody is silent for longer than the limit, nor, where another connection waits for a place, for
+-- longer than the other limit; and where an accept failed and was not tried again, it failed in this second.
 pub record IsPrompt {N C J H : Type 0} (s : Scene N C J H) : Type 0 where
   pub idle : AreWithin s.limits.idle s.times s.places
   pub crowded : s.queue ≡ Waits → AreWithin s.limits.crowded s.times s.places
+  pub tried : (since : ℕ) → s.queue ≡ Barred since → since ≡ s.times.steady
 
 -- How long it waits, in milliseconds: not at all only where something was done since the last wait; else, where nothing is
--- to be done, for a second, or, while no connection is there, for ever.
+-- to be done, for a second, or, while no connection is there and no accept is to be tried again, for ever.
 pub data IsPatient {N C J H : Type 0} (s : Scene N C J H) : Option ℕ → Type 0 where
   looks : 0 < done_since s.deeds → IsPatient s (Some 0)
   rests : IsIdle s → IsPatient s (Some 1000)
-  sleeps : IsIdle s → AllFree s.places → IsPatient s None
+  sleeps : IsIdle s → AllFree s.places → ((since : ℕ) → s.queue ≢ Barred since) → IsPatient s None
+
+-- It may wait so long now, with room for so much: all that the last wait found was looked at.
+pub record MayWait {N C J H : Type 0} (s : Scene N C J H) (limit : Option ℕ) (room : ℕ) : Type 0 where
+  pub patient : IsPatient s limit
+  pub fair : IsFair s
+  pub prompt : IsPrompt s
+  pub heard : s.found ≡ []
+  pub roomy : ready_limit ≤ room
 
 -- the place, when its connection was found ready
 abbrev pub told_place : Place → Bool → Bool → Bool → Place
 told_place place readable writable hung =
     record place { readable = place.readable || readable; writable = place.writable || writable; hung = place.hung || hung }
 
--- One step: a wait, a look at the clocks or at what the wait found, or something done for connections.
+-- One step: a wait with a look at the clocks behind it, a look at what the wait found, or something done for connections.
+-- A place is read at most once between two waits, and written to at most once.
 pub data Step {N C J H : Type 0} (p : Promises N C J H) (rules : RegistryRecord) (host : H) (s : Scene N C J H) : Scene N C J H → Type 0 where
-  waits : (limit : Option ℕ) (found : List Ready) (n : N) → IsPatient s limit → IsFair s → IsPrompt s → s.found ≡ [] → p.does s.sockets (deed.Waited limit found) n →
-      Step p rules host s (record s { sockets = n; deeds = deed.Waited limit found ∷ s.deeds; found = found })
-  ticks : (times : Times) (c : C) → p.tells s.clocks (Some times) c → Step p rules host s (record s { clocks = c; times = times })
+  waits : (limit : Option ℕ) (room : ℕ) (found : List Ready) (n : N) (times : Times) (c : C) → MayWait s limit room →
+      p.does s.sockets (deed.Waited limit room found) n → p.tells s.clocks (Some times) c →
+      Step p rules host s (record s { sockets = n; clocks = c; deeds = deed.Waited limit room found ∷ s.deeds; found = found; times = times })
   hears_of_listener : (more : List Ready) → s.found ≡ ready.Listener ∷ more → Step p rules host s (record s { found = more; queue = told_queue s.queue })
   hears_of : (k : ℕ) (readable writable hung : Bool) (more : List Ready) (place place' : Place) → s.found ≡ ready.Connection k readable writable hung ∷ more → slice_get s.places k ≡ Some place →
       place' ≡ told_place place readable writable hung → Step p rules host s (record s { found = more; places = slice_set s.places k place' })
   hears_of_none : (k : ℕ) (readable writable hung : Bool) (more : List Ready) → s.found ≡ ready.Connection k readable writable hung ∷ more → slice_get s.places k ≡ None →
       Step p rules host s (record s { found = more })
   comes : (s' : Scene N C J H) → s.queue ≡ Told → Comes p rules host s s' → Step p rules host s s'
-  -- after an accept that failed it is tried again
-  tries_again : s.queue ≡ Barred → Step p rules host s (record s { queue = Told })
-  reads : (k : ℕ) (place : Place) (s' : Scene N C J H) → slice_get s.places k ≡ Some place → place.readable ≡ true → MayRead place (known s.course k) → Reads p rules host k place s s' →
-      Step p rules host s s'
-  writes : (k : ℕ) (place : Place) (s' : Scene N C J H) → slice_get s.places k ≡ Some place → MayWrite place (known s.course k) → Writes p rules host k place s s' → Step p rules host s s'
+  -- in another second than an accept failed in, it is tried again
+  tries_again : (since : ℕ) → s.queue ≡ Barred since → since ≢ s.times.steady → Step p rules host s (record s { queue = Told })
+  reads : (k : ℕ) (place : Place) (s' : Scene N C J H) → slice_get s.places k ≡ Some place → place.readable ≡ true → ¬ (IsDone (Reading k) s.deeds) →
+      MayRead place (known s.course k) → Reads p rules host k place s s' → Step p rules host s s'
+  writes : (k : ℕ) (place : Place) (s' : Scene N C J H) → slice_get s.places k ≡ Some place → place.writable ≡ true → ¬ (IsDone (Writing k) s.deeds) →
+      MayWrite place (known s.course k) → Writes p rules host k place s s' → Step p rules host s s'
   closes : (k : ℕ) (place : Place) (s' : Scene N C J H) → slice_get s.places k ≡ Some place → IsTaken place.stage → Cause s k place → Closes p rules host k place s s' → Step p rules host s s'
 
--- At first no connection is there and nothing was done, and the edge is reached.
+-- At first no connection is there, none is known to wait, and nothing was done, and the edge is reached.
 pub record IsFirst {N C J H : Type 0} (p : Promises N C J H) (rules : RegistryRecord) (host : H) (s : Scene N C J H) : Type 0 where
   pub size : length s.places ≡ places_limit
   pub free : AllFree s.places
   pub found : s.found ≡ []
   pub noted : s.noted ≡ None
+  pub queue : s.queue ≡ Empty
   pub deeds : s.deeds ≡ []
   pub reached : IsReached p.hosting rules host s.course
 

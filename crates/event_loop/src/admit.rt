@@ -5,7 +5,8 @@ ghost use Rattle.event_loop.specs.declared.queue.Queue.TheVariants.{Told, Waits}
 ghost use Rattle.event_loop.specs.declared.sockets.Ready.{Ready};
 ghost use Rattle.event_loop.specs.Places.{IsFreeAt, AllTaken};
 ghost use Rattle.event_loop.specs.Closing.{AreWithin};
-ghost use Rattle.event_loop.specs.Goes.{LeadsToDeeds, promises};
+ghost use Rattle.event_loop.specs.Goes.{IsTried, LeadsToAccepts};
+ghost use Rattle.event_loop.specs.Scenes.{promises};
 
 use crate::clocks::Clocks;
 use crate::fault::ConnectionFault;
@@ -43,9 +44,10 @@ impl Service {
         requires bound { k < 64 }
         requires free { IsFreeAt self.old.places k }
         requires told { self.old.queue ≡ Told }
-        ensures leads { (found : List Ready) → LeadsToDeeds (promises N.does C.tells J.notes H.HookHost) found ⊤ self.old tools.old self.new tools.new }
+        ensures leads { (found : List Ready) → LeadsToAccepts (promises N.does C.tells J.notes H.HookHost) found ⊤ self.old tools.old self.new tools.new }
         ensures within { (limit : ℕ) → AreWithin limit self.old.times self.old.places → AreWithin limit self.new.times self.new.places }
         ensures waits { self.new.queue ≢ Waits }
+        ensures tried { IsTried self.new }
         ensures limits { self.new.limits ≡ self.old.limits }
     {
         match tools.sockets.accept(k) {
@@ -72,7 +74,7 @@ impl Service {
             },
             Accepted::Later => self.queue = Queue::Empty,
             Accepted::Failed => {
-                self.queue = Queue::Barred;
+                self.queue = Queue::Barred(self.times.steady);
                 let cause = ConnectionFault::Accept;
                 note(
                     &mut self.noted,
@@ -90,9 +92,10 @@ impl Service {
         tools: &mut Tools<N, C, J, H>,
     )
         requires told { self.old.queue ≡ Told }
-        ensures leads { (found : List Ready) → LeadsToDeeds (promises N.does C.tells J.notes H.HookHost) found ⊤ self.old tools.old self.new tools.new }
+        ensures leads { (found : List Ready) → LeadsToAccepts (promises N.does C.tells J.notes H.HookHost) found ⊤ self.old tools.old self.new tools.new }
         ensures within { (limit : ℕ) → AreWithin limit self.old.times self.old.places → AreWithin limit self.new.times self.new.places }
         ensures waits { self.new.queue ≢ Waits }
+        ensures tried { IsTried self.new }
         ensures limits { self.new.limits ≡ self.old.limits }
     {
         let Some(k) = self.free_place() else {
@@ -108,9 +111,10 @@ impl Service {
         &mut self,
         tools: &mut Tools<N, C, J, H>,
     )
-        ensures leads { (found : List Ready) → LeadsToDeeds (promises N.does C.tells J.notes H.HookHost) found (self.new.queue ≡ Told) self.old tools.old self.new tools.new }
+        ensures leads { (found : List Ready) → LeadsToAccepts (promises N.does C.tells J.notes H.HookHost) found (self.new.queue ≡ Told) self.old tools.old self.new tools.new }
         ensures within { (limit : ℕ) → AreWithin limit self.old.times self.old.places → AreWithin limit self.new.times self.new.places }
         ensures waits { self.new.queue ≡ Waits → self.old.queue ≡ Waits }
+        ensures tried { IsTried self.old → IsTried self.new }
         ensures limits { self.new.limits ≡ self.old.limits }
     {
         for _nth in 0..PLACES {

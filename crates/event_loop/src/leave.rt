@@ -5,7 +5,8 @@ ghost use Rattle.event_loop.specs.declared.sockets.Ready.{Ready};
 ghost use Rattle.event_loop.specs.Places.{AllFree, IsFreeAt, IsTaken, IsOver};
 ghost use Rattle.event_loop.specs.Closing.{AreWithin, freed_queue};
 ghost use Rattle.event_loop.specs.declared.queue.Queue.TheVariants.{Waits};
-ghost use Rattle.event_loop.specs.Goes.{IsLongestAt, WhereKnown, LeadsAway, LeadsShut, LeadsTo, LeadsToTidy, promises};
+ghost use Rattle.event_loop.specs.Goes.{IsLongestAt, IsTried, WhereKnown, LeadsAway, LeadsShut, LeadsTo, LeadsToTidy};
+ghost use Rattle.event_loop.specs.Scenes.{promises};
 
 use crate::clocks::Clocks;
 use crate::journal::Journal;
@@ -70,7 +71,7 @@ impl Service {
         self.queue = self.queue.freed();
     }
 
-    /// Closes a connection that is over. For another, what may be done is noted to be left.
+    /// Closes a connection that is over. For another, it is noted whether something is due.
     pub(crate) fn settle<N: Sockets, C: Clocks, J: Journal, H: HookHost>(
         &mut self,
         tools: &mut Tools<N, C, J, H>,
@@ -80,16 +81,17 @@ impl Service {
         ensures { LeadsToTidy (promises N.does C.tells J.notes H.HookHost) k self.old tools.old self.new tools.new }
     {
         let place = self.place_at(k);
+        self.due[k as usize] = false;
         if is_over(&tools.edge, place, k) {
             self.leave(tools, k, place);
             return;
         }
         if may_read(&tools.edge, place, k) {
-            self.is_work_left = true;
+            self.due[k as usize] = true;
             return;
         }
         if may_write(&tools.edge, place, k) {
-            self.is_work_left = true;
+            self.due[k as usize] = true;
         }
     }
 
@@ -130,22 +132,23 @@ impl Service {
         }
     }
 
-    /// Silent connections are closed, and once a second it is tried again to accept.
+    /// Silent connections are closed, and where an accept failed in another second, it is tried again.
     pub(crate) fn tidy<N: Sockets, C: Clocks, J: Journal, H: HookHost>(
         &mut self,
         tools: &mut Tools<N, C, J, H>,
     )
         ensures leads { (found : List Ready) → LeadsTo (promises N.does C.tells J.notes H.HookHost) found self.old tools.old found self.new tools.new }
         ensures within { AreWithin self.new.limits.idle self.new.times self.new.places }
+        ensures tried { IsTried self.new }
     {
         self.sweep(tools);
-        if self.swept == self.times.steady {
+        let Queue::Barred(since) = self.queue else {
+            return;
+        };
+        if since == self.times.steady {
             return;
         }
-        self.swept = self.times.steady;
-        if let Queue::Barred = self.queue {
-            self.queue = Queue::Told;
-        }
+        self.queue = Queue::Told;
     }
 
     // The place whose connection took no byte of a reply for longest, if one took none for some seconds.
@@ -173,6 +176,7 @@ impl Service {
     )
         ensures leads { (found : List Ready) → LeadsTo (promises N.does C.tells J.notes H.HookHost) found self.old tools.old found self.new tools.new }
         ensures within { (limit : ℕ) → AreWithin limit self.old.times self.old.places → AreWithin limit self.new.times self.new.places }
+        ensures tried { IsTried self.old → IsTried self.new }
         ensures crowded { self.new.queue ≡ Waits → AreWithin self.new.limits.crowded self.new.times self.new.places }
         ensures limits { self.new.limits ≡ self.old.limits }
     {

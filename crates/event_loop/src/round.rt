@@ -1,7 +1,8 @@
 //! Rounds.
-ghost use Rattle.std.specs.Prelude.{◌≡◌, true, false, OnOk, IfErr};
+ghost use Rattle.std.specs.Prelude.{◌≡◌, ◌≤◌, length, true, false, OnOk, IfErr};
 ghost use Rattle.event_loop.specs.Places.{AllFree};
-ghost use Rattle.event_loop.specs.Goes.{IsBusy, IsLimit, MayRest, LeadsRound, LeadsWrong, promises};
+ghost use Rattle.event_loop.specs.Goes.{IsBusy, IsLimit, MayRest, LeadsRound, LeadsWrong};
+ghost use Rattle.event_loop.specs.Scenes.{promises};
 
 use crate::clocks::Clocks;
 use crate::fault::LoopFault;
@@ -29,17 +30,17 @@ impl Service {
         true
     }
 
-    // Whether something may be left to be done.
+    // Whether something may be due.
     fn is_busy(&self) -> bool
         ensures busy { result ≡ true → IsBusy self.now }
         ensures rests { result ≡ false → MayRest self.now }
     {
         match self.queue {
             Queue::Told => true,
-            Queue::Empty => self.is_work_left,
-            Queue::Barred => self.is_work_left,
-            Queue::Asked => self.is_work_left,
-            Queue::Waits => self.is_work_left,
+            Queue::Empty => self.has_due(),
+            Queue::Barred(_) => self.has_due(),
+            Queue::Asked => self.has_due(),
+            Queue::Waits => self.has_due(),
         }
     }
 
@@ -50,7 +51,7 @@ impl Service {
         if self.is_busy() {
             return Some(0);
         }
-        if let Queue::Barred = self.queue {
+        if let Queue::Barred(_) = self.queue {
             return Some(SECOND);
         }
         if self.is_empty() {
@@ -59,12 +60,14 @@ impl Service {
         Some(SECOND)
     }
 
-    /// Waits once, and does what is to be done.
+    /// Waits once and looks at the clocks, notes what was found, reads each place, writes to each, and then closes and
+    /// accepts.
     pub(crate) fn round<N: Sockets, C: Clocks, J: Journal, H: HookHost>(
         &mut self,
         tools: &mut Tools<N, C, J, H>,
         found: &mut [Ready],
     ) -> Result<(), LoopFault>
+        requires room { 65 ≤ length found.old }
         ensures goes { OnOk result (LeadsRound (promises N.does C.tells J.notes H.HookHost) 1 self.old tools.old self.new tools.new) }
         ensures wrong { IfErr result (λ fault. LeadsWrong (promises N.does C.tells J.notes H.HookHost) fault self.old tools.old self.new tools.new) }
     {
@@ -76,8 +79,9 @@ impl Service {
             return Err(LoopFault::Clock);
         };
         self.times = times;
-        self.turns(tools);
-        self.answer_all(tools, &found[..count]);
+        self.hear_all(tools, &found[..count]);
+        self.read_all(tools);
+        self.write_all(tools);
         self.tidy(tools);
         self.make_room(tools);
         self.admit_all(tools);

@@ -1,6 +1,7 @@
 //! Serving connections.
 ghost use Rattle.event_loop.specs.Ends.{Ends};
-ghost use Rattle.event_loop.specs.Goes.{LeadsWrong, promises};
+ghost use Rattle.event_loop.specs.Goes.{LeadsWrong};
+ghost use Rattle.event_loop.specs.Scenes.{promises};
 
 use crate::clocks::Clocks;
 use crate::fault::LoopFault;

@@ -1,10 +1,11 @@
 //! What the loop knows.
-ghost use Rattle.std.specs.Prelude.{◌≡◌, ◌<◌, None, Some, length, slice_get};
+ghost use Rattle.std.specs.Prelude.{◌≡◌, ◌<◌, true, false, None, Some, length, slice_get};
+ghost use Rattle.event_loop.specs.declared.queue.Queue.TheVariants.{Empty};
 ghost use Rattle.event_loop.specs.Places.{AllFree};
-ghost use Rattle.event_loop.specs.Goes.{MayRest};
+ghost use Rattle.event_loop.specs.Goes.{IsDueSomewhere, IsDueNowhere};
 
 use crate::clocks::Times;
-use crate::limits::{Limits, READ_LIMIT};
+use crate::limits::{Limits, PLACES, READ_LIMIT};
 use crate::place::{FREE_PLACE, Place};
 use crate::queue::Queue;
 
@@ -12,17 +13,16 @@ use crate::queue::Queue;
 #[derive(Drop)]
 pub struct Service {
     pub(crate) places: [Place; 64],
+    // Whether something may be due at a place: a read, a write or a close.
+    pub(crate) due: [bool; 64],
     // Where bytes are read to.
     pub(crate) buffer: [u8; READ_LIMIT],
     pub(crate) limits: Limits,
     // What the clocks told last.
     pub(crate) times: Times,
     pub(crate) queue: Queue,
-    // Whether something may be left to be done at some place.
-    pub(crate) is_work_left: bool,
-    // In which second a fault was noted last, and it was tried again to accept.
+    // In which second a fault was noted last.
     pub(crate) noted: Option<u64>,
-    pub(crate) swept: u64,
 }
 
 impl Service {
@@ -32,18 +32,18 @@ impl Service {
         ensures free { AllFree result.places }
         ensures limits { result.limits ≡ limits }
         ensures times { result.times ≡ times }
-        ensures rests { MayRest result }
+        ensures due { IsDueNowhere result }
+        ensures queue { result.queue ≡ Empty }
         ensures noted { result.noted ≡ None }
     {
         Service {
             places: [FREE_PLACE; 64],
+            due: [false; 64],
             buffer: [0; READ_LIMIT],
             limits,
             times,
             queue: Queue::Empty,
-            is_work_left: false,
             noted: None,
-            swept: 0,
         }
     }
 
@@ -53,5 +53,26 @@ impl Service {
         ensures { slice_get self.now.places k ≡ Some result }
     {
         self.places[k as usize]
+    }
+
+    /// Whether something may be due at a place.
+    pub(crate) fn is_due(&self, k: u32) -> bool
+        requires bound { k < 64 }
+        ensures { slice_get self.now.due k ≡ Some result }
+    {
+        self.due[k as usize]
+    }
+
+    /// Whether something may be due at some place.
+    pub(crate) fn has_due(&self) -> bool
+        ensures due { result ≡ true → IsDueSomewhere self.now }
+        ensures none { result ≡ false → IsDueNowhere self.now }
+    {
+        for k in 0..PLACES {
+            if self.is_due(k) {
+                return true;
+            }
+        }
+        false
     }
 }

@@ -1,7 +1,8 @@
 //! Turns.
-ghost use Rattle.std.specs.Prelude.{◌≡◌, ◌<◌, true, List, [], ◌∷◌};
+ghost use Rattle.std.specs.Prelude.{◌<◌, List, [], ◌∷◌};
 ghost use Rattle.event_loop.specs.declared.sockets.Ready.{Ready};
-ghost use Rattle.event_loop.specs.Goes.{LeadsTo, LeadsToTurns, LeadsToRest, promises};
+ghost use Rattle.event_loop.specs.Goes.{LeadsToHearing, LeadsReading, LeadsWriting, LeadsToRest};
+ghost use Rattle.event_loop.specs.Scenes.{promises};
 
 use crate::clocks::Clocks;
 use crate::journal::Journal;
@@ -12,43 +13,13 @@ use crate::tools::Tools;
 use hook_host::HookHost;
 
 impl Service {
-    // A connection is read once and written to once, and closed where it is over.
-    fn turn<N: Sockets, C: Clocks, J: Journal, H: HookHost>(
+    // What was found ready is noted.
+    fn hear<N: Sockets, C: Clocks, J: Journal, H: HookHost>(
         &mut self,
-        tools: &mut Tools<N, C, J, H>,
-        k: u32,
-    )
-        requires bound { k < 64 }
-        ensures { LeadsToRest (promises N.does C.tells J.notes H.HookHost) k self.old tools.old self.new tools.new }
-    {
-        self.read(tools, k);
-        self.write(tools, k);
-        self.settle(tools, k);
-    }
-
-    /// Each connection has a turn, if work was left at some.
-    pub(crate) fn turns<N: Sockets, C: Clocks, J: Journal, H: HookHost>(
-        &mut self,
-        tools: &mut Tools<N, C, J, H>,
-    )
-        ensures { (found : List Ready) → LeadsToTurns (promises N.does C.tells J.notes H.HookHost) found (self.new.is_work_left ≡ true) self.old tools.old self.new tools.new }
-    {
-        if !self.is_work_left {
-            return;
-        }
-        self.is_work_left = false;
-        for k in 0..PLACES {
-            self.turn(tools, k);
-        }
-    }
-
-    // What was found ready has a turn.
-    fn answer<N: Sockets, C: Clocks, J: Journal, H: HookHost>(
-        &mut self,
-        tools: &mut Tools<N, C, J, H>,
+        tools: &Tools<N, C, J, H>,
         ready: Ready,
     )
-        ensures { (more : List Ready) → LeadsTo (promises N.does C.tells J.notes H.HookHost) (ready ∷ more) self.old tools.old more self.new tools.new }
+        ensures { (more : List Ready) → LeadsToHearing (promises N.does C.tells J.notes H.HookHost) (ready ∷ more) self.old tools.now more self.new }
     {
         match ready {
             Ready::Listener => self.queue = self.queue.told(),
@@ -63,21 +34,64 @@ impl Service {
                 }
                 let place = self.place_at(k);
                 self.places[k as usize] = place.told(readable, writable, hung);
-                self.turn(tools, k);
+                self.due[k as usize] = true;
             }
         }
     }
 
-    /// All that was found ready has its turn.
-    pub(crate) fn answer_all<N: Sockets, C: Clocks, J: Journal, H: HookHost>(
+    /// All that was found ready is noted.
+    pub(crate) fn hear_all<N: Sockets, C: Clocks, J: Journal, H: HookHost>(
         &mut self,
-        tools: &mut Tools<N, C, J, H>,
+        tools: &Tools<N, C, J, H>,
         found: &[Ready],
     )
-        ensures { LeadsTo (promises N.does C.tells J.notes H.HookHost) found.now self.old tools.old [] self.new tools.new }
+        ensures { LeadsToHearing (promises N.does C.tells J.notes H.HookHost) found.now self.old tools.now [] self.new }
     {
         for index in 0..found.len() {
-            self.answer(tools, found[index]);
+            self.hear(tools, found[index]);
+        }
+    }
+
+    /// Each connection where something may be due is read once, where it may be.
+    pub(crate) fn read_all<N: Sockets, C: Clocks, J: Journal, H: HookHost>(
+        &mut self,
+        tools: &mut Tools<N, C, J, H>,
+    )
+        ensures { LeadsReading (promises N.does C.tells J.notes H.HookHost) 64 self.old tools.old self.new tools.new }
+    {
+        for k in 0..PLACES {
+            if !self.is_due(k) {
+                continue;
+            }
+            self.read(tools, k);
+        }
+    }
+
+    // A connection is written to once, where it may be, and closed where it is over.
+    fn turn<N: Sockets, C: Clocks, J: Journal, H: HookHost>(
+        &mut self,
+        tools: &mut Tools<N, C, J, H>,
+        k: u32,
+    )
+        requires bound { k < 64 }
+        ensures { LeadsToRest (promises N.does C.tells J.notes H.HookHost) k self.old tools.old self.new tools.new }
+    {
+        self.write(tools, k);
+        self.settle(tools, k);
+    }
+
+    /// Each connection where something may be due is written to once, where it may be, and closed where it is over.
+    pub(crate) fn write_all<N: Sockets, C: Clocks, J: Journal, H: HookHost>(
+        &mut self,
+        tools: &mut Tools<N, C, J, H>,
+    )
+        ensures { LeadsWriting (promises N.does C.tells J.notes H.HookHost) 64 self.old tools.old self.new tools.new }
+    {
+        for k in 0..PLACES {
+            if !self.is_due(k) {
+                continue;
+            }
+            self.turn(tools, k);
         }
     }
 }

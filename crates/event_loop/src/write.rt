@@ -1,7 +1,9 @@
 //! Writing output.
 ghost use Rattle.std.specs.Prelude.{◌≡◌, ◌<◌, true, false};
-ghost use Rattle.event_loop.specs.Places.{MayWrite};
-ghost use Rattle.event_loop.specs.Goes.{WhereKnown, IsUnwritten, LeadsToActs, promises};
+ghost use Rattle.event_loop.specs.Deeds.{Writing};
+ghost use Rattle.event_loop.specs.Places.{MayWrite, IsUnwritten};
+ghost use Rattle.event_loop.specs.Goes.{WhereKnown, LeadsToActs};
+ghost use Rattle.event_loop.specs.Scenes.{promises};
 
 use crate::clocks::Clocks;
 use crate::fault::ConnectionFault;
@@ -39,7 +41,7 @@ impl Service {
         k: u32,
     )
         requires bound { k < 64 }
-        ensures { LeadsToActs (promises N.does C.tells J.notes H.HookHost) k IsUnwritten self.old tools.old self.new tools.new }
+        ensures { LeadsToActs (promises N.does C.tells J.notes H.HookHost) k (Writing k) IsUnwritten self.old tools.old self.new tools.new }
     {
         let i = k as usize;
         let place = self.place_at(k);

@@ -347,7 +347,7 @@ fn all_requests_are_answered_through_short_reads_and_writes(rt: HostRuntime) -> 
 #[test]
 fn a_failure_ends_its_connection_alone(rt: HostRuntime) -> Result<(), Fail> {
     for seed in 1..3u64 {
-        let Ok((sockets, fault)) = serves(rt.alloc(), seed, 80, 100) else {
+        let Ok((sockets, fault)) = serves(rt.alloc(), seed, 80, 50) else {
             return Err(Fail::from("no registry"));
         };
         assert_eq!(rt; fault, LoopFault::Wait);

@@ -1,13 +1,14 @@
-use Rattle.std.proofs.Common.{[], Some, inl, inr, refl, sym, subst, ◌∙◌, ℕ}
-use Rattle.std.proofs.lemmas.Bool.{false≢true}
+use Rattle.std.proofs.Common.{[], Some, inl, inr, refl, sym, subst, ◌∙◌, ℕ, ◌≡◌}
 use Rattle.event_loop.specs.declared.clocks.Times.{Times}
+use Rattle.event_loop.specs.declared.queue.Queue.TheVariants.{Told, Empty, Barred}
 use Rattle.event_loop.specs.Places.{IsTaken}
 use Rattle.event_loop.specs.Closing.{AreWithin}
-use Rattle.event_loop.specs.Scenes.{Scene}
+use Rattle.event_loop.specs.Scenes.{Scene, promises}
 use Rattle.event_loop.specs.Served.{IsFirst, begins, stops}
-use Rattle.event_loop.specs.Goes.{Past, scene_of, promises}
+use Rattle.event_loop.specs.Goes.{Past, IsReady, scene_of}
 use Rattle.event_loop.proofs.Answering.{served_answered}
 use Rattle.event_loop.proofs.Resting.{free_rests}
+use Rattle.event_loop.proofs.Leading.{rested_settled}
 use Rattle.event_loop.proofs.Leaving.{fails_reached}
 use Rattle.event_loop.proofs.serve.serve_all.Goals as goal
 
@@ -20,9 +21,14 @@ returns g c = λ rules host schedule world reached.
     let past : Past = record { deeds = []; schedule = schedule; world = world } in
     let first : Scene g.row.N.Denot g.row.C.Denot g.row.J.Denot g.row.H.Denot = scene_of c.new-service.result (record c.args.tools.now { clocks = c.read.new.self }) [] past in
     let is_first : IsFirst p rules host first =
-    record { size = c.new-service.ensures.size; free = c.new-service.ensures.free; found = refl; noted = c.new-service.ensures.noted; deeds = refl; reached = reached } in
+    record { size = c.new-service.ensures.size; free = c.new-service.ensures.free; found = refl; noted = c.new-service.ensures.noted; queue = c.new-service.ensures.queue; deeds = refl; reached = reached } in
     let nobody : (limit : ℕ) → AreWithin limit c.new-service.result.times c.new-service.result.places = λ limit k place here taken. absurd (subst IsTaken (c.new-service.ensures.free k place here) taken) in
-    let wrong = c.rounds-fault.ensures rules host first past (begins is_first) (λ k less. record { rested = λ none place here. free_rests place _ (c.new-service.ensures.free k place here); fair = λ place here. inl (free_rests place _ (c.new-service.ensures.free k place here)) }) (λ busy. elim busy [ inl work ↦ absurd (false≢true (sym c.new-service.ensures.rests.works ∙ work)) | inr told ↦ absurd (c.new-service.ensures.rests.queue told) ]) (record { idle = nobody _; crowded = λ waits. nobody _ }) in
+    let ready : IsReady c.new-service.result past = record {
+      settled = λ k less. rested_settled k c.new-service.result past (λ none place here. free_rests place _ (c.new-service.ensures.free k place here)) (c.new-service.ensures.due k less);
+      queue = inl (λ told. (let not : Empty ≡ Told = sym c.new-service.ensures.queue ∙ told in absurd (cc)));
+      quick = record { idle = nobody _; crowded = λ waits. nobody _; tried = λ since barred. (let not : Empty ≡ Barred since = sym c.new-service.ensures.queue ∙ barred in absurd (cc)) };
+    } in
+    let wrong = c.rounds-fault.ensures rules host first past (begins is_first) ready in
     let failed = scene_of c.rounds-fault.new.self c.rounds-fault.new.tools wrong.found wrong.next in
     let last_reached = (served_answered p rules host first wrong.last wrong.served).reached in
     let shut = c.leave_all.ensures.shut rules host failed wrong.found wrong.next stops (fails_reached p rules host wrong.last failed _ wrong.fails last_reached) in

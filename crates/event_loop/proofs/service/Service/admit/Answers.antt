@@ -6,9 +6,10 @@ use Rattle.event_loop.specs.Deeds as deed
 use Rattle.event_loop.specs.Places.{IsAtRest}
 use Rattle.event_loop.specs.Coming.{opens, denies, finds_nobody, fails, fresh_place}
 use Rattle.event_loop.specs.Served.{goes, comes}
-use Rattle.event_loop.specs.Goes.{Past, promises}
+use Rattle.event_loop.specs.Goes.{Past}
+use Rattle.event_loop.specs.Scenes.{promises}
 use Rattle.event_loop.proofs.Doing.{one_more, done_then}
-use Rattle.event_loop.specs.declared.queue.Queue.TheVariants.{Told, Waits}
+use Rattle.event_loop.specs.declared.queue.Queue.TheVariants.{Told, Barred, Waits}
 use Rattle.event_loop.proofs.Putting.{put_within}
 use Rattle.event_loop.proofs.Others.{opens_other}
 use Rattle.event_loop.proofs.Telling.{opened_here}
@@ -29,14 +30,13 @@ returns-in-Ok-clause-leads g c = λ found rules host first past h settled.
     record {
       goes = record {
         next = next;
-        served = goes h (comes _ c.requires.told (opens k c.accept.new.self c.event.new.self on c.requires.free c.in-Taken.ensures));
+        served = goes h (comes _ c.requires.told (opens k c.accept.new.self c.event.new.self on c.requires.bound c.requires.free c.in-Taken.ensures));
         settled =
-            all_settled k c.args.self.now past service next (put_others k c.args.self.now service place past.world on.world refl (λ j other. opens_other past.world on.world k j on.happens other)) (λ e. e)
-            (one_more _ _ refl refl (λ j t. inr t)) (λ j less other. settled j less) (put_settled k c.args.self.now service place next refl rests);
-        done = one_more _ _ refl refl (λ j t. inr t);
-        busy = λ e. inl e;
+            all_settled k c.args.self.now past service next (put_others k c.args.self.now service place past.world on.world refl (λ j other. refl) (λ j other. opens_other past.world on.world k j on.happens other))
+            (one_more _ _ refl refl (λ task t. inr t)) settled (put_settled k c.args.self.now service place next refl rests (λ e. omega arith));
+        done = one_more _ _ refl refl (λ task t. inr t);
       };
-      some = λ _. omega arith;
+      tried = λ _. inl refl;
     }
 
 pub returns-in-Err-clause-leads : goal.returns-in-Err-clause-leads
@@ -50,24 +50,23 @@ returns-in-Err-clause-leads g c = λ found rules host first past h settled.
         served =
             goes h
             (comes _ c.requires.told
-            (denies k c.accept.new.self c.close.new.self c.in-Err.fault c.note.new.noted c.note.new.journal c.requires.free c.in-Taken.ensures (c.in-Err.ensures.refused rules host past.schedule past.world reached) c.close.ensures c.note.ensures));
-        settled = settled_then c.args.self.now past _ _ refl refl refl (done_then _ (deed.Came k ∷ past.deeds) _ (one_more _ _ refl refl (λ j t. inr t)) (one_more _ _ refl refl (λ j t. inr t))) settled;
-        done = done_then _ (deed.Came k ∷ past.deeds) _ (one_more _ _ refl refl (λ j t. inr t)) (one_more _ _ refl refl (λ j t. inr t));
-        busy = λ e. inl e;
+            (denies k c.accept.new.self c.close.new.self c.in-Err.fault c.note.new.noted c.note.new.journal c.requires.bound c.requires.free c.in-Taken.ensures (c.in-Err.ensures.refused rules host past.schedule past.world reached) c.close.ensures c.note.ensures));
+        settled = settled_then c.args.self.now past _ _ refl refl refl (done_then _ (deed.Came k ∷ past.deeds) _ (one_more _ _ refl refl (λ task t. inr t)) (one_more _ _ refl refl (λ task t. inr t))) settled;
+        done = done_then _ (deed.Came k ∷ past.deeds) _ (one_more _ _ refl refl (λ task t. inr t)) (one_more _ _ refl refl (λ task t. inr t));
       };
-      some = λ _. omega arith;
+      tried = λ _. inr (inl refl);
     })
 
 pub returns-in-Later-clause-leads : goal.returns-in-Later-clause-leads
 returns-in-Later-clause-leads g c = λ found rules host first past h settled. record {
-  goes = record { next = record past { deeds = deed.NobodyCame ∷ past.deeds }; served = goes h (comes _ c.requires.told (finds_nobody c.accept.new.self c.in-Later.ensures)); settled = settled_then c.args.self.now past _ _ refl refl refl (one_more _ _ refl refl (λ j t. inr t)) settled; done = one_more _ _ refl refl (λ j t. inr t); busy = λ e. inl e };
-  some = λ _. omega arith;
+  goes = record { next = record past { deeds = deed.NobodyCame ∷ past.deeds }; served = goes h (comes _ c.requires.told (finds_nobody c.accept.new.self c.in-Later.ensures)); settled = settled_then c.args.self.now past _ _ refl refl refl (one_more _ _ refl refl (λ task t. inr t)) settled; done = one_more _ _ refl refl (λ task t. inr t) };
+  tried = λ _. inl refl;
 }
 
 pub returns-in-Failed-clause-leads : goal.returns-in-Failed-clause-leads
 returns-in-Failed-clause-leads g c = λ found rules host first past h settled. record {
-  goes = record { next = record past { deeds = deed.ComingFailed ∷ past.deeds }; served = goes h (comes _ c.requires.told (fails c.accept.new.self c.note-in-Failed.new.noted c.note-in-Failed.new.journal c.in-Failed.ensures c.note-in-Failed.ensures)); settled = settled_then c.args.self.now past _ _ refl refl refl (one_more _ _ refl refl (λ j t. inr t)) settled; done = one_more _ _ refl refl (λ j t. inr t); busy = λ e. inl e };
-  some = λ _. omega arith;
+  goes = record { next = record past { deeds = deed.ComingFailed ∷ past.deeds }; served = goes h (comes _ c.requires.told (fails c.accept.new.self c.note-in-Failed.new.noted c.note-in-Failed.new.journal c.in-Failed.ensures c.note-in-Failed.ensures)); settled = settled_then c.args.self.now past _ _ refl refl refl (one_more _ _ refl refl (λ task t. inr t)) settled; done = one_more _ _ refl refl (λ task t. inr t) };
+  tried = λ _. inl refl;
 }
 
 pub returns-in-Ok-clause-within : goal.returns-in-Ok-clause-within
@@ -79,3 +78,9 @@ returns-in-Ok-clause-waits g c = λ waits. (let not : Told ≡ Waits = sym c.req
 
 pub returns-in-Err-clause-waits : goal.returns-in-Err-clause-waits
 returns-in-Err-clause-waits g c = λ waits. (let not : Told ≡ Waits = sym c.requires.told ∙ waits in absurd (cc))
+
+pub returns-in-Ok-clause-tried : goal.returns-in-Ok-clause-tried
+returns-in-Ok-clause-tried g c = λ since barred. (let not : Told ≡ Barred since = sym c.requires.told ∙ barred in absurd (cc))
+
+pub returns-in-Err-clause-tried : goal.returns-in-Err-clause-tried
+returns-in-Err-clause-tried g c = λ since barred. (let not : Told ≡ Barred since = sym c.requires.told ∙ barred in absurd (cc))

@@ -2,13 +2,15 @@ use Rattle.std.proofs.Common.{ℕ, List, ◌<◌, ◌≡◌}
 use Rattle.event_loop.specs.declared.sockets.Ready.{Ready}
 use Rattle.event_loop.specs.declared.queue.Queue.TheVariants.{Waits}
 use Rattle.event_loop.specs.Closing.{AreWithin}
-use Rattle.event_loop.specs.Goes.{LeadsToDeeds, promises}
+use Rattle.event_loop.specs.Goes.{IsTried, LeadsToAccepts}
+use Rattle.event_loop.specs.Scenes.{promises}
 use Rattle.event_loop.proofs.service.Service.admit_all.Given as goal
 
 abbrev pub invariant-loop-nth : goal.invariant-loop-nth
 invariant-loop-nth g l = record {
-  leads : (found : List Ready) → LeadsToDeeds (promises g.N.Sockets.does g.C.Clocks.tells g.J.Journal.notes g.H.HookHost) found (0 < l._nth) l.initial.self l.initial.tools l.self l.tools;
+  leads : (found : List Ready) → LeadsToAccepts (promises g.N.Sockets.does g.C.Clocks.tells g.J.Journal.notes g.H.HookHost) found (0 < l._nth) l.initial.self l.initial.tools l.self l.tools;
   within : (limit : ℕ) → AreWithin limit l.initial.self.times l.initial.self.places → AreWithin limit l.self.times l.self.places;
   waits : l.self.queue ≡ Waits → l.initial.self.queue ≡ Waits;
+  tried : IsTried l.initial.self → IsTried l.self;
   limits : l.self.limits ≡ l.initial.self.limits;
 }

@@ -7,7 +7,7 @@ use Rattle.event_loop.specs.Places.{IsTaken}
 use Rattle.event_loop.proofs.Putting.{same_some, set_same, set_other}
 use Rattle.event_loop.specs.declared.service.Service.{Service}
 use Rattle.event_loop.specs.Closing.{is_silent}
-use Rattle.event_loop.specs.Goes.{promises}
+use Rattle.event_loop.specs.Scenes.{promises}
 use Rattle.event_loop.proofs.Leading.{nowhere}
 use Rattle.event_loop.proofs.Leaving.{leaves_to}
 use Rattle.event_loop.proofs.service.Service.leave_silent.Goals as goal
@@ -24,7 +24,7 @@ returns-clause-leads g c =
     let long : c.args.self.now.limits.idle < c.args.self.now.times.steady - place.since = omega (arith, c.saturating_sub.ensures, c.if-saturating_sub-self.false) in
     leaves_to (promises g.N.Sockets.does g.C.Clocks.tells g.J.Journal.notes g.H.HookHost) c.args.k place c.args.self.now c.args.tools.now c.leave.new.self c.leave.new.tools c.place_at-place.ensures
     (c.is_taken.ensures.taken c.if-not-is_taken.false) (λ found past. is_silent long) c.leave.ensures.away (ap (λ (s : Service). s.places) c.leave.ensures.rest)
-    (ap (λ (s : Service). s.is_work_left) c.leave.ensures.rest)
+    (ap (λ (s : Service). s.due) c.leave.ensures.rest)
 
 pub returns-then-not-is_taken-clause-within : goal.returns-then-not-is_taken-clause-within
 returns-then-not-is_taken-clause-within g c = λ place here taken.

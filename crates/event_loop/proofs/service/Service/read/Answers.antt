@@ -1,15 +1,17 @@
 use Rattle.std.proofs.Common.{refl, sym, subst, ◌∙◌, inl}
 use Rattle.http_edge.specs.Schedule.{connection_at}
-use Rattle.event_loop.specs.Goes.{IsUnread, promises}
+use Rattle.event_loop.specs.Places.{IsUnread}
+use Rattle.event_loop.specs.Scenes.{promises}
 use Rattle.event_loop.proofs.Answering.{served_answered}
 use Rattle.event_loop.proofs.Doing.{none_more}
 use Rattle.event_loop.proofs.Putting.{same_some}
+use Rattle.event_loop.proofs.Resting.{no_others}
 use Rattle.event_loop.proofs.service.Service.read.Goals as goal
 
 pub returns-else-may_read : goal.returns-else-may_read
-returns-else-may_read g c = λ rules host first found past h. record {
-  goes = record { next = past; served = h; done = none_more past.deeds; others = record { places = λ j other. refl; connections = λ j other. refl }; works = λ e. e };
-  same_work = refl;
+returns-else-may_read g c = λ rules host first found past undone h. record {
+  goes = record { next = past; served = h; done = none_more past.deeds; others = no_others c.args.k c.args.self.now past.world; alone = λ other differs not. not };
+  due = refl;
   acts = inl (record {
     service_is = refl;
     world_is = refl;

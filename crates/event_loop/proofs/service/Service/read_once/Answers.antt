@@ -3,70 +3,74 @@ use Rattle.http_edge.specs.Schedule.{HasEnded}
 use Rattle.event_loop.specs.declared.fault.ConnectionFault.TheVariants.{Read, Refused}
 use Rattle.event_loop.specs.declared.place.Stage.TheVariants.{Ended, Broken}
 use Rattle.event_loop.specs.Deeds as deed
+use Rattle.event_loop.specs.Deeds.{Reading}
 use Rattle.event_loop.specs.Courses.{known}
+use Rattle.event_loop.specs.Places.{read_limit}
 use Rattle.event_loop.specs.Reading.{hears, refuses, ends, ends_nothing, finds_nothing, fails, read_place}
 use Rattle.event_loop.specs.Served.{goes, reads}
-use Rattle.event_loop.specs.Goes.{promises}
+use Rattle.event_loop.specs.Scenes.{promises}
 use Rattle.event_loop.proofs.Others.{ends_other}
 use Rattle.event_loop.proofs.Telling.{gives_other}
 use Rattle.event_loop.proofs.Answering.{served_answered}
-use Rattle.event_loop.proofs.Doing.{one_more}
+use Rattle.event_loop.proofs.Doing.{one_more, not_another}
 use Rattle.event_loop.proofs.Putting.{taken_length}
 use Rattle.event_loop.proofs.Resting.{put_others}
 use Rattle.event_loop.proofs.service.Service.read_once.Goals as goal
 
 pub returns-in-Ok : goal.returns-in-Ok
-returns-in-Ok g c = λ rules host first found past h.
+returns-in-Ok g c = λ rules host first found past undone h.
     let reached = (served_answered (promises g.N.Sockets.does g.C.Clocks.tells g.J.Journal.notes g.H.HookHost) rules host first _ h).reached in
     let count = c.in-Bytes.count in
     let bytes : List ℕ = take count c.read.new.buffer in
+    let room : length c.read.new.buffer ≡ read_limit = search rules in
     let size : length bytes ≡ count = taken_length count c.read.new.buffer c.in-Bytes.ensures.within.1 in
     let given = c.in-Ok.ensures.heard rules host past.schedule past.world reached in
     record {
       goes = record {
-        next = record { deeds = deed.Read c.args.k bytes ∷ past.deeds; schedule = given.schedule; world = given.world };
+        next = record { deeds = deed.Read c.args.k read_limit bytes ∷ past.deeds; schedule = given.schedule; world = given.world };
         served =
             goes h
-            (reads c.args.k c.args.place _ c.requires.here c.requires.readable (c.requires.may rules host past.schedule past.world reached)
-            (hears bytes c.read.new.self _ c.read-in-Ok.result (subst (λ n. 0 < n) (sym size) c.in-Bytes.ensures.within.0) (omega (arith, size, c.in-Bytes.ensures.within)) c.in-Bytes.ensures.done given.heard (c.read-in-Ok.ensures ∙ ap (read_place c.args.place) (sym size))));
+            (reads c.args.k c.args.place _ c.requires.here c.requires.readable undone (c.requires.may rules host past.schedule past.world reached)
+            (hears bytes c.read.new.self _ c.read-in-Ok.result (subst (λ n. 0 < n) (sym size) c.in-Bytes.ensures.within.0) (omega (arith, size, c.in-Bytes.ensures.within)) (subst (λ n. g.N.Sockets.does c.args.tools.now.sockets (deed.Read c.args.k n bytes) c.read.new.self) room c.in-Bytes.ensures.done) given.heard (c.read-in-Ok.ensures ∙ ap (read_place c.args.place) (sym size))));
         others =
-            put_others c.args.k c.args.self.now _ c.read-in-Ok.result past.world given.world refl
+            put_others c.args.k c.args.self.now _ c.read-in-Ok.result past.world given.world refl (λ j other. refl)
             (λ j other. gives_other g.H.HookHost rules host c.args.k c.args.self.now.times.moment j _ given.heard.given _ given.heard.gives other);
-        done = one_more _ _ refl refl (λ j t. inr t);
-        works = λ e. e;
+        done = one_more _ _ refl refl (λ task t. inr t);
+        alone = λ other differs not. not_another (Reading c.args.k) other past.deeds differs not;
       };
-      same_work = refl;
+      due = refl;
       acts = inr (inl refl);
     }
 
 pub returns-in-Err : goal.returns-in-Err
-returns-in-Err g c = λ rules host first found past h.
+returns-in-Err g c = λ rules host first found past undone h.
     let reached = (served_answered (promises g.N.Sockets.does g.C.Clocks.tells g.J.Journal.notes g.H.HookHost) rules host first _ h).reached in
     let count = c.in-Bytes.count in
     let bytes : List ℕ = take count c.read.new.buffer in
+    let room : length c.read.new.buffer ≡ read_limit = search rules in
     let size : length bytes ≡ count = taken_length count c.read.new.buffer c.in-Bytes.ensures.within.1 in
     let some = c.in-Err.ensures.unheard rules host past.schedule past.world reached in
     record {
       goes = record {
-        next = record { deeds = deed.Read c.args.k bytes ∷ past.deeds; schedule = some.schedule; world = some.world };
+        next = record { deeds = deed.Read c.args.k read_limit bytes ∷ past.deeds; schedule = some.schedule; world = some.world };
         served =
             goes h
-            (reads c.args.k c.args.place _ c.requires.here c.requires.readable (c.requires.may rules host past.schedule past.world reached)
-            (refuses bytes c.read.new.self c.in-Err.fault _ (subst (λ n. 0 < n) (sym size) c.in-Bytes.ensures.within.0) (omega (arith, size, c.in-Bytes.ensures.within)) c.in-Bytes.ensures.done some.unheard));
+            (reads c.args.k c.args.place _ c.requires.here c.requires.readable undone (c.requires.may rules host past.schedule past.world reached)
+            (refuses bytes c.read.new.self c.in-Err.fault _ (subst (λ n. 0 < n) (sym size) c.in-Bytes.ensures.within.0) (omega (arith, size, c.in-Bytes.ensures.within)) (subst (λ n. g.N.Sockets.does c.args.tools.now.sockets (deed.Read c.args.k n bytes) c.read.new.self) room c.in-Bytes.ensures.done) some.unheard));
         others =
-            put_others c.args.k c.args.self.now _ (record c.args.place { stage = Broken (Refused c.in-Err.fault) }) past.world some.world refl
+            put_others c.args.k c.args.self.now _ (record c.args.place { stage = Broken (Refused c.in-Err.fault) }) past.world some.world refl (λ j other. refl)
             (λ j other.
             ap (λ course. known course j) some.unheard.is_after
             ∙ gives_other g.H.HookHost rules host c.args.k c.args.self.now.times.moment j _ some.unheard.given some.unheard.before some.unheard.gives other);
-        done = one_more _ _ refl refl (λ j t. inr t);
-        works = λ e. e;
+        done = one_more _ _ refl refl (λ task t. inr t);
+        alone = λ other differs not. not_another (Reading c.args.k) other past.deeds differs not;
       };
-      same_work = refl;
+      due = refl;
       acts = inr (inl refl);
     }
 
 pub returns-in-Ok-event : goal.returns-in-Ok-event
-returns-in-Ok-event g c = λ rules host first found past h.
+returns-in-Ok-event g c = λ rules host first found past undone h.
     let reached = (served_answered (promises g.N.Sockets.does g.C.Clocks.tells g.J.Journal.notes g.H.HookHost) rules host first _ h).reached in
     let on = c.in-Ok-event.ensures.done rules host past.schedule past.world reached in
     record {
@@ -74,56 +78,56 @@ returns-in-Ok-event g c = λ rules host first found past h.
         next = record { deeds = deed.ReadEnd c.args.k ∷ past.deeds; schedule = past.schedule ++ HasEnded c.args.k ∷ []; world = on.world };
         served =
             goes h
-            (reads c.args.k c.args.place _ c.requires.here c.requires.readable (c.requires.may rules host past.schedule past.world reached)
+            (reads c.args.k c.args.place _ c.requires.here c.requires.readable undone (c.requires.may rules host past.schedule past.world reached)
             (ends c.read.new.self c.event.new.self on c.in-End.ensures.done));
         others =
-            put_others c.args.k c.args.self.now _ (record c.args.place { stage = Ended }) past.world on.world refl
+            put_others c.args.k c.args.self.now _ (record c.args.place { stage = Ended }) past.world on.world refl (λ j other. refl)
             (λ j other. ends_other past.world on.world c.args.k j on.happens other);
-        done = one_more _ _ refl refl (λ j t. inr t);
-        works = λ e. e;
+        done = one_more _ _ refl refl (λ task t. inr t);
+        alone = λ other differs not. not_another (Reading c.args.k) other past.deeds differs not;
       };
-      same_work = refl;
+      due = refl;
       acts = inr (inl refl);
     }
 
 pub returns-in-Later : goal.returns-in-Later
-returns-in-Later g c = λ rules host first found past h.
+returns-in-Later g c = λ rules host first found past undone h.
     let reached = (served_answered (promises g.N.Sockets.does g.C.Clocks.tells g.J.Journal.notes g.H.HookHost) rules host first _ h).reached in
     record {
       goes = record {
         next = record past { deeds = deed.ReadNothing c.args.k ∷ past.deeds };
         served =
             goes h
-            (reads c.args.k c.args.place _ c.requires.here c.requires.readable (c.requires.may rules host past.schedule past.world reached)
+            (reads c.args.k c.args.place _ c.requires.here c.requires.readable undone (c.requires.may rules host past.schedule past.world reached)
             (finds_nothing c.read.new.self c.in-Later.ensures.done));
-        others = put_others c.args.k c.args.self.now _ (record c.args.place { readable = false }) past.world past.world refl (λ j other. refl);
-        done = one_more _ _ refl refl (λ j t. inr t);
-        works = λ e. e;
+        others = put_others c.args.k c.args.self.now _ (record c.args.place { readable = false }) past.world past.world refl (λ j other. refl) (λ j other. refl);
+        done = one_more _ _ refl refl (λ task t. inr t);
+        alone = λ other differs not. not_another (Reading c.args.k) other past.deeds differs not;
       };
-      same_work = refl;
+      due = refl;
       acts = inr (inl refl);
     }
 
 pub returns-in-Failed : goal.returns-in-Failed
-returns-in-Failed g c = λ rules host first found past h.
+returns-in-Failed g c = λ rules host first found past undone h.
     let reached = (served_answered (promises g.N.Sockets.does g.C.Clocks.tells g.J.Journal.notes g.H.HookHost) rules host first _ h).reached in
     record {
       goes = record {
         next = record past { deeds = deed.ReadFailed c.args.k ∷ past.deeds };
         served =
             goes h
-            (reads c.args.k c.args.place _ c.requires.here c.requires.readable (c.requires.may rules host past.schedule past.world reached)
+            (reads c.args.k c.args.place _ c.requires.here c.requires.readable undone (c.requires.may rules host past.schedule past.world reached)
             (fails c.read.new.self c.in-Failed.ensures.done));
-        others = put_others c.args.k c.args.self.now _ (record c.args.place { stage = Broken Read }) past.world past.world refl (λ j other. refl);
-        done = one_more _ _ refl refl (λ j t. inr t);
-        works = λ e. e;
+        others = put_others c.args.k c.args.self.now _ (record c.args.place { stage = Broken Read }) past.world past.world refl (λ j other. refl) (λ j other. refl);
+        done = one_more _ _ refl refl (λ task t. inr t);
+        alone = λ other differs not. not_another (Reading c.args.k) other past.deeds differs not;
       };
-      same_work = refl;
+      due = refl;
       acts = inr (inl refl);
     }
 
 pub returns-in-Err-event : goal.returns-in-Err-event
-returns-in-Err-event g c = λ rules host first found past h.
+returns-in-Err-event g c = λ rules host first found past undone h.
     let reached = (served_answered (promises g.N.Sockets.does g.C.Clocks.tells g.J.Journal.notes g.H.HookHost) rules host first _ h).reached in
     let fault = c.in-Err-event.fault in
     rw c.in-Err-event.ensures.err
@@ -132,12 +136,12 @@ returns-in-Err-event g c = λ rules host first found past h.
         next = record past { deeds = deed.ReadEnd c.args.k ∷ past.deeds };
         served =
             goes h
-            (reads c.args.k c.args.place _ c.requires.here c.requires.readable (c.requires.may rules host past.schedule past.world reached)
+            (reads c.args.k c.args.place _ c.requires.here c.requires.readable undone (c.requires.may rules host past.schedule past.world reached)
             (ends_nothing c.read.new.self fault c.in-End.ensures.done (c.in-Err-event.ensures.refused rules host past.schedule past.world reached)));
-        others = put_others c.args.k c.args.self.now _ (record c.args.place { stage = Broken (Refused fault) }) past.world past.world refl (λ j other. refl);
-        done = one_more _ _ refl refl (λ j t. inr t);
-        works = λ e. e;
+        others = put_others c.args.k c.args.self.now _ (record c.args.place { stage = Broken (Refused fault) }) past.world past.world refl (λ j other. refl) (λ j other. refl);
+        done = one_more _ _ refl refl (λ task t. inr t);
+        alone = λ other differs not. not_another (Reading c.args.k) other past.deeds differs not;
       };
-      same_work = refl;
+      due = refl;
       acts = inr (inl refl);
     })

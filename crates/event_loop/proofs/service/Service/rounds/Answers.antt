@@ -1,6 +1,7 @@
 use Rattle.std.proofs.Common.{[], arith}
 use Rattle.event_loop.specs.Ends.{no_more}
-use Rattle.event_loop.specs.Goes.{scene_of, promises}
+use Rattle.event_loop.specs.Goes.{scene_of}
+use Rattle.event_loop.specs.Scenes.{promises}
 use Rattle.event_loop.proofs.Leading.{no_round, round_then, then_wrong}
 use Rattle.event_loop.proofs.service.Service.rounds.Goals as goal
 
@@ -16,6 +17,6 @@ loop-nth-preserved g c =
     round_then (promises g.N.Sockets.does g.C.Clocks.tells g.J.Journal.notes g.H.HookHost) c.loop-nth._nth 1 c.args.self.now c.loop-nth.self c.round.new.self c.args.tools.now c.loop-nth.tools c.round.new.tools c.loop-nth.invariant c.in_default.ensures.goes
 
 pub returns : goal.returns
-returns g c = λ rules host first past h settled active quick.
-    let all = c.loop-nth.invariant rules host first past h settled active quick in
+returns g c = λ rules host first past h ready.
+    let all = c.loop-nth.invariant rules host first past h ready in
     record { last = scene_of c.loop-nth.self c.loop-nth.tools [] all.next; served = all.served; found = []; next = all.next; fails = no_more (omega (arith, all.waits_are, c.loop-nth-test.false)) }

@@ -1,4 +1,5 @@
-use Rattle.event_loop.specs.Goes.{LeadsRound, promises}
+use Rattle.event_loop.specs.Goes.{LeadsRound}
+use Rattle.event_loop.specs.Scenes.{promises}
 use Rattle.event_loop.proofs.service.Service.rounds.Given as goal
 
 abbrev pub invariant-loop-nth : goal.invariant-loop-nth

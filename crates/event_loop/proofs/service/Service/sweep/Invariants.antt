@@ -3,7 +3,8 @@ use Rattle.std.specs.Prelude.{slice_get}
 use Rattle.event_loop.specs.declared.place.Place.{Place}
 use Rattle.event_loop.specs.declared.sockets.Ready.{Ready}
 use Rattle.event_loop.specs.Places.{IsTaken}
-use Rattle.event_loop.specs.Goes.{LeadsTo, promises}
+use Rattle.event_loop.specs.Goes.{LeadsTo}
+use Rattle.event_loop.specs.Scenes.{promises}
 use Rattle.event_loop.proofs.service.Service.sweep.Given as goal
 
 abbrev pub invariant-loop-k : goal.invariant-loop-k
