@@ -1,0 +1,146 @@
+-- What an instruction leaves of what is known, and why it is refused: a table by the kinds of what is known before it.
+-- Nothing is changed but what is said here.
+use Rattle.std.specs.Prelude.{◌≡◌, ℕ, ℤ, Bool, true, false, slice_set, Some, Result, Ok, Err}
+use Rattle.insn.specs.declared.register.RegNo.{RegNo}
+use Rattle.insn.specs.declared.register.RegNo.TheVariants.{R0}
+use Rattle.insn.specs.declared.instruction.Insn.{Insn}
+use Rattle.insn.specs.declared.instruction.Insn.TheVariants as insn
+use Rattle.insn.specs.declared.instruction.Operand.{Operand}
+use Rattle.insn.specs.declared.instruction.Operand.TheVariants.{Reg, Imm}
+use Rattle.insn.specs.declared.layout.Layout.{Layout}
+use Rattle.insn.specs.declared.operation.BinOp.{BinOp}
+use Rattle.insn.specs.declared.operation.Cond.{Cond}
+use Rattle.insn.specs.declared.operation.SignedSize.{SignedSize}
+use Rattle.insn.specs.declared.operation.Size.{Size}
+use Rattle.insn.specs.declared.operation.UnOp.TheVariants.{Extend, Neg, Swap}
+use Rattle.insn.specs.declared.operation.Width.{Width}
+use Rattle.insn.specs.declared.operation.Width.TheVariants.{W32, W64}
+use Rattle.insn.specs.declared.state.Region.{Region}
+use Rattle.insn.specs.declared.state.Region.TheVariants as region
+use Rattle.insn.specs.declared.state.Value.TheVariants.{Number}
+use Rattle.insn.specs.declared.verify_fault.WalkFault.{WalkFault}
+use Rattle.insn.specs.declared.verify_fault.WalkFault.TheVariants.{ExitsWithPointer, PointerMisuse, ReadOnlyField, UnsetRegister}
+use Rattle.insn.specs.Instruction.{division_of, extended_bits, extended_width, operation_of, read_bits, read_size, reg_number, remainder_of, size_bytes}
+use Rattle.reg_kind.specs.declared.place.Place.{Place}
+use Rattle.reg_kind.specs.declared.reg.Reg.{Reg as Kind}
+use Rattle.reg_kind.specs.declared.reg.Reg.TheVariants as kind
+use Rattle.reg_kind.specs.declared.span.Span.{Span}
+use Rattle.reg_kind.specs.Accesses.{is_place_writable, place_behind}
+use Rattle.reg_kind.specs.Operations.{IsKindImage, IsKindResult, IsKnownNumber, number_in_reg}
+use Rattle.stack_state.specs.Accesses.{IsGiven, IsNumberReg, IsStored}
+use Rattle.verifier.specs.declared.known.Known.{Known}
+use Rattle.verifier.specs.declared.known.Flow.{Flow}
+use Rattle.verifier.specs.declared.known.Flow.TheVariants.{Next, Jump, Branch, Exit}
+use Rattle.verifier.specs.Follows.{IsOperand, comparison_of, reg_of}
+
+-- ---- what a register receives
+
+-- a register holds a value, and all else stays
+pub record IsSet (dst : RegNo) (value : Kind) (old new : Known) : Type 0 where
+  pub registers : new.registers ≡ slice_set old.registers (reg_number dst) value
+  pub stack : new.stack ≡ old.stack
+
+-- what is given goes to a register; where nothing is given, nothing is changed
+abbrev pub Receives : RegNo → (Result Kind WalkFault → Type 0) → Known → Known → Result Flow WalkFault → Type 0
+Receives dst IsMade old new (Ok Next) = (value : Kind) × IsMade (Ok value) × IsSet dst value old new
+Receives dst IsMade old new (Ok flow) = ⊥
+Receives dst IsMade old new (Err fault) = IsMade (Err fault) × (new ≡ old)
+
+-- what an operation gives
+abbrev pub Computes : Layout → Known → Width → BinOp → RegNo → Operand → Result Kind WalkFault → Type 0
+Computes layout old w op dst operand r = (right : Kind) × IsOperand old operand right × IsKindResult layout w op (reg_of old dst) right r
+
+abbrev pub IsWide : ℕ → Result Kind WalkFault → Type 0
+IsWide n (Ok value) = IsKnownNumber value (Some (Number n))
+IsWide n (Err fault) = ⊥
+
+-- what a load gives of a region: of the record a number, of the stack what is known there
+abbrev pub GivenIn : Known → Size → Region → Span → Result Kind WalkFault → Type 0
+GivenIn old size region.Record span (Ok value) = IsNumberReg value
+GivenIn old size region.Record span (Err fault) = ⊥
+GivenIn old size region.Stack span r = IsGiven old.stack span size r
+
+abbrev pub GivenAt : Known → Size → Result Place WalkFault → Result Kind WalkFault → Type 0
+GivenAt old size (Err fault) r = r ≡ Err fault
+GivenAt old size (Ok place) r = GivenIn old size place.region place.span r
+
+abbrev pub Loads : Layout → Known → Size → RegNo → ℤ → Result Kind WalkFault → Type 0
+Loads layout old size src offset r = GivenAt old size (place_behind layout (reg_of old src) offset (size_bytes size)) r
+
+-- a number that is loaded is extended
+abbrev pub Extends : SignedSize → Result Kind WalkFault → Result Kind WalkFault → Type 0
+Extends size (Err fault) r = r ≡ Err fault
+Extends size (Ok number) r = IsKindImage (Extend (read_bits size)) W64 number r
+
+abbrev pub LoadsSigned : Layout → Known → SignedSize → RegNo → ℤ → Result Kind WalkFault → Type 0
+LoadsSigned layout old size src offset r = (number : Result Kind WalkFault) × Loads layout old (read_size size) src offset number × Extends size number r
+
+-- ---- stores
+
+-- the record holds numbers alone
+abbrev pub kept_in_record : Kind → Result Unit WalkFault
+kept_in_record (kind.Number a) = Ok tt
+kept_in_record value = Err PointerMisuse
+
+abbrev pub StoredIn : Size → Region → Span → Kind → Result Unit WalkFault → Known → Known → Type 0
+StoredIn size region.Record span value r old new = (r ≡ kept_in_record value) × (new ≡ old)
+StoredIn size region.Stack span value r old new = (new.registers ≡ old.registers) × IsStored span size value r old.stack new.stack
+
+-- a store at bytes that may be written, or may not
+abbrev pub StoredWhere : Bool → Size → Place → Kind → Result Unit WalkFault → Known → Known → Type 0
+StoredWhere false size place value r old new = (r ≡ Err ReadOnlyField) × (new ≡ old)
+StoredWhere true size place value r old new = StoredIn size place.region place.span value r old new
+
+abbrev pub StoredAt : Layout → Size → Place → Kind → Result Unit WalkFault → Known → Known → Type 0
+StoredAt layout size place value r old new = StoredWhere (is_place_writable layout place (size_bytes size)) size place value r old new
+
+abbrev pub StoredBehind : Layout → Size → Result Place WalkFault → Kind → Result Unit WalkFault → Known → Known → Type 0
+StoredBehind layout size place kind.Unset r old new = (r ≡ Err UnsetRegister) × (new ≡ old)
+StoredBehind layout size (Err fault) value r old new = (r ≡ Err fault) × (new ≡ old)
+StoredBehind layout size (Ok place) value r old new = StoredAt layout size place value r old new
+
+-- ---- flows
+
+-- a flow that follows where nothing is wrong
+abbrev pub flow_where : {A : Type 0} → Result A WalkFault → Flow → Result Flow WalkFault
+flow_where (Ok a) flow = Ok flow
+flow_where (Err fault) flow = Err fault
+
+abbrev pub Stores : Layout → Size → RegNo → Operand → ℤ → Known → Known → Result Flow WalkFault → Type 0
+Stores layout size dst operand offset old new r =
+    (value : Kind) × (done : Result Unit WalkFault) × IsOperand old operand value
+    × StoredBehind layout size (place_behind layout (reg_of old dst) offset (size_bytes size)) value done old new × (r ≡ flow_where done Next)
+
+-- nothing is changed
+abbrev pub Passes : Result Flow WalkFault → Known → Known → Result Flow WalkFault → Type 0
+Passes flow old new r = (r ≡ flow) × (new ≡ old)
+
+abbrev pub Compares : Width → Cond → RegNo → Operand → ℤ → Known → Known → Result Flow WalkFault → Type 0
+Compares w cond dst operand offset old new r =
+    (right : Kind) × IsOperand old operand right
+    × Passes (flow_where (comparison_of (reg_of old dst) right) (Branch offset (record { cond = cond; width = w; left = dst; right = operand }))) old new r
+
+-- ---- instructions
+
+abbrev pub IsOutcome : Layout → Insn → Known → Known → Result Flow WalkFault → Type 0
+IsOutcome layout (insn.Alu64Imm op dst imm) old new r = Receives dst (Computes layout old W64 (operation_of op) dst (Imm imm)) old new r
+IsOutcome layout (insn.Alu64Reg op dst src) old new r = Receives dst (Computes layout old W64 (operation_of op) dst (Reg src)) old new r
+IsOutcome layout (insn.Alu32Imm op dst imm) old new r = Receives dst (Computes layout old W32 (operation_of op) dst (Imm imm)) old new r
+IsOutcome layout (insn.Alu32Reg op dst src) old new r = Receives dst (Computes layout old W32 (operation_of op) dst (Reg src)) old new r
+IsOutcome layout (insn.Divide w sign dst operand) old new r = Receives dst (Computes layout old w (division_of sign) dst operand) old new r
+IsOutcome layout (insn.Remainder w sign dst operand) old new r = Receives dst (Computes layout old w (remainder_of sign) dst operand) old new r
+IsOutcome layout (insn.Negate w dst) old new r = Receives dst (IsKindImage Neg w (reg_of old dst)) old new r
+IsOutcome layout (insn.MoveSigned x dst src) old new r = Receives dst (IsKindImage (Extend (extended_bits x)) (extended_width x) (reg_of old src)) old new r
+IsOutcome layout (insn.SwapBytes by bits dst) old new r = Receives dst (IsKindImage (Swap by bits) W64 (reg_of old dst)) old new r
+IsOutcome layout (insn.LoadWide dst n) old new r = Receives dst (IsWide n) old new r
+IsOutcome layout (insn.Load size dst src offset) old new r = Receives dst (Loads layout old size src offset) old new r
+IsOutcome layout (insn.LoadSigned size dst src offset) old new r = Receives dst (LoadsSigned layout old size src offset) old new r
+IsOutcome layout (insn.StoreReg size dst src offset) old new r = Stores layout size dst (Reg src) offset old new r
+IsOutcome layout (insn.StoreImm size dst offset imm) old new r = Stores layout size dst (Imm imm) offset old new r
+IsOutcome layout (insn.Jump offset) old new r = Passes (Ok (Jump offset)) old new r
+IsOutcome layout (insn.JumpLong offset) old new r = Passes (Ok (Jump offset)) old new r
+IsOutcome layout (insn.Jump64IfImm cond dst offset imm) old new r = Compares W64 cond dst (Imm imm) offset old new r
+IsOutcome layout (insn.Jump64IfReg cond dst src offset) old new r = Compares W64 cond dst (Reg src) offset old new r
+IsOutcome layout (insn.Jump32IfImm cond dst offset imm) old new r = Compares W32 cond dst (Imm imm) offset old new r
+IsOutcome layout (insn.Jump32IfReg cond dst src offset) old new r = Compares W32 cond dst (Reg src) offset old new r
+IsOutcome layout insn.Exit old new r = Passes (flow_where (number_in_reg (reg_of old R0) ExitsWithPointer) Exit) old new r
