@@ -1,5 +1,5 @@
 -- What the table refuses is refused by the machine: in some state that is what is known, with the fault that is named.
-use Rattle.std.proofs.Common.{◌≡◌, ◌≢◌, ◌⊎◌, ℕ, ◌+◌, ◌-◌, ◌<◌, ◌≤◌, ◌&&◌, ℤ, pos, negsuc, Bool, true, false, List, Option, Some, None, Result, Ok, Err, get_or, set, length, refl, sym, ap, ◌∙◌, subst, arith, inl, inr}
+use Rattle.std.proofs.Common.{◌≡◌, ◌≢◌, ◌⊎◌, ℕ, ◌+◌, ◌-◌, ◌<◌, ◌≤◌, ◌&&◌, ℤ, pos, negsuc, Bool, true, false, List, Option, Some, None, Result, Ok, Err, get_or, set, refl, sym, ap, ◌∙◌, subst, arith, inl, inr}
 use Rattle.std.specs.Prelude.{◌+ℤ◌, nat_le}
 use Rattle.std.proofs.lemmas.Bool.{cases_eq, cases_lt, le-leb, lt-leb}
 use Rattle.std.proofs.lemmas.Int.{ints}
@@ -27,7 +27,7 @@ use Rattle.insn.specs.Instruction.{read_size, reg_number, size_bytes}
 use Rattle.insn.specs.Values.{State, at, region_size, value_of, writable_from, writable_to}
 use Rattle.insn.specs.Memory.{is_writable, within}
 use Rattle.insn.specs.Step.{operand_value}
-use Rattle.insn.specs.Faults.{Test as Check, comparison_tests, first_of, load_tests, number_tests, read_tests, store_tests, write_tests}
+use Rattle.insn.specs.Faults.{Test as Check, comparison_tests, first_of, load_tests, number_tests, store_tests, write_tests}
 use Rattle.scalar.specs.declared.scalar.Scalar.{Scalar}
 use Rattle.reg_kind.specs.declared.reg.Reg.{Reg as Kind}
 use Rattle.reg_kind.specs.declared.reg.Reg.TheVariants as kind
@@ -41,7 +41,6 @@ use Rattle.stack_state.specs.Fits.{StackFits}
 use Rattle.stack_state.specs.Accesses.{IsGiven, IsStored}
 use Rattle.stack_state.proofs.Refusals.{FailsLoad, FailsStore, load_seen, store_seen}
 use Rattle.verifier.specs.declared.known.Known.{Known}
-use Rattle.verifier.specs.declared.known.Flow.{Flow}
 use Rattle.verifier.specs.declared.known.Flow.TheVariants.{Next}
 use Rattle.verifier.specs.Fits.{StateFits}
 use Rattle.verifier.specs.Follows.{IsOperand, comparison_of, reg_of}
@@ -128,7 +127,7 @@ few_bytes layout region.Stack Eight = omega arith
 
 -- ---- values that are stored
 
-unset_or_not : (k : Kind) → (k ≡ kind.Unset) ⊎ (k ≢ kind.Unset)
+pub unset_or_not : (k : Kind) → (k ≡ kind.Unset) ⊎ (k ≢ kind.Unset)
 unset_or_not kind.Unset = inl refl
 unset_or_not (kind.Number a) = inr (λ e. cc)
 unset_or_not (kind.Record a) = inr (λ e. cc)
@@ -154,11 +153,11 @@ pub record Sees (layout : Layout) (old : Known) (tests : State → List Check) (
   pub fits : StateFits false layout old state
   pub fails : first_of (tests state) ≡ Some fault
 
-abbrev changed : State → RegNo → Option Value → List Cell → State
+abbrev pub changed : State → RegNo → Option Value → List Cell → State
 changed s r o cells = record s { registers = set s.registers (reg_number r) o; stack = cells }
 
 module _ (layout : Layout) (old : Known) (s : State) (f : StateFits false layout old s) where
-  there : (r : RegNo) (o : Option Value) → get_or (set s.registers (reg_number r) o) (reg_number r) None ≡ o
+  pub there : (r : RegNo) (o : Option Value) → get_or (set s.registers (reg_number r) o) (reg_number r) None ≡ o
   there r o = get_or-set_same s.registers (reg_number r) o None (let l = f.long in let b = reg_below r in omega arith)
 
   changed_fits : (r : RegNo) (o : Option Value) (cells : List Cell) → RegFits false (reg_of old r) o → StackFits false old.stack cells → StateFits false layout old (changed s r o cells)
@@ -174,7 +173,7 @@ module _ (layout : Layout) (old : Known) (s : State) (f : StateFits false layout
   }
 
   -- a register of which nothing is known may be unset
-  unset_there : (r : RegNo) → reg_of old r ≡ kind.Unset → StateFits false layout old (changed s r None s.stack)
+  pub unset_there : (r : RegNo) → reg_of old r ≡ kind.Unset → StateFits false layout old (changed s r None s.stack)
   unset_there r e = changed_fits r None s.stack (subst (λ (k : Kind). RegFits false k None) (sym e) tt) f.stack
 
   -- one that is a pointer may be at each of its offsets
@@ -211,7 +210,7 @@ module _ (layout : Layout) (old : Known) (s : State) (f : StateFits false layout
 
   -- ---- numbers that are wanted
 
-  number_seen : (r : RegNo) (name fault : WalkFault) → number_in_reg (reg_of old r) name ≡ Err fault → Sees layout old (λ t. number_tests (value_of t.registers r) name) fault
+  pub number_seen : (r : RegNo) (name fault : WalkFault) → number_in_reg (reg_of old r) name ≡ Err fault → Sees layout old (λ t. number_tests (value_of t.registers r) name) fault
   number_seen r name fault h = by (reg_of old r) refl h where
     by : (k : Kind) → reg_of old r ≡ k → number_in_reg k name ≡ Err fault → Sees layout old (λ t. number_tests (value_of t.registers r) name) fault
     by kind.Unset e h = let is : UnsetRegister ≡ fault = cc in record { state = changed s r None s.stack; fits = unset_there r e; fails = rw there (ap Some is) }
@@ -219,7 +218,7 @@ module _ (layout : Layout) (old : Known) (s : State) (f : StateFits false layout
     by (kind.Record span) e h = let is : name ≡ fault = cc in let p = is_pointer r region.Record span e in record { state = s; fits = f; fails = rw p.1 (ap Some is) }
     by (kind.Stack span) e h = let is : name ≡ fault = cc in let p = is_pointer r region.Stack span e in record { state = s; fits = f; fails = rw p.1 (ap Some is) }
 
-  image_refused : (op : UnOp) (w : Width) (a : Kind) (fault : WalkFault) → IsKindImage op w a (Err fault) → number_in_reg a PointerMisuse ≡ Err fault
+  pub image_refused : (op : UnOp) (w : Width) (a : Kind) (fault : WalkFault) → IsKindImage op w a (Err fault) → number_in_reg a PointerMisuse ≡ Err fault
   image_refused op w kind.Unset fault h = let is : UnsetRegister ≡ fault = cc in ap Err is
   image_refused op w (kind.Number a) fault h = let e = h.1 in absurd cc
   image_refused op w (kind.Record span) fault h = let is : PointerMisuse ≡ fault = cc in ap Err is

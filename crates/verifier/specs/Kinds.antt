@@ -1,6 +1,6 @@
 -- What an instruction leaves of what is known, and why it is refused: a table by the kinds of what is known before it.
 -- Nothing is changed but what is said here.
-use Rattle.std.specs.Prelude.{◌≡◌, ℕ, ℤ, Bool, true, false, slice_set, Some, Result, Ok, Err}
+use Rattle.std.specs.Prelude.{◌≡◌, ◌≢◌, ℕ, ℤ, Bool, true, false, slice_set, Some, Result, Ok, Err}
 use Rattle.insn.specs.declared.register.RegNo.{RegNo}
 use Rattle.insn.specs.declared.register.RegNo.TheVariants.{R0}
 use Rattle.insn.specs.declared.instruction.Insn.{Insn}
@@ -19,8 +19,10 @@ use Rattle.insn.specs.declared.state.Region.{Region}
 use Rattle.insn.specs.declared.state.Region.TheVariants as region
 use Rattle.insn.specs.declared.state.Value.TheVariants.{Number}
 use Rattle.insn.specs.declared.verify_fault.WalkFault.{WalkFault}
-use Rattle.insn.specs.declared.verify_fault.WalkFault.TheVariants.{ExitsWithPointer, PointerMisuse, ReadOnlyField, UnsetRegister}
+use Rattle.insn.specs.declared.verify_fault.WalkFault.TheVariants.{ExitsWithPointer, PointerMisuse, PointerRange, ReadOnlyField, UnsetRegister}
 use Rattle.insn.specs.Instruction.{division_of, extended_bits, extended_width, operation_of, read_bits, read_size, reg_number, remainder_of, size_bytes}
+use Rattle.insn.specs.Values.{State}
+use Rattle.insn.specs.Faults.{fault_at}
 use Rattle.reg_kind.specs.declared.place.Place.{Place}
 use Rattle.reg_kind.specs.declared.reg.Reg.{Reg as Kind}
 use Rattle.reg_kind.specs.declared.reg.Reg.TheVariants as kind
@@ -31,7 +33,8 @@ use Rattle.stack_state.specs.Accesses.{IsGiven, IsNumberReg, IsStored}
 use Rattle.verifier.specs.declared.known.Known.{Known}
 use Rattle.verifier.specs.declared.known.Flow.{Flow}
 use Rattle.verifier.specs.declared.known.Flow.TheVariants.{Next, Jump, Branch, Exit}
-use Rattle.verifier.specs.Follows.{IsOperand, comparison_of, reg_of}
+use Rattle.verifier.specs.Fits.{StateFits}
+use Rattle.verifier.specs.Follows.{IsFaulty, IsOperand, comparison_of, reg_of}
 
 -- ---- what a register receives
 
@@ -144,3 +147,23 @@ IsOutcome layout (insn.Jump64IfReg cond dst src offset) old new r = Compares W64
 IsOutcome layout (insn.Jump32IfImm cond dst offset imm) old new r = Compares W32 cond dst (Imm imm) offset old new r
 IsOutcome layout (insn.Jump32IfReg cond dst src offset) old new r = Compares W32 cond dst (Reg src) offset old new r
 IsOutcome layout insn.Exit old new r = Passes (flow_where (number_in_reg (reg_of old R0) ExitsWithPointer) Exit) old new r
+
+-- ---- refusals
+
+-- a fault is the first test that fails in some state that is what is known
+pub record IsSeen (layout : Layout) (i : Insn) (known : Known) (fault : WalkFault) : Type 0 where
+  pub state : State
+  pub fits : StateFits false layout known state
+  pub fails : fault_at layout i state ≡ Some fault
+
+-- It is so where any state is what is known. It is not said of a pointer that is moved:
+-- numbers between which all members of a set lie need not be members.
+abbrev pub CanFail : Layout → Insn → Known → WalkFault → Type 0
+CanFail layout i known fault = fault ≢ PointerRange → (s : State) → StateFits false layout known s → IsSeen layout i known fault
+
+-- why an instruction is refused: by a row of the table, and by the first test that fails
+pub record IsRefusedFor (layout : Layout) (i : Insn) (known : Known) (fault : WalkFault) : Type 0 where
+  pub faulty : IsFaulty layout i known fault
+  pub after : Known
+  pub row : IsOutcome layout i known after (Err fault)
+  pub seen : CanFail layout i known fault
