@@ -1,5 +1,5 @@
 -- The table of what instructions leave, row by row.
-use Rattle.std.proofs.Common.{◌≡◌, ◌≢◌, ℤ, Bool, Result, Ok, Err, refl, subst}
+use Rattle.std.proofs.Common.{◌≡◌, ◌≢◌, ℤ, Result, Ok, Err, refl, subst}
 use Rattle.insn.specs.declared.instruction.Insn.{Insn}
 use Rattle.insn.specs.declared.layout.Layout.{Layout}
 use Rattle.insn.specs.declared.operation.Size.{Size}
@@ -9,10 +9,10 @@ use Rattle.insn.specs.Instruction.{size_bytes}
 use Rattle.reg_kind.specs.declared.place.Place.{Place}
 use Rattle.reg_kind.specs.declared.reg.Reg.{Reg as Kind}
 use Rattle.reg_kind.specs.declared.reg.Reg.TheVariants as kind
-use Rattle.reg_kind.specs.Accesses.{is_place_writable, place_behind}
+use Rattle.reg_kind.specs.Accesses.{place_behind}
 use Rattle.verifier.specs.declared.known.Known.{Known}
 use Rattle.verifier.specs.declared.known.Flow.{Flow}
-use Rattle.verifier.specs.Kinds.{GivenAt, GivenIn, IsOutcome, StoredAt, StoredBehind, StoredWhere}
+use Rattle.verifier.specs.Kinds.{GivenAt, GivenIn, IsOutcome, StoredOf, put_at}
 
 -- what is said of one instruction is said of the same one under another name
 pub outcome_of : (layout : Layout) (i j : Insn) (old new : Known) (r : Result Flow WalkFault) → i ≡ j → IsOutcome layout j old new r → IsOutcome layout i old new r
@@ -28,30 +28,16 @@ read_place old size at place r is h = subst (λ (p : Result Place WalkFault). Gi
 
 -- ---- stores
 
-pub base_unset : (layout : Layout) (size : Size) (base value : Kind) (offset : ℤ) (old : Known) → base ≡ kind.Unset → StoredBehind layout size (place_behind layout base offset (size_bytes size)) value (Err UnsetRegister) old old
+pub base_unset : (layout : Layout) (size : Size) (base value : Kind) (offset : ℤ) (old : Known) → base ≡ kind.Unset → StoredOf layout (put_at size value (place_behind layout base offset (size_bytes size))) (Err UnsetRegister) old old
 base_unset layout size base kind.Unset offset old is = (refl, refl)
 base_unset layout size base (kind.Number a) offset old is = rw is (refl, refl)
 base_unset layout size base (kind.Record a) offset old is = rw is (refl, refl)
 base_unset layout size base (kind.Stack a) offset old is = rw is (refl, refl)
 
-pub value_unset : (layout : Layout) (size : Size) (at : Result Place WalkFault) (value : Kind) (old : Known) → value ≡ kind.Unset → StoredBehind layout size at value (Err UnsetRegister) old old
-value_unset layout size at value old is = rw is (refl, refl)
-
-pub no_place : (layout : Layout) (size : Size) (at : Result Place WalkFault) (value : Kind) (fault : WalkFault) (old : Known) → value ≢ kind.Unset → Err fault ≡ at → StoredBehind layout size at value (Err fault) old old
-no_place layout size at value fault old set is = subst (λ (p : Result Place WalkFault). StoredBehind layout size p value (Err fault) old old) is (by value set) where
-  by : (value : Kind) → value ≢ kind.Unset → StoredBehind layout size (Err fault) value (Err fault) old old
+pub no_place : (layout : Layout) (size : Size) (at : Result Place WalkFault) (value : Kind) (fault : WalkFault) (old : Known) → value ≢ kind.Unset → Err fault ≡ at → StoredOf layout (put_at size value at) (Err fault) old old
+no_place layout size at value fault old set is = subst (λ (p : Result Place WalkFault). StoredOf layout (put_at size value p) (Err fault) old old) is (by value set) where
+  by : (value : Kind) → value ≢ kind.Unset → StoredOf layout (put_at size value (Err fault)) (Err fault) old old
   by kind.Unset set = absurd (set refl)
   by (kind.Number a) set = (refl, refl)
   by (kind.Record a) set = (refl, refl)
   by (kind.Stack a) set = (refl, refl)
-
-pub at_place : (layout : Layout) (size : Size) (at : Result Place WalkFault) (place : Place) (value : Kind) (r : Result Unit WalkFault) (old new : Known) → value ≢ kind.Unset → Ok place ≡ at → StoredAt layout size place value r old new → StoredBehind layout size at value r old new
-at_place layout size at place value r old new set is h = subst (λ (p : Result Place WalkFault). StoredBehind layout size p value r old new) is (by value set h) where
-  by : (value : Kind) → value ≢ kind.Unset → StoredAt layout size place value r old new → StoredBehind layout size (Ok place) value r old new
-  by kind.Unset set h = absurd (set refl)
-  by (kind.Number a) set h = h
-  by (kind.Record a) set h = h
-  by (kind.Stack a) set h = h
-
-pub stored_where : (layout : Layout) (size : Size) (place : Place) (value : Kind) (r : Result Unit WalkFault) (old new : Known) (answer : Bool) → answer ≡ is_place_writable layout place (size_bytes size) → StoredWhere answer size place value r old new → StoredAt layout size place value r old new
-stored_where layout size place value r old new answer is h = subst (λ (b : Bool). StoredWhere b size place value r old new) is h

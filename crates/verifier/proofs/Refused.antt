@@ -208,7 +208,7 @@ module _ (layout : Layout) (old : Known) (s : State) (f : StateFits false layout
   operand_unset (Reg src) right is e = record { state = changed s src None s.stack; fits = unset_there layout old s f src (sym is ∙ e); fails = rw (there layout old s f src None) (unset_right layout w op (left_operand op (changed s src None s.stack) dst)) }
   operand_unset (Imm imm) right is e = absurd (subst (λ (k : Kind). IsOperand old (Imm imm) k) e is)
 
-  operate_seen : (operand : Operand) (fault : WalkFault) → fault ≢ PointerRange → Computes layout old w op dst operand (Err fault) → Sees layout old (operate_at operand) fault
+  operate_seen : (operand : Operand) (fault : WalkFault) → fault ≢ PointerRange → Computes layout old (record { width = w; op = op; dst = dst; operand = operand }) (Err fault) → Sees layout old (operate_at operand) fault
   operate_seen operand fault range h = by (unset_or_not h.0) where
     value : h.0 ≢ kind.Unset → (u : Value) × (operand_value s operand ≡ Some u) × ValueFits false h.0 u
     value set = set_holds false h.0 (operand_value s operand) set (operand_fits false layout old s operand h.0 f h.1)

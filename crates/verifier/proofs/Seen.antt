@@ -44,7 +44,7 @@ use Rattle.verifier.specs.declared.known.Known.{Known}
 use Rattle.verifier.specs.declared.known.Flow.TheVariants.{Next}
 use Rattle.verifier.specs.Fits.{StateFits}
 use Rattle.verifier.specs.Follows.{IsOperand, comparison_of, reg_of}
-use Rattle.verifier.specs.Kinds.{Extends, GivenAt, Loads, LoadsSigned, StoredAt, StoredBehind, StoredWhere, Stores, flow_where, kept_in_record}
+use Rattle.verifier.specs.Kinds.{Extends, GivenAt, Loads, LoadsSigned, StoredAt, StoredOf, StoredWhere, Stores, flow_where, kept_in_record, put_at}
 use Rattle.verifier.proofs.Accesses.{set_holds}
 use Rattle.verifier.proofs.States.{reg_below, reg_fits}
 use Rattle.verifier.proofs.Steps.{operand_fits}
@@ -133,13 +133,13 @@ unset_or_not (kind.Number a) = inr (λ e. cc)
 unset_or_not (kind.Record a) = inr (λ e. cc)
 unset_or_not (kind.Stack a) = inr (λ e. cc)
 
-of_err : (layout : Layout) (size : Size) (wrong : WalkFault) (value : Kind) (r : Result Unit WalkFault) (old new : Known) → value ≢ kind.Unset → StoredBehind layout size (Err wrong) value r old new → r ≡ Err wrong
+of_err : (layout : Layout) (size : Size) (wrong : WalkFault) (value : Kind) (r : Result Unit WalkFault) (old new : Known) → value ≢ kind.Unset → StoredOf layout (put_at size value (Err wrong)) r old new → r ≡ Err wrong
 of_err layout size wrong kind.Unset r old new set h = absurd (set refl)
 of_err layout size wrong (kind.Number a) r old new set h = h.0
 of_err layout size wrong (kind.Record a) r old new set h = h.0
 of_err layout size wrong (kind.Stack a) r old new set h = h.0
 
-of_ok : (layout : Layout) (size : Size) (place : Place) (value : Kind) (r : Result Unit WalkFault) (old new : Known) → value ≢ kind.Unset → StoredBehind layout size (Ok place) value r old new → StoredAt layout size place value r old new
+of_ok : (layout : Layout) (size : Size) (place : Place) (value : Kind) (r : Result Unit WalkFault) (old new : Known) → value ≢ kind.Unset → StoredOf layout (put_at size value (Ok place)) r old new → StoredAt layout (record { size = size; place = place; value = value }) r old new
 of_ok layout size place kind.Unset r old new set h = absurd (set refl)
 of_ok layout size place (kind.Number a) r old new set h = h
 of_ok layout size place (kind.Record a) r old new set h = h
@@ -263,7 +263,7 @@ module _ (layout : Layout) (old : Known) (s : State) (f : StateFits false layout
           ])
       by (Some t) q h = within_stack g t e (inside_of (region_size layout g) (size_bytes size) (pos span.least +ℤ offset) (pos span.greatest +ℤ offset) t (few_bytes layout g size) q) h
 
-    pub loads_seen : (fault : WalkFault) → Loads layout old size src offset (Err fault) → Sees layout old read_at fault
+    pub loads_seen : (fault : WalkFault) → Loads layout old (record { size = size; src = src; offset = offset }) (Err fault) → Sees layout old read_at fault
     loads_seen fault h = by (reg_of old src) refl h where
       by : (k : Kind) → reg_of old src ≡ k → GivenAt old size (place_behind layout k offset (size_bytes size)) (Err fault) → Sees layout old read_at fault
       by kind.Unset e h = let is : UnsetRegister ≡ fault = cc in record { state = changed s src None s.stack; fits = unset_there src e; fails = rw there (ap Some is) }
@@ -285,9 +285,9 @@ module _ (layout : Layout) (old : Known) (s : State) (f : StateFits false layout
     by size region.Stack (inl whole) = absurd (short size whole.place.eight)
     by size region.Stack (inr bytes) = bytes.2
 
-  pub signed_seen : (size : SignedSize) (src : RegNo) (offset : ℤ) (fault : WalkFault) → LoadsSigned layout old size src offset (Err fault) → Sees layout old (λ t. load_tests layout t (value_of t.registers src) offset (size_bytes (read_size size))) fault
+  pub signed_seen : (size : SignedSize) (src : RegNo) (offset : ℤ) (fault : WalkFault) → LoadsSigned layout old size (record { size = read_size size; src = src; offset = offset }) (Err fault) → Sees layout old (λ t. load_tests layout t (value_of t.registers src) offset (size_bytes (read_size size))) fault
   signed_seen size src offset fault h = by h.0 h.1 h.2 where
-    by : (number : Result Kind WalkFault) → Loads layout old (read_size size) src offset number → Extends size number (Err fault) → Sees layout old (λ t. load_tests layout t (value_of t.registers src) offset (size_bytes (read_size size))) fault
+    by : (number : Result Kind WalkFault) → Loads layout old (record { size = read_size size; src = src; offset = offset }) number → Extends size number (Err fault) → Sees layout old (λ t. load_tests layout t (value_of t.registers src) offset (size_bytes (read_size size))) fault
     by (Err wrong) loads x = let is : wrong ≡ fault = cc in rw (← is) (loads_seen (read_size size) src offset wrong loads)
     by (Ok k) loads x =
         let a = given_number size (place_behind layout (reg_of old src) offset (size_bytes (read_size size))) k loads in
@@ -366,7 +366,7 @@ module _ (layout : Layout) (old : Known) (s : State) (f : StateFits false layout
           record { state = changed s dst (Some (Address (at g c.from))) s.stack; fits = fits; fails = rw (there, v.1, c.comes, within_at (region_size layout g) (size_bytes size) k inside) (h v.0 v.2) }
 
       store_inside : (g : Region) (span t : Span) (fault : WalkFault) (new : Known) → reg_of old dst ≡ pointer_to g span → HasEnds (region_size layout g) (size_bytes size) (pos span.least +ℤ offset) (pos span.greatest +ℤ offset) t
-          → (b : Bool) → is_span_writable layout g t (size_bytes size) ≡ b → StoredWhere b size (record { region = g; span = t }) value (Err fault) old new → Sees layout old write_at fault
+          → (b : Bool) → is_span_writable layout g t (size_bytes size) ≡ b → StoredWhere b (record { size = size; place = record { region = g; span = t }; value = value }) (Err fault) old new → Sees layout old write_at fault
       store_inside region.Stack span t fault new e ends false q h = absurd cc
       store_inside region.Record span t fault new e ends false q h =
           let same : ReadOnlyField ≡ fault = let x = h.0 in cc in
@@ -386,12 +386,12 @@ module _ (layout : Layout) (old : Known) (s : State) (f : StateFits false layout
           let i = ends.inside in
           store_fails region.Stack span x.at fault e (comes_to span t offset x.at ends.least ends.greatest x.place) (let q = p.1 in omega arith) (λ v k. x.fails v k ∙ ap Some (sym stored.0))
 
-      store_pointer : (g : Region) (span : Span) (fault : WalkFault) (new : Known) → reg_of old dst ≡ pointer_to g span → StoredBehind layout size (place_in layout g span offset (size_bytes size)) value (Err fault) old new → Sees layout old write_at fault
+      store_pointer : (g : Region) (span : Span) (fault : WalkFault) (new : Known) → reg_of old dst ≡ pointer_to g span → StoredOf layout (put_at size value (place_in layout g span offset (size_bytes size))) (Err fault) old new → Sees layout old write_at fault
       store_pointer g span fault new e h = by (span_raised (region_size layout g - size_bytes size) span offset offset) refl h where
         le : span.least ≤ span.greatest
         le = ordered dst g span e
 
-        by : (o : Option Span) → span_raised (region_size layout g - size_bytes size) span offset offset ≡ o → StoredBehind layout size (place_at g o) value (Err fault) old new → Sees layout old write_at fault
+        by : (o : Option Span) → span_raised (region_size layout g - size_bytes size) span offset offset ≡ o → StoredOf layout (put_at size value (place_at g o)) (Err fault) old new → Sees layout old write_at fault
         by None q h =
             let x = of_err layout size OutOfRegion value (Err fault) old new set h in
             let same : OutOfRegion ≡ fault = cc in
@@ -403,9 +403,9 @@ module _ (layout : Layout) (old : Known) (s : State) (f : StateFits false layout
             store_inside g span t fault new e (inside_of (region_size layout g) (size_bytes size) (pos span.least +ℤ offset) (pos span.greatest +ℤ offset) t (few_bytes layout g size) q)
             (is_span_writable layout g t (size_bytes size)) refl (of_ok layout size (record { region = g; span = t }) value (Err fault) old new set h)
 
-      set_seen : (fault : WalkFault) (new : Known) → StoredBehind layout size (place_behind layout (reg_of old dst) offset (size_bytes size)) value (Err fault) old new → Sees layout old write_at fault
+      set_seen : (fault : WalkFault) (new : Known) → StoredOf layout (put_at size value (place_behind layout (reg_of old dst) offset (size_bytes size))) (Err fault) old new → Sees layout old write_at fault
       set_seen fault new h = by (reg_of old dst) refl h where
-        by : (k : Kind) → reg_of old dst ≡ k → StoredBehind layout size (place_behind layout k offset (size_bytes size)) value (Err fault) old new → Sees layout old write_at fault
+        by : (k : Kind) → reg_of old dst ≡ k → StoredOf layout (put_at size value (place_behind layout k offset (size_bytes size))) (Err fault) old new → Sees layout old write_at fault
         by kind.Unset e h =
             let x = of_err layout size UnsetRegister value (Err fault) old new set h in
             let same : UnsetRegister ≡ fault = cc in
@@ -423,16 +423,16 @@ module _ (layout : Layout) (old : Known) (s : State) (f : StateFits false layout
   value_unset size dst offset (Reg src) value is e = record { state = changed s src None s.stack; fits = unset_there src (sym is ∙ e); fails = rw (there src None) (no_value size offset (get_or (set s.registers (reg_number src) None) (reg_number dst) None)) }
   value_unset size dst offset (Imm imm) value is e = absurd (subst (λ (k : Kind). IsOperand old (Imm imm) k) e is)
 
-  pub stores_seen : (size : Size) (dst : RegNo) (offset : ℤ) (operand : Operand) (fault : WalkFault) (new : Known) → Stores layout size dst operand offset old new (Err fault) → Sees layout old (write_at size dst offset operand) fault
+  pub stores_seen : (size : Size) (dst : RegNo) (offset : ℤ) (operand : Operand) (fault : WalkFault) (new : Known) → Stores layout (record { size = size; dst = dst; offset = offset; operand = operand }) old new (Err fault) → Sees layout old (write_at size dst offset operand) fault
   stores_seen size dst offset operand fault new h = by h.1 h.3 h.4 where
-    told : (wrong : WalkFault) → StoredBehind layout size (place_behind layout (reg_of old dst) offset (size_bytes size)) h.0 (Err wrong) old new → (h.0 ≡ kind.Unset) ⊎ (h.0 ≢ kind.Unset) → Sees layout old (write_at size dst offset operand) wrong
+    told : (wrong : WalkFault) → StoredOf layout (put_at size h.0 (place_behind layout (reg_of old dst) offset (size_bytes size))) (Err wrong) old new → (h.0 ≡ kind.Unset) ⊎ (h.0 ≢ kind.Unset) → Sees layout old (write_at size dst offset operand) wrong
     told wrong b (inr set) = set_seen size dst offset operand h.0 h.2 set wrong new b
     told wrong b (inl unset) =
         let x : Err wrong ≡ Err UnsetRegister = (rw unset at b).0 in
         let same : UnsetRegister ≡ wrong = cc in
         rw (← same) (value_unset size dst offset operand h.0 h.2 unset)
 
-    by : (done : Result Unit WalkFault) → StoredBehind layout size (place_behind layout (reg_of old dst) offset (size_bytes size)) h.0 done old new → Err fault ≡ flow_where done Next → Sees layout old (write_at size dst offset operand) fault
+    by : (done : Result Unit WalkFault) → StoredOf layout (put_at size h.0 (place_behind layout (reg_of old dst) offset (size_bytes size))) done old new → Err fault ≡ flow_where done Next → Sees layout old (write_at size dst offset operand) fault
     by (Ok done) b e = absurd cc
     by (Err wrong) b e = let same : wrong ≡ fault = cc in rw (← same) (told wrong b (unset_or_not h.0))
 

@@ -9,7 +9,6 @@ use Rattle.insn.specs.declared.instruction.Operand.{Operand}
 use Rattle.insn.specs.declared.instruction.Operand.TheVariants.{Reg, Imm}
 use Rattle.insn.specs.declared.layout.Layout.{Layout}
 use Rattle.insn.specs.declared.operation.BinOp.{BinOp}
-use Rattle.insn.specs.declared.operation.Cond.{Cond}
 use Rattle.insn.specs.declared.operation.SignedSize.{SignedSize}
 use Rattle.insn.specs.declared.operation.Size.{Size}
 use Rattle.insn.specs.declared.operation.UnOp.TheVariants.{Extend, Neg, Swap}
@@ -31,6 +30,7 @@ use Rattle.reg_kind.specs.Accesses.{is_place_writable, place_behind}
 use Rattle.reg_kind.specs.Operations.{IsKindImage, IsKindResult, IsKnownNumber, number_in_reg}
 use Rattle.stack_state.specs.Accesses.{IsGiven, IsNumberReg, IsStored}
 use Rattle.verifier.specs.declared.known.Known.{Known}
+use Rattle.verifier.specs.declared.known.Test.{Test}
 use Rattle.verifier.specs.declared.known.Flow.{Flow}
 use Rattle.verifier.specs.declared.known.Flow.TheVariants.{Next, Jump, Branch, Exit}
 use Rattle.verifier.specs.Fits.{StateFits}
@@ -49,9 +49,16 @@ Receives dst IsMade old new (Ok Next) = (value : Kind) × IsMade (Ok value) × I
 Receives dst IsMade old new (Ok flow) = ⊥
 Receives dst IsMade old new (Err fault) = IsMade (Err fault) × (new ≡ old)
 
+-- an operation on a register and an operand
+pub record Operation : Type 0 where
+  pub width : Width
+  pub op : BinOp
+  pub dst : RegNo
+  pub operand : Operand
+
 -- what an operation gives
-abbrev pub Computes : Layout → Known → Width → BinOp → RegNo → Operand → Result Kind WalkFault → Type 0
-Computes layout old w op dst operand r = (right : Kind) × IsOperand old operand right × IsKindResult layout w op (reg_of old dst) right r
+abbrev pub Computes : Layout → Known → Operation → Result Kind WalkFault → Type 0
+Computes layout old o r = (right : Kind) × IsOperand old o.operand right × IsKindResult layout o.width o.op (reg_of old o.dst) right r
 
 abbrev pub IsWide : ℕ → Result Kind WalkFault → Type 0
 IsWide n (Ok value) = IsKnownNumber value (Some (Number n))
@@ -67,16 +74,22 @@ abbrev pub GivenAt : Known → Size → Result Place WalkFault → Result Kind W
 GivenAt old size (Err fault) r = r ≡ Err fault
 GivenAt old size (Ok place) r = GivenIn old size place.region place.span r
 
-abbrev pub Loads : Layout → Known → Size → RegNo → ℤ → Result Kind WalkFault → Type 0
-Loads layout old size src offset r = GivenAt old size (place_behind layout (reg_of old src) offset (size_bytes size)) r
+-- a load of some bytes so far behind a register
+pub record Loading : Type 0 where
+  pub size : Size
+  pub src : RegNo
+  pub offset : ℤ
+
+abbrev pub Loads : Layout → Known → Loading → Result Kind WalkFault → Type 0
+Loads layout old load r = GivenAt old load.size (place_behind layout (reg_of old load.src) load.offset (size_bytes load.size)) r
 
 -- a number that is loaded is extended
 abbrev pub Extends : SignedSize → Result Kind WalkFault → Result Kind WalkFault → Type 0
 Extends size (Err fault) r = r ≡ Err fault
 Extends size (Ok number) r = IsKindImage (Extend (read_bits size)) W64 number r
 
-abbrev pub LoadsSigned : Layout → Known → SignedSize → RegNo → ℤ → Result Kind WalkFault → Type 0
-LoadsSigned layout old size src offset r = (number : Result Kind WalkFault) × Loads layout old (read_size size) src offset number × Extends size number r
+abbrev pub LoadsSigned : Layout → Known → SignedSize → Loading → Result Kind WalkFault → Type 0
+LoadsSigned layout old size load r = (number : Result Kind WalkFault) × Loads layout old load number × Extends size number r
 
 -- ---- stores
 
@@ -85,22 +98,33 @@ abbrev pub kept_in_record : Kind → Result Unit WalkFault
 kept_in_record (kind.Number a) = Ok tt
 kept_in_record value = Err PointerMisuse
 
-abbrev pub StoredIn : Size → Region → Span → Kind → Result Unit WalkFault → Known → Known → Type 0
-StoredIn size region.Record span value r old new = (r ≡ kept_in_record value) × (new ≡ old)
-StoredIn size region.Stack span value r old new = (new.registers ≡ old.registers) × IsStored span size value r old.stack new.stack
+-- a value that is put at a place
+pub record Put : Type 0 where
+  pub size : Size
+  pub place : Place
+  pub value : Kind
+
+abbrev pub StoredIn : Region → Put → Result Unit WalkFault → Known → Known → Type 0
+StoredIn region.Record put r old new = (r ≡ kept_in_record put.value) × (new ≡ old)
+StoredIn region.Stack put r old new = (new.registers ≡ old.registers) × IsStored put.place.span put.size put.value r old.stack new.stack
 
 -- a store at bytes that may be written, or may not
-abbrev pub StoredWhere : Bool → Size → Place → Kind → Result Unit WalkFault → Known → Known → Type 0
-StoredWhere false size place value r old new = (r ≡ Err ReadOnlyField) × (new ≡ old)
-StoredWhere true size place value r old new = StoredIn size place.region place.span value r old new
+abbrev pub StoredWhere : Bool → Put → Result Unit WalkFault → Known → Known → Type 0
+StoredWhere false put r old new = (r ≡ Err ReadOnlyField) × (new ≡ old)
+StoredWhere true put r old new = StoredIn put.place.region put r old new
 
-abbrev pub StoredAt : Layout → Size → Place → Kind → Result Unit WalkFault → Known → Known → Type 0
-StoredAt layout size place value r old new = StoredWhere (is_place_writable layout place (size_bytes size)) size place value r old new
+abbrev pub StoredAt : Layout → Put → Result Unit WalkFault → Known → Known → Type 0
+StoredAt layout put r old new = StoredWhere (is_place_writable layout put.place (size_bytes put.size)) put r old new
 
-abbrev pub StoredBehind : Layout → Size → Result Place WalkFault → Kind → Result Unit WalkFault → Known → Known → Type 0
-StoredBehind layout size place kind.Unset r old new = (r ≡ Err UnsetRegister) × (new ≡ old)
-StoredBehind layout size (Err fault) value r old new = (r ≡ Err fault) × (new ≡ old)
-StoredBehind layout size (Ok place) value r old new = StoredAt layout size place value r old new
+-- what is put where, if the value is set and there is a place
+abbrev pub put_at : Size → Kind → Result Place WalkFault → Result Put WalkFault
+put_at size kind.Unset place = Err UnsetRegister
+put_at size value (Err fault) = Err fault
+put_at size value (Ok place) = Ok (record { size = size; place = place; value = value })
+
+abbrev pub StoredOf : Layout → Result Put WalkFault → Result Unit WalkFault → Known → Known → Type 0
+StoredOf layout (Err fault) r old new = (r ≡ Err fault) × (new ≡ old)
+StoredOf layout (Ok put) r old new = StoredAt layout put r old new
 
 -- ---- flows
 
@@ -109,43 +133,49 @@ abbrev pub flow_where : {A : Type 0} → Result A WalkFault → Flow → Result 
 flow_where (Ok a) flow = Ok flow
 flow_where (Err fault) flow = Err fault
 
-abbrev pub Stores : Layout → Size → RegNo → Operand → ℤ → Known → Known → Result Flow WalkFault → Type 0
-Stores layout size dst operand offset old new r =
-    (value : Kind) × (done : Result Unit WalkFault) × IsOperand old operand value
-    × StoredBehind layout size (place_behind layout (reg_of old dst) offset (size_bytes size)) value done old new × (r ≡ flow_where done Next)
+-- a store of some bytes of an operand so far behind a register
+pub record Storing : Type 0 where
+  pub size : Size
+  pub dst : RegNo
+  pub offset : ℤ
+  pub operand : Operand
+
+abbrev pub Stores : Layout → Storing → Known → Known → Result Flow WalkFault → Type 0
+Stores layout store old new r =
+    (value : Kind) × (done : Result Unit WalkFault) × IsOperand old store.operand value
+    × StoredOf layout (put_at store.size value (place_behind layout (reg_of old store.dst) store.offset (size_bytes store.size))) done old new × (r ≡ flow_where done Next)
 
 -- nothing is changed
 abbrev pub Passes : Result Flow WalkFault → Known → Known → Result Flow WalkFault → Type 0
 Passes flow old new r = (r ≡ flow) × (new ≡ old)
 
-abbrev pub Compares : Width → Cond → RegNo → Operand → ℤ → Known → Known → Result Flow WalkFault → Type 0
-Compares w cond dst operand offset old new r =
-    (right : Kind) × IsOperand old operand right
-    × Passes (flow_where (comparison_of (reg_of old dst) right) (Branch offset (record { cond = cond; width = w; left = dst; right = operand }))) old new r
+abbrev pub Compares : Test → ℤ → Known → Known → Result Flow WalkFault → Type 0
+Compares test offset old new r =
+    (right : Kind) × IsOperand old test.right right × Passes (flow_where (comparison_of (reg_of old test.left) right) (Branch offset test)) old new r
 
 -- ---- instructions
 
 abbrev pub IsOutcome : Layout → Insn → Known → Known → Result Flow WalkFault → Type 0
-IsOutcome layout (insn.Alu64Imm op dst imm) old new r = Receives dst (Computes layout old W64 (operation_of op) dst (Imm imm)) old new r
-IsOutcome layout (insn.Alu64Reg op dst src) old new r = Receives dst (Computes layout old W64 (operation_of op) dst (Reg src)) old new r
-IsOutcome layout (insn.Alu32Imm op dst imm) old new r = Receives dst (Computes layout old W32 (operation_of op) dst (Imm imm)) old new r
-IsOutcome layout (insn.Alu32Reg op dst src) old new r = Receives dst (Computes layout old W32 (operation_of op) dst (Reg src)) old new r
-IsOutcome layout (insn.Divide w sign dst operand) old new r = Receives dst (Computes layout old w (division_of sign) dst operand) old new r
-IsOutcome layout (insn.Remainder w sign dst operand) old new r = Receives dst (Computes layout old w (remainder_of sign) dst operand) old new r
+IsOutcome layout (insn.Alu64Imm op dst imm) old new r = Receives dst (Computes layout old (record { width = W64; op = operation_of op; dst = dst; operand = Imm imm })) old new r
+IsOutcome layout (insn.Alu64Reg op dst src) old new r = Receives dst (Computes layout old (record { width = W64; op = operation_of op; dst = dst; operand = Reg src })) old new r
+IsOutcome layout (insn.Alu32Imm op dst imm) old new r = Receives dst (Computes layout old (record { width = W32; op = operation_of op; dst = dst; operand = Imm imm })) old new r
+IsOutcome layout (insn.Alu32Reg op dst src) old new r = Receives dst (Computes layout old (record { width = W32; op = operation_of op; dst = dst; operand = Reg src })) old new r
+IsOutcome layout (insn.Divide w sign dst operand) old new r = Receives dst (Computes layout old (record { width = w; op = division_of sign; dst = dst; operand = operand })) old new r
+IsOutcome layout (insn.Remainder w sign dst operand) old new r = Receives dst (Computes layout old (record { width = w; op = remainder_of sign; dst = dst; operand = operand })) old new r
 IsOutcome layout (insn.Negate w dst) old new r = Receives dst (IsKindImage Neg w (reg_of old dst)) old new r
 IsOutcome layout (insn.MoveSigned x dst src) old new r = Receives dst (IsKindImage (Extend (extended_bits x)) (extended_width x) (reg_of old src)) old new r
 IsOutcome layout (insn.SwapBytes by bits dst) old new r = Receives dst (IsKindImage (Swap by bits) W64 (reg_of old dst)) old new r
 IsOutcome layout (insn.LoadWide dst n) old new r = Receives dst (IsWide n) old new r
-IsOutcome layout (insn.Load size dst src offset) old new r = Receives dst (Loads layout old size src offset) old new r
-IsOutcome layout (insn.LoadSigned size dst src offset) old new r = Receives dst (LoadsSigned layout old size src offset) old new r
-IsOutcome layout (insn.StoreReg size dst src offset) old new r = Stores layout size dst (Reg src) offset old new r
-IsOutcome layout (insn.StoreImm size dst offset imm) old new r = Stores layout size dst (Imm imm) offset old new r
+IsOutcome layout (insn.Load size dst src offset) old new r = Receives dst (Loads layout old (record { size = size; src = src; offset = offset })) old new r
+IsOutcome layout (insn.LoadSigned size dst src offset) old new r = Receives dst (LoadsSigned layout old size (record { size = read_size size; src = src; offset = offset })) old new r
+IsOutcome layout (insn.StoreReg size dst src offset) old new r = Stores layout (record { size = size; dst = dst; offset = offset; operand = Reg src }) old new r
+IsOutcome layout (insn.StoreImm size dst offset imm) old new r = Stores layout (record { size = size; dst = dst; offset = offset; operand = Imm imm }) old new r
 IsOutcome layout (insn.Jump offset) old new r = Passes (Ok (Jump offset)) old new r
 IsOutcome layout (insn.JumpLong offset) old new r = Passes (Ok (Jump offset)) old new r
-IsOutcome layout (insn.Jump64IfImm cond dst offset imm) old new r = Compares W64 cond dst (Imm imm) offset old new r
-IsOutcome layout (insn.Jump64IfReg cond dst src offset) old new r = Compares W64 cond dst (Reg src) offset old new r
-IsOutcome layout (insn.Jump32IfImm cond dst offset imm) old new r = Compares W32 cond dst (Imm imm) offset old new r
-IsOutcome layout (insn.Jump32IfReg cond dst src offset) old new r = Compares W32 cond dst (Reg src) offset old new r
+IsOutcome layout (insn.Jump64IfImm cond dst offset imm) old new r = Compares (record { cond = cond; width = W64; left = dst; right = Imm imm }) offset old new r
+IsOutcome layout (insn.Jump64IfReg cond dst src offset) old new r = Compares (record { cond = cond; width = W64; left = dst; right = Reg src }) offset old new r
+IsOutcome layout (insn.Jump32IfImm cond dst offset imm) old new r = Compares (record { cond = cond; width = W32; left = dst; right = Imm imm }) offset old new r
+IsOutcome layout (insn.Jump32IfReg cond dst src offset) old new r = Compares (record { cond = cond; width = W32; left = dst; right = Reg src }) offset old new r
 IsOutcome layout insn.Exit old new r = Passes (flow_where (number_in_reg (reg_of old R0) ExitsWithPointer) Exit) old new r
 
 -- ---- refusals
