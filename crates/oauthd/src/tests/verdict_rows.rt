@@ -235,8 +235,12 @@ fn a_number_that_is_stored_keeps_its_bounds(rt: HostRuntime) -> Result<(), Fail>
     let torn = "mov64 r0 1\nldxb r2 r1 0\nand64 r2 7\nstxdw r10 -8 r2\nldxb r5 r1 8\n\
                 stxb r10 -1 r5\nldxdw r4 r10 -8\nmov64 r3 r10\nadd64 r3 -24\nadd64 r3 r4\n\
                 stb r3 0 0\nexit";
+    let met = "mov64 r0 1\nldxb r2 r1 0\nand64 r2 7\nstxdw r10 -8 r2\nldxb r5 r1 8\n\
+               jeq64 r5 0 +0\nldxdw r4 r10 -8\nmov64 r3 r10\nadd64 r3 -24\nadd64 r3 r4\n\
+               stb r3 0 0\nexit";
     for command in BOTH {
         assert_verdict(&rt, command, kept, done("accepted 10\n"))?;
+        assert_verdict(&rt, command, met, done("accepted 12\n"))?;
         let err = refused("oauthd: Verify PointerRange(9)\n");
         assert_verdict(&rt, command, torn, err)?;
     }

@@ -1,0 +1,491 @@
+-- What the table refuses is refused by the machine: in some state that is what is known, with the fault that is named.
+use Rattle.std.proofs.Common.{◌≡◌, ◌≢◌, ◌⊎◌, ℕ, ◌+◌, ◌-◌, ◌<◌, ◌≤◌, ◌&&◌, ℤ, pos, negsuc, Bool, true, false, List, Option, Some, None, Result, Ok, Err, get_or, set, refl, sym, ap, ◌∙◌, subst, arith, inl, inr}
+use Rattle.std.specs.Prelude.{◌+ℤ◌, nat_le}
+use Rattle.std.proofs.lemmas.Bool.{cases_eq, cases_lt, le-leb, lt-leb}
+use Rattle.std.proofs.lemmas.Int.{ints}
+use Rattle.std.proofs.lemmas.List.{get_or-set_other, get_or-set_same, length-set}
+use Rattle.insn.specs.declared.layout.Layout.{Layout}
+use Rattle.insn.specs.declared.layout.Layout.TheVariants.{V1, V2}
+use Rattle.insn.specs.declared.register.RegNo.{RegNo}
+use Rattle.insn.specs.declared.instruction.Operand.{Operand}
+use Rattle.insn.specs.declared.instruction.Operand.TheVariants.{Reg, Imm}
+use Rattle.insn.specs.declared.operation.Size.{Size}
+use Rattle.insn.specs.declared.operation.Size.TheVariants.{One, Two, Four, Eight}
+use Rattle.insn.specs.declared.operation.SignedSize.{SignedSize}
+use Rattle.insn.specs.declared.operation.SignedSize.TheVariants as signed
+use Rattle.insn.specs.declared.operation.UnOp.{UnOp}
+use Rattle.insn.specs.declared.operation.Width.{Width}
+use Rattle.insn.specs.declared.state.Region.{Region}
+use Rattle.insn.specs.declared.state.Region.TheVariants as region
+use Rattle.insn.specs.declared.state.Pointer.{Pointer}
+use Rattle.insn.specs.declared.state.Value.{Value}
+use Rattle.insn.specs.declared.state.Value.TheVariants.{Number, Address}
+use Rattle.insn.specs.declared.state.Cell.{Cell}
+use Rattle.insn.specs.declared.verify_fault.WalkFault.{WalkFault}
+use Rattle.insn.specs.declared.verify_fault.WalkFault.TheVariants.{OutOfRegion, PointerMisuse, ReadOnlyField, UnsetRegister}
+use Rattle.insn.specs.Instruction.{read_size, reg_number, size_bytes}
+use Rattle.insn.specs.Values.{State, at, region_size, value_of, writable_from, writable_to}
+use Rattle.insn.specs.Memory.{is_writable, within}
+use Rattle.insn.specs.Step.{operand_value}
+use Rattle.insn.specs.Faults.{Test as Check, comparison_tests, first_of, load_tests, number_tests, store_tests, write_tests}
+use Rattle.scalar.specs.declared.scalar.Scalar.{Scalar}
+use Rattle.reg_kind.specs.declared.reg.Reg.{Reg as Kind}
+use Rattle.reg_kind.specs.declared.reg.Reg.TheVariants as kind
+use Rattle.reg_kind.specs.declared.span.Span.{Span}
+use Rattle.reg_kind.specs.declared.place.Place.{Place}
+use Rattle.reg_kind.specs.Fits.{RegFits, SpanFits, ValueFits, pointer_to}
+use Rattle.reg_kind.specs.Spans.{span_between, span_from, span_raised}
+use Rattle.reg_kind.specs.Accesses.{is_span_writable, place_at, place_behind, place_in}
+use Rattle.reg_kind.specs.Operations.{IsKindImage, number_in_reg}
+use Rattle.stack_state.specs.Fits.{StackFits}
+use Rattle.stack_state.specs.Accesses.{IsGiven, IsStored}
+use Rattle.stack_state.proofs.Refusals.{FailsLoad, FailsStore, load_seen, store_seen}
+use Rattle.verifier.specs.declared.known.Known.{Known}
+use Rattle.verifier.specs.declared.known.Flow.TheVariants.{Next}
+use Rattle.verifier.specs.Fits.{StateFits}
+use Rattle.verifier.specs.Follows.{IsOperand, comparison_of, reg_of}
+use Rattle.verifier.specs.Kinds.{Extends, GivenAt, Loads, LoadsSigned, StoredAt, StoredOf, StoredWhere, Stores, flow_where, kept_in_record, put_at}
+use Rattle.verifier.proofs.Accesses.{set_holds}
+use Rattle.verifier.proofs.States.{reg_below, reg_fits}
+use Rattle.verifier.proofs.Steps.{operand_fits}
+
+-- ---- places
+
+past : (size n k : ℕ) → size < k + n → within size (pos k) n ≡ None
+past size n k lt = let t = lt-leb (k + n) size lt in rw t refl
+
+within_at : (size n k : ℕ) → k + n ≤ size → within size (pos k) n ≡ Some k
+within_at size n k le = let t = le-leb (k + n) size le in rw t refl
+
+-- where a span has no place, an end of it has none
+out_of : (size n : ℕ) (x y : ℤ) → n ≤ size → span_between (size - n) x y ≡ None → (within size x n ≡ None) ⊎ (within size y n ≡ None)
+out_of size n (negsuc a) y few e = inl refl
+out_of size n (pos a) (negsuc b) few e = inr refl
+out_of size n (pos a) (pos b) few e =
+    elim (cases_lt size (a + n)) [
+      | inl lt ↦ inl (past size n a lt)
+      | inr le ↦ elim (cases_lt size (b + n)) [
+        | inl lt ↦ inr (past size n b lt)
+        | inr le' ↦
+            let one = le-leb a (size - n) (omega arith) in
+            let two = le-leb b (size - n) (omega arith) in
+            absurd (let g = rw (one, two) at e in cc)
+      ]
+    ]
+
+-- and where it has one, both ends have
+record HasEnds (size n : ℕ) (x y : ℤ) (t : Span) : Type 0 where
+  least : x ≡ pos t.least
+  greatest : y ≡ pos t.greatest
+  inside : t.greatest + n ≤ size
+  begins : t.least + n ≤ size
+
+inside_of : (size n : ℕ) (x y : ℤ) (t : Span) → n ≤ size → span_between (size - n) x y ≡ Some t → HasEnds size n x y t
+inside_of size n (negsuc a) y t few e = absurd cc
+inside_of size n (pos a) (negsuc b) t few e = absurd cc
+inside_of size n (pos a) (pos b) t few e =
+    elim (cases_lt (size - n) a) [
+      | inl lt ↦ let none = lt-leb a (size - n) lt in absurd (let g = rw none at e in cc)
+      | inr le ↦ elim (cases_lt (size - n) b) [
+        | inl lt ↦ let one = le-leb a (size - n) le in let none = lt-leb b (size - n) lt in absurd (let g = rw (one, none) at e in cc)
+        | inr le' ↦
+            let one = le-leb a (size - n) le in
+            let two = le-leb b (size - n) le' in
+            let g : Some (span_from a b) ≡ Some t = rw (one, two) at e in
+            let same : span_from a b ≡ t = cc in
+            let l : a ≡ t.least = ap (λ (x : Span). x.least) same in
+            let h : b ≡ t.greatest = ap (λ (x : Span). x.greatest) same in
+            record { least = ap pos l; greatest = ap pos h; inside = omega arith; begins = omega arith }
+      ]
+    ]
+
+-- an offset from which an access comes to a place
+record ComesTo (span : Span) (offset : ℤ) (k : ℕ) : Type 0 where
+  from : ℕ
+  inside : SpanFits false span from
+  comes : pos from +ℤ offset ≡ pos k
+
+comes_to : (span t : Span) (offset : ℤ) (k : ℕ) → pos span.least +ℤ offset ≡ pos t.least → pos span.greatest +ℤ offset ≡ pos t.greatest → SpanFits false t k → ComesTo span offset k
+comes_to span t offset k l g fits =
+    let a = fits.0 in
+    let b = fits.1 in
+    record { from = span.least + (k - t.least); inside = (omega arith, omega (arith, ints)); comes = omega (arith, ints) }
+
+few_bytes : (layout : Layout) (r : Region) (size : Size) → size_bytes size ≤ region_size layout r
+few_bytes V1 region.Record One = omega arith
+few_bytes V1 region.Record Two = omega arith
+few_bytes V1 region.Record Four = omega arith
+few_bytes V1 region.Record Eight = omega arith
+few_bytes V2 region.Record One = omega arith
+few_bytes V2 region.Record Two = omega arith
+few_bytes V2 region.Record Four = omega arith
+few_bytes V2 region.Record Eight = omega arith
+few_bytes layout region.Stack One = omega arith
+few_bytes layout region.Stack Two = omega arith
+few_bytes layout region.Stack Four = omega arith
+few_bytes layout region.Stack Eight = omega arith
+
+-- ---- values that are stored
+
+pub unset_or_not : (k : Kind) → (k ≡ kind.Unset) ⊎ (k ≢ kind.Unset)
+unset_or_not kind.Unset = inl refl
+unset_or_not (kind.Number a) = inr (λ e. cc)
+unset_or_not (kind.Record a) = inr (λ e. cc)
+unset_or_not (kind.Stack a) = inr (λ e. cc)
+
+of_err : (layout : Layout) (size : Size) (wrong : WalkFault) (value : Kind) (r : Result Unit WalkFault) (old new : Known) → value ≢ kind.Unset → StoredOf layout (put_at size value (Err wrong)) r old new → r ≡ Err wrong
+of_err layout size wrong kind.Unset r old new set h = absurd (set refl)
+of_err layout size wrong (kind.Number a) r old new set h = h.0
+of_err layout size wrong (kind.Record a) r old new set h = h.0
+of_err layout size wrong (kind.Stack a) r old new set h = h.0
+
+of_ok : (layout : Layout) (size : Size) (place : Place) (value : Kind) (r : Result Unit WalkFault) (old new : Known) → value ≢ kind.Unset → StoredOf layout (put_at size value (Ok place)) r old new → StoredAt layout (record { size = size; place = place; value = value }) r old new
+of_ok layout size place kind.Unset r old new set h = absurd (set refl)
+of_ok layout size place (kind.Number a) r old new set h = h
+of_ok layout size place (kind.Record a) r old new set h = h
+of_ok layout size place (kind.Stack a) r old new set h = h
+
+-- ---- states of which a register is changed
+
+-- the first test that fails in some state that is what is known
+pub record Sees (layout : Layout) (old : Known) (tests : State → List Check) (fault : WalkFault) : Type 0 where
+  pub state : State
+  pub fits : StateFits false layout old state
+  pub fails : first_of (tests state) ≡ Some fault
+
+abbrev pub changed : State → RegNo → Option Value → List Cell → State
+changed s r o cells = record s { registers = set s.registers (reg_number r) o; stack = cells }
+
+module _ (layout : Layout) (old : Known) (s : State) (f : StateFits false layout old s) where
+  pub there : (r : RegNo) (o : Option Value) → get_or (set s.registers (reg_number r) o) (reg_number r) None ≡ o
+  there r o = get_or-set_same s.registers (reg_number r) o None (let l = f.long in let b = reg_below r in omega arith)
+
+  changed_fits : (r : RegNo) (o : Option Value) (cells : List Cell) → RegFits false (reg_of old r) o → StackFits false old.stack cells → StateFits false layout old (changed s r o cells)
+  changed_fits r o cells h stack = record {
+    long = length-set s.registers (reg_number r) o ∙ f.long;
+    record_fits = f.record_fits;
+    registers = λ k lt.
+        elim (cases_eq k (reg_number r)) [
+          | inl q ↦ rw (q, there r o) h
+          | inr ne ↦ rw (get_or-set_other s.registers (reg_number r) k o None ne) (f.registers k lt)
+        ];
+    stack = stack;
+  }
+
+  -- a register of which nothing is known may be unset
+  pub unset_there : (r : RegNo) → reg_of old r ≡ kind.Unset → StateFits false layout old (changed s r None s.stack)
+  unset_there r e = changed_fits r None s.stack (subst (λ (k : Kind). RegFits false k None) (sym e) tt) f.stack
+
+  -- one that is a pointer may be at each of its offsets
+  pointer_fits : (g : Region) (span : Span) (o : ℕ) → SpanFits false span o → RegFits false (pointer_to g span) (Some (Address (at g o)))
+  pointer_fits region.Record span o h = (refl, h)
+  pointer_fits region.Stack span o h = (refl, h)
+
+  pointer_there : (r : RegNo) (g : Region) (span : Span) (o : ℕ) (cells : List Cell) → reg_of old r ≡ pointer_to g span → SpanFits false span o → StackFits false old.stack cells → StateFits false layout old (changed s r (Some (Address (at g o))) cells)
+  pointer_there r g span o cells e h stack = changed_fits r (Some (Address (at g o))) cells (subst (λ (k : Kind). RegFits false k (Some (Address (at g o)))) (sym e) (pointer_fits g span o h)) stack
+
+  -- what registers hold
+  is_number : (r : RegNo) (a : Scalar) → reg_of old r ≡ kind.Number a → (n : ℕ) × (value_of s.registers r ≡ Some (Number n))
+  is_number r a e = by (value_of s.registers r) (subst (λ (k : Kind). RegFits false k (value_of s.registers r)) e (reg_fits false layout old s r f)) where
+    by : (o : Option Value) → RegFits false (kind.Number a) o → (n : ℕ) × (o ≡ Some (Number n))
+    by None h = absurd h
+    by (Some (Number n)) h = (n, refl)
+    by (Some (Address p)) h = absurd h
+
+  is_pointer : (r : RegNo) (g : Region) (span : Span) → reg_of old r ≡ pointer_to g span → (p : Pointer) × (value_of s.registers r ≡ Some (Address p)) × SpanFits false span p.offset
+  is_pointer r g span e = by g (value_of s.registers r) (subst (λ (k : Kind). RegFits false k (value_of s.registers r)) e (reg_fits false layout old s r f)) where
+    by : (g : Region) (o : Option Value) → RegFits false (pointer_to g span) o → (p : Pointer) × (o ≡ Some (Address p)) × SpanFits false span p.offset
+    by region.Record None h = absurd h
+    by region.Stack None h = absurd h
+    by region.Record (Some (Number n)) h = absurd h
+    by region.Stack (Some (Number n)) h = absurd h
+    by region.Record (Some (Address p)) h = (p, refl, h.1)
+    by region.Stack (Some (Address p)) h = (p, refl, h.1)
+
+  ordered : (r : RegNo) (g : Region) (span : Span) → reg_of old r ≡ pointer_to g span → span.least ≤ span.greatest
+  ordered r g span e = let h = is_pointer r g span e in let a = h.2.0 in let b = h.2.1 in omega arith
+
+  ends_ordered : (span t : Span) (offset : ℤ) → span.least ≤ span.greatest → pos span.least +ℤ offset ≡ pos t.least → pos span.greatest +ℤ offset ≡ pos t.greatest → t.least ≤ t.greatest
+  ends_ordered span t offset le l g = omega (arith, ints)
+
+  -- ---- numbers that are wanted
+
+  pub number_seen : (r : RegNo) (name fault : WalkFault) → number_in_reg (reg_of old r) name ≡ Err fault → Sees layout old (λ t. number_tests (value_of t.registers r) name) fault
+  number_seen r name fault h = by (reg_of old r) refl h where
+    by : (k : Kind) → reg_of old r ≡ k → number_in_reg k name ≡ Err fault → Sees layout old (λ t. number_tests (value_of t.registers r) name) fault
+    by kind.Unset e h = let is : UnsetRegister ≡ fault = cc in record { state = changed s r None s.stack; fits = unset_there r e; fails = rw there (ap Some is) }
+    by (kind.Number a) e h = absurd cc
+    by (kind.Record span) e h = let is : name ≡ fault = cc in let p = is_pointer r region.Record span e in record { state = s; fits = f; fails = rw p.1 (ap Some is) }
+    by (kind.Stack span) e h = let is : name ≡ fault = cc in let p = is_pointer r region.Stack span e in record { state = s; fits = f; fails = rw p.1 (ap Some is) }
+
+  pub image_refused : (op : UnOp) (w : Width) (a : Kind) (fault : WalkFault) → IsKindImage op w a (Err fault) → number_in_reg a PointerMisuse ≡ Err fault
+  image_refused op w kind.Unset fault h = let is : UnsetRegister ≡ fault = cc in ap Err is
+  image_refused op w (kind.Number a) fault h = let e = h.1 in absurd cc
+  image_refused op w (kind.Record span) fault h = let is : PointerMisuse ≡ fault = cc in ap Err is
+  image_refused op w (kind.Stack span) fault h = let is : PointerMisuse ≡ fault = cc in ap Err is
+
+  -- ---- loads
+
+  module _ (size : Size) (src : RegNo) (offset : ℤ) where
+    abbrev read_at : State → List Check
+    read_at t = load_tests layout t (value_of t.registers src) offset (size_bytes size)
+
+    load_outside : (g : Region) (span : Span) (o : ℕ) → reg_of old src ≡ pointer_to g span → SpanFits false span o → within (region_size layout g) (pos o +ℤ offset) (size_bytes size) ≡ None → Sees layout old read_at OutOfRegion
+    load_outside g span o e h out = record { state = changed s src (Some (Address (at g o))) s.stack; fits = pointer_there src g span o s.stack e h f.stack; fails = rw (there, out) refl }
+
+    load_stack : (span t : Span) (fault : WalkFault) → reg_of old src ≡ kind.Stack span → HasEnds 512 (size_bytes size) (pos span.least +ℤ offset) (pos span.greatest +ℤ offset) t → IsGiven old.stack t size (Err fault) → Sees layout old read_at fault
+    load_stack span t fault e ends given = record {
+      state = changed s src (Some (Address (at region.Stack c.from))) x.cells;
+      fits = pointer_there src region.Stack span c.from x.cells e c.inside x.fits;
+      fails = rw (there, c.comes, within_at 512 (size_bytes size) x.at (let i = ends.inside in let p = x.place.1 in omega arith)) x.fails;
+    } where
+      x : FailsLoad old.stack t size s fault
+      x = load_seen old.stack t size s ends.inside (ends_ordered span t offset (ordered src region.Stack span e) ends.least ends.greatest) fault given.0 given.1 f.stack
+
+      c : ComesTo span offset x.at
+      c = comes_to span t offset x.at ends.least ends.greatest x.place
+
+    load_pointer : (g : Region) (span : Span) (fault : WalkFault) → reg_of old src ≡ pointer_to g span → GivenAt old size (place_in layout g span offset (size_bytes size)) (Err fault) → Sees layout old read_at fault
+    load_pointer g span fault e h = by (span_raised (region_size layout g - size_bytes size) span offset offset) refl h where
+      le : span.least ≤ span.greatest
+      le = ordered src g span e
+
+      within_stack : (g : Region) (t : Span) → reg_of old src ≡ pointer_to g span → HasEnds (region_size layout g) (size_bytes size) (pos span.least +ℤ offset) (pos span.greatest +ℤ offset) t → GivenAt old size (Ok (record { region = g; span = t })) (Err fault) → Sees layout old read_at fault
+      within_stack region.Record t e ends h = absurd h
+      within_stack region.Stack t e ends h = load_stack span t fault e ends h
+
+      by : (o : Option Span) → span_raised (region_size layout g - size_bytes size) span offset offset ≡ o → GivenAt old size (place_at g o) (Err fault) → Sees layout old read_at fault
+      by None q h =
+          let is : OutOfRegion ≡ fault = cc in
+          rw (← is) (elim (out_of (region_size layout g) (size_bytes size) (pos span.least +ℤ offset) (pos span.greatest +ℤ offset) (few_bytes layout g size) q) [
+            | inl out ↦ load_outside g span span.least e (omega arith, le) out
+            | inr out ↦ load_outside g span span.greatest e (le, omega arith) out
+          ])
+      by (Some t) q h = within_stack g t e (inside_of (region_size layout g) (size_bytes size) (pos span.least +ℤ offset) (pos span.greatest +ℤ offset) t (few_bytes layout g size) q) h
+
+    pub loads_seen : (fault : WalkFault) → Loads layout old (record { size = size; src = src; offset = offset }) (Err fault) → Sees layout old read_at fault
+    loads_seen fault h = by (reg_of old src) refl h where
+      by : (k : Kind) → reg_of old src ≡ k → GivenAt old size (place_behind layout k offset (size_bytes size)) (Err fault) → Sees layout old read_at fault
+      by kind.Unset e h = let is : UnsetRegister ≡ fault = cc in record { state = changed s src None s.stack; fits = unset_there src e; fails = rw there (ap Some is) }
+      by (kind.Number a) e h = let is : PointerMisuse ≡ fault = cc in let n = is_number src a e in record { state = s; fits = f; fails = rw n.1 (ap Some is) }
+      by (kind.Record span) e h = load_pointer region.Record span fault e h
+      by (kind.Stack span) e h = load_pointer region.Stack span fault e h
+
+  -- fewer than eight bytes give numbers
+  given_number : (size : SignedSize) (place : Result Place WalkFault) (k : Kind) → GivenAt old (read_size size) place (Ok k) → (a : Scalar) × (k ≡ kind.Number a)
+  given_number size (Err fault) k h = absurd cc
+  given_number size (Ok place) k h = by size place.region h where
+    short : (size : SignedSize) → read_size size ≡ Eight → ⊥
+    short signed.One e = cc
+    short signed.Two e = cc
+    short signed.Four e = cc
+
+    by : (size : SignedSize) (g : Region) → GivenAt old (read_size size) (Ok (record { region = g; span = place.span })) (Ok k) → (a : Scalar) × (k ≡ kind.Number a)
+    by size region.Record h = h
+    by size region.Stack (inl whole) = absurd (short size whole.place.eight)
+    by size region.Stack (inr bytes) = bytes.2
+
+  pub signed_seen : (size : SignedSize) (src : RegNo) (offset : ℤ) (fault : WalkFault) → LoadsSigned layout old size (record { size = read_size size; src = src; offset = offset }) (Err fault) → Sees layout old (λ t. load_tests layout t (value_of t.registers src) offset (size_bytes (read_size size))) fault
+  signed_seen size src offset fault h = by h.0 h.1 h.2 where
+    by : (number : Result Kind WalkFault) → Loads layout old (record { size = read_size size; src = src; offset = offset }) number → Extends size number (Err fault) → Sees layout old (λ t. load_tests layout t (value_of t.registers src) offset (size_bytes (read_size size))) fault
+    by (Err wrong) loads x = let is : wrong ≡ fault = cc in rw (← is) (loads_seen (read_size size) src offset wrong loads)
+    by (Ok k) loads x =
+        let a = given_number size (place_behind layout (reg_of old src) offset (size_bytes (read_size size))) k loads in
+        let image = rw a.1 at x in
+        let e = image.1 in
+        absurd cc
+
+  -- ---- stores
+
+  no_value : (size : Size) (offset : ℤ) (o : Option Value) → first_of (store_tests layout o None size offset) ≡ Some UnsetRegister
+  no_value size offset None = refl
+  no_value size offset (Some (Number n)) = refl
+  no_value size offset (Some (Address p)) = refl
+
+  unwritable_end : (t : Span) (n : ℕ) → is_span_writable layout region.Record t n ≡ false → (is_writable layout region.Record t.least n ≡ false) ⊎ (is_writable layout region.Record t.greatest n ≡ false)
+  unwritable_end t n e =
+      elim (cases_lt t.least (writable_from layout)) [
+        | inl lt ↦ let no = lt-leb (writable_from layout) t.least lt in inl (rw no refl)
+        | inr le ↦ elim (cases_lt (writable_to layout) (t.greatest + n)) [
+          | inl lt ↦ inr (and_false (nat_le (writable_from layout) t.greatest) (nat_le (t.greatest + n) (writable_to layout)) (lt-leb (t.greatest + n) (writable_to layout) lt))
+          | inr le' ↦
+              let one = le-leb (writable_from layout) t.least le in
+              let two = le-leb (t.greatest + n) (writable_to layout) le' in
+              absurd (let g = rw (one, two) at e in cc)
+        ]
+      ] where
+        and_false : (a b : Bool) → b ≡ false → (a && b) ≡ false
+        and_false true b e = e
+        and_false false b e = refl
+
+  writable_first : (t : Span) (n : ℕ) → t.least ≤ t.greatest → is_span_writable layout region.Record t n ≡ true → is_writable layout region.Record t.least n ≡ true
+  writable_first t n ord e =
+      elim (cases_lt t.least (writable_from layout)) [
+        | inl lt ↦ let no = lt-leb (writable_from layout) t.least lt in absurd (let g = rw no at e in cc)
+        | inr le ↦ elim (cases_lt (writable_to layout) (t.greatest + n)) [
+          | inl lt ↦
+              let one = le-leb (writable_from layout) t.least le in
+              let no = lt-leb (t.greatest + n) (writable_to layout) lt in
+              absurd (let g = rw (one, no) at e in cc)
+          | inr le' ↦
+              let one = le-leb (writable_from layout) t.least le in
+              let two = le-leb (t.least + n) (writable_to layout) (omega arith) in
+              rw (one, two) refl
+        ]
+      ]
+
+  -- a pointer is no number of the record
+  record_misuse : (size : Size) (k : ℕ) (value : Kind) (v : Value) (fault : WalkFault) → value ≢ kind.Unset → is_writable layout region.Record k (size_bytes size) ≡ true → Err fault ≡ kept_in_record value → ValueFits false value v → first_of (write_tests layout region.Record size v (Some k)) ≡ Some fault
+  record_misuse size k kind.Unset v fault set w e h = absurd (set refl)
+  record_misuse size k (kind.Number a) v fault set w e h = absurd cc
+  record_misuse size k (kind.Record span) (Number n) fault set w e h = absurd h
+  record_misuse size k (kind.Stack span) (Number n) fault set w e h = absurd h
+  record_misuse size k (kind.Record span) (Address p) fault set w e h = let is : PointerMisuse ≡ fault = cc in rw w (ap Some is)
+  record_misuse size k (kind.Stack span) (Address p) fault set w e h = let is : PointerMisuse ≡ fault = cc in rw w (ap Some is)
+
+  module _ (size : Size) (dst : RegNo) (offset : ℤ) (operand : Operand) where
+    abbrev write_at : State → List Check
+    write_at t = store_tests layout (value_of t.registers dst) (operand_value t operand) size offset
+
+    module _ (value : Kind) (is : IsOperand old operand value) (set : value ≢ kind.Unset) where
+      -- a value that is known not to be unset is there in each state that fits
+      value_there : (t : State) → StateFits false layout old t → (v : Value) × (operand_value t operand ≡ Some v) × ValueFits false value v
+      value_there t g = set_holds false value (operand_value t operand) set (operand_fits false layout old t operand value g is)
+
+      store_outside : (g : Region) (span : Span) (o : ℕ) → reg_of old dst ≡ pointer_to g span → SpanFits false span o → within (region_size layout g) (pos o +ℤ offset) (size_bytes size) ≡ None → Sees layout old write_at OutOfRegion
+      store_outside g span o e h out =
+          let fits = pointer_there dst g span o s.stack e h f.stack in
+          let v = value_there (changed s dst (Some (Address (at g o))) s.stack) fits in
+          record { state = changed s dst (Some (Address (at g o))) s.stack; fits = fits; fails = rw (there, v.1, out) refl }
+
+      store_fails : (g : Region) (span : Span) (k : ℕ) (fault : WalkFault) → reg_of old dst ≡ pointer_to g span → ComesTo span offset k → k + size_bytes size ≤ region_size layout g
+          → ((v : Value) → ValueFits false value v → first_of (write_tests layout g size v (Some k)) ≡ Some fault) → Sees layout old write_at fault
+      store_fails g span k fault e c inside h =
+          let fits = pointer_there dst g span c.from s.stack e c.inside f.stack in
+          let v = value_there (changed s dst (Some (Address (at g c.from))) s.stack) fits in
+          record { state = changed s dst (Some (Address (at g c.from))) s.stack; fits = fits; fails = rw (there, v.1, c.comes, within_at (region_size layout g) (size_bytes size) k inside) (h v.0 v.2) }
+
+      store_inside : (g : Region) (span t : Span) (fault : WalkFault) (new : Known) → reg_of old dst ≡ pointer_to g span → HasEnds (region_size layout g) (size_bytes size) (pos span.least +ℤ offset) (pos span.greatest +ℤ offset) t
+          → (b : Bool) → is_span_writable layout g t (size_bytes size) ≡ b → StoredWhere b (record { size = size; place = record { region = g; span = t }; value = value }) (Err fault) old new → Sees layout old write_at fault
+      store_inside region.Stack span t fault new e ends false q h = absurd cc
+      store_inside region.Record span t fault new e ends false q h =
+          let same : ReadOnlyField ≡ fault = let x = h.0 in cc in
+          let le = ends_ordered span t offset (ordered dst region.Record span e) ends.least ends.greatest in
+          elim (unwritable_end t (size_bytes size) q) [
+            | inl shut ↦ store_fails region.Record span t.least fault e (comes_to span t offset t.least ends.least ends.greatest (omega arith, le)) ends.begins (λ v k. rw shut (ap Some same))
+            | inr shut ↦ store_fails region.Record span t.greatest fault e (comes_to span t offset t.greatest ends.least ends.greatest (le, omega arith)) ends.inside (λ v k. rw shut (ap Some same))
+          ]
+      store_inside region.Record span t fault new e ends true q h =
+          let le = ends_ordered span t offset (ordered dst region.Record span e) ends.least ends.greatest in
+          store_fails region.Record span t.least fault e (comes_to span t offset t.least ends.least ends.greatest (omega arith, le)) ends.begins (λ v k. record_misuse size t.least value v fault set (writable_first t (size_bytes size) le q) h.0 k)
+      store_inside region.Stack span t fault new e ends true q h =
+          let le = ends_ordered span t offset (ordered dst region.Stack span e) ends.least ends.greatest in
+          let stored : IsStored t size value (Err fault) old.stack new.stack = h.1 in
+          let x : FailsStore layout t size value PointerMisuse = store_seen layout t size value le stored.1 stored.2 in
+          let p = x.place in
+          let i = ends.inside in
+          store_fails region.Stack span x.at fault e (comes_to span t offset x.at ends.least ends.greatest x.place) (let q = p.1 in omega arith) (λ v k. x.fails v k ∙ ap Some (sym stored.0))
+
+      store_pointer : (g : Region) (span : Span) (fault : WalkFault) (new : Known) → reg_of old dst ≡ pointer_to g span → StoredOf layout (put_at size value (place_in layout g span offset (size_bytes size))) (Err fault) old new → Sees layout old write_at fault
+      store_pointer g span fault new e h = by (span_raised (region_size layout g - size_bytes size) span offset offset) refl h where
+        le : span.least ≤ span.greatest
+        le = ordered dst g span e
+
+        by : (o : Option Span) → span_raised (region_size layout g - size_bytes size) span offset offset ≡ o → StoredOf layout (put_at size value (place_at g o)) (Err fault) old new → Sees layout old write_at fault
+        by None q h =
+            let x = of_err layout size OutOfRegion value (Err fault) old new set h in
+            let same : OutOfRegion ≡ fault = cc in
+            rw (← same) (elim (out_of (region_size layout g) (size_bytes size) (pos span.least +ℤ offset) (pos span.greatest +ℤ offset) (few_bytes layout g size) q) [
+              | inl out ↦ store_outside g span span.least e (omega arith, le) out
+              | inr out ↦ store_outside g span span.greatest e (le, omega arith) out
+            ])
+        by (Some t) q h =
+            store_inside g span t fault new e (inside_of (region_size layout g) (size_bytes size) (pos span.least +ℤ offset) (pos span.greatest +ℤ offset) t (few_bytes layout g size) q)
+            (is_span_writable layout g t (size_bytes size)) refl (of_ok layout size (record { region = g; span = t }) value (Err fault) old new set h)
+
+      set_seen : (fault : WalkFault) (new : Known) → StoredOf layout (put_at size value (place_behind layout (reg_of old dst) offset (size_bytes size))) (Err fault) old new → Sees layout old write_at fault
+      set_seen fault new h = by (reg_of old dst) refl h where
+        by : (k : Kind) → reg_of old dst ≡ k → StoredOf layout (put_at size value (place_behind layout k offset (size_bytes size))) (Err fault) old new → Sees layout old write_at fault
+        by kind.Unset e h =
+            let x = of_err layout size UnsetRegister value (Err fault) old new set h in
+            let same : UnsetRegister ≡ fault = cc in
+            record { state = changed s dst None s.stack; fits = unset_there dst e; fails = rw (there dst None) (ap Some same) }
+        by (kind.Number a) e h =
+            let x = of_err layout size PointerMisuse value (Err fault) old new set h in
+            let same : PointerMisuse ≡ fault = cc in
+            let n = is_number dst a e in
+            let v = value_there s f in
+            record { state = s; fits = f; fails = rw (n.1, v.1) (ap Some same) }
+        by (kind.Record span) e h = store_pointer region.Record span fault new e h
+        by (kind.Stack span) e h = store_pointer region.Stack span fault new e h
+
+  value_unset : (size : Size) (dst : RegNo) (offset : ℤ) (operand : Operand) (value : Kind) → IsOperand old operand value → value ≡ kind.Unset → Sees layout old (write_at size dst offset operand) UnsetRegister
+  value_unset size dst offset (Reg src) value is e = record { state = changed s src None s.stack; fits = unset_there src (sym is ∙ e); fails = rw (there src None) (no_value size offset (get_or (set s.registers (reg_number src) None) (reg_number dst) None)) }
+  value_unset size dst offset (Imm imm) value is e = absurd (subst (λ (k : Kind). IsOperand old (Imm imm) k) e is)
+
+  pub stores_seen : (size : Size) (dst : RegNo) (offset : ℤ) (operand : Operand) (fault : WalkFault) (new : Known) → Stores layout (record { size = size; dst = dst; offset = offset; operand = operand }) old new (Err fault) → Sees layout old (write_at size dst offset operand) fault
+  stores_seen size dst offset operand fault new h = by h.1 h.3 h.4 where
+    told : (wrong : WalkFault) → StoredOf layout (put_at size h.0 (place_behind layout (reg_of old dst) offset (size_bytes size))) (Err wrong) old new → (h.0 ≡ kind.Unset) ⊎ (h.0 ≢ kind.Unset) → Sees layout old (write_at size dst offset operand) wrong
+    told wrong b (inr set) = set_seen size dst offset operand h.0 h.2 set wrong new b
+    told wrong b (inl unset) =
+        let x : Err wrong ≡ Err UnsetRegister = (rw unset at b).0 in
+        let same : UnsetRegister ≡ wrong = cc in
+        rw (← same) (value_unset size dst offset operand h.0 h.2 unset)
+
+    by : (done : Result Unit WalkFault) → StoredOf layout (put_at size h.0 (place_behind layout (reg_of old dst) offset (size_bytes size))) done old new → Err fault ≡ flow_where done Next → Sees layout old (write_at size dst offset operand) fault
+    by (Ok done) b e = absurd cc
+    by (Err wrong) b e = let same : wrong ≡ fault = cc in rw (← same) (told wrong b (unset_or_not h.0))
+
+  -- ---- comparisons
+
+  no_right : (o : Option Value) → first_of (comparison_tests o None) ≡ Some UnsetRegister
+  no_right None = refl
+  no_right (Some v) = refl
+
+  both_there : (a b : Kind) (v u : Value) (fault : WalkFault) → ValueFits false a v → ValueFits false b u → comparison_of a b ≡ Err fault → first_of (comparison_tests (Some v) (Some u)) ≡ Some fault
+  both_there kind.Unset b v u fault x y e = absurd x
+  both_there (kind.Number a) kind.Unset v u fault x y e = absurd y
+  both_there (kind.Record a) kind.Unset v u fault x y e = absurd y
+  both_there (kind.Stack a) kind.Unset v u fault x y e = absurd y
+  both_there (kind.Number a) (kind.Number b) v u fault x y e = absurd cc
+  both_there (kind.Number a) (kind.Record b) (Number n) (Address q) fault x y e = let same : PointerMisuse ≡ fault = cc in ap Some same
+  both_there (kind.Number a) (kind.Stack b) (Number n) (Address q) fault x y e = let same : PointerMisuse ≡ fault = cc in ap Some same
+  both_there (kind.Number a) (kind.Record b) (Number n) (Number m) fault x y e = absurd y
+  both_there (kind.Number a) (kind.Stack b) (Number n) (Number m) fault x y e = absurd y
+  both_there (kind.Number a) (kind.Record b) (Address p) u fault x y e = absurd x
+  both_there (kind.Number a) (kind.Stack b) (Address p) u fault x y e = absurd x
+  both_there (kind.Record a) b (Number n) u fault x y e = absurd x
+  both_there (kind.Stack a) b (Number n) u fault x y e = absurd x
+  both_there (kind.Record a) (kind.Number b) (Address p) u fault x y e = let same : PointerMisuse ≡ fault = cc in ap Some same
+  both_there (kind.Record a) (kind.Record b) (Address p) u fault x y e = let same : PointerMisuse ≡ fault = cc in ap Some same
+  both_there (kind.Record a) (kind.Stack b) (Address p) u fault x y e = let same : PointerMisuse ≡ fault = cc in ap Some same
+  both_there (kind.Stack a) (kind.Number b) (Address p) u fault x y e = let same : PointerMisuse ≡ fault = cc in ap Some same
+  both_there (kind.Stack a) (kind.Record b) (Address p) u fault x y e = let same : PointerMisuse ≡ fault = cc in ap Some same
+  both_there (kind.Stack a) (kind.Stack b) (Address p) u fault x y e = let same : PointerMisuse ≡ fault = cc in ap Some same
+
+  module _ (dst : RegNo) where
+    abbrev compare_at : Operand → State → List Check
+    compare_at operand t = comparison_tests (value_of t.registers dst) (operand_value t operand)
+
+    right_unset : (operand : Operand) (right : Kind) → IsOperand old operand right → right ≡ kind.Unset → Sees layout old (compare_at operand) UnsetRegister
+    right_unset (Reg src) right is e = record { state = changed s src None s.stack; fits = unset_there src (sym is ∙ e); fails = rw (there src None) (no_right (get_or (set s.registers (reg_number src) None) (reg_number dst) None)) }
+    right_unset (Imm imm) right is e = absurd (subst (λ (k : Kind). IsOperand old (Imm imm) k) e is)
+
+    pub compare_seen : (operand : Operand) (right : Kind) → IsOperand old operand right → (fault : WalkFault) → comparison_of (reg_of old dst) right ≡ Err fault → Sees layout old (compare_at operand) fault
+    compare_seen operand right is fault e = by (unset_or_not (reg_of old dst)) (unset_or_not right) where
+      right_named : (a b : Kind) → b ≡ kind.Unset → comparison_of a b ≡ Err fault → UnsetRegister ≡ fault
+      right_named kind.Unset b q e = cc
+      right_named (kind.Number a) b q e = let g = rw q at e in cc
+      right_named (kind.Record a) b q e = let g = rw q at e in cc
+      right_named (kind.Stack a) b q e = let g = rw q at e in cc
+
+      by : (reg_of old dst ≡ kind.Unset) ⊎ (reg_of old dst ≢ kind.Unset) → (right ≡ kind.Unset) ⊎ (right ≢ kind.Unset) → Sees layout old (compare_at operand) fault
+      by (inl q) r =
+          let g = rw q at e in
+          let same : UnsetRegister ≡ fault = cc in
+          record { state = changed s dst None s.stack; fits = unset_there dst q; fails = rw (there dst None) (ap Some same) }
+      by (inr set) (inl r) = let same = right_named (reg_of old dst) right r e in rw (← same) (right_unset operand right is r)
+      by (inr set) (inr other) =
+          let v = set_holds false (reg_of old dst) (value_of s.registers dst) set (reg_fits false layout old s dst f) in
+          let u = set_holds false right (operand_value s operand) other (operand_fits false layout old s operand right f is) in
+          record { state = s; fits = f; fails = rw (v.1, u.1) (both_there (reg_of old dst) right v.0 u.0 fault v.2 u.2 e) }
