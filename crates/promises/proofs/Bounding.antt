@@ -1,5 +1,5 @@
 -- Live tokens of a bounded history.
-use Rattle.std.proofs.Common.{◌≡◌, ◌≢◌, ◌≤◌, ◌⊎◌, inl, inr, ℕ, ◌+◌, List, [], ◌∷◌, ◌++◌, Bool, true, false, Option, Some, None, refl, sym, ap, ◌∙◌, arith, append_assoc, append-nil, subst}
+use Rattle.std.proofs.Common.{◌≡◌, ◌≢◌, ◌≤◌, ◌⊎◌, inl, inr, ℕ, List, [], ◌∷◌, ◌++◌, true, false, Some, None, refl, sym, ap, ◌∙◌, append_assoc, append-nil, subst}
 use Rattle.std.specs.Prelude.{◌==◌, unwrap_or, if◌then◌else◌}
 use Rattle.std.specs.Option.{option_or}
 use Rattle.std.proofs.lemmas.Bool.{and_from, false≢true, eq-eqb}
@@ -7,7 +7,7 @@ use Rattle.clients.specs.RegistryRecord.{RegistryRecord}
 use Rattle.consent.specs.History.{Event, Change, event_at, Grant, grant_by, grant_at, is_code, is_within, consented_scope, last_consent, consent_of, has_ended, live_grant}
 use Rattle.consent.specs.History.Change.{Consented, CodeGiven, Issued, Spent, FamilyEnded, HookSet, HookGone}
 use Rattle.consent.specs.HistoryLaws.{grant_at-given}
-use Rattle.consent.specs.declared.grant.Kind.TheVariants.{Code, Token}
+use Rattle.consent.specs.declared.grant.Kind.TheVariants.{Token}
 use Rattle.consent.specs.declared.grant.TokenKind.{TokenKind}
 use Rattle.endpoints.specs.Bounded.{IsBounded, IsAllowed, IsConsentedAt, life_limit}
 use Rattle.promises.specs.Grants.{KeepsScope, IsSince}

@@ -1,6 +1,6 @@
 -- Requests by their paths, and two exchanges of one text.
-use Rattle.std.proofs.Common.{◌≡◌, ℕ, List, [], ◌∷◌, ◌++◌, Bool, true, false, Option, Some, None, map, refl, sym, ap, ◌∙◌, subst, append_assoc}
-use Rattle.std.specs.Prelude.{◌||◌, ◌==◌, codes, not, bytes_eq}
+use Rattle.std.proofs.Common.{◌≡◌, ℕ, List, [], ◌∷◌, ◌++◌, Bool, true, false, Some, map, refl, sym, ap, ◌∙◌, subst, append_assoc}
+use Rattle.std.specs.Prelude.{◌==◌, codes, not, bytes_eq}
 use Rattle.std.specs.List.{list_any}
 use Rattle.std.proofs.lemmas.Bool.{or_left, or_from, false≢true, eq-eqb}
 use Rattle.std.proofs.lemmas.List.Folds.{list_any-append}
@@ -10,15 +10,15 @@ use Rattle.consent.specs.History.Change.{FamilyEnded}
 use Rattle.consent.specs.GrowthLaws.{grants-append}
 use Rattle.messages.specs.declared.error.ErrorName.TheVariants.{InvalidRequest, InvalidGrant}
 use Rattle.params.specs.Form.{value_of}
-use Rattle.grants.specs.Outcomes.{Outcome, point, need, bare, chosen, refuse, unavailable}
-use Rattle.grants.specs.Requesters.{Parameters, form_of}
+use Rattle.grants.specs.Outcomes.{Outcome, point, need, bare, chosen, refuse}
+use Rattle.grants.specs.Requesters.{form_of}
 use Rattle.grants.specs.Texts.{digest_told}
 use Rattle.grants.specs.Tokens.{live_token}
 use Rattle.grants.specs.TokenPath.{issue_token}
 use Rattle.endpoints.specs.Paths.{endpoint_at, method_at}
 use Rattle.endpoints.specs.Replies.{outcome_at}
 use Rattle.endpoints.specs.Revoke.{revoke_token, revoke_points, revoked}
-use Rattle.promises.specs.Turns.{Turn, outcome_of, reply_of, history_after}
+use Rattle.promises.specs.Turns.{Turn, outcome_of, history_after}
 use Rattle.promises.specs.Uses.{Exchanges, IsGiven, Revokes}
 use Rattle.promises.proofs.Walking.{at_point, at_need, at_authenticated, no_error_200, other, same_some, granted_at}
 use Rattle.promises.proofs.Spending.{has_digest, grant_at-still, is_spent-by, ended_by, ended_stays, live_is}
@@ -26,7 +26,7 @@ use Rattle.promises.proofs.Exchanging.{IsUse, IsUsed, issue_used}
 
 module _ (rules : RegistryRecord) (history : List Event) (turn : Turn) where
   -- the outcome at the path
-  abbrev at_path : List ℕ → Outcome
+  abbrev pub at_path : List ℕ → Outcome
   at_path path =
       need (endpoint_at path) (bare 404) (λ endpoint.
       point (not (bytes_eq turn.arrival.asked.method (method_at endpoint))) (bare 405)

@@ -1,9 +1,8 @@
 -- What an exchange finds, and what it leaves.
-use Rattle.std.proofs.Common.{◌≡◌, ◌⊎◌, inl, inr, ℕ, List, [], ◌∷◌, ◌++◌, Bool, true, false, Option, Some, None, cond, map, refl, sym, ap, ◌∙◌, subst, append_assoc}
-use Rattle.std.specs.Prelude.{◌||◌, codes, not, bytes_eq, is_some}
+use Rattle.std.proofs.Common.{◌≡◌, inl, inr, ℕ, List, [], ◌∷◌, Bool, true, false, Option, Some, None, cond, map, refl, sym, ap, ◌∙◌, subst}
+use Rattle.std.specs.Prelude.{◌||◌, codes, not, bytes_eq}
 use Rattle.std.specs.List.{list_any}
-use Rattle.std.proofs.lemmas.Bool.{or_left, or_right, or_parts, or_from, false≢true}
-use Rattle.std.proofs.lemmas.List.Folds.{list_any-append}
+use Rattle.std.proofs.lemmas.Bool.{or_left, or_from}
 use Rattle.std.proofs.lemmas.Slice.Eq.{bytes_eq-Decides}
 use Rattle.sha2.specs.Sha256.{sha256}
 use Rattle.params.specs.Form.{value_of}
@@ -11,10 +10,10 @@ use Rattle.clients.specs.RegistryRecord.{RegistryRecord}
 use Rattle.clients.specs.ClientRecord.{ClientRecord}
 use Rattle.clients.specs.Grants.{has_grant, grant_named}
 use Rattle.clients.specs.declared.grant.GrantType.{GrantType}
-use Rattle.clients.specs.declared.grant.GrantType.TheVariants.{AuthorizationCode, RefreshToken, ClientCredentials}
-use Rattle.consent.specs.History.{Event, Change, event_at, Grant, grants, grant_at, spends, is_spent, has_ended, has_room, is_taken, consented_scope}
+use Rattle.clients.specs.declared.grant.GrantType.TheVariants.{AuthorizationCode, RefreshToken}
+use Rattle.consent.specs.History.{Event, Change, event_at, Grant, grants, grant_at, spends, is_spent, has_ended, has_room, is_taken}
 use Rattle.consent.specs.History.Change.{Spent}
-use Rattle.consent.specs.GrowthLaws.{is_taken-parts, grants-append}
+use Rattle.consent.specs.GrowthLaws.{is_taken-parts}
 use Rattle.hook_record.specs.declared.Ask.{Ask}
 use Rattle.hook_record.specs.declared.Narrowed.{Narrowed}
 use Rattle.hook_record.specs.declared.Narrowed.TheVariants.{Allowed, Denied, EmptyScope}
@@ -23,14 +22,14 @@ use Rattle.messages.specs.declared.error.ErrorName.{ErrorName}
 use Rattle.messages.specs.declared.error.ErrorName.TheVariants.{InvalidRequest, InvalidGrant, InvalidScope, UnauthorizedClient, UnsupportedGrantType}
 use Rattle.messages.specs.Asked.{Asked}
 use Rattle.pkce.specs.Proof.{proves}
-use Rattle.grants.specs.Outcomes.{Outcome, point, need, refuse, unavailable, unless_taken}
+use Rattle.grants.specs.Outcomes.{Outcome, point, refuse, unavailable, unless_taken}
 use Rattle.grants.specs.Requesters.{Parameters, KnownClient, form_of, scope_within}
 use Rattle.grants.specs.Texts.{digest_told, where_passes}
 use Rattle.grants.specs.Tokens.{code_of_client, refresh_of_client}
 use Rattle.grants.specs.Grants.{left_of, access_issued, refresh_issued, access_reply, both_reply, both_digests}
 use Rattle.grants.specs.Exchange as code
 use Rattle.grants.specs.Refresh as token
-use Rattle.grants.specs.TokenPath.{issue_token, token_points, grant_points, type_points}
+use Rattle.grants.specs.TokenPath.{issue_token, token_points, grant_points}
 use Rattle.promises.specs.Uses.{Presents}
 use Rattle.promises.proofs.Walking.{at_point, at_need, at_authenticated, no_error_200, other, same_some}
 use Rattle.promises.proofs.Spending.{has_digest}

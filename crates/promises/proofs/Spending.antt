@@ -1,15 +1,13 @@
 -- Of the codes and tokens of a digest, in a history and whatever comes after it.
-use Rattle.std.proofs.Common.{◌≡◌, ℕ, List, [], ◌∷◌, ◌++◌, Bool, true, false, Option, Some, None, cond, refl, sym, ap, ◌∙◌, append_assoc, append-nil, subst}
+use Rattle.std.proofs.Common.{◌≡◌, ℕ, List, [], ◌∷◌, ◌++◌, Bool, true, false, Option, Some, None, cond, refl, sym, ap, ◌∙◌, append_assoc, append-nil}
 use Rattle.std.specs.Prelude.{◌||◌, ◌&&◌, not, is_some, find}
 use Rattle.std.specs.Option.{option_or}
 use Rattle.std.specs.List.{list_any}
 use Rattle.std.specs.Str.{bytes_eq}
 use Rattle.std.proofs.lemmas.Bool.{or_parts, or_left, or_right, and_parts, false≢true}
 use Rattle.std.proofs.lemmas.List.Folds.{list_any-append}
-use Rattle.std.proofs.lemmas.Slice.Eq.{bytes_eq-Decides}
-use Rattle.consent.specs.History.{Event, Change, Grant, grants, grant_at, gives, is_named, is_unexpired, spends, is_spent, has_ended, ends, is_lowered, is_good, where_good, is_single_use, live_grant}
-use Rattle.consent.specs.History.Change.{FamilyEnded}
-use Rattle.consent.specs.GrowthLaws.{grant_at-append, grants-append, has_ended-before}
+use Rattle.consent.specs.History.{Event, Grant, grants, grant_at, is_named, is_unexpired, spends, is_spent, has_ended, ends, is_lowered, is_good, where_good, is_single_use, live_grant}
+use Rattle.consent.specs.GrowthLaws.{grant_at-append, has_ended-before}
 
 -- the code or token has the digest
 abbrev pub has_digest : List ℕ → Grant → Bool

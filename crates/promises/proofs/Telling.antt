@@ -1,5 +1,5 @@
 -- What all replies to requests have in common.
-use Rattle.std.proofs.Common.{◌≡◌, ◌≢◌, ◌≤◌, inl, inr, ℕ, ◌+◌, List, [], ◌∷◌, ◌++◌, Bool, true, false, Option, Some, None, cond, refl, sym, ap, ◌∙◌, arith, length, subst}
+use Rattle.std.proofs.Common.{◌≡◌, ◌≤◌, ℕ, List, [], ◌∷◌, Bool, true, false, Option, Some, None, cond, refl, arith, length}
 use Rattle.std.specs.Prelude.{codes, not, bytes_eq, option_and_then}
 use Rattle.std.specs.Result.{result_ok}
 use Rattle.std.proofs.lemmas.Bool.{false≢true}
@@ -7,7 +7,6 @@ use Rattle.sha2.specs.Sha256.{sha256}
 use Rattle.pkce.specs.Proof.{proves}
 use Rattle.pkce.specs.Token.{token_text}
 use Rattle.params.specs.Form.{read_params, value_of}
-use Rattle.params.specs.Scope.{scope_text}
 use Rattle.clients.specs.RegistryRecord.{RegistryRecord}
 use Rattle.clients.specs.ClientRecord.{ClientRecord}
 use Rattle.clients.specs.Clients.{client_at, has_redirect}
@@ -15,7 +14,7 @@ use Rattle.clients.specs.Grants.{has_grant, grant_named}
 use Rattle.clients.specs.declared.grant.GrantType.{GrantType}
 use Rattle.clients.specs.declared.grant.GrantType.TheVariants.{AuthorizationCode, RefreshToken, ClientCredentials}
 use Rattle.consent.specs.History.{Event, Change, Grant, is_code, live_grant, has_room, is_taken, is_spent, has_ended, consented_scope, is_within, has_consent_room}
-use Rattle.consent.specs.History.Change.{Consented, CodeGiven, Spent, FamilyEnded}
+use Rattle.consent.specs.History.Change.{CodeGiven, Spent}
 use Rattle.consent.specs.declared.grant.Kind.{Kind}
 use Rattle.consent.specs.declared.grant.Kind.TheVariants.{Code, Token}
 use Rattle.consent.specs.declared.grant.TokenKind.{TokenKind}
@@ -42,13 +41,10 @@ use Rattle.grants.specs.Exchange as code
 use Rattle.grants.specs.Refresh as token
 use Rattle.grants.specs.ClientCredentials as own
 use Rattle.grants.specs.TokenPath.{issue_token, token_points, grant_points}
-use Rattle.endpoints.specs.Hosts.{HostSays}
-use Rattle.endpoints.specs.Paths.{endpoint_at, method_at}
-use Rattle.endpoints.specs.Replies.{outcome, outcome_at}
-use Rattle.endpoints.specs.Authorize.{authorize, authorize_known, challenge_sent, code_given, state_of, turned_back}
-use Rattle.endpoints.specs.ConsentPath.{give_consent, consent_given}
+use Rattle.endpoints.specs.Authorize.{authorize, challenge_sent, state_of, turned_back}
+use Rattle.endpoints.specs.ConsentPath.{give_consent}
 use Rattle.endpoints.specs.Revoke.{revoke_token, revoke_points, revoked}
-use Rattle.endpoints.specs.HookPaths.{install_hook, remove_hook, list_hooks, change_hooks, by_fault, hook_name, installation, removal, is_operator}
+use Rattle.endpoints.specs.HookPaths.{install_hook, remove_hook, list_hooks, change_hooks, by_fault, installation, removal, is_operator}
 use Rattle.endpoints.specs.Introspect.{introspect, introspect_points, told, told_of}
 use Rattle.endpoints.specs.Bounded.{IsBounded, life_limit}
 use Rattle.promises.specs.Turns.{Turn, outcome_of, reply_of}

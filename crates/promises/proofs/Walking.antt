@@ -1,6 +1,5 @@
 -- What holds at each point of an outcome holds of the outcome.
-use Rattle.std.proofs.Common.{◌≡◌, ℕ, List, Bool, true, false, Option, Some, None, Result, Ok, Err, eqb, refl, sym, ap, ◌∙◌}
-use Rattle.std.specs.Prelude.{codes, not, bytes_eq}
+use Rattle.std.proofs.Common.{◌≡◌, ℕ, Bool, true, false, Option, Some, None, Result, Ok, Err, eqb, refl, sym, ◌∙◌}
 use Rattle.std.proofs.lemmas.Bool.{eq-eqb, false≢true}
 use Rattle.clients.specs.RegistryRecord.{RegistryRecord}
 use Rattle.clients.specs.declared.authentication.AuthFault.{AuthFault}

@@ -1,12 +1,11 @@
 -- What hooks leave of tokens.
 use Rattle.std.specs.Prelude.{◌≡◌, ◌≤◌, ⊤, List, [], ◌∷◌, true}
 use Rattle.consent.specs.History.{Change, is_within}
-use Rattle.consent.specs.History.Change.{Consented, CodeGiven, Issued, Spent, FamilyEnded, HookSet, HookGone}
+use Rattle.consent.specs.History.Change.{Issued}
 use Rattle.hook_record.specs.declared.Ask.{Ask}
 use Rattle.hook_record.specs.declared.Narrowed.{Narrowed}
 use Rattle.hook_record.specs.declared.Narrowed.TheVariants.{Allowed}
 use Rattle.grants.specs.Outcomes.{Outcome}
-use Rattle.endpoints.specs.Hosts.{HostSays}
 use Rattle.promises.specs.Turns.{Turn}
 
 -- a host without hooks allows all that is asked
