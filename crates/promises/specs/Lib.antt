@@ -1,0 +1,4 @@
+pub mod Turns
+pub mod Uses
+pub mod Grants
+pub mod Hooked

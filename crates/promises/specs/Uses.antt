@@ -1,0 +1,51 @@
+-- What is done with codes and tokens, by requests and their replies.
+use Rattle.std.specs.Prelude.{◌≡◌, ◌≢◌, ◌⊎◌, ◌++◌, ℕ, List, true, codes, Some}
+use Rattle.std.specs.List.{list_any}
+use Rattle.std.specs.Str.{bytes_eq}
+use Rattle.params.specs.Form.{value_of}
+use Rattle.clients.specs.RegistryRecord.{RegistryRecord}
+use Rattle.consent.specs.History.{Event, Grant, grants, live_grant}
+use Rattle.grants.specs.Requesters.{Parameters, form_of}
+use Rattle.grants.specs.Texts.{digest_told}
+use Rattle.grants.specs.Tokens.{live_token}
+use Rattle.promises.specs.Turns.{Turn, GoesTo, reply_of}
+
+-- the parameters present the text as a code or as a refresh token
+abbrev pub Presents : Parameters → List ℕ → Type 0
+Presents params text =
+    ((value_of (codes "grant_type") params ≡ Some (codes "authorization_code")) × (value_of (codes "code") params ≡ Some text))
+    ⊎ ((value_of (codes "grant_type") params ≡ Some (codes "refresh_token")) × (value_of (codes "refresh_token") params ≡ Some text))
+
+-- the code or refresh token of the text is exchanged for tokens
+pub record Exchanges (rules : RegistryRecord) (history : List Event) (turn : Turn) (text : List ℕ) : Type 0 where
+  pub goes_to : GoesTo turn (codes "/token")
+  pub params : Parameters
+  pub form : form_of turn.arrival.asked ≡ Some params
+  pub presents : Presents params text
+  pub granted : (reply_of rules history turn).status ≡ 200
+
+-- a code or token of the text is given among the events
+pub record IsGiven (events : List Event) (text : List ℕ) : Type 0 where
+  pub digest : List ℕ
+  pub told : digest_told text ≡ Some digest
+  pub given : list_any (λ g. bytes_eq digest g.digest) (grants events) ≡ true
+
+-- the live token is revoked
+pub record Revokes (rules : RegistryRecord) (history : List Event) (turn : Turn) (token : Grant) : Type 0 where
+  pub goes_to : GoesTo turn (codes "/revoke")
+  pub params : Parameters
+  pub form : form_of turn.arrival.asked ≡ Some params
+  pub text : List ℕ
+  pub presents : value_of (codes "token") params ≡ Some text
+  pub live : live_token history turn.arrival.moment text ≡ Some token
+  pub done : (reply_of rules history turn).status ≡ 200
+
+-- after this history the text is exchanged only where a code or token of it was given since
+abbrev pub IsUsedUp : RegistryRecord → List Event → List ℕ → Type 0
+IsUsedUp rules history text =
+    (between : List Event) (turn : Turn) → Exchanges rules (history ++ between) turn text → IsGiven between text
+
+-- no code and no token of the family is live, at any moment
+abbrev pub IsDead : List Event → ℕ → Type 0
+IsDead history family =
+    (digest : List ℕ) (moment : ℕ) (grant : Grant) → live_grant history digest moment ≡ Some grant → grant.family ≢ family

@@ -1,0 +1,4 @@
+//! What a sceptic would ask of the server, as laws.
+#![tactic(auto)]
+
+pub mod laws;
