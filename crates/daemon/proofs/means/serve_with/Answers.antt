@@ -5,4 +5,4 @@ use Rattle.daemon.proofs.Starting.{serves_begun}
 use Rattle.daemon.proofs.means.serve_with.Goals as goal
 
 pub returns : goal.returns
-returns g c = serves_begun _ c.args.registry [] c.args.means c.new_edge.result _ _ _ c.limits.ensures c.new_edge.ensures c.serve_all.ensures
+returns g c = serves_begun _ c.args.registry [] c.args.means c.new_edge.result _ _ _ c.limits-limits.ensures c.new_edge.ensures c.serve_all-fault.ensures
