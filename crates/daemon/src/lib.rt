@@ -7,11 +7,13 @@ mod line_journal;
 mod listening;
 mod machine_clock;
 mod machine_clocks;
+mod means;
 mod patience;
 mod sockets;
 mod until_stopped;
 
 pub use by_count::serve;
 pub use fault::ListenFault;
+pub use means::{Ending, Means, serve_with};
 pub use patience::Patience;
 pub use until_stopped::start;

@@ -1,19 +1,20 @@
 //! Connections until the program is stopped.
 
-ghost use Rattle.std.specs.Prelude.{◌≡◌, [], OnOk, OnErr, IfOk};
+ghost use Rattle.std.specs.Prelude.{◌≡◌, ◌≢◌, [], OnOk, OnErr, IfOk, IfErr};
 ghost use Rattle.event_loop.specs.Scenes.{promises};
 ghost use Rattle.daemon.specs.Listening.{Announces};
-ghost use Rattle.daemon.specs.Started.{Serves, limits_of};
+ghost use Rattle.daemon.specs.Started.{HasStarted};
+ghost use Rattle.daemon.specs.declared.fault.ListenFault.TheVariants.{Unwritten};
 
-use crate::by_count::new_edge;
 use crate::fault::ListenFault;
 use crate::line_journal::LineJournal;
 use crate::listening::announce;
 use crate::machine_clocks::MachineClocks;
+use crate::means::{Means, serve_with};
 use crate::patience::Patience;
 use crate::sockets::MachineSockets;
 use clients::Registry;
-use event_loop::{Clocks, Journal, LoopFault, Sockets, Tools, serve_all};
+use event_loop::{Clocks, Journal, LoopFault, Sockets};
 use hook_chain::Chain;
 use hook_host::HookHost;
 use rand_chacha::ChaCha20Rng;
@@ -39,6 +40,7 @@ fn listening_sockets<R: Net + AllocGlobal, W: Write>(
     out: &mut W,
 ) -> Result<MachineSockets, ListenFault>
     ensures done { OnOk result (Announces (W.contents out.old) (W.contents out.new)) }
+    ensures silent { IfErr result (λ fault. fault ≢ Unwritten → out.new ≡ out.old) }
 {
     let sockets = MachineSockets::listen(rt, rt.alloc(), address)?;
     let Some(bound) = sockets.address() else {
@@ -62,17 +64,19 @@ pub fn start<'r, 'e, R: Net + Clock + RandomSource + AllocGlobal, W: Write, E: W
     err: &'e mut E,
 ) -> Result<LoopFault, ListenFault>
     ensures done { OnOk result (Announces (W.contents out.old) (W.contents out.new)) }
-    ensures serves { IfOk result (Serves (promises ⟦<MachineSockets as Sockets>⟧.does ⟦<MachineClocks<'r, R> as Clocks>⟧.tells ⟦<LineJournal<'e, E> as Journal>⟧.notes ⟦<Chain as HookHost>⟧) registry [] (limits_of patience)) }
+    ensures serves { IfOk result (HasStarted (promises ⟦<MachineSockets as Sockets>⟧.does ⟦<MachineClocks<'r, R> as Clocks>⟧.tells ⟦<LineJournal<'e, E> as Journal>⟧.notes ⟦<Chain as HookHost>⟧) registry [] patience) }
+    ensures silent { IfErr result (λ fault. fault ≢ Unwritten → out.new ≡ out.old) }
     ensures quiet { OnErr result (err.new ≡ err.old) }
 {
     let generator = random_generator(rt)?;
     let sockets = listening_sockets(rt, address, out)?;
-    let mut tools = Tools {
+    let means = Means {
         sockets,
-        edge: new_edge(rt.alloc(), registry),
         clocks: MachineClocks(rt),
-        generator,
         journal: LineJournal(err),
+        generator,
+        patience,
     };
-    Ok(serve_all(&mut tools, patience.limits()))
+    let ending = serve_with(rt.alloc(), registry, means);
+    Ok(ending.fault)
 }
