@@ -3,7 +3,7 @@ use Rattle.std.specs.Prelude.{◌≡◌, ℕ, List, [], ◌∷◌, Option, Some,
 use Rattle.std.specs.Option.{option_and_then}
 use Rattle.consent.specs.History as history
 use Rattle.consent.specs.History.{Event, Grant, grant_at, with_change, CanFollow}
-use Rattle.consent.specs.History.Change as told
+use Rattle.consent.specs.History.{Change as told}
 use Rattle.consent.specs.declared.change.Change.{Change}
 use Rattle.consent.specs.declared.change.Change.TheVariants.{Consented, CodeGiven, IssuedAlone, Issued, Spent, FamilyEnded, HookSet, HookGone}
 use Rattle.consent.specs.declared.change.Changes.{Changes}
