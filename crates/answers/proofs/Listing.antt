@@ -1,0 +1,37 @@
+-- The names of the hooks, one after the other.
+use Rattle.std.proofs.Common.{◌≡◌, ◌≤◌, ◌+◌, inl, inr, ℕ, List, [], ◌∷◌, ◌++◌, Some, None, length, Bor, map, take, take_all, refl, sym, ap, ◌∙◌, arith}
+use Rattle.std.specs.Prelude.{slice_get}
+use Rattle.std.proofs.lemmas.List.{map-append}
+use Rattle.std.proofs.Math.Seq.{take-suc}
+use Rattle.std.proofs.lemmas.Option.{slice_get_cases, slice_get_within, get_or_from_slice_get}
+use Rattle.hook_host.specs.Names.{AreHookNames}
+use Rattle.messages.specs.Reply.{plain}
+use Rattle.messages.specs.Reply.Body.{Hooks}
+use Rattle.messages.specs.Small.{IsSmall}
+use native.Mathlib.Numerals.{unary_clauses}
+
+pub map_push : (items : List (Bor (List ℕ))) (name : Bor (List ℕ)) →
+    map (λ name. name.now) (items ++ name ∷ []) ≡ map (λ name. name.now) items ++ name.now ∷ []
+map_push items name = map-append (λ name. name.now) items (name ∷ [])
+
+-- the names so far and the next one
+pub one_more : (names now : List (List ℕ)) (n : ℕ) (name : List ℕ) → now ≡ take n names → slice_get names n ≡ Some name →
+    now ++ name ∷ [] ≡ take (n + 1) names
+one_more names now n name is found =
+    simp unary_clauses
+    (ap (λ front. front ++ name ∷ []) is
+    ∙ ap (λ last. take n names ++ last ∷ []) (sym (get_or_from_slice_get names n name [] found))
+    ∙ sym (take-suc names n [] (slice_get_within names n name found)))
+
+-- there is no next one
+pub all_named : (names now : List (List ℕ)) (n : ℕ) → now ≡ take n names → slice_get names n ≡ None → now ≡ names
+all_named names now n is none =
+    let past : length names ≤ n = elim (slice_get_cases names n).1 [ inl p ↦ (let found = p.2 in absurd (cc)) | inr p ↦ p.0 ] in
+    is ∙ take_all n names past
+
+-- a host's names are few and short
+pub names_small : (names : List (List ℕ)) → AreHookNames names → IsSmall (plain 200 (Hooks names))
+names_small names are = record {
+  status = refl;
+  short = (are.few, λ i x at. (let name = are.each i x at in omega (arith, name.short)));
+}

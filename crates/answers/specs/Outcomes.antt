@@ -1,0 +1,59 @@
+-- The reply to a request and what happens with it, as the first point of a list that holds.
+use Rattle.std.specs.Prelude.{ℕ, List, [], Bool, true, false, not, Option, Some, None}
+use Rattle.consent.specs.History.{Change, Event, has_room, is_taken}
+use Rattle.messages.specs.declared.error.ErrorName.{ErrorName}
+use Rattle.messages.specs.declared.error.ErrorName.TheVariants.{InvalidRequest, InvalidClient, InvalidGrant, InvalidScope, UnauthorizedClient, UnsupportedGrantType, UnsupportedResponseType, AccessDenied}
+use Rattle.messages.specs.Reply.{Reply, plain}
+use Rattle.messages.specs.Reply.Body.{Empty, Failure}
+
+pub record Outcome : Type 0 where
+  pub reply : Reply
+  pub changes : List Change
+
+-- the point "if so: this", and then the others
+abbrev pub point : Bool → Outcome → Outcome → Outcome
+point true here later = here
+point false here later = later
+
+-- the point "absent: this", and then those that use the value
+abbrev pub need : {A : Type 0} → Option A → Outcome → (A → Outcome) → Outcome
+need None without later = without
+need (Some x) without later = later x
+
+-- a reply with which nothing happens
+abbrev pub only : Reply → Outcome
+only reply = record { reply = reply; changes = [] }
+
+-- the status of an error that is answered as JSON (RFC 6749, section 5.2)
+abbrev pub status_of : ErrorName → ℕ
+status_of InvalidRequest = 400
+status_of InvalidClient = 401
+status_of InvalidGrant = 400
+status_of InvalidScope = 400
+status_of UnauthorizedClient = 400
+status_of UnsupportedGrantType = 400
+status_of UnsupportedResponseType = 400
+status_of AccessDenied = 403
+
+-- an error with which nothing happens
+abbrev pub refuse : ErrorName → Outcome
+refuse error = only (plain (status_of error) (Failure error))
+
+-- a bare status
+abbrev pub bare : ℕ → Outcome
+bare status = only (plain status Empty)
+
+-- 503: memory, room or a fresh draw is wanting
+abbrev pub unavailable : Outcome
+unavailable = bare 503
+
+-- codes or tokens of these digests are given, unless there is no room or a draw is taken
+abbrev pub unless_taken : List Event → ℕ → List (List ℕ) → Outcome → Outcome
+unless_taken history m digests given =
+    point (not (has_room history m digests)) unavailable
+    (point (is_taken history m digests) unavailable given)
+
+-- a request that memory was refused for has the 503 without events
+abbrev pub chosen : Bool → Outcome → Outcome
+chosen true right = unavailable
+chosen false right = right

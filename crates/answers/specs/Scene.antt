@@ -1,0 +1,40 @@
+-- What a request is decided by.
+use Rattle.std.specs.Prelude.{ℕ, List}
+use Rattle.clients.specs.RegistryRecord.{RegistryRecord}
+use Rattle.consent.specs.History.{Event}
+use Rattle.consent.specs.Consents.{FitsConsents}
+use Rattle.hook_record.specs.declared.Ask.{Ask}
+use Rattle.hook_record.specs.declared.Narrowed.{Narrowed}
+use Rattle.token_store.specs.Fits.{FitsStore}
+use Rattle.messages.specs.declared.request.Draws.{Draws}
+use Rattle.answers.specs.Requesters.{KnownClient}
+use Rattle.answers.specs.declared.view.KnownClient as seen
+use Rattle.answers.specs.declared.view.View.{View}
+
+-- the rules, what has happened, what the host answers and the names of its hooks, the moment, and the draws
+pub record Scene : Type 0 where
+  pub rules : RegistryRecord
+  pub history : List Event
+  pub answer : Ask → Narrowed
+  pub names : List (List ℕ)
+  pub moment : ℕ
+  pub draws : Draws
+
+-- that of a view, after a history
+abbrev pub scene_of : View → List Event → (Ask → Narrowed) → List (List ℕ) → Scene
+scene_of view history answer names = record {
+  rules = view.rules.now;
+  history = history;
+  answer = answer;
+  names = names;
+  moment = view.moment;
+  draws = view.draws.now;
+}
+
+-- what is kept is of the history
+pub record Shows (view : View) (history : List Event) : Type 0 where
+  pub store : FitsStore view.store.now history view.moment
+  pub consents : FitsConsents view.consents.now history
+
+abbrev pub known_of : seen.KnownClient → KnownClient
+known_of known = record { number = known.number; client = known.client.now }
