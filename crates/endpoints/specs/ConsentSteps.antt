@@ -1,5 +1,5 @@
 -- What stands on the way to a consent.
-use Rattle.std.specs.Prelude.{ℕ, List}
+use Rattle.std.specs.Prelude.{List}
 use Rattle.clients.specs.RegistryRecord.{RegistryRecord}
 use Rattle.consent.specs.History.{Event}
 use Rattle.consent.specs.Consents.{KeptConsents}
