@@ -6,3 +6,5 @@ pub mod Tokens
 pub mod Replies
 pub mod Scene
 pub mod Told
+pub mod Found
+pub mod FoundLaws
