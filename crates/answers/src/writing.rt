@@ -10,7 +10,7 @@ ghost use Rattle.answers.specs.Replies.{access_reply, both_reply, reply_of};
 
 use crate::answer::Answer;
 use crate::halt::status_of;
-use clients::Registry;
+use clients::{Client, Registry};
 use hook_host::{HookFault, HookHost};
 use http::StatusCode;
 use messages::{
@@ -114,6 +114,7 @@ pub fn write<H: HookHost>(
             scope,
             kind,
         } => {
+            let client = rules.client_numbered(client).map_or("", Client::id);
             let scope = rules.catalogue().scope_text(alloc, scope)?;
             let scope = scope.as_str();
             active(
