@@ -1,14 +1,1 @@
-pub mod Stepping
-pub mod Frame
-pub mod Presenting
-pub mod Hooking
-pub mod Sound
-pub mod SoundGrants
-pub mod SoundToken
-pub mod SoundOthers
-pub mod Listing
-pub mod FaultSizes
-pub mod GivingCodes
-pub mod Lowering
-pub mod Arms
-pub mod Hosting
+pub mod Telling

@@ -17,9 +17,9 @@ use Rattle.messages.specs.declared.error.ErrorName.{ErrorName}
 use Rattle.messages.specs.declared.error.ErrorName.TheVariants.{InvalidRequest, InvalidScope, UnauthorizedClient, UnsupportedResponseType, AccessDenied}
 use Rattle.messages.specs.Reply.{sent_back}
 use Rattle.messages.specs.Written.{error_text}
-use Rattle.grants.specs.Outcomes.{Outcome, point, need, only, refuse, unless_taken}
-use Rattle.grants.specs.Requesters.{Parameters, KnownClient, client_named, owner_of, scope_within}
-use Rattle.grants.specs.Texts.{where_passes}
+use Rattle.answers.specs.Outcomes.{Outcome, point, need, only, refuse, unless_taken}
+use Rattle.answers.specs.Requesters.{Parameters, KnownClient, client_named, owner_of, scope_within}
+use Rattle.answers.specs.Texts.{where_passes}
 
 -- the state, if it was sent
 abbrev pub state_of : Parameters → Option (List ℕ)

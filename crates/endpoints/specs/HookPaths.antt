@@ -14,8 +14,8 @@ use Rattle.messages.specs.Target.{query_of}
 use Rattle.messages.specs.declared.error.ErrorName.TheVariants.{InvalidRequest, AccessDenied}
 use Rattle.messages.specs.Reply.{plain}
 use Rattle.messages.specs.Reply.Body.{Hook, HookRefused, Hooks}
-use Rattle.grants.specs.Outcomes.{Outcome, point, need, only, refuse, unavailable}
-use Rattle.grants.specs.Requesters.{Parameters, form_of}
+use Rattle.answers.specs.Outcomes.{Outcome, point, need, only, refuse, unavailable}
+use Rattle.answers.specs.Requesters.{Parameters, form_of}
 use Rattle.endpoints.specs.declared.endpoint.Endpoint.{Endpoint}
 use Rattle.endpoints.specs.declared.endpoint.Endpoint.TheVariants as endpoint
 
