@@ -6,6 +6,8 @@ pub mod Deciding
 pub mod Revoke
 pub mod Introspect
 pub mod HookPaths
+pub mod HookAsking
+pub mod Ruling
 pub mod Paths
 pub mod Replies
 pub mod Bounded

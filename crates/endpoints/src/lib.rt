@@ -5,7 +5,10 @@
 mod authorize;
 mod consenting;
 mod endpoint;
+mod hooks;
 mod introspect;
 mod revoke;
+mod ruling;
 
 pub use consent::Moment;
+pub use ruling::Ruling;

@@ -1,0 +1,10 @@
+-- The hook that a request asks for, wherever its texts lie.
+use Rattle.std.specs.Prelude.{ℕ, List}
+use Rattle.consent.specs.History.{Change}
+use Rattle.consent.specs.History.Change.{HookSet}
+use Rattle.hook_host.specs.Versions.{version_of}
+use Rattle.endpoints.specs.declared.hooks.HookAsked.{HookAsked}
+
+-- it is set, with this code
+abbrev pub hook_change : List ℕ → HookAsked → Change
+hook_change code asked = HookSet asked.name.now (version_of asked.layout) code

@@ -1,0 +1,132 @@
+//! The operator's requests.
+ghost use Rattle.std.specs.Prelude.{◌≡◌, ℕ, List, option_map, option_and_then, codes};
+ghost use Rattle.params.specs.Form.{value_of};
+ghost use Rattle.consent.specs.History.{Change};
+ghost use Rattle.hook_host.specs.Versions.{version_of};
+ghost use Rattle.messages.specs.Asked.{asked_of};
+ghost use Rattle.answers.specs.Halts.{Leads};
+ghost use Rattle.answers.specs.Outcomes.{Outcome};
+ghost use Rattle.answers.specs.Scene.{Scene};
+ghost use Rattle.endpoints.specs.HookAsking.{hook_change};
+ghost use Rattle.endpoints.specs.HookPaths.{hook_gone, hook_set, hook_set_by, version_asked, with_operator};
+ghost use Rattle.endpoints.specs.Ruling.{RulesHooks};
+
+use crate::ruling::Ruling;
+use answers::{Answer, Decision, Halt};
+use clients::Registry;
+use consent::{Change, Changes};
+use hook_host::{HookFault, HookHost};
+use insn::layout::Layout;
+use messages::{ErrorName, Request};
+use params::Params;
+
+/// The operator's key was sent.
+pub(crate) fn operator(rules: &Registry, request: &Request<'_>) -> Result<(), Halt>
+    ensures { (next : Outcome) → Leads result (with_operator rules.now (asked_of request.entry.now) next) (λ _. next) }
+{
+    match request.operator_key {
+        Some(key) if rules.is_operator(key) => Ok(()),
+        _ => Err(Halt::Refuse(ErrorName::AccessDenied)),
+    }
+}
+
+// A hook to be installed: its name, and the layout of the record that it reads.
+#[derive(Clone, Copy)]
+struct HookAsked<'a> {
+    name: &'a str,
+    layout: Layout,
+}
+
+// The layout of the record that the hook reads.
+fn layout_asked(params: &Params) -> Option<Layout>
+    ensures { option_map version_of result ≡ version_asked (value_of (codes "record") params.now) }
+{
+    match params.get("record") {
+        None | Some("1") => Some(Layout::V1),
+        Some("2") => Some(Layout::V2),
+        Some(_) => None,
+    }
+}
+
+// The hook that the parameters ask for.
+fn hook_asked(params: &Params) -> Option<HookAsked<'_>>
+    ensures { (code : List ℕ) → option_map (hook_change code) result
+        ≡ option_and_then (hook_set params.now code) (value_of (codes "name") params.now) }
+{
+    let name = params.get("name")?;
+    let layout = layout_asked(params)?;
+    Some(HookAsked { name, layout })
+}
+
+// The number of a layout.
+fn version_of(layout: Layout) -> u64
+    ensures { result ≡ version_of layout }
+{
+    match layout {
+        Layout::V1 => 1,
+        Layout::V2 => 2,
+    }
+}
+
+// The host has that fault, with which nothing happens.
+fn refused<'c, H>(fault: HookFault) -> Result<Ruling<'c, H>, Halt> {
+    if fault == HookFault::Memory {
+        return Err(Halt::NoMemory);
+    }
+    Ok(Ruling {
+        decision: Decision {
+            answer: Answer::HookRefused(fault),
+            changes: Changes::Nothing,
+        },
+        checked: None,
+    })
+}
+
+/// Decides on the hook that the query names, with the body for its code.
+pub(crate) fn install<'c, H: HookHost>(
+    host: &H,
+    request: &Request<'c>,
+    params: &'c Params,
+) -> Result<Ruling<'c, H>, Halt>
+    ensures { (s : Scene) → RulesHooks H.HookHost host.now s (hook_set_by params.now (asked_of request.entry.now).body) result }
+{
+    let Some(asked) = hook_asked(params) else {
+        return Err(Halt::Refuse(ErrorName::InvalidRequest));
+    };
+    match host.check(asked.name, asked.layout, request.body) {
+        Ok(checked) => Ok(Ruling {
+            decision: Decision {
+                answer: Answer::HookDone { name: asked.name },
+                changes: Changes::One(Change::HookSet {
+                    name: asked.name,
+                    version: version_of(asked.layout),
+                    code: request.body,
+                }),
+            },
+            checked: Some(checked),
+        }),
+        Err(fault) => refused(fault),
+    }
+}
+
+/// Decides on the removal of the hook that the form names.
+pub(crate) fn remove<'c, H: HookHost>(
+    host: &H,
+    params: &'c Params,
+) -> Result<Ruling<'c, H>, Halt>
+    ensures { (s : Scene) → RulesHooks H.HookHost host.now s (hook_gone params.now) result }
+{
+    let Some(name) = params.get("name") else {
+        return Err(Halt::Refuse(ErrorName::InvalidRequest));
+    };
+    match host.check_removal(name) {
+        Ok(()) => Ok(Ruling {
+            decision: Decision {
+                answer: Answer::HookDone { name },
+                changes: Changes::One(Change::HookGone { name }),
+            },
+            checked: None,
+        }),
+        Err(fault) => refused(fault),
+    }
+}
