@@ -5,4 +5,5 @@ pub mod Texts
 pub mod Tokens
 pub mod Replies
 pub mod Scene
+pub mod Short
 pub mod Told

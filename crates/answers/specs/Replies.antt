@@ -5,6 +5,7 @@ use Rattle.pkce.specs.Token.{token_text}
 use Rattle.clients.specs.RegistryRecord.{RegistryRecord}
 use Rattle.hook_host.specs.Faults.{hook_fault_text}
 use Rattle.messages.specs.declared.request.Draws.{Draws}
+use Rattle.messages.specs.declared.token.ActiveToken.{ActiveToken}
 use Rattle.messages.specs.Reply.{Reply, Body as body, plain, sent_back}
 use Rattle.messages.specs.Written.{error_text}
 use Rattle.answers.specs.Outcomes.{status_of}
@@ -19,6 +20,10 @@ access_reply rules draw scope life = plain 200 (body.Tokens (token_text draw) li
 abbrev pub both_reply : RegistryRecord → Draws → ℕ → ℕ → Reply
 both_reply rules draws scope life =
     plain 200 (body.Tokens (token_text draws.first) life (Some (token_text draws.second)) (scope_text rules.scopes scope))
+
+-- what is told of a live token
+abbrev pub live_body : ActiveToken → body
+live_body token = body.Active token.client.now token.expires token.issued token.scope.now token.kind
 
 -- under the rules, where the host's hooks have these names
 abbrev pub reply_of : RegistryRecord → List (List ℕ) → Answer → Reply

@@ -2,8 +2,8 @@
 use Rattle.std.specs.Prelude.{◌==◌, ◌&&◌, ℕ, List, Bool, true, false, not, Option, option_and_then}
 use Rattle.consent.specs.History.{Event, Grant, grant_at, live_grant, is_code}
 use Rattle.consent.specs.declared.grant.Kind.{Kind}
-use Rattle.consent.specs.declared.grant.Kind.TheVariants.{Code, Token}
-use Rattle.consent.specs.declared.grant.TokenKind.TheVariants.{Access, Refresh}
+use Rattle.consent.specs.declared.grant.Kind.TheVariants.{Token}
+use Rattle.consent.specs.declared.grant.TokenKind.TheVariants.{Refresh}
 use Rattle.answers.specs.Texts.{digest_told, where_passes}
 
 -- it is a refresh token
