@@ -7,3 +7,5 @@ pub mod Replies
 pub mod Scene
 pub mod Short
 pub mod Told
+pub mod Found
+pub mod FoundLaws

@@ -1,8 +1,10 @@
 -- The reply that an answer is.
-use Rattle.std.specs.Prelude.{ℕ, List, codes, Some, None, option_copied}
+use Rattle.std.specs.Prelude.{ℕ, List, [], codes, Some, None, option_copied}
 use Rattle.params.specs.Scope.{scope_text}
 use Rattle.pkce.specs.Token.{token_text}
+use Rattle.std.specs.Option.{option_map_or}
 use Rattle.clients.specs.RegistryRecord.{RegistryRecord}
+use Rattle.clients.specs.Clients.{client_at}
 use Rattle.hook_host.specs.Faults.{hook_fault_text}
 use Rattle.messages.specs.declared.request.Draws.{Draws}
 use Rattle.messages.specs.declared.token.ActiveToken.{ActiveToken}
@@ -25,6 +27,10 @@ both_reply rules draws scope life =
 abbrev pub live_body : ActiveToken → body
 live_body token = body.Active token.client.now token.expires token.issued token.scope.now token.kind
 
+-- the id of the client of the number
+abbrev pub id_of : RegistryRecord → ℕ → List ℕ
+id_of rules number = option_map_or (λ c. c.id) (client_at number rules.clients) []
+
 -- under the rules, where the host's hooks have these names
 abbrev pub reply_of : RegistryRecord → List (List ℕ) → Answer → Reply
 reply_of rules names Done = plain 200 body.Empty
@@ -40,7 +46,7 @@ reply_of rules names (CodeSent uri draw state) =
 reply_of rules names (TurnedBack uri error state) =
     sent_back uri.now (codes "error") (error_text error) (option_copied state)
 reply_of rules names (Active client issued expires scope kind) =
-    plain 200 (body.Active client.now expires issued (scope_text rules.scopes scope) kind)
+    plain 200 (body.Active (id_of rules client) expires issued (scope_text rules.scopes scope) kind)
 reply_of rules names Inactive = plain 200 body.Inactive
 reply_of rules names (HookDone name) = plain 200 (body.Hook name.now)
 reply_of rules names (HookRefused fault) = plain 400 (body.HookRefused (hook_fault_text fault))

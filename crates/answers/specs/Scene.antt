@@ -3,29 +3,25 @@ use Rattle.std.specs.Prelude.{ℕ, List}
 use Rattle.clients.specs.RegistryRecord.{RegistryRecord}
 use Rattle.consent.specs.History.{Event}
 use Rattle.consent.specs.Consents.{FitsConsents}
-use Rattle.hook_record.specs.declared.Ask.{Ask}
-use Rattle.hook_record.specs.declared.Narrowed.{Narrowed}
 use Rattle.token_store.specs.Fits.{FitsStore}
 use Rattle.messages.specs.declared.request.Draws.{Draws}
 use Rattle.answers.specs.Requesters.{KnownClient}
 use Rattle.answers.specs.declared.view.KnownClient as seen
 use Rattle.answers.specs.declared.view.View.{View}
 
--- the rules, what has happened, what the host answers and the names of its hooks, the moment, and the draws
+-- the rules, what has happened, the names of the host's hooks, the moment, and the draws
 pub record Scene : Type 0 where
   pub rules : RegistryRecord
   pub history : List Event
-  pub answer : Ask → Narrowed
   pub names : List (List ℕ)
   pub moment : ℕ
   pub draws : Draws
 
 -- that of a view, after a history
-abbrev pub scene_of : View → List Event → (Ask → Narrowed) → List (List ℕ) → Scene
-scene_of view history answer names = record {
+abbrev pub scene_of : View → List Event → List (List ℕ) → Scene
+scene_of view history names = record {
   rules = view.rules.now;
   history = history;
-  answer = answer;
   names = names;
   moment = view.moment;
   draws = view.draws.now;

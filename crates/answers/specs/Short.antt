@@ -7,7 +7,7 @@ use Rattle.messages.specs.declared.token.ActiveToken.{ActiveToken}
 use Rattle.messages.specs.Small.{reply_limit}
 use Rattle.messages.specs.Written.{Written, reply_bytes}
 use Rattle.answers.specs.declared.answer.Answer.{Answer}
-use Rattle.answers.specs.declared.answer.Answer.TheVariants.{CodeSent, TurnedBack, Active, HookDone}
+use Rattle.answers.specs.declared.answer.Answer.TheVariants.{CodeSent, TurnedBack, HookDone}
 
 -- its bytes are few
 pub record IsShort (reply : Written) : Type 0 where
@@ -31,6 +31,5 @@ pub record IsShortLive (token : ActiveToken) : Type 0 where
 abbrev pub IsShortAnswer : Answer → Type 0
 IsShortAnswer (CodeSent uri draw state) = IsShortReturn uri.now (option_copied state)
 IsShortAnswer (TurnedBack uri error state) = IsShortReturn uri.now (option_copied state)
-IsShortAnswer (Active client issued expires scope kind) = length client.now ≤ identifier_limit
 IsShortAnswer (HookDone name) = length name.now ≤ name_limit
 IsShortAnswer answer = Unit {0}

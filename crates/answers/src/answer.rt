@@ -1,6 +1,6 @@
 //! Replies as values, before they are written.
 
-use consent::TokenKind;
+use consent::{ClientNo, TokenKind};
 use hook_host::HookFault;
 use messages::{Draws, ErrorName};
 
@@ -47,7 +47,7 @@ pub enum Answer<'a> {
     },
     /// What is told of a live token (RFC 7662, section 2.2): when it was issued and expires is in seconds.
     Active {
-        client: &'a str,
+        client: ClientNo,
         issued: u64,
         expires: u64,
         scope: u64,

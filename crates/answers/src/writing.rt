@@ -1,6 +1,7 @@
 //! The one place that writes replies.
-ghost use Rattle.std.specs.Prelude.{◌≡◌, IfOk, codes, map};
+ghost use Rattle.std.specs.Prelude.{◌≡◌, ◌≤◌, IfOk, codes, length, map};
 ghost use Rattle.std.specs.Option.{option_copied};
+ghost use Rattle.clients.specs.Limits.{identifier_limit};
 ghost use Rattle.hook_host.specs.Names.{AreHookNames};
 ghost use Rattle.messages.specs.Reply.{plain, sent_back};
 ghost use Rattle.messages.specs.Reply.Body.{Consent, HookRefused, Hooks};
@@ -8,12 +9,13 @@ ghost use Rattle.messages.specs.Written.{error_text, written};
 ghost use Rattle.pkce.specs.Token.{token_text};
 ghost use Rattle.hook_host.specs.Faults.{hook_fault_text};
 ghost use Rattle.params.specs.Scope.{scope_text};
-ghost use Rattle.answers.specs.Replies.{access_reply, both_reply, live_body, reply_of};
+ghost use Rattle.answers.specs.Replies.{access_reply, both_reply, id_of, live_body, reply_of};
 ghost use Rattle.answers.specs.Short.{IsShort, IsShortAnswer, IsShortLive, IsShortReturn};
 
 use crate::answer::Answer;
 use crate::halt::status_of;
 use clients::Registry;
+use consent::ClientNo;
 use hook_host::{HookFault, HookHost};
 use http::StatusCode;
 use messages::{
@@ -68,6 +70,17 @@ fn fault(alloc: Global, fault: HookFault) -> Result<Response, AllocError>
 {
     let detail = format!(in alloc; "{fault}")?;
     hook_refused(alloc, &detail)
+}
+
+// The id of the client of the number.
+fn id_of(rules: &Registry, number: ClientNo) -> &str
+    ensures value { result.now ≡ id_of rules.now number }
+    ensures short { length result.now ≤ identifier_limit }
+{
+    match rules.client_numbered(number) {
+        Some(client) => client.id(),
+        None => "",
+    }
 }
 
 fn live(alloc: Global, token: ActiveToken<'_>) -> Result<Response, AllocError>
@@ -156,7 +169,7 @@ pub fn write<H: HookHost>(
         } => {
             let scope = rules.catalogue().scope_text(alloc, scope)?;
             let token = ActiveToken {
-                client,
+                client: id_of(rules, client),
                 issued,
                 expires,
                 scope: &scope,

@@ -10,7 +10,7 @@ use Rattle.consent.specs.History.{Event, Change, event_at, has_consent_room, wit
 use Rattle.consent.specs.History.Change.{Consented, CodeGiven, Issued, Spent, FamilyEnded, HookSet, HookGone}
 use Rattle.consent.specs.Growth.{is_consent}
 use Rattle.consent.specs.GrowthLaws.{with_changes-cons}
-use Rattle.consent.specs.declared.parties.Parties.{Parties}
+use Rattle.consent.specs.Consents.{KeptConsents}
 use Rattle.grant_store.specs.Kept.{Kept}
 use Rattle.hook_host.specs.declared.fault.HookFault.{HookFault}
 use Rattle.hook_host.specs.declared.fault.HookFault.TheVariants as hook
@@ -91,7 +91,7 @@ module _ {H : Type 0} (installs : H → List ℕ → Layout → List ℕ → H �
   consent_host first host history m (HookGone name ∷ cs) are run = absurd (cc)
 
   -- a consent that was given
-  pub consent_step : (rules : RegistryRecord) (first host : H) (store kept : List Kept) (before after : List (Parties × ℕ)) (history : List Event) (m : ℕ) (asked : Asked) (refused : Bool) (reply : Written) →
+  pub consent_step : (rules : RegistryRecord) (first host : H) (store kept : List Kept) (before after : KeptConsents) (history : List Event) (m : ℕ) (asked : Asked) (refused : Bool) (reply : Written) →
       FitsServer installs removes (record { rules = rules; host = host; store = store; consents = before; greatest = m }) rules first history m →
       IsConsentDone (chosen refused (give_consent rules history asked)) reply kept after history m →
       IsStep installs removes (chosen refused (give_consent rules history asked)) reply (record { rules = rules; host = host; store = kept; consents = after; greatest = m }) rules first history m

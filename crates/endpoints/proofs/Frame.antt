@@ -15,8 +15,7 @@ use Rattle.endpoints.specs.declared.endpoint.Endpoint.{Endpoint}
 use Rattle.endpoints.specs.Paths.{endpoint_at, method_at}
 use Rattle.endpoints.specs.Replies.{outcome, outcome_at, hook_change}
 use Rattle.endpoints.specs.HookPaths.{hook_change_at}
-use Rattle.consent.specs.Consents.{FitsConsents}
-use Rattle.consent.specs.declared.parties.Parties.{Parties}
+use Rattle.consent.specs.Consents.{KeptConsents, FitsConsents}
 use Rattle.grant_store.specs.Kept.{Kept}
 use Rattle.grant_store.specs.FitsLaws.{fits_later}
 use Rattle.messages.specs.Written.{Written, written}
@@ -66,7 +65,7 @@ module _ {H : Type 0} (installs : H → List ℕ → Layout → List ℕ → H �
       rw (at, method) done
 
   -- a request that changes at most the store
-  pub store_step : (rules : RegistryRecord) (first host : H) (store kept : List Kept) (consents : List (Parties × ℕ)) (history : List Event) (m : ℕ) (refused : Bool) (o : Outcome) (reply : Written) →
+  pub store_step : (rules : RegistryRecord) (first host : H) (store kept : List Kept) (consents : KeptConsents) (history : List Event) (m : ℕ) (refused : Bool) (o : Outcome) (reply : Written) →
       FitsServer installs removes (record { rules = rules; host = host; store = store; consents = consents; greatest = m }) rules first history m →
       IsSound rules history m o → IsDone (chosen refused o) reply kept history m →
       IsStep installs removes (chosen refused o) reply (record { rules = rules; host = host; store = kept; consents = consents; greatest = m }) rules first history m
@@ -75,7 +74,7 @@ module _ {H : Type 0} (installs : H → List ℕ → Layout → List ℕ → H �
       quiet_done installs removes (record { rules = rules; host = host; store = store; consents = consents; greatest = m }) rules first history m m (chosen refused o) reply kept fits done chosen_one.quiet chosen_one.right
 
   -- a request that changes nothing
-  pub told_step : (rules : RegistryRecord) (first host : H) (store : List Kept) (consents : List (Parties × ℕ)) (history : List Event) (m : ℕ) (refused : Bool) (o : Outcome) (reply : Written) →
+  pub told_step : (rules : RegistryRecord) (first host : H) (store : List Kept) (consents : KeptConsents) (history : List Event) (m : ℕ) (refused : Bool) (o : Outcome) (reply : Written) →
       FitsServer installs removes (record { rules = rules; host = host; store = store; consents = consents; greatest = m }) rules first history m →
       IsSound rules history m o → IsUndone (chosen refused o) reply →
       IsStep installs removes (chosen refused o) reply (record { rules = rules; host = host; store = store; consents = consents; greatest = m }) rules first history m
@@ -84,7 +83,7 @@ module _ {H : Type 0} (installs : H → List ℕ → Layout → List ℕ → H �
       (nothing_done (chosen refused o) reply store history m fits.number undone.nothing undone.reply_is fits.store)
 
   -- what the changes come to, one part after the other
-  pub whole_step : (rules : RegistryRecord) (first old new : H) (store kept : List Kept) (before after : List (Parties × ℕ)) (history : List Event) (m : ℕ) (o : Outcome) (reply : Written) →
+  pub whole_step : (rules : RegistryRecord) (first old new : H) (store kept : List Kept) (before after : KeptConsents) (history : List Event) (m : ℕ) (o : Outcome) (reply : Written) →
       FitsServer installs removes (record { rules = rules; host = old; store = store; consents = before; greatest = m }) rules first history m →
       IsDone o reply kept history m → FitsConsents after (with_changes history m o.changes) →
       HostRun installs removes first (with_changes history m o.changes) new → AllRightAfter rules history m o.changes →

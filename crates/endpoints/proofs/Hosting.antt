@@ -11,7 +11,7 @@ use Rattle.consent.specs.Growth.{is_consent, may_end}
 use Rattle.consent.specs.GrowthLaws.{grant_at-push_none, unexpired_count-push_none, is_spent-push_other, has_ended-push_other, code_terms-push_none, with_changes-cons}
 use Rattle.consent.specs.HistoryLaws.{is_history-push}
 use Rattle.consent.specs.ConsentLaws.{fits_consents-changes_other}
-use Rattle.consent.specs.declared.parties.Parties.{Parties}
+use Rattle.consent.specs.Consents.{KeptConsents}
 use Rattle.grant_store.specs.Kept.{Kept}
 use Rattle.grant_store.specs.Fits.{FitsStore, seen}
 use Rattle.messages.specs.Written.{Written}
@@ -102,7 +102,7 @@ module _ {H : Type 0} (installs : H → List ℕ → Layout → List ℕ → H �
       (host_more first steps.0 new (with_change history m c) m cs (host_push installs removes first old steps.0 history (event_at m c) run steps.1) steps.2)
 
   -- a request that changes at most the hooks
-  pub hooks_step : (rules : RegistryRecord) (first old new : H) (store : List Kept) (consents : List (Parties × ℕ)) (history : List Event) (m : ℕ) (o : Outcome) (reply : Written) →
+  pub hooks_step : (rules : RegistryRecord) (first old new : H) (store : List Kept) (consents : KeptConsents) (history : List Event) (m : ℕ) (o : Outcome) (reply : Written) →
       FitsServer installs removes (record { rules = rules; host = old; store = store; consents = consents; greatest = m }) rules first history m →
       list_all of_hooks o.changes ≡ true → IsHooked installs removes o reply old new →
       IsStep installs removes o reply (record { rules = rules; host = new; store = store; consents = consents; greatest = m }) rules first history m

@@ -4,8 +4,7 @@ use Rattle.params.specs.Scope.{scope_text}
 use Rattle.clients.specs.RegistryRecord.{RegistryRecord}
 use Rattle.consent.specs.History.{Event, with_change, has_consent_room}
 use Rattle.consent.specs.History.Change.{Consented}
-use Rattle.consent.specs.Consents.{FitsConsents}
-use Rattle.consent.specs.declared.parties.Parties.{Parties}
+use Rattle.consent.specs.Consents.{KeptConsents, FitsConsents}
 use Rattle.grant_store.specs.Kept.{Kept}
 use Rattle.grant_store.specs.Fits.{FitsStore}
 use Rattle.messages.specs.Reply.{plain}
@@ -18,7 +17,7 @@ use Rattle.grants.specs.DoneLaws.{undone_done}
 use Rattle.grants.specs.ShortLaws.{written_short}
 
 -- nothing happened
-pub undone_consented : (o : Outcome) (reply : Written) (kept : List Kept) (consents : List (Parties × ℕ)) (history : List Event) (m : ℕ) (number : ℕ → ℕ) →
+pub undone_consented : (o : Outcome) (reply : Written) (kept : List Kept) (consents : KeptConsents) (history : List Event) (m : ℕ) (number : ℕ → ℕ) →
     IsUndone o reply → FitsStore kept history m number → FitsConsents consents history →
     IsConsentDone o reply kept consents history m
 undone_consented o reply kept consents history m number undone store fits = record {
@@ -27,7 +26,7 @@ undone_consented o reply kept consents history m number undone store fits = reco
 }
 
 -- the consent was kept
-pub kept_consented : (rules : RegistryRecord) (history : List Event) (owner client mask : ℕ) (reply : Written) (kept : List Kept) (consents : List (Parties × ℕ)) (m : ℕ) (number : ℕ → ℕ) →
+pub kept_consented : (rules : RegistryRecord) (history : List Event) (owner client mask : ℕ) (reply : Written) (kept : List Kept) (consents : KeptConsents) (m : ℕ) (number : ℕ → ℕ) →
     reply ≡ written (plain 200 (Consent (scope_text rules.scopes mask))) →
     has_consent_room history owner client mask ≡ true →
     FitsStore kept (with_change history m (Consented owner client mask)) m number →
@@ -37,7 +36,7 @@ kept_consented rules history owner client mask reply kept consents m number is r
     rw room record { done = record { reply_is = is; number = number; fits = store }; fits = fits }
 
 -- the outcome is another one's
-pub consented_by : (o p : Outcome) (reply : Written) (kept : List Kept) (consents : List (Parties × ℕ)) (history : List Event) (m : ℕ) →
+pub consented_by : (o p : Outcome) (reply : Written) (kept : List Kept) (consents : KeptConsents) (history : List Event) (m : ℕ) →
     o ≡ p → IsConsentDone p reply kept consents history m → IsConsentDone o reply kept consents history m
 consented_by o p reply kept consents history m same done = rw same done
 

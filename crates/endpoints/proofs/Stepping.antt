@@ -6,9 +6,8 @@ use Rattle.consent.specs.History.{Event, Change, event_at, with_change, with_cha
 use Rattle.consent.specs.History.Change.{Consented, CodeGiven, Issued, Spent, FamilyEnded, HookSet, HookGone}
 use Rattle.consent.specs.Growth.{is_consent}
 use Rattle.consent.specs.GrowthLaws.{with_changes-cons}
-use Rattle.consent.specs.Consents.{FitsConsents}
+use Rattle.consent.specs.Consents.{KeptConsents, FitsConsents}
 use Rattle.consent.specs.ConsentLaws.{fits_consents-push_other}
-use Rattle.consent.specs.declared.parties.Parties.{Parties}
 use Rattle.grant_store.specs.Kept.{Kept}
 use Rattle.messages.specs.Written.{Written}
 use Rattle.grants.specs.Outcomes.{Outcome}
@@ -40,7 +39,7 @@ no_consent (Issued family client owner kind digest scope life) q = refl
 no_consent (Spent digest) q = refl
 no_consent (FamilyEnded family) q = refl
 
-pub quiet_consents : (kept : List (Parties × ℕ)) (history : List Event) (m : ℕ) (changes : List Change) → AllQuiet changes →
+pub quiet_consents : (kept : KeptConsents) (history : List Event) (m : ℕ) (changes : List Change) → AllQuiet changes →
     FitsConsents kept history → FitsConsents kept (with_changes history m changes)
 quiet_consents kept history m [] q fits = rw (append-nil history) fits
 quiet_consents kept history m (c ∷ cs) q fits =

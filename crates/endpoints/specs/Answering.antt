@@ -1,8 +1,7 @@
 -- What answering a request comes to, whatever has happened before.
 use Rattle.std.specs.Prelude.{ℕ, List, Bool}
 use Rattle.consent.specs.History.{Event}
-use Rattle.consent.specs.Consents.{FitsConsents}
-use Rattle.consent.specs.declared.parties.Parties.{Parties}
+use Rattle.consent.specs.Consents.{KeptConsents, FitsConsents}
 use Rattle.grant_store.specs.Kept.{Kept}
 use Rattle.grant_store.specs.Fits.{FitsStore}
 use Rattle.messages.specs.Written.{Written}
@@ -11,13 +10,13 @@ use Rattle.grants.specs.Done.{IsConsentDone, IsUndone}
 use Rattle.grants.specs.Works.{Work, Does}
 
 -- whatever history the store and the consents answer as, its outcome was done
-abbrev pub AnswersConsented : Work → List (Parties × ℕ) → (List Event → Outcome) → Type 0
+abbrev pub AnswersConsented : Work → KeptConsents → (List Event → Outcome) → Type 0
 AnswersConsented work consents outcome =
     (history : List Event) (number : ℕ → ℕ) → FitsStore work.before history work.moment number → FitsConsents consents history →
     Does work history (outcome history)
 
 -- and it was done to the consents too
-abbrev pub AnswersConsents : Work → List (Parties × ℕ) → List (Parties × ℕ) → (List Event → Outcome) → Type 0
+abbrev pub AnswersConsents : Work → KeptConsents → KeptConsents → (List Event → Outcome) → Type 0
 AnswersConsents work before after outcome =
     (history : List Event) (number : ℕ → ℕ) → FitsStore work.before history work.moment number → FitsConsents before history →
     (refused : Bool) × IsConsentDone (chosen refused (outcome history)) work.reply work.after after history work.moment

@@ -2,7 +2,7 @@
 use Rattle.std.specs.Prelude.{◌≤◌, ℕ, List, [], Result, length, unwrap_or}
 use Rattle.grant_store.specs.declared.facts.CodeFacts.{CodeFacts}
 use Rattle.consent.specs.History.{Event}
-use Rattle.consent.specs.declared.parties.Parties.{Parties}
+use Rattle.consent.specs.Consents.{KeptConsents}
 use Rattle.messages.specs.Asked.{Asked}
 use Rattle.messages.specs.declared.error.ErrorName.{ErrorName}
 use Rattle.grants.specs.Outcomes.{Outcome}
@@ -28,7 +28,7 @@ abbrev pub GivesCode : Work → Parameters → CodeFacts → Type 0
 GivesCode work params facts = Answers work (λ history. code_by history work.moment work.draws.first params facts)
 
 -- a request for a code is answered by all points
-abbrev pub Authorizes : Work → List (Parties × ℕ) → Asked → Type 0
+abbrev pub Authorizes : Work → KeptConsents → Asked → Type 0
 Authorizes work consents asked =
     AnswersConsented work consents (λ history. authorize work.rules history asked work.moment work.draws.first)
 

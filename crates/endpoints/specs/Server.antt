@@ -3,8 +3,7 @@ use Rattle.std.specs.Prelude.{◌≡◌, ℕ, List, []}
 use Rattle.insn.specs.declared.layout.Layout.{Layout}
 use Rattle.clients.specs.RegistryRecord.{RegistryRecord}
 use Rattle.consent.specs.History.{Event, with_changes}
-use Rattle.consent.specs.Consents.{FitsConsents}
-use Rattle.consent.specs.declared.parties.Parties.{Parties}
+use Rattle.consent.specs.Consents.{KeptConsents, FitsConsents}
 use Rattle.grant_store.specs.Kept.{Kept}
 use Rattle.grant_store.specs.Fits.{FitsStore}
 use Rattle.messages.specs.Written.{Written, written}
@@ -17,7 +16,7 @@ pub record Seen (H : Type 0) : Type 0 where
   pub rules : RegistryRecord
   pub host : H
   pub store : List Kept
-  pub consents : List (Parties × ℕ)
+  pub consents : KeptConsents
   -- the greatest moment that a request was handed
   pub greatest : ℕ
 

@@ -4,7 +4,7 @@ use Rattle.hook_host.specs.declared.fault.HookFault.{HookFault}
 use Rattle.hook_host.specs.declared.host.HookHost.{Ghosts as Hosting}
 use Rattle.clients.specs.RegistryRecord.{RegistryRecord}
 use Rattle.consent.specs.History.{Event}
-use Rattle.consent.specs.declared.parties.Parties.{Parties}
+use Rattle.consent.specs.Consents.{KeptConsents}
 use Rattle.grant_store.specs.Kept.{Kept}
 use Rattle.messages.specs.Asked.{Asked}
 use Rattle.messages.specs.Written.{Written}
@@ -45,7 +45,7 @@ abbrev pub arrival_in : Setting → Asked → Arrival
 arrival_in setting asked = record { asked = asked; moment = setting.moment; draws = setting.draws.now }
 
 -- the server of the setting, with this host, store and consents
-abbrev pub server_in : {H : Type 0} → Setting → H → List Kept → List (Parties × ℕ) → Seen H
+abbrev pub server_in : {H : Type 0} → Setting → H → List Kept → KeptConsents → Seen H
 server_in setting host store consents =
     record { rules = setting.rules.now; host = host; store = store; consents = consents; greatest = setting.moment }
 

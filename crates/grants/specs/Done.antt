@@ -1,8 +1,7 @@
 -- What the work on a request has done to the store.
 use Rattle.std.specs.Prelude.{◌≡◌, ◌<◌, ℕ, List, [], length}
 use Rattle.consent.specs.History.{Event, with_changes}
-use Rattle.consent.specs.Consents.{FitsConsents}
-use Rattle.consent.specs.declared.parties.Parties.{Parties}
+use Rattle.consent.specs.Consents.{KeptConsents, FitsConsents}
 use Rattle.grant_store.specs.Kept.{Kept}
 use Rattle.grant_store.specs.Fits.{FitsStore}
 use Rattle.messages.specs.Written.{Written, written, reply_bytes}
@@ -15,7 +14,7 @@ pub record IsDone (outcome : Outcome) (reply : Written) (kept : List Kept) (hist
   pub fits : FitsStore kept (with_changes history m outcome.changes) m number
 
 -- and so do the consents
-pub record IsConsentDone (outcome : Outcome) (reply : Written) (kept : List Kept) (consents : List (Parties × ℕ)) (history : List Event) (m : ℕ) : Type 0 where
+pub record IsConsentDone (outcome : Outcome) (reply : Written) (kept : List Kept) (consents : KeptConsents) (history : List Event) (m : ℕ) : Type 0 where
   pub done : IsDone outcome reply kept history m
   pub fits : FitsConsents consents (with_changes history m outcome.changes)
 

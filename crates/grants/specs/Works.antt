@@ -2,8 +2,7 @@
 use Rattle.std.specs.Prelude.{ℕ, List, Bool}
 use Rattle.clients.specs.RegistryRecord.{RegistryRecord}
 use Rattle.consent.specs.History.{Event}
-use Rattle.consent.specs.Consents.{FitsConsents}
-use Rattle.consent.specs.declared.parties.Parties.{Parties}
+use Rattle.consent.specs.Consents.{KeptConsents, FitsConsents}
 use Rattle.hook_record.specs.declared.Ask.{Ask}
 use Rattle.hook_record.specs.declared.Narrowed.{Narrowed}
 use Rattle.grant_store.specs.Kept.{Kept}
@@ -35,10 +34,10 @@ work_of setting before after reply = record {
 
 -- what the owners consent to, and what the host answers
 pub record Deciders : Type 0 where
-  pub consents : List (Parties × ℕ)
+  pub consents : KeptConsents
   pub answer : Ask → Narrowed
 
-abbrev pub deciders : List (Parties × ℕ) → (Ask → Narrowed) → Deciders
+abbrev pub deciders : KeptConsents → (Ask → Narrowed) → Deciders
 deciders consents answer = record { consents = consents; answer = answer }
 
 -- after the history, the outcome was done, or 503 was answered since memory was refused

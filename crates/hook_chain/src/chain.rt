@@ -1,7 +1,7 @@
 //! The server's own host: hooks that answer one after the other.
 
 ghost use Rattle.std.specs.Prelude.{◌≡◌, ◌↔◌, ◌<◌, ◌≤◌, ◌∷◌, ◌++◌, [], Contains, IsTrue, IfOk, IfErr, IsOk, OnOk, OnErr, length};
-ghost use Rattle.hook_host.specs.Names.{hook_limit};
+ghost use Rattle.hook_host.specs.Names.{AreHookNames, hook_limit};
 ghost use Rattle.hook_chain.specs.Chains.{Accepts, HasNoPlace, HasPlace, IsAcceptedCode, IsInstalled, IsNotTaken, IsRemoved, RefusesInstall, RefusesRemove, has_name, hooks_of, names_of};
 ghost use Rattle.hook_chain.specs.Exits.{narrowed_by};
 
@@ -61,7 +61,8 @@ impl Chain {
 
     /// Whether a hook has a name.
     fn has(&self, name: &str) -> bool
-        ensures { result ≡ has_name self.now name.now }
+        ensures value { result ≡ has_name self.now name.now }
+        ensures names { AreHookNames (names_of self.now) }
     {
         self.hooks.iter().any(|hook| name == hook.name.as_str())
     }
@@ -144,7 +145,7 @@ impl HookHost for Chain {
             alloc: _,
             hooks: mut new,
         } = checked;
-        if self.hooks.is_empty() {
+        if self.hooks.as_slice().is_empty() {
             self.hooks = new;
         } else {
             let moved: Result<_, _> = self.hooks.append(&mut new);

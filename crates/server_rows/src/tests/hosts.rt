@@ -20,6 +20,8 @@ impl HookHost for Answering {
 
     ghost names = { λ _. [] };
 
+    ghost accepts = { λ old name layout code checked. ⊥ };
+
     ghost installs = { λ old name layout code new. ⊥ };
 
     ghost removes = { λ old name new. ⊥ };
@@ -32,13 +34,17 @@ impl HookHost for Answering {
         self.answer
     }
 
-    fn install(&mut self, _name: &str, _layout: Layout, _code: &[u8]) -> Result<(), HookFault> {
+    fn check(&self, _name: &str, _layout: Layout, _code: &[u8]) -> Result<Answering, HookFault> {
         Err(HookFault::Full)
     }
 
-    fn remove(&mut self, _name: &str) -> Result<(), HookFault> {
+    fn take(&mut self, _checked: Answering) {}
+
+    fn check_removal(&self, _name: &str) -> Result<(), HookFault> {
         Err(HookFault::Unknown)
     }
+
+    fn drop_named(&mut self, _name: &str) {}
 
     fn name_at(&self, _i: usize) -> Option<&str> {
         None

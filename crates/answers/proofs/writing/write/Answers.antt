@@ -1,5 +1,4 @@
 use Rattle.std.proofs.Common.{rules, ◌≤◌, refl, length, arith}
-use Rattle.clients.specs.Limits.{identifier_limit}
 use Rattle.hook_host.specs.Names.{name_limit}
 use Rattle.messages.specs.Reply.{plain}
 use Rattle.messages.specs.Reply.Body.{Empty, Failure, Inactive, Hook}
@@ -23,9 +22,8 @@ pub returns-in-NotAllowed-clause-short : goal.returns-in-NotAllowed-clause-short
 returns-in-NotAllowed-clause-short g c = λ _. written_short (plain 405 Empty) c.bare-in-NotAllowed.result (record { status = refl; short = tt }) c.bare-in-NotAllowed.ensures
 
 pub returns-in_ok-scope-in-Active-clause-short : goal.returns-in_ok-scope-in-Active-clause-short
-returns-in_ok-scope-in-Active-clause-short g c = λ short.
-    let named : length c.in-Active.client.now ≤ identifier_limit = rw c.in-Active.is at short in
-    c.live.ensures.short (record { client = named; scope = rw c.deref.ensures c.in_ok-scope-in-Active.ensures.short })
+returns-in_ok-scope-in-Active-clause-short g c = λ _.
+    c.live.ensures.short (record { client = c.id_of.ensures.short; scope = rw c.deref.ensures c.in_ok-scope-in-Active.ensures.short })
 
 pub returns-in-Inactive-clause-short : goal.returns-in-Inactive-clause-short
 returns-in-Inactive-clause-short g c = λ _. if_short c.inactive.result (plain 200 Inactive) (record { status = refl; short = tt }) (search rules)

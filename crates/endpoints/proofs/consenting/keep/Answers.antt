@@ -22,7 +22,7 @@ returns-in_default-set c = record {
   done = λ history number store fits. (
     true,
     undone_consented unavailable _ _ _ history c.args.setting.now.moment number (record { reply_is = c.unavailable-in_default-set.ensures.value; nothing = refl }) store
-        (rw c.in_default-set.ensures.err fits),
+        (c.in_default-set.ensures.err history fits),
   );
   short = c.unavailable-in_default-set.ensures.short;
 }

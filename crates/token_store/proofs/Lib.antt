@@ -1,0 +1,15 @@
+pub mod Adding
+pub mod Counting
+pub mod Dropping
+pub mod Expiring
+pub mod Families
+pub mod Issuing
+pub mod Looking
+pub mod Marked
+pub mod Marking
+pub mod Opening
+pub mod Settling
+pub mod Spending
+pub mod Telling
+pub mod Tying
+pub mod Waiting
