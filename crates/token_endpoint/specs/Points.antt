@@ -1,0 +1,56 @@
+-- The points of a request for tokens in a scene, where the host answers so.
+use Rattle.std.specs.Prelude.{ℕ, List, [], ◌∷◌}
+use Rattle.consent.specs.History.{Grant}
+use Rattle.consent.specs.History.Change.{Spent}
+use Rattle.hook_record.specs.declared.Ask.{Ask}
+use Rattle.hook_record.specs.declared.Narrowed.{Narrowed}
+use Rattle.messages.specs.Asked.{Asked}
+use Rattle.answers.specs.Outcomes.{Outcome, unless_taken}
+use Rattle.answers.specs.Replies.{both_reply}
+use Rattle.answers.specs.Requesters.{Parameters, KnownClient}
+use Rattle.answers.specs.Scene.{Scene}
+use Rattle.token_endpoint.specs.Grants.{access_issued, refresh_issued, both_digests}
+use Rattle.token_endpoint.specs.ClientCredentials as credentials
+use Rattle.token_endpoint.specs.Exchange as exchange
+use Rattle.token_endpoint.specs.Refresh as refresh
+use Rattle.token_endpoint.specs.TokenPath as token
+use Rattle.token_endpoint.specs.declared.exchange.Presented.{Presented}
+
+-- an access token, and a refresh token of the scope that is kept, in the family of what is used up, which is spent
+abbrev pub both_for : Scene → Grant → ℕ → ℕ → ℕ → Outcome
+both_for s used scope life kept =
+    unless_taken s.history s.moment (both_digests s.draws)
+    (record {
+      reply = both_reply s.rules s.draws scope life;
+      changes = access_issued used.family used.client used.owner s.draws.first scope life
+          ∷ refresh_issued used.family used.client used.owner s.draws.second kept s.rules.refresh_life
+          ∷ Spent used.digest
+          ∷ [];
+    })
+
+-- the points from the code's on
+abbrev pub exchange_at : Scene → (Ask → Narrowed) → KnownClient → Presented → Outcome
+exchange_at s answer known sent =
+    exchange.code_points s.history s.moment known.number sent.uri.now sent.verifier.now sent.digest
+    (exchange.exchange_code s.rules s.history answer s.moment s.draws known.client sent.digest)
+
+-- POST /token with grant_type authorization_code
+abbrev pub exchange_in : Scene → (Ask → Narrowed) → Parameters → KnownClient → Outcome
+exchange_in s answer params known = exchange.exchange s.rules s.history answer s.moment s.draws params known
+
+-- with grant_type refresh_token
+abbrev pub refresh_in : Scene → (Ask → Narrowed) → Parameters → KnownClient → Outcome
+refresh_in s answer params known = refresh.refresh s.rules s.history answer s.moment s.draws params known
+
+-- and with grant_type client_credentials
+abbrev pub credentials_in : Scene → (Ask → Narrowed) → Parameters → KnownClient → Outcome
+credentials_in s answer params known =
+    credentials.client_credentials s.rules s.history answer s.moment s.draws params known
+
+-- POST /token, once the client is known
+abbrev pub points_in : Scene → (Ask → Narrowed) → Parameters → KnownClient → Outcome
+points_in s answer params known = token.token_points s.rules s.history answer s.moment s.draws params known
+
+-- POST /token
+abbrev pub token_in : Scene → (Ask → Narrowed) → Asked → Outcome
+token_in s answer asked = token.issue_token s.rules s.history answer asked s.moment s.draws
