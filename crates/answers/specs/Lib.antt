@@ -8,3 +8,4 @@ pub mod Scene
 pub mod Told
 pub mod Found
 pub mod FoundLaws
+pub mod FollowsLaws

@@ -12,12 +12,12 @@ pub struct Decision<'a> {
 }
 
 impl<'a> Decision<'a> {
-    /// An answer with which nothing happens.
-    pub fn only(answer: Answer<'a>) -> Decision<'a>
-        ensures { result ≡ record { answer = answer.entry; changes = Changes.Nothing } }
+    /// 503, with which nothing happens.
+    pub fn unavailable() -> Decision<'a>
+        ensures { result ≡ record { answer = Answer.Unavailable; changes = Changes.Nothing } }
     {
         Decision {
-            answer,
+            answer: Answer::Unavailable,
             changes: Changes::Nothing,
         }
     }

@@ -1,4 +1,4 @@
--- What a request for tokens changes may come next in the history.
+-- What a request for tokens changes may come next in the history. Only proofs cite this module.
 use Rattle.std.proofs.Common.{◌≡◌, ◌∙◌, ℕ, List, [], ◌∷◌, ◌++◌, Bool, true, false, Option, Some, None, refl, sym, ap, inl, inr}
 use Rattle.std.specs.Prelude.{length, not, codes, bytes_eq, if◌then◌else◌, Result, Ok, Err}
 use Rattle.sha2.specs.Sha256.{sha256}
@@ -30,49 +30,15 @@ use Rattle.answers.specs.Outcomes.{Outcome, point, need, only, refuse, status_of
 use Rattle.answers.specs.Requesters.{Parameters, KnownClient, known_client, scope_within, form_of, with_client}
 use Rattle.answers.specs.Texts.{where_passes, digest_told}
 use Rattle.answers.specs.Tokens.{is_own, code_of_client, refresh_of_client}
-use Rattle.token_endpoint.specs.Grants.{left_of, access_issued, refresh_issued, access_reply, both_reply, both_digests}
+use Rattle.answers.specs.Replies.{access_reply, both_reply}
+use Rattle.token_endpoint.specs.Grants.{left_of, access_issued, refresh_issued, both_digests}
 use Rattle.token_endpoint.specs.Exchange as exchange
 use Rattle.token_endpoint.specs.Exchange.{ends_family}
 use Rattle.token_endpoint.specs.Refresh as refresh
 use Rattle.token_endpoint.specs.ClientCredentials as credentials
 use Rattle.token_endpoint.specs.TokenPath.{grant_points, token_points, type_points, issue_token}
 use Rattle.consent.specs.Changes.{AllFollow}
-use Rattle.token_endpoint.specs.Points.{both_for}
-
--- its changes may come next
-pub record Follows (history : List Event) (m : ℕ) (o : Outcome) : Type 0 where
-  pub all : AllFollow history m o.changes
-
--- what passes a test is there
-there : {A : Type 0} (test : A → Bool) (o : Option A) (x : A) → where_passes test o ≡ Some x → o ≡ Some x
-there test None x e = absurd (cc)
-there {A = A} test (Some y) x e = by_test (test y) e
-  where
-    by_test : (b : Bool) → (if b then Some y else None) ≡ Some x → Some y ≡ Some x
-    by_test true h = h
-    by_test false h = absurd (cc)
-
-by_need : {A : Type 0} (history : List Event) (m : ℕ) (o : Option A) (without : Outcome) (later : A → Outcome) →
-    Follows history m without → ((x : A) → o ≡ Some x → Follows history m (later x)) → Follows history m (need o without later)
-by_need history m None without later a z = a
-by_need history m (Some x) without later a z = z x refl
-
-module _ (history : List Event) (m : ℕ) where
-  still : (reply : Reply) → Follows history m (only reply)
-  still reply = record { all = tt }
-
-  error : (name : ErrorName) → Follows history m (refuse name)
-  error name = still (plain (status_of name) (Failure name))
-
-  by_point : (b : Bool) (here later : Outcome) → Follows history m here → (b ≡ false → Follows history m later) → Follows history m (point b here later)
-  by_point true here later a z = a
-  by_point false here later a z = z refl
-
-  unless_taken : (digests : List (List ℕ)) (given : Outcome) → (is_taken history m digests ≡ false → Follows history m given) →
-      Follows history m (point (not (has_room history m digests)) unavailable (point (is_taken history m digests) unavailable given))
-  unless_taken digests given free =
-      by_point (not (has_room history m digests)) unavailable (point (is_taken history m digests) unavailable given) (still (plain 503 Empty))
-      (λ _. by_point (is_taken history m digests) unavailable given (still (plain 503 Empty)) free)
+use Rattle.answers.specs.FollowsLaws.{Follows, there, by_need, still, error, by_point, unless_taken, client_follows}
 
 module _ (rules : RegistryRecord) (history : List Event) (m : ℕ) (is : IsHistory history m) where
   ended : (digest : List ℕ) (g : Grant) → grant_at history digest m ≡ Some g → Follows history m (ends_family g)
@@ -87,37 +53,42 @@ module _ (rules : RegistryRecord) (history : List Event) (m : ℕ) (is : IsHisto
       })
       (λ free. record { all = ((inr (grant_at-kin history digest m g is.kin at), (is_taken-parts history m (sha256 draws.first) [] free).0), (tt, tt)) })
 
-  both_issued : (draws : Draws) (digest : List ℕ) (g : Grant) (scope life kept : ℕ) → grant_at history digest m ≡ Some g →
-      Follows history m (both_for rules history m draws digest g scope life kept)
-  both_issued draws digest g scope life kept at =
+  -- tokens of both draws in the family of what the digest names, which is spent
+  both_follow : (draws : Draws) (digest : List ℕ) (g : Grant) (scope life kept : ℕ) → grant_at history digest m ≡ Some g →
+      is_taken history m (both_digests draws) ≡ false →
+      AllFollow history m (access_issued g.family g.client g.owner draws.first scope life
+          ∷ refresh_issued g.family g.client g.owner draws.second kept rules.refresh_life ∷ Spent digest ∷ [])
+  both_follow draws digest g scope life kept at free =
+      let change : Change = access_issued g.family g.client g.owner draws.first scope life in
+      let first = (is_taken-parts history m (sha256 draws.first) (sha256 draws.second ∷ []) free).0 in
+      let can : CanFollow history m change = (inr (grant_at-kin history digest m g is.kin at), first) in
+      let next = is_history-push history m change is can in
+      let still_there = grant_at-keep history (event_at m change ∷ []) digest m g at in
+      let second = is_taken-push history (event_at m change) _ m (sha256 draws.second ∷ []) refl free in
+      let untaken = (is_taken-parts (with_change history m change) m (sha256 draws.second) [] second).0 in
+      (can, ((inr (grant_at-kin (with_change history m change) digest m g next.kin still_there), untaken), (tt, tt)))
+
+  both_issued : (draws : Draws) (digest : List ℕ) (g : Grant) (scope life : ℕ) → grant_at history digest m ≡ Some g →
+      Follows history m (exchange.exchanged_for true rules history m draws digest g scope life)
+  both_issued draws digest g scope life at =
       unless_taken history m (both_digests draws) (record {
         reply = both_reply rules draws scope life;
         changes = access_issued g.family g.client g.owner draws.first scope life
-            ∷ refresh_issued g.family g.client g.owner draws.second kept rules.refresh_life
+            ∷ refresh_issued g.family g.client g.owner draws.second scope rules.refresh_life
             ∷ Spent digest
             ∷ [];
-      }) given
-    where
-      given : is_taken history m (both_digests draws) ≡ false → Follows history m (record {
+      }) (λ free. record { all = both_follow draws digest g scope life scope at free })
+
+  rotated : (draws : Draws) (digest : List ℕ) (g : Grant) (scope life : ℕ) → grant_at history digest m ≡ Some g →
+      Follows history m (refresh.rotated rules history m draws digest g scope life)
+  rotated draws digest g scope life at =
+      unless_taken history m (both_digests draws) (record {
         reply = both_reply rules draws scope life;
         changes = access_issued g.family g.client g.owner draws.first scope life
-            ∷ refresh_issued g.family g.client g.owner draws.second kept rules.refresh_life
+            ∷ refresh_issued g.family g.client g.owner draws.second g.scope rules.refresh_life
             ∷ Spent digest
             ∷ [];
-      })
-      given free =
-          let change : Change = access_issued g.family g.client g.owner draws.first scope life in
-          let first = (is_taken-parts history m (sha256 draws.first) (sha256 draws.second ∷ []) free).0 in
-          let can : CanFollow history m change = (inr (grant_at-kin history digest m g is.kin at), first) in
-          let next = is_history-push history m change is can in
-          let still_there = grant_at-keep history (event_at m change ∷ []) digest m g at in
-          let second = is_taken-push history (event_at m change) _ m (sha256 draws.second ∷ []) refl free in
-          record {
-            all = (
-              can,
-              ((inr (grant_at-kin (with_change history m change) digest m g next.kin still_there), (is_taken-parts (with_change history m change) m (sha256 draws.second) [] second).0), (tt, tt)),
-            );
-          }
+      }) (λ free. record { all = both_follow draws digest g scope life g.scope at free })
 
   exchanged : (draws : Draws) (client : ClientRecord) (digest : List ℕ) (g : Grant) (left : Narrowed) → grant_at history digest m ≡ Some g →
       Follows history m (exchange.exchanged rules history m draws client digest g left)
@@ -127,13 +98,13 @@ module _ (rules : RegistryRecord) (history : List Event) (m : ℕ) (is : IsHisto
     where
       by_grant : (b : Bool) → Follows history m (exchange.exchanged_for b rules history m draws digest g scope life)
       by_grant false = one_issued draws digest g scope life at
-      by_grant true = both_issued draws digest g scope life scope at
+      by_grant true = both_issued draws digest g scope life at
 
   refreshed : (draws : Draws) (digest : List ℕ) (g : Grant) (left : Narrowed) → grant_at history digest m ≡ Some g →
       Follows history m (refresh.refreshed rules history m draws digest g left)
   refreshed draws digest g Denied at = error history m InvalidGrant
   refreshed draws digest g EmptyScope at = error history m InvalidScope
-  refreshed draws digest g (Allowed scope life) at = both_issued draws digest g scope life g.scope at
+  refreshed draws digest g (Allowed scope life) at = rotated draws digest g scope life at
 
   granted : (draws : Draws) (number : ℕ) (left : Narrowed) → Follows history m (credentials.granted rules history m draws number left)
   granted draws number Denied = error history m UnauthorizedClient
@@ -216,20 +187,11 @@ module _ (rules : RegistryRecord) (history : List Event) (m : ℕ) (is : IsHisto
       by_point history m (not (has_grant grant known.client.grants)) (refuse UnauthorizedClient) (next grant) (error history m UnauthorizedClient) (λ _.
       grant_follows grant answer draws params known)))
 
-  client_follows : (r : Result ℕ AuthFault) (next : KnownClient → Outcome) → ((known : KnownClient) → Follows history m (next known)) →
-      Follows history m (with_client rules r next)
-  client_follows (Ok number) next each = by_need {A = KnownClient} history m (known_client rules number) unavailable next (still history m (plain 503 Empty)) (λ known _. each known)
-  client_follows (Err auth.TwoMethods) next each = error history m InvalidRequest
-  client_follows (Err auth.NoClient) next each = error history m InvalidClient
-  client_follows (Err auth.BadSecret) next each = error history m InvalidClient
-  client_follows (Err auth.BadHeader) next each = error history m InvalidClient
-  client_follows (Err auth.Memory) next each = still history m (plain 503 Empty)
-
 pub issue_token_follows : (rules : RegistryRecord) (history : List Event) (answer : Ask → Narrowed) (asked : Asked) (m : ℕ) (draws : Draws) →
     IsHistory history m → AllFollow history m (issue_token rules history answer asked m draws).changes
 issue_token_follows rules history answer asked m draws is =
     let next : Parameters → KnownClient → Outcome = token_points rules history answer m draws in
     let follows : Follows history m (issue_token rules history answer asked m draws) =
     by_need {A = Parameters} history m (form_of asked) (refuse InvalidRequest) (λ params. with_client rules (authenticated rules.clients asked.authorization params) (next params)) (error history m InvalidRequest) (λ params _.
-    client_follows rules history m is (authenticated rules.clients asked.authorization params) (next params) (points_follow rules history m is answer draws params)) in
+    client_follows history m rules (authenticated rules.clients asked.authorization params) (next params) (points_follow rules history m is answer draws params)) in
     follows.all

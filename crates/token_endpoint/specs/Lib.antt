@@ -5,3 +5,4 @@ pub mod Refresh
 pub mod ClientCredentials
 pub mod TokenPath
 pub mod Points
+pub mod FollowingLaws

@@ -24,7 +24,7 @@ fn issue_own<'c>(view: &View<'_>, client: ClientNo, scope: u64, life: u32) -> De
     let token = access_token(view, scope, life);
     let first = token.digest;
     if !view.is_free(&[first]) {
-        return Decision::only(Answer::Unavailable);
+        return Decision::unavailable();
     }
     Decision {
         answer: Answer::Access {

@@ -100,7 +100,7 @@ pub(crate) fn access_for<'c>(
     let token = access_token(view, scope, life);
     let first = token.digest;
     if !view.is_free(&[first]) {
-        return Decision::only(Answer::Unavailable);
+        return Decision::unavailable();
     }
     let of = *digest;
     Decision {
@@ -133,7 +133,7 @@ pub(crate) fn both_for<'c>(
     let first = token.digest;
     let second = other.digest;
     if !view.is_free(&[first, second]) {
-        return Decision::only(Answer::Unavailable);
+        return Decision::unavailable();
     }
     let of = *digest;
     let access = Change::Issued { of, token };
