@@ -1,17 +1,15 @@
 -- What a request for tokens changes may come next in the history. Only proofs cite this module.
-use Rattle.std.proofs.Common.{◌≡◌, ◌∙◌, ℕ, List, [], ◌∷◌, ◌++◌, Bool, true, false, Option, Some, None, refl, sym, ap, inl, inr}
-use Rattle.std.specs.Prelude.{length, not, codes, bytes_eq, if◌then◌else◌, Result, Ok, Err}
+use Rattle.std.proofs.Common.{◌≡◌, ℕ, List, [], ◌∷◌, Bool, true, false, Some, refl, inl, inr}
+use Rattle.std.specs.Prelude.{length, not, codes, bytes_eq}
 use Rattle.sha2.specs.Sha256.{sha256}
 use Rattle.params.specs.Form.{value_of}
 use Rattle.clients.specs.RegistryRecord.{RegistryRecord}
 use Rattle.clients.specs.ClientRecord.{ClientRecord}
 use Rattle.clients.specs.Grants.{grant_named, has_grant}
 use Rattle.clients.specs.Authentication.{authenticated}
-use Rattle.clients.specs.declared.authentication.AuthFault.{AuthFault}
-use Rattle.clients.specs.declared.authentication.AuthFault.TheVariants as auth
 use Rattle.clients.specs.declared.grant.GrantType.{GrantType}
 use Rattle.clients.specs.declared.grant.GrantType.TheVariants.{AuthorizationCode, RefreshToken, ClientCredentials}
-use Rattle.consent.specs.History.{Event, Change, Grant, IsHistory, event_at, grant_at, is_code, is_spent, has_ended, has_room, is_taken, with_change, CanFollow}
+use Rattle.consent.specs.History.{Event, Change, Grant, IsHistory, event_at, grant_at, is_code, is_spent, has_ended, is_taken, with_change, CanFollow}
 use Rattle.consent.specs.History.Change.{Spent}
 use Rattle.consent.specs.HistoryLaws.{grant_at-placed, grant_at-kin, is_history-push}
 use Rattle.consent.specs.GrowthLaws.{grant_at-keep, is_taken-parts, is_taken-push}
@@ -20,15 +18,12 @@ use Rattle.hook_record.specs.declared.Ask.{Ask}
 use Rattle.hook_record.specs.declared.Narrowed.{Narrowed}
 use Rattle.hook_record.specs.declared.Narrowed.TheVariants.{Allowed, Denied, EmptyScope}
 use Rattle.pkce.specs.Proof.{proves}
-use Rattle.messages.specs.declared.error.ErrorName.{ErrorName}
-use Rattle.messages.specs.declared.error.ErrorName.TheVariants.{InvalidRequest, InvalidClient, InvalidGrant, InvalidScope, UnauthorizedClient, UnsupportedGrantType}
-use Rattle.messages.specs.Reply.{Reply, plain}
-use Rattle.messages.specs.Reply.Body.{Failure, Empty}
+use Rattle.messages.specs.declared.error.ErrorName.TheVariants.{InvalidRequest, InvalidGrant, InvalidScope, UnauthorizedClient, UnsupportedGrantType}
 use Rattle.messages.specs.declared.request.Draws.{Draws}
 use Rattle.messages.specs.Asked.{Asked}
-use Rattle.answers.specs.Outcomes.{Outcome, point, need, only, refuse, status_of, unavailable}
-use Rattle.answers.specs.Requesters.{Parameters, KnownClient, known_client, scope_within, form_of, with_client}
-use Rattle.answers.specs.Texts.{where_passes, digest_told}
+use Rattle.answers.specs.Outcomes.{Outcome, point, need, refuse}
+use Rattle.answers.specs.Requesters.{Parameters, KnownClient, scope_within, form_of, with_client}
+use Rattle.answers.specs.Texts.{digest_told}
 use Rattle.answers.specs.Tokens.{is_own, code_of_client, refresh_of_client}
 use Rattle.answers.specs.Replies.{access_reply, both_reply}
 use Rattle.token_endpoint.specs.Grants.{left_of, access_issued, refresh_issued, both_digests}
@@ -36,9 +31,9 @@ use Rattle.token_endpoint.specs.Exchange as exchange
 use Rattle.token_endpoint.specs.Exchange.{ends_family}
 use Rattle.token_endpoint.specs.Refresh as refresh
 use Rattle.token_endpoint.specs.ClientCredentials as credentials
-use Rattle.token_endpoint.specs.TokenPath.{grant_points, token_points, type_points, issue_token}
+use Rattle.token_endpoint.specs.TokenPath.{grant_points, token_points, issue_token}
 use Rattle.consent.specs.Changes.{AllFollow}
-use Rattle.answers.specs.FollowsLaws.{Follows, there, by_need, still, error, by_point, unless_taken, client_follows}
+use Rattle.answers.specs.FollowsLaws.{Follows, there, by_need, error, by_point, unless_taken, client_follows}
 
 module _ (rules : RegistryRecord) (history : List Event) (m : ℕ) (is : IsHistory history m) where
   ended : (digest : List ℕ) (g : Grant) → grant_at history digest m ≡ Some g → Follows history m (ends_family g)
@@ -57,7 +52,7 @@ module _ (rules : RegistryRecord) (history : List Event) (m : ℕ) (is : IsHisto
   both_follow : (draws : Draws) (digest : List ℕ) (g : Grant) (scope life kept : ℕ) → grant_at history digest m ≡ Some g →
       is_taken history m (both_digests draws) ≡ false →
       AllFollow history m (access_issued g.family g.client g.owner draws.first scope life
-          ∷ refresh_issued g.family g.client g.owner draws.second kept rules.refresh_life ∷ Spent digest ∷ [])
+      ∷ refresh_issued g.family g.client g.owner draws.second kept rules.refresh_life ∷ Spent digest ∷ [])
   both_follow draws digest g scope life kept at free =
       let change : Change = access_issued g.family g.client g.owner draws.first scope life in
       let first = (is_taken-parts history m (sha256 draws.first) (sha256 draws.second ∷ []) free).0 in

@@ -1,5 +1,5 @@
 -- The tokens that are issued.
-use Rattle.std.specs.Prelude.{ℕ, List}
+use Rattle.std.specs.Prelude.{ℕ}
 use Rattle.sha2.specs.Sha256.{sha256}
 use Rattle.clients.specs.RegistryRecord.{RegistryRecord}
 use Rattle.consent.specs.declared.change.NewToken.{NewToken}

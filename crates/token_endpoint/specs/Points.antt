@@ -1,20 +1,34 @@
 -- The points of a request for tokens in a scene, where the host answers so.
-use Rattle.std.specs.Prelude.{ℕ, List, [], ◌∷◌}
-use Rattle.consent.specs.History.{Grant}
+use Rattle.std.specs.Prelude.{ℕ, List, [], ◌∷◌, false}
+use Rattle.clients.specs.ClientRecord.{ClientRecord}
+use Rattle.consent.specs.History.{Event, Grant, consented_scope}
 use Rattle.consent.specs.History.Change.{Spent}
 use Rattle.hook_record.specs.declared.Ask.{Ask}
 use Rattle.hook_record.specs.declared.Narrowed.{Narrowed}
 use Rattle.messages.specs.Asked.{Asked}
+use Rattle.token_store.specs.Found.{owner_number}
+use Rattle.answers.specs.declared.view.View.{View}
 use Rattle.answers.specs.Outcomes.{Outcome, unless_taken}
 use Rattle.answers.specs.Replies.{both_reply}
 use Rattle.answers.specs.Requesters.{Parameters, KnownClient}
 use Rattle.answers.specs.Scene.{Scene}
-use Rattle.token_endpoint.specs.Grants.{access_issued, refresh_issued, both_digests}
+use Rattle.token_endpoint.specs.Grants.{ask_for, access_issued, refresh_issued, both_digests}
 use Rattle.token_endpoint.specs.ClientCredentials as credentials
 use Rattle.token_endpoint.specs.Exchange as exchange
 use Rattle.token_endpoint.specs.Refresh as refresh
 use Rattle.token_endpoint.specs.TokenPath as token
 use Rattle.token_endpoint.specs.declared.exchange.Presented.{Presented}
+use Rattle.token_endpoint.specs.declared.granting.Wish.{Wish}
+
+-- the ask of a grant to the client
+abbrev pub wished : View → List Event → KnownClient → Wish → Ask
+wished view history known wish =
+    let owner = owner_number wish.owner in
+    ask_for view.rules.now wish.kind view.moment known.number known.client owner wish.scope (consented_scope history owner known.number)
+
+-- an access token in the family of what is used up, which is spent
+abbrev pub access_for : Scene → Grant → ℕ → ℕ → Outcome
+access_for s used scope life = exchange.exchanged_for false s.rules s.history s.moment s.draws used.digest used scope life
 
 -- an access token, and a refresh token of the scope that is kept, in the family of what is used up, which is spent
 abbrev pub both_for : Scene → Grant → ℕ → ℕ → ℕ → Outcome
@@ -27,6 +41,18 @@ both_for s used scope life kept =
           ∷ Spent used.digest
           ∷ [];
     })
+
+-- a client's own grant, by what the host left
+abbrev pub granted_in : Scene → ℕ → Narrowed → Outcome
+granted_in s client left = credentials.granted s.rules s.history s.moment s.draws client left
+
+-- the exchange of the client's code
+abbrev pub exchanged_in : Scene → ClientRecord → Grant → Narrowed → Outcome
+exchanged_in s client code left = exchange.exchanged s.rules s.history s.moment s.draws client code.digest code left
+
+-- the use of the refresh token
+abbrev pub refreshed_in : Scene → Grant → Narrowed → Outcome
+refreshed_in s token left = refresh.refreshed s.rules s.history s.moment s.draws token.digest token left
 
 -- the points from the code's on
 abbrev pub exchange_at : Scene → (Ask → Narrowed) → KnownClient → Presented → Outcome

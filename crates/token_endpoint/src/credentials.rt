@@ -1,10 +1,8 @@
 //! POST /token with grant_type client_credentials (RFC 6749, section 4.4).
-ghost use Rattle.std.specs.Prelude.{◌≡◌, ℕ, List, Some};
-ghost use Rattle.consent.specs.History.{Event};
-ghost use Rattle.answers.specs.Scene.{Shows, known_of, scene_of};
-ghost use Rattle.answers.specs.Told.{Decides, told};
-ghost use Rattle.token_endpoint.specs.ClientCredentials.{granted};
-ghost use Rattle.token_endpoint.specs.Points.{credentials_in};
+ghost use Rattle.std.specs.Prelude.{Ok};
+ghost use Rattle.answers.specs.Scene.{known_of};
+ghost use Rattle.answers.specs.Told.{DecidesBy};
+ghost use Rattle.token_endpoint.specs.Points.{credentials_in, granted_in};
 
 use crate::granting::{Wish, access_token, ask_for};
 use answers::{Answer, Decision, Halt, KnownClient, View, scope_within};
@@ -17,9 +15,7 @@ use params::Params;
 
 // An access token of the client's own, in a family of its own.
 fn issue_own<'c>(view: &View<'_>, client: ClientNo, scope: u64, life: u32) -> Decision<'c>
-    ensures { (history : List Event) (names : List (List ℕ)) → Shows view.now history →
-        told (scene_of view.now history names) result ≡ Some (granted view.now.rules.now history view.now.moment
-        view.now.draws.now client (Narrowed.Allowed scope life)) }
+    ensures { DecidesBy view.now (Ok result) (λ s. granted_in s client (Narrowed.Allowed scope life)) }
 {
     let token = access_token(view, scope, life);
     let first = token.digest;
@@ -38,9 +34,7 @@ fn issue_own<'c>(view: &View<'_>, client: ClientNo, scope: u64, life: u32) -> De
 
 // By what the host leaves.
 fn granted<'c>(view: &View<'_>, client: ClientNo, left: Narrowed) -> Result<Decision<'c>, Halt>
-    ensures { (history : List Event) (names : List (List ℕ)) → Shows view.now history →
-        Decides (scene_of view.now history names) result
-        (granted view.now.rules.now history view.now.moment view.now.draws.now client left) }
+    ensures { DecidesBy view.now result (λ s. granted_in s client left) }
 {
     match left {
         Narrowed::Denied => Err(Halt::Refuse(ErrorName::UnauthorizedClient)),
@@ -56,9 +50,7 @@ pub(crate) fn client_credentials<'c, H: HookHost>(
     params: &Params,
     known: &KnownClient<'_>,
 ) -> Result<Decision<'c>, Halt>
-    ensures { (history : List Event) (names : List (List ℕ)) → Shows view.now history →
-        Decides (scene_of view.now history names) result
-        (credentials_in (scene_of view.now history names) (H.answer host.now) params.now (known_of known.now)) }
+    ensures { DecidesBy view.now result (λ s. credentials_in s (H.answer host.now) params.now (known_of known.now)) }
 {
     let Some(scope) = scope_within(view.rules, known.client.allowed(), params) else {
         return Err(Halt::Refuse(ErrorName::InvalidScope));

@@ -1,12 +1,11 @@
 //! POST /token with grant_type authorization_code (RFC 6749, section 4.1.3).
-ghost use Rattle.std.specs.Prelude.{◌≡◌, ℕ, List, Some, IfSome, option_map};
+ghost use Rattle.std.specs.Prelude.{◌≡◌, List, IfSome, Ok};
 ghost use Rattle.consent.specs.History.{Event};
-ghost use Rattle.answers.specs.Found.{IsFound, grant_found};
-ghost use Rattle.answers.specs.Scene.{Shows, known_of, scene_of};
-ghost use Rattle.answers.specs.Told.{Decides, told};
+ghost use Rattle.answers.specs.Found.{IsFound};
+ghost use Rattle.answers.specs.Scene.{Finds, Shows, known_of};
+ghost use Rattle.answers.specs.Told.{DecidesBy, DecidesOf};
 ghost use Rattle.answers.specs.Tokens.{code_of_client};
-ghost use Rattle.token_endpoint.specs.Exchange.{exchanged, spent_in_vain};
-ghost use Rattle.token_endpoint.specs.Points.{exchange_at, exchange_in};
+ghost use Rattle.token_endpoint.specs.Points.{exchange_at, exchange_in, exchanged_in};
 
 use crate::granting::{Wish, access_for, ask_for, both_for, ending};
 use answers::{Answer, Decision, Halt, KnownClient, View, digest_told};
@@ -29,9 +28,7 @@ pub(crate) struct Presented<'a> {
 
 // The unexpired code of the digest, spent or not, which is the client's.
 fn own_code<'a>(view: &View<'a>, client: ClientNo, digest: &[u8; 32]) -> Option<Found<'a>>
-    ensures value { (history : List Event) → Shows view.now history →
-        option_map (grant_found history digest.now view.now.moment) result
-        ≡ code_of_client history view.now.moment client digest.now }
+    ensures value { Finds view.now digest.now result (λ history. code_of_client history view.now.moment client digest.now) }
     ensures found { (history : List Event) → Shows view.now history →
         IfSome result (IsFound history digest.now view.now.moment) }
     ensures own { IfSome result (λ code. code.client ≡ client) }
@@ -67,10 +64,7 @@ fn exchanged<'c>(
     code: &Found<'_>,
     left: Narrowed,
 ) -> Decision<'c>
-    ensures { (history : List Event) (names : List (List ℕ)) → Shows view.now history →
-        IsFound history digest.now view.now.moment code.now →
-        told (scene_of view.now history names) result ≡ Some (exchanged view.now.rules.now history view.now.moment
-        view.now.draws.now known.now.client.now digest.now (grant_found history digest.now view.now.moment code.now) left) }
+    ensures { DecidesOf view.now digest.now code.now (Ok result) (λ s code. exchanged_in s known.now.client.now code left) }
 {
     match left {
         Narrowed::Denied => spending(ErrorName::InvalidGrant, digest),
@@ -92,9 +86,7 @@ fn exchange_at<'c, H: HookHost>(
     known: &KnownClient<'_>,
     sent: &Presented<'_>,
 ) -> Result<Decision<'c>, Halt>
-    ensures { (history : List Event) (names : List (List ℕ)) → Shows view.now history →
-        Decides (scene_of view.now history names) result
-        (exchange_at (scene_of view.now history names) (H.answer host.now) (known_of known.now) sent.entry.now) }
+    ensures { DecidesBy view.now result (λ s. exchange_at s (H.answer host.now) (known_of known.now) sent.entry.now) }
 {
     let Some(code) = own_code(view, known.number, &sent.digest) else {
         return Err(Halt::Refuse(ErrorName::InvalidGrant));
@@ -122,9 +114,7 @@ pub(crate) fn exchange<'c, H: HookHost>(
     params: &Params,
     known: &KnownClient<'_>,
 ) -> Result<Decision<'c>, Halt>
-    ensures { (history : List Event) (names : List (List ℕ)) → Shows view.now history →
-        Decides (scene_of view.now history names) result
-        (exchange_in (scene_of view.now history names) (H.answer host.now) params.now (known_of known.now)) }
+    ensures { DecidesBy view.now result (λ s. exchange_in s (H.answer host.now) params.now (known_of known.now)) }
 {
     let Some(text) = params.get("code") else {
         return Err(Halt::Refuse(ErrorName::InvalidRequest));

@@ -1,14 +1,10 @@
 //! What a host is asked, and the tokens that are issued.
-ghost use Rattle.std.specs.Prelude.{◌≡◌, List, ℕ, Some, false};
-ghost use Rattle.consent.specs.History.{Event, consented_scope};
-ghost use Rattle.token_store.specs.Found.{owner_number};
-ghost use Rattle.answers.specs.Found.{IsFound, grant_found};
-ghost use Rattle.answers.specs.Scene.{Shows, scene_of};
-ghost use Rattle.answers.specs.Told.{told};
-ghost use Rattle.token_endpoint.specs.Exchange.{exchanged_for};
-ghost use Rattle.token_endpoint.specs.Grants.{ask_for};
+ghost use Rattle.std.specs.Prelude.{◌≡◌, List, Ok};
+ghost use Rattle.consent.specs.History.{Event};
+ghost use Rattle.answers.specs.Scene.{Shows, known_of};
+ghost use Rattle.answers.specs.Told.{DecidesOf};
 ghost use Rattle.token_endpoint.specs.Issuing.{access_token, refresh_token};
-ghost use Rattle.token_endpoint.specs.Points.{both_for};
+ghost use Rattle.token_endpoint.specs.Points.{access_for, both_for, wished};
 
 use answers::{Answer, Decision, KnownClient, View};
 use consent::{Change, Changes, NewToken, OwnerNo, TokenKind};
@@ -27,9 +23,7 @@ pub(crate) struct Wish {
 
 // The ask of a grant to the client.
 pub(crate) fn ask_for(view: &View<'_>, known: &KnownClient<'_>, wish: Wish) -> Ask
-    ensures { (history : List Event) → Shows view.now history →
-        result ≡ ask_for view.now.rules.now wish.kind view.now.moment known.now.number known.now.client.now
-        (owner_number wish.owner) wish.scope (consented_scope history (owner_number wish.owner) known.now.number) }
+    ensures { (history : List Event) → Shows view.now history → result ≡ wished view.now history (known_of known.now) wish }
 {
     let owner = match wish.owner {
         Some(owner) => u64::from(owner.get()),
@@ -92,10 +86,7 @@ pub(crate) fn access_for<'c>(
     scope: u64,
     life: u32,
 ) -> Decision<'c>
-    ensures { (history : List Event) (names : List (List ℕ)) → Shows view.now history →
-        IsFound history digest.now view.now.moment used.now →
-        told (scene_of view.now history names) result ≡ Some (exchanged_for false view.now.rules.now history view.now.moment
-        view.now.draws.now digest.now (grant_found history digest.now view.now.moment used.now) scope life) }
+    ensures { DecidesOf view.now digest.now used.now (Ok result) (λ s used. access_for s used scope life) }
 {
     let token = access_token(view, scope, life);
     let first = token.digest;
@@ -123,10 +114,7 @@ pub(crate) fn both_for<'c>(
     life: u32,
     kept: u64,
 ) -> Decision<'c>
-    ensures { (history : List Event) (names : List (List ℕ)) → Shows view.now history →
-        IsFound history digest.now view.now.moment used.now →
-        told (scene_of view.now history names) result ≡ Some (both_for (scene_of view.now history names)
-        (grant_found history digest.now view.now.moment used.now) scope life kept) }
+    ensures { DecidesOf view.now digest.now used.now (Ok result) (λ s used. both_for s used scope life kept) }
 {
     let token = access_token(view, scope, life);
     let other = refresh_token(view, kept);

@@ -1,12 +1,11 @@
 //! POST /token with grant_type refresh_token, which rotates (RFC 6749, section 6).
-ghost use Rattle.std.specs.Prelude.{◌≡◌, ℕ, List, IfSome, option_map};
+ghost use Rattle.std.specs.Prelude.{◌≡◌, List, IfSome};
 ghost use Rattle.consent.specs.History.{Event};
-ghost use Rattle.answers.specs.Found.{IsFound, grant_found};
-ghost use Rattle.answers.specs.Scene.{Shows, known_of, scene_of};
-ghost use Rattle.answers.specs.Told.{Decides};
+ghost use Rattle.answers.specs.Found.{IsFound};
+ghost use Rattle.answers.specs.Scene.{Finds, Shows, known_of};
+ghost use Rattle.answers.specs.Told.{DecidesBy, DecidesOf};
 ghost use Rattle.answers.specs.Tokens.{refresh_of_client};
-ghost use Rattle.token_endpoint.specs.Refresh.{refreshed};
-ghost use Rattle.token_endpoint.specs.Points.{refresh_in};
+ghost use Rattle.token_endpoint.specs.Points.{refresh_in, refreshed_in};
 
 use crate::granting::{Wish, ask_for, both_for, ending};
 use answers::{Decision, Halt, KnownClient, View, digest_told, scope_within};
@@ -20,9 +19,7 @@ use token_store::Found;
 
 // The unexpired refresh token of the digest, spent or not, which is the client's.
 fn own_token<'a>(view: &View<'a>, client: ClientNo, digest: &[u8; 32]) -> Option<Found<'a>>
-    ensures value { (history : List Event) → Shows view.now history →
-        option_map (grant_found history digest.now view.now.moment) result
-        ≡ refresh_of_client history view.now.moment client digest.now }
+    ensures value { Finds view.now digest.now result (λ history. refresh_of_client history view.now.moment client digest.now) }
     ensures found { (history : List Event) → Shows view.now history →
         IfSome result (IsFound history digest.now view.now.moment) }
     ensures own { IfSome result (λ token. token.client ≡ client) }
@@ -46,10 +43,7 @@ fn refreshed<'c>(
     token: &Found<'_>,
     left: Narrowed,
 ) -> Result<Decision<'c>, Halt>
-    ensures { (history : List Event) (names : List (List ℕ)) → Shows view.now history →
-        IsFound history digest.now view.now.moment token.now →
-        Decides (scene_of view.now history names) result (refreshed view.now.rules.now history view.now.moment
-        view.now.draws.now digest.now (grant_found history digest.now view.now.moment token.now) left) }
+    ensures { DecidesOf view.now digest.now token.now result (λ s token. refreshed_in s token left) }
 {
     match left {
         Narrowed::Denied => Err(Halt::Refuse(ErrorName::InvalidGrant)),
@@ -67,9 +61,7 @@ pub(crate) fn refresh<'c, H: HookHost>(
     params: &Params,
     known: &KnownClient<'_>,
 ) -> Result<Decision<'c>, Halt>
-    ensures { (history : List Event) (names : List (List ℕ)) → Shows view.now history →
-        Decides (scene_of view.now history names) result
-        (refresh_in (scene_of view.now history names) (H.answer host.now) params.now (known_of known.now)) }
+    ensures { DecidesBy view.now result (λ s. refresh_in s (H.answer host.now) params.now (known_of known.now)) }
 {
     let Some(text) = params.get("refresh_token") else {
         return Err(Halt::Refuse(ErrorName::InvalidRequest));

@@ -1,12 +1,10 @@
 //! POST /token (RFC 6749, section 3.2).
-ghost use Rattle.std.specs.Prelude.{ℕ, List};
-ghost use Rattle.consent.specs.History.{Event};
 ghost use Rattle.clients.specs.declared.grant.GrantType.{GrantType};
 ghost use Rattle.messages.specs.Asked.{asked_of};
 ghost use Rattle.answers.specs.Halts.{Leads};
 ghost use Rattle.answers.specs.Outcomes.{Outcome};
-ghost use Rattle.answers.specs.Scene.{Shows, known_of, scene_of};
-ghost use Rattle.answers.specs.Told.{Decides};
+ghost use Rattle.answers.specs.Scene.{known_of};
+ghost use Rattle.answers.specs.Told.{DecidesBy};
 ghost use Rattle.token_endpoint.specs.TokenPath.{type_points};
 ghost use Rattle.token_endpoint.specs.Points.{points_in, token_in};
 
@@ -43,9 +41,7 @@ fn decide_for<'c, H: HookHost>(
     params: &Params,
     known: &KnownClient<'_>,
 ) -> Result<Decision<'c>, Halt>
-    ensures { (history : List Event) (names : List (List ℕ)) → Shows view.now history →
-        Decides (scene_of view.now history names) result
-        (points_in (scene_of view.now history names) (H.answer host.now) params.now (known_of known.now)) }
+    ensures { DecidesBy view.now result (λ s. points_in s (H.answer host.now) params.now (known_of known.now)) }
 {
     match grant_type(params, known.client)? {
         GrantType::AuthorizationCode => exchange(view, host, params, known),
@@ -61,9 +57,7 @@ pub fn decide<'c, H: HookHost>(
     host: &H,
     request: &Request<'_>,
 ) -> Result<Decision<'c>, Halt>
-    ensures { (history : List Event) (names : List (List ℕ)) → Shows view.now history →
-        Decides (scene_of view.now history names) result
-        (token_in (scene_of view.now history names) (H.answer host.now) (asked_of request.entry.now)) }
+    ensures { DecidesBy view.now result (λ s. token_in s (H.answer host.now) (asked_of request.entry.now)) }
 {
     let params = form(alloc, request)?;
     let known = match authenticated_client(alloc, view.rules, request, &params) {
