@@ -9,3 +9,4 @@ pub mod Short
 pub mod Told
 pub mod Found
 pub mod FoundLaws
+pub mod FollowsLaws
