@@ -8,7 +8,7 @@ ghost use Rattle.token_store.specs.Records.{IsTied, kept_of};
 ghost use Rattle.token_store.specs.Room.{HasRoomFor, HasRoomFirst, HasSpare, room_of};
 
 use crate::record::{Record, Shared};
-use crate::tables::{Tables, renew};
+use crate::tables::{Coming, Tables, renew};
 use consent::{Change, Changes, ClientNo, CodeFacts, Moment, NewToken};
 
 impl Tables {
@@ -24,11 +24,12 @@ impl Tables {
         let Some(coming) = self.coming.pop() else {
             unreachable!()
         };
-        let Some(texts) = coming.texts else {
+        let Coming { number, texts } = coming;
+        let Some(texts) = texts else {
             unreachable!()
         };
-        renew(&mut self.families, coming.number, Shared::of_code(facts));
-        self.put(digest, Record::of_code(texts, facts, moment, coming.number));
+        renew(&mut self.families, number, Shared::of_code(facts));
+        self.put(digest, Record::of_code(texts, facts, moment, number));
     }
 
     // Issues a token in a new family of the client's own.

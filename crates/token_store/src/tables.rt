@@ -11,7 +11,7 @@ ghost use Rattle.consent.specs.History.{are_taken};
 ghost use Rattle.token_store.specs.Kept.{kept_at, kept_unexpired};
 ghost use Rattle.token_store.specs.Fits.{refusal_by};
 ghost use Rattle.token_store.specs.Room.{Waits, HasSpare, room_of};
-ghost use Rattle.token_store.specs.Records.{is_live_at, kept_by, kept_of, kept_in, shared_at, IsOwned, IsNextOwned, start_of, owner_cmp, HasEntered, HasLeft, HasEnded, HasOpened, HasClosed, HasLowered, lowered_by, TellsSame, IsTied, AllLive, Forgets, Mark, marked, spent_in};
+ghost use Rattle.token_store.specs.Records.{is_live_at, kept_by, kept_of, kept_in, shared_at, IsOwned, IsNextOwned, start_of, owner_cmp, HasEntered, HasLeft, HasEnded, HasOpened, HasClosed, HasLowered, lowered_by, TellsSame, IsTied, AllLive, IsLate, Forgets, Mark, marked, spent_in};
 
 use crate::fault::StoreFault;
 use crate::record::{CodeTexts, Record, Shared};
@@ -95,13 +95,14 @@ impl Tables {
         if self.is_none_expired(moment) {
             return self.records.len();
         }
-        count_unexpired(&self.records, moment)
+        self.records.values().filter(|record| record.is_unexpired(moment)).count()
     }
 
     // Whether the first place lies behind the moment, or there is none.
     fn is_none_expired(&self, moment: Moment) -> bool
         requires { IsTied self.now [] }
-        ensures { result ≡ true → AllLive self.now.records.entries moment }
+        ensures live { result ≡ true → AllLive self.now.records.entries moment }
+        ensures late { result ≡ false → IsLate (heap_items self.now.order) moment }
     {
         match self.order.peek() {
             Some(Reverse(first)) => first.0 > moment.get(),
@@ -132,7 +133,7 @@ impl Tables {
         if self.record_at(digest, moment).is_some() {
             return true;
         }
-        if others.contains(digest) {
+        if others.iter().any(|other| *digest == *other) {
             return true;
         }
         self.is_taken(others, moment)
@@ -422,19 +423,6 @@ fn lower_one(families: &mut Slab<Shared>, number: usize, mask: u64)
             }
         }
     }
-}
-
-// How many of the records are unexpired.
-fn count_unexpired(records: &HashMap<[u8; 32], Record>, moment: Moment) -> usize
-    ensures { result ≡ count_by (is_live_at moment) (values_of records.now.entries) }
-{
-    let mut count = 0;
-    for record in records.values() {
-        if record.is_unexpired(moment) {
-            count += 1;
-        }
-    }
-    count
 }
 
 // One record of the family is gone, and so is the family with the last.

@@ -1,3 +1,4 @@
+use Rattle.std.specs.BinaryHeap.{heap_items}
 use Rattle.std.proofs.Common.{arith}
 use Rattle.token_store.proofs.Families.{tied_ended, view_ended}
 use Rattle.token_store.proofs.tables.Tables.end.Goals as goal

@@ -1,3 +1,4 @@
+use Rattle.std.specs.BinaryHeap.{heap_items}
 use Rattle.token_store.proofs.Families.{tied_lowered, view_lowered}
 use Rattle.token_store.proofs.tables.Tables.lower.Goals as goal
 
