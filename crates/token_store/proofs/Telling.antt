@@ -54,7 +54,7 @@ fits_same kept t history moment number tied same fits = record {
   is_history = fits.is_history;
 }
 
-live_all : (es : List (List ℕ × Record)) (moment : ℕ) → IsDistinct bytes_eq (keys_of es) → AllLive es moment → count_by (is_live_at moment) (values_of es) ≡ length es
+pub live_all : (es : List (List ℕ × Record)) (moment : ℕ) → IsDistinct bytes_eq (keys_of es) → AllLive es moment → count_by (is_live_at moment) (values_of es) ≡ length es
 live_all [] moment once all = refl
 live_all (e ∷ es) moment once all =
     let sums = count_by-cons (is_live_at moment) e.1 (values_of es) in

@@ -95,7 +95,7 @@ impl Tables {
         if self.is_none_expired(moment) {
             return self.records.len();
         }
-        self.records.values().filter(|record| record.is_unexpired(moment)).count()
+        count_live(&self.records, moment)
     }
 
     // Whether the first place lies behind the moment, or there is none.
@@ -133,7 +133,7 @@ impl Tables {
         if self.record_at(digest, moment).is_some() {
             return true;
         }
-        if others.iter().any(|other| *digest == *other) {
+        if is_among(digest, others) {
             return true;
         }
         self.is_taken(others, moment)
@@ -423,6 +423,22 @@ fn lower_one(families: &mut Slab<Shared>, number: usize, mask: u64)
             }
         }
     }
+}
+
+// How many of the records are unexpired.
+fn count_live(records: &HashMap<[u8; 32], Record>, moment: Moment) -> usize
+    ensures { result ≡ count_by (is_live_at moment) (values_of records.now.entries) }
+{
+    records
+        .values()
+        .filter(|record| record.is_unexpired(moment))
+        .count()
+}
+
+fn is_among(digest: &[u8; 32], digests: &[[u8; 32]]) -> bool
+    ensures { result ≡ list_any (bytes_eq digest.now) digests.now }
+{
+    digests.iter().any(|other| *digest == *other)
 }
 
 // One record of the family is gone, and so is the family with the last.
