@@ -1,13 +1,15 @@
 -- Families that wait for what is about to come.
-use Rattle.std.proofs.Common.{◌≡◌, ◌≢◌, ◌≤◌, ◌+◌, ℕ, List, [], ◌∷◌, ◌++◌, Option, Some, None, refl, ap, ◌∙◌, sym, arith, true}
-use Rattle.std.specs.Prelude.{is_some, slice_index_or}
+use Rattle.std.proofs.Common.{◌≡◌, ◌≢◌, ◌≤◌, ◌+◌, ℕ, List, [], ◌∷◌, ◌++◌, Option, Some, None, refl, ap, ◌∙◌, sym, subst, arith, true}
+use Rattle.std.specs.Prelude.{is_some, map, slice_index_or}
+use Rattle.std.proofs.lemmas.List.{map-append}
 use Rattle.std.specs.List.{AllByRecursion}
 use Rattle.consent.specs.declared.change.Change.{Change}
 use Rattle.consent.specs.declared.change.Change.TheVariants.{Consented, CodeGiven, IssuedAlone, Issued, Spent, FamilyEnded, HookSet, HookGone}
 use Rattle.token_store.specs.declared.record.Shared.{Shared}
 use Rattle.token_store.specs.Records.{or_nothing, shared_at, is_coded, code_shared, own_shared, texts_given, HasEnded, HasLowered, HasOpened}
 use Rattle.token_store.specs.Kept.{Expected, Room, Texts}
-use Rattle.token_store.specs.Room.{Waits, NextIs, CodeNext, OwnNext, IsFirstReady, AreReady, HasSpare, HasRoomFirst, HasRoomFor, records_by, records_of}
+use Rattle.token_store.specs.Room.{Waits, NextIs, CodeNext, OwnNext, IsFirstReady, AreReady, HasSpare, HasRoomFirst, HasRoomFor, records_by, records_of, expected_of}
+use Rattle.token_store.specs.declared.tables.Coming.{Coming}
 use Rattle.token_store.proofs.Families.{unended, unlowered}
 
 -- one whose slot is as it was
@@ -136,3 +138,35 @@ room_first room c cs has = record {
   spare = record { records = (let le = has.spare.records in omega (arith, le)); order = (let le = has.spare.order in omega (arith, le)) };
   first = first_ready room.families room.coming c cs has.ready;
 }
+
+-- WHAT IS TAKEN
+
+-- the last of two lists that are the same
+last_same : {X : Type 0} (xs ys : List X) (a b : X) → xs ++ a ∷ [] ≡ ys ++ b ∷ [] → (xs ≡ ys) × (a ≡ b)
+last_same [] [] a b h = (refl, cc)
+last_same [] (y ∷ []) a b h = cc
+last_same [] (y ∷ z ∷ ys) a b h = cc
+last_same (x ∷ []) [] a b h = cc
+last_same (x ∷ z ∷ xs) [] a b h = cc
+last_same (x ∷ xs) (y ∷ ys) a b h =
+    let tails : xs ++ a ∷ [] ≡ ys ++ b ∷ [] = cc in
+    let heads : x ≡ y = cc in
+    let more = last_same xs ys a b tails in (λ i. heads i ∷ more.0 i, more.1)
+
+-- what is taken out is what is next
+pub taken : (families : List (Option Shared)) (items rest : List Coming) (c : Coming) (front : List Expected) (e : Expected) (s : Shared) → items ≡ rest ++ c ∷ [] → NextIs families (map expected_of items) front e s →
+    (front ≡ map expected_of rest) × (e ≡ expected_of c)
+taken families items rest c front e s is next = last_same front (map expected_of rest) e (expected_of c) (sym next.is ∙ ap (map expected_of) is ∙ map-append expected_of rest (c ∷ []))
+
+pub taken_waits : (families : List (Option Shared)) (items rest : List Coming) (c : Coming) (front : List Expected) (e : Expected) (s : Shared) → items ≡ rest ++ c ∷ [] → NextIs families (map expected_of items) front e s →
+    Waits families c.number s
+taken_waits families items rest c front e s is next = subst (λ (x : Expected). Waits families x.number s) (taken families items rest c front e s is next).1 next.waits
+
+-- and the others are ready still
+pub ready_taken : (families families' : List (Option Shared)) (items rest : List Coming) (c : Coming) (front : List Expected) (e : Expected) (s : Shared) (changes : List Change) → items ≡ rest ++ c ∷ [] →
+    NextIs families (map expected_of items) front e s → AreReady families front changes → ((k : ℕ) (x : Shared) → k ≢ c.number → Waits families k x → Waits families' k x) →
+    AreReady families' (map expected_of rest) changes
+ready_taken families families' items rest c front e s changes is next ready keeps =
+    let both = taken families items rest c front e s is next in
+    let apart : AreOther c.number front = subst (λ (x : Expected). AreOther x.number front) both.1 next.apart in
+    subst (λ (xs : List Expected). AreReady families' xs changes) both.0 (ready_but families families' front changes c.number keeps apart ready)

@@ -8,9 +8,10 @@ ghost use Rattle.std.specs.BinaryHeap.{heap_items, heap_len, heap_capacity};
 ghost use Rattle.std.specs.HashMap.{spare};
 ghost use Rattle.consent.specs.Limits.{record_limit};
 ghost use Rattle.consent.specs.History.{are_taken};
+ghost use Rattle.consent.specs.declared.change.Change.{Change};
 ghost use Rattle.token_store.specs.Kept.{kept_at, kept_unexpired};
 ghost use Rattle.token_store.specs.Fits.{refusal_by};
-ghost use Rattle.token_store.specs.Room.{Waits, HasSpare, room_of};
+ghost use Rattle.token_store.specs.Room.{Waits, HasSpare, HasRoomFor, room_of};
 ghost use Rattle.token_store.specs.Records.{is_live_at, kept_by, kept_of, kept_in, shared_at, IsOwned, IsNextOwned, start_of, owner_cmp, HasEntered, HasLeft, HasEnded, HasOpened, HasClosed, HasLowered, lowered_by, TellsSame, IsTied, AllLive, IsLate, Forgets, Mark, marked, spent_in};
 
 use crate::fault::StoreFault;
@@ -199,6 +200,7 @@ impl Tables {
         requires { IsTied self.old [] }
         ensures tied { IsTied self.new [] }
         ensures marked { kept_of self.new ≡ map (marked (Mark.Ended number)) (kept_of self.old) }
+        ensures room { (changes : List Change) → HasRoomFor (room_of self.old) changes → HasRoomFor (room_of self.new) changes }
     {
         end_one(&mut self.families, number);
     }
@@ -208,6 +210,7 @@ impl Tables {
         requires { IsTied self.old [] }
         ensures tied { IsTied self.new [] }
         ensures marked { kept_of self.new ≡ map (marked (Mark.Lowered owner client mask)) (kept_of self.old) }
+        ensures room { (changes : List Change) → HasRoomFor (room_of self.old) changes → HasRoomFor (room_of self.new) changes }
     {
         lower_all(
             &mut self.families,
@@ -224,6 +227,7 @@ impl Tables {
         ensures tied { IsTied self.new [] }
         ensures marked { (moment : ℕ) → is_some (kept_at (kept_of self.old) digest.now moment) ≡ true →
             kept_of self.new ≡ map (marked (Mark.Spent digest.now moment)) (kept_of self.old) }
+        ensures room { room_of self.new ≡ room_of self.old }
     {
         spend_one(&mut self.records, digest);
     }
@@ -362,6 +366,7 @@ fn end_one(families: &mut Slab<Shared>, number: usize)
 }
 
 fn spend_one(records: &mut HashMap<[u8; 32], Record>, digest: &[u8; 32])
+    ensures spare { spare records.new ≡ spare records.old }
     ensures spent { records.new.entries ≡ spent_in digest.now records.old.entries (lookup (bytes_eq digest.now) records.old.entries) }
 {
     if let Some(record) = records.get_mut(digest) {
