@@ -1,5 +1,5 @@
 -- What the store fits as a change is made.
-use Rattle.std.proofs.Common.{◌≡◌, ◌≢◌, ◌<◌, ◌≤◌, ℕ, ◌+◌, List, [], ◌∷◌, ◌++◌, Option, Some, None, Bool, true, false, cond, eqb, length, append_assoc, refl, ap, ◌∙◌, sym, subst, arith}
+use Rattle.std.proofs.Common.{◌≡◌, ◌≢◌, ◌<◌, ◌≤◌, ℕ, ◌+◌, List, [], ◌∷◌, ◌++◌, Option, Some, None, Bool, true, false, cond, eqb, length, append_assoc, append-nil, refl, ap, ◌∙◌, sym, subst, arith}
 use Rattle.std.specs.Prelude.{◌&&◌, ◌==◌, is_some, map, find, option_map, slice_index_or}
 use Rattle.std.specs.List.{IsDistinct}
 use Rattle.std.specs.Str.{bytes_eq}
@@ -8,7 +8,7 @@ use Rattle.std.specs.Option.{option_and_then}
 use Rattle.std.specs.declared.cmp.Reverse.{Reverse}
 use Rattle.std.proofs.lemmas.Bool.{eqb-true, eq-eqb, and_parts, and_from, false≢true}
 use Rattle.consent.specs.ListLaws.{find-some, find-passes}
-use Rattle.consent.specs.History.{Event, Change, Grant, grant_at, grant_of, event_at, is_named, is_unexpired, spends, IsHistory, with_change, with_changes}
+use Rattle.consent.specs.History.{Event, Change, Grant, grant_at, grant_of, event_at, is_named, is_unexpired, spends, IsHistory, CanFollow, with_change, with_changes}
 use Rattle.consent.specs.History.Change.{HookSet, HookGone}
 use Rattle.consent.specs.Growth.{may_end}
 use Rattle.consent.specs.GrowthLaws.{grant_at-push_none, unexpired_count-push_none, is_spent-push_other, has_ended-push_other, code_terms-push_none}
@@ -18,7 +18,7 @@ use Rattle.consent.specs.declared.change.Change.{Change as Made}
 use Rattle.token_store.specs.declared.record.Record.{Record}
 use Rattle.token_store.specs.declared.record.Shared.{Shared}
 use Rattle.token_store.specs.Kept.{Kept, kept_at, is_in, HasFamily}
-use Rattle.token_store.specs.Fits.{FitsBy, seen}
+use Rattle.token_store.specs.Fits.{FitsBy, FitsHistory, seen}
 use Rattle.token_store.specs.Records.{shared_at, or_nothing, is_coded, is_live_at, kept_in, all_kept, IsCounted, Tied, TellsSame, Mark, marked}
 use Rattle.token_store.specs.Room.{Waits}
 use Rattle.token_store.proofs.Looking.{shown, found}
@@ -174,3 +174,17 @@ named_by (Some g) f x h = record { grant = g; at = refl; is = cc }
 
 pub same_some : {A : Type 0} (x y : A) → Some x ≡ Some y → x ≡ y
 same_some x y h = cc
+
+-- after no changes, and after a change and those after it
+pub made_none : (kept : List Kept) (history : List Event) (m : ℕ) (next : List Change) → Some [] ≡ Some next → FitsHistory kept history m → FitsHistory kept (with_changes history m next) m
+made_none kept history m [] is fits = rw (append-nil history) fits
+made_none kept history m (x ∷ xs) is fits = cc
+
+pub made_first : (kept : List Kept) (history : List Event) (m : ℕ) (first : Change) (later next : List Change) → next ≡ first ∷ later →
+    FitsHistory kept (with_changes (with_change history m first) m later) m → FitsHistory kept (with_changes history m next) m
+made_first kept history m first later next is fits =
+    subst (λ (cs : List Change). FitsHistory kept (with_changes history m cs) m) (sym is)
+    (subst (λ (es : List Event). FitsHistory kept es m) (append_assoc history (event_at m first ∷ []) (map (event_at m) later)) fits)
+
+pub follows_first : (history : List Event) (m : ℕ) (first : Change) (later next : List Change) → next ≡ first ∷ later → AllFollow history m next → CanFollow history m first × AllFollow (with_change history m first) m later
+follows_first history m first later next is follows = subst (AllFollow history m) is follows

@@ -25,9 +25,7 @@ impl Tables {
             unreachable!()
         };
         let Coming { number, texts } = coming;
-        let Some(texts) = texts else {
-            unreachable!()
-        };
+        let Some(texts) = texts else { unreachable!() };
         renew(&mut self.families, number, Shared::of_code(facts));
         self.put(digest, Record::of_code(texts, facts, moment, number));
     }
@@ -45,7 +43,10 @@ impl Tables {
             unreachable!()
         };
         renew(&mut self.families, coming.number, Shared::of_client(client));
-        self.put(&token.digest, Record::of_token(token, moment, coming.number));
+        self.put(
+            &token.digest,
+            Record::of_token(token, moment, coming.number),
+        );
     }
 
     // Issues a token in the family of what has the digest.
@@ -114,7 +115,8 @@ impl Tables {
             Change::Issued { of, token } => self.issue_with(of, token, moment),
             Change::Spent { digest } => self.spend_at(digest, moment),
             Change::FamilyEnded { of } => self.end_at(of, moment),
-            Change::HookSet { .. } | Change::HookGone { .. } => {}
+            Change::HookSet { .. } => {}
+            Change::HookGone { .. } => {}
         }
     }
 

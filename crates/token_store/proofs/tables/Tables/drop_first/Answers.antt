@@ -26,8 +26,11 @@ returns-then-is_some-clause-tied c =
     record {
       once = c.requires.once;
       heap = (c.in-Some.ensures.heap_order c.requires.heap).0;
-      ordered = ordered_popped es es (heap_items t.order) (heap_items c.pop.new.self) first c.in-Some.ensures.permutation c.requires.ordered (λ e u at. (at, λ time same.
-          (let lt = live_at t.families.slots es d c.args.moment u c.requires.once there (ap (λ x. expiry_of (lookup (bytes_eq x) es)) same ∙ at) in omega (arith, lt, late, time))));
+      ordered = ordered_popped es es (heap_items t.order) (heap_items c.pop.new.self) first c.in-Some.ensures.permutation c.requires.ordered (λ e u at. (
+        at,
+        λ time same.
+            (let lt = live_at t.families.slots es d c.args.moment u c.requires.once there (ap (λ x. expiry_of (lookup (bytes_eq x) es)) same ∙ at) in omega (arith, lt, late, time)),
+      ));
       counted = c.requires.counted;
       owned = c.requires.owned;
     }
