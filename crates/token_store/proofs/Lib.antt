@@ -1,4 +1,5 @@
 pub mod Adding
+pub mod Changing
 pub mod Counting
 pub mod Dropping
 pub mod Expiring
