@@ -338,7 +338,7 @@ fn add_owner(
 }
 
 // So many records more are of the family.
-fn enter(families: &mut Slab<Shared>, number: usize, more: usize)
+pub(crate) fn enter(families: &mut Slab<Shared>, number: usize, more: usize)
     requires few { (shared_at families.old.slots number).count + more < 2 ^ 64 }
     ensures entered { HasEntered families.old.slots families.new.slots number more }
 {
