@@ -5,6 +5,8 @@ pub mod Texts
 pub mod Tokens
 pub mod Replies
 pub mod Scene
+pub mod Short
 pub mod Told
 pub mod Found
 pub mod FoundLaws
+pub mod FollowsLaws

@@ -55,10 +55,14 @@ with_client rules (Err auth.BadSecret) next = refuse InvalidClient
 with_client rules (Err auth.BadHeader) next = refuse InvalidClient
 with_client rules (Err auth.Memory) next = unavailable
 
+-- the point "authenticated", by the header and these parameters
+abbrev pub with_credentials : RegistryRecord → Asked → Parameters → (KnownClient → Outcome) → Outcome
+with_credentials rules asked params next = with_client rules (authenticated rules.clients asked.authorization params) next
+
 -- the points "a form" and "authenticated", and then those of the parameters and the client
 abbrev pub with_authenticated : RegistryRecord → Asked → (Parameters → KnownClient → Outcome) → Outcome
 with_authenticated rules asked next =
-    with_form asked (λ params. with_client rules (authenticated rules.clients asked.authorization params) (next params))
+    with_form asked (λ params. with_credentials rules asked params (next params))
 
 -- OWNERS
 

@@ -1,10 +1,12 @@
 -- What a request is decided by.
-use Rattle.std.specs.Prelude.{ℕ, List}
+use Rattle.std.specs.Prelude.{◌≡◌, ℕ, List, Option, option_map}
 use Rattle.clients.specs.RegistryRecord.{RegistryRecord}
-use Rattle.consent.specs.History.{Event}
+use Rattle.consent.specs.History.{Event, Grant}
 use Rattle.consent.specs.Consents.{FitsConsents}
 use Rattle.token_store.specs.Fits.{FitsStore}
 use Rattle.messages.specs.declared.request.Draws.{Draws}
+use Rattle.token_store.specs.declared.found.Found.{Found}
+use Rattle.answers.specs.Found.{grant_found}
 use Rattle.answers.specs.Requesters.{KnownClient}
 use Rattle.answers.specs.declared.view.KnownClient as seen
 use Rattle.answers.specs.declared.view.View.{View}
@@ -34,3 +36,8 @@ pub record Shows (view : View) (history : List Event) : Type 0 where
 
 abbrev pub known_of : seen.KnownClient → KnownClient
 known_of known = record { number = known.number; client = known.client.now }
+
+-- whatever history the view shows, what was found under the digest is what is wanted of it
+abbrev pub Finds : View → List ℕ → Option Found → (List Event → Option Grant) → Type 0
+Finds view digest found wanted =
+    (history : List Event) → Shows view history → option_map (grant_found history digest view.moment) found ≡ wanted history

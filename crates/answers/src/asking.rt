@@ -1,11 +1,10 @@
 //! The points that read only the request and the registry.
 ghost use Rattle.std.specs.Prelude.{◌≡◌, option_map};
-ghost use Rattle.clients.specs.Authentication.{authenticated};
 ghost use Rattle.messages.specs.Asked.{asked_of};
 ghost use Rattle.answers.specs.Halts.{Leads};
 ghost use Rattle.answers.specs.Outcomes.{Outcome};
 ghost use Rattle.answers.specs.Requesters as asked;
-ghost use Rattle.answers.specs.Requesters.{Parameters, with_form, with_client, client_named, owner_of, scope_asked, scope_within};
+ghost use Rattle.answers.specs.Requesters.{Parameters, with_form, with_credentials, client_named, owner_of, scope_asked, scope_within};
 ghost use Rattle.answers.specs.Scene.{known_of};
 
 use crate::halt::Halt;
@@ -43,8 +42,7 @@ pub fn authenticated_client<'r>(
     params: &Params,
 ) -> Result<KnownClient<'r>, Halt>
     ensures { (next : asked.KnownClient → Outcome) → Leads result
-        (with_client rules.now (authenticated rules.now.clients (asked_of request.entry.now).authorization params.now) next)
-        (λ known. next (known_of known)) }
+        (with_credentials rules.now (asked_of request.entry.now) params.now next) (λ known. next (known_of known)) }
 {
     match rules.authenticate(alloc, request.authorization, params) {
         Ok(number) => Ok(KnownClient {

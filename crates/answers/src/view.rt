@@ -1,9 +1,9 @@
 //! What a request is decided by.
-ghost use Rattle.std.specs.Prelude.{◌≡◌, List, IfSome, option_map};
+ghost use Rattle.std.specs.Prelude.{◌≡◌, List, IfSome};
 ghost use Rattle.consent.specs.History.{Event, consented_scope, grant_at};
 ghost use Rattle.token_store.specs.Found.{owner_number};
-ghost use Rattle.answers.specs.Found.{IsFound, grant_found, is_free};
-ghost use Rattle.answers.specs.Scene.{Shows};
+ghost use Rattle.answers.specs.Found.{IsFound, is_free};
+ghost use Rattle.answers.specs.Scene.{Finds, Shows};
 
 use clients::{Client, ClientNo, Registry};
 use consent::{Consents, Moment, OwnerNo};
@@ -23,8 +23,7 @@ pub struct View<'a> {
 impl<'a> View<'a> {
     /// The unexpired code or token that the digest names.
     pub fn at(&self, digest: &[u8; 32]) -> Option<Found<'a>>
-        ensures value { (history : List Event) → Shows self.now history →
-            option_map (grant_found history digest.now self.now.moment) result ≡ grant_at history digest.now self.now.moment }
+        ensures value { Finds self.now digest.now result (λ history. grant_at history digest.now self.now.moment) }
         ensures found { (history : List Event) → Shows self.now history →
             IfSome result (IsFound history digest.now self.now.moment) }
     {

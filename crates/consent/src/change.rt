@@ -43,13 +43,23 @@ pub enum Change<'a> {
         digest: [u8; 32],
     },
     /// A token is issued that opens a family of the client's own (RFC 6749, section 4.4.3).
-    IssuedAlone { client: ClientNo, token: NewToken },
+    IssuedAlone {
+        client: ClientNo,
+        token: NewToken,
+    },
     /// A token is issued in the family of what the digest names (RFC 6749, sections 5.1 and 6).
-    Issued { of: [u8; 32], token: NewToken },
+    Issued {
+        of: [u8; 32],
+        token: NewToken,
+    },
     /// What the digest names is used.
-    Spent { digest: [u8; 32] },
+    Spent {
+        digest: [u8; 32],
+    },
     /// The family of what the digest names is revoked (RFC 7009, section 2.1).
-    FamilyEnded { of: [u8; 32] },
+    FamilyEnded {
+        of: [u8; 32],
+    },
     /// A hook is put in or replaced under its name.
     HookSet {
         name: &'a str,
@@ -57,7 +67,9 @@ pub enum Change<'a> {
         code: &'a [u8],
     },
     /// The hook of the name is taken away.
-    HookGone { name: &'a str },
+    HookGone {
+        name: &'a str,
+    },
 }
 
 /// What happens with one request, in its order.

@@ -189,7 +189,7 @@ tied_lowered old new owner client mask es order owners lowered tied = record {
 -- OPENING
 
 -- where no record is of a family it isn't seen
-unseen : (old new : List (Option Shared)) (n : ℕ) (es : List (List ℕ × Record)) → ((k : ℕ) → k ≢ n → slice_index_or new k None ≡ slice_index_or old k None) → member_count es n ≡ 0 →
+pub unseen : (old new : List (Option Shared)) (n : ℕ) (es : List (List ℕ × Record)) → ((k : ℕ) → k ≢ n → slice_index_or new k None ≡ slice_index_or old k None) → member_count es n ≡ 0 →
     all_kept new es ≡ all_kept old es
 unseen old new n [] others none = refl
 unseen old new n (e ∷ es) others none =
@@ -204,7 +204,7 @@ unseen old new n (e ∷ es) others none =
         let tail = more (omega (arith, sums, none)) in
         λ i. kept_by (or_nothing (same i)) e.0 e.1 ∷ tail i
 
-vacant_count : (families : List (Option Shared)) (es : List (List ℕ × Record)) (order : List (Reverse (ℕ × List ℕ))) (owners : List ((ℕ × ℕ) × ℕ)) (n : ℕ) → Tied families es order owners [] →
+pub vacant_count : (families : List (Option Shared)) (es : List (List ℕ × Record)) (order : List (Reverse (ℕ × List ℕ))) (owners : List ((ℕ × ℕ) × ℕ)) (n : ℕ) → Tied families es order owners [] →
     (shared_at families n).count ≡ 0 → member_count es n ≡ 0
 vacant_count families es order owners n tied none = let same = tied.counted n in omega (arith, same, none)
 

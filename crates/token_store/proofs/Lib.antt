@@ -1,4 +1,5 @@
 pub mod Adding
+pub mod Changing
 pub mod Counting
 pub mod Dropping
 pub mod Expiring
@@ -8,6 +9,7 @@ pub mod Looking
 pub mod Marked
 pub mod Marking
 pub mod Opening
+pub mod Remaking
 pub mod Settling
 pub mod Spending
 pub mod Telling

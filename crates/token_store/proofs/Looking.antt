@@ -1,6 +1,6 @@
 -- What look-ups and counts say of the tables' records.
-use Rattle.std.proofs.Common.{◌≡◌, ◌≤◌, ℕ, ◌+◌, List, [], ◌∷◌, ◌++◌, Option, Some, None, Bool, true, false, cond, zero-add, refl, ap, ◌∙◌, sym, arith}
-use Rattle.std.specs.Prelude.{◌&&◌, find, count_by}
+use Rattle.std.proofs.Common.{◌≡◌, ◌≤◌, ℕ, ◌+◌, List, [], ◌∷◌, ◌++◌, Option, Some, None, Bool, Bor, true, false, cond, zero-add, refl, ap, ◌∙◌, sym, arith}
+use Rattle.std.specs.Prelude.{◌&&◌, find, count_by, is_some, option_map}
 use Rattle.std.specs.List.{IsDistinct}
 use Rattle.std.specs.Str.{bytes_eq}
 use Rattle.std.specs.Map.{lookup, keys_of}
@@ -9,7 +9,7 @@ use Rattle.std.proofs.lemmas.Map.{lookup-none}
 use Rattle.std.proofs.lemmas.Map.Entries.{none_past_head}
 use Rattle.std.proofs.lemmas.Map.Keys.{IsDistinct-tail}
 use Rattle.std.proofs.lemmas.Slice.Eq.{bytes_eq-Decides}
-use Rattle.std.specs.Option.{option_or}
+use Rattle.std.specs.Option.{option_or, option_copied}
 use Rattle.std.proofs.lemmas.List.Folds.{find-append}
 use Rattle.std.proofs.lemmas.List.Sums.{sum_by-append}
 use Rattle.consent.specs.History.{is_named, is_unexpired}
@@ -80,3 +80,8 @@ pub absent_push : (a : List Kept) (k : Kept) (digest : List ℕ) (m : ℕ) → k
 absent_push a k digest m none other =
     find-append (λ x. is_named digest m x.grant) a (k ∷ []) ∙ ap (λ o. option_or o (find (λ (x : Kept). is_named digest m x.grant) (k ∷ []))) none
     ∙ ap (λ b. cond (b && is_unexpired m k.grant) (Some k) None) other
+
+-- whether a look-up found something
+pub is_some-copied : {A B : Type 0} (f : A → B) (o : Option (Bor A)) → is_some (option_map f (option_copied o)) ≡ is_some o
+is_some-copied f None = refl
+is_some-copied f (Some x) = refl

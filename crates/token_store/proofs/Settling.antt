@@ -7,6 +7,9 @@ use Rattle.std.specs.BinaryHeap.{heap_items}
 use Rattle.std.specs.declared.cmp.Reverse.{Reverse}
 use Rattle.std.specs.Option.{option_or, MatchOption}
 use Rattle.std.specs.Str.{bytes_eq}
+use Rattle.std.specs.Result.{OnOk}
+use Rattle.std.specs.declared.result.Result.{Result}
+use Rattle.std.specs.declared.result.Result.TheVariants.{Ok, Err}
 use Rattle.std.specs.Map.{lookup, remove_entry, set_value, values_of, keys_of}
 use Rattle.std.proofs.lemmas.Bool.{eqb-true, eq-eqb, false≢true, lt-ltb}
 use Rattle.std.proofs.lemmas.List.Folds.{find-append}
@@ -226,3 +229,19 @@ pub put_new : (o : Option Record) (digest : List ℕ) (r : Record) (es es' : Lis
     MatchOption o (IsPermutation ((digest, r) ∷ es) es') (λ _. es' ≡ set_value (bytes_eq digest) es r) → IsPermutation ((digest, r) ∷ es) es'
 put_new None digest r es es' none h = h
 put_new (Some x) digest r es es' none h = cc
+
+-- what follows where there was memory
+pub on_ok_so : {T E : Type 0} (r : Result T E) (P Q : Type 0) → (P → Q) → OnOk r P → OnOk r Q
+on_ok_so (Ok v) P Q so h = so h
+on_ok_so (Err e) P Q so h = tt
+
+-- the records in another order
+pub tied_reordered : (families : List (Option Shared)) (es es' : List (List ℕ × Record)) (order order' : List (Reverse (ℕ × List ℕ))) (owners : List ((ℕ × ℕ) × ℕ)) → IsDistinct bytes_eq (keys_of es') → IsPermutation es es' →
+    ((d : List ℕ) → lookup (bytes_eq d) es' ≡ lookup (bytes_eq d) es) → order' ≡ order → Tied families es order owners [] → Tied families es' order' owners []
+tied_reordered families es es' order order' owners once' moved finds same tied = record {
+  once = once';
+  heap = rw same tied.heap;
+  ordered = rw same (λ d t at. tied.ordered d t (sym (ap expiry_of (finds d)) ∙ at));
+  counted = λ k. tied.counted k ∙ ap (λ n. n + 0) (sym (sum_by_values_permutation (λ (x : Record). cond {A = ℕ} (x.family == k) 1 0) es es' moved));
+  owned = tied.owned;
+}

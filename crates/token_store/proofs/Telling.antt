@@ -12,12 +12,14 @@ use Rattle.std.proofs.lemmas.Map.Entries.{none_past_head}
 use Rattle.std.proofs.lemmas.Map.Keys.{IsDistinct-tail}
 use Rattle.std.proofs.lemmas.Slice.Eq.{bytes_eq-Decides}
 use Rattle.consent.specs.ListLaws.{count_by-cons, count_by-none}
-use Rattle.consent.specs.History.{Event, is_named}
+use Rattle.consent.specs.History.{Event, Grant, grant_at, is_named}
+use Rattle.consent.specs.Seen.{seen_in, seen_at}
+use Rattle.token_store.specs.Found.{kept_seen}
 use Rattle.token_store.specs.declared.record.Record.{Record}
 use Rattle.token_store.specs.declared.record.Shared.{Shared}
 use Rattle.token_store.specs.declared.tables.Tables.{Tables}
-use Rattle.token_store.specs.Kept.{Kept, kept_unexpired}
-use Rattle.token_store.specs.Fits.{FitsBy}
+use Rattle.token_store.specs.Kept.{Kept, kept_at, kept_unexpired}
+use Rattle.token_store.specs.Fits.{FitsBy, seen}
 use Rattle.token_store.specs.Records.{shared_at, is_live_at, expiry, kept_in, kept_of, all_kept, IsTied, IsUnused, AllLive, TellsSame}
 use Rattle.token_store.proofs.Looking.{shown, found}
 use Rattle.token_store.proofs.Dropping.{count_seen, member_counted}
@@ -54,7 +56,7 @@ fits_same kept t history moment number tied same fits = record {
   is_history = fits.is_history;
 }
 
-live_all : (es : List (List ℕ × Record)) (moment : ℕ) → IsDistinct bytes_eq (keys_of es) → AllLive es moment → count_by (is_live_at moment) (values_of es) ≡ length es
+pub live_all : (es : List (List ℕ × Record)) (moment : ℕ) → IsDistinct bytes_eq (keys_of es) → AllLive es moment → count_by (is_live_at moment) (values_of es) ≡ length es
 live_all [] moment once all = refl
 live_all (e ∷ es) moment once all =
     let sums = count_by-cons (is_live_at moment) e.1 (values_of es) in
@@ -98,3 +100,23 @@ unused_empty t n moment tied empty digest k at = shown_cases (lookup (bytes_eq d
         live_cases : (b : Bool) → cond b (Some (kept_in families (digest, x))) None ≡ Some k → k.grant.family ≢ n
         live_cases false h = cc
         live_cases true h = λ same. (let is_x : kept_in families (digest, x) ≡ k = cc in elsewhere x is (ap (λ (y : Kept). y.grant.family) is_x ∙ same))
+
+-- what is empty fits the history in which nothing happened
+pub fits_nothing : (moment : ℕ) (number : ℕ → ℕ) → FitsBy [] [] moment number
+fits_nothing moment number = record {
+  answers = λ d t le. refl;
+  count = λ t le. refl;
+  once = λ d. omega arith;
+  apart = λ d e g h a b same. cc;
+  is_history = record { past = refl; single = λ d. omega arith; one_code = λ family. omega arith; placed = refl; kin = refl };
+}
+
+-- what is seen of what is kept is what the history says
+pub seen_kept : (kept : List Kept) (history : List Event) (number : ℕ → ℕ) (digest : List ℕ) (m : ℕ) (k : Kept) → FitsBy kept history m number → kept_at kept digest m ≡ Some k →
+    Some (kept_seen k) ≡ seen_at history digest m
+seen_kept kept history number digest m k fits at =
+    grant_cases (grant_at history digest m) (sym at ∙ fits.answers digest m (omega arith))
+  where
+    grant_cases : (o : Option Grant) → Some k ≡ option_map (seen history number digest m) o → Some (kept_seen k) ≡ option_map (seen_in history digest m) o
+    grant_cases None h = cc
+    grant_cases (Some g) h = let same : k ≡ seen history number digest m g = cc in ap (λ x. Some (kept_seen x)) same

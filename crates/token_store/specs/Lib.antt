@@ -3,5 +3,7 @@ pub mod Fits
 pub mod Found
 pub mod Room
 pub mod Records
+pub mod Image
+pub mod Homes
 pub mod FaultTexts
 pub mod FitsLaws

@@ -162,6 +162,10 @@ IsTied t awaited = Tied t.families.slots t.records.entries (heap_items t.order) 
 abbrev pub AllLive : List (List ℕ × Record) → ℕ → Type 0
 AllLive records moment = (digest : List ℕ) (t : ℕ) → expiry_of (lookup (bytes_eq digest) records) ≡ Some t → moment < t
 
+-- the first place of the order has expired
+abbrev pub IsLate : List (Reverse (ℕ × List ℕ)) → ℕ → Type 0
+IsLate order moment = (d : Reverse (ℕ × List ℕ)) → (slice_index_or order 0 d).0.0 ≤ moment
+
 -- CHANGES
 
 -- so many records more are of the family

@@ -8,7 +8,7 @@ ghost use Rattle.token_store.specs.Records.{IsTied, kept_of};
 ghost use Rattle.token_store.specs.Room.{HasRoomFor, HasRoomFirst, HasSpare, room_of};
 
 use crate::record::{Record, Shared};
-use crate::tables::{Tables, renew};
+use crate::tables::{Coming, Tables, renew};
 use consent::{Change, Changes, ClientNo, CodeFacts, Moment, NewToken};
 
 impl Tables {
@@ -24,11 +24,10 @@ impl Tables {
         let Some(coming) = self.coming.pop() else {
             unreachable!()
         };
-        let Some(texts) = coming.texts else {
-            unreachable!()
-        };
-        renew(&mut self.families, coming.number, Shared::of_code(facts));
-        self.put(digest, Record::of_code(texts, facts, moment, coming.number));
+        let Coming { number, texts } = coming;
+        let Some(texts) = texts else { unreachable!() };
+        renew(&mut self.families, number, Shared::of_code(facts));
+        self.put(digest, Record::of_code(texts, facts, moment, number));
     }
 
     // Issues a token in a new family of the client's own.
@@ -44,7 +43,10 @@ impl Tables {
             unreachable!()
         };
         renew(&mut self.families, coming.number, Shared::of_client(client));
-        self.put(&token.digest, Record::of_token(token, moment, coming.number));
+        self.put(
+            &token.digest,
+            Record::of_token(token, moment, coming.number),
+        );
     }
 
     // Issues a token in the family of what has the digest.
@@ -113,7 +115,8 @@ impl Tables {
             Change::Issued { of, token } => self.issue_with(of, token, moment),
             Change::Spent { digest } => self.spend_at(digest, moment),
             Change::FamilyEnded { of } => self.end_at(of, moment),
-            Change::HookSet { .. } | Change::HookGone { .. } => {}
+            Change::HookSet { .. } => {}
+            Change::HookGone { .. } => {}
         }
     }
 

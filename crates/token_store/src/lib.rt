@@ -8,11 +8,15 @@
 mod applying;
 mod fault;
 mod found;
+mod image;
 mod record;
 mod reserving;
+mod restoring;
 mod store;
 mod tables;
 
 pub use fault::StoreFault;
 pub use found::Found;
+pub use image::{KeptKind, KeptRecord};
+pub use restoring::RestoreFault;
 pub use store::Store;

@@ -10,9 +10,9 @@ use std::alloc::{AllocError, Global};
 /// What an authorization code has and a token has not.
 #[derive(Drop)]
 pub(crate) struct CodeTexts {
-    owner: OwnerNo,
-    redirect: String,
-    challenge: String,
+    pub(crate) owner: OwnerNo,
+    pub(crate) redirect: String,
+    pub(crate) challenge: String,
 }
 
 /// What was given.

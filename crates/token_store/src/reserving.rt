@@ -119,11 +119,7 @@ impl Tables {
     }
 
     /// Takes the memory that the changes need.
-    pub(crate) fn reserve(
-        &mut self,
-        alloc: Global,
-        changes: &Changes<'_>,
-    ) -> Result<(), AllocError>
+    pub(crate) fn reserve(&mut self, alloc: Global, changes: &Changes<'_>) -> Result<(), AllocError>
         requires tied { IsTied self.old [] }
         ensures tied { IsTied self.new [] }
         ensures same { (moment : ℕ) → TellsSame (kept_of self.old) (kept_of self.new) moment }

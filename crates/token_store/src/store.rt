@@ -1,11 +1,14 @@
 //! The store of codes and tokens.
-ghost use Rattle.std.specs.Prelude.{◌≡◌, ℕ, List, [], Some, length, option_map, OnOk};
+ghost use Rattle.std.specs.Prelude.{◌≡◌, ◌<◌, ℕ, List, [], Some, length, option_map, OnOk, IfOk, IsErrOf};
+ghost use Rattle.consent.specs.Limits.{record_limit};
 ghost use Rattle.consent.specs.History.{Event, Change, unexpired_count, with_changes};
 ghost use Rattle.consent.specs.Changes.{changes_of, listed, AllFollow};
 ghost use Rattle.consent.specs.Seen.{seen_at};
 
 use crate::fault::StoreFault;
 use crate::found::Found;
+use crate::image::KeptRecord;
+use crate::restoring::RestoreFault;
 use crate::tables::Tables;
 use consent::{Changes, Moment};
 use std::alloc::{AllocError, Global};
@@ -32,7 +35,9 @@ impl Model for Store {
 }
 
 impl Store {
-    ghost use Rattle.token_store.specs.Fits.{FitsStore, refusal};
+    ghost use Rattle.token_store.specs.Fits.{FitsHistory, FitsStore, refusal};
+    ghost use Rattle.token_store.specs.Image.{image_of, HasTwo};
+    ghost use Rattle.token_store.specs.Kept.{kept_unexpired};
     ghost use Rattle.token_store.specs.Found.{found_seen};
     ghost use Rattle.token_store.specs.Room.{HasRoom};
 
@@ -44,6 +49,33 @@ impl Store {
             tables: Tables::new(alloc),
             alloc,
         }
+    }
+
+    /// The unexpired codes and tokens, of which a store can be made again.
+    pub fn records(&self, alloc: Global, moment: Moment) -> Result<Vec<KeptRecord<'_>>, AllocError>
+        ensures { IfOk result (λ records. (history : List Event) → FitsStore self.now history moment →
+            FitsHistory (image_of records.items) history moment) }
+    {
+        self.tables.kept_records(alloc, moment)
+    }
+
+    /// A store of these codes and tokens, without those that are expired at the moment. It answers
+    /// as one does that the records are of.
+    pub fn restored(
+        alloc: Global,
+        records: &[KeptRecord<'_>],
+        moment: Moment,
+    ) -> Result<Self, RestoreFault>
+        ensures fits { IfOk result (λ store. (history : List Event) → FitsHistory (image_of records.now) history moment →
+            FitsStore store history moment) }
+        ensures full { IsErrOf result RestoreFault.Full → record_limit < kept_unexpired (image_of records.now) moment }
+        ensures twice { IsErrOf result RestoreFault.DigestTwice → HasTwo (image_of records.now) moment }
+    {
+        let tables = match Tables::restored(alloc, records, moment) {
+            Ok(tables) => tables,
+            Err(fault) => return Err(fault),
+        };
+        Ok(Store { tables, alloc })
     }
 
     /// What the digest names, if it is unexpired.

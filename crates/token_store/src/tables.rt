@@ -8,10 +8,11 @@ ghost use Rattle.std.specs.BinaryHeap.{heap_items, heap_len, heap_capacity};
 ghost use Rattle.std.specs.HashMap.{spare};
 ghost use Rattle.consent.specs.Limits.{record_limit};
 ghost use Rattle.consent.specs.History.{are_taken};
+ghost use Rattle.consent.specs.declared.change.Change.{Change};
 ghost use Rattle.token_store.specs.Kept.{kept_at, kept_unexpired};
 ghost use Rattle.token_store.specs.Fits.{refusal_by};
-ghost use Rattle.token_store.specs.Room.{Waits, HasSpare, room_of};
-ghost use Rattle.token_store.specs.Records.{is_live_at, kept_by, kept_of, kept_in, shared_at, IsOwned, IsNextOwned, start_of, owner_cmp, HasEntered, HasLeft, HasEnded, HasOpened, HasClosed, HasLowered, lowered_by, TellsSame, IsTied, AllLive, Forgets, Mark, marked, spent_in};
+ghost use Rattle.token_store.specs.Room.{Waits, HasSpare, HasRoomFor, room_of};
+ghost use Rattle.token_store.specs.Records.{is_live_at, kept_by, kept_of, kept_in, shared_at, IsOwned, IsNextOwned, start_of, owner_cmp, HasEntered, HasLeft, HasEnded, HasOpened, HasClosed, HasLowered, lowered_by, TellsSame, IsTied, AllLive, IsLate, Forgets, Mark, marked, spent_in};
 
 use crate::fault::StoreFault;
 use crate::record::{CodeTexts, Record, Shared};
@@ -95,13 +96,14 @@ impl Tables {
         if self.is_none_expired(moment) {
             return self.records.len();
         }
-        count_unexpired(&self.records, moment)
+        count_live(&self.records, moment)
     }
 
     // Whether the first place lies behind the moment, or there is none.
     fn is_none_expired(&self, moment: Moment) -> bool
         requires { IsTied self.now [] }
-        ensures { result ≡ true → AllLive self.now.records.entries moment }
+        ensures live { result ≡ true → AllLive self.now.records.entries moment }
+        ensures late { result ≡ false → IsLate (heap_items self.now.order) moment }
     {
         match self.order.peek() {
             Some(Reverse(first)) => first.0 > moment.get(),
@@ -132,7 +134,7 @@ impl Tables {
         if self.record_at(digest, moment).is_some() {
             return true;
         }
-        if others.contains(digest) {
+        if is_among(digest, others) {
             return true;
         }
         self.is_taken(others, moment)
@@ -198,6 +200,7 @@ impl Tables {
         requires { IsTied self.old [] }
         ensures tied { IsTied self.new [] }
         ensures marked { kept_of self.new ≡ map (marked (Mark.Ended number)) (kept_of self.old) }
+        ensures room { (changes : List Change) → HasRoomFor (room_of self.old) changes → HasRoomFor (room_of self.new) changes }
     {
         end_one(&mut self.families, number);
     }
@@ -207,6 +210,7 @@ impl Tables {
         requires { IsTied self.old [] }
         ensures tied { IsTied self.new [] }
         ensures marked { kept_of self.new ≡ map (marked (Mark.Lowered owner client mask)) (kept_of self.old) }
+        ensures room { (changes : List Change) → HasRoomFor (room_of self.old) changes → HasRoomFor (room_of self.new) changes }
     {
         lower_all(
             &mut self.families,
@@ -223,6 +227,7 @@ impl Tables {
         ensures tied { IsTied self.new [] }
         ensures marked { (moment : ℕ) → is_some (kept_at (kept_of self.old) digest.now moment) ≡ true →
             kept_of self.new ≡ map (marked (Mark.Spent digest.now moment)) (kept_of self.old) }
+        ensures room { room_of self.new ≡ room_of self.old }
     {
         spend_one(&mut self.records, digest);
     }
@@ -333,7 +338,7 @@ fn add_owner(
 }
 
 // So many records more are of the family.
-fn enter(families: &mut Slab<Shared>, number: usize, more: usize)
+pub(crate) fn enter(families: &mut Slab<Shared>, number: usize, more: usize)
     requires few { (shared_at families.old.slots number).count + more < 2 ^ 64 }
     ensures entered { HasEntered families.old.slots families.new.slots number more }
 {
@@ -361,6 +366,7 @@ fn end_one(families: &mut Slab<Shared>, number: usize)
 }
 
 fn spend_one(records: &mut HashMap<[u8; 32], Record>, digest: &[u8; 32])
+    ensures spare { spare records.new ≡ spare records.old }
     ensures spent { records.new.entries ≡ spent_in digest.now records.old.entries (lookup (bytes_eq digest.now) records.old.entries) }
 {
     if let Some(record) = records.get_mut(digest) {
@@ -425,16 +431,19 @@ fn lower_one(families: &mut Slab<Shared>, number: usize, mask: u64)
 }
 
 // How many of the records are unexpired.
-fn count_unexpired(records: &HashMap<[u8; 32], Record>, moment: Moment) -> usize
+fn count_live(records: &HashMap<[u8; 32], Record>, moment: Moment) -> usize
     ensures { result ≡ count_by (is_live_at moment) (values_of records.now.entries) }
 {
-    let mut count = 0;
-    for record in records.values() {
-        if record.is_unexpired(moment) {
-            count += 1;
-        }
-    }
-    count
+    records
+        .values()
+        .filter(|record| record.is_unexpired(moment))
+        .count()
+}
+
+fn is_among(digest: &[u8; 32], digests: &[[u8; 32]]) -> bool
+    ensures { result ≡ list_any (bytes_eq digest.now) digests.now }
+{
+    digests.iter().any(|other| *digest == *other)
 }
 
 // One record of the family is gone, and so is the family with the last.

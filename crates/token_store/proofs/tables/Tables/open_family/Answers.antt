@@ -1,3 +1,4 @@
+use Rattle.std.specs.BinaryHeap.{heap_items}
 use Rattle.std.proofs.Common.{◌≡◌, ◌∙◌, sym, ap, ℕ, None}
 use Rattle.std.specs.Prelude.{slice_index_or}
 use Rattle.token_store.specs.Records.{HasOpened}

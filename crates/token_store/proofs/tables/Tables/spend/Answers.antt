@@ -1,3 +1,4 @@
+use Rattle.std.specs.BinaryHeap.{heap_items}
 use Rattle.std.proofs.Common.{◌∙◌, ap}
 use Rattle.token_store.specs.Records.{all_kept}
 use Rattle.token_store.proofs.Spending.{tied_spent, view_spent}
