@@ -12,3 +12,7 @@ pub mod Paths
 pub mod Replies
 pub mod Bounded
 pub mod BoundedLaws
+pub mod Reading
+pub mod Server
+pub mod Making
+pub mod Steps

@@ -1,16 +1,20 @@
 -- What the operator's requests come to.
-use Rattle.std.specs.Prelude.{◌≡◌, ℕ, List, [], ◌∷◌, Contains, Option, Some, None, Result, Ok, Err}
+use Rattle.std.specs.Prelude.{◌≡◌, ◌≢◌, ℕ, List, [], ◌∷◌, Contains, Option, Some, None, Result, Ok, Err}
 use Rattle.consent.specs.Changes.{listed}
 use Rattle.consent.specs.History as history
 use Rattle.consent.specs.declared.change.Change.{Change}
 use Rattle.consent.specs.declared.change.Change.TheVariants.{Consented, CodeGiven, IssuedAlone, Issued, Spent, FamilyEnded, HookSet, HookGone}
 use Rattle.hook_host.specs.Versions.{layout_of}
+use Rattle.consent.specs.declared.change.Changes.TheVariants.{Nothing}
 use Rattle.hook_host.specs.declared.fault.HookFault.{HookFault}
+use Rattle.hook_host.specs.declared.fault.HookFault.TheVariants.{Memory}
 use Rattle.hook_host.specs.declared.host.HookHost.{Ghosts as Hosting}
 use Rattle.answers.specs.Halts.{Halts}
 use Rattle.answers.specs.Scene.{Scene}
 use Rattle.answers.specs.Told.{told}
+use Rattle.answers.specs.declared.answer.Answer.TheVariants.{HookRefused}
 use Rattle.answers.specs.declared.halt.Halt.{Halt}
+use Rattle.answers.specs.declared.halt.Halt.TheVariants.{Refuse, NoMemory}
 use Rattle.endpoints.specs.Hosts.{IsHostFault}
 use Rattle.endpoints.specs.HookPaths.{hook_points}
 use Rattle.endpoints.specs.declared.ruling.Ruling.{Ruling}
@@ -22,11 +26,18 @@ CanMake hosting host (HookSet name version code) None = ⊥
 CanMake hosting host (HookGone name) checked = Contains (hosting.names host) name.now
 CanMake hosting host _ checked = Unit {0}
 
--- the one change of a request
+-- the one change of a request, where it is the hooks'
 abbrev pub CanMakeAll : {H : Type 0} → Hosting H → H → List Change → Option H → Type 0
 CanMakeAll hosting host [] checked = Unit {0}
 CanMakeAll hosting host (change ∷ []) checked = CanMake hosting host change checked
 CanMakeAll hosting host (_ ∷ _ ∷ _) checked = Unit {0}
+
+-- the fault is told, or memory was refused
+abbrev pub IsRefusal : {H : Type 0} → HookFault → Result (Ruling H) Halt → Type 0
+IsRefusal fault (Err (Refuse error)) = ⊥
+IsRefusal fault (Err NoMemory) = Unit {0}
+IsRefusal fault (Ok ruling) =
+    (fault ≢ Memory) × (ruling.decision ≡ record { answer = HookRefused fault; changes = Nothing })
 
 -- The host has one of its own faults for the change that is asked for, or none. By that the ruling is what the points
 -- come to, and the host can make its change.

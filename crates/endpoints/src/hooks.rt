@@ -9,7 +9,7 @@ ghost use Rattle.answers.specs.Outcomes.{Outcome};
 ghost use Rattle.answers.specs.Scene.{Scene};
 ghost use Rattle.endpoints.specs.HookAsking.{hook_change};
 ghost use Rattle.endpoints.specs.HookPaths.{hook_gone, hook_set, hook_set_by, version_asked, with_operator};
-ghost use Rattle.endpoints.specs.Ruling.{RulesHooks};
+ghost use Rattle.endpoints.specs.Ruling.{IsRefusal, RulesHooks};
 
 use crate::ruling::Ruling;
 use answers::{Answer, Decision, Halt};
@@ -69,7 +69,9 @@ fn version_of(layout: Layout) -> u64
 }
 
 // The host has that fault, with which nothing happens.
-fn refused<'c, H>(fault: HookFault) -> Result<Ruling<'c, H>, Halt> {
+fn refused<'c, H>(fault: HookFault) -> Result<Ruling<'c, H>, Halt>
+    ensures { IsRefusal fault result }
+{
     if fault == HookFault::Memory {
         return Err(Halt::NoMemory);
     }
@@ -82,25 +84,25 @@ fn refused<'c, H>(fault: HookFault) -> Result<Ruling<'c, H>, Halt> {
     })
 }
 
-/// Decides on the hook that the query names, with the body for its code.
+/// Decides on the hook that the query names, with this code.
 pub(crate) fn install<'c, H: HookHost>(
     host: &H,
-    request: &Request<'c>,
+    code: &'c [u8],
     params: &'c Params,
 ) -> Result<Ruling<'c, H>, Halt>
-    ensures { (s : Scene) → RulesHooks H.HookHost host.now s (hook_set_by params.now (asked_of request.entry.now).body) result }
+    ensures { (s : Scene) → RulesHooks H.HookHost host.now s (hook_set_by params.now code.now) result }
 {
     let Some(asked) = hook_asked(params) else {
         return Err(Halt::Refuse(ErrorName::InvalidRequest));
     };
-    match host.check(asked.name, asked.layout, request.body) {
+    match host.check(asked.name, asked.layout, code) {
         Ok(checked) => Ok(Ruling {
             decision: Decision {
                 answer: Answer::HookDone { name: asked.name },
                 changes: Changes::One(Change::HookSet {
                     name: asked.name,
                     version: version_of(asked.layout),
-                    code: request.body,
+                    code,
                 }),
             },
             checked: Some(checked),

@@ -7,8 +7,12 @@ mod consenting;
 mod endpoint;
 mod hooks;
 mod introspect;
+mod reading;
 mod revoke;
 mod ruling;
+mod server;
 
 pub use consent::Moment;
+pub use reading::Reading;
 pub use ruling::Ruling;
+pub use server::Server;

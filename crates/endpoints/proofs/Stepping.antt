@@ -1,0 +1,78 @@
+-- What a request does to the server, by what it does to the store.
+use Rattle.std.proofs.Common.{◌≡◌, ℕ, List, [], ◌∷◌, ◌++◌, false, refl, sym, append_assoc, append-nil, subst}
+use Rattle.insn.specs.declared.layout.Layout.{Layout}
+use Rattle.clients.specs.RegistryRecord.{RegistryRecord}
+use Rattle.consent.specs.History.{Event, Change, event_at, with_change, with_changes}
+use Rattle.consent.specs.History.Change.{Consented, CodeGiven, Issued, Spent, FamilyEnded, HookSet, HookGone}
+use Rattle.consent.specs.Growth.{is_consent}
+use Rattle.consent.specs.GrowthLaws.{with_changes-cons}
+use Rattle.consent.specs.Consents.{KeptConsents, FitsConsents}
+use Rattle.consent.specs.ConsentLaws.{fits_consents-push_other}
+use Rattle.endpoints.specs.Hosts.{HostStep, HostRun}
+use Rattle.endpoints.specs.Bounded.{IsRight, AllRight, AllRightAfter}
+
+-- the change is no consent and no hook's
+abbrev pub IsQuiet : Change → Type 0
+IsQuiet (Consented owner client mask) = ⊥
+IsQuiet (HookSet name version code) = ⊥
+IsQuiet (HookGone name) = ⊥
+IsQuiet (CodeGiven family client owner scope redirect challenge digest) = Unit {0}
+IsQuiet (Issued family client owner kind digest scope life) = Unit {0}
+IsQuiet (Spent digest) = Unit {0}
+IsQuiet (FamilyEnded family) = Unit {0}
+
+abbrev pub AllQuiet : List Change → Type 0
+AllQuiet [] = Unit {0}
+AllQuiet (c ∷ cs) = IsQuiet c × AllQuiet cs
+
+no_consent : (c : Change) → IsQuiet c → is_consent c ≡ false
+no_consent (Consented owner client mask) q = absurd q
+no_consent (HookSet name version code) q = absurd q
+no_consent (HookGone name) q = absurd q
+no_consent (CodeGiven family client owner scope redirect challenge digest) q = refl
+no_consent (Issued family client owner kind digest scope life) q = refl
+no_consent (Spent digest) q = refl
+no_consent (FamilyEnded family) q = refl
+
+pub quiet_consents : (kept : KeptConsents) (history : List Event) (m : ℕ) (changes : List Change) → AllQuiet changes →
+    FitsConsents kept history → FitsConsents kept (with_changes history m changes)
+quiet_consents kept history m [] q fits = rw (append-nil history) fits
+quiet_consents kept history m (c ∷ cs) q fits =
+    rw (with_changes-cons history m c cs)
+    (quiet_consents kept (with_change history m c) m cs q.1 (fits_consents-push_other kept history (event_at m c) (no_consent c q.0) fits))
+
+module _ {H : Type 0} (installs : H → List ℕ → Layout → List ℕ → H → Type 0) (removes : H → List ℕ → H → Type 0) where
+  -- the host goes on by one more event
+  pub host_push : (first mid new : H) (history : List Event) (e : Event) → HostRun installs removes first history mid →
+      HostStep installs removes mid e.change new → HostRun installs removes first (history ++ e ∷ []) new
+  host_push first mid new [] e run step = (new, subst (λ (h : H). HostStep installs removes h e.change new) run step, refl)
+  host_push first mid new (x ∷ later) e run step = (run.0, run.1, host_push (run.0) mid new later e run.2 step)
+
+  quiet_step : (host : H) (c : Change) → IsQuiet c → HostStep installs removes host c host
+  quiet_step host (Consented owner client mask) q = absurd q
+  quiet_step host (HookSet name version code) q = absurd q
+  quiet_step host (HookGone name) q = absurd q
+  quiet_step host (CodeGiven family client owner scope redirect challenge digest) q = refl
+  quiet_step host (Issued family client owner kind digest scope life) q = refl
+  quiet_step host (Spent digest) q = refl
+  quiet_step host (FamilyEnded family) q = refl
+
+  pub quiet_host : (first host : H) (history : List Event) (m : ℕ) (changes : List Change) → AllQuiet changes →
+      HostRun installs removes first history host → HostRun installs removes first (with_changes history m changes) host
+  quiet_host first host history m [] q run = rw (append-nil history) run
+  quiet_host first host history m (c ∷ cs) q run =
+      rw (with_changes-cons history m c cs)
+      (quiet_host first host (with_change history m c) m cs q.1 (host_push first host host history (event_at m c) run (quiet_step host c q.0)))
+
+all_right-push : (rules : RegistryRecord) (before history : List Event) (e : Event) → AllRight rules before history →
+    IsRight rules (before ++ history) e.change → AllRight rules before (history ++ e ∷ [])
+all_right-push rules before [] e all right = (subst (λ h. IsRight rules h e.change) (append-nil before) right, tt)
+all_right-push rules before (x ∷ later) e all right =
+    (all.0, all_right-push rules (before ++ x ∷ []) later e all.1 (subst (λ h. IsRight rules h e.change) (sym (append_assoc before (x ∷ []) later)) right))
+
+pub all_right-more : (rules : RegistryRecord) (history : List Event) (m : ℕ) (changes : List Change) → AllRight rules [] history →
+    AllRightAfter rules history m changes → AllRight rules [] (with_changes history m changes)
+all_right-more rules history m [] all right = rw (append-nil history) all
+all_right-more rules history m (c ∷ cs) all right =
+    rw (with_changes-cons history m c cs)
+    (all_right-more rules (with_change history m c) m cs (all_right-push rules [] history (event_at m c) all right.0) right.1)

@@ -1,0 +1,33 @@
+-- What one request does to a server, whatever has happened before.
+use Rattle.std.specs.Prelude.{ℕ, List, Bool, Option, max}
+use Rattle.hook_host.specs.declared.fault.HookFault.{HookFault}
+use Rattle.hook_host.specs.declared.host.HookHost.{Ghosts as Hosting}
+use Rattle.clients.specs.RegistryRecord.{RegistryRecord}
+use Rattle.consent.specs.History.{Event}
+use Rattle.messages.specs.Asked.{Asked}
+use Rattle.messages.specs.Written.{Written}
+use Rattle.messages.specs.declared.request.Draws.{Draws}
+use Rattle.endpoints.specs.Hosts.{HostSays, IsHostFault}
+use Rattle.endpoints.specs.Replies.{outcome, hook_change}
+use Rattle.endpoints.specs.Server.{Seen, FitsServer, IsStep}
+
+-- a request as it comes: what it asks, when, and the random bytes of what its reply may give
+pub record Arrival : Type 0 where
+  pub asked : Asked
+  pub moment : ℕ
+  pub draws : Draws
+
+-- what the host says, with this fault for the change that is asked for
+abbrev pub says_with : {H : Type 0} → Hosting H → H → Option HookFault → HostSays
+says_with hosting host fault = record { answer = hosting.answer host; names = hosting.names host; fault = fault }
+
+-- Whatever history the server fitted, it then fits that history with what the request's outcome changes, at the greatest
+-- moment so far, and the reply is the outcome's. What is left open in the outcome is whether memory was refused, and which
+-- of its own faults the host has, if it has one.
+abbrev pub Steps : {H : Type 0} → Hosting H → Seen H → Arrival → Written → Seen H → Type 0
+Steps {H = H} hosting server arrival reply server' =
+    (rules : RegistryRecord) (first : H) (history : List Event) (m : ℕ) → FitsServer hosting.installs hosting.removes server rules first history m →
+    (refused : Bool) × (fault : Option HookFault) × IsHostFault hosting.refuses_install hosting.refuses_remove server.host (hook_change arrival.asked) fault
+    × IsStep hosting.installs hosting.removes
+    (outcome refused rules (says_with hosting server.host fault) history arrival.asked (max m arrival.moment) arrival.draws)
+    reply server' rules first history (max m arrival.moment)

@@ -1,0 +1,210 @@
+//! The server.
+ghost use Rattle.std.specs.Prelude.{◌≡◌, ◌≤◌, [], OnOk, max, length};
+ghost use Rattle.consent.specs.Changes.{listed};
+ghost use Rattle.messages.specs.Asked.{asked_of};
+ghost use Rattle.answers.specs.Short.{IsShort};
+ghost use Rattle.endpoints.specs.Making.{IsReady, Makes};
+ghost use Rattle.endpoints.specs.Server.{FitsServer};
+ghost use Rattle.endpoints.specs.Steps.{Steps};
+
+use crate::authorize::authorize;
+use crate::consenting::consent;
+use crate::endpoint::Endpoint;
+use crate::hooks::{install, remove};
+use crate::introspect::introspect;
+use crate::reading::{Reading, read};
+use crate::revoke::revoke;
+use crate::ruling::Ruling;
+use answers::{Answer, Decision, Halt, View, status_of, write};
+use clients::Registry;
+use consent::{Change, Changes, Consents, Moment};
+use hook_host::HookHost;
+use http::StatusCode;
+use messages::{Draws, Request, Response, failure};
+use std::alloc::{AllocError, Global};
+use std::marker::Model;
+use token_endpoint::decide;
+use token_store::Store;
+
+/// An authorization server, with any host of hooks.
+pub struct Server<H> {
+    rules: Registry,
+    host: H,
+    store: Store,
+    consents: Consents,
+    greatest: Moment,
+    alloc: Global,
+}
+
+// It is written out, so that whoever lets go of a server calls this, and is not proved over all that a server is made of.
+impl<H: Drop> Drop for Server<H> {
+    fn drop(self) {
+        let Server {
+            rules: _rules,
+            host: _host,
+            store: _store,
+            consents: _consents,
+            greatest: _,
+            alloc: _,
+        } = self;
+    }
+}
+
+impl<H> Model for Server<H> {
+    ghost use Rattle.endpoints.specs.Server.{Seen};
+
+    ghost Value = { Seen H };
+
+    ghost view = { λ s. record { rules = s.rules; host = s.host; store = s.store; consents = s.consents; greatest = s.greatest } };
+}
+
+fn greater(a: Moment, b: Moment) -> Moment
+    ensures { result ≡ max a b }
+{
+    if a.get() < b.get() { b } else { a }
+}
+
+impl<H: HookHost> Server<H> {
+    /// A server under the rules, to which nothing has happened yet. What it keeps takes memory from `alloc`.
+    pub fn new(alloc: Global, rules: Registry, host: H) -> Self
+        ensures { FitsServer H.installs H.removes result rules host [] 0 }
+    {
+        Server {
+            rules,
+            host,
+            store: Store::new(alloc),
+            consents: Consents::new(alloc),
+            greatest: Moment::new(0),
+            alloc,
+        }
+    }
+
+    // What a request comes to that asks for no change of the hooks.
+    fn decide_alone<'a>(
+        &self,
+        view: &View<'_>,
+        request: &Request<'_>,
+        reading: &'a Reading,
+    ) -> Result<Decision<'a>, Halt> {
+        match reading {
+            Reading::Authorize(params) => authorize(view, request, params),
+            Reading::GiveConsent => consent(self.alloc, view, request),
+            Reading::IssueToken => decide(self.alloc, view, &self.host, request),
+            Reading::RevokeToken => revoke(self.alloc, view, request),
+            Reading::Introspect => introspect(self.alloc, view, request),
+            Reading::InstallHook(_) | Reading::RemoveHook(_) | Reading::ListHooks => Ok(Decision {
+                answer: Answer::Hooks,
+                changes: Changes::Nothing,
+            }),
+        }
+    }
+
+    /// What a request comes to, by reading alone.
+    pub fn decide<'s, 'a>(
+        &'s self,
+        request: &'a Request<'_>,
+        reading: &'a Reading,
+        draws: &'s Draws,
+    ) -> Result<Ruling<'a, H>, Halt> {
+        match reading {
+            Reading::InstallHook(params) => install(&self.host, request.body, params),
+            Reading::RemoveHook(params) => remove(&self.host, params),
+            _ => {
+                let view = View {
+                    rules: &self.rules,
+                    store: &self.store,
+                    consents: &self.consents,
+                    moment: self.greatest,
+                    draws,
+                };
+                match self.decide_alone(&view, request, reading) {
+                    Ok(decision) => Ok(Ruling {
+                        decision,
+                        checked: None,
+                    }),
+                    Err(halt) => Err(halt),
+                }
+            }
+        }
+    }
+
+    /// Makes room for the changes, which changes no answer.
+    pub fn reserve(&mut self, changes: &Changes<'_>) -> Result<(), AllocError> {
+        if let Changes::One(Change::Consented { .. }) = changes {
+            self.consents.reserve(1)?;
+        }
+        self.store.reserve(changes)
+    }
+
+    /// Makes the changes of a ruling, which room was made for.
+    pub fn apply(&mut self, changes: &Changes<'_>, checked: Option<H>)
+        requires { IsReady H.HookHost self.old (listed changes.now) checked }
+        ensures { Makes H.HookHost self.old (listed changes.now) self.new }
+    {
+        match changes {
+            Changes::One(Change::Consented {
+                owner,
+                client,
+                mask,
+            }) => self.consents.put(*owner, *client, *mask),
+            Changes::One(Change::HookSet { .. }) => {
+                if let Some(checked) = checked {
+                    self.host.take(checked);
+                }
+            }
+            Changes::One(Change::HookGone { name }) => self.host.drop_named(name),
+            _ => {}
+        }
+        self.store.apply(changes, self.greatest);
+    }
+
+    // Answers a request at its endpoint, and makes what comes of it. Where memory is refused, nothing is made.
+    fn answer_at(
+        &mut self,
+        endpoint: Endpoint,
+        request: &Request<'_>,
+        draws: &Draws,
+    ) -> Result<Response, AllocError> {
+        let reading = match read(self.alloc, &self.rules, endpoint, request) {
+            Ok(reading) => reading,
+            Err(halt) => return halted(self.alloc, halt),
+        };
+        let Ruling { decision, checked } = match self.decide(request, &reading, draws) {
+            Ok(ruling) => ruling,
+            Err(halt) => return halted(self.alloc, halt),
+        };
+        let reply = write(self.alloc, &self.rules, &self.host, &decision.answer)?;
+        self.reserve(&decision.changes)?;
+        self.apply(&decision.changes, checked);
+        Ok(reply)
+    }
+
+    /// Answers a request at the greatest moment so far: the reply of the first point of its endpoint's list that holds, or
+    /// the 503 of refused memory, with which nothing happens. What no endpoint answers (404, 405) takes no memory.
+    pub fn step(&mut self, request: &Request<'_>, moment: Moment, draws: &Draws) -> Response
+        ensures replies { Steps H.HookHost self.old
+            (record { asked = asked_of request.now; moment = moment; draws = draws.now }) result self.new }
+        ensures short { length request.now.target.now ≤ 8192 → IsShort result }
+    {
+        self.greatest = greater(self.greatest, moment);
+        self.store.drop_expired(self.greatest);
+        let Some(endpoint) = Endpoint::at(request.path()) else {
+            return Response::bare(StatusCode::NOT_FOUND);
+        };
+        if request.method != endpoint.method() {
+            return Response::bare(StatusCode::METHOD_NOT_ALLOWED);
+        }
+        let Ok(reply) = self.answer_at(endpoint, request, draws) else {
+            return Response::bare(StatusCode::SERVICE_UNAVAILABLE);
+        };
+        reply
+    }
+}
+
+// What ended the request is answered.
+fn halted(alloc: Global, halt: Halt) -> Result<Response, AllocError> {
+    match halt {
+        Halt::Refuse(error) => failure(alloc, status_of(error), error),
+        Halt::NoMemory => Err(AllocError),
+    }
+}
