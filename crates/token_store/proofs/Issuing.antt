@@ -1,20 +1,17 @@
 -- A store that keeps new tokens fits the history in which they are issued.
-use Rattle.std.proofs.Common.{◌≡◌, ◌<◌, ◌⊎◌, inl, inr, ℕ, ◌+◌, List, [], ◌∷◌, ◌++◌, Option, Some, None, Bool, true, false, cond, eqb, get_or, length, append_assoc, refl, ap, ◌∙◌, sym, arith}
-use Rattle.std.specs.Prelude.{◌&&◌, ◌||◌, not, nat_le, find, is_some, map, option_map}
-use Rattle.std.specs.List.{list_any, list_all}
+use Rattle.std.proofs.Common.{◌≡◌, ◌<◌, inl, inr, ℕ, ◌+◌, List, [], ◌∷◌, ◌++◌, Option, Some, None, Bool, true, false, cond, eqb, length, refl, ap, ◌∙◌, sym, arith}
+use Rattle.std.specs.Prelude.{◌||◌, nat_le, find, is_some, option_map}
+use Rattle.std.specs.List.{list_any}
 use Rattle.std.specs.Str.{bytes_eq}
 use Rattle.std.proofs.lemmas.Bool.{eqb-true, eq-eqb, and_parts, and_from, false≢true}
-use Rattle.std.proofs.lemmas.List.{append-nil, length-map}
-use Rattle.std.proofs.lemmas.List.Folds.{list_all-append}
 use Rattle.std.proofs.lemmas.Slice.Eq.{bytes_eq-Decides}
 use Rattle.consent.specs.Limits.{record_limit}
 use Rattle.std.specs.Prelude.{◌==◌, slice_index_or}
 use Rattle.std.specs.Map.{values_of}
 use Rattle.consent.specs.ListLaws.{find-passes, find-one, find-some, count_by-cons}
-use Rattle.consent.specs.History.{Event, Grant, grants, grant_at, is_named, is_unexpired, is_code, is_code_of, terms_of, code_terms, has_ended, opener, is_of, has_room, are_taken, is_taken, IsHistory, IsHome, with_change}
-use Rattle.consent.specs.GrowthLaws.{grants-push, grant_at-push, code_terms-push_other, has_ended-push_other, is_taken-parts, is_taken-push}
+use Rattle.consent.specs.History.{Event, Grant, grants, grant_at, is_named, is_unexpired, is_code, is_code_of, terms_of, code_terms, has_ended, opener, is_of, has_room, are_taken, IsHome, with_change}
+use Rattle.consent.specs.GrowthLaws.{code_terms-push_other, has_ended-push_other}
 use Rattle.consent.specs.HistoryLaws.{grant_at-kin, opener-of_one, code_terms-kin, code_terms-fresh, has_ended-fresh, is_history-push}
-use Rattle.token_store.specs.declared.fault.StoreFault.TheVariants.{Full, DrawTaken}
 use Rattle.consent.specs.declared.change.NewToken.{NewToken}
 use Rattle.token_store.specs.declared.record.Record.{Record}
 use Rattle.token_store.specs.declared.record.Shared.{Shared}

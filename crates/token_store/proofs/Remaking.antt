@@ -15,7 +15,7 @@ use Rattle.token_store.specs.declared.record.Shared.{Shared}
 use Rattle.token_store.specs.declared.tables.Tables.{Tables}
 use Rattle.token_store.specs.Kept.{Kept, kept_at, kept_unexpired}
 use Rattle.token_store.specs.Fits.{FitsBy, seen}
-use Rattle.token_store.specs.Image.{Agrees, HasTwo, image_of, kept_record, is_unexpired_record, renumbered, IsRestored}
+use Rattle.token_store.specs.Image.{HasTwo, image_of, kept_record, is_unexpired_record, renumbered, IsRestored}
 use Rattle.token_store.specs.Homes.{AreHomes, IsHome, AllHome, HasGrown, number_of, renumber_by}
 use Rattle.token_store.specs.Records.{HasEntered, HasOpened, TellsSame, IsTied, kept_of, kept_in, all_kept, is_live_at}
 use Rattle.token_store.proofs.Looking.{count-push, same_push, same_on}

@@ -1,14 +1,14 @@
 -- Families that wait for what is about to come.
-use Rattle.std.proofs.Common.{◌≡◌, ◌≢◌, ◌≤◌, ◌+◌, ℕ, List, [], ◌∷◌, ◌++◌, Option, Some, None, refl, ap, ◌∙◌, sym, subst, arith, true}
+use Rattle.std.proofs.Common.{◌≡◌, ◌≢◌, ℕ, List, [], ◌∷◌, ◌++◌, Option, Some, None, refl, ap, ◌∙◌, sym, subst, arith, true}
 use Rattle.std.specs.Prelude.{is_some, map, slice_index_or}
 use Rattle.std.proofs.lemmas.List.{map-append}
 use Rattle.std.specs.List.{AllByRecursion}
 use Rattle.consent.specs.declared.change.Change.{Change}
 use Rattle.consent.specs.declared.change.Change.TheVariants.{Consented, CodeGiven, IssuedAlone, Issued, Spent, FamilyEnded, HookSet, HookGone}
 use Rattle.token_store.specs.declared.record.Shared.{Shared}
-use Rattle.token_store.specs.Records.{or_nothing, shared_at, is_coded, code_shared, own_shared, texts_given, HasEnded, HasLowered, HasOpened}
-use Rattle.token_store.specs.Kept.{Expected, Room, Texts}
-use Rattle.token_store.specs.Room.{Waits, NextIs, CodeNext, OwnNext, IsFirstReady, AreReady, HasSpare, HasRoomFirst, HasRoomFor, records_by, records_of, expected_of}
+use Rattle.token_store.specs.Records.{or_nothing, is_coded, code_shared, own_shared, texts_given, HasEnded, HasLowered, HasOpened}
+use Rattle.token_store.specs.Kept.{Expected, Room}
+use Rattle.token_store.specs.Room.{Waits, NextIs, IsFirstReady, AreReady, HasRoomFirst, HasRoomFor, expected_of}
 use Rattle.token_store.specs.declared.tables.Coming.{Coming}
 use Rattle.token_store.proofs.Families.{unended, unlowered}
 

@@ -1,5 +1,5 @@
 -- What fits a history from a moment on.
-use Rattle.std.proofs.Common.{◌≡◌, ◌≤◌, ℕ, List, arith}
+use Rattle.std.proofs.Common.{◌≤◌, ℕ, List, arith}
 use Rattle.consent.specs.ListLaws.{count_by-narrower}
 use Rattle.consent.specs.History.{Event, is_named, IsHistory}
 use Rattle.consent.specs.HistoryLaws.{named_before, grant_at-now, is_history-later}

@@ -1,8 +1,8 @@
 -- A store's image: what it keeps, as a list, and when a store is made of it.
-use Rattle.std.specs.Prelude.{◌≡◌, ◌≤◌, ◌+◌, ℕ, List, [], Bool, Option, Some, None, option_map, map, count_by, nat_lt}
+use Rattle.std.specs.Prelude.{◌≡◌, ◌≤◌, ◌+◌, ℕ, List, [], Bool, Some, option_map, map, count_by, nat_lt}
 use Rattle.consent.specs.declared.grant.Kind.{Kind}
 use Rattle.consent.specs.declared.grant.Kind.TheVariants as kind
-use Rattle.consent.specs.History.{Terms, is_named}
+use Rattle.consent.specs.History.{is_named}
 use Rattle.token_store.specs.declared.image.KeptKind.{KeptKind}
 use Rattle.token_store.specs.declared.image.KeptKind.TheVariants.{Code, Token}
 use Rattle.token_store.specs.declared.image.KeptRecord.{KeptRecord}

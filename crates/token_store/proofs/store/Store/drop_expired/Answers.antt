@@ -1,6 +1,6 @@
-use Rattle.std.proofs.Common.{◌≡◌, ◌∙◌, sym, subst, arith}
+use Rattle.std.proofs.Common.{◌∙◌, sym, subst, arith}
 use Rattle.token_store.specs.Kept.{Held}
-use Rattle.token_store.specs.Fits.{FitsBy, FitsHistory}
+use Rattle.token_store.specs.Fits.{FitsHistory}
 use Rattle.token_store.specs.Records.{kept_of}
 use Rattle.token_store.proofs.Telling.{fits_same, all_unexpired}
 use Rattle.token_store.proofs.store.Store.drop_expired.Goals as goal

@@ -1,4 +1,3 @@
-use Rattle.std.proofs.Common.{refl, arith}
 use Rattle.token_store.proofs.Telling.{fits_nothing}
 use Rattle.token_store.proofs.store.Store.new.Goals as goal
 

@@ -1,10 +1,7 @@
-use Rattle.std.proofs.Common.{◌≡◌, ℕ, List, ◌∙◌, sym, ap, subst}
-use Rattle.std.specs.Prelude.{filter}
+use Rattle.std.proofs.Common.{List, sym, subst}
 use Rattle.std.proofs.lemmas.Result.{IfOk-weaker}
-use Rattle.consent.specs.History.{is_unexpired}
 use Rattle.token_store.specs.Kept.{Kept, Held}
 use Rattle.token_store.specs.Fits.{FitsHistory}
-use Rattle.token_store.specs.Image.{image_of}
 use Rattle.token_store.specs.Records.{kept_of}
 use Rattle.token_store.proofs.Remaking.{fits_unexpired}
 use Rattle.token_store.proofs.store.Store.records.Goals as goal

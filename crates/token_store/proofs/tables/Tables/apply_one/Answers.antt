@@ -1,4 +1,4 @@
-use Rattle.std.proofs.Common.{◌≡◌, ◌∙◌, sym, subst, Some}
+use Rattle.std.proofs.Common.{◌≡◌, subst, Some}
 use Rattle.consent.specs.History.{Change as told, with_change}
 use Rattle.consent.specs.Changes.{change_of}
 use Rattle.token_store.specs.Fits.{FitsHistory}

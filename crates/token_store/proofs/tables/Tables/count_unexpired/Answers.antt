@@ -1,4 +1,4 @@
-use Rattle.std.proofs.Common.{◌≡◌, ◌∙◌, sym}
+use Rattle.std.proofs.Common.{◌∙◌, sym}
 use Rattle.token_store.proofs.Dropping.{count_seen}
 use Rattle.token_store.proofs.Telling.{live_all}
 use Rattle.token_store.proofs.tables.Tables.count_unexpired.Goals as goal

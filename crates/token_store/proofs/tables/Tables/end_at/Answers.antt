@@ -1,8 +1,8 @@
-use Rattle.std.proofs.Common.{◌≡◌, ◌∙◌, ap, sym, Some, map}
+use Rattle.std.proofs.Common.{◌≡◌, ◌∙◌, ap, sym, Some}
 use Rattle.std.specs.Prelude.{option_map}
 use Rattle.std.specs.Option.{option_copied}
 use Rattle.token_store.specs.Kept.{kept_at}
-use Rattle.token_store.specs.Records.{Mark, marked, kept_of, kept_in}
+use Rattle.token_store.specs.Records.{kept_of, kept_in}
 use Rattle.token_store.proofs.Marking.{fits_ended}
 use Rattle.token_store.proofs.Changing.{family_found}
 use Rattle.token_store.proofs.tables.Tables.end_at.Goals as goal

@@ -1,8 +1,7 @@
-use Rattle.std.proofs.Common.{◌≡◌, ◌∙◌, ◌∷◌, ◌++◌, [], sym, ap, refl, None}
-use Rattle.std.specs.Prelude.{is_some, map, option_map, slice_index_or}
+use Rattle.std.proofs.Common.{◌≡◌, ◌∙◌, ◌∷◌, ◌++◌, [], ap}
+use Rattle.std.specs.Prelude.{is_some, map}
 use Rattle.std.proofs.lemmas.List.{map-append}
 use Rattle.token_store.specs.declared.tables.Coming.{Coming}
-use Rattle.token_store.specs.Kept.{Room}
 use Rattle.token_store.specs.Records.{or_nothing, is_coded}
 use Rattle.token_store.specs.Room.{room_of, expected_of}
 use Rattle.token_store.proofs.Waiting.{waits_opened, ready_all, ready_other}

@@ -1,6 +1,4 @@
-use Rattle.std.proofs.Common.{◌≡◌, ◌∙◌, sym, refl, Some, [], ◌∷◌}
-use Rattle.std.specs.Str.{bytes_eq}
-use Rattle.std.specs.Map.{lookup}
+use Rattle.std.proofs.Common.{◌∙◌, sym, refl, [], ◌∷◌}
 use Rattle.token_store.specs.declared.tables.Tables.{Tables}
 use Rattle.token_store.proofs.Settling.{forgotten, waits_left}
 use Rattle.token_store.proofs.tables.Tables.forget.Goals as goal

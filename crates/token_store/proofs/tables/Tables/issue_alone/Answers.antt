@@ -1,22 +1,19 @@
-use Rattle.std.proofs.Common.{◌≡◌, ◌≢◌, ◌∙◌, ◌++◌, ◌∷◌, [], ap, sym, refl, ℕ, Some, None, length, arith}
-use Rattle.std.specs.Prelude.{slice_index_or, option_map, is_some}
-use Rattle.std.specs.Option.{option_copied}
+use Rattle.std.proofs.Common.{◌≡◌, ◌∙◌, ◌++◌, ◌∷◌, [], ap, refl, ℕ, Some, None, length, arith}
+use Rattle.std.specs.Prelude.{slice_index_or}
 use Rattle.std.specs.BinaryHeap.{heap_items}
-use Rattle.consent.specs.Changes.{code_given, token_issued, issued_with}
+use Rattle.consent.specs.Changes.{token_issued}
 use Rattle.consent.specs.History.{with_change}
 use Rattle.token_store.specs.declared.record.Shared.{Shared}
 use Rattle.token_store.specs.declared.tables.Tables.{Tables}
-use Rattle.token_store.specs.Kept.{Kept, Expected, kept_at}
-use Rattle.token_store.specs.Fits.{FitsBy, named}
-use Rattle.token_store.specs.Room.{Waits, NextIs, records_of}
-use Rattle.token_store.specs.Records.{or_nothing, shared_at, kept_of, kept_by, kept_in, code_shared, own_shared, code_kept, token_kept, own_place, place_of, texts_given}
-use Rattle.token_store.proofs.Adding.{keeps_push, unkept}
-use Rattle.token_store.proofs.Opening.{fits_opened}
-use Rattle.token_store.proofs.Issuing.{fits_alone, fits_joined}
+use Rattle.token_store.specs.Kept.{Kept, kept_at}
+use Rattle.token_store.specs.Fits.{named}
+use Rattle.token_store.specs.Room.{Waits, records_of}
+use Rattle.token_store.specs.Records.{or_nothing, shared_at, kept_of, kept_by, own_shared, token_kept, own_place}
+use Rattle.token_store.proofs.Adding.{unkept}
+use Rattle.token_store.proofs.Issuing.{fits_alone}
 use Rattle.token_store.proofs.Telling.{fits_same, unused_empty}
-use Rattle.token_store.proofs.Dropping.{kept_slot}
-use Rattle.token_store.proofs.Waiting.{waits_other, taken, taken_waits, ready_taken, ready_all}
-use Rattle.token_store.proofs.Changing.{renewed_same, tied_renewed, tells_put, family_found, kept_has_family, kept_counted, not_waiting}
+use Rattle.token_store.proofs.Waiting.{waits_other, taken_waits, ready_taken}
+use Rattle.token_store.proofs.Changing.{renewed_same, tied_renewed, tells_put}
 use Rattle.token_store.proofs.tables.Tables.issue_alone.Goals as goal
 
 pub put-requires-clause-tied : goal.put-requires-clause-tied

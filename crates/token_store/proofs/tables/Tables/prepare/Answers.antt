@@ -1,4 +1,4 @@
-use Rattle.std.proofs.Common.{◌≡◌, ◌∙◌, sym, ap, refl, Some, None}
+use Rattle.std.proofs.Common.{None}
 use Rattle.token_store.specs.Room.{room_of}
 use Rattle.token_store.proofs.Settling.{on_ok_so}
 use Rattle.token_store.proofs.tables.Tables.prepare.Goals as goal

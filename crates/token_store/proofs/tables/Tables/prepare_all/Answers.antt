@@ -1,4 +1,4 @@
-use Rattle.std.proofs.Common.{◌≡◌, ◌∙◌, [], sym, ap, refl}
+use Rattle.std.proofs.Common.{[], ap}
 use Rattle.std.specs.Prelude.{map}
 use Rattle.token_store.specs.Room.{expected_of}
 use Rattle.token_store.proofs.Settling.{on_ok_so}

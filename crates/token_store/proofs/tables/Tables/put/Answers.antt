@@ -1,11 +1,9 @@
-use Rattle.std.proofs.Common.{◌≡◌, ◌∙◌, ◌∷◌, ◌++◌, [], sym, refl, ap, ℕ, arith}
-use Rattle.std.specs.Str.{bytes_eq}
-use Rattle.std.specs.Map.{lookup}
+use Rattle.std.proofs.Common.{◌∙◌, ◌∷◌, [], refl, ap, ℕ, arith}
 use Rattle.std.specs.List.Sorted.{IsPermutation}
 use Rattle.std.specs.BinaryHeap.{heap_items}
 use Rattle.std.proofs.lemmas.List.Sorted.{IsPermutation-refl}
 use Rattle.token_store.specs.declared.tables.Tables.{Tables}
-use Rattle.token_store.specs.Records.{IsTied, Forgets, kept_of, kept_by, shared_at, all_kept}
+use Rattle.token_store.specs.Records.{IsTied, Forgets, kept_of, kept_by, shared_at}
 use Rattle.token_store.proofs.Looking.{same_push, same_on, absent_on}
 use Rattle.token_store.proofs.Waiting.{waits_other}
 use Rattle.token_store.proofs.Settling.{tied_awaiting, same_awaiting, entered_shares, ordered_with, counted_settled, settled_tells, put_new, count_few}

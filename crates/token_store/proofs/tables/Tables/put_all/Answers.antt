@@ -1,4 +1,4 @@
-use Rattle.std.proofs.Common.{◌≡◌, ◌<◌, ◌+◌, ◌∷◌, ◌++◌, [], take, drop, length, ap, ◌∙◌, sym, subst}
+use Rattle.std.proofs.Common.{◌≡◌, ◌+◌, ◌∷◌, ◌++◌, [], take, drop, ap, ◌∙◌, sym}
 use Rattle.std.proofs.lemmas.List.{take_more}
 use Rattle.consent.specs.Limits.{record_limit}
 use Rattle.token_store.specs.Records.{kept_of}

@@ -1,8 +1,5 @@
-use Rattle.std.proofs.Common.{◌≡◌, ◌∙◌, [], sym, ap, refl}
+use Rattle.std.proofs.Common.{refl}
 use Rattle.std.specs.BinaryHeap.{heap_items}
-use Rattle.token_store.specs.declared.tables.Tables.{Tables}
-use Rattle.token_store.specs.Records.{IsTied, TellsSame, kept_of}
-use Rattle.token_store.proofs.Looking.{same_on}
 use Rattle.token_store.proofs.Settling.{tied_reordered, same_awaiting}
 use Rattle.token_store.proofs.tables.Tables.reserve.Goals as goal
 

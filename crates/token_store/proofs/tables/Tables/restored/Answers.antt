@@ -1,4 +1,3 @@
-use Rattle.std.proofs.Common.{◌≡◌}
 use Rattle.token_store.specs.Records.{kept_of}
 use Rattle.token_store.specs.Homes.{renumber_by}
 use Rattle.token_store.proofs.Remaking.{restored_from}

@@ -1,7 +1,7 @@
-use Rattle.std.proofs.Common.{◌≡◌, ◌∙◌, ap, sym, true, None, map}
+use Rattle.std.proofs.Common.{◌≡◌, ◌∙◌, ap, sym, true, None}
 use Rattle.std.specs.Prelude.{option_map, is_some}
 use Rattle.token_store.specs.Kept.{kept_at}
-use Rattle.token_store.specs.Records.{Mark, marked, kept_of, kept_in}
+use Rattle.token_store.specs.Records.{kept_of, kept_in}
 use Rattle.token_store.proofs.Adding.{unfound}
 use Rattle.token_store.proofs.Looking.{is_some-copied}
 use Rattle.token_store.proofs.Marking.{fits_spent}
