@@ -6,7 +6,7 @@ use Rattle.std.specs.Str.{bytes_eq}
 use Rattle.std.proofs.lemmas.Bool.{eqb-true, eq-eqb, and_parts, and_from, false≢true}
 use Rattle.std.proofs.lemmas.Slice.Eq.{bytes_eq-Decides}
 use Rattle.consent.specs.Limits.{record_limit}
-use Rattle.std.specs.Prelude.{◌==◌, slice_index_or}
+use Rattle.std.specs.Prelude.{◌==◌}
 use Rattle.std.specs.Map.{values_of}
 use Rattle.consent.specs.ListLaws.{find-passes, find-one, find-some, count_by-cons}
 use Rattle.consent.specs.History.{Event, Grant, grants, grant_at, is_named, is_unexpired, is_code, is_code_of, terms_of, code_terms, has_ended, opener, is_of, has_room, are_taken, IsHome, with_change}
@@ -20,10 +20,9 @@ use Rattle.token_store.specs.declared.record.Given.TheVariants.{Code, Token}
 use Rattle.token_store.specs.Kept.{Kept, kept_at, kept_unexpired, is_in, HasFamily}
 use Rattle.token_store.specs.Fits.{FitsBy, IsMember, seen, named, refusal_by, refusal}
 use Rattle.consent.specs.Changes.{token_issued, issued_with}
-use Rattle.token_store.specs.Records.{Place, kind_in, owner_in, kept_in, member_count, IsCounted, terms_by, place_of, own_place, shared_at, kept_by, all_kept, token_kept, IsUnused}
+use Rattle.token_store.specs.Records.{Place, kind_in, owner_in, kept_in, member_count, terms_by, place_of, own_place, shared_at, kept_by, all_kept, token_kept, IsUnused}
 use Rattle.token_store.proofs.Adding.{Gives, keeps_push, fits_given, fits_named}
 use Rattle.token_store.proofs.Opening.{own_unused}
-use Rattle.token_store.proofs.Dropping.{has_slot}
 
 -- WHEN TOKENS ARE REFUSED
 
@@ -186,16 +185,6 @@ found_in families (e ∷ es) n m k found = in_cases (is_in n m (kept_in families
         let one = ap (λ b. cond {A = ℕ} b 1 0) same in
         record { digest = e.0; item = e.1; is = sym first ∙ ap (λ i. kept_by (shared_at families i) e.0 e.1) number; counted = omega (arith, sums, one) }
     in_cases false is h more = let rest = more h in record { digest = rest.digest; item = rest.item; is = rest.is; counted = (let some = rest.counted in omega (arith, sums, some)) }
-
--- an open family is there
-pub open_slot : (families : List (Option Shared)) (es : List (List ℕ × Record)) (n m : ℕ) → IsCounted families es [] → HasFamily (all_kept families es) n m → is_some (slice_index_or families n None) ≡ true
-open_slot families es n m counted there = found_cases (find (is_in n m) (all_kept families es)) refl there
-  where
-    found_cases : (o : Option Kept) → find (is_in n m) (all_kept families es) ≡ o → is_some o ≡ true → is_some (slice_index_or families n None) ≡ true
-    found_cases None is h = absurd (false≢true h)
-    found_cases (Some k) is h =
-        let some = (found_in families es n m k is).counted in let same = counted n in
-        ap is_some ((has_slot families n (omega (arith, some, same))).is)
 
 pub fits_joined : (families : List (Option Shared)) (es : List (List ℕ × Record)) (history : List Event) (number : ℕ → ℕ) (moment family : ℕ) (g : Grant) (token : NewToken) →
     HasFamily (all_kept families es) family moment → IsMember history number moment family g → grant_at history token.digest moment ≡ None → FitsBy (all_kept families es) history moment number →

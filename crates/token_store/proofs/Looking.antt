@@ -75,12 +75,6 @@ same_push a b k m same = record {
       ∙ sym (sum_by-append (λ (x : Kept). cond {A = ℕ} (is_unexpired t x.grant) 1 0) a (k ∷ []));
 }
 
--- nor does one of another digest come under it
-pub absent_push : (a : List Kept) (k : Kept) (digest : List ℕ) (m : ℕ) → kept_at a digest m ≡ None → bytes_eq digest k.grant.digest ≡ false → kept_at (a ++ k ∷ []) digest m ≡ None
-absent_push a k digest m none other =
-    find-append (λ x. is_named digest m x.grant) a (k ∷ []) ∙ ap (λ o. option_or o (find (λ (x : Kept). is_named digest m x.grant) (k ∷ []))) none
-    ∙ ap (λ b. cond (b && is_unexpired m k.grant) (Some k) None) other
-
 -- whether a look-up found something
 pub is_some-copied : {A B : Type 0} (f : A → B) (o : Option (Bor A)) → is_some (option_map f (option_copied o)) ≡ is_some o
 is_some-copied f None = refl
