@@ -5,3 +5,7 @@ pub mod Exchanged
 pub mod Bounding
 pub mod Telling
 pub mod Narrowing
+pub mod Connections
+pub mod Talking
+pub mod Leading
+pub mod Chaining
