@@ -1,5 +1,5 @@
 -- The calls were made on a chain of hooks.
-use Rattle.std.proofs.Common.{◌≡◌, ℕ, List, [], ◌∷◌, ◌++◌, All, refl, sym, ap, subst, ◌∙◌}
+use Rattle.std.proofs.Common.{◌≡◌, ℕ, List, [], ◌∷◌, ◌++◌, zero, suc, arith, All, refl, sym, ap, subst, ◌∙◌}
 use Rattle.std.specs.Prelude.{not, filter}
 use Rattle.std.specs.Str.{bytes_eq}
 use Rattle.std.proofs.lemmas.List.Elements.{All-append, All-filter}
@@ -22,13 +22,20 @@ use Rattle.promises.proofs.Connections.{shown}
 use Rattle.promises.proofs.Talking.{Talk}
 use Rattle.promises.proofs.Leading.{Progress, lead_schedule, lead_deeds}
 
+none_safe : All IsSafeHook []
+none_safe k d below = absurd (omega (arith, below))
+
+all_one : (h : Named) → IsSafeHook h → All IsSafeHook (h ∷ [])
+all_one h safe zero d below = safe
+all_one h safe (suc k) d below = absurd (omega (arith, below))
+
 step_safe : (old new : List Named) (change : Change) → HostStep IsInstalled IsRemoved old change new → All IsSafeHook old → All IsSafeHook new
 step_safe old new (HookSet name version code) step safe =
     let hook = step.hook in
     let accepted = step.accepted in
     subst (λ hooks. All IsSafeHook hooks) (sym step.last)
     (All-append IsSafeHook old (record { name = name; hook = hook } ∷ []) safe
-    (record { safe = accepted.safe; exit = λ bytes exit fits. exits_are_runs hook.layout hook.program bytes exit fits accepted.safe }, tt))
+    (all_one (record { name = name; hook = hook }) (record { safe = accepted.safe; exit = λ bytes exit fits. exits_are_runs hook.layout hook.program bytes exit fits accepted.safe })))
 step_safe old new (HookGone name) step safe =
     subst (λ hooks. All IsSafeHook hooks) (sym step.left) (All-filter (λ (h : Named). not (bytes_eq name h.name)) IsSafeHook old safe)
 step_safe old new (Consented owner client mask) step safe = subst (λ hooks. All IsSafeHook hooks) (sym step) safe
@@ -63,6 +70,6 @@ all_made hosting rules calls deeds edge chain p =
             output = ap (λ l. taken_after c [] calls deeds ++ l) (shown edge.lanes p.world.connections c connection p.reached.shows here).1 ∙ talk.output;
           };
       bounded = p.reached.bounded;
-      hooks = run_safe [] edge.server.host p.world.history (chain p.world.history edge.server.host p.reached.server.hosts) tt;
+      hooks = run_safe [] edge.server.host p.world.history (chain p.world.history edge.server.host p.reached.server.hosts) none_safe;
       did = lead_deeds happens start calls deeds p.schedule p.world p.lead;
     }

@@ -99,6 +99,21 @@ taken_on c before [] (d ∷ deeds) call deed same = absurd (omega (arith, same))
 taken_on c before (x ∷ calls) [] call deed same = absurd (omega (arith, same))
 taken_on c before (x ∷ calls) (d ∷ deeds) call deed same = taken_on c (taken_by c before x d) calls deeds call deed (less (length calls) (length deeds) same)
 
+-- a refused call gives nothing and takes nothing
+given_refused : (c : ℕ) (before : List ℕ) (call : Call) (fault : EdgeFault) → given_by c before call (Refused fault) ≡ before
+given_refused c before (Open d) fault = refl
+given_refused c before (Bytes d piece moment draws) fault = refl
+given_refused c before (End d) fault = refl
+given_refused c before (Take d most) fault = refl
+given_refused c before (Forget d) fault = refl
+
+taken_refused : (c : ℕ) (before : List ℕ) (call : Call) (fault : EdgeFault) → taken_by c before call (Refused fault) ≡ before
+taken_refused c before (Open d) fault = refl
+taken_refused c before (Bytes d piece moment draws) fault = refl
+taken_refused c before (End d) fault = refl
+taken_refused c before (Take d most) fault = refl
+taken_refused c before (Forget d) fault = refl
+
 module _ {H : Type 0} (hosting : Hosting H) (rules : RegistryRecord) (first : H) where
   -- the calls so far were made, and left this edge
   pub record Progress (calls : List Call) (deeds : List Deed) (edge : SeenEdge H) : Type 0 where
@@ -113,9 +128,6 @@ module _ {H : Type 0} (hosting : Hosting H) (rules : RegistryRecord) (first : H)
 
   -- with one more
   module _ (calls : List Call) (deeds : List Deed) (old new : SeenEdge H) (p : Progress calls deeds old) where
-    given : ℕ → List ℕ
-    given c = given_after c [] calls deeds
-
     more_talks : (ks : List Connection) (call : Call) (deed : Deed) →
         Talks ks (λ c. given_by c (given_after c [] calls deeds) call deed) (λ c. taken_by c (taken_after c [] calls deeds) call deed) →
         Talks ks (λ c. given_after c [] (calls ++ call ∷ []) (deeds ++ deed ∷ [])) (λ c. taken_after c [] (calls ++ call ∷ []) (deeds ++ deed ∷ []))
@@ -133,7 +145,9 @@ module _ {H : Type 0} (hosting : Hosting H) (rules : RegistryRecord) (first : H)
           reached = subst (λ edge. Reached hosting edge rules first p.schedule p.world) (sym does.0) p.reached;
           lead = subst (λ schedule. Lead h start (calls ++ call ∷ []) (deeds ++ Refused fault ∷ []) schedule p.world) (append-nil p.schedule)
               (lead_join h start calls deeds p.schedule p.world (call ∷ []) (Refused fault ∷ []) [] p.world p.lead (does.1 rules first p.schedule p.world p.reached, refl));
-          talks = more_talks p.world.connections call (Refused fault) p.talks;
+          talks = more_talks p.world.connections call (Refused fault) (λ d k here.
+              subst (λ g. Talk g (taken_by d (taken_after d [] calls deeds) call (Refused fault)) k) (sym (given_refused d (given_after d [] calls deeds) call fault))
+              (subst (λ t. Talk (given_after d [] calls deeds) t k) (sym (taken_refused d (taken_after d [] calls deeds) call fault)) (p.talks d k here)));
         }
 
     -- the event of a call that was done

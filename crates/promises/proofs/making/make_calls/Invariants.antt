@@ -5,4 +5,4 @@ use Rattle.promises.proofs.making.make_calls.Given as goal
 
 -- the calls so far were made
 abbrev pub invariant-loop-call : goal.invariant-loop-call
-invariant-loop-call l = Progress ? l.fn.rules [] (take l.call-index l.calls) l.deeds.items l.edge
+invariant-loop-call l = Progress chain.ghosts l.fn.rules [] (take l.call-index l.calls) l.deeds.items l.edge
