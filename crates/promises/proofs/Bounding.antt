@@ -76,13 +76,13 @@ with_owner rules history g keeps some = by_case keeps.consented
     by_case (inr within) = within
 
 -- the last consent is the one that counts
-last_is : (before later : List Event) (owner client then_ mask : ℕ) → last_consent later owner client ≡ None →
-    last_consent (before ++ event_at then_ (Consented owner client mask) ∷ later) owner client ≡ Some mask
-last_is [] later owner client then_ mask none =
+last_is : (before later : List Event) (owner client when mask : ℕ) → last_consent later owner client ≡ None →
+    last_consent (before ++ event_at when (Consented owner client mask) ∷ later) owner client ≡ Some mask
+last_is [] later owner client when mask none =
     ap (λ o. option_or o (consent_of owner client (Consented owner client mask))) none
     ∙ ap (λ b. if b then Some mask else None) (and_from (owner == owner) (client == client) (eq-eqb owner owner refl) (eq-eqb client client refl))
-last_is (x ∷ before) later owner client then_ mask none =
-    ap (λ o. option_or o (consent_of owner client x.change)) (last_is before later owner client then_ mask none)
+last_is (x ∷ before) later owner client when mask none =
+    ap (λ o. option_or o (consent_of owner client x.change)) (last_is before later owner client when mask none)
 
 pub lowered : (rules : RegistryRecord) (history : List Event) → IsBounded rules history →
     (digest : List ℕ) (t : ℕ) (g : Grant) (mask : ℕ) → live_grant history digest t ≡ Some g →
@@ -93,13 +93,13 @@ lowered rules history bounded digest t g mask live token some since = by_case si
     by_case (inr last) =
         let now : consented_scope history g.owner g.client ≡ mask =
         ap (λ h. consented_scope h g.owner g.client) since.whole
-        ∙ ap (λ o. unwrap_or o 0) (last_is since.before since.later g.owner g.client since.then_ mask last) in
+        ∙ ap (λ o. unwrap_or o 0) (last_is since.before since.later g.owner g.client since.when mask last) in
         ap (is_within g.scope) (sym now) ∙ with_owner rules history g (live_keeps rules history digest t g bounded live token).0 some
     by_case (inl named) =
-        let e = event_at since.then_ (Consented g.owner g.client mask) in
+        let e = event_at since.when (Consented g.owner g.client mask) in
         let whole : history ≡ (since.before ++ e ∷ []) ++ since.later = since.whole ∙ sym (append_assoc since.before (e ∷ []) since.later) in
         let alive = ended_stays (since.before ++ e ∷ []) since.later g.family (ap (λ h. has_ended h g.family) (sym whole) ∙ (live_is history digest t g live).1) in
         let keeps = named_keeps rules since.before (e ∷ []) since.later digest t g (subst (λ h. IsBounded rules h) whole bounded) named token alive in
         let now : consented_scope (since.before ++ e ∷ []) g.owner g.client ≡ mask =
-        ap (λ o. unwrap_or o 0) (last_is since.before [] g.owner g.client since.then_ mask refl) in
+        ap (λ o. unwrap_or o 0) (last_is since.before [] g.owner g.client since.when mask refl) in
         ap (is_within g.scope) (sym now) ∙ with_owner rules (since.before ++ e ∷ []) g keeps.0 some

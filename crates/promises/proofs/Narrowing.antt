@@ -20,7 +20,7 @@ use Rattle.consent.specs.CoveredLaws.{is_within-self}
 use Rattle.hook_record.specs.declared.Ask.{Ask}
 use Rattle.hook_record.specs.declared.Narrowed.{Narrowed}
 use Rattle.hook_record.specs.declared.Narrowed.TheVariants.{Allowed, Denied, EmptyScope}
-use Rattle.hook_record.specs.Narrowing.{IsNarrowing} 
+use Rattle.hook_record.specs.Narrowing.{IsNarrowing}
 use Rattle.hook_record.specs.Narrowing as narrowing
 use Rattle.hook_host.specs.DecisionLaws.{met_with_narrows}
 use Rattle.messages.specs.declared.request.Draws.{Draws}

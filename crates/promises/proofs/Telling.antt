@@ -252,7 +252,7 @@ module _ (P : Outcome → Type 0)
 module _ (P : Outcome → Type 0) (rules : RegistryRecord) (history : List Event) (m : ℕ)
     (nothing : (reply : Reply) → IsQuiet reply.body → P (only reply))
     (active : (digest : List ℕ) (g : Grant) (client : ClientRecord) → live_grant history digest m ≡ Some g → is_code g.kind ≡ false →
-        client_at g.client rules.clients ≡ Some client → P (only (plain 200 (told_of rules client g g.kind)))) where
+    client_at g.client rules.clients ≡ Some client → P (only (plain 200 (told_of rules client g g.kind)))) where
   telling : (text : List ℕ) → P (told rules (live_token history m text))
   telling text = by_digest (digest_told text)
     where

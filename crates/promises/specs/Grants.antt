@@ -1,14 +1,17 @@
 -- What codes and tokens keep to.
-use Rattle.std.specs.Prelude.{◌≡◌, ◌≤◌, ◌⊎◌, ◌+◌, ℕ, List, ◌∷◌, ◌++◌, true, Some, None}
+use Rattle.std.specs.Prelude.{◌≡◌, ◌≢◌, ◌≤◌, ◌⊎◌, ◌+◌, ℕ, List, ◌∷◌, ◌++◌, true, false, Some, None}
 use Rattle.params.specs.Scope.{scope_text}
 use Rattle.clients.specs.RegistryRecord.{RegistryRecord}
 use Rattle.clients.specs.ClientRecord.{ClientRecord}
 use Rattle.clients.specs.Clients.{client_at}
-use Rattle.consent.specs.History.{Event, Grant, event_at, grant_at, is_within, consented_scope, last_consent}
+use Rattle.consent.specs.History.{Event, Grant, event_at, grant_at, live_grant, is_code, is_within, consented_scope, last_consent}
 use Rattle.consent.specs.History.Change.{Consented}
+use Rattle.hook_host.specs.declared.host.HookHost.{Ghosts as Hosting}
 use Rattle.messages.specs.Reply.{Body}
 use Rattle.messages.specs.Reply.Body.{Active}
 use Rattle.endpoints.specs.Bounded.{allowed_to, life_limit}
+use Rattle.endpoints.specs.Server.{Seen, FitsServer}
+use Rattle.promises.specs.Turns.{Turn, reply_of}
 
 -- the scope is within what the client may have and, where there is an owner, within what the owner consents to now
 pub record KeepsScope (rules : RegistryRecord) (history : List Event) (token : Grant) : Type 0 where
@@ -28,7 +31,23 @@ TellsBounded rules history body = Unit {0}
 -- another consent to its client since.
 pub record IsSince (history : List Event) (digest : List ℕ) (moment : ℕ) (token : Grant) (mask : ℕ) : Type 0 where
   pub before : List Event
-  pub then_ : ℕ
+  pub when : ℕ
   pub later : List Event
-  pub whole : history ≡ before ++ event_at then_ (Consented token.owner token.client mask) ∷ later
+  pub whole : history ≡ before ++ event_at when (Consented token.owner token.client mask) ∷ later
   pub counts : (grant_at before digest moment ≡ Some token) ⊎ (last_consent later token.owner token.client ≡ None)
+
+-- where a reply tells of an active token, it tells one that keeps to its bounds
+abbrev pub TellsWithin : RegistryRecord → List Event → Type 0
+TellsWithin rules history = (turn : Turn) → TellsBounded rules history (reply_of rules history turn).body
+
+-- the scope of a live token of an owner is within each consent that counts for it
+abbrev pub KeepsToConsents : List Event → Type 0
+KeepsToConsents history =
+    (digest : List ℕ) (moment : ℕ) (token : Grant) (mask : ℕ) → live_grant history digest moment ≡ Some token →
+    is_code token.kind ≡ false → token.owner ≢ 0 → IsSince history digest moment token mask → is_within token.scope mask ≡ true
+
+-- so it is of the rules and the history of each server
+abbrev pub InEachHistory : {H : Type 0} → Hosting H → (RegistryRecord → List Event → Type 0) → Type 0
+InEachHistory {H = H} hosting fact =
+    (server : Seen H) (rules : RegistryRecord) (first : H) (history : List Event) (m : ℕ) →
+    FitsServer hosting.installs hosting.removes server rules first history m → fact rules history

@@ -1,10 +1,10 @@
 -- What is done with codes and tokens, by requests and their replies.
-use Rattle.std.specs.Prelude.{◌≡◌, ◌⊎◌, ℕ, List, true, codes, Some}
+use Rattle.std.specs.Prelude.{◌≡◌, ◌≢◌, ◌⊎◌, ◌++◌, ℕ, List, true, codes, Some}
 use Rattle.std.specs.List.{list_any}
 use Rattle.std.specs.Str.{bytes_eq}
 use Rattle.params.specs.Form.{value_of}
 use Rattle.clients.specs.RegistryRecord.{RegistryRecord}
-use Rattle.consent.specs.History.{Event, Grant, grants}
+use Rattle.consent.specs.History.{Event, Grant, grants, live_grant}
 use Rattle.grants.specs.Requesters.{Parameters, form_of}
 use Rattle.grants.specs.Texts.{digest_told}
 use Rattle.grants.specs.Tokens.{live_token}
@@ -39,3 +39,13 @@ pub record Revokes (rules : RegistryRecord) (history : List Event) (turn : Turn)
   pub presents : value_of (codes "token") params ≡ Some text
   pub live : live_token history turn.arrival.moment text ≡ Some token
   pub done : (reply_of rules history turn).status ≡ 200
+
+-- after this history the text is exchanged only where a code or token of it was given since
+abbrev pub IsUsedUp : RegistryRecord → List Event → List ℕ → Type 0
+IsUsedUp rules history text =
+    (between : List Event) (turn : Turn) → Exchanges rules (history ++ between) turn text → IsGiven between text
+
+-- no code and no token of the family is live, at any moment
+abbrev pub IsDead : List Event → ℕ → Type 0
+IsDead history family =
+    (digest : List ℕ) (moment : ℕ) (grant : Grant) → live_grant history digest moment ≡ Some grant → grant.family ≢ family

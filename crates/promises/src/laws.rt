@@ -1,29 +1,24 @@
 //! Laws of every history that a server comes to, of requests and of their replies.
 
-ghost use Rattle.std.specs.Prelude.{◌≡◌, ◌≢◌, ℕ, List, [], ◌++◌, true, false, Some, codes};
+ghost use Rattle.std.specs.Prelude.{◌≡◌, ℕ, List, [], ◌++◌, codes};
 ghost use Rattle.clients.specs.RegistryRecord.{RegistryRecord};
-ghost use Rattle.consent.specs.History.{Event, Grant, is_code, is_within, live_grant};
-ghost use Rattle.endpoints.specs.Server.{Seen, FitsServer};
-ghost use Rattle.promises.specs.Grants.{IsSince, TellsBounded};
+ghost use Rattle.consent.specs.History.{Event, Grant};
+ghost use Rattle.promises.specs.Grants.{InEachHistory, KeepsToConsents, TellsWithin};
 ghost use Rattle.promises.specs.Hooked.{IsNarrowed, without_hooks};
 ghost use Rattle.promises.specs.Turns.{GoesTo, Turn, history_after, outcome_of, reply_of};
-ghost use Rattle.promises.specs.Uses.{Exchanges, IsGiven, Revokes};
+ghost use Rattle.promises.specs.Uses.{Exchanges, IsDead, IsUsedUp, Revokes};
 
 use hook_host::HookHost;
 
 /// Where a reply tells of an active token, its scope is within its client's allowance and its owner's present consent, and
 /// its life within the limit of its kind.
 pub fn active_tokens_keep_their_bounds<H: HookHost>()
-    ensures { (server : Seen H) (rules : RegistryRecord) (first : H) (history : List Event) (m : ℕ) (turn : Turn) →
-        FitsServer H.installs H.removes server rules first history m → TellsBounded rules history (reply_of rules history turn).body }
+    ensures { InEachHistory H.HookHost TellsWithin }
 {}
 
 /// No live token is beyond a consent that its owner gave to its client since, or gave last.
 pub fn no_token_is_beyond_a_lowered_consent<H: HookHost>()
-    ensures { (server : Seen H) (rules : RegistryRecord) (first : H) (history : List Event) (m : ℕ) →
-        FitsServer H.installs H.removes server rules first history m →
-        (digest : List ℕ) (moment : ℕ) (token : Grant) (mask : ℕ) → live_grant history digest moment ≡ Some token →
-        is_code token.kind ≡ false → token.owner ≢ 0 → IsSince history digest moment token mask → is_within token.scope mask ≡ true }
+    ensures { InEachHistory H.HookHost (λ rules history. KeepsToConsents history) }
 {}
 
 /// Nothing happens with a 503.
@@ -35,16 +30,14 @@ pub fn nothing_comes_of_a_503()
 /// No code and no refresh token is exchanged twice, whatever comes between: where a text is, a code or token of that very
 /// text was given again in between.
 pub fn nothing_is_exchanged_twice()
-    ensures { (rules : RegistryRecord) (history between : List Event) (turn later : Turn) (text : List ℕ) →
-        Exchanges rules history turn text → Exchanges rules (history_after rules history turn ++ between) later text →
-        IsGiven between text }
+    ensures { (rules : RegistryRecord) (history : List Event) (turn : Turn) (text : List ℕ) →
+        Exchanges rules history turn text → IsUsedUp rules (history_after rules history turn) text }
 {}
 
 /// After a token is revoked no code and no token of its family is live, whatever comes, and at no moment.
 pub fn a_revoked_family_stays_dead()
-    ensures { (rules : RegistryRecord) (history later : List Event) (turn : Turn) (token other : Grant) (digest : List ℕ) (moment : ℕ) →
-        Revokes rules history turn token → live_grant (history_after rules history turn ++ later) digest moment ≡ Some other →
-        other.family ≢ token.family }
+    ensures { (rules : RegistryRecord) (history later : List Event) (turn : Turn) (token : Grant) →
+        Revokes rules history turn token → IsDead (history_after rules history turn ++ later) token.family }
 {}
 
 /// No hooks' answers widen a grant, whatever their programs do: tokens that are answered would be answered without hooks too,
