@@ -18,7 +18,10 @@ pub enum Call<'a> {
     /// Its stream ended.
     End(u32),
     /// At most so many of the bytes to it are taken.
-    Take { connection: u32, most: usize },
+    Take {
+        connection: u32,
+        most: usize,
+    },
     /// It is forgotten, if it is there.
     Forget(u32),
 }

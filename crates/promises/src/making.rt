@@ -82,11 +82,7 @@ fn make_call<H: HookHost>(alloc: Global, edge: &mut Edge<H>, call: &Call<'_>) ->
 
 /// Makes calls, in their order, on a new edge over a server of the registry, whose hooks are a chain, at first without any:
 /// the edge, and what each call did; or memory was refused.
-pub fn make_calls(
-    alloc: Global,
-    rules: Registry,
-    calls: &[Call<'_>],
-) -> Result<Made, AllocError>
+pub fn make_calls(alloc: Global, rules: Registry, calls: &[Call<'_>]) -> Result<Made, AllocError>
     ensures { IfOk result (λ made. IsMade ⟦<Chain as HookHost>⟧ rules calls.now made.deeds.items made.edge) }
 {
     let mut edge = Edge::new(alloc, Server::new(alloc, rules, Chain::new(alloc)));
