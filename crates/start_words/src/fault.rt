@@ -1,0 +1,40 @@
+//! Why words are not those of `start`.
+
+ghost use Rattle.std.specs.Prelude.{◌≡◌};
+ghost use Rattle.start_words.specs.declared.fault.StartFault.TheVariants.{Memory};
+
+use std::alloc::AllocError;
+
+/// What is wrong with a word.
+#[derive(Clone, Copy, Debug, PartialEq, Eq)]
+pub enum WordFault {
+    /// The address names no port.
+    NoPort,
+    /// No option has this name.
+    Unknown,
+    /// The option's value is missing.
+    NoValue,
+    /// The option's value has another form, or is out of its range.
+    BadValue,
+    /// The option was given before.
+    Twice,
+}
+
+/// Why words are not those of `start`.
+#[derive(Clone, Copy, Debug, PartialEq, Eq)]
+pub enum StartFault<'w> {
+    /// There are too few, or the numbers by place are none.
+    BadWords,
+    /// What is wrong with a word of them: the address, or the name of an option.
+    Word { word: &'w str, fault: WordFault },
+    /// Memory was refused.
+    Memory,
+}
+
+impl<'w> From<AllocError> for StartFault<'w> {
+    ghost from_gives = { λ _ fault. fault ≡ Memory };
+
+    fn from(_error: AllocError) -> StartFault<'w> {
+        StartFault::Memory
+    }
+}
