@@ -1,6 +1,6 @@
 //! Connections until the program is stopped.
 
-ghost use Rattle.std.specs.Prelude.{◌≡◌, [], OnOk, OnErr, IfOk};
+ghost use Rattle.std.specs.Prelude.{◌≡◌, OnOk, OnErr, IfOk};
 ghost use Rattle.event_loop.specs.Goes.{promises};
 ghost use Rattle.daemon.specs.Listening.{Announces};
 ghost use Rattle.daemon.specs.Started.{Serves, limits_of};
@@ -50,26 +50,27 @@ fn listening_sockets<R: Net + AllocGlobal, W: Write>(
     Ok(sockets)
 }
 
-/// Listens at an address, tells where, and serves up to 64 connections at once until the program is stopped, with draws by
-/// random bytes of the system. The fault of a connection ends that one alone, and is told to `err`, in at most one line a
+/// Listens at an address, tells where, and serves up to 64 connections at once until the program is stopped, with these
+/// hooks from the first connection on, and draws by random bytes of the system. The fault of a connection ends that one alone, and is told to `err`, in at most one line a
 /// second. What it gives is why it can't go on.
 pub fn start<'r, 'e, R: Net + Clock + RandomSource + AllocGlobal, W: Write, E: Write>(
     rt: &'r R,
     address: &str,
     registry: Registry,
+    hooks: Chain,
     patience: Patience,
     out: &mut W,
     err: &'e mut E,
 ) -> Result<LoopFault, ListenFault>
     ensures done { OnOk result (Announces (W.contents out.old) (W.contents out.new)) }
-    ensures serves { IfOk result (Serves (promises ⟦<MachineSockets as Sockets>⟧.does ⟦<MachineClocks<'r, R> as Clocks>⟧.tells ⟦<LineJournal<'e, E> as Journal>⟧.notes ⟦<Chain as HookHost>⟧) registry [] (limits_of patience)) }
+    ensures serves { IfOk result (Serves (promises ⟦<MachineSockets as Sockets>⟧.does ⟦<MachineClocks<'r, R> as Clocks>⟧.tells ⟦<LineJournal<'e, E> as Journal>⟧.notes ⟦<Chain as HookHost>⟧) registry hooks (limits_of patience)) }
     ensures quiet { OnErr result (err.new ≡ err.old) }
 {
     let generator = random_generator(rt)?;
     let sockets = listening_sockets(rt, address, out)?;
     let mut tools = Tools {
         sockets,
-        edge: new_edge(rt.alloc(), registry),
+        edge: new_edge(rt.alloc(), registry, hooks),
         clocks: MachineClocks(rt),
         generator,
         journal: LineJournal(err),

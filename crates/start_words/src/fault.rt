@@ -1,9 +1,11 @@
 //! Why words are not those of `start`.
 
-ghost use Rattle.std.specs.Prelude.{◌≡◌};
+ghost use Rattle.std.specs.Prelude.{◌≡◌, Some};
+ghost use Rattle.start_words.specs.FaultTexts.{word_fault_text};
 ghost use Rattle.start_words.specs.declared.fault.StartFault.TheVariants.{Memory};
 
 use std::alloc::AllocError;
+use std::fmt::{self, Display, Formatter};
 
 /// What is wrong with a word.
 #[derive(Clone, Copy, Debug, PartialEq, Eq)]
@@ -18,6 +20,20 @@ pub enum WordFault {
     BadValue,
     /// The option was given before.
     Twice,
+}
+
+impl Display for WordFault {
+    ghost output = { λ fault. Some (word_fault_text fault) };
+
+    fn fmt<W: fmt::Write>(&self, f: &mut Formatter<W>) -> fmt::Result {
+        match self {
+            WordFault::NoPort => write!(f, "wants a port"),
+            WordFault::Unknown => write!(f, "is not known"),
+            WordFault::NoValue => write!(f, "wants a value"),
+            WordFault::BadValue => write!(f, "has a bad value"),
+            WordFault::Twice => write!(f, "is given twice"),
+        }
+    }
 }
 
 /// Why words are not those of `start`.

@@ -25,8 +25,6 @@ pub enum OptionName {
     Silence,
     /// `--full SECONDS`.
     Full,
-    /// `--report SECONDS`.
-    Report,
     /// `--hook NAME=FILE`, and `--hook2 NAME=FILE` for a hook that reads records of version 2.
     Hook(Layout),
 }
@@ -38,7 +36,6 @@ pub fn named(word: &str) -> Option<OptionName>
     match word {
         "--silence" => Some(OptionName::Silence),
         "--full" => Some(OptionName::Full),
-        "--report" => Some(OptionName::Report),
         "--hook" => Some(OptionName::Hook(Layout::V1)),
         "--hook2" => Some(OptionName::Hook(Layout::V2)),
         _ => None,

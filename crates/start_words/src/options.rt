@@ -15,7 +15,6 @@ use std::marker::Model;
 pub struct Options<'w> {
     silence: Option<u32>,
     full: Option<u32>,
-    report: Option<u32>,
     hooks: Vec<HookFile<'w>>,
 }
 
@@ -25,7 +24,7 @@ impl<'w> Model for Options<'w> {
 
     ghost Value = { Said };
 
-    ghost view = { λ o. record { silence = o.silence; full = o.full; report = o.report; hooks = map hook_said o.hooks.items } };
+    ghost view = { λ o. record { silence = o.silence; full = o.full; hooks = map hook_said o.hooks.items } };
 }
 
 /// The first word, where it counts by its place, and those behind it.
@@ -76,7 +75,6 @@ impl<'w> Options<'w> {
         Options {
             silence: None,
             full: None,
-            report: None,
             hooks: Vec::new(alloc),
         }
     }
@@ -94,13 +92,6 @@ impl<'w> Options<'w> {
         ensures { result ≡ unwrap_or self.now.full 5 }
     {
         self.full.unwrap_or(5)
-    }
-
-    /// After how many seconds a report comes, and then another one.
-    pub fn report(&self) -> Option<u32>
-        ensures { result ≡ self.now.report }
-    {
-        self.report
     }
 
     /// The hooks, in their order.
@@ -132,7 +123,6 @@ impl<'w> Options<'w> {
                 blame,
             )?,
             OptionName::Full => self.full = once(self.full, number_of(value)).map_err(blame)?,
-            OptionName::Report => self.report = once(self.report, above_0(value)).map_err(blame)?,
             OptionName::Hook(layout) => {
                 let hook = hook_in(layout, value)
                     .ok_or(WordFault::BadValue)
