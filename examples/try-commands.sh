@@ -88,6 +88,17 @@ ends 'a record that is none' 2 '' 'oauthd: bad record\n' run $allow 00
 ends 'no such file' 2 '' 'oauthd: cannot read nowhere\n' list nowhere
 printf 'exit\n\377' >bytes.asm
 ends 'a text that is not UTF-8' 2 '' 'oauthd: cannot read bytes.asm\n' asm bytes.asm
+registry=$OLDPWD/examples/registry.json
+for words in '127.0.0.1=wants a port' '127.0.0.1:0 c --frob 1=--frob is not known' '127.0.0.1:0 c 60 --full=--full wants a value' \
+    '127.0.0.1:0 c --silence 0=--silence has a bad value' '127.0.0.1:0 c 60 --silence 5=--silence is given twice'; do
+    why=${words##*=}
+    [ "$why" = 'wants a port' ] && why='127.0.0.1 wants a port'
+    ends "start ${words%=*}" 2 '' "oauthd: bad arguments: $why\n" start ${words%=*}
+done
+ends 'a number by place that is none' 2 '' 'oauthd: bad arguments\n' start 127.0.0.1:0 "$registry" x
+ends 'a hook that is not there' 2 '' 'oauthd: cannot read nowhere\n' start 127.0.0.1:0 "$registry" --hook a=nowhere
+ends 'a hook that is refused' 2 '' 'oauthd: hook b: Verify JumpBack(0)\n' start 127.0.0.1:0 "$registry" --hook a=hook.hex --hook b=back.hex
+ends 'two hooks of one name' 2 '' 'oauthd: hook a: NameTaken\n' start 127.0.0.1:0 "$registry" --hook a=hook.hex --hook2 a=hook.hex
 if [ -w /dev/full ]; then
     "$program" list hook.hex >/dev/full 2>given.err
     given=$?

@@ -15,7 +15,7 @@ oauthd check FILE          says whether that hook is taken, for records of versi
 oauthd check2 FILE         the same, for records of version 2
     oauthd check2 hook.hex
 oauthd start ADDR CONFIG   serves until it is stopped, at an address, with the registry of a file
-    oauthd start 127.0.0.1:8080 registry.json
+    oauthd start 127.0.0.1:8080 registry.json --hook listed=hook.hex
 oauthd serve ADDR CONFIG SEEDHEX COUNT
                            serves so many connections and ends, with draws by a seed
     oauthd serve 127.0.0.1:8080 registry.json 0707070707070707070707070707070707070707070707070707070707070707 1

@@ -2,3 +2,4 @@ mod HexReading
 mod Lists
 mod Naming
 mod Refusing
+mod Hooking

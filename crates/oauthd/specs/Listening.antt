@@ -1,5 +1,5 @@
 -- How a service serves, or why it doesn't, or no longer.
-use Rattle.std.specs.Prelude.{◌≡◌, ◌⊎◌, ℕ, List, Option}
+use Rattle.std.specs.Prelude.{◌≡◌, ◌⊎◌, ℕ, List, [], Option}
 use Rattle.std.specs.Io.KnownBytes.{Appends}
 use Rattle.clients.specs.RegistryRecord.{RegistryRecord}
 use Rattle.daemon.specs.Listening.{Announces}
@@ -10,15 +10,22 @@ use Rattle.oauthd.specs.declared.fault.PerformFault.TheVariants.{Stopped}
 use Rattle.oauthd.specs.declared.fault.Status.{Status}
 use Rattle.oauthd.specs.declared.fault.Status.TheVariants.{Done}
 use Rattle.oauthd.specs.declared.service.ServeWords.{ServeWords}
-use Rattle.oauthd.specs.declared.service.StartWords.{StartWords}
+use Rattle.start_words.specs.declared.words.StartWords.{StartWords}
 use Rattle.oauthd.specs.declared.service.Service.{Service}
 use Rattle.oauthd.specs.declared.service.Service.TheVariants.{Serve, Start}
 use Rattle.oauthd.specs.Config.{HoldsNoRegistry, HoldsRegistry}
 use Rattle.oauthd.specs.Faults.{of_listening}
 use Rattle.oauthd.specs.File.{File}
+use Rattle.oauthd.specs.Hooks.{HookInFile, RefusesHooks, TakesHooks}
+use Rattle.hook_chain.specs.Chains.{Named}
 use Rattle.oauthd.specs.Printed.{told_text}
 use Rattle.oauthd.specs.Services.{config_of}
 use Rattle.oauthd.specs.Statuses.{status_of}
+
+-- what stands in a service's files: the registry's, and those of its hooks
+pub record ServiceFiles : Type 0 where
+  pub registry : File
+  pub hooks : List HookInFile
 
 -- a service's file holds a registry, and it was printed where its server listens
 pub record HasListened (file : File) (old new : Option (List ℕ)) : Type 0 where
@@ -27,8 +34,8 @@ pub record HasListened (file : File) (old new : Option (List ℕ)) : Type 0 wher
   pub announced : Announces old new
 
 -- `serve` served its connections
-pub record HasServed (service : Service) (file : File) (old new : Option (List ℕ)) : Type 0 where
-  pub listened : HasListened file old new
+pub record HasServed (service : Service) (files : ServiceFiles) (old new : Option (List ℕ)) : Type 0 where
+  pub listened : HasListened files.registry old new
   pub given : ServeWords
   pub service_is : service ≡ Serve given
 
@@ -39,37 +46,47 @@ pub record IsDeaf (file : File) (fault : PerformFault) : Type 0 where
   pub cause : ListenFault
   pub fault_is : fault ≡ of_listening cause
 
--- why a service serves nothing: the file comes first, then its registry, and then the server's socket
-abbrev pub ServesNothing : Service → File → PerformFault → Type 0
-ServesNothing service file fault = HoldsNoRegistry (config_of service) file fault ⊎ IsDeaf file fault
+-- the hooks of `start` are not all taken, and this is the first one's fault
+pub record LacksHook (service : Service) (files : ServiceFiles) (fault : PerformFault) : Type 0 where
+  pub registry : RegistryRecord
+  pub held : HoldsRegistry files.registry registry
+  pub given : StartWords
+  pub service_is : service ≡ Start given
+  pub refused : RefusesHooks [] files.hooks fault
+
+-- why a service serves nothing: the file comes first, then its registry, then its hooks, and then the server's socket
+abbrev pub ServesNothing : Service → ServiceFiles → PerformFault → Type 0
+ServesNothing service files fault = HoldsNoRegistry (config_of service) files.registry fault ⊎ LacksHook service files fault ⊎ IsDeaf files.registry fault
 
 -- why a service serves nothing is told, and the status is that of the fault
-pub record TellsNoService (service : Service) (file : File) (status : Status) (old new : Option (List ℕ)) : Type 0 where
+pub record TellsNoService (service : Service) (files : ServiceFiles) (status : Status) (old new : Option (List ℕ)) : Type 0 where
   pub fault : PerformFault
-  pub cause : ServesNothing service file fault
+  pub cause : ServesNothing service files fault
   pub ended : status ≡ status_of fault
   pub told : Appends old new (told_text fault)
 
--- `start` served connections until its server could not go on, for this fault
-pub record HasStopped (service : Service) (file : File) (fault : PerformFault) (old new : Option (List ℕ)) : Type 0 where
-  pub listened : HasListened file old new
+-- `start` had all its hooks, and served connections until its server could not go on, for this fault
+pub record HasStopped (service : Service) (files : ServiceFiles) (fault : PerformFault) (old new : Option (List ℕ)) : Type 0 where
+  pub listened : HasListened files.registry old new
   pub given : StartWords
   pub service_is : service ≡ Start given
+  pub hooks : List Named
+  pub taken : TakesHooks [] files.hooks hooks
   pub cause : LoopFault
   pub fault_is : fault ≡ Stopped cause
 
 -- so it did, which is told behind the lines of connections that ended, and the status is that of the fault
-pub record TellsStop (service : Service) (file : File) (status : Status) (old new told_then : Option (List ℕ)) : Type 0 where
+pub record TellsStop (service : Service) (files : ServiceFiles) (status : Status) (old new told_then : Option (List ℕ)) : Type 0 where
   pub fault : PerformFault
-  pub stopped : HasStopped service file fault old new
+  pub stopped : HasStopped service files fault old new
   pub ended : status ≡ status_of fault
   pub lines : Option (List ℕ)
   pub told : Appends lines told_then (told_text fault)
 
 -- A service ends, with what it prints and what it tells, each seen as the bytes so far: it served, or serves nothing, or
 -- stopped.
-abbrev pub EndsService : {W E : Type 0} → (W → Option (List ℕ)) → (E → Option (List ℕ)) → Service → File → Status → W → W → E → E → Type 0
-EndsService of_out of_err service file status out out' err err' =
-    ((status ≡ Done) × HasServed service file (of_out out) (of_out out'))
-    ⊎ TellsNoService service file status (of_err err) (of_err err')
-    ⊎ TellsStop service file status (of_out out) (of_out out') (of_err err')
+abbrev pub EndsService : {W E : Type 0} → (W → Option (List ℕ)) → (E → Option (List ℕ)) → Service → ServiceFiles → Status → W → W → E → E → Type 0
+EndsService of_out of_err service files status out out' err err' =
+    ((status ≡ Done) × HasServed service files (of_out out) (of_out out'))
+    ⊎ TellsNoService service files status (of_err err) (of_err err')
+    ⊎ TellsStop service files status (of_out out) (of_out out') (of_err err')

@@ -3,7 +3,7 @@ use Rattle.std.specs.Prelude.{ℕ, Option, None, Result, Ok, Err}
 use Rattle.std.specs.declared.io.ErrorKind.{ErrorKind}
 use Rattle.std.specs.declared.io.ErrorKind.TheVariants as kinds
 use Rattle.oauthd.specs.declared.fault.PerformFault.{PerformFault}
-use Rattle.oauthd.specs.declared.fault.PerformFault.TheVariants.{BadArguments, BadRecord, CannotRead, Text, Insn, Verify, Config, BadLine, Event, CannotListen, NoSeed, Stopped, OutOfMemory, CannotWrite}
+use Rattle.oauthd.specs.declared.fault.PerformFault.TheVariants.{BadArguments, BadWord, BadRecord, CannotRead, Text, Insn, Verify, Config, Hook, BadLine, Event, CannotListen, NoSeed, Stopped, OutOfMemory, CannotWrite}
 use Rattle.oauthd.specs.declared.fault.Status.{Status}
 use Rattle.oauthd.specs.declared.fault.Status.TheVariants.{Done, Refused, BadUse, NoMemory}
 
@@ -17,12 +17,14 @@ code_of NoMemory = 3
 -- a hook, a text or an event that is refused is one thing, bad use another
 abbrev pub status_of : PerformFault → Status
 status_of BadArguments = BadUse
+status_of (BadWord word fault) = BadUse
 status_of BadRecord = BadUse
 status_of (CannotRead path) = BadUse
 status_of (Text fault) = Refused
 status_of (Insn fault) = Refused
 status_of (Verify fault) = Refused
 status_of (Config fault) = BadUse
+status_of (Hook name fault) = BadUse
 status_of (BadLine line) = BadUse
 status_of (Event line fault) = Refused
 status_of CannotListen = BadUse

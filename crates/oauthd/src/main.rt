@@ -11,6 +11,7 @@ mod command;
 mod commands;
 mod fault;
 mod hex_text;
+mod hook_files;
 mod judge;
 mod named_file;
 mod perform;

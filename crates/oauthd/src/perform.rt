@@ -1,9 +1,10 @@
 //! The program without its surroundings: words in, lines and a status out.
 
-ghost use Rattle.std.specs.Prelude.{◌≡◌, ◌⊎◌, OnOk, IfOk, IfErr, IfSome};
+ghost use Rattle.std.specs.Prelude.{◌≡◌, ◌⊎◌, OnOk, IfOk, IfErr, IfSome, map};
 ghost use Rattle.std.specs.Io.KnownBytes.{Appends};
 ghost use Rattle.std.specs.Option.{option_copied};
 ghost use Rattle.oauthd.specs.Endings.{EndsWords};
+ghost use Rattle.oauthd.specs.Hooks.{in_file};
 ghost use Rattle.oauthd.specs.Listening.{EndsService, HasServed, HasStopped, ServesNothing};
 ghost use Rattle.oauthd.specs.Performed.{EndsCommand};
 ghost use Rattle.oauthd.specs.Printed.{told_text};
@@ -13,9 +14,10 @@ use crate::call::Call;
 use crate::command::Command;
 use crate::commands::config_file::registry_in;
 use crate::fault::{PerformFault, Status};
+use crate::hook_files::{HookRead, chain_of, read_hooks};
 use crate::named_file::file_at;
 use crate::service::Service;
-use daemon::{serve, start};
+use daemon::{Patience, serve, start};
 use std::alloc::Global;
 use std::fmt::Display;
 use std::io::{self, Write};
@@ -117,14 +119,15 @@ pub fn told<E: Write>(fault: PerformFault<'_>, err: &mut E) -> Status
 /// Serves, until that is over, or can't go on.
 fn serve_as<'w, R: Net + Clock + RandomSource + AllocGlobal, W: Write, E: Write>(
     rt: &R,
-    service: Service<'w>,
+    service: &Service<'w>,
     file: Option<&[u8]>,
+    hooks: &[HookRead<'w>],
     out: &mut W,
     err: &mut E,
 ) -> Result<(), PerformFault<'w>>
-    ensures done { OnOk result (HasServed service.entry (option_copied file.entry) (W.contents out.old) (W.contents out.new)) }
-    ensures fault { IfErr result (λ fault. ((err.new ≡ err.old) × ServesNothing service.entry (option_copied file.entry) fault)
-        ⊎ HasStopped service.entry (option_copied file.entry) fault (W.contents out.old) (W.contents out.new)) }
+    ensures done { OnOk result (HasServed service.now (record { registry = option_copied file.entry; hooks = map in_file hooks.now }) (W.contents out.old) (W.contents out.new)) }
+    ensures fault { IfErr result (λ fault. ((err.new ≡ err.old) × ServesNothing service.now (record { registry = option_copied file.entry; hooks = map in_file hooks.now }) fault)
+        ⊎ HasStopped service.now (record { registry = option_copied file.entry; hooks = map in_file hooks.now }) fault (W.contents out.old) (W.contents out.new)) }
 {
     let registry = registry_in(rt.alloc(), service.config(), file)?;
     let given = match service {
@@ -134,31 +137,37 @@ fn serve_as<'w, R: Net + Clock + RandomSource + AllocGlobal, W: Write, E: Write>
             return Ok(());
         }
     };
-    let fault = start(rt, given.address, registry, given.patience, out, err)?;
+    let chain = chain_of(rt.alloc(), hooks)?;
+    let patience = Patience {
+        silence: given.options.silence(),
+        full: given.options.full(),
+    };
+    let fault = start(rt, given.address, registry, chain, patience, out, err)?;
     Err(PerformFault::Stopped(fault))
 }
 
 /// Serves, and says how the program then ends. `file` is what stands in the registry's file, and `None` where that cannot
-/// be read.
+/// be read; `hooks` are those that its words name, with their files.
 pub fn perform_service<R: Net + Clock + RandomSource + AllocGlobal, W: Write, E: Write>(
     rt: &R,
-    service: Service<'_>,
+    service: &Service<'_>,
     file: Option<&[u8]>,
+    hooks: &[HookRead<'_>],
     out: &mut W,
     err: &mut E,
 ) -> Status
     // Bad use may be that of a fault that could not be told.
     ensures { (result ≡ Status.BadUse)
-        ⊎ EndsService W.contents E.contents service.entry (option_copied file.entry) result out.old out.new err.old err.new }
+        ⊎ EndsService W.contents E.contents service.now (record { registry = option_copied file.entry; hooks = map in_file hooks.now }) result out.old out.new err.old err.new }
 {
-    match serve_as(rt, service, file, out, err) {
+    match serve_as(rt, service, file, hooks, out, err) {
         Ok(()) => Status::Done,
         Err(fault) => told(fault, err),
     }
 }
 
 /// Does what words call for, and says how the program then ends. `words` are those behind the program's name. They are read
-/// first, and then the file that they name.
+/// first, and then the files that they name.
 pub fn perform<R: Files + Net + Clock + RandomSource + AllocGlobal, W: Write, E: Write>(
     rt: &R,
     words: &[String],
@@ -177,10 +186,16 @@ pub fn perform<R: Files + Net + Clock + RandomSource + AllocGlobal, W: Write, E:
         Ok(file) => file,
         Err(fault) => return told(fault, err),
     };
-    match call {
+    let hooks = match read_hooks(rt, call.hooks()) {
+        Ok(hooks) => hooks,
+        Err(fault) => return told(fault, err),
+    };
+    match &call {
         Call::Command(command) => {
-            perform_command(rt.alloc(), command, file.as_deref(), out, err)
+            perform_command(rt.alloc(), *command, file.as_deref(), out, err)
         }
-        Call::Service(service) => perform_service(rt, service, file.as_deref(), out, err),
+        Call::Service(service) => {
+            perform_service(rt, service, file.as_deref(), &hooks, out, err)
+        }
     }
 }

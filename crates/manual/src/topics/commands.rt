@@ -47,9 +47,10 @@ check2 FILE: as check, for records of version 2.
     Topic {
         name: "start",
         text: "\
-start ADDR CONFIG [SILENCE [FULL]]: listens at ADDR, which is an IP address or a host's name, a colon and a port, prints listening ADDR, and serves up to 64 connections at once, with the registry in the file CONFIG, until it is stopped. Port 0 lets the system choose one. SILENCE is after how many seconds a connection is closed that took no byte of a reply, at least 1, or 60 where it is left out; FULL is after how many the one that was silent longest is closed where all 64 places are taken and another one waits, or 5. Codes and tokens are drawn by random bytes of the system. A connection that a fault ended is told on standard error, in at most one line a second. All that the server knows is in memory alone, and is lost when it is stopped. docs/OPERATING.md says more.
+start ADDR CONFIG [--hook NAME=FILE].. [--hook2 NAME=FILE].. [--silence SECONDS] [--full SECONDS]: listens at ADDR, which is an IP address or a host's name, a colon and a port, prints listening ADDR, and serves up to 64 connections at once, with the registry in the file CONFIG, until it is stopped. Port 0 lets the system choose one. The options come in any order. --hook installs the program in FILE, hex or bytes, as the hook NAME before the first connection is taken, --hook2 one that reads records of version 2; they answer in the order in which they stand. --silence is after how many seconds a connection is closed that took no byte of a reply, at least 1, or 60 where it is left out; --full is after how many the one that was silent longest is closed where all 64 places are taken and another one waits, or 5. The two may also stand as numbers right behind CONFIG: SILENCE, or SILENCE and FULL. Codes and tokens are drawn by random bytes of the system. A connection that a fault ended is told on standard error, in at most one line a second. All that the server knows is in memory alone, and is lost when it is stopped. docs/OPERATING.md says more.
 
   oauthd start 127.0.0.1:8080 registry.json
+  oauthd start 127.0.0.1:8080 registry.json --hook listed=hook.hex --silence 30
   oauthd start 127.0.0.1:8080 registry.json 30 2
 ",
     },

@@ -50,6 +50,7 @@ fn each_command_and_each_fault_is_explained(rt: HostRuntime) -> Result<(), Fail>
         "cannot read",
         "cannot write",
         "bad line",
+        "hook",
         "cannot listen",
         "no random bytes",
         "connection ended",
