@@ -17,6 +17,7 @@ use Rattle.manual.specs.declared.page.TheConstants.{PAGE, VERSION}
 use Rattle.oauthd.specs.Help.{IsExplained, IsPage}
 use Rattle.oauthd.specs.HexText.{IsHexOf, IsNoHex}
 use Rattle.oauthd.specs.Judge.{IsJudged}
+use Rattle.oauthd.specs.Telling.{IsExplainedOn, IsListedWithSlotsAs}
 use Rattle.oauthd.specs.Transcripts.{IsReplayedAs}
 
 -- a hook's code and a record, both as hex text, are judged so
@@ -44,7 +45,9 @@ abbrev pub IsAnsweredBy : Command → File → Result Answer PerformFault → Ty
 IsAnsweredBy (commands.Run code_hex record_hex) file outcome = IsRunOn code_hex.now record_hex.now outcome
 IsAnsweredBy (commands.Assemble path) file outcome = IsAssembledAs path.now file outcome
 IsAnsweredBy (commands.List path) file outcome = IsListedAs path.now file outcome
+IsAnsweredBy (commands.ListSlots path) file outcome = IsListedWithSlotsAs path.now file outcome
 IsAnsweredBy (commands.Check layout path) file outcome = IsCheckedOn layout path.now file outcome
+IsAnsweredBy (commands.Why layout path) file outcome = IsExplainedOn layout path.now file outcome
 IsAnsweredBy (commands.Replay path) file outcome = IsReplayedAs path.now file outcome
 IsAnsweredBy (commands.Help word) file outcome = IsPage PAGE.now outcome
 IsAnsweredBy (commands.Explain name) file outcome = IsExplained name.now outcome

@@ -16,3 +16,4 @@ pub mod Statuses
 pub mod Transcripts
 pub mod Verdict
 pub mod Words
+pub mod Telling

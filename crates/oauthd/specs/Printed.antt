@@ -15,7 +15,7 @@ use Rattle.oauthd.specs.declared.judge.Judged.{Judged}
 use Rattle.oauthd.specs.declared.answer.Answer.{Answer}
 use Rattle.oauthd.specs.declared.answer.Answer.TheVariants as answers
 use Rattle.oauthd.specs.declared.fault.PerformFault.{PerformFault}
-use Rattle.oauthd.specs.declared.fault.PerformFault.TheVariants.{BadArguments, BadRecord, CannotRead, Text, Insn, Verify, Config, BadLine, Event, CannotListen, NoSeed, Stopped, OutOfMemory, CannotWrite}
+use Rattle.oauthd.specs.declared.fault.PerformFault.TheVariants.{BadArguments, BadRecord, CannotRead, IsElf, IsNotHex, Text, Insn, Verify, Config, BadLine, Event, CannotListen, NoSeed, Stopped, OutOfMemory, CannotWrite}
 
 -- what is left of a grant, in words
 abbrev pub narrowed_text : Narrowed → List ℕ
@@ -32,6 +32,7 @@ abbrev pub answer_text : Answer → List ℕ
 answer_text (answers.Judged judged) = judged_text judged ++ codes "\n"
 answer_text (answers.Code hex) = string_bytes hex ++ codes "\n"
 answer_text (answers.Listing text) = string_bytes text
+answer_text (answers.Refusal text) = string_bytes text
 answer_text (answers.Accepted count) = codes "accepted " ++ decimal count ++ codes "\n"
 answer_text (answers.Replayed output) = output.items
 answer_text (answers.Page text) = text.now
@@ -44,6 +45,8 @@ abbrev pub fault_text : PerformFault → List ℕ
 fault_text BadArguments = codes "bad arguments"
 fault_text BadRecord = codes "bad record"
 fault_text (CannotRead path) = codes "cannot read " ++ path.now
+fault_text (IsElf path) = path.now ++ codes " is an ELF file, not hex"
+fault_text (IsNotHex path) = path.now ++ codes " is not hex"
 fault_text (Text fault) = located_text fault
 fault_text (Insn fault) = codes "Insn " ++ insn_fault_text fault
 fault_text (Verify fault) = codes "Verify " ++ verify_fault_text fault

@@ -3,7 +3,7 @@
 ghost use Rattle.std.specs.Prelude.{◌≡◌, ◌≢◌, [], ◌∷◌, IfSome, IfNone};
 ghost use Rattle.std.specs.Option.{option_copied};
 ghost use Rattle.oauthd.specs.Answers.{IsAnsweredBy};
-ghost use Rattle.oauthd.specs.Words.{file_named_by, words_of, IsCommand, IsNoCommand};
+ghost use Rattle.oauthd.specs.Words.{file_named_by, words_of, IsCommand, IsNoCommand, IsOptional};
 
 use crate::answer::Answer;
 use crate::commands::asm::assembled;
@@ -12,6 +12,8 @@ use crate::commands::help::explained;
 use crate::commands::list::listing;
 use crate::commands::replay::replayed;
 use crate::commands::run::run;
+use crate::commands::slots::listing_with_slots;
+use crate::commands::why::explained_check;
 use crate::fault::PerformFault;
 use insn::layout::Layout;
 use manual::{PAGE, VERSION};
@@ -44,9 +46,18 @@ pub enum Command<'w> {
     List {
         path: &'w str,
     },
+    /// `list --slots FILE`: the same, with the slot before each line.
+    ListSlots {
+        path: &'w str,
+    },
     /// `check FILE` and `check2 FILE`: whether the program whose hex stands in a file is accepted, for records of
     /// version 1 or 2.
     Check {
+        layout: Layout,
+        path: &'w str,
+    },
+    /// `check --why FILE` and `check2 --why FILE`: the same, and why it is refused, or what no way reaches.
+    Why {
         layout: Layout,
         path: &'w str,
     },
@@ -100,6 +111,25 @@ fn with_word<'w>(name: &str, word: &'w str) -> Option<Command<'w>>
     }
 }
 
+/// The command that a name, an option and a word name.
+fn with_option<'w>(name: &str, option: &str, word: &'w str) -> Option<Command<'w>>
+    ensures named { IfSome result (λ command. words_of command ≡ name.now ∷ option.now ∷ word.now ∷ []) }
+    ensures none { IfNone result ((command : Command) → IsOptional command → words_of command ≢ name.now ∷ option.now ∷ word.now ∷ []) }
+{
+    match (name, option) {
+        ("list", "--slots") => Some(Command::ListSlots { path: word }),
+        ("check", "--why") => Some(Command::Why {
+            layout: Layout::V1,
+            path: word,
+        }),
+        ("check2", "--why") => Some(Command::Why {
+            layout: Layout::V2,
+            path: word,
+        }),
+        _ => None,
+    }
+}
+
 impl<'w> Command<'w> {
     /// The command that words name: those behind the program's name.
     pub fn from_words(words: &'w [String]) -> Option<Command<'w>>
@@ -111,6 +141,7 @@ impl<'w> Command<'w> {
                 code_hex: code_hex.as_str(),
                 record_hex: record_hex.as_str(),
             }),
+            [name, option, word] => with_option(name.as_str(), option.as_str(), word.as_str()),
             [name] => alone(name.as_str()),
             [name, word] => with_word(name.as_str(), word.as_str()),
             _ => None,
@@ -125,7 +156,9 @@ impl<'w> Command<'w> {
             Command::Run { .. } => None,
             Command::Assemble { path } => Some(path),
             Command::List { path } => Some(path),
+            Command::ListSlots { path } => Some(path),
             Command::Check { path, .. } => Some(path),
+            Command::Why { path, .. } => Some(path),
             Command::Replay { path } => Some(path),
             Command::Help(_) | Command::Explain { .. } | Command::Version => None,
         }
@@ -142,7 +175,9 @@ impl<'w> Command<'w> {
             } => run(alloc, code_hex, record_hex),
             Command::Assemble { path } => assembled(alloc, path, file),
             Command::List { path } => listing(alloc, path, file),
+            Command::ListSlots { path } => listing_with_slots(alloc, path, file),
             Command::Check { layout, path } => check(alloc, layout, path, file),
+            Command::Why { layout, path } => explained_check(alloc, layout, path, file),
             Command::Replay { path } => replayed(alloc, path, file),
             Command::Help(_) => Ok(Answer::Page(PAGE)),
             Command::Explain { name } => explained(name),

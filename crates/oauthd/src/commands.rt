@@ -8,4 +8,7 @@ pub mod list;
 mod program_file;
 pub mod replay;
 pub mod run;
+pub mod slots;
 mod text_file;
+mod told_file;
+pub mod why;

@@ -48,6 +48,10 @@ pub enum PerformFault<'w> {
     BadRecord,
     /// The file of this path cannot be read.
     CannotRead(&'w str),
+    /// The file of this path is an ELF file, where hex is wanted.
+    IsElf(&'w str),
+    /// The file of this path is not hex.
+    IsNotHex(&'w str),
     /// The text says no program.
     Text(AsmFault),
     /// The code is no program.
@@ -85,6 +89,8 @@ impl<'w> PerformFault<'w> {
             PerformFault::BadArguments
             | PerformFault::BadRecord
             | PerformFault::CannotRead(_)
+            | PerformFault::IsElf(_)
+            | PerformFault::IsNotHex(_)
             | PerformFault::Config(_)
             | PerformFault::BadLine(_)
             | PerformFault::CannotListen
@@ -104,6 +110,8 @@ impl<'w> Display for PerformFault<'w> {
             PerformFault::BadArguments => write!(f, "bad arguments"),
             PerformFault::BadRecord => write!(f, "bad record"),
             PerformFault::CannotRead(path) => write!(f, "cannot read {path}"),
+            PerformFault::IsElf(path) => write!(f, "{path} is an ELF file, not hex"),
+            PerformFault::IsNotHex(path) => write!(f, "{path} is not hex"),
             PerformFault::Text(fault) => write!(f, "{}", Located(*fault)),
             PerformFault::Insn(fault) => write!(f, "Insn {fault}"),
             PerformFault::Verify(fault) => write!(f, "Verify {fault}"),

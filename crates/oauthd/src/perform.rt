@@ -46,7 +46,7 @@ pub fn carry_out<W: Write, E: Write>(
 {
     match command.answer(alloc, file) {
         Ok(answer) => match answer.write_to(out) {
-            Ok(()) => Ok(Status::Done),
+            Ok(()) => Ok(answer.status()),
             Err(_) => Err(Unwritten::Answer),
         },
         Err(fault) => report(fault, err),
