@@ -18,50 +18,50 @@ use Rattle.grants.specs.TokenPath.{issue_token}
 use Rattle.endpoints.specs.Paths.{endpoint_at, method_at}
 use Rattle.endpoints.specs.Replies.{outcome_at}
 use Rattle.endpoints.specs.Revoke.{revoke_token, revoke_points, revoked}
-use Rattle.promises.specs.Turns.{Turn, outcome_of, history_after}
+use Rattle.promises.specs.Occasions.{Occasion, outcome_of, history_after}
 use Rattle.promises.specs.Uses.{Exchanges, IsGiven, Revokes}
 use Rattle.promises.proofs.Walking.{at_point, at_need, at_authenticated, no_error_200, other, same_some, granted_at}
 use Rattle.promises.proofs.Spending.{has_digest, grant_at-still, is_spent-by, ended_by, ended_stays, live_is}
 use Rattle.promises.proofs.Exchanging.{IsUse, IsUsed, issue_used}
 
-module _ (rules : RegistryRecord) (history : List Event) (turn : Turn) where
+module _ (rules : RegistryRecord) (history : List Event) (occasion : Occasion) where
   -- the outcome at the path
   abbrev pub at_path : List ℕ → Outcome
   at_path path =
       need (endpoint_at path) (bare 404) (λ endpoint.
-      point (not (bytes_eq turn.arrival.asked.method (method_at endpoint))) (bare 405)
-      (chosen turn.refused (outcome_at endpoint rules turn.host history turn.arrival.asked turn.arrival.moment turn.arrival.draws)))
+      point (not (bytes_eq occasion.arrival.asked.method (method_at endpoint))) (bare 405)
+      (chosen occasion.refused (outcome_at endpoint rules occasion.host history occasion.arrival.asked occasion.arrival.moment occasion.arrival.draws)))
 
-  use_of : (text : List ℕ) → Exchanges rules history turn text →
-      (digest : List ℕ) × (digest_told text ≡ Some digest) × IsUse history turn.arrival.moment digest (outcome_of rules history turn).changes
+  use_of : (text : List ℕ) → Exchanges rules history occasion text →
+      (digest : List ℕ) × (digest_told text ≡ Some digest) × IsUse history occasion.arrival.moment digest (outcome_of rules history occasion).changes
   use_of text it =
-      let o = issue_token rules history turn.host.answer turn.arrival.asked turn.arrival.moment turn.arrival.draws in
-      let there : outcome_of rules history turn ≡ at_path (codes "/token") = ap at_path it.goes_to in
-      let same : outcome_of rules history turn ≡ o =
-      there ∙ granted_at (not (bytes_eq turn.arrival.asked.method (codes "POST"))) turn.refused o (ap (λ (x : Outcome). x.reply.status) (sym there) ∙ it.granted) in
-      subst (λ (x : Outcome). IsUsed history turn.arrival.moment text x) (sym same)
-      (issue_used rules history turn.arrival.moment text turn.host.answer turn.arrival.asked turn.arrival.draws it.params it.form it.presents) it.granted
+      let o = issue_token rules history occasion.host.answer occasion.arrival.asked occasion.arrival.moment occasion.arrival.draws in
+      let there : outcome_of rules history occasion ≡ at_path (codes "/token") = ap at_path it.goes_to in
+      let same : outcome_of rules history occasion ≡ o =
+      there ∙ granted_at (not (bytes_eq occasion.arrival.asked.method (codes "POST"))) occasion.refused o (ap (λ (x : Outcome). x.reply.status) (sym there) ∙ it.granted) in
+      subst (λ (x : Outcome). IsUsed history occasion.arrival.moment text x) (sym same)
+      (issue_used rules history occasion.arrival.moment text occasion.host.answer occasion.arrival.asked occasion.arrival.draws it.params it.form it.presents) it.granted
 
-pub exchanged_once : (rules : RegistryRecord) (history between : List Event) (turn later : Turn) (text : List ℕ) →
-    Exchanges rules history turn text → Exchanges rules (history_after rules history turn ++ between) later text → IsGiven between text
-exchanged_once rules history between turn later text first second =
-    let a = use_of rules history turn text first in
-    let b = use_of rules (history_after rules history turn ++ between) later text second in
+pub exchanged_once : (rules : RegistryRecord) (history between : List Event) (occasion later : Occasion) (text : List ℕ) →
+    Exchanges rules history occasion text → Exchanges rules (history_after rules history occasion ++ between) later text → IsGiven between text
+exchanged_once rules history between occasion later text first second =
+    let a = use_of rules history occasion text first in
+    let b = use_of rules (history_after rules history occasion ++ between) later text second in
     let same : b.0 ≡ a.0 = same_some b.0 a.0 (digest_told text) b.1 a.1 in
-    record { digest = a.0; told = a.1; given = given a.0 a.2 (subst (λ d. IsUse (history_after rules history turn ++ between) later.arrival.moment d (outcome_of rules (history_after rules history turn ++ between) later).changes) same b.2) }
+    record { digest = a.0; told = a.1; given = given a.0 a.2 (subst (λ d. IsUse (history_after rules history occasion ++ between) later.arrival.moment d (outcome_of rules (history_after rules history occasion ++ between) later).changes) same b.2) }
   where
-    given : (digest : List ℕ) → IsUse history turn.arrival.moment digest (outcome_of rules history turn).changes →
-        IsUse (history_after rules history turn ++ between) later.arrival.moment digest (outcome_of rules (history_after rules history turn ++ between) later).changes →
+    given : (digest : List ℕ) → IsUse history occasion.arrival.moment digest (outcome_of rules history occasion).changes →
+        IsUse (history_after rules history occasion ++ between) later.arrival.moment digest (outcome_of rules (history_after rules history occasion ++ between) later).changes →
         list_any (has_digest digest) (grants between) ≡ true
     given digest a b = by_given (list_any (has_digest digest) (grants between)) refl
       where
         more : List Event
-        more = map (event_at turn.arrival.moment) (outcome_of rules history turn).changes
+        more = map (event_at occasion.arrival.moment) (outcome_of rules history occasion).changes
 
         by_given : (x : Bool) → list_any (has_digest digest) (grants between) ≡ x → x ≡ true
         by_given true is = refl
         by_given false is =
-            let more = map (event_at turn.arrival.moment) (outcome_of rules history turn).changes in
+            let more = map (event_at occasion.arrival.moment) (outcome_of rules history occasion).changes in
             let whole : (history ++ more) ++ between ≡ history ++ (more ++ between) = append_assoc history more between in
             let none : list_any (has_digest digest) (grants (more ++ between)) ≡ false =
             ap (list_any (has_digest digest)) (grants-append more between)
@@ -76,30 +76,30 @@ exchanged_once rules history between turn later text first second =
 
 -- REVOCATION
 
-module _ (rules : RegistryRecord) (history : List Event) (turn : Turn) (token : Grant) (it : Revokes rules history turn token) where
+module _ (rules : RegistryRecord) (history : List Event) (occasion : Occasion) (token : Grant) (it : Revokes rules history occasion token) where
   abbrev Ended : Outcome → Type 0
   Ended o = o.reply.status ≡ 200 → o.changes ≡ FamilyEnded token.family ∷ []
 
   refused : (error : _) → Ended (refuse error)
   refused error e = absurd (no_error_200 error e)
 
-  ended : (outcome_of rules history turn).changes ≡ FamilyEnded token.family ∷ []
+  ended : (outcome_of rules history occasion).changes ≡ FamilyEnded token.family ∷ []
   ended =
-      let o = revoke_token rules history turn.arrival.asked turn.arrival.moment in
-      let there : outcome_of rules history turn ≡ at_path rules history turn (codes "/revoke") = ap (at_path rules history turn) it.goes_to in
-      let same : outcome_of rules history turn ≡ o =
-      there ∙ granted_at (not (bytes_eq turn.arrival.asked.method (codes "POST"))) turn.refused o (ap (λ (x : Outcome). x.reply.status) (sym there) ∙ it.done) in
+      let o = revoke_token rules history occasion.arrival.asked occasion.arrival.moment in
+      let there : outcome_of rules history occasion ≡ at_path rules history occasion (codes "/revoke") = ap (at_path rules history occasion) it.goes_to in
+      let same : outcome_of rules history occasion ≡ o =
+      there ∙ granted_at (not (bytes_eq occasion.arrival.asked.method (codes "POST"))) occasion.refused o (ap (λ (x : Outcome). x.reply.status) (sym there) ∙ it.done) in
       subst Ended (sym same)
-      (at_authenticated Ended rules turn.arrival.asked (revoke_points history turn.arrival.moment) refused (λ e. absurd (other 503 200 refl e)) (λ params known is.
-      at_need Ended {A = List ℕ} (value_of (codes "token") params) (refuse InvalidRequest) (λ text. revoked known.number (live_token history turn.arrival.moment text)) (refused InvalidRequest) (λ text sent.
-      let same_text : text ≡ it.text = same_some text it.text (value_of (codes "token") params) sent (ap (value_of (codes "token")) (same_some params it.params (form_of turn.arrival.asked) is it.form) ∙ it.presents) in
-      subst (λ t. Ended (revoked known.number t)) (sym (ap (live_token history turn.arrival.moment) same_text ∙ it.live))
+      (at_authenticated Ended rules occasion.arrival.asked (revoke_points history occasion.arrival.moment) refused (λ e. absurd (other 503 200 refl e)) (λ params known is.
+      at_need Ended {A = List ℕ} (value_of (codes "token") params) (refuse InvalidRequest) (λ text. revoked known.number (live_token history occasion.arrival.moment text)) (refused InvalidRequest) (λ text sent.
+      let same_text : text ≡ it.text = same_some text it.text (value_of (codes "token") params) sent (ap (value_of (codes "token")) (same_some params it.params (form_of occasion.arrival.asked) is it.form) ∙ it.presents) in
+      subst (λ t. Ended (revoked known.number t)) (sym (ap (live_token history occasion.arrival.moment) same_text ∙ it.live))
       (at_point Ended (not (token.client == known.number)) (refuse InvalidGrant) _ (λ _. refused InvalidGrant) (λ _ _. refl))))) it.done
 
   pub revoked_stays : (later : List Event) (found : Grant) (digest : List ℕ) (moment : ℕ) →
-      live_grant (history_after rules history turn ++ later) digest moment ≡ Some found → found.family ≡ token.family → ⊥
+      live_grant (history_after rules history occasion ++ later) digest moment ≡ Some found → found.family ≡ token.family → ⊥
   revoked_stays later found digest moment live kin =
-      let whole = history_after rules history turn ++ later in
+      let whole = history_after rules history occasion ++ later in
       let alive = (live_is whole digest moment found live).1 in
-      let was = ended_stays (history_after rules history turn) later found.family alive in
-      false≢true (sym was ∙ ap (λ cs. has_ended (history ++ map (event_at turn.arrival.moment) cs) found.family) ended ∙ ended_by history (event_at turn.arrival.moment (FamilyEnded token.family)) found.family (eq-eqb token.family found.family (sym kin)))
+      let was = ended_stays (history_after rules history occasion) later found.family alive in
+      false≢true (sym was ∙ ap (λ cs. has_ended (history ++ map (event_at occasion.arrival.moment) cs) found.family) ended ∙ ended_by history (event_at occasion.arrival.moment (FamilyEnded token.family)) found.family (eq-eqb token.family found.family (sym kin)))

@@ -36,7 +36,7 @@ use Rattle.grants.specs.Exchange as code
 use Rattle.grants.specs.Refresh as token
 use Rattle.grants.specs.ClientCredentials as own
 use Rattle.grants.specs.TokenPath.{issue_token, token_points, grant_points}
-use Rattle.promises.specs.Turns.{Turn, GoesTo, outcome_of, reply_of}
+use Rattle.promises.specs.Occasions.{Occasion, GoesTo, outcome_of, reply_of}
 use Rattle.promises.specs.Hooked.{allows_all, without_hooks, IsNarrowed}
 use Rattle.promises.proofs.Walking.{no_error_200, other}
 use Rattle.promises.proofs.Exchanged.{at_path}
@@ -239,19 +239,19 @@ module _ (rules : RegistryRecord) (history : List Event) (m : ℕ) where
       by_client (authenticated rules.clients asked.authorization params) (token_points rules history answer m draws params) (token_points rules history allows_all m draws params)
       (λ known. in_tokens answer draws params known))
 
-pub hooks_narrow : (rules : RegistryRecord) (history : List Event) (turn : Turn) → GoesTo turn (codes "/token") → (reply_of rules history turn).status ≡ 200 →
-    IsNarrowed (outcome_of rules history turn) (outcome_of rules history (without_hooks turn))
-hooks_narrow rules history turn goes granted =
-    let there : outcome_of rules history turn ≡ at_path rules history turn (codes "/token") = ap (at_path rules history turn) goes in
-    let there' : outcome_of rules history (without_hooks turn) ≡ at_path rules history (without_hooks turn) (codes "/token") = ap (at_path rules history (without_hooks turn)) goes in
-    subst (λ (o : Outcome). IsNarrowed o (outcome_of rules history (without_hooks turn))) (sym there)
-    (subst (λ (p : Outcome). IsNarrowed (at_path rules history turn (codes "/token")) p) (sym there')
-    (narrows (not (bytes_eq turn.arrival.asked.method (codes "POST"))) turn.refused (ap (λ (o : Outcome). o.reply.status) (sym there) ∙ granted)))
+pub hooks_narrow : (rules : RegistryRecord) (history : List Event) (occasion : Occasion) → GoesTo occasion (codes "/token") → (reply_of rules history occasion).status ≡ 200 →
+    IsNarrowed (outcome_of rules history occasion) (outcome_of rules history (without_hooks occasion))
+hooks_narrow rules history occasion goes granted =
+    let there : outcome_of rules history occasion ≡ at_path rules history occasion (codes "/token") = ap (at_path rules history occasion) goes in
+    let there' : outcome_of rules history (without_hooks occasion) ≡ at_path rules history (without_hooks occasion) (codes "/token") = ap (at_path rules history (without_hooks occasion)) goes in
+    subst (λ (o : Outcome). IsNarrowed o (outcome_of rules history (without_hooks occasion))) (sym there)
+    (subst (λ (p : Outcome). IsNarrowed (at_path rules history occasion (codes "/token")) p) (sym there')
+    (narrows (not (bytes_eq occasion.arrival.asked.method (codes "POST"))) occasion.refused (ap (λ (o : Outcome). o.reply.status) (sym there) ∙ granted)))
   where
     narrows : (b refused : Bool) →
         Narrows
-        (point b (bare 405) (chosen refused (issue_token rules history turn.host.answer turn.arrival.asked turn.arrival.moment turn.arrival.draws)))
-        (point b (bare 405) (chosen refused (issue_token rules history allows_all turn.arrival.asked turn.arrival.moment turn.arrival.draws)))
+        (point b (bare 405) (chosen refused (issue_token rules history occasion.host.answer occasion.arrival.asked occasion.arrival.moment occasion.arrival.draws)))
+        (point b (bare 405) (chosen refused (issue_token rules history allows_all occasion.arrival.asked occasion.arrival.moment occasion.arrival.draws)))
     narrows true refused e = absurd (other 405 200 refl e)
     narrows false true e = absurd (other 503 200 refl e)
-    narrows false false e = issue_narrows rules history turn.arrival.moment turn.host.answer turn.arrival.asked turn.arrival.draws e
+    narrows false false e = issue_narrows rules history occasion.arrival.moment occasion.host.answer occasion.arrival.asked occasion.arrival.draws e

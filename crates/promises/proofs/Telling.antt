@@ -47,7 +47,7 @@ use Rattle.endpoints.specs.Revoke.{revoke_token, revoke_points, revoked}
 use Rattle.endpoints.specs.HookPaths.{install_hook, remove_hook, list_hooks, change_hooks, by_fault, installation, removal, is_operator}
 use Rattle.endpoints.specs.Introspect.{introspect, introspect_points, told, told_of}
 use Rattle.endpoints.specs.Bounded.{IsBounded, life_limit}
-use Rattle.promises.specs.Turns.{Turn, outcome_of, reply_of}
+use Rattle.promises.specs.Occasions.{Occasion, outcome_of, reply_of}
 use Rattle.promises.specs.Grants.{KeepsScope, TellsBounded}
 use Rattle.promises.proofs.Bounding.{live_keeps}
 use Rattle.promises.proofs.Walking.{at_point, at_need, at_chosen, at_authenticated, other}
@@ -225,27 +225,27 @@ module _ (P : Outcome → Type 0)
   first_or true x o without later here there = here
   first_or false x o without later here there = there
 
-  pub at_turn : (turn : Turn) → P (outcome_of rules history turn)
-  at_turn turn =
-      let path = path_of turn.arrival.asked.target in
-      let asked = turn.arrival.asked in
-      let m = turn.arrival.moment in
+  pub at_occasion : (occasion : Occasion) → P (outcome_of rules history occasion)
+  at_occasion occasion =
+      let path = path_of occasion.arrival.asked.target in
+      let asked = occasion.arrival.asked in
+      let m = occasion.arrival.moment in
       let get = not (bytes_eq asked.method (codes "GET")) in
       let post = not (bytes_eq asked.method (codes "POST")) in
-      first_or (bytes_eq path (codes "/authorize")) _ _ (bare 404) _ (one get (authorize rules history asked m turn.arrival.draws.first) (at_authorize P nothing given rules history m asked turn.arrival.draws.first))
+      first_or (bytes_eq path (codes "/authorize")) _ _ (bare 404) _ (one get (authorize rules history asked m occasion.arrival.draws.first) (at_authorize P nothing given rules history m asked occasion.arrival.draws.first))
       (first_or (bytes_eq path (codes "/consent")) _ _ (bare 404) _ (one post (give_consent rules history asked) (at_consent P nothing given rules history m asked))
-      (first_or (bytes_eq path (codes "/token")) _ _ (bare 404) _ (one post (issue_token rules history turn.host.answer asked m turn.arrival.draws) (at_token P nothing given rules history m turn.host.answer asked turn.arrival.draws))
+      (first_or (bytes_eq path (codes "/token")) _ _ (bare 404) _ (one post (issue_token rules history occasion.host.answer asked m occasion.arrival.draws) (at_token P nothing given rules history m occasion.host.answer asked occasion.arrival.draws))
       (first_or (bytes_eq path (codes "/revoke")) _ _ (bare 404) _ (one post (revoke_token rules history asked m) (at_revoke P nothing given rules history m asked))
       (first_or (bytes_eq path (codes "/introspect")) _ _ (bare 404) _ (one post (introspect rules history asked m) (telling asked m))
-      (first_or (bytes_eq path (codes "/hooks")) _ _ (bare 404) _ (one post (install_hook rules turn.host.fault asked) (at_hooks P nothing given rules history m turn.host.fault asked (installation asked)))
-      (first_or (bytes_eq path (codes "/hooks/remove")) _ _ (bare 404) _ (one post (remove_hook rules turn.host.fault asked) (at_hooks P nothing given rules history m turn.host.fault asked (removal asked)))
-      (first_or (bytes_eq path (codes "/hooks/list")) _ _ (bare 404) _ (one get (list_hooks rules turn.host.names asked) (at_list P nothing given rules history m turn.host.names asked)) (bare_only 404))))))))
+      (first_or (bytes_eq path (codes "/hooks")) _ _ (bare 404) _ (one post (install_hook rules occasion.host.fault asked) (at_hooks P nothing given rules history m occasion.host.fault asked (installation asked)))
+      (first_or (bytes_eq path (codes "/hooks/remove")) _ _ (bare 404) _ (one post (remove_hook rules occasion.host.fault asked) (at_hooks P nothing given rules history m occasion.host.fault asked (removal asked)))
+      (first_or (bytes_eq path (codes "/hooks/list")) _ _ (bare 404) _ (one get (list_hooks rules occasion.host.names asked) (at_list P nothing given rules history m occasion.host.names asked)) (bare_only 404))))))))
     where
       bare_only : (status : ℕ) → P (bare status)
       bare_only status = nothing (plain status Empty) tt
 
-      one : (b : Bool) (o : Outcome) → P o → P (point b (bare 405) (chosen turn.refused o))
-      one b o p = at_point P b (bare 405) (chosen turn.refused o) (λ _. bare_only 405) (λ _. at_chosen P turn.refused o (bare_only 503) p)
+      one : (b : Bool) (o : Outcome) → P o → P (point b (bare 405) (chosen occasion.refused o))
+      one b o p = at_point P b (bare 405) (chosen occasion.refused o) (λ _. bare_only 405) (λ _. at_chosen P occasion.refused o (bare_only 503) p)
 
 -- INTROSPECTION
 
@@ -288,17 +288,17 @@ module _ (P : Outcome → Type 0) (rules : RegistryRecord) (history : List Event
 
 -- WHAT FOLLOWS
 
-pub nothing_of_503 : (rules : RegistryRecord) (history : List Event) (turn : Turn) → (reply_of rules history turn).status ≡ 503 → (outcome_of rules history turn).changes ≡ []
-nothing_of_503 rules history turn =
-    at_turn (λ o. o.reply.status ≡ 503 → o.changes ≡ []) (λ reply _ _. refl) (λ reply changes apart _ is. absurd (apart is)) rules history
-    (λ asked m. at_introspect (λ o. o.reply.status ≡ 503 → o.changes ≡ []) rules history m (λ reply _ _. refl) (λ digest g client live token at _. refl) asked) turn
+pub nothing_of_503 : (rules : RegistryRecord) (history : List Event) (occasion : Occasion) → (reply_of rules history occasion).status ≡ 503 → (outcome_of rules history occasion).changes ≡ []
+nothing_of_503 rules history occasion =
+    at_occasion (λ o. o.reply.status ≡ 503 → o.changes ≡ []) (λ reply _ _. refl) (λ reply changes apart _ is. absurd (apart is)) rules history
+    (λ asked m. at_introspect (λ o. o.reply.status ≡ 503 → o.changes ≡ []) rules history m (λ reply _ _. refl) (λ digest g client live token at _. refl) asked) occasion
 
-pub active_bounded : (rules : RegistryRecord) (history : List Event) → IsBounded rules history → (turn : Turn) → TellsBounded rules history (reply_of rules history turn).body
-active_bounded rules history bounded turn =
-    at_turn Tells (λ reply quiet. quiet_tells reply.body quiet) (λ reply changes _ quiet. quiet_tells reply.body quiet) rules history
+pub active_bounded : (rules : RegistryRecord) (history : List Event) → IsBounded rules history → (occasion : Occasion) → TellsBounded rules history (reply_of rules history occasion).body
+active_bounded rules history bounded occasion =
+    at_occasion Tells (λ reply quiet. quiet_tells reply.body quiet) (λ reply changes _ quiet. quiet_tells reply.body quiet) rules history
     (λ asked m. at_introspect Tells rules history m (λ reply quiet. quiet_tells reply.body quiet) (λ digest g client live token at.
     let keeps = live_keeps rules history digest m g bounded live token in
-    told_tells g client at keeps.0 g.kind (keeps.1)) asked) turn
+    told_tells g client at keeps.0 g.kind (keeps.1)) asked) occasion
   where
     Tells : Outcome → Type 0
     Tells o = TellsBounded rules history o.reply.body

@@ -11,7 +11,7 @@ use Rattle.messages.specs.Reply.{Body}
 use Rattle.messages.specs.Reply.Body.{Active}
 use Rattle.endpoints.specs.Bounded.{allowed_to, life_limit}
 use Rattle.endpoints.specs.Server.{Seen, FitsServer}
-use Rattle.promises.specs.Turns.{Turn, reply_of}
+use Rattle.promises.specs.Occasions.{Occasion, reply_of}
 
 -- the scope is within what the client may have and, where there is an owner, within what the owner consents to now
 pub record KeepsScope (rules : RegistryRecord) (history : List Event) (token : Grant) : Type 0 where
@@ -38,7 +38,7 @@ pub record IsSince (history : List Event) (digest : List ℕ) (moment : ℕ) (to
 
 -- where a reply tells of an active token, it tells one that keeps to its bounds
 abbrev pub TellsWithin : RegistryRecord → List Event → Type 0
-TellsWithin rules history = (turn : Turn) → TellsBounded rules history (reply_of rules history turn).body
+TellsWithin rules history = (occasion : Occasion) → TellsBounded rules history (reply_of rules history occasion).body
 
 -- the scope of a live token of an owner is within each consent that counts for it
 abbrev pub KeepsToConsents : List Event → Type 0

@@ -6,18 +6,18 @@ use Rattle.hook_record.specs.declared.Ask.{Ask}
 use Rattle.hook_record.specs.declared.Narrowed.{Narrowed}
 use Rattle.hook_record.specs.declared.Narrowed.TheVariants.{Allowed}
 use Rattle.grants.specs.Outcomes.{Outcome}
-use Rattle.promises.specs.Turns.{Turn}
+use Rattle.promises.specs.Occasions.{Occasion}
 
 -- a host without hooks allows all that is asked
 abbrev pub allows_all : Ask → Narrowed
 allows_all ask = Allowed ask.scope ask.life
 
--- the turn at such a host
-abbrev pub without_hooks : Turn → Turn
-without_hooks turn = record {
-  arrival = turn.arrival;
-  host = record { answer = allows_all; names = turn.host.names; fault = turn.host.fault };
-  refused = turn.refused;
+-- the same at such a host
+abbrev pub without_hooks : Occasion → Occasion
+without_hooks occasion = record {
+  arrival = occasion.arrival;
+  host = record { answer = allows_all; names = occasion.host.names; fault = occasion.host.fault };
+  refused = occasion.refused;
 }
 
 -- the token is the other one, but for some of its scope and some of its life; all else is the same

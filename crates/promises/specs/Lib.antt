@@ -1,4 +1,4 @@
-pub mod Turns
+pub mod Occasions
 pub mod Uses
 pub mod Grants
 pub mod Hooked

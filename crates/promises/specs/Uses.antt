@@ -8,7 +8,7 @@ use Rattle.consent.specs.History.{Event, Grant, grants, live_grant}
 use Rattle.grants.specs.Requesters.{Parameters, form_of}
 use Rattle.grants.specs.Texts.{digest_told}
 use Rattle.grants.specs.Tokens.{live_token}
-use Rattle.promises.specs.Turns.{Turn, GoesTo, reply_of}
+use Rattle.promises.specs.Occasions.{Occasion, GoesTo, reply_of}
 
 -- the parameters present the text as a code or as a refresh token
 abbrev pub Presents : Parameters → List ℕ → Type 0
@@ -17,12 +17,12 @@ Presents params text =
     ⊎ ((value_of (codes "grant_type") params ≡ Some (codes "refresh_token")) × (value_of (codes "refresh_token") params ≡ Some text))
 
 -- the code or refresh token of the text is exchanged for tokens
-pub record Exchanges (rules : RegistryRecord) (history : List Event) (turn : Turn) (text : List ℕ) : Type 0 where
-  pub goes_to : GoesTo turn (codes "/token")
+pub record Exchanges (rules : RegistryRecord) (history : List Event) (occasion : Occasion) (text : List ℕ) : Type 0 where
+  pub goes_to : GoesTo occasion (codes "/token")
   pub params : Parameters
-  pub form : form_of turn.arrival.asked ≡ Some params
+  pub form : form_of occasion.arrival.asked ≡ Some params
   pub presents : Presents params text
-  pub granted : (reply_of rules history turn).status ≡ 200
+  pub granted : (reply_of rules history occasion).status ≡ 200
 
 -- a code or token of the text is given among the events
 pub record IsGiven (events : List Event) (text : List ℕ) : Type 0 where
@@ -31,19 +31,19 @@ pub record IsGiven (events : List Event) (text : List ℕ) : Type 0 where
   pub given : list_any (λ g. bytes_eq digest g.digest) (grants events) ≡ true
 
 -- the live token is revoked
-pub record Revokes (rules : RegistryRecord) (history : List Event) (turn : Turn) (token : Grant) : Type 0 where
-  pub goes_to : GoesTo turn (codes "/revoke")
+pub record Revokes (rules : RegistryRecord) (history : List Event) (occasion : Occasion) (token : Grant) : Type 0 where
+  pub goes_to : GoesTo occasion (codes "/revoke")
   pub params : Parameters
-  pub form : form_of turn.arrival.asked ≡ Some params
+  pub form : form_of occasion.arrival.asked ≡ Some params
   pub text : List ℕ
   pub presents : value_of (codes "token") params ≡ Some text
-  pub live : live_token history turn.arrival.moment text ≡ Some token
-  pub done : (reply_of rules history turn).status ≡ 200
+  pub live : live_token history occasion.arrival.moment text ≡ Some token
+  pub done : (reply_of rules history occasion).status ≡ 200
 
 -- after this history the text is exchanged only where a code or token of it was given since
 abbrev pub IsUsedUp : RegistryRecord → List Event → List ℕ → Type 0
 IsUsedUp rules history text =
-    (between : List Event) (turn : Turn) → Exchanges rules (history ++ between) turn text → IsGiven between text
+    (between : List Event) (occasion : Occasion) → Exchanges rules (history ++ between) occasion text → IsGiven between text
 
 -- no code and no token of the family is live, at any moment
 abbrev pub IsDead : List Event → ℕ → Type 0

@@ -5,7 +5,7 @@ ghost use Rattle.clients.specs.RegistryRecord.{RegistryRecord};
 ghost use Rattle.consent.specs.History.{Event, Grant};
 ghost use Rattle.promises.specs.Grants.{InEachHistory, KeepsToConsents, TellsWithin};
 ghost use Rattle.promises.specs.Hooked.{IsNarrowed, without_hooks};
-ghost use Rattle.promises.specs.Turns.{GoesTo, Turn, history_after, outcome_of, reply_of};
+ghost use Rattle.promises.specs.Occasions.{GoesTo, Occasion, history_after, outcome_of, reply_of};
 ghost use Rattle.promises.specs.Uses.{Exchanges, IsDead, IsUsedUp, Revokes};
 
 use hook_host::HookHost;
@@ -23,27 +23,27 @@ pub fn no_token_is_beyond_a_lowered_consent<H: HookHost>()
 
 /// Nothing happens with a 503.
 pub fn nothing_comes_of_a_503()
-    ensures { (rules : RegistryRecord) (history : List Event) (turn : Turn) →
-        (reply_of rules history turn).status ≡ 503 → (outcome_of rules history turn).changes ≡ [] }
+    ensures { (rules : RegistryRecord) (history : List Event) (occasion : Occasion) →
+        (reply_of rules history occasion).status ≡ 503 → (outcome_of rules history occasion).changes ≡ [] }
 {}
 
 /// No code and no refresh token is exchanged twice, whatever comes between: where a text is, a code or token of that very
 /// text was given again in between.
 pub fn nothing_is_exchanged_twice()
-    ensures { (rules : RegistryRecord) (history : List Event) (turn : Turn) (text : List ℕ) →
-        Exchanges rules history turn text → IsUsedUp rules (history_after rules history turn) text }
+    ensures { (rules : RegistryRecord) (history : List Event) (occasion : Occasion) (text : List ℕ) →
+        Exchanges rules history occasion text → IsUsedUp rules (history_after rules history occasion) text }
 {}
 
 /// After a token is revoked no code and no token of its family is live, whatever comes, and at no moment.
 pub fn a_revoked_family_stays_dead()
-    ensures { (rules : RegistryRecord) (history later : List Event) (turn : Turn) (token : Grant) →
-        Revokes rules history turn token → IsDead (history_after rules history turn ++ later) token.family }
+    ensures { (rules : RegistryRecord) (history later : List Event) (occasion : Occasion) (token : Grant) →
+        Revokes rules history occasion token → IsDead (history_after rules history occasion ++ later) token.family }
 {}
 
 /// No hooks' answers widen a grant, whatever their programs do: tokens that are answered would be answered without hooks too,
 /// and have some of the scope and some of the life that they would have then.
 pub fn no_hook_widens()
-    ensures { (rules : RegistryRecord) (history : List Event) (turn : Turn) → GoesTo turn (codes "/token") →
-        (reply_of rules history turn).status ≡ 200 →
-        IsNarrowed (outcome_of rules history turn) (outcome_of rules history (without_hooks turn)) }
+    ensures { (rules : RegistryRecord) (history : List Event) (occasion : Occasion) → GoesTo occasion (codes "/token") →
+        (reply_of rules history occasion).status ≡ 200 →
+        IsNarrowed (outcome_of rules history occasion) (outcome_of rules history (without_hooks occasion)) }
 {}

@@ -1,0 +1,32 @@
+-- A request at a server, what it comes to, and what it leaves.
+use Rattle.std.specs.Prelude.{◌≡◌, ℕ, List, Bool}
+use Rattle.clients.specs.RegistryRecord.{RegistryRecord}
+use Rattle.consent.specs.History.{Event, with_changes}
+use Rattle.messages.specs.Target.{path_of}
+use Rattle.messages.specs.Reply.{Reply}
+use Rattle.grants.specs.Outcomes.{Outcome}
+use Rattle.endpoints.specs.Hosts.{HostSays}
+use Rattle.endpoints.specs.Replies.{outcome}
+use Rattle.endpoints.specs.Steps.{Arrival}
+
+-- a request as it comes, what the host of hooks says then, and whether memory is refused for it
+pub record Occasion : Type 0 where
+  pub arrival : Arrival
+  pub host : HostSays
+  pub refused : Bool
+
+-- what it comes to after this history
+abbrev pub outcome_of : RegistryRecord → List Event → Occasion → Outcome
+outcome_of rules history occasion =
+    outcome occasion.refused rules occasion.host history occasion.arrival.asked occasion.arrival.moment occasion.arrival.draws
+
+abbrev pub reply_of : RegistryRecord → List Event → Occasion → Reply
+reply_of rules history occasion = (outcome_of rules history occasion).reply
+
+-- the history that it leaves
+abbrev pub history_after : RegistryRecord → List Event → Occasion → List Event
+history_after rules history occasion = with_changes history occasion.arrival.moment (outcome_of rules history occasion).changes
+
+-- it goes to this path
+abbrev pub GoesTo : Occasion → List ℕ → Type 0
+GoesTo occasion path = path_of occasion.arrival.asked.target ≡ path
