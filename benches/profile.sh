@@ -58,10 +58,10 @@ params|form_urlencoded|percent_encoding: forms
 clients|points|base64|hex: clients and credentials
 sha2|pkce: digests
 replies|serde_json|json|itoa|http: replies and JSON
-grant_store|consent|slab|std_collections: store
+token_store|consent|slab|std_collections: store
 hook_chain|hook_record|flat_machine: hooks
 rand_chacha|rand_core: draws
-endpoints|grants|http_edge: endpoints and edge
+endpoints|token_endpoint|answers|http_edge: endpoints and edge
 event_loop|serving|mio|oauthd|std|std_io|os|io|libc|clock_gettime|epoll_wait|send|recv|read|write|sendto|recvfrom: loop and sockets
 std_heap|malloc|free|calloc|realloc|_int_malloc|_int_free|_int_realloc|cfree|malloc_consolidate|unlink_chunk|memcpy|memmove|memset|memcmp|bcmp: memory
 PARTS

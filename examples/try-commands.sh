@@ -61,6 +61,12 @@ printf "$allow\n" >hook.hex
 ends list 0 'mov64 r0 1\nexit\n' '' list hook.hex
 ends check 0 'accepted 2\n' '' check hook.hex
 ends check2 0 'accepted 2\n' '' check2 hook.hex
+ends 'list --slots' 0 '0: mov64 r0 1\n1: exit\n' '' list --slots hook.hex
+ends 'check --why' 0 'accepted 2\n' '' check --why hook.hex
+ends 'check2 --why' 0 'accepted 2\n' '' check2 --why hook.hex
+ends ask 0 "$(echo "$record" | tr -d ' ')\n" '' ask 1 1000 1 1 3 300
+ends ask2 0 "02$(echo "${record:2}" | tr -d ' ')0300000000000000""2c0100002c01000000000000000000000000000000000000\n" '' ask2 1 1000 1 1 3 300
+ends 'run --trace' 0 '0: mov64 r0 1\n  r0: 1\n1: exit\nr0 1\nsteps 2\nallowed 3 300\n' '' run --trace $allow "$record"
 ends --version 0 'oauthd 0.1.0\n' '' --version
 for word in help --help -h; do
     begins "$word" 'oauthd: an OAuth 2.0 authorization server with verified token hooks.' "$word"
@@ -77,6 +83,9 @@ ends 'a program that is not accepted' 1 '' 'oauthd: Verify JumpBack(0)\n' check 
 printf '7110400000000000b7000000010000009500000000000000\n' >behind.hex
 ends 'a load behind a record of version 1' 1 '' 'oauthd: Verify OutOfRegion(0)\n' check behind.hex
 ends 'the same load in version 2' 0 'accepted 3\n' '' check2 behind.hex
+printf '9500000000000000\n' >unset.hex
+ends 'why a program is not accepted' 1 "refused UnsetRegister(0)\n0: exit\nr0: unset\n\n$("$program" help UnsetRegister | sed 's/%/%%/g')\n" '' check --why unset.hex
+ends 'a traced run that would be stuck' 1 '' 'oauthd: Verify UnsetRegister(0)\n' run --trace 9500000000000000 "$record"
 ends 'a run that would be stuck' 1 '' 'oauthd: Verify UnsetRegister(0)\n' run 9500000000000000 "$record"
 ends 'a run that is refused' 1 '' 'oauthd: Insn Empty\n' run '' "$record"
 
@@ -84,10 +93,26 @@ ends 'a run that is refused' 1 '' 'oauthd: Insn Empty\n' run '' "$record"
 ends 'no words' 2 '' 'oauthd: bad arguments\n'
 ends 'other words' 2 '' 'oauthd: bad arguments\n' frob
 ends 'code that is no hex' 2 '' 'oauthd: bad arguments\n' run 9 "$record"
+ends 'a kind that is none' 2 '' 'oauthd: bad arguments\n' ask 4 1000 1 1 3 300
 ends 'a record that is none' 2 '' 'oauthd: bad record\n' run $allow 00
+ends 'a file that is no hex' 2 '' 'oauthd: bad arguments\n' check bad.asm
+ends 'a file that is no hex, told' 2 '' 'oauthd: not hex: bad.asm\n' check --why bad.asm
+printf '\177ELF\2\1\1' >hook.o
+ends 'an ELF file' 2 '' 'oauthd: ELF file: hook.o\n' list --slots hook.o
 ends 'no such file' 2 '' 'oauthd: cannot read nowhere\n' list nowhere
 printf 'exit\n\377' >bytes.asm
 ends 'a text that is not UTF-8' 2 '' 'oauthd: cannot read bytes.asm\n' asm bytes.asm
+registry=$OLDPWD/examples/registry.json
+for words in '127.0.0.1=wants a port' '127.0.0.1:0 c --frob 1=--frob is not known' '127.0.0.1:0 c 60 --full=--full wants a value' \
+    '127.0.0.1:0 c --silence 0=--silence has a bad value' '127.0.0.1:0 c 60 --silence 5=--silence is given twice'; do
+    why=${words##*=}
+    [ "$why" = 'wants a port' ] && why='127.0.0.1 wants a port'
+    ends "start ${words%=*}" 2 '' "oauthd: bad arguments: $why\n" start ${words%=*}
+done
+ends 'a number by place that is none' 2 '' 'oauthd: bad arguments\n' start 127.0.0.1:0 "$registry" x
+ends 'a hook that is not there' 2 '' 'oauthd: cannot read nowhere\n' start 127.0.0.1:0 "$registry" --hook a=nowhere
+ends 'a hook that is refused' 2 '' 'oauthd: hook b: Verify JumpBack(0)\n' start 127.0.0.1:0 "$registry" --hook a=hook.hex --hook b=back.hex
+ends 'two hooks of one name' 2 '' 'oauthd: hook a: NameTaken\n' start 127.0.0.1:0 "$registry" --hook a=hook.hex --hook2 a=hook.hex
 if [ -w /dev/full ]; then
     "$program" list hook.hex >/dev/full 2>given.err
     given=$?

@@ -103,18 +103,21 @@ code() {
     sed -nE 's/^Location: .*[?&]code=([^&]*).*/\1/p' <<<"$head"
 }
 
-# a server, and where it listens
-"$program" start "$address" examples/registry.json >"$room/listening" 2>"$room/err" &
-server=$!
-for _ in $(seq 100); do
-    grep -q '^listening ' "$room/listening" && break
-    kill -0 "$server" 2>/dev/null || break
-    sleep 0.05
-done
-at=$(sed -n 's/^listening //p' "$room/listening")
-[ -n "$at" ] || { echo "no server: $(cat "$room/err")"; exit 1; }
-echo "\$ oauthd start $address examples/registry.json"
-echo "listening $at"
+# serves OPTIONS..: a server, and where it listens
+serves() {
+    "$program" start "$address" examples/registry.json "$@" >"$room/listening" 2>"$room/err" &
+    server=$!
+    for _ in $(seq 100); do
+        grep -q '^listening ' "$room/listening" && break
+        kill -0 "$server" 2>/dev/null || break
+        sleep 0.05
+    done
+    at=$(sed -n 's/^listening //p' "$room/listening")
+    [ -n "$at" ] || { echo "no server: $(cat "$room/err")"; exit 1; }
+    echo "\$ oauthd start $address examples/registry.json $*"
+    echo "listening $at"
+}
+serves
 
 # what is asked for: the proof key is that of RFC 7636, appendix B
 verifier=dBjftJeZ4CVP-mB92K27uhbUJU1p1r_wW1gFWFOEjXk
@@ -292,6 +295,13 @@ server=
 echo "ended with $status"
 [ "$status" = 143 ] || differs 'wanted it to end by SIGTERM, which a shell calls 143'
 [ -s "$room/err" ] && { differs 'wanted no line on standard error'; cat "$room/err"; }
+
+step 'a server that has its hooks before the first request'
+serves --hook "listed=$room/hook.hex" --silence 30 --hook "again=$room/hook.bin"
+answers 200 '{"hooks":["listed","again"]}' "${operator[@]}" "http://$at/hooks/list"
+kill "$server"
+wait "$server"
+server=
 
 printf '\n%s requests, %s differ\n' "$requests" "$differing"
 [ "$differing" = 0 ]

@@ -2,12 +2,12 @@
 
 use crate::draw::drawn;
 use crate::report::{self, Least, Rounds};
-use consent::{ClientNo, Moment, OwnerNo, TokenKind};
-use grant_store::{CodeFacts, Home, NewToken, Store};
+use consent::{Change, Changes, ClientNo, CodeFacts, Moment, NewToken, OwnerNo, TokenKind};
 use pkce::digest_of;
 use std::alloc::{AllocError, Global};
 use std::io;
 use std::time::Instant;
+use token_store::Store;
 
 /// A code of an owner's own with two tokens.
 #[derive(Clone, Copy)]
@@ -21,29 +21,38 @@ struct Trio {
 /// What is done with each of the trios.
 #[derive(Clone, Copy)]
 enum Work {
-    OpenGrant,
+    Give,
     Issue,
-    Status,
+    Access,
     Code,
     Refresh,
     SpendCode,
     SpendRefresh,
-    Revoke,
-    RevokeBeyond,
+    End,
+    Lower,
 }
 
 /// The works, in the order in which each store meets them.
 const WORKS: [Work; 9] = [
-    Work::OpenGrant,
+    Work::Give,
     Work::Issue,
-    Work::Status,
+    Work::Access,
     Work::Code,
     Work::Refresh,
     Work::SpendCode,
     Work::SpendRefresh,
-    Work::Revoke,
-    Work::RevokeBeyond,
+    Work::End,
+    Work::Lower,
 ];
+
+// Makes room for the changes, and makes them.
+fn make(store: &mut Store, changes: &Changes<'_>, moment: Moment) -> bool {
+    let Ok(()) = store.reserve(changes) else {
+        return false;
+    };
+    store.apply(changes, moment);
+    true
+}
 
 impl Trio {
     fn new(number: u32) -> Trio {
@@ -56,8 +65,12 @@ impl Trio {
         }
     }
 
-    /// Opens the family of the code.
-    fn open(&self, store: &mut Store, moment: Moment) -> bool {
+    /// Gives the code.
+    fn give(&self, store: &mut Store, moment: Moment) -> bool {
+        let digest = self.code;
+        if store.refusal(&[digest], moment).is_some() {
+            return false;
+        }
         let facts = CodeFacts {
             client: ClientNo::new(1),
             owner: self.owner,
@@ -65,78 +78,101 @@ impl Trio {
             redirect: "https://app.example/cb",
             challenge: "E9Melhoa2OwvFrEMTJguCHaoeK1t8URWbuGJSstw-cM",
         };
-        store.open_grant(&self.code, &facts, moment).is_ok()
+        make(
+            store,
+            &Changes::One(Change::CodeGiven { facts, digest }),
+            moment,
+        )
     }
 
     /// Issues both tokens for the code.
     fn issue(&self, store: &mut Store, moment: Moment) -> bool {
-        let tokens = [
-            NewToken {
-                kind: TokenKind::Access,
-                digest: self.access,
-                scope: 3,
-                life: 300,
-            },
-            NewToken {
-                kind: TokenKind::Refresh,
-                digest: self.refresh,
-                scope: 3,
-                life: 86_400,
-            },
-        ];
-        let Some(code) = store.code(&self.code, moment) else {
+        let of = self.code;
+        if store.at(&of, moment).is_none() {
             return false;
+        }
+        if store
+            .refusal(&[self.access, self.refresh], moment)
+            .is_some()
+        {
+            return false;
+        }
+        let access = NewToken {
+            kind: TokenKind::Access,
+            digest: self.access,
+            scope: 3,
+            life: 300,
         };
-        let home = Home::Family(code.family);
-        store.issue(home, &tokens, moment).is_ok()
+        let refresh = NewToken {
+            kind: TokenKind::Refresh,
+            digest: self.refresh,
+            scope: 3,
+            life: 86_400,
+        };
+        make(
+            store,
+            &Changes::Two(
+                Change::Issued { of, token: access },
+                Change::Issued { of, token: refresh },
+            ),
+            moment,
+        )
     }
 
     /// Ends the family of the access token.
-    fn revoke(&self, store: &mut Store, moment: Moment) -> bool {
-        let Some(token) = store.status(&self.access, moment) else {
-            return false;
-        };
-        store.revoke(token.family, moment);
-        true
+    fn end(&self, store: &mut Store, moment: Moment) -> bool {
+        let of = self.access;
+        store.at(&of, moment).is_some()
+            && make(store, &Changes::One(Change::FamilyEnded { of }), moment)
     }
+
+    /// The owner consents to less than the code has.
+    fn lower(&self, store: &mut Store, moment: Moment) -> bool {
+        let owner = self.owner;
+        make(
+            store,
+            &Changes::One(Change::Consented {
+                owner,
+                client: ClientNo::new(1),
+                mask: 1,
+            }),
+            moment,
+        )
+    }
+}
+
+// Spends what the digest names.
+fn spend(store: &mut Store, digest: [u8; 32], moment: Moment) -> bool {
+    make(store, &Changes::One(Change::Spent { digest }), moment)
 }
 
 impl Work {
     fn name(self) -> &'static str {
         match self {
-            Work::OpenGrant => "open_grant",
-            Work::Issue => "code and issue of two tokens",
-            Work::Status => "status",
-            Work::Code => "code",
-            Work::Refresh => "refresh",
-            Work::SpendCode => "spend_code",
-            Work::SpendRefresh => "spend_refresh",
-            Work::Revoke => "status and revoke",
-            Work::RevokeBeyond => "revoke_beyond of one family",
+            Work::Give => "give a code",
+            Work::Issue => "look up a code and issue two tokens",
+            Work::Access => "look up an access token",
+            Work::Code => "look up a code",
+            Work::Refresh => "look up a refresh token",
+            Work::SpendCode => "spend a code",
+            Work::SpendRefresh => "spend a refresh token",
+            Work::End => "look up a token and end its family",
+            Work::Lower => "lower a consent with one family",
         }
     }
 
     /// Does the work with a trio: whether there is an answer.
     fn does(self, store: &mut Store, trio: &Trio, moment: Moment) -> bool {
         match self {
-            Work::OpenGrant => trio.open(store, moment),
+            Work::Give => trio.give(store, moment),
             Work::Issue => trio.issue(store, moment),
-            Work::Status => store.status(&trio.access, moment).is_some(),
-            Work::Code => store.code(&trio.code, moment).is_some(),
-            Work::Refresh => store.refresh(&trio.refresh, moment).is_some(),
-            Work::Revoke => trio.revoke(store, moment),
-            Work::SpendCode => {
-                store.spend_code(&trio.code, moment);
-                true
-            }
-            Work::SpendRefresh => {
-                store.spend_refresh(&trio.refresh, moment);
-                true
-            }
-            Work::RevokeBeyond => {
-                store.revoke_beyond(trio.owner, ClientNo::new(1), 1, moment);
-                true
-            }
+            Work::Access => store.at(&trio.access, moment).is_some(),
+            Work::Code => store.at(&trio.code, moment).is_some(),
+            Work::Refresh => store.at(&trio.refresh, moment).is_some(),
+            Work::SpendCode => spend(store, trio.code, moment),
+            Work::SpendRefresh => spend(store, trio.refresh, moment),
+            Work::End => trio.end(store, moment),
+            Work::Lower => trio.lower(store, moment),
         }
     }
 

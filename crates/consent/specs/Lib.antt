@@ -3,6 +3,8 @@ pub mod History
 pub mod Consents
 pub mod Covered
 pub mod Growth
+pub mod Changes
+pub mod Seen
 pub mod FaultTexts
 pub mod ListLaws
 pub mod GrowthLaws

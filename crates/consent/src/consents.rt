@@ -1,6 +1,6 @@
 //! The consents that are kept.
 
-ghost use Rattle.std.specs.Prelude.{◌≡◌, ◌≢◌, ℕ, List, [], true, false, Some, IsOk, IsErrOf, OnOk, OnErr};
+ghost use Rattle.std.specs.Prelude.{◌≡◌, ◌≢◌, ◌≤◌, ◌+◌, ℕ, List, [], true, false, Some, IsOk, IsErrOf, OnOk, OnErr};
 ghost use Rattle.consent.specs.History.{Event, consented_scope, has_consent_room, with_change};
 ghost use Rattle.consent.specs.History.Change.{Consented};
 ghost use Rattle.consent.specs.FaultTexts.{consent_fault_text};
@@ -8,8 +8,8 @@ ghost use Rattle.consent.specs.FaultTexts.{consent_fault_text};
 use crate::limits::CONSENT_LIMIT;
 use crate::numbers::{ClientNo, OwnerNo};
 use crate::parties::Parties;
-use std::alloc::Global;
-use std::collections::BTreeMap;
+use std::alloc::{AllocError, Global};
+use std::collections::HashMap;
 use std::fmt::{self, Display, Formatter, Write};
 use std::marker::Model;
 
@@ -36,19 +36,16 @@ impl Display for ConsentFault {
 /// The scopes that owners last consented to clients' having, without the empty ones.
 #[derive(Drop)]
 pub struct Consents {
-    masks: BTreeMap<Parties, u64>,
+    masks: HashMap<Parties, u64>,
 }
 
 impl Model for Consents {
-    ghost use Rattle.std.specs.Prelude.{ℕ, List, ◌≤◌, length};
-    ghost use Rattle.consent.specs.Limits.{consent_limit};
-    ghost use Rattle.consent.specs.declared.parties.Parties.{Parties};
+    ghost use Rattle.std.specs.HashMap.{spare};
+    ghost use Rattle.consent.specs.Consents.{KeptConsents};
 
-    ghost Value = { List (Parties × ℕ) };
+    ghost Value = { KeptConsents };
 
-    ghost view = { λ c. c.masks.entries };
-
-    ghost invariant = { λ c. length c.masks.entries ≤ consent_limit };
+    ghost view = { λ c. record { masks = c.masks.entries; room = spare c.masks } };
 }
 
 impl Consents {
@@ -59,7 +56,7 @@ impl Consents {
         ensures { FitsConsents result [] }
     {
         Consents {
-            masks: BTreeMap::new(alloc),
+            masks: HashMap::new(alloc),
         }
     }
 
@@ -75,6 +72,44 @@ impl Consents {
             .unwrap_or(0)
     }
 
+    /// Whether a consent to that scope is not one too many: there are fewer than `CONSENT_LIMIT`, or it
+    /// takes the place of another one, or it is to nothing.
+    pub fn has_room(&self, owner: OwnerNo, client: ClientNo, mask: u64) -> bool
+        ensures { (history : List Event) → FitsConsents self.now history →
+            result ≡ has_consent_room history owner client mask }
+    {
+        mask == 0
+            || self.masks.contains_key(&Parties { owner, client })
+            || self.masks.len() < CONSENT_LIMIT
+    }
+
+    /// Makes room for so many further consents. It changes no answer, also where memory is refused.
+    pub fn reserve(&mut self, count: usize) -> Result<(), AllocError>
+        ensures same { (history : List Event) → FitsConsents self.old history → FitsConsents self.new history }
+        ensures room { OnOk result (count ≤ self.new.room) }
+    {
+        self.masks.reserve(count)
+    }
+
+    /// Sets the scope that the owner consents to the client's having. The empty one takes the consent
+    /// away.
+    pub fn put(&mut self, owner: OwnerNo, client: ClientNo, mask: u64)
+        requires room { 1 ≤ self.old.room }
+        ensures fits { (history : List Event) (moment : ℕ) → FitsConsents self.old history →
+            FitsConsents self.new (with_change history moment (Consented owner client mask)) }
+        ensures room { self.old.room ≤ self.new.room + 1 }
+    {
+        // No owner has number 0, which stands for none.
+        let _ = owner.get();
+        let parties = Parties { owner, client };
+        if mask == 0 {
+            let _ = self.masks.remove(&parties);
+        } else {
+            let put: Result<_, _> = self.masks.insert(parties, mask);
+            let _ = put.unwrap();
+        }
+    }
+
     /// Sets the scope that the owner consents to the client's having. The empty one takes the
     /// consent away, and is never refused.
     pub fn set(&mut self, owner: OwnerNo, client: ClientNo, mask: u64) -> Result<(), ConsentFault>
@@ -87,24 +122,15 @@ impl Consents {
             has_consent_room history owner client mask ≡ false }
         ensures memory { IsErrOf result ConsentFault.Memory → (history : List Event) → FitsConsents self.old history →
             has_consent_room history owner client mask ≡ true }
-        ensures empty { mask ≡ 0 → IsOk result }
-        ensures replaced { (history : List Event) → FitsConsents self.old history →
-            consented_scope history owner client ≢ 0 → IsOk result }
-        ensures err { OnErr result (self.new ≡ self.old) }
+        ensures err { OnErr result ((history : List Event) → FitsConsents self.old history → FitsConsents self.new history) }
     {
-        // No owner has number 0, which stands for none.
-        let _ = owner.get();
-        let parties = Parties { owner, client };
-        if mask == 0 {
-            let _ = self.masks.remove(&parties);
-            return Ok(());
-        }
-        if !self.masks.contains_key(&parties) && self.masks.len() >= CONSENT_LIMIT {
+        if !self.has_room(owner, client, mask) {
             return Err(ConsentFault::Full);
         }
-        let Ok(_) = self.masks.insert(parties, mask) else {
+        let Ok(()) = self.reserve(1) else {
             return Err(ConsentFault::Memory);
         };
+        self.put(owner, client, mask);
         Ok(())
     }
 }

@@ -1,7 +1,8 @@
-//! What an authorization server has done, the questions that are asked of it, and the consents of
-//! owners to clients.
+//! What an authorization server has done and may do next, the questions that are asked of it, and the
+//! consents of owners to clients.
 #![tactic(auto)]
 
+mod change;
 mod consents;
 mod grant;
 mod limits;
@@ -9,6 +10,7 @@ mod numbers;
 mod parties;
 mod scope;
 
+pub use change::{Change, Changes, CodeFacts, NewToken};
 pub use consents::{ConsentFault, Consents};
 pub use grant::{Kind, TokenKind};
 pub use limits::{CODE_LIFE, CONSENT_LIMIT, RECORD_LIMIT, limits_are_the_defined_ones};

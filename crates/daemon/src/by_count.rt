@@ -1,6 +1,6 @@
 //! So many connections, one after the other.
 
-ghost use Rattle.std.specs.Prelude.{◌≡◌, [], List, OnOk};
+ghost use Rattle.std.specs.Prelude.{List, OnOk};
 ghost use Rattle.clients.specs.RegistryRecord.{RegistryRecord};
 ghost use Rattle.http_edge.specs.Schedule.{Happening, World};
 ghost use Rattle.http_edge.specs.Reached.{Reached};
@@ -27,11 +27,11 @@ use std::rt::Clock;
 /// The number under which each connection is served. The one before is forgotten when the next comes.
 pub const NUMBER: u32 = 1;
 
-/// A new server over a registry, without hooks and without connections.
-pub fn new_edge(alloc: Global, registry: Registry) -> Edge<Chain>
-    ensures { IsBegun ⟦<Chain as HookHost>⟧ registry [] result }
+/// A new server over a registry, with these hooks and without connections.
+pub fn new_edge(alloc: Global, registry: Registry, hooks: Chain) -> Edge<Chain>
+    ensures { IsBegun ⟦<Chain as HookHost>⟧ registry hooks result }
 {
-    let server = Server::new(alloc, registry, Chain::new(alloc));
+    let server = Server::new(alloc, registry, hooks);
     Edge::new(alloc, server)
 }
 
@@ -69,7 +69,7 @@ pub fn serve<R: Net + Clock + AllocGlobal, W: Write>(
     ensures { OnOk result (Announces (W.contents out.old) (W.contents out.new)) }
 {
     let listener = listen(rt, address, out)?;
-    let mut edge = new_edge(rt.alloc(), registry);
+    let mut edge = new_edge(rt.alloc(), registry, Chain::new(rt.alloc()));
     let mut rng = ChaCha20Rng::from_seed(seed);
     serve_each(rt, &listener, count, &mut edge, &mut rng);
     Ok(())

@@ -14,6 +14,9 @@ mod until_stopped;
 
 pub use by_count::serve;
 pub use fault::ListenFault;
+pub use line_journal::LineJournal;
+pub use machine_clocks::MachineClocks;
 pub use means::{Ending, Means, serve_with};
 pub use patience::Patience;
+pub use sockets::MachineSockets;
 pub use until_stopped::start;

@@ -1,6 +1,5 @@
 //! A server over any sockets, clocks and journal.
 
-ghost use Rattle.std.specs.Prelude.{[]};
 ghost use Rattle.event_loop.specs.Scenes.{promises};
 ghost use Rattle.daemon.specs.Started.{Serves};
 
@@ -13,7 +12,7 @@ use hook_host::HookHost;
 use rand_chacha::ChaCha20Rng;
 use std::alloc::Global;
 
-/// What a server is handed besides its registry.
+/// What a server is handed besides its registry and its hooks.
 #[derive(Drop)]
 pub struct Means<N, C, J> {
     pub sockets: N,
@@ -33,18 +32,20 @@ pub struct Ending<N, C, J, H> {
     pub tools: Tools<N, C, J, H>,
 }
 
-/// Serves up to 64 connections at once, with what it is handed and by a new edge over a registry, until it can't go on.
+/// Serves up to 64 connections at once, with what it is handed and by a new edge over a registry and hooks, until it can't
+/// go on.
 pub fn serve_with<N: Sockets, C: Clocks, J: Journal>(
     alloc: Global,
     registry: Registry,
+    hooks: Chain,
     means: Means<N, C, J>,
 ) -> Ending<N, C, J, Chain>
-    ensures { Serves (promises N.does C.tells J.notes ⟦<Chain as HookHost>⟧) registry [] means result }
+    ensures { Serves (promises N.does C.tells J.notes ⟦<Chain as HookHost>⟧) registry hooks means result }
 {
     let limits = means.patience.limits();
     let mut tools = Tools {
         sockets: means.sockets,
-        edge: new_edge(alloc, registry),
+        edge: new_edge(alloc, registry, hooks),
         clocks: means.clocks,
         generator: means.generator,
         journal: means.journal,

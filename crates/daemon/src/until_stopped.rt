@@ -1,6 +1,6 @@
 //! Connections until the program is stopped.
 
-ghost use Rattle.std.specs.Prelude.{◌≡◌, ◌≢◌, [], OnOk, OnErr, IfOk, IfErr};
+ghost use Rattle.std.specs.Prelude.{◌≡◌, ◌≢◌, OnOk, OnErr, IfOk, IfErr};
 ghost use Rattle.event_loop.specs.Scenes.{promises};
 ghost use Rattle.daemon.specs.Listening.{Announces};
 ghost use Rattle.daemon.specs.Started.{HasStarted};
@@ -52,19 +52,20 @@ fn listening_sockets<R: Net + AllocGlobal, W: Write>(
     Ok(sockets)
 }
 
-/// Listens at an address, tells where, and serves up to 64 connections at once until the program is stopped, with draws by
-/// random bytes of the system. The fault of a connection ends that one alone, and is told to `err`, in at most one line a
-/// second. What it gives is why it can't go on.
+/// Listens at an address, tells where, and serves up to 64 connections at once until the program is stopped, with these
+/// hooks from the first connection on, and with draws by random bytes of the system. The fault of a connection ends that
+/// one alone, and is told to `err`, in at most one line a second. What it gives is why it can't go on.
 pub fn start<'r, 'e, R: Net + Clock + RandomSource + AllocGlobal, W: Write, E: Write>(
     rt: &'r R,
     address: &str,
     registry: Registry,
+    hooks: Chain,
     patience: Patience,
     out: &mut W,
     err: &'e mut E,
 ) -> Result<LoopFault, ListenFault>
     ensures done { OnOk result (Announces (W.contents out.old) (W.contents out.new)) }
-    ensures serves { IfOk result (HasStarted (promises ⟦<MachineSockets as Sockets>⟧.does ⟦<MachineClocks<'r, R> as Clocks>⟧.tells ⟦<LineJournal<'e, E> as Journal>⟧.notes ⟦<Chain as HookHost>⟧) registry [] patience) }
+    ensures serves { IfOk result (HasStarted (promises ⟦<MachineSockets as Sockets>⟧.does ⟦<MachineClocks<'r, R> as Clocks>⟧.tells ⟦<LineJournal<'e, E> as Journal>⟧.notes ⟦<Chain as HookHost>⟧) registry hooks patience) }
     ensures silent { IfErr result (λ fault. fault ≢ Unwritten → out.new ≡ out.old) }
     ensures quiet { OnErr result (err.new ≡ err.old) }
 {
@@ -77,6 +78,6 @@ pub fn start<'r, 'e, R: Net + Clock + RandomSource + AllocGlobal, W: Write, E: W
         generator,
         patience,
     };
-    let ending = serve_with(rt.alloc(), registry, means);
+    let ending = serve_with(rt.alloc(), registry, hooks, means);
     Ok(ending.fault)
 }

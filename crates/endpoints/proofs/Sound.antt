@@ -7,30 +7,32 @@ use Rattle.consent.specs.History.{Event, Change, Grant, event_at, grant_by, gran
 use Rattle.consent.specs.History.Change.{Consented, CodeGiven, Issued, Spent, FamilyEnded, HookSet, HookGone}
 use Rattle.consent.specs.GrowthLaws.{code_terms-keep, has_ended-push_other}
 use Rattle.consent.specs.HistoryLaws.{grant_at-given}
-use Rattle.grants.specs.Outcomes.{status_of, Outcome, point, need, only, refuse, unless_taken, unavailable}
+use Rattle.answers.specs.Outcomes.{status_of, Outcome, point, need, only, refuse, unless_taken, unavailable}
 use Rattle.messages.specs.Reply.{Reply, plain}
 use Rattle.messages.specs.Reply.Body.{Failure}
 use Rattle.messages.specs.declared.error.ErrorName.{ErrorName}
 use Rattle.messages.specs.declared.error.ErrorName.TheVariants.{InvalidRequest, InvalidGrant, InvalidScope}
 use Rattle.params.specs.Form.{value_of}
-use Rattle.grants.specs.Exchange.{ends_family}
+use Rattle.token_endpoint.specs.Exchange.{ends_family}
 use Rattle.endpoints.specs.Bounded.{IsRight, AllRight, IsOfCode, allowed_to}
 use Rattle.consent.specs.declared.grant.Kind.{Kind}
 use Rattle.consent.specs.declared.grant.Kind.TheVariants.{Code, Token}
 use Rattle.consent.specs.CoveredLaws.{is_within-trans}
-use Rattle.grant_store.specs.Views.{is_refresh}
+use Rattle.answers.specs.Tokens.{is_refresh}
 use Rattle.hook_record.specs.declared.Ask.{Ask}
 use Rattle.hook_record.specs.declared.Narrowed.{Narrowed}
 use Rattle.hook_record.specs.declared.Narrowed.TheVariants.{Allowed, Denied, EmptyScope}
 use Rattle.hook_host.specs.Decisions.{met_with}
 use Rattle.hook_host.specs.DecisionLaws.{met_with_narrows}
 use Rattle.messages.specs.declared.request.Draws.{Draws}
-use Rattle.grants.specs.Requesters.{Parameters, KnownClient, scope_asked, scope_within}
-use Rattle.grants.specs.Texts.{where_passes, digest_told}
-use Rattle.grants.specs.Tokens.{is_own, refresh_of_client}
-use Rattle.grants.specs.Grants.{left_of, access_issued, refresh_issued, both_reply, both_digests}
-use Rattle.grants.specs.Refresh.{rotated, refreshed, refresh, refresh_ask, checked, token_points, use_points}
-use Rattle.endpoints.proofs.Stepping.{AllQuiet, AllRightAfter}
+use Rattle.answers.specs.Requesters.{Parameters, KnownClient, scope_asked, scope_within}
+use Rattle.answers.specs.Texts.{where_passes, digest_told}
+use Rattle.answers.specs.Tokens.{is_own, refresh_of_client}
+use Rattle.token_endpoint.specs.Grants.{left_of, access_issued, refresh_issued, both_digests}
+use Rattle.answers.specs.Replies.{both_reply}
+use Rattle.token_endpoint.specs.Refresh.{rotated, refreshed, refresh, refresh_ask, checked, token_points, use_points}
+use Rattle.endpoints.specs.Bounded.{AllRightAfter}
+use Rattle.endpoints.proofs.Stepping.{AllQuiet}
 
 pub record IsSound (rules : RegistryRecord) (history : List Event) (m : ℕ) (o : Outcome) : Type 0 where
   pub quiet : AllQuiet o.changes

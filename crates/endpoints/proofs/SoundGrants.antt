@@ -19,9 +19,10 @@ use Rattle.hook_host.specs.Decisions.{met_with}
 use Rattle.hook_host.specs.DecisionLaws.{met_with_narrows}
 use Rattle.messages.specs.declared.request.Draws.{Draws}
 use Rattle.endpoints.specs.Bounded.{IsRight, AllRight, allowed_to}
-use Rattle.grants.specs.Grants.{access_issued, refresh_issued, access_reply, both_reply, both_digests}
-use Rattle.grants.specs.Exchange.{exchanged_for}
-use Rattle.grants.specs.ClientCredentials.{granted}
+use Rattle.token_endpoint.specs.Grants.{access_issued, refresh_issued, both_digests}
+use Rattle.answers.specs.Replies.{access_reply, both_reply}
+use Rattle.token_endpoint.specs.Exchange.{exchanged_for}
+use Rattle.token_endpoint.specs.ClientCredentials.{granted}
 use Rattle.endpoints.proofs.Sound.{IsSound, still, unless_sound, all_right-at, same_grant}
 
 code_change : (rules : RegistryRecord) (before : List Event) (moment : ℕ) (c : Change) (g : Grant) →

@@ -1,15 +1,12 @@
 -- What POST /token does is right.
-use Rattle.std.proofs.Common.{◌≡◌, ℕ, List, [], Bool, true, false, Option, Some, None, bit_and, refl, sym, ap, ◌∙◌, arith, subst}
-use Rattle.std.specs.Prelude.{◌==◌, not, codes, bytes_eq, option_map, Result, Ok, Err}
+use Rattle.std.proofs.Common.{◌≡◌, ℕ, List, [], true, false, Some, bit_and, refl, sym, ap, ◌∙◌, arith}
+use Rattle.std.specs.Prelude.{◌==◌, not, codes, bytes_eq}
 use Rattle.std.proofs.lemmas.Bool.{eq-eqb, and_parts}
 use Rattle.params.specs.Form.{value_of}
 use Rattle.clients.specs.RegistryRecord.{RegistryRecord}
 use Rattle.clients.specs.ClientRecord.{ClientRecord}
 use Rattle.clients.specs.Clients.{client_at}
 use Rattle.clients.specs.Grants.{grant_named, has_grant}
-use Rattle.clients.specs.Authentication.{authenticated}
-use Rattle.clients.specs.declared.authentication.AuthFault.{AuthFault}
-use Rattle.clients.specs.declared.authentication.AuthFault.TheVariants as auth
 use Rattle.clients.specs.declared.grant.GrantType.{GrantType}
 use Rattle.clients.specs.declared.grant.GrantType.TheVariants.{AuthorizationCode, RefreshToken, ClientCredentials}
 use Rattle.consent.specs.History.{Event, Grant, grant_at, is_code, is_within, has_ended, is_spent, code_terms, IsHistory}
@@ -25,18 +22,19 @@ use Rattle.messages.specs.declared.request.Draws.{Draws}
 use Rattle.messages.specs.declared.error.ErrorName.{ErrorName}
 use Rattle.messages.specs.declared.error.ErrorName.TheVariants.{InvalidRequest, InvalidGrant, InvalidScope, UnauthorizedClient, UnsupportedGrantType}
 use Rattle.messages.specs.Asked.{Asked}
-use Rattle.grants.specs.Outcomes.{status_of, Outcome, point, need, refuse, unavailable, chosen}
+use Rattle.answers.specs.Outcomes.{status_of, Outcome, point, need, refuse}
 use Rattle.messages.specs.Reply.{plain}
 use Rattle.messages.specs.Reply.Body.{Failure}
 use Rattle.endpoints.specs.Bounded.{AllRight, allowed_to}
-use Rattle.grants.specs.Requesters.{Parameters, KnownClient, known_client, scope_within, form_of, with_client, with_authenticated}
+use Rattle.answers.specs.Requesters.{Parameters, KnownClient, scope_within}
 use Rattle.pkce.specs.Proof.{proves}
-use Rattle.grants.specs.Texts.{digest_told}
-use Rattle.grants.specs.Tokens.{code_of_client, is_own}
-use Rattle.grants.specs.Grants.{left_of}
-use Rattle.grants.specs.Exchange.{exchange, exchange_code, exchange_ask, exchanged, checked, code_points, ends_family}
-use Rattle.grants.specs.ClientCredentials.{client_credentials, granted, credentials_ask}
-use Rattle.grants.specs.TokenPath.{grant_points, token_points, issue_token}
+use Rattle.answers.specs.Texts.{digest_told}
+use Rattle.answers.specs.Tokens.{code_of_client, is_own}
+use Rattle.token_endpoint.specs.Grants.{left_of}
+use Rattle.token_endpoint.specs.Exchange.{exchange, exchange_code, exchange_ask, exchanged, checked, code_points, ends_family}
+use Rattle.token_endpoint.specs.ClientCredentials.{client_credentials, granted, credentials_ask}
+use Rattle.token_endpoint.specs.TokenPath.{grant_points, token_points, issue_token}
+use Rattle.endpoints.proofs.Points.{authenticated_all}
 use Rattle.endpoints.proofs.Sound.{IsSound, still, sound_point, sound_need, ends_sound, passes, scope_is_within, refresh_sound}
 use Rattle.endpoints.proofs.SoundGrants.{right_code, exchanged_sound, granted_sound}
 
@@ -132,42 +130,8 @@ module _ (rules : RegistryRecord) (history : List Event) (m : ℕ) where
       next : GrantType → Outcome
       next grant = grant_points grant rules history answer m draws params known
 
-  -- what is known of a client is its number's
-  pub known_at : (number : ℕ) (known : KnownClient) → known_client rules number ≡ Some known → client_at known.number rules.clients ≡ Some known.client
-  known_at number known is = by_client (client_at number rules.clients) refl is
-    where
-      by_client : (o : Option ClientRecord) → client_at number rules.clients ≡ o → option_map (λ client. record { number = number; client = client }) o ≡ Some known →
-          client_at known.number rules.clients ≡ Some known.client
-      by_client None at h = absurd (cc)
-      by_client (Some client) at h =
-          let same : record { number = number; client = client } ≡ known = cc in
-          subst (λ (k : KnownClient). client_at k.number rules.clients ≡ Some k.client) same at
-
-  pub client_sound : (result : Result ℕ AuthFault) (next : KnownClient → Outcome) →
-      ((known : KnownClient) → client_at known.number rules.clients ≡ Some known.client → IsSound rules history m (next known)) →
-      IsSound rules history m (with_client rules result next)
-  client_sound (Ok number) next each =
-      sound_need {A = KnownClient} rules history m (known_client rules number) unavailable next (still rules history m _) (λ known is. each known (known_at number known is))
-  client_sound (Err auth.TwoMethods) next each = error_sound InvalidRequest
-  client_sound (Err auth.NoClient) next each = still rules history m _
-  client_sound (Err auth.BadSecret) next each = still rules history m _
-  client_sound (Err auth.BadHeader) next each = still rules history m _
-  client_sound (Err auth.Memory) next each = still rules history m _
-
-  -- what is done for an authenticated client is right, where each client's is
-  pub authenticated_sound : (asked : Asked) (next : Parameters → KnownClient → Outcome) →
-      ((params : Parameters) (known : KnownClient) → client_at known.number rules.clients ≡ Some known.client → IsSound rules history m (next params known)) →
-      IsSound rules history m (with_authenticated rules asked next)
-  authenticated_sound asked next each =
-      sound_need {A = Parameters} rules history m (form_of asked) (refuse InvalidRequest)
-      (λ params. with_client rules (authenticated rules.clients asked.authorization params) (next params)) (error_sound InvalidRequest) (λ params _.
-      client_sound (authenticated rules.clients asked.authorization params) (next params) (each params))
-
-  pub chosen_sound : (refused : Bool) (o : Outcome) → IsSound rules history m o → IsSound rules history m (chosen refused o)
-  chosen_sound true o sound = still rules history m _
-  chosen_sound false o sound = sound
-
   pub issue_token_sound : (answer : Ask → Narrowed) (asked : Asked) (draws : Draws) →
       IsHistory history m → AllRight rules [] history → IsSound rules history m (issue_token rules history answer asked m draws)
   issue_token_sound answer asked draws is all =
-      authenticated_sound asked (token_points rules history answer m draws) (λ params known at. points_sound answer draws params known is all at)
+      authenticated_all (IsSound rules history m) (still rules history m) rules asked (token_points rules history answer m draws)
+      (λ params known at. points_sound answer draws params known is all at)

@@ -6,16 +6,10 @@ use Rattle.consent.specs.History.{Event, Change, event_at, with_change, with_cha
 use Rattle.consent.specs.History.Change.{Consented, CodeGiven, Issued, Spent, FamilyEnded, HookSet, HookGone}
 use Rattle.consent.specs.Growth.{is_consent}
 use Rattle.consent.specs.GrowthLaws.{with_changes-cons}
-use Rattle.consent.specs.Consents.{FitsConsents}
+use Rattle.consent.specs.Consents.{KeptConsents, FitsConsents}
 use Rattle.consent.specs.ConsentLaws.{fits_consents-push_other}
-use Rattle.consent.specs.declared.parties.Parties.{Parties}
-use Rattle.grant_store.specs.Kept.{Kept}
-use Rattle.messages.specs.Written.{Written}
-use Rattle.grants.specs.Outcomes.{Outcome}
 use Rattle.endpoints.specs.Hosts.{HostStep, HostRun}
-use Rattle.endpoints.specs.Bounded.{IsRight, AllRight}
-use Rattle.grants.specs.Done.{IsDone}
-use Rattle.endpoints.specs.Server.{Seen, FitsServer, IsStep}
+use Rattle.endpoints.specs.Bounded.{IsRight, AllRight, AllRightAfter}
 
 -- the change is no consent and no hook's
 abbrev pub IsQuiet : Change → Type 0
@@ -40,7 +34,7 @@ no_consent (Issued family client owner kind digest scope life) q = refl
 no_consent (Spent digest) q = refl
 no_consent (FamilyEnded family) q = refl
 
-pub quiet_consents : (kept : List (Parties × ℕ)) (history : List Event) (m : ℕ) (changes : List Change) → AllQuiet changes →
+pub quiet_consents : (kept : KeptConsents) (history : List Event) (m : ℕ) (changes : List Change) → AllQuiet changes →
     FitsConsents kept history → FitsConsents kept (with_changes history m changes)
 quiet_consents kept history m [] q fits = rw (append-nil history) fits
 quiet_consents kept history m (c ∷ cs) q fits =
@@ -70,11 +64,6 @@ module _ {H : Type 0} (installs : H → List ℕ → Layout → List ℕ → H �
       rw (with_changes-cons history m c cs)
       (quiet_host first host (with_change history m c) m cs q.1 (host_push first host host history (event_at m c) run (quiet_step host c q.0)))
 
--- each change is right when it happens
-abbrev pub AllRightAfter : RegistryRecord → List Event → ℕ → List Change → Type 0
-AllRightAfter rules history m [] = Unit {0}
-AllRightAfter rules history m (c ∷ cs) = IsRight rules history c × AllRightAfter rules (with_change history m c) m cs
-
 all_right-push : (rules : RegistryRecord) (before history : List Event) (e : Event) → AllRight rules before history →
     IsRight rules (before ++ history) e.change → AllRight rules before (history ++ e ∷ [])
 all_right-push rules before [] e all right = (subst (λ h. IsRight rules h e.change) (append-nil before) right, tt)
@@ -87,21 +76,3 @@ all_right-more rules history m [] all right = rw (append-nil history) all
 all_right-more rules history m (c ∷ cs) all right =
     rw (with_changes-cons history m c cs)
     (all_right-more rules (with_change history m c) m cs (all_right-push rules [] history (event_at m c) all right.0) right.1)
-
--- a request that leaves the consents and the host
-pub quiet_done : {H : Type 0} (installs : H → List ℕ → Layout → List ℕ → H → Type 0) (removes : H → List ℕ → H → Type 0) (old : Seen H) (rules : RegistryRecord) (first : H) (history : List Event) (m n : ℕ) (o : Outcome) (reply : Written) (kept : List Kept) →
-    FitsServer installs removes old rules first history n → IsDone o reply kept history m →
-    AllQuiet o.changes → AllRightAfter rules history m o.changes →
-    IsStep installs removes o reply (record old { store = kept; greatest = m }) rules first history m
-quiet_done installs removes old rules first history m n o reply kept fits done quiet right = record {
-  reply_is = done.reply_is;
-  fits = record {
-    rules_are = fits.rules_are;
-    greatest_is = refl;
-    number = done.number;
-    store = done.fits;
-    consents = quiet_consents old.consents history m o.changes quiet fits.consents;
-    hosts = quiet_host installs removes first old.host history m o.changes quiet fits.hosts;
-    right = all_right-more rules history m o.changes fits.right right;
-  };
-}

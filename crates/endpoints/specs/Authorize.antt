@@ -1,5 +1,5 @@
 -- GET /authorize (RFC 6749, section 4.1.1; RFC 7636, section 4.3)
-use Rattle.std.specs.Prelude.{◌&&◌, ℕ, List, [], ◌∷◌, not, Option, codes, bytes_eq, length, option_and_then}
+use Rattle.std.specs.Prelude.{◌&&◌, ◌≤◌, ℕ, List, [], ◌∷◌, not, Option, codes, bytes_eq, length, option_and_then, unwrap_or}
 use Rattle.std.specs.Result.{result_ok}
 use Rattle.sha2.specs.Sha256.{sha256}
 use Rattle.pkce.specs.Proof.{is_challenge}
@@ -17,13 +17,18 @@ use Rattle.messages.specs.declared.error.ErrorName.{ErrorName}
 use Rattle.messages.specs.declared.error.ErrorName.TheVariants.{InvalidRequest, InvalidScope, UnauthorizedClient, UnsupportedResponseType, AccessDenied}
 use Rattle.messages.specs.Reply.{sent_back}
 use Rattle.messages.specs.Written.{error_text}
-use Rattle.grants.specs.Outcomes.{Outcome, point, need, only, refuse, unless_taken}
-use Rattle.grants.specs.Requesters.{Parameters, KnownClient, client_named, owner_of, scope_within}
-use Rattle.grants.specs.Texts.{where_passes}
+use Rattle.answers.specs.Outcomes.{Outcome, point, need, only, refuse, unless_taken}
+use Rattle.answers.specs.Requesters.{Parameters, KnownClient, client_named, owner_of, scope_within}
+use Rattle.answers.specs.Short.{state_limit}
+use Rattle.answers.specs.Texts.{where_passes}
 
 -- the state, if it was sent
 abbrev pub state_of : Parameters → Option (List ℕ)
 state_of params = value_of (codes "state") params
+
+-- what is sent back as the state is short
+abbrev pub HasShortState : Parameters → Type 0
+HasShortState params = length (unwrap_or (state_of params) []) ≤ state_limit
 
 -- the user agent is sent back with an error (RFC 6749, section 4.1.2.1)
 abbrev pub turned_back : List ℕ → Parameters → ErrorName → Outcome

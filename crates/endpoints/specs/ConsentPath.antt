@@ -8,8 +8,8 @@ use Rattle.messages.specs.declared.error.ErrorName.TheVariants.{InvalidRequest, 
 use Rattle.messages.specs.Asked.{Asked}
 use Rattle.messages.specs.Reply.{plain}
 use Rattle.messages.specs.Reply.Body.{Consent}
-use Rattle.grants.specs.Outcomes.{Outcome, point, need, refuse, unavailable}
-use Rattle.grants.specs.Requesters.{Parameters, with_form, client_named, owner_of, scope_asked}
+use Rattle.answers.specs.Outcomes.{Outcome, point, need, refuse, unavailable}
+use Rattle.answers.specs.Requesters.{Parameters, with_form, client_named, owner_of, scope_asked}
 
 -- 4. the consent is kept. What it is too small for ends with it
 abbrev pub consent_given : RegistryRecord → List Event → ℕ → ℕ → ℕ → Outcome

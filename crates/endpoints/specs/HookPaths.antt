@@ -14,8 +14,8 @@ use Rattle.messages.specs.Target.{query_of}
 use Rattle.messages.specs.declared.error.ErrorName.TheVariants.{InvalidRequest, AccessDenied}
 use Rattle.messages.specs.Reply.{plain}
 use Rattle.messages.specs.Reply.Body.{Hook, HookRefused, Hooks}
-use Rattle.grants.specs.Outcomes.{Outcome, point, need, only, refuse, unavailable}
-use Rattle.grants.specs.Requesters.{Parameters, form_of}
+use Rattle.answers.specs.Outcomes.{Outcome, point, need, only, refuse, unavailable}
+use Rattle.answers.specs.Requesters.{Parameters, form_of}
 use Rattle.endpoints.specs.declared.endpoint.Endpoint.{Endpoint}
 use Rattle.endpoints.specs.declared.endpoint.Endpoint.TheVariants as endpoint
 
@@ -39,14 +39,19 @@ abbrev pub hook_set : Parameters → List ℕ → List ℕ → Option Change
 hook_set params code name =
     option_map (λ version. HookSet name version code) (version_asked (value_of (codes "record") params))
 
+-- by its parameters
+abbrev pub hook_set_by : Parameters → List ℕ → Option Change
+hook_set_by params code = option_and_then (hook_set params code) (value_of (codes "name") params)
+
 abbrev pub installation : Asked → Option Change
-installation asked =
-    option_and_then (λ params. option_and_then (hook_set params asked.body) (value_of (codes "name") params))
-    (result_ok (read_params (query_of asked.target)))
+installation asked = option_and_then (λ params. hook_set_by params asked.body) (result_ok (read_params (query_of asked.target)))
 
 -- the hook that the form names
+abbrev pub hook_gone : Parameters → Option Change
+hook_gone params = option_map HookGone (value_of (codes "name") params)
+
 abbrev pub removal : Asked → Option Change
-removal asked = option_and_then (λ params. option_map HookGone (value_of (codes "name") params)) (form_of asked)
+removal asked = option_and_then hook_gone (form_of asked)
 
 -- the change of the hooks that a request asks for, if it asks for one
 abbrev pub hook_change_at : Endpoint → Asked → Option Change
@@ -73,10 +78,13 @@ by_fault change None = record { reply = plain 200 (Hook (hook_name change)); cha
 by_fault change (Some hook.Memory) = unavailable
 by_fault change (Some fault) = only (plain 400 (HookRefused (hook_fault_text fault)))
 
+-- the change that is asked for, if one is
+abbrev pub hook_points : Option Change → Option HookFault → Outcome
+hook_points change fault = need change (refuse InvalidRequest) (λ change. by_fault change fault)
+
 -- the operator's change, which the host makes or refuses
 abbrev pub change_hooks : RegistryRecord → Option HookFault → Asked → Option Change → Outcome
-change_hooks rules fault asked change =
-    with_operator rules asked (need change (refuse InvalidRequest) (λ change. by_fault change fault))
+change_hooks rules fault asked change = with_operator rules asked (hook_points change fault)
 
 abbrev pub install_hook : RegistryRecord → Option HookFault → Asked → Outcome
 install_hook rules fault asked = change_hooks rules fault asked (installation asked)

@@ -9,7 +9,7 @@ use Rattle.hook_host.specs.Versions.{layout_of}
 use Rattle.consent.specs.History.{Event, Change}
 use Rattle.consent.specs.History.Change.{Consented, CodeGiven, Issued, Spent, FamilyEnded, HookSet, HookGone}
 use Rattle.messages.specs.Written.{Written, written}
-use Rattle.grants.specs.Outcomes.{Outcome, chosen}
+use Rattle.answers.specs.Outcomes.{Outcome, chosen}
 
 -- what a host says: its answer to each ask, its hooks' names, and the fault that it has for the change that the request
 -- asks for, if any

@@ -12,9 +12,9 @@ use Rattle.messages.specs.declared.error.ErrorName.TheVariants.{InvalidRequest}
 use Rattle.messages.specs.Asked.{Asked}
 use Rattle.messages.specs.Reply.{Body, plain}
 use Rattle.messages.specs.Reply.Body.{Active, Inactive}
-use Rattle.grants.specs.Outcomes.{Outcome, need, only, refuse, unavailable}
-use Rattle.grants.specs.Requesters.{Parameters, KnownClient, with_authenticated}
-use Rattle.grants.specs.Tokens.{live_token}
+use Rattle.answers.specs.Outcomes.{Outcome, need, only, refuse, unavailable}
+use Rattle.answers.specs.Requesters.{Parameters, KnownClient, with_authenticated}
+use Rattle.answers.specs.Tokens.{live_token}
 
 -- what is told of a live token of the client
 abbrev pub told_of : RegistryRecord → ClientRecord → Grant → Kind → Body

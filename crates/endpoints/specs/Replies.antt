@@ -5,14 +5,14 @@ use Rattle.consent.specs.History.{Event, Change}
 use Rattle.messages.specs.declared.request.Draws.{Draws}
 use Rattle.messages.specs.Asked.{Asked}
 use Rattle.messages.specs.Target.{path_of}
-use Rattle.grants.specs.Outcomes.{Outcome, point, need, bare, chosen}
+use Rattle.answers.specs.Outcomes.{Outcome, point, need, bare, chosen}
 use Rattle.endpoints.specs.declared.endpoint.Endpoint.{Endpoint}
 use Rattle.endpoints.specs.declared.endpoint.Endpoint.TheVariants.{Authorize, GiveConsent, IssueToken, RevokeToken, Introspect, InstallHook, RemoveHook, ListHooks}
 use Rattle.endpoints.specs.Paths.{endpoint_at, method_at}
 use Rattle.endpoints.specs.Hosts.{HostSays}
 use Rattle.endpoints.specs.Authorize.{authorize}
 use Rattle.endpoints.specs.ConsentPath.{give_consent}
-use Rattle.grants.specs.TokenPath.{issue_token}
+use Rattle.token_endpoint.specs.TokenPath.{issue_token}
 use Rattle.endpoints.specs.Revoke.{revoke_token}
 use Rattle.endpoints.specs.Introspect.{introspect}
 use Rattle.endpoints.specs.HookPaths.{install_hook, remove_hook, list_hooks, hook_change_at}

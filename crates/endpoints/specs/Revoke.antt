@@ -8,9 +8,9 @@ use Rattle.messages.specs.declared.error.ErrorName.TheVariants.{InvalidRequest, 
 use Rattle.messages.specs.Asked.{Asked}
 use Rattle.messages.specs.Reply.{plain}
 use Rattle.messages.specs.Reply.Body.{Empty}
-use Rattle.grants.specs.Outcomes.{Outcome, point, need, refuse, bare}
-use Rattle.grants.specs.Requesters.{Parameters, KnownClient, with_authenticated}
-use Rattle.grants.specs.Tokens.{live_token}
+use Rattle.answers.specs.Outcomes.{Outcome, point, need, refuse, bare}
+use Rattle.answers.specs.Requesters.{Parameters, KnownClient, with_authenticated}
+use Rattle.answers.specs.Tokens.{live_token}
 
 -- 3 and 4, by the live token
 abbrev pub revoked : ℕ → Option Grant → Outcome

@@ -3,12 +3,11 @@ use Rattle.std.specs.Prelude.{◌≡◌, ℕ, List, []}
 use Rattle.insn.specs.declared.layout.Layout.{Layout}
 use Rattle.clients.specs.RegistryRecord.{RegistryRecord}
 use Rattle.consent.specs.History.{Event, with_changes}
-use Rattle.consent.specs.Consents.{FitsConsents}
-use Rattle.consent.specs.declared.parties.Parties.{Parties}
-use Rattle.grant_store.specs.Kept.{Kept}
-use Rattle.grant_store.specs.Fits.{FitsStore}
+use Rattle.consent.specs.Consents.{KeptConsents, FitsConsents}
+use Rattle.token_store.specs.Kept.{Held}
+use Rattle.token_store.specs.Fits.{FitsStore}
 use Rattle.messages.specs.Written.{Written, written}
-use Rattle.grants.specs.Outcomes.{Outcome}
+use Rattle.answers.specs.Outcomes.{Outcome}
 use Rattle.endpoints.specs.Hosts.{HostRun}
 use Rattle.endpoints.specs.Bounded.{AllRight}
 
@@ -16,8 +15,8 @@ use Rattle.endpoints.specs.Bounded.{AllRight}
 pub record Seen (H : Type 0) : Type 0 where
   pub rules : RegistryRecord
   pub host : H
-  pub store : List Kept
-  pub consents : List (Parties × ℕ)
+  pub store : Held
+  pub consents : KeptConsents
   -- the greatest moment that a request was handed
   pub greatest : ℕ
 
@@ -26,9 +25,7 @@ pub record Seen (H : Type 0) : Type 0 where
 pub record FitsServer {H : Type 0} (installs : H → List ℕ → Layout → List ℕ → H → Type 0) (removes : H → List ℕ → H → Type 0) (server : Seen H) (rules : RegistryRecord) (first : H) (history : List Event) (m : ℕ) : Type 0 where
   pub rules_are : server.rules ≡ rules
   pub greatest_is : server.greatest ≡ m
-  -- the store's number of each family
-  pub number : ℕ → ℕ
-  pub store : FitsStore server.store history m number
+  pub store : FitsStore server.store history m
   pub consents : FitsConsents server.consents history
   pub hosts : HostRun installs removes first history server.host
   -- what the bounds of all tokens follow from

@@ -1,45 +1,36 @@
 //! GET /authorize (RFC 6749, section 4.1.1; RFC 7636, section 4.3).
-ghost use Rattle.std.specs.Prelude.{◌≡◌, ◌≤◌, ℕ, List, IfOk, IsErrOf, length, option_copied};
-ghost use Rattle.params.specs.Form.{IsFormRefusal};
+ghost use Rattle.std.specs.Prelude.{◌≡◌, ◌≤◌, ℕ, List, Some, IfOk, length, option_copied};
 ghost use Rattle.clients.specs.Limits.{redirect_limit};
-ghost use Rattle.consent.specs.History.{Event};
-ghost use Rattle.consent.specs.Consents.{FitsConsents};
 ghost use Rattle.messages.specs.Asked.{asked_of};
-ghost use Rattle.messages.specs.Target.{query_of};
-ghost use Rattle.grants.specs.Halts.{Leads};
-ghost use Rattle.grants.specs.Outcomes.{Outcome, refuse};
-ghost use Rattle.grants.specs.Requesters.{Parameters, KnownClient};
-ghost use Rattle.grants.specs.Works.{work_of};
-ghost use Rattle.endpoints.specs.Answering.{IsReplied};
-ghost use Rattle.endpoints.specs.Authorize.{challenge_sent, known_points, turned_back, with_query};
-ghost use Rattle.endpoints.specs.Decided.{Decides};
-ghost use Rattle.endpoints.specs.CodeSteps.{Authorizes, DecidesCode, GivesCode, HasShortState, client_in};
-ghost use Rattle.grants.specs.Done.{IsShort};
+ghost use Rattle.answers.specs.Halts.{Leads};
+ghost use Rattle.answers.specs.Outcomes.{Outcome};
+ghost use Rattle.answers.specs.Requesters as asked;
+ghost use Rattle.answers.specs.Requesters.{Parameters};
+ghost use Rattle.answers.specs.Scene.{known_of};
+ghost use Rattle.answers.specs.Short.{IsShortAnswer, state_limit};
+ghost use Rattle.answers.specs.Told.{Decides, told};
+ghost use Rattle.endpoints.specs.Authorize.{HasShortState, challenge_sent, known_points, query_points, with_query};
+ghost use Rattle.endpoints.specs.Deciding.{DecidesCode, InEach, code_by};
 
-use clients::{Client, ClientNo, GrantType, Registry};
-use consent::{Consents, is_within};
-use grant_store::{CodeFacts, Store};
-use grants::{
-    Halt, Setting, halted, named_client, owner, refuse, scope_within, text_of, unavailable,
-};
-use messages::{ErrorName, Request, Response, redirect};
+use answers::{Answer, Decision, Halt, KnownClient, View, named_client, owner, scope_within};
+use clients::{GrantType, Registry};
+use consent::{Change, Changes, CodeFacts, is_within};
+use messages::{ErrorName, Request};
 use params::{ParamFault, Params};
 use pkce::{challenge_ok, digest_of};
 use std::alloc::Global;
 
-/// A client, with its number, and the one of its redirect URIs that was sent.
+/// A client, and the one of its redirect URIs that was sent.
 #[derive(Clone, Copy)]
 pub(crate) struct Requester<'r, 'p> {
-    pub(crate) number: ClientNo,
-    pub(crate) client: &'r Client,
+    pub(crate) known: KnownClient<'r>,
     pub(crate) redirect: &'p str,
 }
 
-// The parameters of the query.
-fn sent(alloc: Global, request: &Request<'_>) -> Result<Params, Halt>
+/// The parameters of the query.
+pub(crate) fn query(alloc: Global, request: &Request<'_>) -> Result<Params, Halt>
     ensures leads { (next : Parameters → Outcome) → Leads result (with_query (asked_of request.entry.now) next) next }
-    ensures memory { IsErrOf result Halt.NoMemory → IsFormRefusal (query_of (asked_of request.entry.now).target) ParamFault.Memory }
-    ensures short { length request.entry.now.target.now ≤ 8192 → IfOk result HasShortState }
+    ensures short { length request.entry.now.target.now ≤ state_limit → IfOk result HasShortState }
 {
     match Params::read(alloc, request.query()) {
         Ok(params) => Ok(params),
@@ -49,26 +40,21 @@ fn sent(alloc: Global, request: &Request<'_>) -> Result<Params, Halt>
 }
 
 // The client and its redirect URI, without which nobody is sent anywhere.
-fn known<'r, 'p>(rules: &'r Registry, params: &'p Params) -> Result<Requester<'r, 'p>, ErrorName>
-    ensures points { (next : KnownClient → List ℕ → Outcome) → Decides result (known_points rules.now params.now next)
-        (λ known. next (client_in known) known.redirect.now) refuse }
-    ensures short { IfOk result (λ known. length known.redirect.now ≤ redirect_limit) }
+fn known<'r, 'p>(rules: &'r Registry, params: &'p Params) -> Result<Requester<'r, 'p>, Halt>
+    ensures leads { (next : asked.KnownClient → List ℕ → Outcome) → Leads result (known_points rules.now params.now next)
+        (λ requester. next (known_of requester.known) requester.redirect.now) }
+    ensures short { IfOk result (λ requester. length requester.redirect.now ≤ redirect_limit) }
 {
-    let Some(number) = named_client(rules, params) else {
-        return Err(ErrorName::InvalidRequest);
+    let Some(known) = named_client(rules, params) else {
+        return Err(Halt::Refuse(ErrorName::InvalidRequest));
     };
-    let client = rules.client(number);
     let Some(redirect) = params.get("redirect_uri") else {
-        return Err(ErrorName::InvalidRequest);
+        return Err(Halt::Refuse(ErrorName::InvalidRequest));
     };
-    if !client.has_redirect(redirect) {
-        return Err(ErrorName::InvalidRequest);
+    if !known.client.has_redirect(redirect) {
+        return Err(Halt::Refuse(ErrorName::InvalidRequest));
     }
-    Ok(Requester {
-        number,
-        client,
-        redirect,
-    })
+    Ok(Requester { known, redirect })
 }
 
 // The challenge, where its method is S256 (RFC 7636, section 4.3).
@@ -85,103 +71,93 @@ fn challenge(params: &Params) -> Option<&str>
 }
 
 // What a code is to be given for, or the error that the user agent is sent back with.
-fn decision<'p>(
-    setting: &Setting<'_>,
-    consents: &Consents,
+fn code_facts<'p>(
+    view: &View<'_>,
     request: &Request<'_>,
     params: &'p Params,
-    known: Requester<'_, 'p>,
+    requester: &Requester<'_, 'p>,
 ) -> Result<CodeFacts<'p>, ErrorName>
-    ensures points { (history : List Event) → FitsConsents consents.now history →
-        DecidesCode setting.entry.now history (asked_of request.entry.now) params.now known.entry result }
-    ensures sent_to { IfOk result (λ facts. facts.redirect.now ≡ known.entry.redirect.now) }
+    ensures decides { InEach view.now (λ s. DecidesCode s (asked_of request.entry.now) params.now requester.entry.now result) }
+    ensures there { IfOk result (λ facts. facts.redirect ≡ requester.entry.now.redirect) }
 {
+    let client = requester.known.client;
+    let number = requester.known.number;
     let wanted = params
         .get("response_type")
         .ok_or(ErrorName::InvalidRequest)?;
     if wanted != "code" {
         return Err(ErrorName::UnsupportedResponseType);
     }
-    if !known.client.has_grant(GrantType::AuthorizationCode) {
+    if !client.has_grant(GrantType::AuthorizationCode) {
         return Err(ErrorName::UnauthorizedClient);
     }
     let challenge = challenge(params).ok_or(ErrorName::InvalidRequest)?;
-    let scope = scope_within(setting.rules, known.client.allowed(), params).ok_or(
-        ErrorName::InvalidScope,
-    )?;
-    let owner = owner(setting.rules, request).ok_or(ErrorName::AccessDenied)?;
-    if !is_within(scope, consents.get(owner, known.number)) {
+    let scope = scope_within(view.rules, client.allowed(), params).ok_or(ErrorName::InvalidScope)?;
+    let owner = owner(view.rules, request).ok_or(ErrorName::AccessDenied)?;
+    if !is_within(scope, view.consents.get(owner, number)) {
         return Err(ErrorName::AccessDenied);
     }
     Ok(CodeFacts {
-        client: known.number,
+        client: number,
         owner,
         scope,
-        redirect: known.redirect,
+        redirect: requester.redirect,
         challenge,
     })
 }
 
-// The user agent is sent back with an error (RFC 6749, section 4.1.2.1).
-fn turned_back(alloc: Global, uri: &str, params: &Params, error: ErrorName) -> Response
-    ensures value { IsReplied (turned_back uri.now params.now error) result }
-    ensures short { length uri.now ≤ redirect_limit → HasShortState params.now → IsShort result }
-{
-    let Ok(reply) = redirect(alloc, uri, "error", error.text(), params.get("state")) else {
-        return unavailable();
-    };
-    reply
-}
-
 // The user agent is sent back with a code (RFC 6749, section 4.1.2).
-fn give_code(
-    setting: &Setting<'_>,
-    store: &mut Store,
-    params: &Params,
-    facts: &CodeFacts<'_>,
-) -> Response
-    ensures done { GivesCode (work_of setting.entry.now store.old store.new result) params.now facts.entry.now }
-    ensures short { length facts.entry.now.redirect.now ≤ redirect_limit → HasShortState params.now → IsShort result }
+fn give_code<'p>(view: &View<'_>, params: &'p Params, facts: &CodeFacts<'p>) -> Decision<'p>
+    ensures told { InEach view.now (λ s. told s result ≡ Some (code_by s params.now facts.entry.now)) }
+    ensures short { length facts.entry.now.redirect.now ≤ redirect_limit → HasShortState params.now → IsShortAnswer result.answer }
 {
-    let draw = &setting.draws.first;
-    let Ok(text) = text_of(setting.alloc, draw) else {
-        return unavailable();
-    };
-    let state = params.get("state");
-    let Ok(reply) = redirect(setting.alloc, facts.redirect, "code", text.as_str(), state) else {
-        return unavailable();
-    };
-    let Ok(_) = store.open_grant(&digest_of(draw), facts, setting.moment) else {
-        return unavailable();
-    };
-    reply
+    let draw = view.draws.first;
+    let digest = digest_of(&draw);
+    if !view.is_free(&[digest]) {
+        return Decision::unavailable();
+    }
+    Decision {
+        answer: Answer::CodeSent {
+            uri: facts.redirect,
+            draw,
+            state: params.get("state"),
+        },
+        changes: Changes::One(Change::CodeGiven {
+            facts: CodeFacts {
+                client: facts.client,
+                owner: facts.owner,
+                scope: facts.scope,
+                redirect: facts.redirect,
+                challenge: facts.challenge,
+            },
+            digest,
+        }),
+    }
 }
 
-// Answers GET /authorize.
-pub(crate) fn authorize_path(
-    setting: &Setting<'_>,
-    store: &mut Store,
-    consents: &Consents,
+/// Decides on a code, by the parameters of the query.
+pub(crate) fn authorize<'p>(
+    view: &View<'_>,
     request: &Request<'_>,
-) -> Response
-    ensures done { Authorizes (work_of setting.entry.now store.old store.new result) consents.now (asked_of request.entry.now) }
-    ensures short { length request.entry.now.target.now ≤ 8192 → IsShort result }
+    params: &'p Params,
+) -> Result<Decision<'p>, Halt>
+    ensures decides { InEach view.now (λ s. Decides s result
+        (query_points s.rules s.history (asked_of request.entry.now) s.moment s.draws.first params.now)) }
+    ensures short { HasShortState params.now → IfOk result (λ decision. IsShortAnswer decision.answer) }
 {
-    let params = match sent(setting.alloc, request) {
-        Ok(params) => params,
-        Err(halt) => {
-            return halted(setting.alloc, halt);
-        }
+    let requester = match known(view.rules, params) {
+        Ok(requester) => requester,
+        Err(halt) => return Err(halt),
     };
-    let known = match known(setting.rules, &params) {
-        Ok(known) => known,
-        Err(error) => {
-            return refuse(setting.alloc, error);
-        }
-    };
-    let uri = known.redirect;
-    match decision(setting, consents, request, &params, known) {
-        Ok(facts) => give_code(setting, store, &params, &facts),
-        Err(error) => turned_back(setting.alloc, uri, &params, error),
+    match code_facts(view, request, params, &requester) {
+        Ok(facts) => Ok(give_code(view, params, &facts)),
+        Err(error) => Ok(Decision {
+            answer: Answer::TurnedBack {
+                uri: requester.redirect,
+                error,
+                state: params.get("state"),
+            },
+            changes: Changes::Nothing,
+        }),
     }
 }

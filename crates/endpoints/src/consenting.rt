@@ -1,20 +1,17 @@
 //! POST /consent.
-ghost use Rattle.std.specs.Prelude.{List};
-ghost use Rattle.consent.specs.History.{Event};
+ghost use Rattle.std.specs.Prelude.{IfOk};
 ghost use Rattle.messages.specs.Asked.{asked_of};
-ghost use Rattle.grants.specs.Outcomes.{refuse};
-ghost use Rattle.grants.specs.Works.{work_of};
-ghost use Rattle.endpoints.specs.Decided.{Decides};
-ghost use Rattle.endpoints.specs.ConsentPath.{consent_points};
-ghost use Rattle.endpoints.specs.ConsentSteps.{GivesConsent, KeepsConsent, consent_by};
-ghost use Rattle.grants.specs.Done.{IsShort};
+ghost use Rattle.answers.specs.Halts.{Leads};
+ghost use Rattle.answers.specs.Short.{IsShortAnswer};
+ghost use Rattle.answers.specs.Told.{Decides};
+ghost use Rattle.endpoints.specs.ConsentPath.{consent_points, give_consent};
+ghost use Rattle.endpoints.specs.Deciding.{InEach, consent_by};
 
-use clients::Registry;
-use consent::{ClientNo, Consents, OwnerNo};
-use grant_store::Store;
-use grants::{Setting, form, halted, named_client, owner, refuse, scope, unavailable};
-use messages::{ErrorName, Request, Response};
+use answers::{Answer, Decision, Halt, View, form, named_client, owner, scope};
+use consent::{Change, Changes, ClientNo, OwnerNo};
+use messages::{ErrorName, Request};
 use params::Params;
+use std::alloc::Global;
 
 /// What an owner consents to a client's having: one bit for each name.
 #[derive(Clone, Copy)]
@@ -25,76 +22,56 @@ pub(crate) struct NewConsent {
 }
 
 // The owner, the client and what the one consents to the other's having.
-fn consented(
-    rules: &Registry,
-    request: &Request<'_>,
-    params: &Params,
-) -> Result<NewConsent, ErrorName>
-    ensures { (history : List Event) → Decides result
-        (consent_points rules.now history (asked_of request.entry.now) params.now)
-        (consent_by rules.now history) refuse }
+fn consented(view: &View<'_>, request: &Request<'_>, params: &Params) -> Result<NewConsent, Halt>
+    ensures { InEach view.now (λ s. Leads result
+        (consent_points s.rules s.history (asked_of request.entry.now) params.now) (consent_by s)) }
 {
-    let Some(owner) = owner(rules, request) else {
-        return Err(ErrorName::AccessDenied);
+    let Some(owner) = owner(view.rules, request) else {
+        return Err(Halt::Refuse(ErrorName::AccessDenied));
     };
-    let Some(client) = named_client(rules, params) else {
-        return Err(ErrorName::InvalidRequest);
+    let Some(known) = named_client(view.rules, params) else {
+        return Err(Halt::Refuse(ErrorName::InvalidRequest));
     };
-    let Some(mask) = scope(rules, 0, params) else {
-        return Err(ErrorName::InvalidScope);
+    let Some(mask) = scope(view.rules, 0, params) else {
+        return Err(Halt::Refuse(ErrorName::InvalidScope));
     };
-    // It is a client of the registry.
-    let _ = rules.client(client);
     Ok(NewConsent {
         owner,
-        client,
+        client: known.number,
         mask,
     })
 }
 
-// The consent is kept, and what it is too small for ends with it.
-fn keep(
-    setting: &Setting<'_>,
-    store: &mut Store,
-    consents: &mut Consents,
-    new: &NewConsent,
-) -> Response
-    ensures done { KeepsConsent (work_of setting.entry.now store.old store.new result) consents.old consents.new new.entry.now }
-    ensures short { IsShort result }
-{
-    let catalogue = setting.rules.catalogue();
-    let Ok(text) = catalogue.scope_text(setting.alloc, new.mask) else {
-        return unavailable();
-    };
-    let Ok(reply) = messages::consent(setting.alloc, text.as_str()) else {
-        return unavailable();
-    };
-    let Ok(()) = consents.set(new.owner, new.client, new.mask) else {
-        return unavailable();
-    };
-    store.revoke_beyond(new.owner, new.client, new.mask, setting.moment);
-    reply
-}
-
-// Answers POST /consent.
-pub(crate) fn consent_path(
-    setting: &Setting<'_>,
-    store: &mut Store,
-    consents: &mut Consents,
+/// Decides on a consent. What it is too small for ends with it.
+pub(crate) fn consent<'c>(
+    alloc: Global,
+    view: &View<'_>,
     request: &Request<'_>,
-) -> Response
-    ensures done { GivesConsent (work_of setting.entry.now store.old store.new result) consents.old consents.new
-        (asked_of request.entry.now) }
-    ensures short { IsShort result }
+) -> Result<Decision<'c>, Halt>
+    ensures decides { InEach view.now (λ s. Decides s result (give_consent s.rules s.history (asked_of request.entry.now))) }
+    ensures short { IfOk result (λ decision. IsShortAnswer decision.answer) }
 {
-    let params = match form(setting.alloc, request) {
+    let params = match form(alloc, request) {
         Ok(params) => params,
-        Err(halt) => {
-            return halted(setting.alloc, halt);
-        }
+        Err(halt) => return Err(halt),
     };
-    match consented(setting.rules, request, &params) {
-        Ok(new) => keep(setting, store, consents, &new),
-        Err(error) => refuse(setting.alloc, error),
+    let NewConsent {
+        owner,
+        client,
+        mask,
+    } = match consented(view, request, &params) {
+        Ok(new) => new,
+        Err(halt) => return Err(halt),
+    };
+    if !view.consents.has_room(owner, client, mask) {
+        return Ok(Decision::unavailable());
     }
+    Ok(Decision {
+        answer: Answer::Consented { mask },
+        changes: Changes::One(Change::Consented {
+            owner,
+            client,
+            mask,
+        }),
+    })
 }

@@ -4,7 +4,7 @@ ghost use Rattle.endpoints.specs.Paths.{endpoint_at, method_at};
 
 /// What a path is for.
 #[derive(Clone, Copy, Debug, PartialEq, Eq)]
-pub(crate) enum Endpoint {
+pub enum Endpoint {
     Authorize,
     GiveConsent,
     IssueToken,
@@ -16,8 +16,8 @@ pub(crate) enum Endpoint {
 }
 
 impl Endpoint {
-    // The endpoint of a path, byte by byte.
-    pub(crate) fn at(path: &[u8]) -> Option<Endpoint>
+    /// The endpoint of a path, byte by byte.
+    pub fn at(path: &[u8]) -> Option<Endpoint>
         ensures { result ≡ endpoint_at path.now }
     {
         if path == b"/authorize".as_slice() {
@@ -47,7 +47,8 @@ impl Endpoint {
         None
     }
 
-    pub(crate) fn method(self) -> &'static [u8]
+    /// The one method that it answers.
+    pub fn method(self) -> &'static [u8]
         ensures { result.now ≡ method_at self }
     {
         match self {

@@ -1,13 +1,20 @@
-//! The endpoints of an OAuth 2.0 authorization server: every request has its written reply.
+//! The endpoints of an OAuth 2.0 authorization server: every request has its written reply. What a request comes to is
+//! decided by reading alone; what is kept is changed in one place.
 #![tactic(auto)]
 
 mod authorize;
+mod beside;
 mod consenting;
 mod endpoint;
 mod hooks;
 mod introspect;
+mod reading;
 mod revoke;
+mod ruling;
 mod server;
 
 pub use consent::Moment;
+pub use endpoint::Endpoint;
+pub use reading::Reading;
+pub use ruling::{Checked, Ruling};
 pub use server::Server;

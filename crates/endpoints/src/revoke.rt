@@ -1,94 +1,104 @@
 //! POST /revoke (RFC 7009, section 2).
-ghost use Rattle.std.specs.Prelude.{ℕ, List, Option, IfSome};
-ghost use Rattle.consent.specs.History.{Event};
-ghost use Rattle.grant_store.specs.Kept.{HasFamily};
-ghost use Rattle.grant_store.specs.Fits.{FitsStore};
+ghost use Rattle.std.specs.Prelude.{◌≡◌, ℕ, List, Option, IfOk};
 ghost use Rattle.messages.specs.Asked.{asked_of};
-ghost use Rattle.grants.specs.Halts.{Leads};
-ghost use Rattle.grants.specs.Outcomes.{Outcome};
-ghost use Rattle.grants.specs.Done.{IsShort};
-ghost use Rattle.grants.specs.Works.{work_of};
-ghost use Rattle.endpoints.specs.Presented.{IsTold, live_of, with_presented};
-ghost use Rattle.endpoints.specs.Revoking.{Revokes, RevokesLive};
+ghost use Rattle.answers.specs.Halts.{Leads};
+ghost use Rattle.answers.specs.Outcomes.{Outcome};
+ghost use Rattle.answers.specs.Short.{IsShortAnswer};
+ghost use Rattle.answers.specs.Told.{Decides};
+ghost use Rattle.endpoints.specs.Deciding.{FindsLive, InEach};
+ghost use Rattle.endpoints.specs.Presented.{with_presented};
+ghost use Rattle.endpoints.specs.Revoke.{revoke_token};
 
-use consent::Moment;
-use grant_store::{Store, TokenStatus};
-use grants::{Halt, Setting, authenticated_client, digest_told, form, halted, refuse};
-use http::StatusCode;
-use messages::{ErrorName, Request, Response};
+use answers::{Answer, Decision, Halt, View, authenticated_client, digest_told, form};
+use clients::Registry;
+use consent::{Change, Changes, ClientNo, Kind, TokenKind};
+use messages::{ErrorName, Request};
+use std::alloc::Global;
+use token_store::Found;
 
-/// What is presented: the number of the client that presents it, and the digest of the token that it may be.
+/// What is presented: the client that presents it, and the digest of the token that it may be.
 #[derive(Clone, Copy)]
 pub(crate) struct Presented {
-    pub(crate) client: u32,
+    pub(crate) client: ClientNo,
     pub(crate) digest: Option<[u8; 32]>,
 }
 
 // The client is authenticated, and a token is named.
-pub(crate) fn presented_by(setting: &Setting<'_>, request: &Request<'_>) -> Result<Presented, Halt>
+pub(crate) fn presented_by(
+    alloc: Global,
+    rules: &Registry,
+    request: &Request<'_>,
+) -> Result<Presented, Halt>
     ensures { (next : ℕ → Option (List ℕ) → Outcome) → Leads result
-        (with_presented setting.entry.now.rules.now (asked_of request.entry.now) next) (λ p. next p.client p.digest) }
+        (with_presented rules.now (asked_of request.entry.now) next) (λ p. next p.client p.digest) }
 {
-    let params = form(setting.alloc, request)?;
-    let client = authenticated_client(setting.alloc, setting.rules, request, &params)?.get();
+    let params = match form(alloc, request) {
+        Ok(params) => params,
+        Err(halt) => return Err(halt),
+    };
+    let known = match authenticated_client(alloc, rules, request, &params) {
+        Ok(known) => known,
+        Err(halt) => return Err(halt),
+    };
     let Some(text) = params.get("token") else {
         return Err(Halt::Refuse(ErrorName::InvalidRequest));
     };
     Ok(Presented {
-        client,
+        client: known.number,
         digest: digest_told(text),
     })
 }
 
 // The live access or refresh token of the digest.
-pub(crate) fn live_token(
-    store: &Store,
-    moment: Moment,
-    digest: Option<[u8; 32]>,
-) -> Option<TokenStatus>
-    ensures told { (history : List Event) (number : ℕ → ℕ) → FitsStore store.now history moment number →
-        IsTold history number moment (live_of history moment digest) result }
-    ensures open { IfSome result (λ token. HasFamily store.now token.family moment) }
+pub(crate) fn live_token<'a>(view: &View<'a>, digest: &[u8; 32]) -> Option<Found<'a>>
+    ensures { InEach view.now (λ s. FindsLive digest.now s result) }
 {
-    let digest = digest?;
-    store.status(&digest, moment)
+    let Some(found) = view.at(digest) else {
+        return None;
+    };
+    let is_live = match found.kind {
+        Kind::Code => false,
+        Kind::Token(TokenKind::Access) => !found.ended,
+        Kind::Token(TokenKind::Refresh) => !found.ended && !found.spent,
+    };
+    if is_live { Some(found) } else { None }
 }
 
-// The client's own token is revoked, and its family with it.
-fn revoke_live(
-    setting: &Setting<'_>,
-    store: &mut Store,
-    client: u32,
-    token: &TokenStatus,
-) -> Response
-    requires open { HasFamily store.old token.now.family setting.now.moment }
-    ensures done { RevokesLive (work_of setting.entry.now store.old store.new result) client token.entry.now }
-    ensures short { IsShort result }
-{
-    if token.client.get() != client {
-        return refuse(setting.alloc, ErrorName::InvalidGrant);
-    }
-    store.revoke(token.family, setting.moment);
-    Response::bare(StatusCode::OK)
-}
-
-/// Answers POST /revoke.
-pub(crate) fn revoke_path(
-    setting: &Setting<'_>,
-    store: &mut Store,
+/// Decides on a revocation: the client's own token is revoked, and its family with it.
+pub(crate) fn revoke<'c>(
+    alloc: Global,
+    view: &View<'_>,
     request: &Request<'_>,
-) -> Response
-    ensures done { Revokes (work_of setting.entry.now store.old store.new result) (asked_of request.entry.now) }
-    ensures short { IsShort result }
+) -> Result<Decision<'c>, Halt>
+    ensures decides { InEach view.now (λ s. Decides s result
+        (revoke_token s.rules s.history (asked_of request.entry.now) s.moment)) }
+    ensures short { IfOk result (λ decision. IsShortAnswer decision.answer) }
 {
-    let presented = match presented_by(setting, request) {
+    let presented = match presented_by(alloc, view.rules, request) {
         Ok(presented) => presented,
-        Err(halt) => {
-            return halted(setting.alloc, halt);
-        }
+        Err(halt) => return Err(halt),
     };
-    let Some(token) = live_token(store, setting.moment, presented.digest) else {
-        return Response::bare(StatusCode::OK);
+    let Some(digest) = presented.digest else {
+        return Ok(done());
     };
-    revoke_live(setting, store, presented.client, &token)
+    let Some(token) = live_token(view, &digest) else {
+        return Ok(done());
+    };
+    if token.client != presented.client {
+        return Err(Halt::Refuse(ErrorName::InvalidGrant));
+    }
+    Ok(Decision {
+        answer: Answer::Done,
+        changes: Changes::One(Change::FamilyEnded { of: digest }),
+    })
+}
+
+// 200, with which nothing happens.
+fn done<'c>() -> Decision<'c>
+    ensures { result ≡ record { answer = Answer.Done; changes = Changes.Nothing } }
+{
+    Decision {
+        answer: Answer::Done,
+        changes: Changes::Nothing,
+    }
 }

@@ -1,28 +1,36 @@
 //! The server.
-ghost use Rattle.std.specs.Prelude.{◌≡◌, ◌≤◌, [], max, length};
+ghost use Rattle.std.specs.Prelude.{◌≡◌, ◌≤◌, [], IfErr, IfOk, OnOk, max, length};
+ghost use Rattle.consent.specs.Changes.{listed};
 ghost use Rattle.messages.specs.Asked.{asked_of};
-ghost use Rattle.grants.specs.Done.{IsShort};
+ghost use Rattle.answers.specs.Short.{IsShort, IsShortAnswer, state_limit};
+ghost use Rattle.endpoints.specs.Making.{HasRooms, IsReady, IsSame, Makes};
+ghost use Rattle.endpoints.specs.Reading.{EndsAt, IsRead, IsShortReading, endpoint_of};
+ghost use Rattle.endpoints.specs.Ruling.{CanTake};
+ghost use Rattle.endpoints.specs.Rulings.{Answers, IsAlone, IsHalted, Rules, RulesAlone, asking_of};
 ghost use Rattle.endpoints.specs.Server.{FitsServer};
-ghost use Rattle.endpoints.specs.Steps.{Steps, StepsAt, arrival_in, server_in};
+ghost use Rattle.endpoints.specs.Steps.{Steps};
 
-use crate::authorize::authorize_path;
-use crate::consenting::consent_path;
+use crate::authorize::authorize;
+use crate::beside::make_beside;
+use crate::consenting::consent;
 use crate::endpoint::Endpoint;
-use crate::hooks::{install_path, list_path, remove_path};
-use crate::introspect::introspect_path;
-use crate::revoke::revoke_path;
+use crate::hooks::{install, remove};
+use crate::introspect::introspect;
+use crate::reading::{Reading, read};
+use crate::revoke::revoke;
+use crate::ruling::{Checked, Ruling};
+use answers::{Answer, Decision, Halt, View, status_of, write};
 use clients::Registry;
-use consent::{Consents, Moment};
-use grant_store::Store;
-use grants::{Setting, token_path};
+use consent::{Change, Changes, Consents, Moment};
 use hook_host::HookHost;
 use http::StatusCode;
-use messages::{Draws, Request, Response};
-use std::alloc::Global;
+use messages::{Draws, Request, Response, failure};
+use std::alloc::{AllocError, Global};
 use std::marker::Model;
+use token_endpoint::decide;
+use token_store::Store;
 
 /// An authorization server, with any host of hooks.
-#[derive(Drop)]
 pub struct Server<H> {
     rules: Registry,
     host: H,
@@ -30,6 +38,20 @@ pub struct Server<H> {
     consents: Consents,
     greatest: Moment,
     alloc: Global,
+}
+
+// It is written out, so that whoever lets go of a server calls this, and is not proved over all that a server is made of.
+impl<H: Drop> Drop for Server<H> {
+    fn drop(self) {
+        let Server {
+            rules: _rules,
+            host: _host,
+            store: _store,
+            consents: _consents,
+            greatest: _,
+            alloc: _,
+        } = self;
+    }
 }
 
 impl<H> Model for Server<H> {
@@ -61,12 +83,124 @@ impl<H: HookHost> Server<H> {
         }
     }
 
+    /// Reads a request at its endpoint. Of the operator's requests the key is looked at first.
+    pub fn read(&self, endpoint: Endpoint, request: &Request<'_>) -> Result<Reading, Halt>
+        ensures endpoint { IfOk result (λ reading. endpoint_of reading ≡ endpoint) }
+        ensures read { IfOk result (IsRead self.now.rules (asked_of request.now)) }
+        ensures ends { IfErr result (EndsAt endpoint self.now.rules (asked_of request.now)) }
+        ensures short { length request.now.target.now ≤ state_limit → IfOk result IsShortReading }
+    {
+        read(self.alloc, &self.rules, endpoint, request)
+    }
+
+    // What a request comes to that asks for no change of the hooks.
+    fn decide_alone<'a>(
+        &self,
+        request: &'a Request<'_>,
+        reading: &'a Reading,
+        draws: &Draws,
+    ) -> Result<Decision<'a>, Halt>
+        ensures decides { IsAlone reading.now → IsRead self.now.rules (asked_of request.now) reading.now →
+            RulesAlone H.HookHost self.now (asking_of (asked_of request.now) reading.now draws.now) result }
+        ensures short { IsShortReading reading.now → IfOk result (λ decision. IsShortAnswer decision.answer) }
+    {
+        let view = View {
+            rules: &self.rules,
+            store: &self.store,
+            consents: &self.consents,
+            moment: self.greatest,
+            draws,
+        };
+        match reading {
+            Reading::Authorize(params) => authorize(&view, request, params),
+            Reading::GiveConsent => consent(self.alloc, &view, request),
+            Reading::IssueToken => decide(self.alloc, &view, &self.host, request),
+            Reading::RevokeToken => revoke(self.alloc, &view, request),
+            Reading::Introspect => introspect(self.alloc, &view, request),
+            Reading::InstallHook(_) | Reading::RemoveHook(_) | Reading::ListHooks => Ok(Decision {
+                answer: Answer::Hooks,
+                changes: Changes::Nothing,
+            }),
+        }
+    }
+
+    /// What a request comes to at the greatest moment so far, by reading alone: the reply of the first point of its
+    /// endpoint's list that holds, and what happens with it.
+    pub fn decide<'a>(
+        &self,
+        request: &'a Request<'_>,
+        reading: &'a Reading,
+        draws: &Draws,
+    ) -> Result<Ruling<'a, H>, Halt>
+        ensures rules { IsRead self.now.rules (asked_of request.now) reading.now →
+            Rules H.HookHost self.now (asking_of (asked_of request.now) reading.now draws.now) result }
+        ensures hook { IfOk result (λ ruling. CanTake H.HookHost self.now.host (listed ruling.decision.changes) ruling.checked) }
+        ensures short { IsShortReading reading.now → IfOk result (λ ruling. IsShortAnswer ruling.decision.answer) }
+    {
+        match reading {
+            Reading::InstallHook(params) => install(&self.host, request.body, params),
+            Reading::RemoveHook(params) => remove(&self.host, params),
+            _ => match self.decide_alone(request, reading, draws) {
+                Ok(decision) => Ok(Ruling {
+                    decision,
+                    checked: Checked::NoHook,
+                }),
+                Err(halt) => Err(halt),
+            },
+        }
+    }
+
+    /// Makes room for the changes, which changes no answer, also where memory is refused.
+    pub fn reserve(&mut self, changes: &Changes<'_>) -> Result<(), AllocError>
+        ensures same { IsSame H.HookHost self.old self.new }
+        ensures room { OnOk result (HasRooms self.new (listed changes.now)) }
+    {
+        if let Changes::One(Change::Consented { .. }) = changes {
+            self.consents.reserve(1)?;
+        }
+        self.store.reserve(changes)
+    }
+
+    /// Makes the changes of a ruling, which room was made for.
+    pub fn apply(&mut self, changes: &Changes<'_>, checked: Checked<H>)
+        requires { IsReady H.HookHost self.old (listed changes.now) checked }
+        ensures { Makes H.HookHost self.old (listed changes.now) checked self.new }
+    {
+        make_beside(&mut self.host, &mut self.consents, changes, checked);
+        self.store.apply(changes, self.greatest);
+    }
+
+    // Answers a request at its endpoint, and makes what comes of it. Where memory is refused, nothing is made.
+    fn answer_at(
+        &mut self,
+        endpoint: Endpoint,
+        request: &Request<'_>,
+        draws: &Draws,
+    ) -> Result<Response, AllocError>
+        ensures replies { Answers H.HookHost self.old
+            (record { endpoint = endpoint; asked = asked_of request.now; draws = draws.now }) result self.new }
+        ensures short { length request.now.target.now ≤ state_limit → IfOk result IsShort }
+    {
+        let reading = match self.read(endpoint, request) {
+            Ok(reading) => reading,
+            Err(halt) => return halted(self.alloc, halt),
+        };
+        let Ruling { decision, checked } = match self.decide(request, &reading, draws) {
+            Ok(ruling) => ruling,
+            Err(halt) => return halted(self.alloc, halt),
+        };
+        let reply = write(self.alloc, &self.rules, &self.host, &decision.answer)?;
+        self.reserve(&decision.changes)?;
+        self.apply(&decision.changes, checked);
+        Ok(reply)
+    }
+
     /// Answers a request at the greatest moment so far: the reply of the first point of its endpoint's list that holds, or
     /// the 503 of refused memory, with which nothing happens. What no endpoint answers (404, 405) takes no memory.
     pub fn step(&mut self, request: &Request<'_>, moment: Moment, draws: &Draws) -> Response
         ensures replies { Steps H.HookHost self.old
             (record { asked = asked_of request.now; moment = moment; draws = draws.now }) result self.new }
-        ensures short { length request.now.target.now ≤ 8192 → IsShort result }
+        ensures short { length request.now.target.now ≤ state_limit → IsShort result }
     {
         self.greatest = greater(self.greatest, moment);
         self.store.drop_expired(self.greatest);
@@ -76,45 +210,19 @@ impl<H: HookHost> Server<H> {
         if request.method != endpoint.method() {
             return Response::bare(StatusCode::METHOD_NOT_ALLOWED);
         }
-        let setting = Setting {
-            alloc: self.alloc,
-            rules: &self.rules,
-            moment: self.greatest,
-            draws,
+        let Ok(reply) = self.answer_at(endpoint, request, draws) else {
+            return Response::bare(StatusCode::SERVICE_UNAVAILABLE);
         };
-        answer_at(
-            &setting,
-            &mut self.store,
-            &mut self.consents,
-            &mut self.host,
-            endpoint,
-            request,
-        )
+        reply
     }
 }
 
-// Answers a request at its endpoint.
-fn answer_at<H: HookHost>(
-    setting: &Setting<'_>,
-    store: &mut Store,
-    consents: &mut Consents,
-    host: &mut H,
-    endpoint: Endpoint,
-    request: &Request<'_>,
-) -> Response
-    ensures replies { StepsAt H.HookHost endpoint (server_in setting.entry.now host.old store.old consents.old)
-        (arrival_in setting.entry.now (asked_of request.entry.now)) result
-        (server_in setting.entry.now host.new store.new consents.new) }
-    ensures short { length request.entry.now.target.now ≤ 8192 → IsShort result }
+// What ended the request is answered.
+fn halted(alloc: Global, halt: Halt) -> Result<Response, AllocError>
+    ensures { IfOk result (IsHalted halt) }
 {
-    match endpoint {
-        Endpoint::Authorize => authorize_path(setting, store, consents, request),
-        Endpoint::GiveConsent => consent_path(setting, store, consents, request),
-        Endpoint::IssueToken => token_path(setting, store, consents, host, request),
-        Endpoint::RevokeToken => revoke_path(setting, store, request),
-        Endpoint::Introspect => introspect_path(setting, store, request),
-        Endpoint::InstallHook => install_path(setting, host, request),
-        Endpoint::RemoveHook => remove_path(setting, host, request),
-        Endpoint::ListHooks => list_path(setting, host, request),
+    match halt {
+        Halt::Refuse(error) => failure(alloc, status_of(error), error),
+        Halt::NoMemory => Err(AllocError),
     }
 }

@@ -1,63 +1,19 @@
 //! Connections over sockets without a system, and over streams in memory.
 
-ghost use Rattle.std.specs.Prelude.{◌≡◌, []};
-
 mod readiness;
 mod streams;
 
 use clients::{ConfigFault, Registry};
 use endpoints::Server;
-use hook_host::{HookFault, HookHost};
-use hook_record::{Ask, Narrowed};
+use hook_chain::Chain;
 use http_edge::Edge;
-use insn::layout::Layout;
 use std::alloc::Global;
 
 const REGISTRY: &str =
     r#"{"access_life":300,"refresh_life":86400,"operator":"op-key","owners":["ann-key"],"scopes":["read"],"clients":[{"id":"bot","secret":"b0t","redirects":[],"scope":"read","grants":["client_credentials"]}]}"#;
 
-/// A host that takes no hooks, and allows all that is asked.
-#[derive(Clone, Copy)]
-struct Allowing;
-
-impl HookHost for Allowing {
-    ghost use Rattle.hook_host.specs.declared.fault.HookFault.TheVariants.{Full, Unknown};
-    ghost use Rattle.hook_record.specs.declared.Narrowed.TheVariants.{Allowed};
-
-    ghost answer = { λ _ ask. Allowed ask.scope ask.life };
-
-    ghost names = { λ _. [] };
-
-    ghost installs = { λ old name layout code new. ⊥ };
-
-    ghost removes = { λ old name new. ⊥ };
-
-    ghost refuses_install = { λ old name layout code fault. fault ≡ Full };
-
-    ghost refuses_remove = { λ old name fault. fault ≡ Unknown };
-
-    fn decide(&self, ask: &Ask) -> Narrowed {
-        Narrowed::Allowed {
-            scope: ask.scope,
-            life: ask.life,
-        }
-    }
-
-    fn install(&mut self, _name: &str, _layout: Layout, _code: &[u8]) -> Result<(), HookFault> {
-        Err(HookFault::Full)
-    }
-
-    fn remove(&mut self, _name: &str) -> Result<(), HookFault> {
-        Err(HookFault::Unknown)
-    }
-
-    fn name_at(&self, _i: usize) -> Option<&str> {
-        None
-    }
-}
-
-/// An edge without connections.
-fn new_edge(alloc: Global) -> Result<Edge<Allowing>, ConfigFault> {
+/// An edge without connections, whose host has no hooks.
+fn new_edge(alloc: Global) -> Result<Edge<Chain>, ConfigFault> {
     let registry = Registry::read(alloc, REGISTRY.as_bytes())?;
-    Ok(Edge::new(alloc, Server::new(alloc, registry, Allowing)))
+    Ok(Edge::new(alloc, Server::new(alloc, registry, Chain::new(alloc))))
 }

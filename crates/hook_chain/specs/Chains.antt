@@ -1,5 +1,5 @@
 -- Chains of hooks: what they hold, and what installing and removing does to them.
-use Rattle.std.specs.Prelude.{◌≡◌, ◌≢◌, ◌⊎◌, ◌<◌, ℕ, List, [], ◌∷◌, ◌++◌, Bool, true, false, map, filter, length, not}
+use Rattle.std.specs.Prelude.{◌≡◌, ◌≢◌, ◌⊎◌, ◌<◌, ◌≤◌, ℕ, List, [], ◌∷◌, ◌++◌, Bool, true, false, map, filter, length, not}
 use Rattle.std.specs.List.{list_any}
 use Rattle.std.specs.Str.{bytes_eq}
 use Rattle.insn.specs.declared.instruction.Insn.{Insn}
@@ -11,7 +11,7 @@ use Rattle.insn.specs.Step.{Safe}
 use Rattle.verifier.specs.Verdicts.{Checked, IsVerdict}
 use Rattle.hook_host.specs.declared.fault.HookFault.{HookFault}
 use Rattle.hook_host.specs.declared.fault.HookFault.TheVariants as fault
-use Rattle.hook_host.specs.Names.{IsHookName, hook_limit}
+use Rattle.hook_host.specs.Names.{IsHookName, AreHookNames, hook_limit}
 
 -- a hook under its name
 pub record Named : Type 0 where
@@ -32,6 +32,11 @@ has_name hooks name = list_any (λ h. bytes_eq name h.name) hooks
 abbrev pub without_name : List ℕ → List Named → List Named
 without_name name hooks = filter (λ h. not (bytes_eq name h.name)) hooks
 
+-- the hooks have names, and where there is one, there is room for as many as may be
+pub record HoldsAll (hooks : List Named) (capacity : ℕ) : Type 0 where
+  pub names : AreHookNames (names_of hooks)
+  pub room : (hooks ≡ []) ⊎ (hook_limit ≤ capacity)
+
 -- a name that is a hook's, that no hook has yet, and for which there is room
 pub record HasPlace (hooks : List Named) (name : List ℕ) : Type 0 where
   pub named : IsHookName name
@@ -50,6 +55,13 @@ pub record IsInstalled (old : List Named) (name : List ℕ) (layout : Layout) (c
   pub hook : Checked
   pub accepted : IsAcceptedCode layout code hook
   pub last : new ≡ old ++ record { name = name; hook = hook } ∷ []
+
+-- the hook is accepted for the name, and stands alone
+pub record Accepts (hooks : List Named) (name : List ℕ) (layout : Layout) (code : List ℕ) (checked : List Named) : Type 0 where
+  pub place : HasPlace hooks name
+  pub hook : Checked
+  pub accepted : IsAcceptedCode layout code hook
+  pub alone : checked ≡ record { name = name; hook = hook } ∷ []
 
 -- the hook of the name is gone, and the others stay in their order
 pub record IsRemoved (old : List Named) (name : List ℕ) (new : List Named) : Type 0 where

@@ -1,8 +1,8 @@
 //! The server's own host: hooks that answer one after the other.
 
 ghost use Rattle.std.specs.Prelude.{◌≡◌, ◌↔◌, ◌<◌, ◌≤◌, ◌∷◌, ◌++◌, [], Contains, IsTrue, IfOk, IfErr, IsOk, OnOk, OnErr, length};
-ghost use Rattle.hook_host.specs.Names.{hook_limit};
-ghost use Rattle.hook_chain.specs.Chains.{HasNoPlace, HasPlace, IsAcceptedCode, IsInstalled, IsNotTaken, IsRemoved, RefusesInstall, RefusesRemove, has_name, hooks_of, names_of};
+ghost use Rattle.hook_host.specs.Names.{AreHookNames, hook_limit};
+ghost use Rattle.hook_chain.specs.Chains.{Accepts, HasNoPlace, HasPlace, IsAcceptedCode, IsInstalled, IsNotTaken, IsRemoved, RefusesInstall, RefusesRemove, has_name, hooks_of, names_of};
 ghost use Rattle.hook_chain.specs.Exits.{narrowed_by};
 
 use crate::hook::Hook;
@@ -37,15 +37,15 @@ impl Drop for Chain {
 
 impl Model for Chain {
     ghost use Rattle.std.specs.Prelude.{List};
-    ghost use Rattle.hook_chain.specs.Chains.{Named};
-    ghost use Rattle.hook_host.specs.Names.{AreHookNames};
-    ghost use Rattle.hook_chain.specs.Chains.{names_of};
+    ghost use Rattle.std.specs.Vec.{vec_capacity};
+    ghost use Rattle.hook_chain.specs.Chains.{Named, HoldsAll};
 
     ghost Value = { List Named };
 
     ghost view = { λ c. c.hooks.items };
 
-    ghost invariant = { λ c. AreHookNames (names_of c.hooks.items) };
+    // Where there is a hook, there is room for as many as may be.
+    ghost invariant = { λ c. HoldsAll c.hooks.items (vec_capacity c.hooks) };
 }
 
 impl Chain {
@@ -61,7 +61,8 @@ impl Chain {
 
     /// Whether a hook has a name.
     fn has(&self, name: &str) -> bool
-        ensures { result ≡ has_name self.now name.now }
+        ensures value { result ≡ has_name self.now name.now }
+        ensures names { AreHookNames (names_of self.now) }
     {
         self.hooks.iter().any(|hook| name == hook.name.as_str())
     }
@@ -104,6 +105,8 @@ impl HookHost for Chain {
 
     ghost names = { names_of };
 
+    ghost accepts = { Accepts };
+
     ghost installs = { IsInstalled };
 
     ghost removes = { IsRemoved };
@@ -123,22 +126,43 @@ impl HookHost for Chain {
         left
     }
 
-    fn install(&mut self, name: &str, layout: Layout, code: &[u8]) -> Result<(), HookFault> {
+    fn check(&self, name: &str, layout: Layout, code: &[u8]) -> Result<Chain, HookFault> {
         self.place(name)?;
         let verified = accepted(self.alloc, layout, code)?;
         let name = String::from_str(self.alloc, name)?;
-        let Ok(()) = self.hooks.push(Hook { name, verified }) else {
+        let mut hooks = Vec::with_capacity(self.alloc, MAX_HOOKS)?;
+        let Ok(()) = hooks.push(Hook { name, verified }) else {
             return Err(HookFault::Memory);
         };
-        Ok(())
+        Ok(Chain {
+            alloc: self.alloc,
+            hooks,
+        })
     }
 
-    fn remove(&mut self, name: &str) -> Result<(), HookFault> {
-        if !self.has(name) {
-            return Err(HookFault::Unknown);
+    fn take(&mut self, checked: Chain) {
+        let Chain {
+            alloc: _,
+            hooks: mut new,
+        } = checked;
+        if self.hooks.as_slice().is_empty() {
+            self.hooks = new;
+        } else {
+            let moved: Result<_, _> = self.hooks.append(&mut new);
+            moved.unwrap();
         }
+    }
+
+    fn check_removal(&self, name: &str) -> Result<(), HookFault> {
+        if self.has(name) {
+            Ok(())
+        } else {
+            Err(HookFault::Unknown)
+        }
+    }
+
+    fn drop_named(&mut self, name: &str) {
         self.hooks.retain(|hook| name != hook.name.as_str());
-        Ok(())
     }
 
     fn name_at(&self, i: usize) -> Option<&str> {

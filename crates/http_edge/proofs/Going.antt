@@ -5,7 +5,7 @@ use Rattle.hook_host.specs.declared.host.HookHost.{Ghosts as Hosting}
 use Rattle.clients.specs.RegistryRecord.{RegistryRecord}
 use Rattle.consent.specs.History.{Event, with_changes}
 use Rattle.messages.specs.declared.request.Draws.{Draws}
-use Rattle.grants.specs.Outcomes.{Outcome}
+use Rattle.answers.specs.Outcomes.{Outcome}
 use Rattle.endpoints.specs.Bounded.{IsBounded}
 use Rattle.endpoints.specs.BoundedLaws.{tokens_keep_their_bounds}
 use Rattle.endpoints.specs.Server.{Seen, FitsServer}
@@ -25,7 +25,7 @@ use Rattle.http_edge.proofs.Showing.{shows_here, shows_none, shows_put, shows_wi
 -- what a server fits is bounded
 pub fits_bounded : {H : Type 0} (hosting : Hosting H) (server : Seen H) (rules : RegistryRecord) (first : H) (history : List Event) (m : ℕ) → FitsServer hosting.installs hosting.removes server rules first history m →
     IsBounded rules history
-fits_bounded hosting server rules first history m fits = tokens_keep_their_bounds rules history m fits.store.is_history fits.right
+fits_bounded hosting server rules first history m fits = tokens_keep_their_bounds rules history m fits.store.fits.is_history fits.right
 
 run_push : {H : Type 0} (hosting : Hosting H) (rules : RegistryRecord) (first : H) (old middle new : World) (es : List Happening) (e : Happening) →
     Run hosting rules first old es middle → Happens hosting rules first middle e new → Run hosting rules first old (es ++ e ∷ []) new

@@ -10,7 +10,7 @@ use Rattle.consent.specs.History.{Event, Change, event_at, with_changes}
 use Rattle.messages.specs.declared.request.Draws.{Draws}
 use Rattle.messages.specs.Asked.{Asked}
 use Rattle.messages.specs.Written.{Written, written, reply_bytes}
-use Rattle.grants.specs.Outcomes.{Outcome}
+use Rattle.answers.specs.Outcomes.{Outcome}
 use Rattle.endpoints.specs.Hosts.{IsHostFault}
 use Rattle.endpoints.specs.Replies.{outcome, hook_change}
 use Rattle.endpoints.specs.Server.{Seen, FitsServer, IsStep}

@@ -8,7 +8,7 @@ use Rattle.consent.specs.History.{Event, Change, with_changes}
 use Rattle.messages.specs.declared.request.Draws.{Draws}
 use Rattle.messages.specs.Asked.{Asked}
 use Rattle.messages.specs.Written.{written, reply_bytes}
-use Rattle.grants.specs.Outcomes.{Outcome}
+use Rattle.answers.specs.Outcomes.{Outcome}
 use Rattle.endpoints.specs.Hosts.{HostSays, HostRun, IsHostFault}
 use Rattle.endpoints.specs.Replies.{outcome, hook_change}
 

@@ -4,7 +4,7 @@ use Rattle.hook_host.specs.declared.host.HookHost.{Ghosts as Hosting}
 use Rattle.clients.specs.RegistryRecord.{RegistryRecord}
 use Rattle.consent.specs.History.{Event, with_changes}
 use Rattle.messages.specs.declared.request.Draws.{Draws}
-use Rattle.grants.specs.Outcomes.{Outcome}
+use Rattle.answers.specs.Outcomes.{Outcome}
 use Rattle.endpoints.specs.Server.{Seen, FitsServer}
 use Rattle.heads.specs.Message.{Message, HasNone, Reads, Messages, IsHopeless, MustTell, asked_of_message}
 use Rattle.http_edge.specs.Limits.{request_limit}

@@ -5,7 +5,7 @@ use Rattle.clients.specs.RegistryRecord.{RegistryRecord}
 use Rattle.consent.specs.History.{Event, with_changes}
 use Rattle.messages.specs.declared.request.Draws.{Draws}
 use Rattle.messages.specs.Written.{faulty_bytes}
-use Rattle.grants.specs.Outcomes.{Outcome}
+use Rattle.answers.specs.Outcomes.{Outcome}
 use Rattle.heads.specs.Message.{Message, Messages, IsHopeless, MustTell, asked_of_message}
 use Rattle.http_edge.specs.Limits.{connection_limit, piece_limit, request_limit}
 use Rattle.http_edge.specs.Answers.{Mark, AreAnswered, changes_of, replies_of}

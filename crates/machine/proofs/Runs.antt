@@ -42,7 +42,7 @@ module _ {layout : Layout} {program : List Insn} {bytes : List ℕ} {slot n : �
   split : StandsAt program slot (first ∷ others)
   split = rw first_rest h.stands
 
-  begins : begins_at program slot ≡ Some first
+  pub begins : begins_at program slot ≡ Some first
   begins = begins_here program slot first others split
 
   behind : StandsAt program (slot + slots_of first) others

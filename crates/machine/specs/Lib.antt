@@ -1,2 +1,3 @@
 pub mod Frame
 pub mod Outcome
+pub mod Trace

@@ -1,7 +1,8 @@
 //! The checked machine: it runs a program on a record, and tests each access before it makes it.
 //!
-//! `run` goes through a program, `frame` does one instruction on the registers, the stack and the record, `values`
-//! computes, and `memory` and `cells` read and write. What a program means stands in `specs/Step` of crate `insn`.
+//! `run` goes through a program, `trace` does so and tells each step, `frame` does one instruction on the registers, the
+//! stack and the record, `values` computes, and `memory` and `cells` read and write. What a program means stands in
+//! `specs/Step` of crate `insn`.
 #![tactic(auto)]
 
 mod cells;
@@ -9,4 +10,5 @@ mod frame;
 mod memory;
 mod registers;
 pub mod run;
+pub mod trace;
 mod values;

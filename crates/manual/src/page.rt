@@ -6,16 +6,26 @@ oauthd: an OAuth 2.0 authorization server with verified token hooks.
 
 oauthd run HEX RECORDHEX   runs the hook of some code on a record
     oauthd run b7000000010000009500000000000000 0100000001000000e80300000000000001000000000000000100000000000000030000000000000003000000000000002c010000000000000300000000000000
+oauthd run --trace HEX RECORDHEX
+                           the same, and each step of the run before it
+    oauthd run --trace b7000000010000009500000000000000 0100000001000000e80300000000000001000000000000000100000000000000030000000000000003000000000000002c010000000000000300000000000000
+oauthd ask KIND MOMENT CLIENT OWNER SCOPE LIFE
+                           prints the hex of a record for run, in version 1; ask2 in version 2
+    oauthd ask 1 1000 1 1 3 300
 oauthd asm FILE            prints the hex of the code that the text of a hook says
     oauthd asm hook.asm
 oauthd list FILE           prints the text of the hook whose hex stands in a file
     oauthd list hook.hex
+oauthd list --slots FILE   the same, with the slot of each instruction before it
+    oauthd list --slots hook.hex
 oauthd check FILE          says whether that hook is taken, for records of version 1
     oauthd check hook.hex
 oauthd check2 FILE         the same, for records of version 2
     oauthd check2 hook.hex
+oauthd check --why FILE    says, too, why it is not taken, or what of it no way reaches; and so check2
+    oauthd check --why hook.hex
 oauthd start ADDR CONFIG   serves until it is stopped, at an address, with the registry of a file
-    oauthd start 127.0.0.1:8080 registry.json
+    oauthd start 127.0.0.1:8080 registry.json --hook listed=hook.hex
 oauthd serve ADDR CONFIG SEEDHEX COUNT
                            serves so many connections and ends, with draws by a seed
     oauthd serve 127.0.0.1:8080 registry.json 0707070707070707070707070707070707070707070707070707070707070707 1

@@ -1,4 +1,6 @@
+mod Asking
 mod HexReading
 mod Lists
 mod Naming
 mod Refusing
+mod Hooking

@@ -1,7 +1,7 @@
 -- Words that name no service.
 use Rattle.std.proofs.Common.{◌≡◌, ◌∙◌, ◌==◌, true, false, ℕ, List, [], ◌∷◌, ap, sym, codes, map, get_or, subst}
 use Rattle.oauthd.specs.declared.service.ServeWords.{ServeWords}
-use Rattle.oauthd.specs.declared.service.StartWords.{StartWords}
+use Rattle.start_words.specs.declared.words.StartWords.{StartWords}
 use Rattle.oauthd.specs.declared.service.Service.{Service}
 use Rattle.oauthd.specs.declared.service.Service.TheVariants.{Serve, Start}
 use Rattle.oauthd.specs.Services.{GiveServe, GiveStart, NameService}

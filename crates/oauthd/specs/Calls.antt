@@ -1,10 +1,12 @@
 -- What the words of a command line call for, and the file that is read for it.
-use Rattle.std.specs.Prelude.{⊤, ℕ, List, Option, Some, Result, Ok, Err}
+use Rattle.std.specs.Prelude.{⊤, ℕ, List, [], map, Option, Some, Result, Ok, Err}
+use Rattle.std.specs.String.{string_bytes}
 use Rattle.oauthd.specs.declared.call.Call.{Call}
 use Rattle.oauthd.specs.declared.call.Call.TheVariants.{Command, Service}
 use Rattle.oauthd.specs.declared.fault.PerformFault.{PerformFault}
 use Rattle.oauthd.specs.declared.fault.PerformFault.TheVariants.{BadArguments, OutOfMemory}
-use Rattle.oauthd.specs.Services.{config_of, IsService}
+use Rattle.start_words.specs.Options.{HookSaid}
+use Rattle.oauthd.specs.Services.{config_of, hooks_of, IsService, ServiceFails}
 use Rattle.oauthd.specs.Words.{file_named_by, IsCommand, Words}
 
 -- words are those of a call
@@ -15,14 +17,20 @@ IsCall words (Service service) = IsService words service
 abbrev pub IsNoCall : Words → Type 0
 IsNoCall words = (call : Call) → IsCall words call → ⊥
 
--- how words are read: as the call whose words they are, and as bad arguments where there is none
+-- how words are read: as the call whose words they are, and as bad arguments where there is none, but for a word behind
+-- `start` that is refused
 abbrev pub IsRead : Words → Result Call PerformFault → Type 0
 IsRead words (Ok call) = IsCall words call
 IsRead words (Err BadArguments) = IsNoCall words
 IsRead words (Err OutOfMemory) = ⊤
-IsRead words (Err fault) = ⊥
+IsRead words (Err fault) = ServiceFails (map string_bytes words) fault
 
 -- the path of the file that is read for a call
 abbrev pub file_of : Call → Option (List ℕ)
 file_of (Command command) = file_named_by command
 file_of (Service service) = Some (config_of service)
+
+-- the hooks whose files are read for it, too
+abbrev pub hooks_named_by : Call → List HookSaid
+hooks_named_by (Command command) = []
+hooks_named_by (Service service) = hooks_of service

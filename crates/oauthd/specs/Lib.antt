@@ -13,6 +13,8 @@ pub mod Performed
 pub mod Printed
 pub mod Services
 pub mod Statuses
+pub mod Telling
 pub mod Transcripts
 pub mod Verdict
 pub mod Words
+pub mod Hooks

@@ -1,24 +1,46 @@
 -- How a service serves, or why it doesn't, or no longer.
-use Rattle.std.specs.Prelude.{◌≡◌, ◌⊎◌, ℕ, List, Option}
+use Rattle.std.specs.Prelude.{◌≡◌, ◌⊎◌, ℕ, List, [], map, Option, option_map}
 use Rattle.std.specs.Io.KnownBytes.{Appends}
 use Rattle.clients.specs.RegistryRecord.{RegistryRecord}
 use Rattle.daemon.specs.Listening.{Announces}
+use Rattle.daemon.specs.declared.patience.Patience.{Patience}
 use Rattle.daemon.specs.declared.fault.ListenFault.{ListenFault}
 use Rattle.event_loop.specs.declared.fault.LoopFault.{LoopFault}
+use Rattle.oauthd.specs.declared.call_files.CallFiles.{CallFiles}
 use Rattle.oauthd.specs.declared.fault.PerformFault.{PerformFault}
 use Rattle.oauthd.specs.declared.fault.PerformFault.TheVariants.{Stopped}
 use Rattle.oauthd.specs.declared.fault.Status.{Status}
 use Rattle.oauthd.specs.declared.fault.Status.TheVariants.{Done}
+use Rattle.oauthd.specs.declared.hook_files.HookRead.{HookRead}
 use Rattle.oauthd.specs.declared.service.ServeWords.{ServeWords}
-use Rattle.oauthd.specs.declared.service.StartWords.{StartWords}
+use Rattle.start_words.specs.declared.words.StartWords.{StartWords}
 use Rattle.oauthd.specs.declared.service.Service.{Service}
 use Rattle.oauthd.specs.declared.service.Service.TheVariants.{Serve, Start}
 use Rattle.oauthd.specs.Config.{HoldsNoRegistry, HoldsRegistry}
 use Rattle.oauthd.specs.Faults.{of_listening}
 use Rattle.oauthd.specs.File.{File}
+use Rattle.oauthd.specs.Hooks.{HookInFile, in_file, RefusesHooks, TakesHooks}
+use Rattle.hook_chain.specs.Chains.{Named}
 use Rattle.oauthd.specs.Printed.{told_text}
-use Rattle.oauthd.specs.Services.{config_of}
+use Rattle.oauthd.specs.Services.{config_of, patience_of}
 use Rattle.oauthd.specs.Statuses.{status_of}
+
+-- what stands in a service's files: the registry's, and those of its hooks
+pub record ServiceFiles : Type 0 where
+  pub registry : File
+  pub hooks : List HookInFile
+
+-- what stands in the registry's file, and in those that were read of hooks
+abbrev pub files_of : File → List HookRead → ServiceFiles
+files_of registry hooks = record { registry = registry; hooks = map in_file hooks }
+
+-- what stands in the files that a call names
+abbrev pub files_in : CallFiles → ServiceFiles
+files_in files = files_of (option_map (λ v. v.items) files.named) files.hooks.items
+
+-- what comes of a server that is started with a registry, with hooks and with so much patience, until it can't go on
+abbrev pub Starting : Type 1
+Starting = RegistryRecord → List Named → Patience → LoopFault → Type 0
 
 -- a service's file holds a registry, and it was printed where its server listens
 pub record HasListened (file : File) (old new : Option (List ℕ)) : Type 0 where
@@ -27,8 +49,8 @@ pub record HasListened (file : File) (old new : Option (List ℕ)) : Type 0 wher
   pub announced : Announces old new
 
 -- `serve` served its connections
-pub record HasServed (service : Service) (file : File) (old new : Option (List ℕ)) : Type 0 where
-  pub listened : HasListened file old new
+pub record HasServed (service : Service) (files : ServiceFiles) (old new : Option (List ℕ)) : Type 0 where
+  pub listened : HasListened files.registry old new
   pub given : ServeWords
   pub service_is : service ≡ Serve given
 
@@ -39,37 +61,54 @@ pub record IsDeaf (file : File) (fault : PerformFault) : Type 0 where
   pub cause : ListenFault
   pub fault_is : fault ≡ of_listening cause
 
--- why a service serves nothing: the file comes first, then its registry, and then the server's socket
-abbrev pub ServesNothing : Service → File → PerformFault → Type 0
-ServesNothing service file fault = HoldsNoRegistry (config_of service) file fault ⊎ IsDeaf file fault
+-- the hooks of `start` are not all taken, and this is the first one's fault
+pub record LacksHook (service : Service) (files : ServiceFiles) (fault : PerformFault) : Type 0 where
+  pub registry : RegistryRecord
+  pub held : HoldsRegistry files.registry registry
+  pub given : StartWords
+  pub service_is : service ≡ Start given
+  pub refused : RefusesHooks [] files.hooks fault
+
+-- why a service serves nothing: the file comes first, then its registry, then its hooks, and then the server's socket
+abbrev pub ServesNothing : Service → ServiceFiles → PerformFault → Type 0
+ServesNothing service files fault = HoldsNoRegistry (config_of service) files.registry fault ⊎ LacksHook service files fault ⊎ IsDeaf files.registry fault
 
 -- why a service serves nothing is told, and the status is that of the fault
-pub record TellsNoService (service : Service) (file : File) (status : Status) (old new : Option (List ℕ)) : Type 0 where
+pub record TellsNoService (service : Service) (files : ServiceFiles) (status : Status) (old new : Option (List ℕ)) : Type 0 where
   pub fault : PerformFault
-  pub cause : ServesNothing service file fault
+  pub cause : ServesNothing service files fault
   pub ended : status ≡ status_of fault
   pub told : Appends old new (told_text fault)
 
--- `start` served connections until its server could not go on, for this fault
-pub record HasStopped (service : Service) (file : File) (fault : PerformFault) (old new : Option (List ℕ)) : Type 0 where
-  pub listened : HasListened file old new
+-- `start` had all its hooks, and served connections with them until its server could not go on, for this fault
+pub record HasStopped (starts : Starting) (service : Service) (files : ServiceFiles) (fault : PerformFault) (old new : Option (List ℕ)) : Type 0 where
+  pub listened : HasListened files.registry old new
   pub given : StartWords
   pub service_is : service ≡ Start given
+  pub hooks : List Named
+  pub taken : TakesHooks [] files.hooks hooks
   pub cause : LoopFault
+  pub started : starts listened.registry hooks (patience_of given.options) cause
   pub fault_is : fault ≡ Stopped cause
 
+-- A service ends with a fault, with what it prints seen as the bytes so far: it serves nothing, and has told nothing, or it
+-- stopped.
+abbrev pub FailsService : {W E : Type 0} → Starting → (W → Option (List ℕ)) → Service → ServiceFiles → PerformFault → W → W → E → E → Type 0
+FailsService starts of_out service files fault out out' err err' =
+    ((err' ≡ err) × ServesNothing service files fault) ⊎ HasStopped starts service files fault (of_out out) (of_out out')
+
 -- so it did, which is told behind the lines of connections that ended, and the status is that of the fault
-pub record TellsStop (service : Service) (file : File) (status : Status) (old new told_then : Option (List ℕ)) : Type 0 where
+pub record TellsStop (starts : Starting) (service : Service) (files : ServiceFiles) (status : Status) (old new told_then : Option (List ℕ)) : Type 0 where
   pub fault : PerformFault
-  pub stopped : HasStopped service file fault old new
+  pub stopped : HasStopped starts service files fault old new
   pub ended : status ≡ status_of fault
   pub lines : Option (List ℕ)
   pub told : Appends lines told_then (told_text fault)
 
 -- A service ends, with what it prints and what it tells, each seen as the bytes so far: it served, or serves nothing, or
 -- stopped.
-abbrev pub EndsService : {W E : Type 0} → (W → Option (List ℕ)) → (E → Option (List ℕ)) → Service → File → Status → W → W → E → E → Type 0
-EndsService of_out of_err service file status out out' err err' =
-    ((status ≡ Done) × HasServed service file (of_out out) (of_out out'))
-    ⊎ TellsNoService service file status (of_err err) (of_err err')
-    ⊎ TellsStop service file status (of_out out) (of_out out') (of_err err')
+abbrev pub EndsService : {W E : Type 0} → Starting → (W → Option (List ℕ)) → (E → Option (List ℕ)) → Service → ServiceFiles → Status → W → W → E → E → Type 0
+EndsService starts of_out of_err service files status out out' err err' =
+    ((status ≡ Done) × HasServed service files (of_out out) (of_out out'))
+    ⊎ TellsNoService service files status (of_err err) (of_err err')
+    ⊎ TellsStop starts service files status (of_out out) (of_out out') (of_err err')

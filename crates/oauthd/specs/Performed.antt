@@ -5,17 +5,16 @@ use Rattle.oauthd.specs.declared.answer.Answer.{Answer}
 use Rattle.oauthd.specs.declared.command.Command.{Command}
 use Rattle.oauthd.specs.declared.fault.PerformFault.{PerformFault}
 use Rattle.oauthd.specs.declared.fault.Status.{Status}
-use Rattle.oauthd.specs.declared.fault.Status.TheVariants.{Done}
 use Rattle.oauthd.specs.Answers.{IsAnsweredBy}
 use Rattle.oauthd.specs.File.{File}
 use Rattle.oauthd.specs.Printed.{answer_text, told_text}
-use Rattle.oauthd.specs.Statuses.{status_of}
+use Rattle.oauthd.specs.Statuses.{status_of, status_of_answer}
 
--- what a command answers is printed, and it is done
+-- what a command answers is printed, and it is done, or a program is refused
 pub record PrintsAnswer (command : Command) (file : File) (status : Status) (old new : Option (List ℕ)) : Type 0 where
   pub answer : Answer
   pub answered : IsAnsweredBy command file (Ok answer)
-  pub done : status ≡ Done
+  pub done : status ≡ status_of_answer answer
   pub printed : Appends old new (answer_text answer)
 
 -- why a command has no answer is told, and the status is that of the fault

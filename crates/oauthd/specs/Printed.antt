@@ -7,15 +7,17 @@ use Rattle.hook_record.specs.declared.Narrowed.{Narrowed}
 use Rattle.hook_record.specs.declared.Narrowed.TheVariants.{Allowed, Denied, EmptyScope}
 use Rattle.insn.specs.FaultTexts.{insn_fault_text, verify_fault_text}
 use Rattle.clients.specs.FaultTexts.{config_fault_text}
+use Rattle.hook_host.specs.Faults.{hook_fault_text}
 use Rattle.http_edge.specs.FaultTexts.{edge_fault_text}
 use Rattle.event_loop.specs.FaultTexts.{loop_fault_text}
+use Rattle.start_words.specs.FaultTexts.{word_fault_text}
 use Rattle.assembler.specs.declared.fault.AsmFault.{AsmFault}
 use Rattle.assembler.specs.Reports.{line_of_fault, name_of_fault}
 use Rattle.oauthd.specs.declared.judge.Judged.{Judged}
 use Rattle.oauthd.specs.declared.answer.Answer.{Answer}
 use Rattle.oauthd.specs.declared.answer.Answer.TheVariants as answers
 use Rattle.oauthd.specs.declared.fault.PerformFault.{PerformFault}
-use Rattle.oauthd.specs.declared.fault.PerformFault.TheVariants.{BadArguments, BadRecord, CannotRead, Text, Insn, Verify, Config, BadLine, Event, CannotListen, NoSeed, Stopped, OutOfMemory, CannotWrite}
+use Rattle.oauthd.specs.declared.fault.PerformFault.TheVariants.{BadArguments, BadWord, BadRecord, CannotRead, IsElf, IsNotHex, Text, Insn, Verify, Config, Hook, BadLine, Event, CannotListen, NoSeed, Stopped, OutOfMemory, CannotWrite}
 
 -- what is left of a grant, in words
 abbrev pub narrowed_text : Narrowed → List ℕ
@@ -32,6 +34,7 @@ abbrev pub answer_text : Answer → List ℕ
 answer_text (answers.Judged judged) = judged_text judged ++ codes "\n"
 answer_text (answers.Code hex) = string_bytes hex ++ codes "\n"
 answer_text (answers.Listing text) = string_bytes text
+answer_text (answers.Refusal text) = string_bytes text
 answer_text (answers.Accepted count) = codes "accepted " ++ decimal count ++ codes "\n"
 answer_text (answers.Replayed output) = output.items
 answer_text (answers.Page text) = text.now
@@ -42,12 +45,16 @@ located_text fault = option_map_or (λ line. codes "line " ++ decimal line ++ co
 
 abbrev pub fault_text : PerformFault → List ℕ
 fault_text BadArguments = codes "bad arguments"
+fault_text (BadWord word fault) = codes "bad arguments: " ++ word.now ++ codes " " ++ word_fault_text fault
 fault_text BadRecord = codes "bad record"
 fault_text (CannotRead path) = codes "cannot read " ++ path.now
+fault_text (IsElf path) = codes "ELF file: " ++ path.now
+fault_text (IsNotHex path) = codes "not hex: " ++ path.now
 fault_text (Text fault) = located_text fault
 fault_text (Insn fault) = codes "Insn " ++ insn_fault_text fault
 fault_text (Verify fault) = codes "Verify " ++ verify_fault_text fault
 fault_text (Config fault) = codes "Config " ++ config_fault_text fault
+fault_text (Hook name fault) = codes "hook " ++ name.now ++ codes ": " ++ hook_fault_text fault
 fault_text (BadLine line) = codes "line " ++ decimal line ++ codes ": bad line"
 fault_text (Event line fault) = codes "line " ++ decimal line ++ codes ": " ++ edge_fault_text fault
 fault_text CannotListen = codes "cannot listen"

@@ -1,10 +1,14 @@
 -- The commands that serve connections: their words, and the file that they name.
-use Rattle.std.specs.Prelude.{◌≡◌, ◌<◌, ◌^◌, ℕ, List, [], ◌∷◌, map, codes, length}
-use Rattle.std.specs.Str.Parse.{IsNumeral, digits_value}
+use Rattle.std.specs.Prelude.{◌≡◌, ⊤, ℕ, List, [], ◌∷◌, map, codes, length, Some, unwrap_or, Ok, Err}
 use Rattle.std.specs.String.{string_bytes}
+use Rattle.start_words.specs.Numbers.{number_of}
+use Rattle.start_words.specs.Options.{HookSaid, Said, wrong}
+use Rattle.start_words.specs.Start.{given_by, start_in}
+use Rattle.start_words.specs.declared.words.StartWords.{StartWords}
 use Rattle.daemon.specs.declared.patience.Patience.{Patience}
+use Rattle.oauthd.specs.declared.fault.PerformFault.{PerformFault}
+use Rattle.oauthd.specs.declared.fault.PerformFault.TheVariants.{BadWord, OutOfMemory}
 use Rattle.oauthd.specs.declared.service.ServeWords.{ServeWords}
-use Rattle.oauthd.specs.declared.service.StartWords.{StartWords}
 use Rattle.oauthd.specs.declared.service.Service.{Service}
 use Rattle.oauthd.specs.declared.service.Service.TheVariants.{Serve, Start}
 use Rattle.oauthd.specs.HexText.{IsHexOf}
@@ -14,32 +18,23 @@ use Rattle.oauthd.specs.Words.{Words}
 abbrev pub IsSeed : List ℕ → List ℕ → Type 0
 IsSeed text seed = IsHexOf text seed × (length seed ≡ 32)
 
--- a text is one decimal digit or more, for a number below 2^32
-pub record IsNumber (text : List ℕ) (n : ℕ) : Type 0 where
-  pub digits : IsNumeral 10 text
-  pub value : n ≡ digits_value 10 text
-  pub below : n < 2 ^ 32
-
 -- the words behind `serve` are ADDR CONFIG SEEDHEX COUNT
 pub record GiveServe (words : List (List ℕ)) (given : ServeWords) : Type 0 where
   pub seed_hex : List ℕ
   pub count : List ℕ
   pub words_are : words ≡ given.address.now ∷ given.config.now ∷ seed_hex ∷ count ∷ []
   pub seed_is : IsSeed seed_hex given.seed
-  pub count_is : IsNumber count given.count
+  pub count_is : number_of count ≡ Some given.count
 
--- words SILENCE FULL say for how many seconds the server is patient: 60 and 5 where they are left out
-abbrev pub SayPatience : List (List ℕ) → Patience → Type 0
-SayPatience [] patience = (patience.silence ≡ 60) × (patience.full ≡ 5)
-SayPatience (silence ∷ []) patience = IsNumber silence patience.silence × (0 < patience.silence) × (patience.full ≡ 5)
-SayPatience (silence ∷ full ∷ []) patience = IsNumber silence patience.silence × (0 < patience.silence) × IsNumber full patience.full
-SayPatience words patience = ⊥
+-- the words behind `start` are ADDR CONFIG, and its options
+abbrev pub GiveStart : List (List ℕ) → StartWords → Type 0
+GiveStart words given = start_in words ≡ Ok (given_by given)
 
--- the words behind `start` are ADDR CONFIG, and those of the patience
-pub record GiveStart (words : List (List ℕ)) (given : StartWords) : Type 0 where
-  pub seconds : List (List ℕ)
-  pub words_are : words ≡ given.address.now ∷ given.config.now ∷ seconds
-  pub patience_is : SayPatience seconds given.patience
+-- why a word behind `start` is refused; memory may be wanted, too
+abbrev pub StartFails : List (List ℕ) → PerformFault → Type 0
+StartFails words (BadWord word fault) = start_in words ≡ Err (wrong word.now fault)
+StartFails words OutOfMemory = ⊤
+StartFails words fault = ⊥
 
 -- words name a service: its name, and what it is given
 abbrev pub NameService : List (List ℕ) → Service → Type 0
@@ -52,6 +47,21 @@ IsService words service = NameService (map string_bytes words) service
 
 abbrev pub IsNoService : Words → Type 0
 IsNoService words = (service : Service) → NameService (map string_bytes words) service → ⊥
+
+-- why words that begin with a service's name are refused
+abbrev pub ServiceFails : List (List ℕ) → PerformFault → Type 0
+ServiceFails words OutOfMemory = ⊤
+ServiceFails (name ∷ words) (BadWord word fault) = (name ≡ codes "start") × StartFails words (BadWord word fault)
+ServiceFails words fault = ⊥
+
+-- the hooks that are installed before it listens
+abbrev pub hooks_of : Service → List HookSaid
+hooks_of (Serve given) = []
+hooks_of (Start given) = given.options.hooks
+
+-- the seconds for which its server is patient: 60 and 5 where they are left out
+abbrev pub patience_of : Said → Patience
+patience_of said = record { silence = unwrap_or said.silence 60; full = unwrap_or said.full 5 }
 
 -- the path of the registry's file
 abbrev pub config_of : Service → List ℕ

@@ -3,7 +3,9 @@ use Rattle.std.specs.Prelude.{ℕ, Option, None, Result, Ok, Err}
 use Rattle.std.specs.declared.io.ErrorKind.{ErrorKind}
 use Rattle.std.specs.declared.io.ErrorKind.TheVariants as kinds
 use Rattle.oauthd.specs.declared.fault.PerformFault.{PerformFault}
-use Rattle.oauthd.specs.declared.fault.PerformFault.TheVariants.{BadArguments, BadRecord, CannotRead, Text, Insn, Verify, Config, BadLine, Event, CannotListen, NoSeed, Stopped, OutOfMemory, CannotWrite}
+use Rattle.oauthd.specs.declared.fault.PerformFault.TheVariants.{BadArguments, BadWord, BadRecord, CannotRead, IsElf, IsNotHex, Text, Insn, Verify, Config, Hook, BadLine, Event, CannotListen, NoSeed, Stopped, OutOfMemory, CannotWrite}
+use Rattle.oauthd.specs.declared.answer.Answer.{Answer}
+use Rattle.oauthd.specs.declared.answer.Answer.TheVariants as answers
 use Rattle.oauthd.specs.declared.fault.Status.{Status}
 use Rattle.oauthd.specs.declared.fault.Status.TheVariants.{Done, Refused, BadUse, NoMemory}
 
@@ -17,12 +19,16 @@ code_of NoMemory = 3
 -- a hook, a text or an event that is refused is one thing, bad use another
 abbrev pub status_of : PerformFault → Status
 status_of BadArguments = BadUse
+status_of (BadWord word fault) = BadUse
 status_of BadRecord = BadUse
 status_of (CannotRead path) = BadUse
+status_of (IsElf path) = BadUse
+status_of (IsNotHex path) = BadUse
 status_of (Text fault) = Refused
 status_of (Insn fault) = Refused
 status_of (Verify fault) = Refused
 status_of (Config fault) = BadUse
+status_of (Hook name fault) = BadUse
 status_of (BadLine line) = BadUse
 status_of (Event line fault) = Refused
 status_of CannotListen = BadUse
@@ -30,6 +36,11 @@ status_of NoSeed = BadUse
 status_of (Stopped fault) = BadUse
 status_of OutOfMemory = NoMemory
 status_of CannotWrite = BadUse
+
+-- an answer that tells why a program is refused ends as a refusal, every other one is done
+abbrev pub status_of_answer : Answer → Status
+status_of_answer (answers.Refusal text) = Refused
+status_of_answer answer = Done
 
 -- why a program's words can't be had: memory is refused, or one of them is no text
 abbrev pub words_fault : ErrorKind → PerformFault

@@ -1,9 +1,11 @@
 //! What a command that is done prints.
 
-ghost use Rattle.std.specs.Prelude.{Some, OnOk};
+ghost use Rattle.std.specs.Prelude.{◌≡◌, Some, OnOk};
 ghost use Rattle.std.specs.Io.KnownBytes.{Appends};
 ghost use Rattle.oauthd.specs.Printed.{answer_text, judged_text};
+ghost use Rattle.oauthd.specs.Statuses.{status_of_answer};
 
+use crate::fault::Status;
 use crate::judge::Judged;
 use hook_record::Narrowed;
 use std::fmt::{self, Display, Formatter};
@@ -18,6 +20,8 @@ pub enum Answer {
     Code(String),
     /// The text of a program.
     Listing(String),
+    /// Why a program is refused, at length.
+    Refusal(String),
     /// How many instructions a program has that is accepted.
     Accepted(usize),
     /// What the server of a transcript sent to each connection.
@@ -27,6 +31,16 @@ pub enum Answer {
 }
 
 impl Answer {
+    /// The status with which the program ends once it is written.
+    pub fn status(&self) -> Status
+        ensures { result ≡ status_of_answer self.now }
+    {
+        match self {
+            Answer::Refusal(_) => Status::Refused,
+            _ => Status::Done,
+        }
+    }
+
     /// Writes all of it, to where it is to go.
     pub fn write_to<W: Write>(&self, to: &mut W) -> io::Result<()>
         ensures { OnOk result (Appends (W.contents to.old) (W.contents to.new) (answer_text self.now)) }
@@ -35,6 +49,7 @@ impl Answer {
             Answer::Judged(judged) => writeln!(to, "{judged}")?,
             Answer::Code(hex) => writeln!(to, "{hex}")?,
             Answer::Listing(text) => to.write_all(text.as_bytes())?,
+            Answer::Refusal(text) => to.write_all(text.as_bytes())?,
             Answer::Accepted(insns) => writeln!(to, "accepted {insns}")?,
             Answer::Replayed(bytes) => to.write_all(bytes)?,
             Answer::Page(text) => to.write_all(text.as_bytes())?,

@@ -6,13 +6,19 @@ ghost use Rattle.oauthd.specs.Answers.{IsAnsweredBy};
 ghost use Rattle.oauthd.specs.Words.{file_named_by, words_of, IsCommand, IsNoCommand};
 
 use crate::answer::Answer;
+use crate::commands::ask::asked;
 use crate::commands::asm::assembled;
 use crate::commands::check::check;
 use crate::commands::help::explained;
 use crate::commands::list::listing;
 use crate::commands::replay::replayed;
 use crate::commands::run::run;
+use crate::commands::slots::listing_with_slots;
+use crate::commands::trace::traced;
+use crate::commands::why::explained_check;
 use crate::fault::PerformFault;
+use crate::options::{to_ask, to_trace, with_option};
+use hook_trial::asking::AskWords;
 use insn::layout::Layout;
 use manual::{PAGE, VERSION};
 use std::alloc::Global;
@@ -36,6 +42,11 @@ pub enum Command<'w> {
         code_hex: &'w str,
         record_hex: &'w str,
     },
+    /// `run --trace HEX RECORDHEX`: the steps of that hook's run, and what it answers.
+    Trace {
+        code_hex: &'w str,
+        record_hex: &'w str,
+    },
     /// `asm FILE`: the bytes of the program that the text of a file says, as hex.
     Assemble {
         path: &'w str,
@@ -44,11 +55,25 @@ pub enum Command<'w> {
     List {
         path: &'w str,
     },
+    /// `list --slots FILE`: the same, with the slot before each line.
+    ListSlots {
+        path: &'w str,
+    },
     /// `check FILE` and `check2 FILE`: whether the program whose hex stands in a file is accepted, for records of
     /// version 1 or 2.
     Check {
         layout: Layout,
         path: &'w str,
+    },
+    /// `check --why FILE` and `check2 --why FILE`: the same, and why it is refused, or what no way reaches.
+    Why {
+        layout: Layout,
+        path: &'w str,
+    },
+    /// `ask KIND MOMENT CLIENT OWNER SCOPE LIFE`, and `ask2` with the same: the record of an ask in version 1 or 2, as hex.
+    Ask {
+        layout: Layout,
+        words: AskWords<'w>,
     },
     /// `replay FILE`: what the server of the transcript in a file sends to each connection.
     Replay {
@@ -106,11 +131,21 @@ impl<'w> Command<'w> {
         ensures named { IfSome result (IsCommand words.now) }
         ensures none { IfNone result (IsNoCommand words.now) }
     {
+        if let Some(command) = to_ask(words) {
+            return Some(command);
+        }
         match words {
             [name, code_hex, record_hex] if name.as_str() == "run" => Some(Command::Run {
                 code_hex: code_hex.as_str(),
                 record_hex: record_hex.as_str(),
             }),
+            [name, option, word] => with_option(name.as_str(), option.as_str(), word.as_str()),
+            [name, option, code_hex, record_hex] => to_trace(
+                name.as_str(),
+                option.as_str(),
+                code_hex.as_str(),
+                record_hex.as_str(),
+            ),
             [name] => alone(name.as_str()),
             [name, word] => with_word(name.as_str(), word.as_str()),
             _ => None,
@@ -122,10 +157,12 @@ impl<'w> Command<'w> {
         ensures { option_copied result ≡ file_named_by self.entry }
     {
         match self {
-            Command::Run { .. } => None,
+            Command::Run { .. } | Command::Trace { .. } | Command::Ask { .. } => None,
             Command::Assemble { path } => Some(path),
             Command::List { path } => Some(path),
+            Command::ListSlots { path } => Some(path),
             Command::Check { path, .. } => Some(path),
+            Command::Why { path, .. } => Some(path),
             Command::Replay { path } => Some(path),
             Command::Help(_) | Command::Explain { .. } | Command::Version => None,
         }
@@ -140,9 +177,16 @@ impl<'w> Command<'w> {
                 code_hex,
                 record_hex,
             } => run(alloc, code_hex, record_hex),
+            Command::Trace {
+                code_hex,
+                record_hex,
+            } => traced(alloc, code_hex, record_hex),
             Command::Assemble { path } => assembled(alloc, path, file),
             Command::List { path } => listing(alloc, path, file),
+            Command::ListSlots { path } => listing_with_slots(alloc, path, file),
             Command::Check { layout, path } => check(alloc, layout, path, file),
+            Command::Why { layout, path } => explained_check(alloc, layout, path, file),
+            Command::Ask { layout, words } => asked(alloc, layout, words),
             Command::Replay { path } => replayed(alloc, path, file),
             Command::Help(_) => Ok(Answer::Page(PAGE)),
             Command::Explain { name } => explained(name),

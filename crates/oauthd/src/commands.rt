@@ -1,5 +1,6 @@
 //! What a person types: a file for each command.
 
+pub mod ask;
 pub mod asm;
 pub mod check;
 pub mod config_file;
@@ -8,4 +9,8 @@ pub mod list;
 mod program_file;
 pub mod replay;
 pub mod run;
+pub mod slots;
 mod text_file;
+mod told_file;
+pub mod trace;
+pub mod why;

@@ -10,9 +10,11 @@ use assembler::AsmFault;
 use clients::ConfigFault;
 use daemon::ListenFault;
 use event_loop::LoopFault;
+use hook_host::HookFault;
 use http_edge::EdgeFault;
 use insn::fault::InsnFault;
 use insn::verify_fault::VerifyFault;
+use start_words::WordFault;
 use std::alloc::AllocError;
 use std::fmt::{self, Display, Formatter};
 use transcript::ReplayFault;
@@ -44,10 +46,16 @@ impl Status {
 pub enum PerformFault<'w> {
     /// The words are no command, or what is to be hex of some code is none.
     BadArguments,
+    /// A word behind `start` is refused.
+    BadWord(&'w str, WordFault),
     /// The record is not hex, or what it spells is no record.
     BadRecord,
     /// The file of this path cannot be read.
     CannotRead(&'w str),
+    /// The file of this path is an ELF file, where hex is wanted.
+    IsElf(&'w str),
+    /// The file of this path is not hex.
+    IsNotHex(&'w str),
     /// The text says no program.
     Text(AsmFault),
     /// The code is no program.
@@ -56,6 +64,8 @@ pub enum PerformFault<'w> {
     Verify(VerifyFault),
     /// A registry is refused.
     Config(ConfigFault),
+    /// The hook of this name is refused.
+    Hook(&'w str, HookFault),
     /// The line of a transcript with this number has another form.
     BadLine(usize),
     /// The event of the line with this number is refused.
@@ -83,9 +93,13 @@ impl<'w> PerformFault<'w> {
             | PerformFault::Verify(_)
             | PerformFault::Event(_, _) => Status::Refused,
             PerformFault::BadArguments
+            | PerformFault::BadWord(_, _)
             | PerformFault::BadRecord
             | PerformFault::CannotRead(_)
+            | PerformFault::IsElf(_)
+            | PerformFault::IsNotHex(_)
             | PerformFault::Config(_)
+            | PerformFault::Hook(_, _)
             | PerformFault::BadLine(_)
             | PerformFault::CannotListen
             | PerformFault::NoSeed
@@ -102,12 +116,16 @@ impl<'w> Display for PerformFault<'w> {
     fn fmt<W: fmt::Write>(&self, f: &mut Formatter<W>) -> fmt::Result {
         match self {
             PerformFault::BadArguments => write!(f, "bad arguments"),
+            PerformFault::BadWord(word, fault) => write!(f, "bad arguments: {word} {fault}"),
             PerformFault::BadRecord => write!(f, "bad record"),
             PerformFault::CannotRead(path) => write!(f, "cannot read {path}"),
+            PerformFault::IsElf(path) => write!(f, "ELF file: {path}"),
+            PerformFault::IsNotHex(path) => write!(f, "not hex: {path}"),
             PerformFault::Text(fault) => write!(f, "{}", Located(*fault)),
             PerformFault::Insn(fault) => write!(f, "Insn {fault}"),
             PerformFault::Verify(fault) => write!(f, "Verify {fault}"),
             PerformFault::Config(fault) => write!(f, "Config {fault}"),
+            PerformFault::Hook(name, fault) => write!(f, "hook {name}: {fault}"),
             PerformFault::BadLine(line) => write!(f, "line {line}: bad line"),
             PerformFault::Event(line, fault) => write!(f, "line {line}: {fault}"),
             PerformFault::CannotListen => write!(f, "cannot listen"),

@@ -7,12 +7,15 @@ ghost use Rattle.oauthd.specs.Statuses.{words_fault};
 
 mod answer;
 mod call;
+mod call_files;
 mod command;
 mod commands;
 mod fault;
 mod hex_text;
+mod hook_files;
 mod judge;
 mod named_file;
+mod options;
 mod perform;
 mod service;
 #[cfg(test)]

@@ -3,19 +3,25 @@
 ghost use Rattle.std.specs.Prelude.{◌≡◌, ◌⊎◌, OnOk, IfOk, IfErr, IfSome};
 ghost use Rattle.std.specs.Io.KnownBytes.{Appends};
 ghost use Rattle.std.specs.Option.{option_copied};
-ghost use Rattle.oauthd.specs.Endings.{EndsWords};
-ghost use Rattle.oauthd.specs.Listening.{EndsService, HasServed, HasStopped, ServesNothing};
+ghost use Rattle.daemon.specs.Started.{HasStarted};
+ghost use Rattle.event_loop.specs.Scenes.{promises};
+ghost use Rattle.oauthd.specs.Endings.{EndsCall, EndsWords};
+ghost use Rattle.oauthd.specs.Listening.{EndsService, FailsService, files_in, HasServed};
 ghost use Rattle.oauthd.specs.Performed.{EndsCommand};
 ghost use Rattle.oauthd.specs.Printed.{told_text};
 ghost use Rattle.oauthd.specs.Statuses.{status_of};
 
 use crate::call::Call;
+use crate::call_files::{CallFiles, read_files};
 use crate::command::Command;
 use crate::commands::config_file::registry_in;
 use crate::fault::{PerformFault, Status};
-use crate::named_file::file_at;
+use crate::hook_files::chain_of;
 use crate::service::Service;
-use daemon::{serve, start};
+use daemon::{LineJournal, MachineClocks, MachineSockets, Patience, serve, start};
+use event_loop::{Clocks, Journal, Sockets};
+use hook_chain::Chain;
+use hook_host::HookHost;
 use std::alloc::Global;
 use std::fmt::Display;
 use std::io::{self, Write};
@@ -46,7 +52,7 @@ pub fn carry_out<W: Write, E: Write>(
 {
     match command.answer(alloc, file) {
         Ok(answer) => match answer.write_to(out) {
-            Ok(()) => Ok(Status::Done),
+            Ok(()) => Ok(answer.status()),
             Err(_) => Err(Unwritten::Answer),
         },
         Err(fault) => report(fault, err),
@@ -115,18 +121,20 @@ pub fn told<E: Write>(fault: PerformFault<'_>, err: &mut E) -> Status
 }
 
 /// Serves, until that is over, or can't go on.
-fn serve_as<'w, R: Net + Clock + RandomSource + AllocGlobal, W: Write, E: Write>(
-    rt: &R,
-    service: Service<'w>,
-    file: Option<&[u8]>,
+fn serve_as<'r, 'e, 'w, R: Net + Clock + RandomSource + AllocGlobal, W: Write, E: Write + 'e>(
+    rt: &'r R,
+    service: &Service<'w>,
+    files: &CallFiles<'w>,
     out: &mut W,
     err: &mut E,
 ) -> Result<(), PerformFault<'w>>
-    ensures done { OnOk result (HasServed service.entry (option_copied file.entry) (W.contents out.old) (W.contents out.new)) }
-    ensures fault { IfErr result (λ fault. ((err.new ≡ err.old) × ServesNothing service.entry (option_copied file.entry) fault)
-        ⊎ HasStopped service.entry (option_copied file.entry) fault (W.contents out.old) (W.contents out.new)) }
+    ensures done { OnOk result (HasServed service.now (files_in files.now) (W.contents out.old) (W.contents out.new)) }
+    ensures fault { IfErr result (λ fault.
+        FailsService (HasStarted (promises ⟦<MachineSockets as Sockets>⟧.does
+        ⟦<MachineClocks<'r, R> as Clocks>⟧.tells ⟦<LineJournal<'e, E> as Journal>⟧.notes ⟦<Chain as HookHost>⟧))
+        W.contents service.now (files_in files.now) fault out.old out.new err.old err.new) }
 {
-    let registry = registry_in(rt.alloc(), service.config(), file)?;
+    let registry = registry_in(rt.alloc(), service.config(), files.named.as_deref())?;
     let given = match service {
         Service::Start(given) => given,
         Service::Serve(given) => {
@@ -134,53 +142,78 @@ fn serve_as<'w, R: Net + Clock + RandomSource + AllocGlobal, W: Write, E: Write>
             return Ok(());
         }
     };
-    let fault = start(rt, given.address, registry, given.patience, out, err)?;
+    let chain = chain_of(rt.alloc(), &files.hooks)?;
+    let patience = Patience {
+        silence: given.options.silence(),
+        full: given.options.full(),
+    };
+    let fault = start(rt, given.address, registry, chain, patience, out, err)?;
     Err(PerformFault::Stopped(fault))
 }
 
-/// Serves, and says how the program then ends. `file` is what stands in the registry's file, and `None` where that cannot
-/// be read.
-pub fn perform_service<R: Net + Clock + RandomSource + AllocGlobal, W: Write, E: Write>(
-    rt: &R,
-    service: Service<'_>,
-    file: Option<&[u8]>,
-    out: &mut W,
-    err: &mut E,
-) -> Status
+/// Serves, and says how the program then ends. `files` are what stands in the files that the service names.
+pub fn perform_service<
+    'r,
+    'e,
+    R: Net + Clock + RandomSource + AllocGlobal,
+    W: Write,
+    E: Write + 'e,
+>(rt: &'r R, service: &Service<'_>, files: &CallFiles<'_>, out: &mut W, err: &mut E) -> Status
     // Bad use may be that of a fault that could not be told.
     ensures { (result ≡ Status.BadUse)
-        ⊎ EndsService W.contents E.contents service.entry (option_copied file.entry) result out.old out.new err.old err.new }
+        ⊎ EndsService (HasStarted (promises ⟦<MachineSockets as Sockets>⟧.does
+        ⟦<MachineClocks<'r, R> as Clocks>⟧.tells ⟦<LineJournal<'e, E> as Journal>⟧.notes ⟦<Chain as HookHost>⟧))
+        W.contents E.contents service.now (files_in files.now) result out.old out.new err.old err.new }
 {
-    match serve_as(rt, service, file, out, err) {
+    match serve_as(rt, service, files, out, err) {
         Ok(()) => Status::Done,
         Err(fault) => told(fault, err),
     }
 }
 
-/// Does what words call for, and says how the program then ends. `words` are those behind the program's name. They are read
-/// first, and then the file that they name.
-pub fn perform<R: Files + Net + Clock + RandomSource + AllocGlobal, W: Write, E: Write>(
-    rt: &R,
-    words: &[String],
+/// Does what was called for, on the files that it names, and says how the program then ends.
+fn perform_call<'r, 'e, R: Net + Clock + RandomSource + AllocGlobal, W: Write, E: Write + 'e>(
+    rt: &'r R,
+    call: &Call<'_>,
+    files: &CallFiles<'_>,
     out: &mut W,
     err: &mut E,
 ) -> Status
     // Bad use may be that of a write that failed.
     ensures { (result ≡ Status.BadUse)
-        ⊎ EndsWords W.contents E.contents words.now result out.old out.new err.old err.new }
+        ⊎ EndsCall (HasStarted (promises ⟦<MachineSockets as Sockets>⟧.does
+        ⟦<MachineClocks<'r, R> as Clocks>⟧.tells ⟦<LineJournal<'e, E> as Journal>⟧.notes ⟦<Chain as HookHost>⟧))
+        W.contents E.contents call.now (files_in files.now) result out.old out.new err.old err.new }
+{
+    match call {
+        Call::Command(command) => {
+            perform_command(rt.alloc(), *command, files.named.as_deref(), out, err)
+        }
+        Call::Service(service) => perform_service(rt, service, files, out, err),
+    }
+}
+
+/// Does what words call for, and says how the program then ends. `words` are those behind the program's name. They are read
+/// first, and then the files that they name.
+pub fn perform<
+    'r,
+    'e,
+    R: Files + Net + Clock + RandomSource + AllocGlobal,
+    W: Write,
+    E: Write + 'e,
+>(rt: &'r R, words: &[String], out: &mut W, err: &mut E) -> Status
+    // Bad use may be that of a write that failed.
+    ensures { (result ≡ Status.BadUse)
+        ⊎ EndsWords (HasStarted (promises ⟦<MachineSockets as Sockets>⟧.does
+        ⟦<MachineClocks<'r, R> as Clocks>⟧.tells ⟦<LineJournal<'e, E> as Journal>⟧.notes ⟦<Chain as HookHost>⟧))
+        W.contents E.contents words.now result out.old out.new err.old err.new }
 {
     let call = match Call::from_words(rt.alloc(), words) {
         Ok(call) => call,
         Err(fault) => return told(fault, err),
     };
-    let file = match file_at(rt, call.file()) {
-        Ok(file) => file,
-        Err(fault) => return told(fault, err),
-    };
-    match call {
-        Call::Command(command) => {
-            perform_command(rt.alloc(), command, file.as_deref(), out, err)
-        }
-        Call::Service(service) => perform_service(rt, service, file.as_deref(), out, err),
+    match read_files(rt, &call) {
+        Ok(files) => perform_call(rt, &call, &files, out, err),
+        Err(fault) => told(fault, err),
     }
 }

@@ -1,10 +1,12 @@
 //! The commands that serve connections, and what their words give them.
 
-ghost use Rattle.std.specs.Prelude.{◌≡◌, ◌∷◌, ◌<◌, ℕ, List, map, IfOk, IfSome, IfNone, string_bytes};
-ghost use Rattle.oauthd.specs.Services.{config_of, GiveServe, GiveStart, IsNoService, IsNumber, IsSeed, IsService, SayPatience};
+ghost use Rattle.std.specs.Prelude.{◌≡◌, ◌∷◌, ℕ, List, map, IfOk, IfErr, IfSome, IfNone, string_bytes};
+ghost use Rattle.start_words.specs.Options.{hook_said};
+ghost use Rattle.oauthd.specs.Services.{config_of, GiveServe, GiveStart, hooks_of, IsNoService, IsSeed, IsService, ServiceFails, StartFails};
 
+use crate::fault::PerformFault;
 use crate::hex_text::bytes_of_hex;
-use daemon::Patience;
+use start_words::{HookFile, StartFault, StartWords, number_of};
 use std::alloc::{AllocError, Global};
 
 /// What `serve ADDR CONFIG SEEDHEX COUNT` is given.
@@ -20,18 +22,8 @@ pub struct ServeWords<'w> {
     pub count: u32,
 }
 
-/// What `start ADDR CONFIG [SILENCE [FULL]]` is given.
-#[derive(Clone, Copy, Debug)]
-pub struct StartWords<'w> {
-    /// Where it listens.
-    pub address: &'w str,
-    /// The path of the registry's file.
-    pub config: &'w str,
-    pub patience: Patience,
-}
-
 /// A command that serves connections, with what its words give it.
-#[derive(Clone, Copy, Debug)]
+#[derive(Drop)]
 pub enum Service<'w> {
     /// So many connections are served, with draws by a seed that is given.
     Serve(ServeWords<'w>),
@@ -48,17 +40,6 @@ fn seed_of(alloc: Global, text: &str) -> Result<Option<[u8; 32]>, AllocError>
         return Ok(None);
     };
     Ok(bytes.as_array::<32>().copied())
-}
-
-/// The number that digits say, where it is below `2^32`.
-fn number_of(text: &str) -> Option<u32>
-    ensures some { IfSome result (IsNumber text.now) }
-    ensures none { IfNone result ((n : ℕ) → IsNumber text.now n → ⊥) }
-{
-    if text.starts_with('+') {
-        return None;
-    }
-    text.parse::<u32>().ok()
 }
 
 /// What the words behind `serve` give.
@@ -83,44 +64,32 @@ fn serve_given<'w>(alloc: Global, words: &'w [String]) -> Result<Option<ServeWor
     }))
 }
 
-/// For how long a server is patient, by the words behind the registry's file.
-fn patience_of(words: &[String]) -> Option<Patience>
-    ensures some { IfSome result (SayPatience (map string_bytes words.now)) }
-    ensures none { IfNone result ((patience : Patience) → SayPatience (map string_bytes words.now) patience → ⊥) }
-{
-    let (silence, full) = match words {
-        [] => (60, 5),
-        [silence] => (number_of(silence.as_str())?, 5),
-        [silence, full] => (number_of(silence.as_str())?, number_of(full.as_str())?),
-        _ => return None,
-    };
-    if silence == 0 {
-        return None;
-    }
-    Some(Patience { silence, full })
-}
-
 /// What the words behind `start` give.
-fn start_given<'w>(words: &'w [String]) -> Option<StartWords<'w>>
-    ensures some { IfSome result (GiveStart (map string_bytes words.now)) }
-    ensures none { IfNone result ((given : StartWords) → GiveStart (map string_bytes words.now) given → ⊥) }
+fn start_given<'w>(
+    alloc: Global,
+    words: &'w [String],
+) -> Result<Option<StartWords<'w>>, PerformFault<'w>>
+    ensures some { IfOk result (λ o. IfSome o (GiveStart (map string_bytes words.now))) }
+    ensures none { IfOk result (λ o. IfNone o ((given : StartWords) → GiveStart (map string_bytes words.now) given → ⊥)) }
+    ensures refused { IfErr result (StartFails (map string_bytes words.now)) }
 {
-    let [address, config, seconds @ ..] = words else {
-        return None;
-    };
-    let patience = patience_of(seconds)?;
-    Some(StartWords {
-        address: address.as_str(),
-        config: config.as_str(),
-        patience,
-    })
+    match StartWords::read(alloc, words) {
+        Ok(given) => Ok(Some(given)),
+        Err(StartFault::BadWords) => Ok(None),
+        Err(StartFault::Word { word, fault }) => Err(PerformFault::BadWord(word, fault)),
+        Err(StartFault::Memory) => Err(PerformFault::OutOfMemory),
+    }
 }
 
 impl<'w> Service<'w> {
     /// The service that words name: those behind the program's name.
-    pub fn from_words(alloc: Global, words: &'w [String]) -> Result<Option<Service<'w>>, AllocError>
+    pub fn from_words(
+        alloc: Global,
+        words: &'w [String],
+    ) -> Result<Option<Service<'w>>, PerformFault<'w>>
         ensures named { IfOk result (λ o. IfSome o (IsService words.now)) }
         ensures none { IfOk result (λ o. IfNone o (IsNoService words.now)) }
+        ensures refused { IfErr result (ServiceFails (map string_bytes words.now)) }
     {
         let Some((name, words)) = words.split_first() else {
             return Ok(None);
@@ -130,7 +99,7 @@ impl<'w> Service<'w> {
                 Some(given) => Ok(Some(Service::Serve(given))),
                 None => Ok(None),
             },
-            "start" => match start_given(words) {
+            "start" => match start_given(alloc, words)? {
                 Some(given) => Ok(Some(Service::Start(given))),
                 None => Ok(None),
             },
@@ -139,12 +108,22 @@ impl<'w> Service<'w> {
     }
 
     /// The path of the registry's file.
-    pub fn config(self) -> &'w str
-        ensures { result.now ≡ config_of self.entry }
+    pub fn config(&self) -> &'w str
+        ensures { result.now ≡ config_of self.now }
     {
         match self {
             Service::Serve(given) => given.config,
             Service::Start(given) => given.config,
+        }
+    }
+
+    /// The hooks that are installed before it listens.
+    pub fn hooks(&self) -> &[HookFile<'w>]
+        ensures { map hook_said result.now ≡ hooks_of self.now }
+    {
+        match self {
+            Service::Serve(_) => &[],
+            Service::Start(given) => given.options.hooks(),
         }
     }
 }

@@ -12,6 +12,7 @@ mod services;
 mod sockets;
 mod text;
 mod transcripts;
+mod trials;
 mod verdict_rows;
 mod words;
 

@@ -10,11 +10,11 @@ use Rattle.consent.specs.History.Change.{FamilyEnded}
 use Rattle.consent.specs.GrowthLaws.{grants-append}
 use Rattle.messages.specs.declared.error.ErrorName.TheVariants.{InvalidRequest, InvalidGrant}
 use Rattle.params.specs.Form.{value_of}
-use Rattle.grants.specs.Outcomes.{Outcome, point, need, bare, chosen, refuse}
-use Rattle.grants.specs.Requesters.{form_of}
-use Rattle.grants.specs.Texts.{digest_told}
-use Rattle.grants.specs.Tokens.{live_token}
-use Rattle.grants.specs.TokenPath.{issue_token}
+use Rattle.answers.specs.Outcomes.{Outcome, point, need, bare, chosen, refuse}
+use Rattle.answers.specs.Requesters.{form_of}
+use Rattle.answers.specs.Texts.{digest_told}
+use Rattle.answers.specs.Tokens.{live_token}
+use Rattle.token_endpoint.specs.TokenPath.{issue_token}
 use Rattle.endpoints.specs.Paths.{endpoint_at, method_at}
 use Rattle.endpoints.specs.Replies.{outcome_at}
 use Rattle.endpoints.specs.Revoke.{revoke_token, revoke_points, revoked}

@@ -22,14 +22,15 @@ use Rattle.messages.specs.declared.error.ErrorName.{ErrorName}
 use Rattle.messages.specs.declared.error.ErrorName.TheVariants.{InvalidRequest, InvalidGrant, InvalidScope, UnauthorizedClient, UnsupportedGrantType}
 use Rattle.messages.specs.Asked.{Asked}
 use Rattle.pkce.specs.Proof.{proves}
-use Rattle.grants.specs.Outcomes.{Outcome, point, refuse, unavailable, unless_taken}
-use Rattle.grants.specs.Requesters.{Parameters, KnownClient, form_of, scope_within}
-use Rattle.grants.specs.Texts.{digest_told, where_passes}
-use Rattle.grants.specs.Tokens.{code_of_client, refresh_of_client}
-use Rattle.grants.specs.Grants.{left_of, access_issued, refresh_issued, access_reply, both_reply, both_digests}
-use Rattle.grants.specs.Exchange as code
-use Rattle.grants.specs.Refresh as token
-use Rattle.grants.specs.TokenPath.{issue_token, token_points, grant_points}
+use Rattle.answers.specs.Outcomes.{Outcome, point, refuse, unavailable, unless_taken}
+use Rattle.answers.specs.Requesters.{Parameters, KnownClient, form_of, scope_within}
+use Rattle.answers.specs.Texts.{digest_told, where_passes}
+use Rattle.answers.specs.Tokens.{code_of_client, refresh_of_client}
+use Rattle.token_endpoint.specs.Grants.{left_of, access_issued, refresh_issued, both_digests}
+use Rattle.answers.specs.Replies.{access_reply, both_reply}
+use Rattle.token_endpoint.specs.Exchange as code
+use Rattle.token_endpoint.specs.Refresh as token
+use Rattle.token_endpoint.specs.TokenPath.{issue_token, token_points, grant_points}
 use Rattle.promises.specs.Uses.{Presents}
 use Rattle.promises.proofs.Walking.{at_point, at_need, at_authenticated, no_error_200, other, same_some}
 use Rattle.promises.proofs.Spending.{has_digest}

@@ -27,15 +27,16 @@ use Rattle.messages.specs.declared.request.Draws.{Draws}
 use Rattle.messages.specs.declared.error.ErrorName.{ErrorName}
 use Rattle.messages.specs.declared.error.ErrorName.TheVariants.{InvalidRequest, InvalidClient, InvalidGrant, InvalidScope, UnauthorizedClient, UnsupportedGrantType}
 use Rattle.messages.specs.Asked.{Asked}
-use Rattle.grants.specs.Outcomes.{Outcome, point, need, refuse, unavailable, unless_taken, bare, chosen}
-use Rattle.grants.specs.Requesters.{Parameters, KnownClient, form_of, known_client, with_client, scope_within}
-use Rattle.grants.specs.Texts.{digest_told}
-use Rattle.grants.specs.Tokens.{code_of_client, refresh_of_client}
-use Rattle.grants.specs.Grants.{left_of, access_issued, refresh_issued, access_reply, both_reply, both_digests}
-use Rattle.grants.specs.Exchange as code
-use Rattle.grants.specs.Refresh as token
-use Rattle.grants.specs.ClientCredentials as own
-use Rattle.grants.specs.TokenPath.{issue_token, token_points, grant_points}
+use Rattle.answers.specs.Outcomes.{Outcome, point, need, refuse, unavailable, unless_taken, bare, chosen}
+use Rattle.answers.specs.Requesters.{Parameters, KnownClient, form_of, known_client, with_client, scope_within}
+use Rattle.answers.specs.Texts.{digest_told}
+use Rattle.answers.specs.Tokens.{code_of_client, refresh_of_client}
+use Rattle.token_endpoint.specs.Grants.{left_of, access_issued, refresh_issued, both_digests}
+use Rattle.answers.specs.Replies.{access_reply, both_reply}
+use Rattle.token_endpoint.specs.Exchange as code
+use Rattle.token_endpoint.specs.Refresh as token
+use Rattle.token_endpoint.specs.ClientCredentials as own
+use Rattle.token_endpoint.specs.TokenPath.{issue_token, token_points, grant_points}
 use Rattle.promises.specs.Occasions.{Occasion, GoesTo, outcome_of, reply_of}
 use Rattle.promises.specs.Hooked.{allows_all, without_hooks, IsNarrowed}
 use Rattle.promises.proofs.Walking.{no_error_200, other}

@@ -32,15 +32,16 @@ use Rattle.messages.specs.Target.{path_of, query_of}
 use Rattle.messages.specs.Reply.{Reply, Body, plain, sent_back}
 use Rattle.messages.specs.Reply.Body.{Empty, Failure, Tokens, Consent, Active, Inactive, Hook, HookRefused, Hooks}
 use Rattle.messages.specs.Written.{error_text}
-use Rattle.grants.specs.Outcomes.{Outcome, point, need, only, refuse, bare, unavailable, unless_taken, chosen, status_of}
-use Rattle.grants.specs.Requesters.{Parameters, KnownClient, form_of, scope_within, scope_asked, client_named, owner_of}
-use Rattle.grants.specs.Texts.{digest_told, where_passes}
-use Rattle.grants.specs.Tokens.{code_of_client, refresh_of_client, live_token}
-use Rattle.grants.specs.Grants.{left_of, access_issued, refresh_issued, access_reply, both_reply, both_digests}
-use Rattle.grants.specs.Exchange as code
-use Rattle.grants.specs.Refresh as token
-use Rattle.grants.specs.ClientCredentials as own
-use Rattle.grants.specs.TokenPath.{issue_token, token_points, grant_points}
+use Rattle.answers.specs.Outcomes.{Outcome, point, need, only, refuse, bare, unavailable, unless_taken, chosen, status_of}
+use Rattle.answers.specs.Requesters.{Parameters, KnownClient, form_of, scope_within, scope_asked, client_named, owner_of}
+use Rattle.answers.specs.Texts.{digest_told, where_passes}
+use Rattle.answers.specs.Tokens.{code_of_client, refresh_of_client, live_token}
+use Rattle.token_endpoint.specs.Grants.{left_of, access_issued, refresh_issued, both_digests}
+use Rattle.answers.specs.Replies.{access_reply, both_reply}
+use Rattle.token_endpoint.specs.Exchange as code
+use Rattle.token_endpoint.specs.Refresh as token
+use Rattle.token_endpoint.specs.ClientCredentials as own
+use Rattle.token_endpoint.specs.TokenPath.{issue_token, token_points, grant_points}
 use Rattle.endpoints.specs.Authorize.{authorize, challenge_sent, state_of, turned_back}
 use Rattle.endpoints.specs.ConsentPath.{give_consent}
 use Rattle.endpoints.specs.Revoke.{revoke_token, revoke_points, revoked}

@@ -8,8 +8,8 @@ use Rattle.clients.specs.Authentication.{authenticated}
 use Rattle.messages.specs.Asked.{Asked}
 use Rattle.messages.specs.declared.error.ErrorName.{ErrorName}
 use Rattle.messages.specs.declared.error.ErrorName.TheVariants.{InvalidRequest, InvalidClient, InvalidGrant, InvalidScope, UnauthorizedClient, UnsupportedGrantType, UnsupportedResponseType, AccessDenied}
-use Rattle.grants.specs.Outcomes.{Outcome, point, need, refuse, unavailable, bare, chosen, status_of}
-use Rattle.grants.specs.Requesters.{Parameters, KnownClient, form_of, known_client, with_client, with_authenticated}
+use Rattle.answers.specs.Outcomes.{Outcome, point, need, refuse, unavailable, bare, chosen, status_of}
+use Rattle.answers.specs.Requesters.{Parameters, KnownClient, form_of, known_client, with_client, with_authenticated}
 
 module _ (P : Outcome → Type 0) where
   pub at_point : (b : Bool) (here later : Outcome) → (b ≡ true → P here) → (b ≡ false → P later) → P (point b here later)

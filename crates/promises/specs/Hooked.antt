@@ -5,7 +5,7 @@ use Rattle.consent.specs.History.Change.{Issued}
 use Rattle.hook_record.specs.declared.Ask.{Ask}
 use Rattle.hook_record.specs.declared.Narrowed.{Narrowed}
 use Rattle.hook_record.specs.declared.Narrowed.TheVariants.{Allowed}
-use Rattle.grants.specs.Outcomes.{Outcome}
+use Rattle.answers.specs.Outcomes.{Outcome}
 use Rattle.promises.specs.Occasions.{Occasion}
 
 -- a host without hooks allows all that is asked

@@ -4,7 +4,7 @@ use Rattle.clients.specs.RegistryRecord.{RegistryRecord}
 use Rattle.consent.specs.History.{Event, with_changes}
 use Rattle.messages.specs.Target.{path_of}
 use Rattle.messages.specs.Reply.{Reply}
-use Rattle.grants.specs.Outcomes.{Outcome}
+use Rattle.answers.specs.Outcomes.{Outcome}
 use Rattle.endpoints.specs.Hosts.{HostSays}
 use Rattle.endpoints.specs.Replies.{outcome}
 use Rattle.endpoints.specs.Steps.{Arrival}

@@ -5,9 +5,9 @@ use Rattle.std.specs.Str.{bytes_eq}
 use Rattle.params.specs.Form.{value_of}
 use Rattle.clients.specs.RegistryRecord.{RegistryRecord}
 use Rattle.consent.specs.History.{Event, Grant, grants, live_grant}
-use Rattle.grants.specs.Requesters.{Parameters, form_of}
-use Rattle.grants.specs.Texts.{digest_told}
-use Rattle.grants.specs.Tokens.{live_token}
+use Rattle.answers.specs.Requesters.{Parameters, form_of}
+use Rattle.answers.specs.Texts.{digest_told}
+use Rattle.answers.specs.Tokens.{live_token}
 use Rattle.promises.specs.Occasions.{Occasion, GoesTo, reply_of}
 
 -- the parameters present the text as a code or as a refresh token

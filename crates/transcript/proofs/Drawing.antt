@@ -1,5 +1,5 @@
 -- Words that spell draws.
-use Rattle.std.proofs.Common.{◌≡◌, ◌<◌, ◌≤◌, ℕ, suc, zero, List, [], ◌∷◌, inl, inr, codes, map, get_or, take, length, Option, Some, None, Bor, refl, sym, ap, ◌∙◌, subst, arith, rules}
+use Rattle.std.proofs.Common.{◌≡◌, ◌<◌, ◌≤◌, ℕ, suc, zero, List, [], ◌∷◌, inl, inr, codes, map, get_or, take, length, Some, None, Bor, refl, sym, ap, ◌∙◌, subst, arith}
 use Rattle.std.proofs.lemmas.List.{take_all}
 use Rattle.std.specs.Bool.{◌==◌}
 use Rattle.std.specs.List.{slice_split}

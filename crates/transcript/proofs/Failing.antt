@@ -1,5 +1,5 @@
 -- Faults behind the first line are a transcript's faults.
-use Rattle.std.proofs.Common.{◌≡◌, ◌≢◌, ℕ, List, [], ◌∷◌, Result, Ok, Err, IfErr, inr, refl}
+use Rattle.std.proofs.Common.{◌≢◌, ℕ, List, [], Result, Ok, Err, IfErr, inr}
 use Rattle.hook_host.specs.declared.host.HookHost.{Ghosts as Hosting}
 use Rattle.clients.specs.RegistryRecord.{RegistryRecord}
 use Rattle.http_edge.specs.Schedule.{start}

@@ -1,10 +1,9 @@
 -- Lines that lead from one edge to another.
-use Rattle.std.proofs.Common.{◌≡◌, ◌<◌, ◌≤◌, ◌+◌, ℕ, suc, zero, List, [], ◌∷◌, ◌++◌, Bool, false, Bor, map, take, drop, get_or, length, flat_map, Result, Err, IfErr, refl, sym, ap, ◌∙◌, subst, append_assoc, append-nil, arith, rules}
+use Rattle.std.proofs.Common.{◌≡◌, ◌<◌, ◌≤◌, ◌+◌, ℕ, suc, zero, List, [], ◌∷◌, ◌++◌, false, Bor, map, take, drop, get_or, length, flat_map, Result, Err, IfErr, refl, sym, ap, ◌∙◌, subst, append_assoc, append-nil, arith, rules}
 use Rattle.std.proofs.lemmas.List.{take_all}
 use Rattle.hook_host.specs.declared.host.HookHost.{Ghosts as Hosting}
-use Rattle.http_edge.specs.Schedule.{World, Happening, Opened, Came, HasEnded, start}
+use Rattle.http_edge.specs.Schedule.{Happening, Opened, Came, HasEnded, start}
 use Rattle.http_edge.specs.Edges.{SeenEdge}
-use Rattle.http_edge.specs.Reached.{Reached}
 use Rattle.transcript.specs.Lines.{Statement, Opens, Brings, Ends, States}
 use Rattle.transcript.specs.Events.{StandsFor, StandFor}
 use Rattle.transcript.specs.Faults.{IsLineFault}

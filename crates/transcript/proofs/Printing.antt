@@ -1,5 +1,5 @@
 -- What is printed of an edge is all that went to its connections.
-use Rattle.std.proofs.Common.{◌≡◌, ◌≢◌, ℕ, suc, zero, List, [], ◌∷◌, ◌++◌, Bool, true, false, cond, Option, Some, None, inl, inr, ◌==◌, find, map, flat_map, drop, refl, sym, ap, ◌∙◌, subst, append_assoc, append-nil, ◌⊎◌, arith, rules}
+use Rattle.std.proofs.Common.{◌≡◌, ◌≢◌, ℕ, List, [], ◌∷◌, ◌++◌, Bool, true, false, Option, Some, None, inl, inr, ◌==◌, map, flat_map, drop, refl, sym, ap, ◌∙◌, subst, append_assoc, append-nil, ◌⊎◌, arith, rules}
 use Rattle.std.specs.List.{AllByRecursion}
 use Rattle.std.proofs.lemmas.Bool.Decides.{nat_tests}
 use Rattle.hook_host.specs.declared.host.HookHost.{Ghosts as Hosting}
@@ -10,7 +10,7 @@ use Rattle.http_edge.specs.Lanes.{SeenLane, lane_at, output_in, ShowsConnections
 use Rattle.http_edge.specs.Edges.{SeenEdge}
 use Rattle.transcript.specs.Lines.{Statement, Opens, Brings, Ends}
 use Rattle.transcript.specs.Events.{happening, StandsFor, StandFor}
-use Rattle.transcript.specs.Replays.{printed, printed_all, IsAnswer}
+use Rattle.transcript.specs.Replays.{printed, IsAnswer}
 use Rattle.transcript.specs.Running.{RunTo, Runs, Answers, opened_at, printed_from}
 
 abbrev pub numbers : List Connection → List ℕ

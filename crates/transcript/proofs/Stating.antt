@@ -1,12 +1,12 @@
 -- Words of a piece, and what else they could state.
-use Rattle.std.proofs.Common.{◌≡◌, ℕ, List, [], ◌∷◌, codes, Option, Some, None, Result, IfOk, Bor, ◌≤◌, ◌<◌, length, get_or, map, refl, sym, ap, ◌∙◌, subst, arith}
+use Rattle.std.proofs.Common.{◌≡◌, ℕ, List, [], ◌∷◌, codes, Option, Some, None, Result, IfOk, Bor, ◌≤◌, ◌<◌, length, get_or, map, refl, subst, arith}
 use Rattle.std.specs.Option.{option_map}
 use Rattle.messages.specs.declared.request.Draws.{Draws}
 use Rattle.transcript.specs.Numbers.{IsConnection, IsMoment}
 use Rattle.transcript.specs.Pieces.{SpellsDraws, SpellsPiece}
 use Rattle.transcript.specs.declared.line.Line.{Line}
 use Rattle.transcript.specs.Seen.{stated}
-use Rattle.transcript.specs.Lines.{Statement, Opens, Brings, Ends, NamesPiece, WordsState}
+use Rattle.transcript.specs.Lines.{Statement, Opens, Brings, Ends, WordsState}
 
 abbrev pub piece_words : List ℕ → List ℕ → List ℕ → List ℕ → List ℕ → List (List ℕ)
 piece_words name number seconds drawn hex = name ∷ number ∷ seconds ∷ drawn ∷ hex ∷ []

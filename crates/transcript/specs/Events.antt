@@ -1,8 +1,7 @@
 -- What the lines of a transcript stand for.
 use Rattle.std.specs.Prelude.{◌≡◌, ℕ, List, [], ◌∷◌, Bool, ⊤}
-use Rattle.std.specs.List.{flat_map}
 use Rattle.http_edge.specs.Answers.{Mark}
-use Rattle.http_edge.specs.Schedule.{Connection, Happening, Opened, Came, HasEnded, Taken, Forgotten}
+use Rattle.http_edge.specs.Schedule.{Connection, Happening, Opened, Came, HasEnded}
 use Rattle.http_edge.specs.Refusals.{IsOpeningRefusal, IsPieceRefusal, IsEndingRefusal}
 use Rattle.http_edge.specs.declared.fault.EdgeFault.{EdgeFault}
 use Rattle.transcript.specs.Lines.{Statement, Opens, Brings, Ends, States}

@@ -1,12 +1,12 @@
 -- What a transcript is answered.
-use Rattle.std.specs.Prelude.{◌≡◌, ◌≢◌, ◌⊎◌, ◌+◌, ◌++◌, ⊤, ℕ, List, [], ◌∷◌, codes, length, Ok, Err}
+use Rattle.std.specs.Prelude.{◌≡◌, ◌≢◌, ◌⊎◌, ◌+◌, ◌++◌, ⊤, ℕ, List, ◌∷◌, codes, length, Ok, Err}
 use Rattle.std.specs.Fmt.{decimal}
 use Rattle.std.specs.List.{flat_map}
 use Rattle.hook_host.specs.declared.host.HookHost.{Ghosts as Hosting}
 use Rattle.clients.specs.Registry.{registry_in}
 use Rattle.clients.specs.RegistryRecord.{RegistryRecord}
 use Rattle.clients.specs.declared.fault.ConfigFault.TheVariants as config
-use Rattle.http_edge.specs.Schedule.{World, Connection, Happening, Run, start}
+use Rattle.http_edge.specs.Schedule.{World, Happening, Run, start}
 use Rattle.transcript.specs.Lines.{lines_in, HandsIn}
 use Rattle.transcript.specs.Events.{StandFor}
 use Rattle.transcript.specs.Faults.{IsLineFault}

@@ -1,8 +1,9 @@
 //! One connection served over a stream or by a clock that fails, and what the next connection is answered then.
 
-use super::{Allowing, new_edge};
+use super::new_edge;
 use clients::ConfigFault;
 use consent::Moment;
+use hook_chain::Chain;
 use http_edge::Edge;
 use rand_chacha::ChaCha20Rng;
 use rand_core::SeedableRng;
@@ -108,7 +109,7 @@ struct Outcome {
 /// Serves a connection whose stream is this text: how that ended, and what was written.
 fn served(
     alloc: Global,
-    edge: &mut Edge<Allowing>,
+    edge: &mut Edge<Chain>,
     rng: &mut ChaCha20Rng,
     text: &str,
     course: Course,

@@ -1,7 +1,5 @@
 //! Hooks one after the other, and what is made of an answer.
 
-ghost use Rattle.std.specs.Prelude.{◌≡◌, []};
-
 use hook_chain::Chain;
 use hook_host::{HookFault, HookHost, decided};
 use hook_record::{Ask, Kind, Narrowed};
@@ -23,41 +21,57 @@ const ASK: Ask = Ask {
     refresh_limit: 0,
 };
 
-/// A host that has one answer to all that it is asked.
-#[derive(Clone, Copy)]
+/// Hooks that are installed and removed as those of a chain, and are not asked: what is asked has one answer.
+#[derive(Drop)]
 struct Answering {
     answer: Narrowed,
+    hooks: Chain,
 }
 
 impl HookHost for Answering {
-    ghost use Rattle.hook_host.specs.declared.fault.HookFault.TheVariants.{Full, Unknown};
+    ghost use Rattle.hook_chain.specs.Chains.{Accepts, IsInstalled, IsRemoved, RefusesInstall, RefusesRemove, names_of};
 
     ghost answer = { λ host _. host.answer };
 
-    ghost names = { λ _. [] };
+    ghost names = { λ host. names_of host.hooks };
 
-    ghost installs = { λ old name layout code new. ⊥ };
+    ghost accepts = { λ old name layout code checked. Accepts old.hooks name layout code checked.hooks };
 
-    ghost removes = { λ old name new. ⊥ };
+    ghost installs = { λ old name layout code new. IsInstalled old.hooks name layout code new.hooks };
 
-    ghost refuses_install = { λ old name layout code fault. fault ≡ Full };
+    ghost removes = { λ old name new. IsRemoved old.hooks name new.hooks };
 
-    ghost refuses_remove = { λ old name fault. fault ≡ Unknown };
+    ghost refuses_install = { λ old name layout code fault. RefusesInstall old.hooks name layout code fault };
+
+    ghost refuses_remove = { λ old name fault. RefusesRemove old.hooks name fault };
 
     fn decide(&self, _ask: &Ask) -> Narrowed {
         self.answer
     }
 
-    fn install(&mut self, _name: &str, _layout: Layout, _code: &[u8]) -> Result<(), HookFault> {
-        Err(HookFault::Full)
+    fn check(&self, name: &str, layout: Layout, code: &[u8]) -> Result<Answering, HookFault> {
+        let hooks = self.hooks.check(name, layout, code)?;
+        Ok(Answering {
+            answer: self.answer,
+            hooks,
+        })
     }
 
-    fn remove(&mut self, _name: &str) -> Result<(), HookFault> {
-        Err(HookFault::Unknown)
+    fn take(&mut self, checked: Answering) {
+        let Answering { answer: _, hooks } = checked;
+        self.hooks.take(hooks);
     }
 
-    fn name_at(&self, _i: usize) -> Option<&str> {
-        None
+    fn check_removal(&self, name: &str) -> Result<(), HookFault> {
+        self.hooks.check_removal(name)
+    }
+
+    fn drop_named(&mut self, name: &str) {
+        self.hooks.drop_named(name);
+    }
+
+    fn name_at(&self, i: usize) -> Option<&str> {
+        self.hooks.name_at(i)
     }
 }
 
@@ -107,7 +121,9 @@ fn what_an_answer_leaves(rt: HostRuntime) {
         (Narrowed::EmptyScope, Narrowed::EmptyScope),
     ];
     for (answer, left) in rows {
-        assert_eq!(rt; decided(&Answering { answer }, &ASK), left, "{answer:?}");
+        let hooks = Chain::new(rt.alloc());
+        let host = Answering { answer, hooks };
+        assert_eq!(rt; decided(&host, &ASK), left, "{answer:?}");
     }
 }
 

@@ -3,13 +3,29 @@
 use crate::topic::Topic;
 
 /// What each command does.
-pub const COMMANDS: [Topic; 9] = [
+pub const COMMANDS: [Topic; 11] = [
     Topic {
         name: "run",
         text: "\
-run HEX RECORDHEX: runs the hook whose code is HEX on the record RECORDHEX, and prints R0, the steps, and what is left of the grant: allowed SCOPES SECONDS, denied, or empty scope. The hook is checked first. docs/ASSEMBLY.md makes a record field by field.
+run HEX RECORDHEX: runs the hook whose code is HEX on the record RECORDHEX, and prints R0, the steps, and what is left of the grant: allowed SCOPES SECONDS, denied, or empty scope. The hook is checked first. ask makes a record of a few numbers, and docs/ASSEMBLY.md one field by field. run --trace prints each step before that: the slot, the instruction, and what it wrote into its register, a number or an address (record, 8 is byte 8 of the record, stack, -8 is 8 bytes before the stack's end).
 
   oauthd run b7000000010000009500000000000000 0100000001000000e80300000000000001000000000000000100000000000000030000000000000003000000000000002c010000000000000300000000000000
+",
+    },
+    Topic {
+        name: "ask",
+        text: "\
+ask KIND MOMENT CLIENT OWNER SCOPE LIFE: prints, as hex, the record of version 1 of an ask, for run. KIND is 1 where a code is redeemed, 2 where a token is refreshed, 3 for client credentials; MOMENT is in Unix seconds; CLIENT and OWNER are places in the registry, from 1, and OWNER is 0 for client credentials; SCOPE has bit i for the i-th name of the registry's scopes; LIFE is in seconds. The client is allowed just these scopes. All are decimal numbers.
+
+  oauthd run $(cat hook.hex) $(oauthd ask 1 1000 7 1 3 300)
+",
+    },
+    Topic {
+        name: "ask2",
+        text: "\
+ask2 KIND MOMENT CLIENT OWNER SCOPE LIFE: as ask, the record of version 2. The owner has consented to just these scopes, and the configured lifetimes of access and refresh tokens are both LIFE.
+
+  oauthd run $(cat hook.hex) $(oauthd ask2 2 1000 1 1 3 300)
 ",
     },
     Topic {
@@ -23,23 +39,25 @@ asm FILE: turns the text of a hook into the hex of its code. docs/ASSEMBLY.md is
     Topic {
         name: "list",
         text: "\
-list FILE: turns the hex of a hook's code into text: an instruction a line.
+list FILE: turns the hex of a hook's code into text: an instruction a line. list --slots puts the slot of each instruction before it, by which faults are told.
 
   oauthd list hook.hex
+  oauthd list --slots hook.hex
 ",
     },
     Topic {
         name: "check",
         text: "\
-check FILE: says whether a server takes the hook whose hex stands in FILE, for records of version 1, and how many instructions it has.
+check FILE: says whether a server takes the hook whose hex stands in FILE, for records of version 1, and how many instructions it has. check --why prints, of a hook that is not taken, the fault, the instruction behind its slot, what is known of the registers that it reads (unset, or between which numbers or offsets they lie), and how to mend it; of one that is taken, the slots of instructions that no way reaches.
 
   oauthd check hook.hex
+  oauthd check --why hook.hex
 ",
     },
     Topic {
         name: "check2",
         text: "\
-check2 FILE: as check, for records of version 2.
+check2 FILE: as check, for records of version 2; so check2 --why.
 
   oauthd check2 hook.hex
 ",
@@ -47,9 +65,10 @@ check2 FILE: as check, for records of version 2.
     Topic {
         name: "start",
         text: "\
-start ADDR CONFIG [SILENCE [FULL]]: listens at ADDR, which is an IP address or a host's name, a colon and a port, prints listening ADDR, and serves up to 64 connections at once, with the registry in the file CONFIG, until it is stopped. Port 0 lets the system choose one. SILENCE is after how many seconds a connection is closed that took no byte of a reply, at least 1, or 60 where it is left out; FULL is after how many the one that was silent longest is closed where all 64 places are taken and another one waits, or 5. Codes and tokens are drawn by random bytes of the system. A connection that a fault ended is told on standard error, in at most one line a second. All that the server knows is in memory alone, and is lost when it is stopped. docs/OPERATING.md says more.
+start ADDR CONFIG [--hook NAME=FILE].. [--hook2 NAME=FILE].. [--silence SECONDS] [--full SECONDS]: listens at ADDR, which is an IP address or a host's name, a colon and a port, prints listening ADDR, and serves up to 64 connections at once, with the registry in the file CONFIG, until it is stopped. Port 0 lets the system choose one. The options come in any order. --hook installs the program in FILE, hex or bytes, as the hook NAME before the first connection is taken, --hook2 one that reads records of version 2; they answer in the order in which they stand. --silence is after how many seconds a connection is closed that took no byte of a reply, at least 1, or 60 where it is left out; --full is after how many the one that was silent longest is closed where all 64 places are taken and another one waits, or 5. The two may also stand as numbers right behind CONFIG: SILENCE, or SILENCE and FULL. Codes and tokens are drawn by random bytes of the system. A connection that a fault ended is told on standard error, in at most one line a second. All that the server knows is in memory alone, and is lost when it is stopped. docs/OPERATING.md says more.
 
   oauthd start 127.0.0.1:8080 registry.json
+  oauthd start 127.0.0.1:8080 registry.json --hook listed=hook.hex --silence 30
   oauthd start 127.0.0.1:8080 registry.json 30 2
 ",
     },

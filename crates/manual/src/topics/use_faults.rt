@@ -3,11 +3,11 @@
 use crate::topic::Topic;
 
 /// What the faults mean that a command has however its files are.
-pub const USE_FAULTS: [Topic; 10] = [
+pub const USE_FAULTS: [Topic; 13] = [
     Topic {
         name: "bad arguments",
         text: "\
-bad arguments: the words are no command, or what is to be the hex of a hook's code is no hex. Hex is digits in pairs; blanks and line feeds may part them. help prints the commands.
+bad arguments: the words are no command, or what is to be the hex of a hook's code is no hex. Hex is digits in pairs; blanks and line feeds may part them. help prints the commands. Behind start the word is named that is wrong: an address without a port, or an option that is not known, wants a value, has a bad one or is given twice.
 
   oauthd run 9 00          (one digit is no byte)
 ",
@@ -29,6 +29,22 @@ cannot read FILE: the file is not there or may not be read, or the text of a hoo
 ",
     },
     Topic {
+        name: "ELF file",
+        text: "\
+ELF file: FILE: what a compiler wrote, where the hex of a hook's code is wanted. list --slots and check --why tell it so; to list and check it is bad arguments. examples/c/build makes hex of C; docs/HOOKS.md has the way by hand.
+
+  oauthd check --why hook.o      oauthd check --why hook.hex
+",
+    },
+    Topic {
+        name: "not hex",
+        text: "\
+not hex: FILE: the file is there, and is not the hex of a hook's code: digits in pairs, which blanks and line feeds may part. list --slots and check --why tell it so; to list and check it is bad arguments. asm makes hex of the text of a hook, and od -An -v -tx1 of its bytes.
+
+  oauthd check --why hook.asm      oauthd asm hook.asm > hook.hex
+",
+    },
+    Topic {
         name: "cannot write",
         text: "\
 cannot write: standard output is closed or full. What was printed may be a part of the answer.
@@ -43,6 +59,14 @@ bad line: the line of a transcript is no event. The first line is config, a spac
 
   open 01                  open 1
   bytes 1 1000 474554      bytes 1 1000 - 474554
+",
+    },
+    Topic {
+        name: "hook",
+        text: "\
+hook NAME: FAULT: start was to install this hook, and it is refused; no connection was taken. BadName: a name is 1 to 32 of a-z, 0-9 and -. NameTaken: two hooks have it. Full: there are more than 8. Insn and Verify are the faults of check: oauthd help has each.
+
+  oauthd start 127.0.0.1:8080 registry.json --hook listed=hook.hex
 ",
     },
     Topic {

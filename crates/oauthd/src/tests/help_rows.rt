@@ -17,10 +17,14 @@ fn the_commands_are_printed(rt: HostRuntime) -> Result<(), Fail> {
         let page = printed(&rt, &[word])?;
         for line in [
             "oauthd run HEX RECORDHEX",
+            "oauthd run --trace HEX RECORDHEX",
+            "oauthd ask KIND MOMENT CLIENT OWNER SCOPE LIFE",
             "oauthd asm FILE",
             "oauthd list FILE",
+            "oauthd list --slots FILE",
             "oauthd check FILE",
             "oauthd check2 FILE",
+            "oauthd check --why FILE",
             "oauthd start ADDR CONFIG",
             "oauthd serve ADDR CONFIG SEEDHEX COUNT",
             "oauthd replay FILE",
@@ -37,6 +41,8 @@ fn the_commands_are_printed(rt: HostRuntime) -> Result<(), Fail> {
 fn each_command_and_each_fault_is_explained(rt: HostRuntime) -> Result<(), Fail> {
     for name in [
         "run",
+        "ask",
+        "ask2",
         "asm",
         "list",
         "check",
@@ -48,8 +54,11 @@ fn each_command_and_each_fault_is_explained(rt: HostRuntime) -> Result<(), Fail>
         "bad arguments",
         "bad record",
         "cannot read",
+        "ELF file",
+        "not hex",
         "cannot write",
         "bad line",
+        "hook",
         "cannot listen",
         "no random bytes",
         "connection ended",

@@ -1,62 +1,87 @@
 //! What hosts of hooks may answer, and what is made of it.
 
-ghost use Rattle.std.specs.Prelude.{◌≡◌, []};
-
 use super::*;
 use hook_host::HookFault;
 use hook_record::{Ask, Narrowed};
 use insn::layout::Layout;
 
-/// A host that has one answer to all that it is asked.
-#[derive(Clone, Copy)]
+/// Hooks that are installed and removed as those of a chain, and are not asked: what is asked has one answer.
+#[derive(Drop)]
 struct Answering {
     answer: Narrowed,
+    hooks: Chain,
 }
 
 impl HookHost for Answering {
-    ghost use Rattle.hook_host.specs.declared.fault.HookFault.TheVariants.{Full, Unknown};
+    ghost use Rattle.hook_chain.specs.Chains.{Accepts, IsInstalled, IsRemoved, RefusesInstall, RefusesRemove, names_of};
 
     ghost answer = { λ host _. host.answer };
 
-    ghost names = { λ _. [] };
+    ghost names = { λ host. names_of host.hooks };
 
-    ghost installs = { λ old name layout code new. ⊥ };
+    ghost accepts = { λ old name layout code checked. Accepts old.hooks name layout code checked.hooks };
 
-    ghost removes = { λ old name new. ⊥ };
+    ghost installs = { λ old name layout code new. IsInstalled old.hooks name layout code new.hooks };
 
-    ghost refuses_install = { λ old name layout code fault. fault ≡ Full };
+    ghost removes = { λ old name new. IsRemoved old.hooks name new.hooks };
 
-    ghost refuses_remove = { λ old name fault. fault ≡ Unknown };
+    ghost refuses_install = { λ old name layout code fault. RefusesInstall old.hooks name layout code fault };
+
+    ghost refuses_remove = { λ old name fault. RefusesRemove old.hooks name fault };
 
     fn decide(&self, _ask: &Ask) -> Narrowed {
         self.answer
     }
 
-    fn install(&mut self, _name: &str, _layout: Layout, _code: &[u8]) -> Result<(), HookFault> {
-        Err(HookFault::Full)
+    fn check(&self, name: &str, layout: Layout, code: &[u8]) -> Result<Answering, HookFault> {
+        let hooks = self.hooks.check(name, layout, code)?;
+        Ok(Answering {
+            answer: self.answer,
+            hooks,
+        })
     }
 
-    fn remove(&mut self, _name: &str) -> Result<(), HookFault> {
-        Err(HookFault::Unknown)
+    fn take(&mut self, checked: Answering) {
+        let Answering { answer: _, hooks } = checked;
+        self.hooks.take(hooks);
     }
 
-    fn name_at(&self, _i: usize) -> Option<&str> {
-        None
+    fn check_removal(&self, name: &str) -> Result<(), HookFault> {
+        self.hooks.check_removal(name)
     }
+
+    fn drop_named(&mut self, name: &str) {
+        self.hooks.drop_named(name);
+    }
+
+    fn name_at(&self, i: usize) -> Option<&str> {
+        self.hooks.name_at(i)
+    }
+}
+
+/// A host without hooks that has the answer.
+fn host_of(alloc: Global, answer: Narrowed) -> Answering {
+    let hooks = Chain::new(alloc);
+    Answering { answer, hooks }
 }
 
 /// Asserts that a server whose host has the answer answers rows behind a code as they say.
 fn assert_hosted<R: Abort + AllocGlobal>(rt: &R, answer: Narrowed, rows: &str) -> Result<(), Fail> {
     let alloc = rt.alloc();
-    let host = Answering { answer };
     let rows = again(|| behind(alloc, CODE_GIVEN, rows))?;
     let rows = rows.as_str();
-    if let Ok((found, wanted)) = answers(alloc, host, REGISTRY, rows, Cut::Nowhere)
+    if let Ok((found, wanted)) = answers(
+        alloc,
+        host_of(alloc, answer),
+        REGISTRY,
+        rows,
+        Cut::Nowhere,
+    )
         && found.as_slice() == wanted.as_bytes()
     {
         return Ok(());
     }
-    let (found, wanted) = answers(alloc, host, REGISTRY, rows, Cut::Nowhere)?;
+    let (found, wanted) = answers(alloc, host_of(alloc, answer), REGISTRY, rows, Cut::Nowhere)?;
     assert_same(rt, found.as_slice(), wanted.as_str());
     Ok(())
 }

@@ -13,6 +13,9 @@ returns-clause-fault g c = inr (record {
   listened = record { registry = c.in_ok-registry.registry; held = c.in_ok-registry.ensures.found; announced = c.in_ok-fault.ensures.done };
   given = c.in-Start.given;
   service_is = c.in-Start.is;
+  hooks = c.in_ok-chain.chain;
+  taken = c.in_ok-chain.ensures.taken;
   cause = c.in_ok-fault.fault;
+  started = rw (c.silence.ensures, c.full.ensures) at c.in_ok-fault.ensures.serves;
   fault_is = refl;
 })

@@ -1,4 +1,4 @@
-use Rattle.std.proofs.Common.{◌≡◌, ℕ, List, map, Some, take}
+use Rattle.std.proofs.Common.{map, take}
 use Rattle.transcript.specs.Pieces.{AllDraw}
 use Rattle.transcript.proofs.piece.all_draws.Given as goal
 

@@ -1,4 +1,4 @@
-use Rattle.std.proofs.Common.{◌≡◌, ◌+◌, map, take}
+use Rattle.std.proofs.Common.{◌≡◌, ◌+◌, take}
 use Rattle.transcript.specs.Running.{Runs}
 use Rattle.transcript.proofs.Leading.{texts}
 use Rattle.transcript.proofs.running.run_lines.Given as goal

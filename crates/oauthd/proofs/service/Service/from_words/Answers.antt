@@ -7,6 +7,6 @@ pub returns-in-None-clause-none : goal.returns-in-None-clause-none
 returns-in-None-clause-none c =
     no_serve _ _ _ (ap (map string_bytes) c.in-Some.ensures.cases.0) (sym c.as_str.ensures.value ∙ c.in-serve.is) (rw c.in-None.is at c.in_ok-given-in-serve.ensures.none)
 
-pub returns-in-None-start_given-clause-none : goal.returns-in-None-start_given-clause-none
-returns-in-None-start_given-clause-none c =
-    no_start _ _ _ (ap (map string_bytes) c.in-Some.ensures.cases.0) (sym c.as_str.ensures.value ∙ c.in-start.is) c.in-None-start_given.ensures.none
+pub returns-in-None-2-clause-none : goal.returns-in-None-2-clause-none
+returns-in-None-2-clause-none c =
+    no_start _ _ _ (ap (map string_bytes) c.in-Some.ensures.cases.0) (sym c.as_str.ensures.value ∙ c.in-start.is) (rw c.in-None-2.is at c.in_ok-given-in-start.ensures.none)

@@ -1,0 +1,34 @@
+use Rattle.std.proofs.Common.{rules, ◌≤◌, refl, length, arith}
+use Rattle.hook_host.specs.Names.{name_limit}
+use Rattle.messages.specs.Reply.{plain}
+use Rattle.messages.specs.Reply.Body.{Empty, Failure, Inactive, Hook}
+use Rattle.answers.specs.Outcomes.{status_of}
+use Rattle.answers.proofs.Sizes.{failure_small, if_short, written_short}
+use Rattle.answers.proofs.writing.write.Goals as goal
+
+pub returns-in-Done-clause-short : goal.returns-in-Done-clause-short
+returns-in-Done-clause-short g c = λ _. written_short (plain 200 Empty) c.bare.result (record { status = refl; short = tt }) c.bare.ensures
+
+pub returns-in-Failure-clause-short : goal.returns-in-Failure-clause-short
+returns-in-Failure-clause-short g c = λ _. if_short c.failure.result (plain (status_of c.in-Failure.error) (Failure c.in-Failure.error)) (failure_small c.in-Failure.error) (search rules)
+
+pub returns-in-Unavailable-clause-short : goal.returns-in-Unavailable-clause-short
+returns-in-Unavailable-clause-short g c = λ _. written_short (plain 503 Empty) c.bare-in-Unavailable.result (record { status = refl; short = tt }) c.bare-in-Unavailable.ensures
+
+pub returns-in-NotFound-clause-short : goal.returns-in-NotFound-clause-short
+returns-in-NotFound-clause-short g c = λ _. written_short (plain 404 Empty) c.bare-in-NotFound.result (record { status = refl; short = tt }) c.bare-in-NotFound.ensures
+
+pub returns-in-NotAllowed-clause-short : goal.returns-in-NotAllowed-clause-short
+returns-in-NotAllowed-clause-short g c = λ _. written_short (plain 405 Empty) c.bare-in-NotAllowed.result (record { status = refl; short = tt }) c.bare-in-NotAllowed.ensures
+
+pub returns-in_ok-scope-in-Active-clause-short : goal.returns-in_ok-scope-in-Active-clause-short
+returns-in_ok-scope-in-Active-clause-short g c = λ _.
+    c.live.ensures.short (record { client = c.id_of.ensures.short; scope = rw c.deref.ensures c.in_ok-scope-in-Active.ensures.short })
+
+pub returns-in-Inactive-clause-short : goal.returns-in-Inactive-clause-short
+returns-in-Inactive-clause-short g c = λ _. if_short c.inactive.result (plain 200 Inactive) (record { status = refl; short = tt }) (search rules)
+
+pub returns-in-HookDone-clause-short : goal.returns-in-HookDone-clause-short
+returns-in-HookDone-clause-short g c = λ short.
+    let named : length c.in-HookDone.name.now ≤ name_limit = rw c.in-HookDone.is at short in
+    if_short c.hook.result (plain 200 (Hook c.in-HookDone.name.now)) (record { status = refl; short = omega (arith, named) }) (search rules)

@@ -1,0 +1,40 @@
+-- What was found under a digest, as the history has it.
+use Rattle.std.specs.Prelude.{◌≡◌, ◌&&◌, ℕ, List, Bool, not, Some}
+use Rattle.std.specs.Option.{option_map_or}
+use Rattle.consent.specs.History.{Event, Grant, grant_at, is_spent, has_ended, has_room, is_taken}
+use Rattle.consent.specs.Seen.{Seen}
+use Rattle.token_store.specs.Found.{found_seen}
+use Rattle.token_store.specs.declared.found.Found.{Found}
+
+-- what is seen, under its digest and in its family
+abbrev pub grant_seen : List ℕ → ℕ → Seen → Grant
+grant_seen digest family seen = record {
+  digest = digest;
+  kind = seen.kind;
+  family = family;
+  client = seen.client;
+  owner = seen.owner;
+  scope = seen.scope;
+  moment = seen.moment;
+  life = seen.life;
+  redirect = seen.redirect;
+  challenge = seen.challenge;
+}
+
+-- the family of what the digest names
+abbrev pub family_at : List Event → List ℕ → ℕ → ℕ
+family_at history digest m = option_map_or (λ (g : Grant). g.family) (grant_at history digest m) 0
+
+-- the code or token that was found
+abbrev pub grant_found : List Event → List ℕ → ℕ → Found → Grant
+grant_found history digest m found = grant_seen digest (family_at history digest m) (found_seen found)
+
+-- the digest names it, and its marks are those of the history
+pub record IsFound (history : List Event) (digest : List ℕ) (m : ℕ) (found : Found) : Type 0 where
+  pub named : grant_at history digest m ≡ Some (grant_found history digest m found)
+  pub spent_is : found.spent ≡ is_spent history digest m
+  pub ended_is : found.ended ≡ has_ended history (family_at history digest m)
+
+-- there is room for as many, and none of the digests is taken
+abbrev pub is_free : List Event → ℕ → List (List ℕ) → Bool
+is_free history m digests = has_room history m digests && not (is_taken history m digests)

@@ -1,0 +1,12 @@
+pub mod Outcomes
+pub mod Halts
+pub mod Requesters
+pub mod Texts
+pub mod Tokens
+pub mod Replies
+pub mod Scene
+pub mod Short
+pub mod Told
+pub mod Found
+pub mod FoundLaws
+pub mod FollowsLaws

@@ -1,0 +1,53 @@
+-- The reply that an answer is.
+use Rattle.std.specs.Prelude.{ℕ, List, [], codes, Some, None, option_copied}
+use Rattle.params.specs.Scope.{scope_text}
+use Rattle.pkce.specs.Token.{token_text}
+use Rattle.std.specs.Option.{option_map_or}
+use Rattle.clients.specs.RegistryRecord.{RegistryRecord}
+use Rattle.clients.specs.Clients.{client_at}
+use Rattle.hook_host.specs.Faults.{hook_fault_text}
+use Rattle.messages.specs.declared.request.Draws.{Draws}
+use Rattle.messages.specs.declared.token.ActiveToken.{ActiveToken}
+use Rattle.messages.specs.Reply.{Reply, Body as body, plain, sent_back}
+use Rattle.messages.specs.Written.{error_text}
+use Rattle.answers.specs.Outcomes.{status_of}
+use Rattle.answers.specs.declared.answer.Answer.{Answer}
+use Rattle.answers.specs.declared.answer.Answer.TheVariants.{Done, Failure, Unavailable, NotFound, NotAllowed, Access, Both, Consented, CodeSent, TurnedBack, Active, Inactive, HookDone, HookRefused, Hooks}
+
+-- the reply with an access token
+abbrev pub access_reply : RegistryRecord → List ℕ → ℕ → ℕ → Reply
+access_reply rules draw scope life = plain 200 (body.Tokens (token_text draw) life None (scope_text rules.scopes scope))
+
+-- or with a refresh token too
+abbrev pub both_reply : RegistryRecord → Draws → ℕ → ℕ → Reply
+both_reply rules draws scope life =
+    plain 200 (body.Tokens (token_text draws.first) life (Some (token_text draws.second)) (scope_text rules.scopes scope))
+
+-- what is told of a live token
+abbrev pub live_body : ActiveToken → body
+live_body token = body.Active token.client.now token.expires token.issued token.scope.now token.kind
+
+-- the id of the client of the number
+abbrev pub id_of : RegistryRecord → ℕ → List ℕ
+id_of rules number = option_map_or (λ c. c.id) (client_at number rules.clients) []
+
+-- under the rules, where the host's hooks have these names
+abbrev pub reply_of : RegistryRecord → List (List ℕ) → Answer → Reply
+reply_of rules names Done = plain 200 body.Empty
+reply_of rules names (Failure error) = plain (status_of error) (body.Failure error)
+reply_of rules names Unavailable = plain 503 body.Empty
+reply_of rules names NotFound = plain 404 body.Empty
+reply_of rules names NotAllowed = plain 405 body.Empty
+reply_of rules names (Access draw scope life) = access_reply rules draw scope life
+reply_of rules names (Both draws scope life) = both_reply rules draws scope life
+reply_of rules names (Consented mask) = plain 200 (body.Consent (scope_text rules.scopes mask))
+reply_of rules names (CodeSent uri draw state) =
+    sent_back uri.now (codes "code") (token_text draw) (option_copied state)
+reply_of rules names (TurnedBack uri error state) =
+    sent_back uri.now (codes "error") (error_text error) (option_copied state)
+reply_of rules names (Active client issued expires scope kind) =
+    plain 200 (body.Active (id_of rules client) expires issued (scope_text rules.scopes scope) kind)
+reply_of rules names Inactive = plain 200 body.Inactive
+reply_of rules names (HookDone name) = plain 200 (body.Hook name.now)
+reply_of rules names (HookRefused fault) = plain 400 (body.HookRefused (hook_fault_text fault))
+reply_of rules names Hooks = plain 200 (body.Hooks names)

@@ -1,0 +1,35 @@
+-- How long replies are.
+use Rattle.std.specs.Prelude.{◌≤◌, ◌<◌, ℕ, List, [], Option, length, option_copied, unwrap_or}
+use Rattle.clients.specs.Limits.{identifier_limit, redirect_limit}
+use Rattle.hook_host.specs.Names.{name_limit}
+use Rattle.params.specs.Limits.{scope_text_limit}
+use Rattle.messages.specs.declared.token.ActiveToken.{ActiveToken}
+use Rattle.messages.specs.Small.{reply_limit}
+use Rattle.messages.specs.Written.{Written, reply_bytes}
+use Rattle.answers.specs.declared.answer.Answer.{Answer}
+use Rattle.answers.specs.declared.answer.Answer.TheVariants.{CodeSent, TurnedBack, HookDone}
+
+-- its bytes are few
+pub record IsShort (reply : Written) : Type 0 where
+  pub short : length (reply_bytes reply) < reply_limit
+
+-- so many bytes has a state at most that is sent back
+abbrev pub state_limit : ℕ
+state_limit = 8192
+
+-- the user agent is sent back to a short URI with a short state
+pub record IsShortReturn (uri : List ℕ) (state : Option (List ℕ)) : Type 0 where
+  pub short_uri : length uri ≤ redirect_limit
+  pub short_state : length (unwrap_or state []) ≤ state_limit
+
+-- a live token's client and scope are short
+pub record IsShortLive (token : ActiveToken) : Type 0 where
+  pub client : length token.client.now ≤ identifier_limit
+  pub scope : length token.scope.now ≤ scope_text_limit
+
+-- what came with the request and is said again is short
+abbrev pub IsShortAnswer : Answer → Type 0
+IsShortAnswer (CodeSent uri draw state) = IsShortReturn uri.now (option_copied state)
+IsShortAnswer (TurnedBack uri error state) = IsShortReturn uri.now (option_copied state)
+IsShortAnswer (HookDone name) = length name.now ≤ name_limit
+IsShortAnswer answer = Unit {0}

@@ -1,0 +1,66 @@
+//! Replies as values, before they are written.
+
+use consent::{ClientNo, TokenKind};
+use hook_host::HookFault;
+use messages::{Draws, ErrorName};
+
+/// What is answered. A scope has one bit for each name; a life is in seconds.
+#[derive(Clone, Copy)]
+pub enum Answer<'a> {
+    /// 200 and nothing else.
+    Done,
+    /// RFC 6749, section 5.2.
+    Failure(ErrorName),
+    /// 503: memory, room or a fresh draw is wanting.
+    Unavailable,
+    /// 404: no endpoint has the path.
+    NotFound,
+    /// 405: the endpoint has another method.
+    NotAllowed,
+    /// An access token (RFC 6749, section 5.1).
+    Access {
+        draw: [u8; 32],
+        scope: u64,
+        life: u32,
+    },
+    /// And a refresh token, of the second draw.
+    Both {
+        draws: Draws,
+        scope: u64,
+        life: u32,
+    },
+    /// What an owner consents to.
+    Consented {
+        mask: u64,
+    },
+    /// The user agent is sent back with a code (RFC 6749, section 4.1.2).
+    CodeSent {
+        uri: &'a str,
+        draw: [u8; 32],
+        state: Option<&'a str>,
+    },
+    /// Or with an error (RFC 6749, section 4.1.2.1).
+    TurnedBack {
+        uri: &'a str,
+        error: ErrorName,
+        state: Option<&'a str>,
+    },
+    /// What is told of a live token (RFC 7662, section 2.2): when it was issued and expires is in seconds.
+    Active {
+        client: ClientNo,
+        issued: u64,
+        expires: u64,
+        scope: u64,
+        kind: TokenKind,
+    },
+    /// Or of what is none.
+    Inactive,
+    /// The hook of the name was installed or removed.
+    HookDone {
+        name: &'a str,
+    },
+    /// Or it was not.
+    HookRefused(HookFault),
+    /// The names of the host's hooks.
+    Hooks,
+}

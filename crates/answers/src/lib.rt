@@ -1,0 +1,18 @@
+//! What all endpoints decide by and answer with: they read what is kept, and write no reply and change nothing themselves.
+#![tactic(auto)]
+
+mod answer;
+mod asking;
+mod decision;
+mod halt;
+mod texts;
+mod view;
+mod writing;
+
+pub use answer::Answer;
+pub use asking::{authenticated_client, form, named_client, owner, scope, scope_within};
+pub use decision::Decision;
+pub use halt::{Halt, status_of};
+pub use texts::digest_told;
+pub use view::{KnownClient, View};
+pub use writing::write;

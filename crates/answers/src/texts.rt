@@ -1,0 +1,13 @@
+//! The texts of codes and tokens.
+ghost use Rattle.std.specs.Prelude.{◌≡◌};
+ghost use Rattle.answers.specs.Texts.{digest_told};
+
+use pkce::{digest_of, read_token};
+
+/// The digest of the code or token that the text may be: none, where it is not the text of 32 bytes.
+pub fn digest_told(text: &str) -> Option<[u8; 32]>
+    ensures { result ≡ digest_told text.now }
+{
+    let bytes = read_token(text)?;
+    Some(digest_of(&bytes))
+}

@@ -1,0 +1,57 @@
+//! What a request is decided by.
+ghost use Rattle.std.specs.Prelude.{◌≡◌, List, IfSome};
+ghost use Rattle.consent.specs.History.{Event, consented_scope, grant_at};
+ghost use Rattle.token_store.specs.Found.{owner_number};
+ghost use Rattle.answers.specs.Found.{IsFound, is_free};
+ghost use Rattle.answers.specs.Scene.{Finds, Shows};
+
+use clients::{Client, ClientNo, Registry};
+use consent::{Consents, Moment, OwnerNo};
+use messages::Draws;
+use token_store::{Found, Store};
+
+/// The rules, what is kept, the moment, and the random bytes of what the reply may give. It is only read.
+#[derive(Clone, Copy)]
+pub struct View<'a> {
+    pub rules: &'a Registry,
+    pub store: &'a Store,
+    pub consents: &'a Consents,
+    pub moment: Moment,
+    pub draws: &'a Draws,
+}
+
+impl<'a> View<'a> {
+    /// The unexpired code or token that the digest names.
+    pub fn at(&self, digest: &[u8; 32]) -> Option<Found<'a>>
+        ensures value { Finds self.now digest.now result (λ history. grant_at history digest.now self.now.moment) }
+        ensures found { (history : List Event) → Shows self.now history →
+            IfSome result (IsFound history digest.now self.now.moment) }
+    {
+        self.store.at(digest, self.moment)
+    }
+
+    /// Whether codes or tokens of these digests may be given.
+    pub fn is_free(&self, digests: &[[u8; 32]]) -> bool
+        ensures { (history : List Event) → Shows self.now history → result ≡ is_free history self.now.moment digests.now }
+    {
+        self.store.refusal(digests, self.moment).is_none()
+    }
+
+    /// The scope that the owner, if there is one, consents to the client's having: one bit for each name.
+    pub fn consented(&self, owner: Option<OwnerNo>, client: ClientNo) -> u64
+        ensures { (history : List Event) → Shows self.now history →
+            result ≡ consented_scope history (owner_number owner) client }
+    {
+        match owner {
+            Some(owner) => self.consents.get(owner, client),
+            None => 0,
+        }
+    }
+}
+
+/// A client of the registry, with its number.
+#[derive(Clone, Copy)]
+pub struct KnownClient<'a> {
+    pub number: ClientNo,
+    pub client: &'a Client,
+}

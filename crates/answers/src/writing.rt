@@ -1,0 +1,185 @@
+//! The one place that writes replies.
+ghost use Rattle.std.specs.Prelude.{◌≡◌, ◌≤◌, IfOk, codes, length, map};
+ghost use Rattle.std.specs.Option.{option_copied};
+ghost use Rattle.clients.specs.Limits.{identifier_limit};
+ghost use Rattle.hook_host.specs.Names.{AreHookNames};
+ghost use Rattle.messages.specs.Reply.{plain, sent_back};
+ghost use Rattle.messages.specs.Reply.Body.{Consent, HookRefused, Hooks};
+ghost use Rattle.messages.specs.Written.{error_text, written};
+ghost use Rattle.pkce.specs.Token.{token_text};
+ghost use Rattle.hook_host.specs.Faults.{hook_fault_text};
+ghost use Rattle.params.specs.Scope.{scope_text};
+ghost use Rattle.answers.specs.Replies.{access_reply, both_reply, id_of, live_body, reply_of};
+ghost use Rattle.answers.specs.Short.{IsShort, IsShortAnswer, IsShortLive, IsShortReturn};
+
+use crate::answer::Answer;
+use crate::halt::status_of;
+use clients::Registry;
+use consent::ClientNo;
+use hook_host::{HookFault, HookHost};
+use http::StatusCode;
+use messages::{
+    ActiveToken, Draws, ErrorName, Response, active, consent, failure, hook, hook_refused, hooks,
+    inactive, redirect, tokens,
+};
+use pkce::token_text;
+use std::alloc::{AllocError, Global};
+
+fn access(
+    alloc: Global,
+    rules: &Registry,
+    draw: &[u8; 32],
+    scope: u64,
+    life: u32,
+) -> Result<Response, AllocError>
+    ensures value { IfOk result (λ reply. reply ≡ written (access_reply rules.now draw.now scope life)) }
+    ensures short { IfOk result IsShort }
+{
+    let token = token_text(alloc, draw)?;
+    let scope = rules.catalogue().scope_text(alloc, scope)?;
+    tokens(alloc, &token, life, None, &scope)
+}
+
+fn both(
+    alloc: Global,
+    rules: &Registry,
+    draws: &Draws,
+    scope: u64,
+    life: u32,
+) -> Result<Response, AllocError>
+    ensures value { IfOk result (λ reply. reply ≡ written (both_reply rules.now draws.now scope life)) }
+    ensures short { IfOk result IsShort }
+{
+    let token = token_text(alloc, &draws.first)?;
+    let refresh = token_text(alloc, &draws.second)?;
+    let scope = rules.catalogue().scope_text(alloc, scope)?;
+    tokens(alloc, &token, life, Some(&refresh), &scope)
+}
+
+fn consented(alloc: Global, rules: &Registry, mask: u64) -> Result<Response, AllocError>
+    ensures value { IfOk result (λ reply. reply ≡ written (plain 200 (Consent (scope_text rules.now.scopes mask)))) }
+    ensures short { IfOk result IsShort }
+{
+    let scope = rules.catalogue().scope_text(alloc, mask)?;
+    consent(alloc, &scope)
+}
+
+fn fault(alloc: Global, fault: HookFault) -> Result<Response, AllocError>
+    ensures value { IfOk result (λ reply. reply ≡ written (plain 400 (HookRefused (hook_fault_text fault)))) }
+    ensures short { IfOk result IsShort }
+{
+    let detail = format!(in alloc; "{fault}")?;
+    hook_refused(alloc, &detail)
+}
+
+// The id of the client of the number.
+fn id_of(rules: &Registry, number: ClientNo) -> &str
+    ensures value { result.now ≡ id_of rules.now number }
+    ensures short { length result.now ≤ identifier_limit }
+{
+    match rules.client_numbered(number) {
+        Some(client) => client.id(),
+        None => "",
+    }
+}
+
+fn live(alloc: Global, token: ActiveToken<'_>) -> Result<Response, AllocError>
+    ensures value { IfOk result (λ reply. reply ≡ written (plain 200 (live_body token.entry))) }
+    ensures short { IsShortLive token.entry → IfOk result IsShort }
+{
+    active(alloc, token)
+}
+
+// The names of the host's hooks.
+fn hook_names<H: HookHost>(alloc: Global, host: &H) -> Result<Vec<&str>, AllocError>
+    ensures value { IfOk result (λ names. map (λ name. name.now) names.items ≡ H.names host.now) }
+    ensures names { AreHookNames (H.names host.now) }
+{
+    let mut names = Vec::new(alloc);
+    while let Some(name) = host.name_at(names.len()) {
+        names.push(name)?;
+    }
+    Ok(names)
+}
+
+fn all_hooks<H: HookHost>(alloc: Global, host: &H) -> Result<Response, AllocError>
+    ensures value { IfOk result (λ reply. reply ≡ written (plain 200 (Hooks (H.names host.now)))) }
+    ensures short { IfOk result IsShort }
+{
+    let names = hook_names(alloc, host)?;
+    hooks(alloc, &names)
+}
+
+// Sent back with a code.
+fn sent(
+    alloc: Global,
+    uri: &str,
+    draw: &[u8; 32],
+    state: Option<&str>,
+) -> Result<Response, AllocError>
+    ensures value { IfOk result (λ reply. reply
+        ≡ written (sent_back uri.now (codes "code") (token_text draw.now) (option_copied state.entry))) }
+    ensures short { IsShortReturn uri.now (option_copied state.entry) → IfOk result IsShort }
+{
+    let text = token_text(alloc, draw)?;
+    redirect(alloc, uri, "code", &text, state)
+}
+
+// Or with an error.
+fn turned(
+    alloc: Global,
+    uri: &str,
+    error: ErrorName,
+    state: Option<&str>,
+) -> Result<Response, AllocError>
+    ensures value { IfOk result (λ reply. reply
+        ≡ written (sent_back uri.now (codes "error") (error_text error) (option_copied state.entry))) }
+    ensures short { IsShortReturn uri.now (option_copied state.entry) → IfOk result IsShort }
+{
+    redirect(alloc, uri, "error", error.text(), state)
+}
+
+/// The reply, written: of the hooks, the host's names are read. A bare status takes no memory.
+pub fn write<H: HookHost>(
+    alloc: Global,
+    rules: &Registry,
+    host: &H,
+    answer: &Answer<'_>,
+) -> Result<Response, AllocError>
+    ensures value { IfOk result (λ reply. reply ≡ written (reply_of rules.now (H.names host.now) answer.entry.now)) }
+    ensures short { IsShortAnswer answer.entry.now → IfOk result IsShort }
+{
+    match *answer {
+        Answer::Done => Ok(Response::bare(StatusCode::OK)),
+        Answer::Failure(error) => failure(alloc, status_of(error), error),
+        Answer::Unavailable => Ok(Response::bare(StatusCode::SERVICE_UNAVAILABLE)),
+        Answer::NotFound => Ok(Response::bare(StatusCode::NOT_FOUND)),
+        Answer::NotAllowed => Ok(Response::bare(StatusCode::METHOD_NOT_ALLOWED)),
+        Answer::Access { draw, scope, life } => access(alloc, rules, &draw, scope, life),
+        Answer::Both { draws, scope, life } => both(alloc, rules, &draws, scope, life),
+        Answer::Consented { mask } => consented(alloc, rules, mask),
+        Answer::CodeSent { uri, draw, state } => sent(alloc, uri, &draw, state),
+        Answer::TurnedBack { uri, error, state } => turned(alloc, uri, error, state),
+        Answer::Active {
+            client,
+            issued,
+            expires,
+            scope,
+            kind,
+        } => {
+            let scope = rules.catalogue().scope_text(alloc, scope)?;
+            let token = ActiveToken {
+                client: id_of(rules, client),
+                issued,
+                expires,
+                scope: &scope,
+                kind,
+            };
+            live(alloc, token)
+        }
+        Answer::Inactive => inactive(alloc),
+        Answer::HookDone { name } => hook(alloc, name),
+        Answer::HookRefused(refused) => fault(alloc, refused),
+        Answer::Hooks => all_hooks(alloc, host),
+    }
+}

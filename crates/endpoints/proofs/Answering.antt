@@ -1,0 +1,93 @@
+-- What a ruling comes to is answered, at its endpoint and by its path.
+use Rattle.std.proofs.Common.{◌≡◌, ◌≤◌, ℕ, List, Bool, true, false, max, refl, ap, sym, ◌∙◌, arith, append-nil, subst, Result, Ok, Err, Option, Some}
+use Rattle.std.specs.Prelude.{bytes_eq}
+use Rattle.clients.specs.RegistryRecord.{RegistryRecord}
+use Rattle.consent.specs.Changes.{changes_of, listed, AllFollow}
+use Rattle.consent.specs.History.{Event, with_changes}
+use Rattle.hook_host.specs.declared.fault.HookFault.{HookFault}
+use Rattle.hook_host.specs.declared.host.HookHost.{Ghosts as Hosting}
+use Rattle.messages.specs.Asked.{Asked}
+use Rattle.messages.specs.Target.{path_of}
+use Rattle.messages.specs.Written.{Written, written}
+use Rattle.messages.specs.declared.request.Draws.{Draws}
+use Rattle.token_store.specs.Kept.{Held}
+use Rattle.token_store.specs.Fits.{FitsStore}
+use Rattle.token_store.specs.FitsLaws.{fits_later}
+use Rattle.answers.specs.Outcomes.{bare}
+use Rattle.answers.specs.Replies.{reply_of}
+use Rattle.endpoints.specs.declared.endpoint.Endpoint.{Endpoint}
+use Rattle.endpoints.specs.declared.ruling.Ruling.{Ruling}
+use Rattle.endpoints.specs.HookPaths.{hook_change_at}
+use Rattle.endpoints.specs.Hosts.{IsHostFault}
+use Rattle.endpoints.specs.Making.{IsSame, Makes, StandsAlone}
+use Rattle.endpoints.specs.Bounded.{AllRightAfter}
+use Rattle.endpoints.specs.Ruling.{CanMakeAll}
+use Rattle.endpoints.specs.Paths.{endpoint_at, method_at}
+use Rattle.endpoints.specs.Replies.{outcome, hook_change}
+use Rattle.endpoints.specs.Rulings.{Answers, Asking, FitsNow, IsRuling, comes_to, says_with, scene_now}
+use Rattle.endpoints.specs.Server.{Seen, FitsServer, IsStep}
+use Rattle.endpoints.proofs.Ruled.{told_changes, told_reply}
+
+pub at_moment : (greatest m moment n : ℕ) → n ≡ max greatest moment → greatest ≡ m → (m ≤ n) × (n ≡ max m moment)
+at_moment greatest m moment n is same = (omega (arith, is, same), is ∙ ap (λ x. max x moment) same)
+
+module _ {H : Type 0} (hosting : Hosting H) where
+  -- time goes on, and what has expired is let go of
+  pub swept : (old : Seen H) (rules : RegistryRecord) (first : H) (history : List Event) (n m : ℕ) (kept : Held) → n ≤ m →
+      FitsServer hosting.installs hosting.removes old rules first history n → (FitsStore old.store history m → FitsStore kept history m) →
+      FitsServer hosting.installs hosting.removes (record old { store = kept; greatest = m }) rules first history m
+  swept old rules first history n m kept le fits dropped = record {
+    rules_are = fits.rules_are;
+    greatest_is = refl;
+    store = dropped (fits_later old.store history n m le fits.store);
+    consents = fits.consents;
+    hosts = fits.hosts;
+    right = fits.right;
+  }
+
+  -- nothing happens
+  pub bare_step : (new : Seen H) (rules : RegistryRecord) (first : H) (history : List Event) (m status : ℕ) (reply : Written) →
+      FitsServer hosting.installs hosting.removes new rules first history m → reply ≡ written (bare status).reply →
+      IsStep hosting.installs hosting.removes (bare status) reply new rules first history m
+  bare_step new rules first history m status reply fits is = record { reply_is = is; fits = rw (append-nil history) fits }
+
+  -- the ruling is written, room is made for its changes, and they are made
+  pub answered : (old mid new : Seen H) (first : H) (history : List Event) (asking : Asking) (ruling : Ruling H) (reply : Written) →
+      IsRuling hosting old history asking ruling → IsSame hosting old mid → Makes hosting mid (listed ruling.decision.changes) ruling.checked new →
+      reply ≡ written (reply_of old.rules (hosting.names old.host) ruling.decision.answer) → FitsNow hosting old first history →
+      (fault : Option HookFault) × IsHostFault hosting.refuses_install hosting.refuses_remove old.host (hook_change_at asking.endpoint asking.asked) fault
+      × IsStep hosting.installs hosting.removes (comes_to hosting old history asking fault) reply new old.rules first history old.greatest
+  answered old mid new first history asking ruling reply r same makes is fits =
+      let o = comes_to hosting old history asking r.fault in
+      let changes = told_changes hosting (scene_now hosting old history asking.draws) ruling.decision o r.told_is in
+      let go = subst (λ (n : ℕ). FitsServer hosting.installs hosting.removes mid old.rules first history n → changes_of history n (listed ruling.decision.changes) ≡ Some o.changes →
+      AllFollow history n o.changes → AllRightAfter old.rules history n o.changes → StandsAlone (listed ruling.decision.changes) →
+      CanMakeAll hosting mid.host (listed ruling.decision.changes) ruling.checked → FitsServer hosting.installs hosting.removes new old.rules first (with_changes history n o.changes) n)
+      same.greatest (makes old.rules first history o.changes) in (
+        r.fault,
+        r.host_has,
+        record {
+          reply_is = is ∙ ap written (sym (told_reply hosting (scene_now hosting old history asking.draws) ruling.decision o r.told_is));
+          fits = go (same.fits old.rules first history old.greatest fits) changes r.follow r.right r.alone (rw same.host r.hooks);
+        },
+      )
+
+  -- no reply was made, and nothing happened
+  pub none_made : {E : Type 0} (old new : Seen H) (asking : Asking) (result : Result Written E) → ((reply : Written) → result ≡ Ok reply → ⊥) →
+      Answers hosting old asking result new → IsSame hosting old new
+  none_made old new asking (Ok reply) none made = absurd (none reply refl)
+  none_made old new asking (Err e) none made = made
+
+  -- what happens at an endpoint is what happens at its path
+  pub stepped : (old new : Seen H) (wanted : RegistryRecord) (first : H) (history : List Event) (endpoint : Endpoint) (asked : Asked) (draws : Draws) (reply : Written) →
+      endpoint_at (path_of asked.target) ≡ Some endpoint → bytes_eq asked.method (method_at endpoint) ≡ true →
+      FitsServer hosting.installs hosting.removes old wanted first history old.greatest →
+      Answers {E = ℕ} hosting old (record { endpoint = endpoint; asked = asked; draws = draws }) (Ok reply) new →
+      (refused : Bool) × (fault : Option HookFault) × IsHostFault hosting.refuses_install hosting.refuses_remove old.host (hook_change asked) fault
+      × IsStep hosting.installs hosting.removes (outcome refused wanted (says_with hosting old.host fault) history asked old.greatest draws) reply new wanted first history old.greatest
+  stepped old new wanted first history endpoint asked draws reply at method fits answers =
+      let own = subst (λ (r : RegistryRecord). FitsServer hosting.installs hosting.removes old r first history old.greatest) (sym fits.rules_are) fits in
+      let done = answers first history own in
+      subst (λ (r : RegistryRecord). (refused : Bool) × (fault : Option HookFault) × IsHostFault hosting.refuses_install hosting.refuses_remove old.host (hook_change asked) fault
+      × IsStep hosting.installs hosting.removes (outcome refused r (says_with hosting old.host fault) history asked old.greatest draws) reply new r first history old.greatest)
+      fits.rules_are (rw (at, method) (false, done.0, done.1, done.2))

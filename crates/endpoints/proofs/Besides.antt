@@ -1,0 +1,157 @@
+-- What is made beside the store.
+use Rattle.std.proofs.Common.{◌≡◌, ◌∙◌, ap, sym, subst, refl, ℕ, List, [], ◌∷◌, Option, Some, None}
+use Rattle.std.specs.Borrow.{Bor}
+use Rattle.std.specs.Prelude.{option_map}
+use Rattle.consent.specs.Changes.{change_of, changes_of, family_ended, issued_with, listed, AllFollow}
+use Rattle.consent.specs.Consents.{KeptConsents, FitsConsents}
+use Rattle.consent.specs.ConsentLaws.{fits_consents-push_other}
+use Rattle.consent.specs.History.{Event, Change as happening, Grant, event_at, grant_at, with_change, with_changes}
+use Rattle.consent.specs.History.{Change as told}
+use Rattle.consent.specs.declared.change.Change.{Change}
+use Rattle.consent.specs.declared.change.Change.TheVariants.{Consented, CodeGiven, IssuedAlone, Issued, Spent, FamilyEnded, HookSet, HookGone}
+use Rattle.consent.specs.declared.change.Changes.{Changes}
+use Rattle.consent.specs.declared.change.Changes.TheVariants.{Nothing, One, Two, Three}
+use Rattle.consent.specs.declared.change.NewToken.{NewToken}
+use Rattle.hook_host.specs.Versions.{layout_of}
+use Rattle.hook_host.specs.declared.host.HookHost.{Ghosts as Hosting}
+use Rattle.token_store.specs.Fits.{FitsStore}
+use Rattle.token_store.specs.Kept.{Held}
+use Rattle.endpoints.specs.Hosts.{HostRun, HostStep}
+use Rattle.endpoints.specs.Making.{AllPlain, IsPlain, Makes, MakesConsents, MakesHost}
+use Rattle.endpoints.specs.Ruling.{CanMake}
+use Rattle.endpoints.specs.declared.ruling.Checked.{Checked}
+use Rattle.endpoints.specs.declared.ruling.Checked.TheVariants.{NoHook, Installs, Removes}
+use Rattle.endpoints.specs.Server.{Seen}
+use Rattle.endpoints.proofs.Ruled.{begins, same_some}
+use Rattle.endpoints.proofs.Stepping.{AllQuiet, IsQuiet, all_right-more, host_push, quiet_consents, quiet_host}
+
+-- a change that is none of these is plain
+pub plain_of : (c : Change) → ((owner client mask : ℕ) → c ≡ Consented owner client mask → ⊥) →
+    ((name : Bor (List ℕ)) (version : ℕ) (code : Bor (List ℕ)) → c ≡ HookSet name version code → ⊥) →
+    ((name : Bor (List ℕ)) → c ≡ HookGone name → ⊥) → IsPlain c
+plain_of (Consented owner client mask) no_consent no_set no_gone = absurd (no_consent owner client mask refl)
+plain_of (HookSet name version code) no_consent no_set no_gone = absurd (no_set name version code refl)
+plain_of (HookGone name) no_consent no_set no_gone = absurd (no_gone name refl)
+plain_of (CodeGiven facts digest) no_consent no_set no_gone = tt
+plain_of (IssuedAlone client token) no_consent no_set no_gone = tt
+plain_of (Issued of token) no_consent no_set no_gone = tt
+plain_of (Spent digest) no_consent no_set no_gone = tt
+plain_of (FamilyEnded of) no_consent no_set no_gone = tt
+
+issued_quiet : (o : Option Grant) (token : NewToken) (next : happening) → option_map (issued_with token) o ≡ Some next → IsQuiet next
+issued_quiet None token next is = absurd (cc)
+issued_quiet (Some g) token next is = subst IsQuiet (same_some _ next is) tt
+
+ended_quiet : (o : Option Grant) (next : happening) → option_map family_ended o ≡ Some next → IsQuiet next
+ended_quiet None next is = absurd (cc)
+ended_quiet (Some g) next is = subst IsQuiet (same_some _ next is) tt
+
+quiet_meant : (history : List Event) (m : ℕ) (c : Change) (next : happening) → IsPlain c → change_of history m c ≡ Some next → IsQuiet next
+quiet_meant history m (Consented owner client mask) next is_plain is = absurd is_plain
+quiet_meant history m (HookSet name version code) next is_plain is = absurd is_plain
+quiet_meant history m (HookGone name) next is_plain is = absurd is_plain
+quiet_meant history m (CodeGiven facts digest) next is_plain is = subst IsQuiet (same_some _ next is) tt
+quiet_meant history m (IssuedAlone client token) next is_plain is = subst IsQuiet (same_some _ next is) tt
+quiet_meant history m (Issued of token) next is_plain is = issued_quiet (grant_at history of m) token next is
+quiet_meant history m (Spent digest) next is_plain is = subst IsQuiet (same_some _ next is) tt
+quiet_meant history m (FamilyEnded of) next is_plain is = ended_quiet (grant_at history of m) next is
+
+all_quiet : (history : List Event) (m : ℕ) (cs : List Change) (next : List happening) → AllPlain cs → changes_of history m cs ≡ Some next → AllQuiet next
+all_quiet history m [] next are is = subst AllQuiet (same_some [] next is) tt
+all_quiet history m (c ∷ cs) next are is =
+    let b = begins history m c cs next is in
+    subst AllQuiet (sym b.next_is) (quiet_meant history m c b.first are.0 b.first_is, all_quiet (with_change history m b.first) m cs b.later are.1 b.later_are)
+
+-- the one change is the one that is meant
+one_meant : (history : List Event) (m : ℕ) (c : Change) (next : List happening) (wanted : happening) → changes_of history m (c ∷ []) ≡ Some next →
+    change_of history m c ≡ Some wanted → next ≡ wanted ∷ []
+one_meant history m c next wanted is meant =
+    let b = begins history m c [] next is in
+    let first : b.first ≡ wanted = same_some _ _ (sym b.first_is ∙ meant) in
+    let later : b.later ≡ [] = sym (same_some [] b.later b.later_are) in
+    b.next_is ∙ ap (λ f. f ∷ b.later) first ∙ ap (λ l. wanted ∷ l) later
+
+pub plain_consents : (kept : KeptConsents) (cs : List Change) → AllPlain cs → MakesConsents kept cs kept
+plain_consents kept cs are history m next alone is fits = quiet_consents kept history m next (all_quiet history m cs next are is) fits
+
+pub set_consents : (kept : KeptConsents) (c : Change) (name : Bor (List ℕ)) (version : ℕ) (code : Bor (List ℕ)) → c ≡ HookSet name version code → MakesConsents kept (c ∷ []) kept
+set_consents kept c name version code same history m next alone is fits =
+    let meant = one_meant history m c next (told.HookSet name.now version code.now) is (ap (change_of history m) same) in
+    subst (λ n. FitsConsents kept (with_changes history m n)) (sym meant) (fits_consents-push_other kept history (event_at m (told.HookSet name.now version code.now)) refl fits)
+
+pub gone_consents : (kept : KeptConsents) (c : Change) (name : Bor (List ℕ)) → c ≡ HookGone name → MakesConsents kept (c ∷ []) kept
+gone_consents kept c name same history m next alone is fits =
+    let meant = one_meant history m c next (told.HookGone name.now) is (ap (change_of history m) same) in
+    subst (λ n. FitsConsents kept (with_changes history m n)) (sym meant) (fits_consents-push_other kept history (event_at m (told.HookGone name.now)) refl fits)
+
+-- changes of which not one stands alone
+pub many_consents : (kept : KeptConsents) (changes : Changes) → ((c : Change) → changes ≡ One c → ⊥) → MakesConsents kept (listed changes) kept
+many_consents kept Nothing other = plain_consents kept [] tt
+many_consents kept (One c) other = absurd (other c refl)
+many_consents kept (Two a b) other = λ history m next alone. plain_consents kept (a ∷ b ∷ []) alone history m next alone
+many_consents kept (Three a b c) other = λ history m next alone. plain_consents kept (a ∷ b ∷ c ∷ []) alone history m next alone
+
+module _ {H : Type 0} (hosting : Hosting H) where
+  pub plain_host : (host : H) (cs : List Change) (checked : Checked H) → AllPlain cs → MakesHost hosting host cs checked host
+  plain_host host cs checked are first history m next alone can is run =
+      quiet_host hosting.installs hosting.removes first host history m next (all_quiet history m cs next are is) run
+
+  pub many_host : (host : H) (changes : Changes) (checked : Checked H) → ((c : Change) → changes ≡ One c → ⊥) → MakesHost hosting host (listed changes) checked host
+  many_host host Nothing checked other = plain_host host [] checked tt
+  many_host host (One c) checked other = absurd (other c refl)
+  many_host host (Two a b) checked other = λ first history m next alone. plain_host host (a ∷ b ∷ []) checked alone first history m next alone
+  many_host host (Three a b c) checked other = λ first history m next alone. plain_host host (a ∷ b ∷ c ∷ []) checked alone first history m next alone
+
+  step_host : (old new : H) (c : Change) (checked : Checked H) (wanted : happening) → ((history : List Event) (m : ℕ) → change_of history m c ≡ Some wanted) →
+      HostStep hosting.installs hosting.removes old wanted new → MakesHost hosting old (c ∷ []) checked new
+  step_host old new c checked wanted meant step first history m next alone can is run =
+      subst (λ n. HostRun hosting.installs hosting.removes first (with_changes history m n) new) (sym (one_meant history m c next wanted is (meant history m)))
+      (host_push hosting.installs hosting.removes first old new history (event_at m wanted) run step)
+
+  pub consented_host : (host : H) (c : Change) (checked : Checked H) (owner client mask : ℕ) → c ≡ Consented owner client mask → MakesHost hosting host (c ∷ []) checked host
+  consented_host host c checked owner client mask same = step_host host host c checked (told.Consented owner client mask) (λ history m. ap (change_of history m) same) refl
+
+  pub set_host : (old new : H) (c : Change) (checked : Checked H) (name : Bor (List ℕ)) (version : ℕ) (code : Bor (List ℕ)) → c ≡ HookSet name version code →
+      hosting.installs old name.now (layout_of version) code.now new → MakesHost hosting old (c ∷ []) checked new
+  set_host old new c checked name version code same done =
+      step_host old new c checked (told.HookSet name.now version code.now) (λ history m. ap (change_of history m) same) done
+
+  pub gone_host : (old new : H) (c : Change) (checked : Checked H) (name : Bor (List ℕ)) → c ≡ HookGone name → hosting.removes old name.now new → MakesHost hosting old (c ∷ []) checked new
+  gone_host old new c checked name same done = step_host old new c checked (told.HookGone name.now) (λ history m. ap (change_of history m) same) done
+
+  -- a hook is set only where it was checked
+  unset : (host : H) (name : Bor (List ℕ)) (version : ℕ) (code : Bor (List ℕ)) (checked : Checked H) → ((hook : H) → checked ≡ Installs hook → ⊥) →
+      CanMake hosting host (HookSet name version code) checked → ⊥
+  unset host name version code (Installs hook) other can = other hook refl
+  unset host name version code NoHook other can = can
+  unset host name version code Removes other can = can
+
+  pub unset_host : (old : H) (c : Change) (checked : Checked H) (name : Bor (List ℕ)) (version : ℕ) (code : Bor (List ℕ)) → c ≡ HookSet name version code →
+      ((hook : H) → checked ≡ Installs hook → ⊥) → MakesHost hosting old (c ∷ []) checked old
+  unset_host old c checked name version code same other first history m next alone can is run =
+      absurd (unset old name version code checked other (subst (λ c. CanMake hosting old c checked) same can))
+
+  -- and is gone only where it was there
+  kept_on : (host : H) (name : Bor (List ℕ)) (checked : Checked H) → (checked ≡ Removes → ⊥) → CanMake hosting host (HookGone name) checked → ⊥
+  kept_on host name (Installs hook) other can = can
+  kept_on host name NoHook other can = can
+  kept_on host name Removes other can = other refl
+
+  pub kept_host : (old : H) (c : Change) (checked : Checked H) (name : Bor (List ℕ)) → c ≡ HookGone name → (checked ≡ Removes → ⊥) → MakesHost hosting old (c ∷ []) checked old
+  kept_host old c checked name same other first history m next alone can is run =
+      absurd (kept_on old name checked other (subst (λ c. CanMake hosting old c checked) same can))
+
+  -- what is made beside the store and in it is made in the server
+  pub made : (old : Seen H) (host : H) (store : Held) (consents : KeptConsents) (cs : List Change) (checked : Checked H) →
+      MakesConsents old.consents cs consents → MakesHost hosting old.host cs checked host →
+      ((history : List Event) (next : List happening) → FitsStore old.store history old.greatest → changes_of history old.greatest cs ≡ Some next →
+      AllFollow history old.greatest next → FitsStore store (with_changes history old.greatest next) old.greatest) →
+      Makes hosting old cs checked (record { rules = old.rules; host = host; store = store; consents = consents; greatest = old.greatest })
+  made old host store consents cs checked puts runs keeps rules first history next fits is follow right alone can = record {
+    rules_are = fits.rules_are;
+    greatest_is = refl;
+    store = keeps history next fits.store is follow;
+    consents = puts history old.greatest next alone is fits.consents;
+    hosts = runs first history old.greatest next alone can is fits.hosts;
+    right = all_right-more rules history old.greatest next fits.right right;
+  }

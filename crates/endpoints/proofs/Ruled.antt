@@ -1,0 +1,380 @@
+-- A decision is a ruling that the server can carry out.
+use Rattle.std.proofs.Common.{◌≡◌, ◌≤◌, ◌⊎◌, inl, inr, ◌∙◌, ap, sym, subst, refl, ℕ, List, [], ◌∷◌, Bool, true, false, Option, Some, None, arith}
+use Rattle.std.specs.Prelude.{not, codes, Result, Ok, Err, IfOk, option_map, option_and_then}
+use Rattle.std.specs.Result.{result_ok}
+use Rattle.params.specs.Form.{read_params, value_of}
+use Rattle.clients.specs.RegistryRecord.{RegistryRecord}
+use Rattle.consent.specs.Changes.{change_of, changes_of, listed, AllFollow}
+use Rattle.consent.specs.History.{Event, with_change}
+use Rattle.consent.specs.History.{Change as happening}
+use Rattle.consent.specs.declared.change.Change.{Change}
+use Rattle.consent.specs.declared.change.Change.TheVariants.{Consented, CodeGiven, IssuedAlone, Issued, Spent, FamilyEnded, HookSet, HookGone}
+use Rattle.hook_host.specs.declared.fault.HookFault.{HookFault}
+use Rattle.hook_host.specs.declared.fault.HookFault.TheVariants as hook
+use Rattle.hook_host.specs.declared.host.HookHost.{Ghosts as Hosting}
+use Rattle.messages.specs.Asked.{Asked}
+use Rattle.messages.specs.Target.{query_of}
+use Rattle.messages.specs.declared.error.ErrorName.TheVariants.{InvalidRequest, AccessDenied}
+use Rattle.messages.specs.declared.request.Draws.{Draws}
+use Rattle.answers.specs.Halts.{Halts}
+use Rattle.answers.specs.Outcomes.{Outcome, bare, need, point, refuse}
+use Rattle.answers.specs.Replies.{reply_of}
+use Rattle.answers.specs.Requesters.{Parameters, form_of}
+use Rattle.answers.specs.Scene.{Scene}
+use Rattle.answers.specs.Told.{told}
+use Rattle.answers.specs.declared.decision.Decision.{Decision}
+use Rattle.answers.specs.declared.halt.Halt.{Halt}
+use Rattle.token_store.specs.FitsLaws.{store_history}
+use Rattle.token_endpoint.specs.FollowingLaws.{issue_token_follows}
+use Rattle.endpoints.specs.declared.reading.Reading.{Reading}
+use Rattle.endpoints.specs.declared.reading.Reading.TheVariants as reading
+use Rattle.endpoints.specs.declared.ruling.Checked.{Checked}
+use Rattle.endpoints.specs.declared.ruling.Checked.TheVariants.{NoHook, Installs, Removes}
+use Rattle.endpoints.specs.declared.ruling.Ruling.{Ruling}
+use Rattle.endpoints.specs.Bounded.{AllRightAfter}
+use Rattle.endpoints.specs.HookPaths.{by_fault, hook_change_at, hook_gone, hook_points, hook_set, hook_set_by, is_operator, version_asked, with_operator}
+use Rattle.endpoints.specs.Hosts.{IsHostFault}
+use Rattle.endpoints.specs.Making.{AllPlain, IsPlain, StandsAlone}
+use Rattle.endpoints.specs.Reading.{IsRead}
+use Rattle.endpoints.specs.Ruling.{CanMake, CanMakeAll, CanTake, RulesHooks}
+use Rattle.endpoints.specs.Rulings.{Asking, FitsNow, IsAlone, IsRuled, IsRuling, asking_of, comes_to, scene_now}
+use Rattle.endpoints.specs.Server.{Seen}
+use Rattle.endpoints.proofs.Fair.{IsConsent, IsFair, IsOneConsent, authorize_fair, consent_fair, introspect_fair, list_fair, revoke_fair}
+use Rattle.endpoints.proofs.ReadingOn.{points_of}
+use Rattle.endpoints.proofs.SoundToken.{issue_token_sound}
+use Rattle.endpoints.proofs.Stepping.{AllQuiet, IsQuiet}
+
+-- WHAT CHANGES MEAN
+
+pub same_some : {A : Type 0} (x y : A) → Some x ≡ Some y → x ≡ y
+same_some x y e = cc
+
+-- the first change means something, and those after it do
+pub record Begins (history : List Event) (m : ℕ) (c : Change) (cs : List Change) (next : List happening) : Type 0 where
+  pub first : happening
+  pub later : List happening
+  pub first_is : change_of history m c ≡ Some first
+  pub later_are : changes_of (with_change history m first) m cs ≡ Some later
+  pub next_is : next ≡ first ∷ later
+
+pub begins : (history : List Event) (m : ℕ) (c : Change) (cs : List Change) (next : List happening) →
+    changes_of history m (c ∷ cs) ≡ Some next → Begins history m c cs next
+begins history m c cs next is = by_first (change_of history m c) refl is
+  where
+    by_later : (first : happening) (o : Option (List happening)) → change_of history m c ≡ Some first → changes_of (with_change history m first) m cs ≡ o →
+        option_map (λ later. first ∷ later) o ≡ Some next → Begins history m c cs next
+    by_later first None at rest h = absurd (cc)
+    by_later first (Some later) at rest h =
+        record { first = first; later = later; first_is = at; later_are = rest; next_is = sym (same_some (first ∷ later) next h) }
+
+    by_first : (o : Option happening) → change_of history m c ≡ o →
+        option_and_then (λ change. option_map (λ later. change ∷ later) (changes_of (with_change history m change) m cs)) o ≡ Some next → Begins history m c cs next
+    by_first None at h = absurd (cc)
+    by_first (Some first) at h = by_later first (changes_of (with_change history m first) m cs) at refl h
+
+plain : (history : List Event) (m : ℕ) (c : Change) (next : happening) → change_of history m c ≡ Some next → IsQuiet next → IsPlain c
+plain history m (Consented owner client mask) next is quiet = absurd (subst IsQuiet (sym (same_some _ next is)) quiet)
+plain history m (HookSet name version code) next is quiet = absurd (subst IsQuiet (sym (same_some _ next is)) quiet)
+plain history m (HookGone name) next is quiet = absurd (subst IsQuiet (sym (same_some _ next is)) quiet)
+plain history m (CodeGiven facts digest) next is quiet = tt
+plain history m (IssuedAlone client token) next is quiet = tt
+plain history m (Issued of token) next is quiet = tt
+plain history m (Spent digest) next is quiet = tt
+plain history m (FamilyEnded of) next is quiet = tt
+
+all_plain : (history : List Event) (m : ℕ) (cs : List Change) (next : List happening) → changes_of history m cs ≡ Some next → AllQuiet next → AllPlain cs
+all_plain history m [] next is quiet = tt
+all_plain history m (c ∷ cs) next is quiet =
+    let b = begins history m c cs next is in
+    let both = subst AllQuiet b.next_is quiet in
+    (plain history m c b.first b.first_is both.0, all_plain (with_change history m b.first) m cs b.later b.later_are both.1)
+
+-- one change at most
+abbrev pub IsAtMostOne : List happening → Type 0
+IsAtMostOne [] = Unit {0}
+IsAtMostOne (c ∷ []) = Unit {0}
+IsAtMostOne (c ∷ _ ∷ _) = ⊥
+
+at_most_one : (next : List happening) → IsOneConsent next → IsAtMostOne next
+at_most_one [] one = tt
+at_most_one (c ∷ []) one = tt
+at_most_one (c ∷ d ∷ later) one = one
+
+few_alone : (history : List Event) (m : ℕ) (cs : List Change) (next : List happening) → changes_of history m cs ≡ Some next → IsAtMostOne next → StandsAlone cs
+few_alone history m [] next is few = tt
+few_alone history m (c ∷ []) next is few = tt
+few_alone history m (c ∷ d ∷ cs) next is few =
+    let a = begins history m c (d ∷ cs) next is in
+    let b = begins (with_change history m a.first) m d cs a.later a.later_are in
+    absurd (subst IsAtMostOne (a.next_is ∙ ap (λ l. a.first ∷ l) b.next_is) few)
+
+quiet_alone : (history : List Event) (m : ℕ) (cs : List Change) (next : List happening) → changes_of history m cs ≡ Some next → AllQuiet next → StandsAlone cs
+quiet_alone history m [] next is quiet = tt
+quiet_alone history m (c ∷ []) next is quiet = tt
+quiet_alone history m (c ∷ d ∷ cs) next is quiet = all_plain history m (c ∷ d ∷ cs) next is quiet
+
+pub tame_alone : (history : List Event) (m : ℕ) (cs : List Change) (next : List happening) → changes_of history m cs ≡ Some next →
+    AllQuiet next ⊎ IsOneConsent next → StandsAlone cs
+tame_alone history m cs next is (inl quiet) = quiet_alone history m cs next is quiet
+tame_alone history m cs next is (inr one) = few_alone history m cs next is (at_most_one next one)
+
+-- WITHOUT A CHANGE OF THE HOOKS
+
+module _ {H : Type 0} (hosting : Hosting H) where
+  made : (host : H) (history : List Event) (m : ℕ) (c : Change) (next : happening) → change_of history m c ≡ Some next →
+      IsQuiet next ⊎ IsConsent next → CanMake hosting host c NoHook
+  made host history m (HookSet name version code) next is (inl quiet) = absurd (subst IsQuiet (sym (same_some _ next is)) quiet)
+  made host history m (HookSet name version code) next is (inr one) = absurd (subst IsConsent (sym (same_some _ next is)) one)
+  made host history m (HookGone name) next is (inl quiet) = absurd (subst IsQuiet (sym (same_some _ next is)) quiet)
+  made host history m (HookGone name) next is (inr one) = absurd (subst IsConsent (sym (same_some _ next is)) one)
+  made host history m (Consented owner client mask) next is tame = tt
+  made host history m (CodeGiven facts digest) next is tame = tt
+  made host history m (IssuedAlone client token) next is tame = tt
+  made host history m (Issued of token) next is tame = tt
+  made host history m (Spent digest) next is tame = tt
+  made host history m (FamilyEnded of) next is tame = tt
+
+  made_all : (host : H) (history : List Event) (m : ℕ) (cs : List Change) (next : List happening) → changes_of history m cs ≡ Some next →
+      AllQuiet next ⊎ IsOneConsent next → CanMakeAll hosting host cs NoHook
+  made_all host history m [] next is tame = tt
+  made_all host history m (c ∷ d ∷ cs) next is tame = tt
+  made_all host history m (c ∷ []) next is tame =
+      let b = begins history m c [] next is in
+      let alone : b.later ≡ [] = sym (same_some [] b.later b.later_are) in
+      made host history m c b.first b.first_is (by_tame b.first (b.next_is ∙ ap (λ l. b.first ∷ l) alone) tame)
+    where
+      by_tame : (first : happening) → next ≡ first ∷ [] → AllQuiet next ⊎ IsOneConsent next → IsQuiet first ⊎ IsConsent first
+      by_tame first same (inl quiet) = inl ((subst AllQuiet same quiet).0)
+      by_tame first same (inr one) = inr (subst IsOneConsent same one)
+
+  pub told_changes : (s : Scene) (d : Decision) (o : Outcome) → told s d ≡ Some o → changes_of s.history s.moment (listed d.changes) ≡ Some o.changes
+  told_changes s d o is = by_changes (changes_of s.history s.moment (listed d.changes)) is
+    where
+      by_changes : (changes : Option (List happening)) →
+          option_map (λ changes. record { reply = reply_of s.rules s.names d.answer; changes = changes }) changes ≡ Some o → changes ≡ Some o.changes
+      by_changes None h = absurd (cc)
+      by_changes (Some changes) h = ap (λ (o : Outcome). Some o.changes) (same_some _ o h)
+
+  pub told_reply : (s : Scene) (d : Decision) (o : Outcome) → told s d ≡ Some o → o.reply ≡ reply_of s.rules s.names d.answer
+  told_reply s d o is = by_changes (changes_of s.history s.moment (listed d.changes)) is
+    where
+      by_changes : (changes : Option (List happening)) →
+          option_map (λ changes. record { reply = reply_of s.rules s.names d.answer; changes = changes }) changes ≡ Some o → o.reply ≡ reply_of s.rules s.names d.answer
+      by_changes None h = absurd (cc)
+      by_changes (Some changes) h = ap (λ (o : Outcome). o.reply) (sym (same_some _ o h))
+
+  -- an outcome without a change of the hooks
+  pub alone_ruling : (server : Seen H) (history : List Event) (asking : Asking) (d : Decision) →
+      IsFair server.rules history server.greatest (comes_to hosting server history asking None) →
+      told (scene_now hosting server history asking.draws) d ≡ Some (comes_to hosting server history asking None) →
+      IsRuling hosting server history asking (record { decision = d; checked = NoHook })
+  alone_ruling server history asking d fair is =
+      let changes = told_changes (scene_now hosting server history asking.draws) d (comes_to hosting server history asking None) is in
+      record {
+        fault = None;
+        host_has = tt;
+        told_is = is;
+        follow = fair.follow;
+        right = fair.right;
+        alone = tame_alone history server.greatest (listed d.changes) _ changes fair.tame;
+        hooks = made_all server.host history server.greatest (listed d.changes) _ changes fair.tame;
+      }
+
+  -- each endpoint's is fair that changes no hooks
+  pub alone_fair : (server : Seen H) (first : H) (history : List Event) (asked : Asked) (what : Reading) (draws : Draws) → IsAlone what →
+      FitsNow hosting server first history → IsFair server.rules history server.greatest (comes_to hosting server history (asking_of asked what draws) None)
+  alone_fair server first history asked (reading.Authorize params) draws alone fits =
+      authorize_fair server.rules history server.greatest (store_history server.store history server.greatest fits.store) asked draws.first
+  alone_fair server first history asked reading.GiveConsent draws alone fits =
+      consent_fair server.rules history server.greatest (store_history server.store history server.greatest fits.store) asked
+  alone_fair server first history asked reading.IssueToken draws alone fits =
+      let is = store_history server.store history server.greatest fits.store in
+      let sound = issue_token_sound server.rules history server.greatest (hosting.answer server.host) asked draws is fits.right in
+      record { follow = issue_token_follows server.rules history (hosting.answer server.host) asked server.greatest draws is; right = sound.right; tame = inl sound.quiet }
+  alone_fair server first history asked reading.RevokeToken draws alone fits =
+      revoke_fair server.rules history server.greatest (store_history server.store history server.greatest fits.store) asked
+  alone_fair server first history asked reading.Introspect draws alone fits =
+      introspect_fair server.rules history server.greatest (store_history server.store history server.greatest fits.store) asked
+  alone_fair server first history asked reading.ListHooks draws alone fits =
+      list_fair server.rules history server.greatest (store_history server.store history server.greatest fits.store) (hosting.names server.host) asked
+  alone_fair server first history asked (reading.InstallHook params) draws alone fits = absurd alone
+  alone_fair server first history asked (reading.RemoveHook params) draws alone fits = absurd alone
+
+-- what is read that asks for no hook and takes none away
+pub alone_of : (what : Reading) → ((p : Parameters) → what ≡ reading.InstallHook p → ⊥) → ((p : Parameters) → what ≡ reading.RemoveHook p → ⊥) → IsAlone what
+alone_of (reading.InstallHook params) one other = absurd (one params refl)
+alone_of (reading.RemoveHook params) one other = absurd (other params refl)
+alone_of (reading.Authorize params) one other = tt
+alone_of reading.GiveConsent one other = tt
+alone_of reading.IssueToken one other = tt
+alone_of reading.RevokeToken one other = tt
+alone_of reading.Introspect one other = tt
+alone_of reading.ListHooks one other = tt
+
+-- CHANGES OF THE HOOKS
+
+-- an outcome that shows which change there is
+probe : Option happening → Outcome
+probe None = bare 200
+probe (Some change) = record { reply = (bare 200).reply; changes = change ∷ [] }
+
+first_change : Outcome → Option happening
+first_change o = first_of o.changes
+  where
+    first_of : List happening → Option happening
+    first_of [] = None
+    first_of (c ∷ cs) = Some c
+
+probed : (o : Option happening) → first_change (probe o) ≡ o
+unfolding first_change probe
+probed None = refl
+probed (Some change) = refl
+
+probe_status : (o : Option happening) → (probe o).reply.status ≡ 200
+unfolding probe
+probe_status None = refl
+probe_status (Some change) = refl
+
+no_error : (n : ℕ) → 400 ≤ n → n ≡ 200 → ⊥
+no_error n more is = omega arith
+
+-- what the points lead on to with any outcome is what was read
+pub read_same : (operator : Bool) (o : Option Parameters) (params : Parameters) (change : Parameters → Option happening) →
+    ((next : Parameters → Outcome) → point (not operator) (refuse AccessDenied) (need o (refuse InvalidRequest) next) ≡ next params) →
+    option_and_then change o ≡ change params
+read_same false o params change leads =
+    let h = ap (λ (o : Outcome). o.reply.status) (leads (λ p. probe (change p))) ∙ probe_status (change params) in absurd (no_error 403 (omega arith) h)
+read_same true None params change leads =
+    let h = ap (λ (o : Outcome). o.reply.status) (leads (λ p. probe (change p))) ∙ probe_status (change params) in absurd (no_error 400 (omega arith) h)
+read_same true (Some p) params change leads =
+    sym (probed (change p)) ∙ ap first_change (leads (λ p. probe (change p))) ∙ probed (change params)
+
+abbrev pub IsHooks : happening → Type 0
+IsHooks (happening.HookSet name version code) = Unit {0}
+IsHooks (happening.HookGone name) = Unit {0}
+IsHooks (happening.Consented owner client mask) = ⊥
+IsHooks (happening.CodeGiven family client owner scope redirect challenge digest) = ⊥
+IsHooks (happening.Issued family client owner kind digest scope life) = ⊥
+IsHooks (happening.Spent digest) = ⊥
+IsHooks (happening.FamilyEnded family) = ⊥
+
+-- at most one change, which is of the hooks
+abbrev pub IsOneOfHooks : List happening → Type 0
+IsOneOfHooks [] = Unit {0}
+IsOneOfHooks (c ∷ []) = IsHooks c
+IsOneOfHooks (c ∷ _ ∷ _) = ⊥
+
+one_follows : (history : List Event) (m : ℕ) (cs : List happening) → IsOneOfHooks cs → AllFollow history m cs
+one_follows history m [] one = tt
+one_follows history m (c ∷ d ∷ cs) one = absurd one
+one_follows history m (happening.HookSet name version code ∷ []) one = (tt, tt)
+one_follows history m (happening.HookGone name ∷ []) one = (tt, tt)
+one_follows history m (happening.Consented owner client mask ∷ []) one = absurd one
+one_follows history m (happening.CodeGiven family client owner scope redirect challenge digest ∷ []) one = absurd one
+one_follows history m (happening.Issued family client owner kind digest scope life ∷ []) one = absurd one
+one_follows history m (happening.Spent digest ∷ []) one = absurd one
+one_follows history m (happening.FamilyEnded family ∷ []) one = absurd one
+
+one_right : (rules : RegistryRecord) (history : List Event) (m : ℕ) (cs : List happening) → IsOneOfHooks cs → AllRightAfter rules history m cs
+one_right rules history m [] one = tt
+one_right rules history m (c ∷ d ∷ cs) one = absurd one
+one_right rules history m (happening.HookSet name version code ∷ []) one = (tt, tt)
+one_right rules history m (happening.HookGone name ∷ []) one = (tt, tt)
+one_right rules history m (happening.Consented owner client mask ∷ []) one = absurd one
+one_right rules history m (happening.CodeGiven family client owner scope redirect challenge digest ∷ []) one = absurd one
+one_right rules history m (happening.Issued family client owner kind digest scope life ∷ []) one = absurd one
+one_right rules history m (happening.Spent digest ∷ []) one = absurd one
+one_right rules history m (happening.FamilyEnded family ∷ []) one = absurd one
+
+one_few : (cs : List happening) → IsOneOfHooks cs → IsAtMostOne cs
+one_few [] one = tt
+one_few (c ∷ []) one = tt
+one_few (c ∷ d ∷ cs) one = one
+
+one_by_fault : (change : happening) (fault : Option HookFault) → IsHooks change → IsOneOfHooks (by_fault change fault).changes
+one_by_fault change None is = is
+one_by_fault change (Some hook.Memory) is = tt
+one_by_fault change (Some hook.BadName) is = tt
+one_by_fault change (Some hook.NameTaken) is = tt
+one_by_fault change (Some hook.Full) is = tt
+one_by_fault change (Some hook.Unknown) is = tt
+one_by_fault change (Some (hook.Insn f)) is = tt
+one_by_fault change (Some (hook.Verify f)) is = tt
+
+one_change : (change : Option happening) (fault : Option HookFault) → ((c : happening) → change ≡ Some c → IsHooks c) → IsOneOfHooks (hook_points change fault).changes
+one_change None fault each = tt
+one_change (Some change) fault each = one_by_fault change fault (each change refl)
+
+set_is : (params : Parameters) (code : List ℕ) (c : happening) → hook_set_by params code ≡ Some c → IsHooks c
+set_is params code c is = by_name (value_of (codes "name") params) is
+  where
+    by_version : (name : List ℕ) (o : Option ℕ) → option_map (λ version. happening.HookSet name version code) o ≡ Some c → IsHooks c
+    by_version name None h = absurd (cc)
+    by_version name (Some version) h = subst IsHooks (same_some _ c h) tt
+
+    by_name : (o : Option (List ℕ)) → option_and_then (hook_set params code) o ≡ Some c → IsHooks c
+    by_name None h = absurd (cc)
+    by_name (Some name) h = by_version name (version_asked (value_of (codes "record") params)) h
+
+gone_is : (params : Parameters) (c : happening) → hook_gone params ≡ Some c → IsHooks c
+gone_is params c is = by_name (value_of (codes "name") params) is
+  where
+    by_name : (o : Option (List ℕ)) → option_map happening.HookGone o ≡ Some c → IsHooks c
+    by_name None h = absurd (cc)
+    by_name (Some name) h = subst IsHooks (same_some _ c h) tt
+
+module _ {H : Type 0} (hosting : Hosting H) (server : Seen H) (history : List Event) (asking : Asking) (change : Option happening) where
+  hooks_ruled : (result : Result (Ruling H) Halt) → ((fault : Option HookFault) → comes_to hosting server history asking fault ≡ hook_points change fault) →
+      hook_change_at asking.endpoint asking.asked ≡ change → ((c : happening) → change ≡ Some c → IsHooks c) →
+      RulesHooks hosting server.host (scene_now hosting server history asking.draws) change result → IsRuled hosting server history asking result
+  hooks_ruled (Err halt) points same each rules = subst (λ o. Halts halt o) (sym (points None)) rules
+  hooks_ruled (Ok ruling) points same each rules =
+      let fault = rules.0 in
+      let told_is : told (scene_now hosting server history asking.draws) ruling.decision ≡ Some (comes_to hosting server history asking fault) =
+      rules.2 ∙ ap Some (sym (points fault)) in
+      let one : IsOneOfHooks (comes_to hosting server history asking fault).changes =
+      subst (λ (o : Outcome). IsOneOfHooks o.changes) (sym (points fault)) (one_change change fault each) in
+      let changes = told_changes hosting (scene_now hosting server history asking.draws) ruling.decision (comes_to hosting server history asking fault) told_is in
+      record {
+        fault = fault;
+        host_has = subst (λ c. IsHostFault hosting.refuses_install hosting.refuses_remove server.host c fault) (sym same) rules.1;
+        told_is = told_is;
+        follow = one_follows history server.greatest _ one;
+        right = one_right server.rules history server.greatest _ one;
+        alone = few_alone history server.greatest (listed ruling.decision.changes) _ changes (one_few _ one);
+        hooks = rules.3;
+      }
+
+module _ {H : Type 0} (hosting : Hosting H) (server : Seen H) (history : List Event) (asked : Asked) (params : Parameters) (draws : Draws) where
+  -- a hook that the parameters ask for
+  pub install_ruled : (result : Result (Ruling H) Halt) → IsRead server.rules asked (reading.InstallHook params) →
+      RulesHooks hosting server.host (scene_now hosting server history draws) (hook_set_by params asked.body) result →
+      IsRuled hosting server history (asking_of asked (reading.InstallHook params) draws) result
+  install_ruled result leads rules =
+      hooks_ruled hosting server history (asking_of asked (reading.InstallHook params) draws) (hook_set_by params asked.body) result
+      (λ fault. ap (with_operator server.rules asked) (points_of (result_ok (read_params (query_of asked.target))) (λ p. hook_set_by p asked.body) fault)
+      ∙ leads (λ p. hook_points (hook_set_by p asked.body) fault))
+      (read_same (is_operator server.rules asked) (result_ok (read_params (query_of asked.target))) params (λ p. hook_set_by p asked.body) leads)
+      (set_is params asked.body) rules
+
+  -- and one that they take away
+  pub remove_ruled : (result : Result (Ruling H) Halt) → IsRead server.rules asked (reading.RemoveHook params) →
+      RulesHooks hosting server.host (scene_now hosting server history draws) (hook_gone params) result →
+      IsRuled hosting server history (asking_of asked (reading.RemoveHook params) draws) result
+  remove_ruled result leads rules =
+      hooks_ruled hosting server history (asking_of asked (reading.RemoveHook params) draws) (hook_gone params) result
+      (λ fault. ap (with_operator server.rules asked) (points_of (form_of asked) hook_gone fault) ∙ leads (λ p. hook_points (hook_gone p) fault))
+      (read_same (is_operator server.rules asked) (form_of asked) params hook_gone leads)
+      (gone_is params) rules
+
+module _ {H : Type 0} (hosting : Hosting H) (host : H) where
+  can_take : (cs : List Change) (checked : Checked H) → CanMakeAll hosting host cs checked → CanTake hosting host cs checked
+  can_take cs NoHook can = tt
+  can_take cs (Installs hook) can = can
+  can_take cs Removes can = can
+
+  -- what is taken with a ruling was checked
+  pub if_can_take : (s : Scene) (change : Option happening) (result : Result (Ruling H) Halt) → RulesHooks hosting host s change result →
+      IfOk result (λ ruling. CanTake hosting host (listed ruling.decision.changes) ruling.checked)
+  if_can_take s change (Ok ruling) rules = can_take (listed ruling.decision.changes) ruling.checked rules.3
+  if_can_take s change (Err halt) rules = tt

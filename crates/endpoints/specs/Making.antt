@@ -1,0 +1,77 @@
+-- What is made of changes.
+use Rattle.std.specs.Prelude.{◌≡◌, ◌≤◌, ℕ, List, [], ◌∷◌, Some}
+use Rattle.clients.specs.RegistryRecord.{RegistryRecord}
+use Rattle.consent.specs.Changes.{changes_of, AllFollow}
+use Rattle.consent.specs.Consents.{KeptConsents, FitsConsents}
+use Rattle.consent.specs.History.{Event, Change as Happening, with_changes}
+use Rattle.consent.specs.declared.change.Change.{Change}
+use Rattle.consent.specs.declared.change.Change.TheVariants.{Consented, HookSet, HookGone}
+use Rattle.hook_host.specs.declared.host.HookHost.{Ghosts as Hosting}
+use Rattle.token_store.specs.Room.{HasRoom}
+use Rattle.endpoints.specs.Bounded.{AllRightAfter}
+use Rattle.endpoints.specs.Hosts.{HostRun}
+use Rattle.endpoints.specs.Ruling.{CanMakeAll, CanTake}
+use Rattle.endpoints.specs.declared.ruling.Checked.{Checked}
+use Rattle.endpoints.specs.Server.{Seen, FitsServer}
+
+-- the change is no consent and no hook's
+abbrev pub IsPlain : Change → Type 0
+IsPlain (Consented owner client mask) = ⊥
+IsPlain (HookSet name version code) = ⊥
+IsPlain (HookGone name) = ⊥
+IsPlain _ = Unit {0}
+
+abbrev pub AllPlain : List Change → Type 0
+AllPlain [] = Unit {0}
+AllPlain (c ∷ cs) = IsPlain c × AllPlain cs
+
+-- a consent and a change of the hooks stand alone
+abbrev pub StandsAlone : List Change → Type 0
+StandsAlone (a ∷ b ∷ cs) = AllPlain (a ∷ b ∷ cs)
+StandsAlone cs = Unit {0}
+
+-- there is room for the consent, if it is one
+abbrev pub HasConsentRoom : KeptConsents → List Change → Type 0
+HasConsentRoom kept (Consented owner client mask ∷ []) = 1 ≤ kept.room
+HasConsentRoom kept cs = Unit {0}
+
+-- there is room for the changes
+pub record HasRooms {H : Type 0} (server : Seen H) (changes : List Change) : Type 0 where
+  pub store : HasRoom server.store changes
+  pub consents : HasConsentRoom server.consents changes
+
+-- nothing has changed but what room there is
+pub record IsSame {H : Type 0} (hosting : Hosting H) (old new : Seen H) : Type 0 where
+  pub rules : new.rules ≡ old.rules
+  pub host : new.host ≡ old.host
+  pub greatest : new.greatest ≡ old.greatest
+  pub fits : (rules : RegistryRecord) (first : H) (history : List Event) (m : ℕ) →
+      FitsServer hosting.installs hosting.removes old rules first history m → FitsServer hosting.installs hosting.removes new rules first history m
+
+-- the server can make the changes of a ruling, without memory
+pub record IsReady {H : Type 0} (hosting : Hosting H) (server : Seen H) (changes : List Change) (checked : Checked H) : Type 0 where
+  pub rooms : HasRooms server changes
+  pub hook : CanTake hosting server.host changes checked
+
+-- whatever the changes mean, the consents that are kept are then those with them
+abbrev pub MakesConsents : KeptConsents → List Change → KeptConsents → Type 0
+MakesConsents old changes new =
+    (history : List Event) (m : ℕ) (next : List Happening) → StandsAlone changes → changes_of history m changes ≡ Some next →
+    FitsConsents old history → FitsConsents new (with_changes history m next)
+
+-- and so does the host come from the first one, where it can make its own change
+abbrev pub MakesHost : {H : Type 0} → Hosting H → H → List Change → Checked H → H → Type 0
+MakesHost {H = H} hosting old changes checked new =
+    (first : H) (history : List Event) (m : ℕ) (next : List Happening) → StandsAlone changes → CanMakeAll hosting old changes checked →
+    changes_of history m changes ≡ Some next → HostRun hosting.installs hosting.removes first history old →
+    HostRun hosting.installs hosting.removes first (with_changes history m next) new
+
+-- Whatever history the server fitted, it then fits that history with the changes, where they may come next and are right,
+-- stand alone if they have to, and the host can make its own.
+abbrev pub Makes : {H : Type 0} → Hosting H → Seen H → List Change → Checked H → Seen H → Type 0
+Makes {H = H} hosting old changes checked new =
+    (rules : RegistryRecord) (first : H) (history : List Event) (next : List Happening) →
+    FitsServer hosting.installs hosting.removes old rules first history old.greatest →
+    changes_of history old.greatest changes ≡ Some next → AllFollow history old.greatest next → AllRightAfter rules history old.greatest next →
+    StandsAlone changes → CanMakeAll hosting old.host changes checked →
+    FitsServer hosting.installs hosting.removes new rules first (with_changes history old.greatest next) old.greatest

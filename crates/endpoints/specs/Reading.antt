@@ -1,0 +1,49 @@
+-- What was read of a request.
+use Rattle.std.specs.Prelude.{◌≡◌, ℕ, List}
+use Rattle.clients.specs.RegistryRecord.{RegistryRecord}
+use Rattle.consent.specs.History.{Event}
+use Rattle.messages.specs.Asked.{Asked}
+use Rattle.messages.specs.declared.request.Draws.{Draws}
+use Rattle.answers.specs.Halts.{Halts}
+use Rattle.answers.specs.Outcomes.{Outcome}
+use Rattle.answers.specs.Requesters.{Parameters, with_form}
+use Rattle.answers.specs.declared.halt.Halt.{Halt}
+use Rattle.endpoints.specs.declared.endpoint.Endpoint.{Endpoint}
+use Rattle.endpoints.specs.declared.endpoint.Endpoint.TheVariants as endpoint
+use Rattle.endpoints.specs.declared.reading.Reading.{Reading}
+use Rattle.endpoints.specs.declared.reading.Reading.TheVariants.{Authorize, GiveConsent, IssueToken, RevokeToken, Introspect, InstallHook, RemoveHook, ListHooks}
+use Rattle.endpoints.specs.Authorize.{HasShortState, with_query}
+use Rattle.endpoints.specs.HookPaths.{with_operator}
+use Rattle.endpoints.specs.Hosts.{HostSays}
+use Rattle.endpoints.specs.Replies.{outcome_at}
+
+-- the endpoint that is asked
+abbrev pub endpoint_of : Reading → Endpoint
+endpoint_of (Authorize params) = endpoint.Authorize
+endpoint_of GiveConsent = endpoint.GiveConsent
+endpoint_of IssueToken = endpoint.IssueToken
+endpoint_of RevokeToken = endpoint.RevokeToken
+endpoint_of Introspect = endpoint.Introspect
+endpoint_of (InstallHook params) = endpoint.InstallHook
+endpoint_of (RemoveHook params) = endpoint.RemoveHook
+endpoint_of ListHooks = endpoint.ListHooks
+
+-- what is sent back of it is short
+abbrev pub IsShortReading : Reading → Type 0
+IsShortReading (Authorize params) = HasShortState params
+IsShortReading _ = Unit {0}
+
+-- the first points lead on to those of what was read
+abbrev pub IsRead : RegistryRecord → Asked → Reading → Type 0
+IsRead rules asked (Authorize params) = (next : Parameters → Outcome) → with_query asked next ≡ next params
+IsRead rules asked (InstallHook params) =
+    (next : Parameters → Outcome) → with_operator rules asked (with_query asked next) ≡ next params
+IsRead rules asked (RemoveHook params) =
+    (next : Parameters → Outcome) → with_operator rules asked (with_form asked next) ≡ next params
+IsRead rules asked ListHooks = (next : Outcome) → with_operator rules asked next ≡ next
+IsRead rules asked _ = Unit {0}
+
+-- or one of them ends the request
+abbrev pub EndsAt : Endpoint → RegistryRecord → Asked → Halt → Type 0
+EndsAt endpoint rules asked halt =
+    (host : HostSays) (history : List Event) (m : ℕ) (draws : Draws) → Halts halt (outcome_at endpoint rules host history asked m draws)

@@ -1,0 +1,66 @@
+//! What is read of a request before it is decided on.
+ghost use Rattle.std.specs.Prelude.{◌≡◌, ◌≤◌, IfErr, IfOk, length};
+ghost use Rattle.messages.specs.Asked.{asked_of};
+ghost use Rattle.answers.specs.Short.{state_limit};
+ghost use Rattle.endpoints.specs.Reading.{EndsAt, IsRead, IsShortReading, endpoint_of};
+
+use crate::authorize::query;
+use crate::endpoint::Endpoint;
+use crate::hooks::operator;
+use answers::{Halt, form};
+use clients::Registry;
+use messages::Request;
+use params::Params;
+use std::alloc::Global;
+
+/// What a request asks, with the parameters that a decision on it borrows from.
+#[derive(Drop)]
+pub enum Reading {
+    Authorize(Params),
+    GiveConsent,
+    IssueToken,
+    RevokeToken,
+    Introspect,
+    InstallHook(Params),
+    RemoveHook(Params),
+    ListHooks,
+}
+
+/// Reads a request at its endpoint. Of the operator's requests the key is looked at first.
+pub(crate) fn read(
+    alloc: Global,
+    rules: &Registry,
+    endpoint: Endpoint,
+    request: &Request<'_>,
+) -> Result<Reading, Halt>
+    ensures endpoint { IfOk result (λ reading. endpoint_of reading ≡ endpoint) }
+    ensures read { IfOk result (IsRead rules.now (asked_of request.entry.now)) }
+    ensures ends { IfErr result (EndsAt endpoint rules.now (asked_of request.entry.now)) }
+    ensures short { length request.entry.now.target.now ≤ state_limit → IfOk result IsShortReading }
+{
+    match endpoint {
+        Endpoint::Authorize => Ok(Reading::Authorize(query(alloc, request)?)),
+        Endpoint::GiveConsent => Ok(Reading::GiveConsent),
+        Endpoint::IssueToken => Ok(Reading::IssueToken),
+        Endpoint::RevokeToken => Ok(Reading::RevokeToken),
+        Endpoint::Introspect => Ok(Reading::Introspect),
+        Endpoint::InstallHook => {
+            operator(rules, request)?;
+            match query(alloc, request) {
+                Ok(params) => Ok(Reading::InstallHook(params)),
+                Err(halt) => Err(halt),
+            }
+        }
+        Endpoint::RemoveHook => {
+            operator(rules, request)?;
+            match form(alloc, request) {
+                Ok(params) => Ok(Reading::RemoveHook(params)),
+                Err(halt) => Err(halt),
+            }
+        }
+        Endpoint::ListHooks => {
+            operator(rules, request)?;
+            Ok(Reading::ListHooks)
+        }
+    }
+}

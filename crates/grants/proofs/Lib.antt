@@ -1,5 +1,0 @@
-pub mod TokensShort
-pub mod Issued
-pub mod Rotating
-pub mod Granting
-pub mod Exchanging

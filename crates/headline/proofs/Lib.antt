@@ -1,0 +1,4 @@
+pub mod Connections
+pub mod Talking
+pub mod Leading
+pub mod Chaining

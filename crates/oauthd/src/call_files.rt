@@ -1,0 +1,35 @@
+//! The files that a call names.
+
+ghost use Rattle.std.specs.Prelude.{◌≡◌, IfOk, IfErr};
+ghost use Rattle.oauthd.specs.Calls.{hooks_named_by};
+ghost use Rattle.oauthd.specs.Hooks.{said_of};
+ghost use Rattle.oauthd.specs.Listening.{files_in};
+ghost use Rattle.oauthd.specs.declared.fault.PerformFault.TheVariants.{OutOfMemory};
+
+use crate::call::Call;
+use crate::fault::PerformFault;
+use crate::hook_files::{HookRead, read_hooks};
+use crate::named_file::file_at;
+use std::rt::Files;
+
+/// What stands in the files that a call names.
+#[derive(Drop)]
+pub struct CallFiles<'w> {
+    /// In the file that it is about: `None` where it names none, or that cannot be read.
+    pub named: Option<Vec<u8>>,
+    /// In those of its hooks.
+    pub hooks: Vec<HookRead<'w>>,
+}
+
+/// Reads the files that a call names.
+pub fn read_files<'w>(
+    rt: &(impl Files + AllocGlobal),
+    call: &Call<'w>,
+) -> Result<CallFiles<'w>, PerformFault<'static>>
+    ensures hooks { IfOk result (λ files. said_of (files_in files).hooks ≡ hooks_named_by call.now) }
+    ensures memory { IfErr result (λ fault. fault ≡ OutOfMemory) }
+{
+    let named = file_at(rt, call.file())?;
+    let hooks = read_hooks(rt, call.hooks())?;
+    Ok(CallFiles { named, hooks })
+}

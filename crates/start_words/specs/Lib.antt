@@ -1,0 +1,4 @@
+pub mod FaultTexts
+pub mod Numbers
+pub mod Options
+pub mod Start

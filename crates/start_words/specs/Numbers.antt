@@ -1,0 +1,13 @@
+-- Numbers in decimal digits.
+use Rattle.std.specs.Prelude.{ℕ, List, length, Bool, ◌&&◌, nat_lt, if◌then◌else◌, Option, Some, None}
+use Rattle.std.specs.Char.{is_ascii_digit}
+use Rattle.std.specs.List.{list_all}
+use Rattle.std.specs.Str.Parse.{digits_value}
+
+-- one digit or more, for a number below 2^32
+abbrev pub is_number : List ℕ → Bool
+is_number text = nat_lt 0 (length text) && list_all is_ascii_digit text && nat_lt (digits_value 10 text) 0x100000000
+
+-- the number that a text says
+abbrev pub number_of : List ℕ → Option ℕ
+number_of text = if is_number text then Some (digits_value 10 text) else None

@@ -1,0 +1,56 @@
+//! Why words are not those of `start`.
+
+ghost use Rattle.std.specs.Prelude.{◌≡◌, Some};
+ghost use Rattle.start_words.specs.FaultTexts.{word_fault_text};
+ghost use Rattle.start_words.specs.declared.fault.StartFault.TheVariants.{Memory};
+
+use std::alloc::AllocError;
+use std::fmt::{self, Display, Formatter};
+
+/// What is wrong with a word.
+#[derive(Clone, Copy, Debug, PartialEq, Eq)]
+pub enum WordFault {
+    /// The address names no port.
+    NoPort,
+    /// No option has this name.
+    Unknown,
+    /// The option's value is missing.
+    NoValue,
+    /// The option's value has another form, or is out of its range.
+    BadValue,
+    /// The option was given before.
+    Twice,
+}
+
+impl Display for WordFault {
+    ghost output = { λ fault. Some (word_fault_text fault) };
+
+    fn fmt<W: fmt::Write>(&self, f: &mut Formatter<W>) -> fmt::Result {
+        match self {
+            WordFault::NoPort => write!(f, "wants a port"),
+            WordFault::Unknown => write!(f, "is not known"),
+            WordFault::NoValue => write!(f, "wants a value"),
+            WordFault::BadValue => write!(f, "has a bad value"),
+            WordFault::Twice => write!(f, "is given twice"),
+        }
+    }
+}
+
+/// Why words are not those of `start`.
+#[derive(Clone, Copy, Debug, PartialEq, Eq)]
+pub enum StartFault<'w> {
+    /// There are too few, or the numbers by place are none.
+    BadWords,
+    /// What is wrong with a word of them: the address, or the name of an option.
+    Word { word: &'w str, fault: WordFault },
+    /// Memory was refused.
+    Memory,
+}
+
+impl<'w> From<AllocError> for StartFault<'w> {
+    ghost from_gives = { λ _ fault. fault ≡ Memory };
+
+    fn from(_error: AllocError) -> StartFault<'w> {
+        StartFault::Memory
+    }
+}

@@ -1,0 +1,61 @@
+//! The options, and what their values say.
+
+ghost use Rattle.std.specs.Prelude.{◌≡◌, option_map};
+ghost use Rattle.std.specs.Str.{bytes_eq};
+ghost use Rattle.start_words.specs.Options.{above_0, hook_in, hook_said, named};
+
+use crate::number::number_of;
+use insn::layout::Layout;
+
+/// The file of a program that is installed as a hook.
+#[derive(Clone, Copy, Debug)]
+pub struct HookFile<'w> {
+    /// The hook's name.
+    pub name: &'w str,
+    /// The layout of the record that it reads.
+    pub layout: Layout,
+    /// The path of the file.
+    pub path: &'w str,
+}
+
+/// An option.
+#[derive(Clone, Copy, Debug)]
+pub enum OptionName {
+    /// `--silence SECONDS`.
+    Silence,
+    /// `--full SECONDS`.
+    Full,
+    /// `--hook NAME=FILE`, and `--hook2 NAME=FILE` for a hook that reads records of version 2.
+    Hook(Layout),
+}
+
+/// The option of a name.
+pub fn named(word: &str) -> Option<OptionName>
+    ensures { result ≡ named word.now }
+{
+    match word {
+        "--silence" => Some(OptionName::Silence),
+        "--full" => Some(OptionName::Full),
+        "--hook" => Some(OptionName::Hook(Layout::V1)),
+        "--hook2" => Some(OptionName::Hook(Layout::V2)),
+        _ => None,
+    }
+}
+
+/// The number, of seconds, that a text says, where it is not 0.
+pub fn above_0(text: &str) -> Option<u32>
+    ensures { result ≡ above_0 text.now }
+{
+    match number_of(text) {
+        Some(0) | None => None,
+        Some(seconds) => Some(seconds),
+    }
+}
+
+/// The name and the file that NAME=FILE says. The name ends at the first equals sign.
+pub fn hook_in<'w>(layout: Layout, text: &'w str) -> Option<HookFile<'w>>
+    ensures { option_map hook_said result ≡ hook_in layout text.now }
+{
+    let (name, path) = text.split_once('=')?;
+    Some(HookFile { name, layout, path })
+}

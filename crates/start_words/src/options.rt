@@ -1,0 +1,185 @@
+//! What the words behind the registry's file give.
+
+ghost use Rattle.std.specs.Prelude.{◌≡◌, ◌∷◌, ◌++◌, [], Ok, Err, OnOk, IfOk, IfErr, IfSome, IfNone, map, string_bytes, unwrap_or, option_map};
+ghost use Rattle.start_words.specs.Options.{bad_words, blamed, by_place, hook_said, is_option, IsRefused, lone_fault, nothing_said, once, options_after, options_in, placed_after, with_option};
+ghost use Rattle.start_words.specs.declared.fault.StartFault.TheVariants.{Memory};
+
+use crate::fault::{StartFault, WordFault};
+use crate::number::number_of;
+use crate::option::{HookFile, OptionName, above_0, hook_in, named};
+use std::alloc::Global;
+use std::marker::Model;
+
+/// The options of `start`.
+#[derive(Drop)]
+pub struct Options<'w> {
+    silence: Option<u32>,
+    full: Option<u32>,
+    hooks: Vec<HookFile<'w>>,
+}
+
+impl<'w> Model for Options<'w> {
+    ghost use Rattle.std.specs.Prelude.{map};
+    ghost use Rattle.start_words.specs.Options.{hook_said, Said};
+
+    ghost Value = { Said };
+
+    ghost view = { λ o. record { silence = o.silence; full = o.full; hooks = map hook_said o.hooks.items } };
+}
+
+/// The first word, where it counts by its place, and those behind it.
+fn by_place<'w>(words: &'w [String]) -> Option<(&'w str, &'w [String])>
+    ensures { option_map (λ p. (p.0.now, map string_bytes p.1.now)) result ≡ by_place (map string_bytes words.now) }
+{
+    let (word, rest) = words.split_first()?;
+    let word = word.as_str();
+    if is_option(word) {
+        return None;
+    }
+    Some((word, rest))
+}
+
+/// Whether a word begins with two hyphens.
+fn is_option(word: &str) -> bool
+    ensures { result ≡ is_option word.now }
+{
+    word.as_bytes().starts_with(b"--")
+}
+
+/// The number, unless one was said before.
+fn once(said: Option<u32>, value: Option<u32>) -> Result<Option<u32>, WordFault>
+    ensures { result ≡ once said value }
+{
+    match (said, value) {
+        (Some(_), _) => Err(WordFault::Twice),
+        (None, None) => Err(WordFault::BadValue),
+        (None, Some(value)) => Ok(Some(value)),
+    }
+}
+
+/// The fault of an option without a value.
+fn lone_fault(word: &str) -> WordFault
+    ensures { result ≡ lone_fault word.now }
+{
+    match named(word) {
+        Some(_) => WordFault::NoValue,
+        None => WordFault::Unknown,
+    }
+}
+
+impl<'w> Options<'w> {
+    /// No options.
+    fn new(alloc: Global) -> Options<'w>
+        ensures { result ≡ nothing_said }
+    {
+        Options {
+            silence: None,
+            full: None,
+            hooks: Vec::new(alloc),
+        }
+    }
+
+    /// For how many seconds a connection may take no byte of a reply: 60, where that is left out.
+    pub fn silence(&self) -> u32
+        ensures { result ≡ unwrap_or self.now.silence 60 }
+    {
+        self.silence.unwrap_or(60)
+    }
+
+    /// For how many seconds a connection may be silent where all places are taken and another one waits: 5, where that is
+    /// left out.
+    pub fn full(&self) -> u32
+        ensures { result ≡ unwrap_or self.now.full 5 }
+    {
+        self.full.unwrap_or(5)
+    }
+
+    /// The hooks, in their order.
+    pub fn hooks(&self) -> &[HookFile<'w>]
+        ensures { map hook_said result.now ≡ self.now.hooks }
+    {
+        &self.hooks
+    }
+
+    // Takes a hook.
+    fn push(&mut self, hook: HookFile<'w>) -> Result<(), StartFault<'w>>
+        ensures done { OnOk result (self.new ≡ record self.old { hooks = self.old.hooks ++ hook_said hook.entry ∷ [] }) }
+        ensures memory { IfErr result (λ fault. fault ≡ Memory) }
+    {
+        let Ok(()) = self.hooks.push(hook) else {
+            return Err(StartFault::Memory);
+        };
+        Ok(())
+    }
+
+    // Takes an option and its value.
+    fn take(&mut self, word: &'w str, value: &'w str) -> Result<(), StartFault<'w>>
+        ensures done { OnOk result (with_option self.old word.now value.now ≡ Ok self.new) }
+        ensures refused { IfErr result (λ fault. IsRefused (blamed word.now (with_option self.old word.now value.now)) fault) }
+    {
+        let blame = |fault| StartFault::Word { word, fault };
+        match named(word).ok_or(WordFault::Unknown).map_err(blame)? {
+            OptionName::Silence => self.silence = once(self.silence, above_0(value)).map_err(
+                blame,
+            )?,
+            OptionName::Full => self.full = once(self.full, number_of(value)).map_err(blame)?,
+            OptionName::Hook(layout) => {
+                let hook = hook_in(layout, value)
+                    .ok_or(WordFault::BadValue)
+                    .map_err(blame)?;
+                self.push(hook)?;
+            }
+        }
+        Ok(())
+    }
+
+    // Takes options, two words each.
+    fn take_all(&mut self, words: &'w [String]) -> Result<(), StartFault<'w>>
+        ensures done { OnOk result (options_after self.old (map string_bytes words.now) ≡ Ok self.new) }
+        ensures refused { IfErr result (IsRefused (options_after self.old (map string_bytes words.now))) }
+    {
+        let mut rest = words;
+        while let Some((word, behind)) = rest.split_first() {
+            let word = word.as_str();
+            let Some((value, behind)) = behind.split_first() else {
+                let fault = lone_fault(word);
+                return Err(StartFault::Word { word, fault });
+            };
+            self.take(word, value.as_str())?;
+            rest = behind;
+        }
+        Ok(())
+    }
+
+    // Takes the numbers that count by their places, and gives the words behind them.
+    fn take_places(&mut self, words: &'w [String]) -> Option<&'w [String]>
+        ensures some { IfSome result (λ rest. placed_after self.old (map string_bytes words.now) ≡ Ok (self.new, map string_bytes rest.now)) }
+        ensures none { IfNone result (placed_after self.old (map string_bytes words.now) ≡ Err bad_words) }
+    {
+        let Some((silence, words)) = by_place(words) else {
+            return Some(words);
+        };
+        self.silence = Some(above_0(silence)?);
+        let Some((full, words)) = by_place(words) else {
+            return Some(words);
+        };
+        self.full = Some(number_of(full)?);
+        match by_place(words) {
+            Some(_) => None,
+            None => Some(words),
+        }
+    }
+
+    /// The options that the words behind the registry's file say.
+    pub fn read(alloc: Global, words: &'w [String]) -> Result<Options<'w>, StartFault<'w>>
+        ensures done { IfOk result (λ options. options_in (map string_bytes words.now) ≡ Ok options) }
+        ensures refused { IfErr result (IsRefused (options_in (map string_bytes words.now))) }
+    {
+        let mut options = Options::new(alloc);
+        let Some(rest) = options.take_places(words) else {
+            return Err(StartFault::BadWords);
+        };
+        options.take_all(rest)?;
+        Ok(options)
+    }
+}

@@ -1,0 +1,69 @@
+//! POST /token with grant_type client_credentials (RFC 6749, section 4.4).
+ghost use Rattle.std.specs.Prelude.{Ok, IfOk};
+ghost use Rattle.answers.specs.Scene.{known_of};
+ghost use Rattle.answers.specs.Short.{IsShortAnswer};
+ghost use Rattle.answers.specs.Told.{DecidesBy};
+ghost use Rattle.token_endpoint.specs.Points.{credentials_in, granted_in};
+
+use crate::granting::{Wish, access_token, ask_for};
+use answers::{Answer, Decision, Halt, KnownClient, View, scope_within};
+use clients::ClientNo;
+use consent::{Change, Changes};
+use hook_host::{HookHost, decided};
+use hook_record::{Kind, Narrowed};
+use messages::ErrorName;
+use params::Params;
+
+// An access token of the client's own, in a family of its own.
+fn issue_own<'c>(view: &View<'_>, client: ClientNo, scope: u64, life: u32) -> Decision<'c>
+    ensures decides { DecidesBy view.now (Ok result) (λ s. granted_in s client (Narrowed.Allowed scope life)) }
+    ensures short { IsShortAnswer result.answer }
+{
+    let token = access_token(view, scope, life);
+    let first = token.digest;
+    if !view.is_free(&[first]) {
+        return Decision::unavailable();
+    }
+    Decision {
+        answer: Answer::Access {
+            draw: view.draws.first,
+            scope,
+            life,
+        },
+        changes: Changes::One(Change::IssuedAlone { client, token }),
+    }
+}
+
+// By what the host leaves.
+fn granted<'c>(view: &View<'_>, client: ClientNo, left: Narrowed) -> Result<Decision<'c>, Halt>
+    ensures decides { DecidesBy view.now result (λ s. granted_in s client left) }
+    ensures short { IfOk result (λ decision. IsShortAnswer decision.answer) }
+{
+    match left {
+        Narrowed::Denied => Err(Halt::Refuse(ErrorName::UnauthorizedClient)),
+        Narrowed::EmptyScope => Err(Halt::Refuse(ErrorName::InvalidScope)),
+        Narrowed::Allowed { scope, life } => Ok(issue_own(view, client, scope, life)),
+    }
+}
+
+/// Decides on a grant to a client itself.
+pub(crate) fn client_credentials<'c, H: HookHost>(
+    view: &View<'_>,
+    host: &H,
+    params: &Params,
+    known: &KnownClient<'_>,
+) -> Result<Decision<'c>, Halt>
+    ensures decides { DecidesBy view.now result (λ s. credentials_in s (H.answer host.now) params.now (known_of known.now)) }
+    ensures short { IfOk result (λ decision. IsShortAnswer decision.answer) }
+{
+    let Some(scope) = scope_within(view.rules, known.client.allowed(), params) else {
+        return Err(Halt::Refuse(ErrorName::InvalidScope));
+    };
+    let wish = Wish {
+        kind: Kind::ClientCredentials,
+        owner: None,
+        scope,
+    };
+    let ask = ask_for(view, known, wish);
+    granted(view, known.number, decided(host, &ask))
+}

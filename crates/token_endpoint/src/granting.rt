@@ -1,0 +1,140 @@
+//! What a host is asked, and the tokens that are issued.
+ghost use Rattle.std.specs.Prelude.{◌≡◌, List, Ok};
+ghost use Rattle.consent.specs.History.{Event};
+ghost use Rattle.answers.specs.Scene.{Shows, known_of};
+ghost use Rattle.answers.specs.Short.{IsShortAnswer};
+ghost use Rattle.answers.specs.Told.{DecidesOf};
+ghost use Rattle.token_endpoint.specs.Issuing.{access_token, refresh_token};
+ghost use Rattle.token_endpoint.specs.Points.{access_for, both_for, wished};
+
+use answers::{Answer, Decision, KnownClient, View};
+use consent::{Change, Changes, NewToken, OwnerNo, TokenKind};
+use hook_record::{Ask, Kind};
+use messages::ErrorName;
+use pkce::digest_of;
+use token_store::Found;
+
+/// What is to be granted: its kind, the owner, if there is one, and the scope that is asked for.
+#[derive(Clone, Copy)]
+pub(crate) struct Wish {
+    pub(crate) kind: Kind,
+    pub(crate) owner: Option<OwnerNo>,
+    pub(crate) scope: u64,
+}
+
+// The ask of a grant to the client.
+pub(crate) fn ask_for(view: &View<'_>, known: &KnownClient<'_>, wish: Wish) -> Ask
+    ensures { (history : List Event) → Shows view.now history → result ≡ wished view.now history (known_of known.now) wish }
+{
+    let owner = match wish.owner {
+        Some(owner) => u64::from(owner.get()),
+        None => 0,
+    };
+    Ask {
+        kind: wish.kind,
+        now: view.moment.get(),
+        client: u64::from(known.number.get()),
+        owner,
+        asked: wish.scope,
+        scope: wish.scope,
+        life: view.rules.access_life(),
+        allowed: known.client.allowed(),
+        consented: view.consented(wish.owner, known.number),
+        access_limit: view.rules.access_life(),
+        refresh_limit: view.rules.refresh_life(),
+    }
+}
+
+// The access token of the first draw.
+pub(crate) fn access_token(view: &View<'_>, scope: u64, life: u32) -> NewToken
+    ensures { result ≡ access_token view.now.draws.now scope life }
+{
+    NewToken {
+        kind: TokenKind::Access,
+        digest: digest_of(&view.draws.first),
+        scope,
+        life,
+    }
+}
+
+// The refresh token of the second draw.
+fn refresh_token(view: &View<'_>, scope: u64) -> NewToken
+    ensures { result ≡ refresh_token view.now.rules.now view.now.draws.now scope }
+{
+    NewToken {
+        kind: TokenKind::Refresh,
+        digest: digest_of(&view.draws.second),
+        scope,
+        life: view.rules.refresh_life(),
+    }
+}
+
+// invalid_grant, with which the family of what the digest names ends.
+pub(crate) fn ending<'c>(of: [u8; 32]) -> Decision<'c>
+    ensures { result ≡ record { answer = Answer.Failure ErrorName.InvalidGrant; changes = Changes.One (Change.FamilyEnded of) } }
+{
+    Decision {
+        answer: Answer::Failure(ErrorName::InvalidGrant),
+        changes: Changes::One(Change::FamilyEnded { of }),
+    }
+}
+
+// An access token in the family of what is used up, which is spent.
+pub(crate) fn access_for<'c>(
+    view: &View<'_>,
+    digest: &[u8; 32],
+    used: &Found<'_>,
+    scope: u64,
+    life: u32,
+) -> Decision<'c>
+    ensures decides { DecidesOf view.now digest.now used.now (Ok result) (λ s used. access_for s used scope life) }
+    ensures short { IsShortAnswer result.answer }
+{
+    let token = access_token(view, scope, life);
+    let first = token.digest;
+    if !view.is_free(&[first]) {
+        return Decision::unavailable();
+    }
+    let of = *digest;
+    Decision {
+        answer: Answer::Access {
+            draw: view.draws.first,
+            scope,
+            life,
+        },
+        changes: Changes::Two(Change::Issued { of, token }, Change::Spent { digest: of }),
+    }
+}
+
+// And a refresh token of the scope that is kept.
+#[tactic(auto, using(crate::proofs::Meaning::both_meant))]
+pub(crate) fn both_for<'c>(
+    view: &View<'_>,
+    digest: &[u8; 32],
+    used: &Found<'_>,
+    scope: u64,
+    life: u32,
+    kept: u64,
+) -> Decision<'c>
+    ensures decides { DecidesOf view.now digest.now used.now (Ok result) (λ s used. both_for s used scope life kept) }
+    ensures short { IsShortAnswer result.answer }
+{
+    let token = access_token(view, scope, life);
+    let other = refresh_token(view, kept);
+    let first = token.digest;
+    let second = other.digest;
+    if !view.is_free(&[first, second]) {
+        return Decision::unavailable();
+    }
+    let of = *digest;
+    let access = Change::Issued { of, token };
+    let refresh = Change::Issued { of, token: other };
+    Decision {
+        answer: Answer::Both {
+            draws: *view.draws,
+            scope,
+            life,
+        },
+        changes: Changes::Three(access, refresh, Change::Spent { digest: of }),
+    }
+}

@@ -1,0 +1,94 @@
+//! POST /token with grant_type refresh_token, which rotates (RFC 6749, section 6).
+ghost use Rattle.std.specs.Prelude.{◌≡◌, List, IfSome, IfOk};
+ghost use Rattle.consent.specs.History.{Event};
+ghost use Rattle.answers.specs.Found.{IsFound};
+ghost use Rattle.answers.specs.Scene.{Finds, Shows, known_of};
+ghost use Rattle.answers.specs.Short.{IsShortAnswer};
+ghost use Rattle.answers.specs.Told.{DecidesBy, DecidesOf};
+ghost use Rattle.answers.specs.Tokens.{refresh_of_client};
+ghost use Rattle.token_endpoint.specs.Points.{refresh_in, refreshed_in};
+
+use crate::granting::{Wish, ask_for, both_for, ending};
+use answers::{Decision, Halt, KnownClient, View, digest_told, scope_within};
+use clients::ClientNo;
+use consent::{Kind, TokenKind};
+use hook_host::{HookHost, decided};
+use hook_record::Narrowed;
+use messages::ErrorName;
+use params::Params;
+use token_store::Found;
+
+// The unexpired refresh token of the digest, spent or not, which is the client's.
+fn own_token<'a>(view: &View<'a>, client: ClientNo, digest: &[u8; 32]) -> Option<Found<'a>>
+    ensures value { Finds view.now digest.now result (λ history. refresh_of_client history view.now.moment client digest.now) }
+    ensures found { (history : List Event) → Shows view.now history →
+        IfSome result (IsFound history digest.now view.now.moment) }
+    ensures own { IfSome result (λ token. token.client ≡ client) }
+{
+    let Some(found) = view.at(digest) else {
+        return None;
+    };
+    let Kind::Token(TokenKind::Refresh) = found.kind else {
+        return None;
+    };
+    if found.client != client {
+        return None;
+    }
+    Some(found)
+}
+
+// What the host leaves is issued, and the token is spent; a refused token stays unspent.
+fn refreshed<'c>(
+    view: &View<'_>,
+    digest: &[u8; 32],
+    token: &Found<'_>,
+    left: Narrowed,
+) -> Result<Decision<'c>, Halt>
+    ensures decides { DecidesOf view.now digest.now token.now result (λ s token. refreshed_in s token left) }
+    ensures short { IfOk result (λ decision. IsShortAnswer decision.answer) }
+{
+    match left {
+        Narrowed::Denied => Err(Halt::Refuse(ErrorName::InvalidGrant)),
+        Narrowed::EmptyScope => Err(Halt::Refuse(ErrorName::InvalidScope)),
+        Narrowed::Allowed { scope, life } => {
+            Ok(both_for(view, digest, token, scope, life, token.scope))
+        }
+    }
+}
+
+/// Decides on the use of a refresh token by a client.
+pub(crate) fn refresh<'c, H: HookHost>(
+    view: &View<'_>,
+    host: &H,
+    params: &Params,
+    known: &KnownClient<'_>,
+) -> Result<Decision<'c>, Halt>
+    ensures decides { DecidesBy view.now result (λ s. refresh_in s (H.answer host.now) params.now (known_of known.now)) }
+    ensures short { IfOk result (λ decision. IsShortAnswer decision.answer) }
+{
+    let Some(text) = params.get("refresh_token") else {
+        return Err(Halt::Refuse(ErrorName::InvalidRequest));
+    };
+    let Some(digest) = digest_told(text) else {
+        return Err(Halt::Refuse(ErrorName::InvalidGrant));
+    };
+    let Some(token) = own_token(view, known.number, &digest) else {
+        return Err(Halt::Refuse(ErrorName::InvalidGrant));
+    };
+    if token.spent {
+        return Ok(ending(digest));
+    }
+    if token.ended {
+        return Err(Halt::Refuse(ErrorName::InvalidGrant));
+    }
+    let Some(scope) = scope_within(view.rules, token.scope, params) else {
+        return Err(Halt::Refuse(ErrorName::InvalidScope));
+    };
+    let wish = Wish {
+        kind: hook_record::Kind::Refresh,
+        owner: token.owner,
+        scope,
+    };
+    let ask = ask_for(view, known, wish);
+    refreshed(view, &digest, &token, decided(host, &ask))
+}

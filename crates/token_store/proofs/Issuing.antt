@@ -1,0 +1,204 @@
+-- A store that keeps new tokens fits the history in which they are issued.
+use Rattle.std.proofs.Common.{◌≡◌, ◌<◌, inl, inr, ℕ, ◌+◌, List, [], ◌∷◌, ◌++◌, Option, Some, None, Bool, true, false, cond, eqb, length, refl, ap, ◌∙◌, sym, arith}
+use Rattle.std.specs.Prelude.{◌||◌, nat_le, find, is_some, option_map}
+use Rattle.std.specs.List.{list_any}
+use Rattle.std.specs.Str.{bytes_eq}
+use Rattle.std.proofs.lemmas.Bool.{eqb-true, eq-eqb, and_parts, and_from, false≢true}
+use Rattle.std.proofs.lemmas.Slice.Eq.{bytes_eq-Decides}
+use Rattle.consent.specs.Limits.{record_limit}
+use Rattle.std.specs.Prelude.{◌==◌}
+use Rattle.std.specs.Map.{values_of}
+use Rattle.consent.specs.ListLaws.{find-passes, find-one, find-some, count_by-cons}
+use Rattle.consent.specs.History.{Event, Grant, grants, grant_at, is_named, is_unexpired, is_code, is_code_of, terms_of, code_terms, has_ended, opener, is_of, has_room, are_taken, IsHome, with_change}
+use Rattle.consent.specs.GrowthLaws.{code_terms-push_other, has_ended-push_other}
+use Rattle.consent.specs.HistoryLaws.{grant_at-kin, opener-of_one, code_terms-kin, code_terms-fresh, has_ended-fresh, is_history-push}
+use Rattle.consent.specs.declared.change.NewToken.{NewToken}
+use Rattle.token_store.specs.declared.record.Record.{Record}
+use Rattle.token_store.specs.declared.record.Shared.{Shared}
+use Rattle.token_store.specs.declared.record.Given.{Given}
+use Rattle.token_store.specs.declared.record.Given.TheVariants.{Code, Token}
+use Rattle.token_store.specs.Kept.{Kept, kept_at, kept_unexpired, is_in, HasFamily}
+use Rattle.token_store.specs.Fits.{FitsBy, IsMember, seen, named, refusal_by, refusal}
+use Rattle.consent.specs.Changes.{token_issued, issued_with}
+use Rattle.token_store.specs.Records.{Place, kind_in, owner_in, kept_in, member_count, terms_by, place_of, own_place, shared_at, kept_by, all_kept, token_kept, IsUnused}
+use Rattle.token_store.proofs.Adding.{Gives, keeps_push, fits_given, fits_named}
+use Rattle.token_store.proofs.Opening.{own_unused}
+
+-- WHEN TOKENS ARE REFUSED
+
+is_some-map : {A B : Type 0} (f : A → B) (o : Option A) → is_some (option_map f o) ≡ is_some o
+is_some-map f None = refl
+is_some-map f (Some x) = refl
+
+are_taken-same : (p q : List ℕ → Bool) → ((d : List ℕ) → p d ≡ q d) → (digests : List (List ℕ)) → are_taken p digests ≡ are_taken q digests
+are_taken-same p q same [] = refl
+are_taken-same p q same (d ∷ ds) =
+    ap (λ b. b || list_any (bytes_eq d) ds || are_taken p ds) (same d) ∙ ap (λ b. q d || list_any (bytes_eq d) ds || b) (are_taken-same p q same ds)
+
+-- the store's reason is the history's
+pub same_refusal : (kept : List Kept) (history : List Event) (number : ℕ → ℕ) (moment n : ℕ) (digests : List (List ℕ)) → FitsBy kept history moment number →
+    n ≡ length digests →
+    refusal_by (nat_le (kept_unexpired kept moment + n) record_limit) (are_taken (λ d. is_some (kept_at kept d moment)) digests) ≡ refusal history moment digests
+same_refusal kept history number moment n digests fits len =
+    ap (λ x. refusal_by (nat_le (kept_unexpired kept moment + x) record_limit) (are_taken (λ d. is_some (kept_at kept d moment)) digests)) len
+    ∙ ap (λ x. refusal_by (nat_le (x + length digests) record_limit) (are_taken (λ d. is_some (kept_at kept d moment)) digests)) (fits.count moment (omega arith))
+    ∙ ap (refusal_by (has_room history moment digests))
+    (are_taken-same (λ d. is_some (kept_at kept d moment)) (λ d. is_some (grant_at history d moment)) (λ d.
+    ap is_some (fits.answers d moment (omega arith)) ∙ is_some-map (seen history number d moment) (grant_at history d moment)) digests)
+
+-- ONE TOKEN
+
+-- The place's number, client, owner, code and end are those of the family, which may be the next one
+pub record IsReady (history : List Event) (number : ℕ → ℕ) (moment family : ℕ) (place : Place) : Type 0 where
+  pub number_is : number family ≡ place.family
+  pub home : IsHome history family place.client place.owner
+  pub own : (digest : List ℕ) (h : Grant) → grant_at history digest moment ≡ Some h → number h.family ≡ number family → h.family ≡ family
+  pub terms : code_terms history family ≡ option_map (terms_by place.client place.owner) place.code_scope
+  pub ended : has_ended history family ≡ place.ended
+
+abbrev pub token_event : ℕ → ℕ → Place → NewToken → Event
+token_event moment family place token = record { moment = moment; change = token_issued family place.client place.owner token }
+
+abbrev pub token_grant : ℕ → ℕ → Place → NewToken → Grant
+token_grant moment family place token = record (token_kept place moment token).grant { family = family }
+
+fits_token : (kept : List Kept) (history : List Event) (number : ℕ → ℕ) (moment family : ℕ) (place : Place) (token : NewToken) →
+    IsReady history number moment family place → grant_at history token.digest moment ≡ None → FitsBy kept history moment number →
+    FitsBy (kept ++ token_kept place moment token ∷ []) (history ++ token_event moment family place token ∷ []) moment number
+fits_token kept history number moment family place token ready untaken fits =
+    let e = token_event moment family place token in
+    let g = token_grant moment family place token in
+    let terms : code_terms (history ++ e ∷ []) family ≡ option_map (terms_by place.client place.owner) place.code_scope = code_terms-push_other history e g family refl refl ∙ ready.terms in
+    let ended : has_ended (history ++ e ∷ []) family ≡ place.ended = has_ended-push_other history e family refl ∙ ready.ended in
+    let gives : Gives history number moment e g = record {
+      gives_it = refl;
+      ends_none = refl;
+      spends_none = λ d. refl;
+      same_terms = λ d t h at. code_terms-push_other history e g h.family refl refl;
+      own = ready.own;
+      untaken = untaken;
+      is_history = is_history-push history moment (token_issued family place.client place.owner token) fits.is_history (ready.home, untaken);
+    } in
+    fits_given kept (kept ++ token_kept place moment token ∷ []) history number moment e g (token_kept place moment token) gives
+    (sym (rw (ready.number_is, terms, ended) refl)) (keeps_push kept (token_kept place moment token) moment) fits
+
+-- IN A FAMILY OF THEIR OWN
+
+pub fits_alone : (kept : List Kept) (history : List Event) (number : ℕ → ℕ) (moment client n : ℕ) (token : NewToken) →
+    IsUnused kept moment n → grant_at history token.digest moment ≡ None → FitsBy kept history moment number →
+    FitsBy (kept ++ token_kept (own_place n client) moment token ∷ []) (with_change history moment (token_issued (length history) client 0 token)) moment (named number (length history) n)
+fits_alone kept history number moment client n token unused untaken fits =
+    let ready : IsReady history (named number (length history) n) moment (length history) (own_place n client) = record {
+      number_is = ap (λ b. cond b n (number (length history))) (eq-eqb (length history) (length history) refl);
+      home = inl refl;
+      own = λ d h at same_number. own_unused kept history number n moment d h fits unused at same_number;
+      terms = code_terms-fresh history fits.is_history.placed;
+      ended = has_ended-fresh history fits.is_history.placed;
+    } in
+    fits_token kept history (named number (length history) n) moment (length history) (own_place n client) token ready untaken (fits_named kept history number n moment fits)
+
+-- IN A FAMILY THAT THERE IS
+
+-- what the history says of an unexpired record
+record Behind (history : List Event) (number : ℕ → ℕ) (moment : ℕ) (k : Kept) : Type 0 where
+  digest : List ℕ
+  grant : Grant
+  is_named_too : grant_at history digest moment ≡ Some grant
+  is_seen : seen history number digest moment grant ≡ k
+
+behind : (kept : List Kept) (history : List Event) (number : ℕ → ℕ) (moment family : ℕ) (k : Kept) → FitsBy kept history moment number →
+    find (is_in family moment) kept ≡ Some k → Behind history number moment k
+behind kept history number moment family k fits found =
+    let passes = and_parts (eqb k.grant.family family) (is_unexpired moment k.grant) (find-passes (is_in family moment) kept k found) in
+    let named_itself = and_from (bytes_eq k.grant.digest k.grant.digest) (is_unexpired moment k.grant) ((bytes_eq-Decides k.grant.digest k.grant.digest).1 refl) passes.1 in
+    let at = find-one (λ x. is_named k.grant.digest moment x.grant) (is_in family moment) kept k (fits.once k.grant.digest) found named_itself in
+    behind_cases (grant_at history k.grant.digest moment) refl (sym (fits.answers k.grant.digest moment (omega arith)) ∙ at)
+  where
+    behind_cases : (o : Option Grant) → grant_at history k.grant.digest moment ≡ o → option_map (seen history number k.grant.digest moment) o ≡ Some k → Behind history number moment k
+    behind_cases None is h = cc
+    behind_cases (Some g) is h = record { digest = k.grant.digest; grant = g; is_named_too = is; is_seen = cc }
+
+-- a code is of a family with a code's terms
+code_has_terms : (history : List Event) (digest : List ℕ) (moment : ℕ) (h : Grant) → grant_at history digest moment ≡ Some h → is_code h.kind ≡ true → code_terms history h.family ≡ None → ⊥
+code_has_terms history digest moment h at code none =
+    let some = find-some (is_named digest moment) (is_code_of h.family) (grants history) h at (and_from (is_code h.kind) (h.family == h.family) code (eq-eqb h.family h.family refl)) in
+    no_terms (find (is_code_of h.family) (grants history)) some none
+  where
+    no_terms : (o : Option Grant) → is_some o ≡ true → option_map terms_of o ≡ None → ⊥
+    no_terms None some none = cc
+    no_terms (Some g) some none = cc
+
+-- its place is its family's
+ready_joined : (kept : List Kept) (history : List Event) (number : ℕ → ℕ) (moment family : ℕ) (g : Grant) (s : Shared) (digest : List ℕ) (r : Record) → FitsBy kept history moment number → IsMember history number moment family g →
+    find (is_in family moment) kept ≡ Some (kept_by s digest r) →
+    IsReady history number moment g.family (place_of family s) × ((s.client ≡ g.client) × (s.owner ≡ g.owner))
+ready_joined kept history number moment family g s digest r fits member found =
+    let k = kept_by s digest r in
+    let of = behind kept history number moment family k fits found in
+    let h = of.grant in
+    let number_h : number h.family ≡ k.grant.family = ap (λ x. x.grant.family) of.is_seen in
+    let number_k : k.grant.family ≡ family = eqb-true k.grant.family family (and_parts (eqb k.grant.family family) (is_unexpired moment k.grant) (find-passes (is_in family moment) kept k found)).0 in
+    let same : h.family ≡ g.family = fits.apart of.digest member.digest h g of.is_named_too member.is_named (number_h ∙ number_k ∙ sym member.number_is) in
+    let parties = opener-of_one history of.digest member.digest moment moment h g fits.is_history.kin of.is_named_too member.is_named same in
+    let client_h : h.client ≡ s.client = ap (λ x. x.grant.client) of.is_seen in
+    let terms_h : code_terms history h.family ≡ option_map (terms_by s.client s.owner) s.code_scope = ap (λ x. x.terms) of.is_seen in
+    let owner_h : h.owner ≡ s.owner =
+    owner_cases of.digest h of.is_named_too r.given (ap (λ x. x.grant.kind) of.is_seen) (ap (λ x. x.grant.owner) of.is_seen) s.code_scope terms_h in
+    let client : s.client ≡ g.client = sym client_h ∙ parties.0 in
+    let owner : s.owner ≡ g.owner = sym owner_h ∙ parties.1 in (
+      record {
+        number_is = member.number_is;
+        home = inr (ap (λ c. is_of c s.owner (opener history g.family)) client ∙ ap (λ o. is_of g.client o (opener history g.family)) owner ∙ grant_at-kin history member.digest moment g fits.is_history.kin member.is_named);
+        own = λ d i at same_number. fits.apart d member.digest i g at member.is_named same_number;
+        terms = ap (code_terms history) (sym same) ∙ terms_h;
+        ended = ap (has_ended history) (sym same) ∙ ap (λ x. x.ended) of.is_seen;
+      },
+      (client, owner),
+    )
+  where
+    owner_cases : (d : List ℕ) (h : Grant) → grant_at history d moment ≡ Some h → (given : Given) → h.kind ≡ kind_in given → h.owner ≡ owner_in s.owner given →
+        (o : Option ℕ) → code_terms history h.family ≡ option_map (terms_by s.client s.owner) o → h.owner ≡ s.owner
+    owner_cases d h at (Token token) kind owner o terms = owner
+    owner_cases d h at (Code texts) kind owner None terms = absurd (code_has_terms history d moment h at (ap is_code kind) terms)
+    owner_cases d h at (Code texts) kind owner (Some scope) terms = sym (code_terms-kin history d moment h (terms_by s.client s.owner scope) fits.is_history.kin at terms).1
+
+-- what is found of a family shows what it shares
+pub record FoundIn (families : List (Option Shared)) (es : List (List ℕ × Record)) (n : ℕ) (k : Kept) : Type 0 where
+  pub digest : List ℕ
+  pub item : Record
+  pub is : k ≡ kept_by (shared_at families n) digest item
+  pub counted : 0 < member_count es n
+
+pub found_in : (families : List (Option Shared)) (es : List (List ℕ × Record)) (n m : ℕ) (k : Kept) → find (is_in n m) (all_kept families es) ≡ Some k → FoundIn families es n k
+found_in families [] n m k found = cc
+found_in families (e ∷ es) n m k found = in_cases (is_in n m (kept_in families e)) refl found (found_in families es n m k)
+  where
+    sums : member_count (e ∷ es) n ≡ cond {A = ℕ} (eqb e.1.family n) 1 0 + member_count es n
+    sums = count_by-cons (λ x. eqb x.family n) e.1 (values_of es)
+
+    in_cases : (b : Bool) → is_in n m (kept_in families e) ≡ b → cond b (Some (kept_in families e)) (find (is_in n m) (all_kept families es)) ≡ Some k →
+        (find (is_in n m) (all_kept families es) ≡ Some k → FoundIn families es n k) → FoundIn families (e ∷ es) n k
+    in_cases true is h more =
+        let first : kept_in families e ≡ k = cc in
+        let same = (and_parts (eqb e.1.family n) (is_unexpired m (kept_in families e).grant) is).0 in
+        let number : e.1.family ≡ n = eqb-true e.1.family n same in
+        let one = ap (λ b. cond {A = ℕ} b 1 0) same in
+        record { digest = e.0; item = e.1; is = sym first ∙ ap (λ i. kept_by (shared_at families i) e.0 e.1) number; counted = omega (arith, sums, one) }
+    in_cases false is h more = let rest = more h in record { digest = rest.digest; item = rest.item; is = rest.is; counted = (let some = rest.counted in omega (arith, sums, some)) }
+
+pub fits_joined : (families : List (Option Shared)) (es : List (List ℕ × Record)) (history : List Event) (number : ℕ → ℕ) (moment family : ℕ) (g : Grant) (token : NewToken) →
+    HasFamily (all_kept families es) family moment → IsMember history number moment family g → grant_at history token.digest moment ≡ None → FitsBy (all_kept families es) history moment number →
+    FitsBy (all_kept families es ++ token_kept (place_of family (shared_at families family)) moment token ∷ []) (with_change history moment (issued_with token g)) moment number
+fits_joined families es history number moment family g token there member untaken fits = joined_cases (find (is_in family moment) (all_kept families es)) refl there
+  where
+    s : Shared
+    s = shared_at families family
+
+    joined_cases : (o : Option Kept) → find (is_in family moment) (all_kept families es) ≡ o → is_some o ≡ true →
+        FitsBy (all_kept families es ++ token_kept (place_of family s) moment token ∷ []) (with_change history moment (issued_with token g)) moment number
+    joined_cases None found h = absurd (false≢true h)
+    joined_cases (Some k) found h =
+        let of = found_in families es family moment k found in
+        let ready = ready_joined (all_kept families es) history number moment family g s of.digest of.item fits member (found ∙ ap (λ x. Some x) of.is) in
+        let all = fits_token (all_kept families es) history number moment g.family (place_of family s) token ready.0 untaken fits in
+        rw (← ready.1.0, ← ready.1.1) all

@@ -1,0 +1,17 @@
+pub mod Adding
+pub mod Changing
+pub mod Counting
+pub mod Dropping
+pub mod Expiring
+pub mod Families
+pub mod Issuing
+pub mod Looking
+pub mod Marked
+pub mod Marking
+pub mod Opening
+pub mod Remaking
+pub mod Settling
+pub mod Spending
+pub mod Telling
+pub mod Tying
+pub mod Waiting

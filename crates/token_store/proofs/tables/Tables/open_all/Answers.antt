@@ -1,0 +1,23 @@
+use Rattle.std.proofs.Common.{◌≡◌, ◌<◌, ◌+◌, ◌∷◌, ◌++◌, [], take, length, ap, ◌∙◌, sym}
+use Rattle.std.proofs.lemmas.List.{take_more}
+use Rattle.token_store.proofs.Remaking.{all_push, all_mapped, home_grown}
+use Rattle.token_store.proofs.tables.Tables.open_all.Goals as goal
+
+pub loop-kept-preserved : goal.loop-kept-preserved
+loop-kept-preserved c =
+    let rs = c.args.records.now in
+    let i = c.loop-kept.kept-index in
+    let r = c.kept-item.result in
+    let m = c.args.moment in
+    let lt : i < length rs = c.loop-kept-test.true in
+    let more : take (i + 1) rs ≡ take i rs ++ r ∷ [] = take_more rs i r lt ∙ ap (λ x. take i rs ++ x ∷ []) (sym c.kept-item.is) in
+    let n = c.loop-kept.numbers.entries in
+    let f = c.loop-kept.self.families.slots in
+    let n' = c.open_home.new.numbers.entries in
+    let f' = c.open_home.new.self.families.slots in
+    record {
+      tied = c.in_default.ensures.tied;
+      records_are = c.in_default.ensures.records ∙ c.loop-kept.invariant.records_are;
+      homes = c.in_default.ensures.homes;
+      all = rw more (all_push n' f' m (take i rs) r (all_mapped n n' f f' m (take i rs) (λ x. home_grown n n' f f' x c.in_default.ensures.grown) c.loop-kept.invariant.all) c.in_default.ensures.here);
+    }

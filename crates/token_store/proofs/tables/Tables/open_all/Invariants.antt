@@ -1,0 +1,12 @@
+use Rattle.std.proofs.Common.{◌≡◌, [], take}
+use Rattle.token_store.specs.Records.{IsTied}
+use Rattle.token_store.specs.Homes.{AreHomes, AllHome}
+use Rattle.token_store.proofs.tables.Tables.open_all.Given as goal
+
+abbrev pub invariant-loop-kept : goal.invariant-loop-kept
+invariant-loop-kept l = record {
+  tied : IsTied l.self [];
+  records_are : l.self.records.entries ≡ l.fn.self.records.entries;
+  homes : AreHomes l.numbers.entries l.self.families.slots;
+  all : AllHome l.numbers.entries l.self.families.slots l.moment (take l.kept-index l.records);
+}

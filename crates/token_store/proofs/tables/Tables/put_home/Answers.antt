@@ -1,0 +1,11 @@
+use Rattle.std.proofs.Common.{rules, ◌≡◌, false}
+use Rattle.token_store.specs.Records.{kept_of}
+use Rattle.token_store.specs.Image.{is_unexpired_record, kept_record, renumbered}
+use Rattle.token_store.specs.Homes.{renumber_by}
+use Rattle.token_store.proofs.Remaking.{expired_push}
+use Rattle.token_store.proofs.tables.Tables.put_home.Goals as goal
+
+pub returns-then-not-is_unexpired-clause-tells : goal.returns-then-not-is_unexpired-clause-tells
+returns-then-not-is_unexpired-clause-tells c =
+    let expired : is_unexpired_record c.args.moment c.args.kept.now ≡ false = search rules in
+    expired_push (kept_of c.args.self.now) (renumbered (renumber_by c.args.numbers.now.entries) (kept_record c.args.kept.now)) c.args.moment expired

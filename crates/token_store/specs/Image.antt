@@ -1,0 +1,82 @@
+-- A store's image: what it keeps, as a list, and when a store is made of it.
+use Rattle.std.specs.Prelude.{◌≡◌, ◌≤◌, ◌+◌, ℕ, List, [], Bool, Some, option_map, map, count_by, nat_lt}
+use Rattle.consent.specs.declared.grant.Kind.{Kind}
+use Rattle.consent.specs.declared.grant.Kind.TheVariants as kind
+use Rattle.consent.specs.History.{is_named}
+use Rattle.token_store.specs.declared.image.KeptKind.{KeptKind}
+use Rattle.token_store.specs.declared.image.KeptKind.TheVariants.{Code, Token}
+use Rattle.token_store.specs.declared.image.KeptRecord.{KeptRecord}
+use Rattle.token_store.specs.declared.record.Shared.{Shared}
+use Rattle.token_store.specs.Kept.{Kept, kept_at}
+use Rattle.token_store.specs.Records.{TellsSame, terms_by}
+
+abbrev pub kind_kept : KeptKind → Kind
+kind_kept (Code owner redirect challenge) = kind.Code
+kind_kept (Token token) = kind.Token token
+
+abbrev pub owner_kept : ℕ → KeptKind → ℕ
+owner_kept owner (Code o redirect challenge) = o
+owner_kept owner (Token token) = owner
+
+abbrev pub redirect_kept : KeptKind → List ℕ
+redirect_kept (Code owner redirect challenge) = redirect.now
+redirect_kept (Token token) = []
+
+abbrev pub challenge_kept : KeptKind → List ℕ
+challenge_kept (Code owner redirect challenge) = challenge.now
+challenge_kept (Token token) = []
+
+-- what the record says is kept
+abbrev pub kept_record : KeptRecord → Kept
+kept_record r = record {
+  grant = record {
+    digest = r.digest;
+    kind = kind_kept r.kind;
+    family = r.family;
+    client = r.client;
+    owner = owner_kept r.owner r.kind;
+    scope = r.scope;
+    moment = r.moment;
+    life = r.life;
+    redirect = redirect_kept r.kind;
+    challenge = challenge_kept r.kind;
+  };
+  terms = option_map (terms_by r.client r.owner) r.code_scope;
+  spent = r.spent;
+  ended = r.ended;
+}
+
+-- what the records say is kept
+abbrev pub image_of : List KeptRecord → List Kept
+image_of records = map kept_record records
+
+abbrev pub is_unexpired_record : ℕ → KeptRecord → Bool
+is_unexpired_record moment r = nat_lt moment (r.moment + r.life)
+
+-- what its family shares, without records
+abbrev pub shared_of : KeptRecord → Shared
+shared_of r = record { client = r.client; owner = r.owner; code_scope = r.code_scope; ended = r.ended; count = 0 }
+
+-- the family shares what the record says
+pub record Agrees (s : Shared) (r : KeptRecord) : Type 0 where
+  pub client : s.client ≡ r.client
+  pub owner : s.owner ≡ r.owner
+  pub code_scope : s.code_scope ≡ r.code_scope
+  pub ended : s.ended ≡ r.ended
+
+-- the same in the family with the number
+abbrev pub renumbered_to : ℕ → Kept → Kept
+renumbered_to n k = record k { grant = record k.grant { family = n } }
+
+abbrev pub renumbered : (ℕ → ℕ) → Kept → Kept
+renumbered renumber k = renumbered_to (renumber k.grant.family) k
+
+-- What is unexpired in the image is kept, its families under numbers of the store's own.
+pub record IsRestored (image kept : List Kept) (moment : ℕ) (renumber : ℕ → ℕ) : Type 0 where
+  pub tells : TellsSame (map (renumbered renumber) image) kept moment
+  pub apart : (d e : List ℕ) (j k : Kept) → kept_at image d moment ≡ Some j → kept_at image e moment ≡ Some k →
+      renumber j.grant.family ≡ renumber k.grant.family → j.grant.family ≡ k.grant.family
+
+-- two that are unexpired have one digest
+abbrev pub HasTwo : List Kept → ℕ → Type 0
+HasTwo image moment = (digest : List ℕ) × (2 ≤ count_by (λ k. is_named digest moment k.grant) image)

@@ -1,0 +1,9 @@
+pub mod Kept
+pub mod Fits
+pub mod Found
+pub mod Room
+pub mod Records
+pub mod Image
+pub mod Homes
+pub mod FaultTexts
+pub mod FitsLaws

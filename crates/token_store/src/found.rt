@@ -1,0 +1,26 @@
+//! What the store answers of a code or token.
+
+use consent::{ClientNo, Kind, Moment, OwnerNo};
+
+/// A code or token that has not expired. The texts are a code's, and empty for a token.
+#[derive(Clone, Copy)]
+pub struct Found<'a> {
+    pub kind: Kind,
+    pub client: ClientNo,
+    /// `None` where it is the client's own.
+    pub owner: Option<OwnerNo>,
+    /// One bit for each name.
+    pub scope: u64,
+    /// When it was given.
+    pub moment: Moment,
+    /// For how many seconds from then on it is good.
+    pub life: u32,
+    /// The redirect URI that the code was sent to (RFC 6749, section 4.1.3).
+    pub redirect: &'a str,
+    /// The code challenge (RFC 7636, section 4.2).
+    pub challenge: &'a str,
+    /// It was used.
+    pub spent: bool,
+    /// Its family has ended.
+    pub ended: bool,
+}

@@ -1,0 +1,178 @@
+//! A code or token as the store keeps it, and what those of a family share.
+ghost use Rattle.std.specs.Prelude.{◌≡◌, ◌+◌, ℕ, List, IfOk};
+ghost use Rattle.token_store.specs.Found.{found_seen, kept_seen};
+ghost use Rattle.token_store.specs.Records.{is_live_at, kept_by, place_of, code_shared, own_shared, code_kept, token_kept, owner_no, texts_seen, texts_given};
+
+use crate::found::Found;
+use consent::{CODE_LIFE, ClientNo, CodeFacts, Kind, Moment, NewToken, OwnerNo, TokenKind};
+use std::alloc::{AllocError, Global};
+
+/// What an authorization code has and a token has not.
+#[derive(Drop)]
+pub(crate) struct CodeTexts {
+    pub(crate) owner: OwnerNo,
+    pub(crate) redirect: String,
+    pub(crate) challenge: String,
+}
+
+/// What was given.
+#[derive(Drop)]
+pub(crate) enum Given {
+    Code(Box<CodeTexts>),
+    Token(TokenKind),
+}
+
+/// What is kept under a digest.
+#[derive(Drop)]
+pub(crate) struct Record {
+    pub(crate) given: Given,
+    pub(crate) family: usize,
+    pub(crate) scope: u64,
+    pub(crate) moment: Moment,
+    pub(crate) life: u32,
+    pub(crate) spent: bool,
+}
+
+/// What the codes and tokens of a family share.
+#[derive(Clone, Copy)]
+pub(crate) struct Shared {
+    pub(crate) client: ClientNo,
+    /// 0 where the family is the client's own.
+    pub(crate) owner: u32,
+    /// The scope of the family's code, if one opened it.
+    pub(crate) code_scope: Option<u64>,
+    pub(crate) ended: bool,
+    /// How many records are of the family.
+    pub(crate) count: usize,
+}
+
+// The owner's number, unless it is 0.
+fn owner_no(number: u32) -> Option<OwnerNo>
+    ensures { result ≡ owner_no number }
+{
+    if number == 0 {
+        return None;
+    }
+    Some(OwnerNo::new(number))
+}
+
+impl CodeTexts {
+    /// Those of a code.
+    pub(crate) fn of(alloc: Global, facts: &CodeFacts<'_>) -> Result<Box<CodeTexts>, AllocError>
+        ensures { IfOk result (λ texts. texts_seen texts ≡ texts_given facts.now) }
+    {
+        let texts = CodeTexts {
+            owner: facts.owner,
+            redirect: String::from_str(alloc, facts.redirect)?,
+            challenge: String::from_str(alloc, facts.challenge)?,
+        };
+        Ok(Box::new(alloc, texts)?)
+    }
+}
+
+impl Shared {
+    /// That of the family that a code opens, without records.
+    pub(crate) fn of_code(facts: &CodeFacts<'_>) -> Shared
+        ensures { result ≡ code_shared facts.now 0 }
+    {
+        Shared {
+            client: facts.client,
+            owner: facts.owner.get(),
+            code_scope: Some(facts.scope),
+            ended: false,
+            count: 0,
+        }
+    }
+
+    /// That of a family of the client's own, without records.
+    pub(crate) fn of_client(client: ClientNo) -> Shared
+        ensures { result ≡ own_shared client 0 }
+    {
+        Shared {
+            client,
+            owner: 0,
+            code_scope: None,
+            ended: false,
+            count: 0,
+        }
+    }
+}
+
+impl Record {
+    /// The first moment at which it is expired.
+    pub(crate) fn expiry(&self) -> u64
+        ensures { result ≡ self.now.moment + self.now.life }
+    {
+        self.moment.get() + u64::from(self.life)
+    }
+
+    pub(crate) fn is_unexpired(&self, moment: Moment) -> bool
+        ensures { result ≡ is_live_at moment self.now }
+    {
+        moment.get() < self.expiry()
+    }
+
+    /// What is answered of it.
+    pub(crate) fn found(&self, shared: &Shared) -> Found<'_>
+        ensures { (digest : List ℕ) → found_seen result ≡ kept_seen (kept_by shared.now digest self.now) }
+    {
+        let (kind, owner, redirect, challenge) = match &self.given {
+            Given::Code(texts) => (
+                Kind::Code,
+                Some(texts.owner),
+                texts.redirect.as_str(),
+                texts.challenge.as_str(),
+            ),
+            Given::Token(kind) => (Kind::Token(*kind), owner_no(shared.owner), "", ""),
+        };
+        Found {
+            kind,
+            client: shared.client,
+            owner,
+            scope: self.scope,
+            moment: self.moment,
+            life: self.life,
+            redirect,
+            challenge,
+            spent: self.spent,
+            ended: shared.ended,
+        }
+    }
+
+    /// That of a code, in the family with the number.
+    pub(crate) fn of_code(
+        texts: Box<CodeTexts>,
+        facts: &CodeFacts<'_>,
+        moment: Moment,
+        number: usize,
+    ) -> Record
+        requires { texts_seen texts ≡ texts_given facts.now }
+        ensures kept { (digest : List ℕ) (count : ℕ) →
+            kept_by (code_shared facts.now count) digest result ≡ code_kept number digest facts.now moment }
+        ensures family { result.family ≡ number }
+    {
+        Record {
+            given: Given::Code(texts),
+            family: number,
+            scope: facts.scope,
+            moment,
+            life: CODE_LIFE,
+            spent: false,
+        }
+    }
+
+    /// That of a token, in the family with the number.
+    pub(crate) fn of_token(token: &NewToken, moment: Moment, number: usize) -> Record
+        ensures kept { (shared : Shared) → kept_by shared token.now.digest result ≡ token_kept (place_of number shared) moment token.now }
+        ensures family { result.family ≡ number }
+    {
+        Record {
+            given: Given::Token(token.kind),
+            family: number,
+            scope: token.scope,
+            moment,
+            life: token.life,
+            spent: false,
+        }
+    }
+}

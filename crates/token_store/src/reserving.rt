@@ -1,0 +1,134 @@
+//! Room for changes.
+ghost use Rattle.std.specs.Prelude.{◌≡◌, ◌+◌, ℕ, List, [], ◌∷◌, OnOk, option_map};
+ghost use Rattle.consent.specs.Changes.{listed};
+ghost use Rattle.consent.specs.declared.change.Change.{Change};
+ghost use Rattle.token_store.specs.Records.{IsTied, TellsSame, kept_of, texts_seen};
+ghost use Rattle.token_store.specs.Room.{records_by, records_of, AreReady, Expects, HasRoomFor, room_of};
+
+use crate::record::{CodeTexts, Shared};
+use crate::tables::{Coming, Tables};
+use consent::{Change, Changes, CodeFacts};
+use std::alloc::{AllocError, Global};
+
+// How many codes and tokens the change gives.
+fn records_by(change: &Change<'_>) -> usize
+    ensures value { result ≡ records_by change.now }
+{
+    match change {
+        Change::CodeGiven { .. } | Change::IssuedAlone { .. } | Change::Issued { .. } => 1,
+        Change::Consented { .. }
+        | Change::Spent { .. }
+        | Change::FamilyEnded { .. }
+        | Change::HookSet { .. }
+        | Change::HookGone { .. } => 0,
+    }
+}
+
+// How many codes and tokens the changes give.
+fn records_of(changes: &Changes<'_>) -> usize
+    ensures { result ≡ records_of (listed changes.now) }
+{
+    match changes {
+        Changes::Nothing => 0,
+        Changes::One(one) => records_by(one),
+        Changes::Two(one, two) => records_by(one) + records_by(two),
+        Changes::Three(one, two, three) => records_by(one) + records_by(two) + records_by(three),
+    }
+}
+
+impl Tables {
+    // Lets go of families that nothing came to.
+    fn forget_coming(&mut self)
+        requires tied { IsTied self.old [] }
+        ensures tied { IsTied self.new [] }
+        ensures same { kept_of self.new ≡ kept_of self.old }
+        ensures none { self.new.coming.items ≡ [] }
+    {
+        while let Some(coming) = self.coming.pop() {
+            self.close_if_empty(coming.number);
+        }
+    }
+
+    // Opens a family without records, for what comes before all that room was made for.
+    fn expect(&mut self, shared: Shared, texts: Option<Box<CodeTexts>>) -> Result<(), AllocError>
+        requires tied { IsTied self.old [] }
+        requires empty { shared.count ≡ 0 }
+        ensures tied { IsTied self.new [] }
+        ensures same { kept_of self.new ≡ kept_of self.old }
+        ensures records { self.new.records ≡ self.old.records }
+        ensures order { self.new.order ≡ self.old.order }
+        ensures next { OnOk result ((changes : List Change) → AreReady self.old.families.slots (room_of self.old).coming changes →
+            Expects (room_of self.old) (room_of self.new) shared (option_map texts_seen texts) changes) }
+    {
+        self.coming.reserve(1)?;
+        let number = self.open_family(shared)?;
+        let Ok(()) = self.coming.push(Coming { number, texts }) else {
+            unreachable!()
+        };
+        Ok(())
+    }
+
+    // Makes ready for a change before all that are ready.
+    fn prepare(&mut self, alloc: Global, change: &Change<'_>) -> Result<(), AllocError>
+        requires tied { IsTied self.old [] }
+        ensures tied { IsTied self.new [] }
+        ensures same { kept_of self.new ≡ kept_of self.old }
+        ensures records { self.new.records ≡ self.old.records }
+        ensures order { self.new.order ≡ self.old.order }
+        ensures ready { OnOk result ((changes : List Change) → AreReady self.old.families.slots (room_of self.old).coming changes →
+            AreReady self.new.families.slots (room_of self.new).coming (change.now ∷ changes)) }
+    {
+        match change {
+            Change::CodeGiven { facts, .. } => {
+                let texts = CodeTexts::of(alloc, facts)?;
+                self.expect(Shared::of_code(facts), Some(texts))
+            }
+            Change::IssuedAlone { client, .. } => self.expect(Shared::of_client(*client), None),
+            Change::Issued { .. }
+            | Change::Consented { .. }
+            | Change::Spent { .. }
+            | Change::FamilyEnded { .. }
+            | Change::HookSet { .. }
+            | Change::HookGone { .. } => Ok(()),
+        }
+    }
+
+    // Makes ready for the changes, the last first.
+    fn prepare_all(&mut self, alloc: Global, changes: &Changes<'_>) -> Result<(), AllocError>
+        requires tied { IsTied self.old [] }
+        requires none { self.old.coming.items ≡ [] }
+        ensures tied { IsTied self.new [] }
+        ensures same { kept_of self.new ≡ kept_of self.old }
+        ensures records { self.new.records ≡ self.old.records }
+        ensures order { self.new.order ≡ self.old.order }
+        ensures ready { OnOk result (AreReady self.new.families.slots (room_of self.new).coming (listed changes.now)) }
+    {
+        match changes {
+            Changes::Nothing => Ok(()),
+            Changes::One(one) => self.prepare(alloc, one),
+            Changes::Two(one, two) => {
+                self.prepare(alloc, two)?;
+                self.prepare(alloc, one)
+            }
+            Changes::Three(one, two, three) => {
+                self.prepare(alloc, three)?;
+                self.prepare(alloc, two)?;
+                self.prepare(alloc, one)
+            }
+        }
+    }
+
+    /// Takes the memory that the changes need.
+    pub(crate) fn reserve(&mut self, alloc: Global, changes: &Changes<'_>) -> Result<(), AllocError>
+        requires tied { IsTied self.old [] }
+        ensures tied { IsTied self.new [] }
+        ensures same { (moment : ℕ) → TellsSame (kept_of self.old) (kept_of self.new) moment }
+        ensures room { OnOk result (HasRoomFor (room_of self.new) (listed changes.now)) }
+    {
+        let count = records_of(changes);
+        self.forget_coming();
+        self.records.reserve(count)?;
+        self.order.reserve(count)?;
+        self.prepare_all(alloc, changes)
+    }
+}

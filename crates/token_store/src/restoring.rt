@@ -1,0 +1,233 @@
+//! A store's records as a list, and tables made of such a list.
+ghost use Rattle.std.specs.Prelude.{◌≡◌, filter, ◌+◌, ◌<◌, ◌^◌, ◌⊎◌, ℕ, List, [], ◌∷◌, ◌++◌, None, Some, true, length, map, is_some, if◌then◌else◌, slice_index_or, IfOk, OnOk, IsErrOf};
+ghost use Rattle.std.specs.Str.{bytes_eq};
+ghost use Rattle.std.specs.Map.{lookup};
+ghost use Rattle.consent.specs.Limits.{record_limit};
+ghost use Rattle.consent.specs.History.{is_named, is_unexpired};
+ghost use Rattle.token_store.specs.Kept.{kept_unexpired};
+ghost use Rattle.token_store.specs.Records.{kept_by, kept_of, shared_at, HasEntered, TellsSame, IsTied};
+ghost use Rattle.token_store.specs.Image.{image_of, IsRestored, HasTwo, is_unexpired_record, kept_record, renumbered};
+ghost use Rattle.token_store.specs.Homes.{AreHomes, IsHome, AllHome, HasGrown, renumber_by};
+
+use crate::image::KeptRecord;
+use crate::record::Record;
+use crate::tables::{Tables, enter};
+use consent::Moment;
+use std::alloc::{AllocError, Global};
+use std::cmp::Reverse;
+use std::collections::HashMap;
+
+/// Why no store is made of records.
+#[derive(Clone, Copy, Debug, PartialEq, Eq)]
+pub enum RestoreFault {
+    /// More are unexpired than may be.
+    Full,
+    /// Two that are unexpired have one digest.
+    DigestTwice,
+    /// Two that are unexpired have one family, and say different things of it.
+    FamilyDiffers,
+    /// Memory was refused.
+    Memory,
+}
+
+impl Tables {
+    // Keeps a record under a digest that nothing is kept under.
+    fn put_new(&mut self, digest: &[u8; 32], new: Record) -> Result<(), AllocError>
+        requires tied { IsTied self.old [] }
+        requires open { is_some (slice_index_or self.old.families.slots new.family None) ≡ true }
+        requires absent { lookup (bytes_eq digest.now) self.old.records.entries ≡ None }
+        ensures tied { OnOk result (IsTied self.new []) }
+        ensures tells { OnOk result ((moment : ℕ) → TellsSame
+            (kept_of self.old ++ kept_by (shared_at self.old.families.slots new.family) digest.now new ∷ []) (kept_of self.new) moment) }
+        ensures entered { OnOk result (HasEntered self.old.families.slots self.new.families.slots new.family 1) }
+        ensures found { OnOk result ((d : List ℕ) → lookup (bytes_eq d) self.new.records.entries
+            ≡ (if bytes_eq digest.now d then Some new else lookup (bytes_eq d) self.old.records.entries)) }
+    {
+        // There are fewer than 2^63, and so there are of the family.
+        let _ = self.records.len();
+        self.records.reserve(1)?;
+        self.order.reserve(1)?;
+        enter(&mut self.families, new.family, 1);
+        let place = Reverse((new.expiry(), *digest));
+        let Ok(()) = self.order.push(place) else {
+            unreachable!()
+        };
+        let Ok(_) = self.records.insert(*digest, new) else {
+            unreachable!()
+        };
+        Ok(())
+    }
+
+    // Sees to it that the family of a record that is unexpired is there and shares what the record says.
+    fn open_home(
+        &mut self,
+        numbers: &mut HashMap<u64, usize>,
+        kept: &KeptRecord<'_>,
+        moment: Moment,
+    ) -> Result<(), RestoreFault>
+        requires tied { IsTied self.old [] }
+        requires homes { AreHomes numbers.old.entries self.old.families.slots }
+        ensures tied { OnOk result (IsTied self.new []) }
+        ensures records { OnOk result (self.new.records.entries ≡ self.old.records.entries) }
+        ensures homes { OnOk result (AreHomes numbers.new.entries self.new.families.slots) }
+        ensures grown { OnOk result (HasGrown numbers.old.entries self.old.families.slots numbers.new.entries self.new.families.slots) }
+        ensures here { OnOk result (is_unexpired_record moment kept.now ≡ true → IsHome numbers.new.entries self.new.families.slots kept.now) }
+        ensures full { IsErrOf result RestoreFault.Full → ⊥ }
+        ensures twice { IsErrOf result RestoreFault.DigestTwice → ⊥ }
+    {
+        if !kept.is_unexpired(moment) {
+            return Ok(());
+        }
+        if let Some(number) = numbers.get(&kept.family) {
+            let Some(shared) = self.families.get(*number) else {
+                return Err(RestoreFault::FamilyDiffers);
+            };
+            if !kept.is_of(shared) {
+                return Err(RestoreFault::FamilyDiffers);
+            }
+            return Ok(());
+        }
+        let Ok(number) = self.open_family(kept.shared()) else {
+            return Err(RestoreFault::Memory);
+        };
+        let Ok(_) = numbers.insert(kept.family, number) else {
+            return Err(RestoreFault::Memory);
+        };
+        Ok(())
+    }
+
+    // Opens the families of the unexpired records.
+    fn open_all(
+        &mut self,
+        numbers: &mut HashMap<u64, usize>,
+        records: &[KeptRecord<'_>],
+        moment: Moment,
+    ) -> Result<(), RestoreFault>
+        requires tied { IsTied self.old [] }
+        requires homes { AreHomes numbers.old.entries self.old.families.slots }
+        ensures tied { OnOk result (IsTied self.new []) }
+        ensures records { OnOk result (self.new.records.entries ≡ self.old.records.entries) }
+        ensures homes { OnOk result (AreHomes numbers.new.entries self.new.families.slots) }
+        ensures all { OnOk result (AllHome numbers.new.entries self.new.families.slots moment records.now) }
+        ensures full { IsErrOf result RestoreFault.Full → ⊥ }
+        ensures twice { IsErrOf result RestoreFault.DigestTwice → ⊥ }
+    {
+        for kept in records {
+            if let Err(fault) = self.open_home(numbers, kept, moment) {
+                return Err(fault);
+            }
+        }
+        Ok(())
+    }
+
+    // Keeps the record in its family, which is there, if it is unexpired.
+    fn put_home(
+        &mut self,
+        alloc: Global,
+        numbers: &HashMap<u64, usize>,
+        kept: &KeptRecord<'_>,
+        moment: Moment,
+    ) -> Result<(), RestoreFault>
+        requires tied { IsTied self.old [] }
+        requires home { is_unexpired_record moment kept.now ≡ true → IsHome numbers.now.entries self.old.families.slots kept.now }
+        ensures tied { OnOk result (IsTied self.new []) }
+        ensures tells { OnOk result (TellsSame (kept_of self.old ++ renumbered (renumber_by numbers.now.entries) (kept_record kept.now) ∷ []) (kept_of self.new) moment) }
+        ensures homes { OnOk result ((r : KeptRecord) → IsHome numbers.now.entries self.old.families.slots r → IsHome numbers.now.entries self.new.families.slots r) }
+        ensures found { OnOk result ((d : List ℕ) → is_some (lookup (bytes_eq d) self.new.records.entries) ≡ true →
+            (is_some (lookup (bytes_eq d) self.old.records.entries) ≡ true) ⊎ (is_named d moment (kept_record kept.now).grant ≡ true)) }
+        ensures full { IsErrOf result RestoreFault.Full →
+            (is_unexpired_record moment kept.now ≡ true) × (record_limit < kept_unexpired (kept_of self.old) moment + 1) }
+        ensures twice { IsErrOf result RestoreFault.DigestTwice →
+            (is_unexpired_record moment kept.now ≡ true) × (is_some (lookup (bytes_eq kept.now.digest) self.old.records.entries) ≡ true) }
+    {
+        if !kept.is_unexpired(moment) {
+            return Ok(());
+        }
+        if self.is_full(1, moment) {
+            return Err(RestoreFault::Full);
+        }
+        if self.records.contains_key(&kept.digest) {
+            return Err(RestoreFault::DigestTwice);
+        }
+        let Some(number) = numbers.get(&kept.family) else {
+            return Err(RestoreFault::FamilyDiffers);
+        };
+        let Ok(record) = kept.record(alloc, *number) else {
+            return Err(RestoreFault::Memory);
+        };
+        let Ok(()) = self.put_new(&kept.digest, record) else {
+            return Err(RestoreFault::Memory);
+        };
+        Ok(())
+    }
+
+    // Keeps the unexpired records.
+    fn put_all(
+        &mut self,
+        alloc: Global,
+        numbers: &HashMap<u64, usize>,
+        records: &[KeptRecord<'_>],
+        moment: Moment,
+    ) -> Result<(), RestoreFault>
+        requires tied { IsTied self.old [] }
+        requires empty { self.old.records.entries ≡ [] }
+        requires all { AllHome numbers.now.entries self.old.families.slots moment records.now }
+        ensures tied { OnOk result (IsTied self.new []) }
+        ensures tells { OnOk result (TellsSame (map (renumbered (renumber_by numbers.now.entries)) (image_of records.now)) (kept_of self.new) moment) }
+        ensures full { IsErrOf result RestoreFault.Full → record_limit < kept_unexpired (image_of records.now) moment }
+        ensures twice { IsErrOf result RestoreFault.DigestTwice → HasTwo (image_of records.now) moment }
+    {
+        for kept in records {
+            if let Err(fault) = self.put_home(alloc, numbers, kept, moment) {
+                return Err(fault);
+            }
+        }
+        Ok(())
+    }
+
+    /// The unexpired records.
+    pub(crate) fn kept_records(
+        &self,
+        alloc: Global,
+        moment: Moment,
+    ) -> Result<Vec<KeptRecord<'_>>, AllocError>
+        requires tied { IsTied self.now [] }
+        ensures { IfOk result (λ v. image_of v.items ≡ filter (λ k. is_unexpired moment k.grant) (kept_of self.now)) }
+    {
+        let mut kept = Vec::new(alloc);
+        for (digest, record) in self.records.iter() {
+            if !record.is_unexpired(moment) {
+                continue;
+            }
+            let Some(shared) = self.families.get(record.family) else {
+                continue;
+            };
+            let Ok(()) = kept.push(record.kept(digest, shared)) else {
+                return Err(AllocError);
+            };
+        }
+        Ok(kept)
+    }
+
+    /// The tables that keep what is unexpired of the records.
+    pub(crate) fn restored(
+        alloc: Global,
+        records: &[KeptRecord<'_>],
+        moment: Moment,
+    ) -> Result<Tables, RestoreFault>
+        ensures tied { IfOk result (λ t. IsTied t []) }
+        ensures restored { IfOk result (λ t. (renumber : ℕ → ℕ) × IsRestored (image_of records.now) (kept_of t) moment renumber) }
+        ensures full { IsErrOf result RestoreFault.Full → record_limit < kept_unexpired (image_of records.now) moment }
+        ensures twice { IsErrOf result RestoreFault.DigestTwice → HasTwo (image_of records.now) moment }
+    {
+        let mut tables = Tables::new(alloc);
+        let mut numbers = HashMap::new(alloc);
+        if let Err(fault) = tables.open_all(&mut numbers, records, moment) {
+            return Err(fault);
+        }
+        if let Err(fault) = tables.put_all(alloc, &numbers, records, moment) {
+            return Err(fault);
+        }
+        Ok(tables)
+    }
+}

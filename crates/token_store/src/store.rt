@@ -1,0 +1,132 @@
+//! The store of codes and tokens.
+ghost use Rattle.std.specs.Prelude.{◌≡◌, ◌<◌, ℕ, List, [], Some, length, option_map, OnOk, IfOk, IsErrOf};
+ghost use Rattle.consent.specs.Limits.{record_limit};
+ghost use Rattle.consent.specs.History.{Event, Change, unexpired_count, with_changes};
+ghost use Rattle.consent.specs.Changes.{changes_of, listed, AllFollow};
+ghost use Rattle.consent.specs.Seen.{seen_at};
+
+use crate::fault::StoreFault;
+use crate::found::Found;
+use crate::image::KeptRecord;
+use crate::restoring::RestoreFault;
+use crate::tables::Tables;
+use consent::{Changes, Moment};
+use std::alloc::{AllocError, Global};
+use std::marker::Model;
+
+/// The codes and tokens that were given.
+#[derive(Drop)]
+pub struct Store {
+    tables: Tables,
+    alloc: Global,
+}
+
+impl Model for Store {
+    ghost use Rattle.std.specs.Prelude.{[]};
+    ghost use Rattle.token_store.specs.Kept.{Held};
+    ghost use Rattle.token_store.specs.Records.{IsTied, kept_of};
+    ghost use Rattle.token_store.specs.Room.{room_of};
+
+    ghost Value = { Held };
+
+    ghost view = { λ s. record { kept = kept_of s.tables; room = room_of s.tables } };
+
+    ghost invariant = { λ s. IsTied s.tables [] };
+}
+
+impl Store {
+    ghost use Rattle.token_store.specs.Fits.{FitsHistory, FitsStore, refusal};
+    ghost use Rattle.token_store.specs.Image.{image_of, HasTwo};
+    ghost use Rattle.token_store.specs.Kept.{kept_unexpired};
+    ghost use Rattle.token_store.specs.Found.{found_seen};
+    ghost use Rattle.token_store.specs.Room.{HasRoom};
+
+    /// No codes and tokens, which later ones take memory from `alloc` for.
+    pub fn new(alloc: Global) -> Self
+        ensures { (moment : ℕ) → FitsStore result [] moment }
+    {
+        Store {
+            tables: Tables::new(alloc),
+            alloc,
+        }
+    }
+
+    /// The unexpired codes and tokens, of which a store can be made again.
+    pub fn records(&self, alloc: Global, moment: Moment) -> Result<Vec<KeptRecord<'_>>, AllocError>
+        ensures { IfOk result (λ records. (history : List Event) → FitsStore self.now history moment →
+            FitsHistory (image_of records.items) history moment) }
+    {
+        self.tables.kept_records(alloc, moment)
+    }
+
+    /// A store of these codes and tokens, without those that are expired at the moment. It answers
+    /// as one does that the records are of.
+    pub fn restored(
+        alloc: Global,
+        records: &[KeptRecord<'_>],
+        moment: Moment,
+    ) -> Result<Self, RestoreFault>
+        ensures fits { IfOk result (λ store. (history : List Event) → FitsHistory (image_of records.now) history moment →
+            FitsStore store history moment) }
+        ensures full { IsErrOf result RestoreFault.Full → record_limit < kept_unexpired (image_of records.now) moment }
+        ensures twice { IsErrOf result RestoreFault.DigestTwice → HasTwo (image_of records.now) moment }
+    {
+        let tables = match Tables::restored(alloc, records, moment) {
+            Ok(tables) => tables,
+            Err(fault) => return Err(fault),
+        };
+        Ok(Store { tables, alloc })
+    }
+
+    /// What the digest names, if it is unexpired.
+    pub fn at(&self, digest: &[u8; 32], moment: Moment) -> Option<Found<'_>>
+        ensures { (history : List Event) → FitsStore self.now history moment →
+            option_map found_seen result ≡ seen_at history digest.now moment }
+    {
+        let (record, shared) = self.tables.at(digest, moment)?;
+        Some(record.found(shared))
+    }
+
+    /// Why codes or tokens of these digests may not be given. Full comes before DrawTaken.
+    pub fn refusal(&self, digests: &[[u8; 32]], moment: Moment) -> Option<StoreFault>
+        ensures { (history : List Event) → FitsStore self.now history moment →
+            result ≡ refusal history moment digests.now }
+    {
+        self.tables.refusal(digests, moment)
+    }
+
+    /// Takes the memory that the changes need, which changes no answer.
+    pub fn reserve(&mut self, changes: &Changes<'_>) -> Result<(), AllocError>
+        ensures room { OnOk result (HasRoom self.new (listed changes.now)) }
+        ensures fits { (history : List Event) (moment : ℕ) → FitsStore self.old history moment → FitsStore self.new history moment }
+    {
+        self.tables.reserve(self.alloc, changes)
+    }
+
+    /// Makes the changes, which room was made for.
+    pub fn apply(&mut self, changes: &Changes<'_>, moment: Moment)
+        requires { HasRoom self.old (listed changes.now) }
+        ensures { (history : List Event) (next : List Change) → FitsStore self.old history moment →
+            changes_of history moment (listed changes.now) ≡ Some next → AllFollow history moment next →
+            FitsStore self.new (with_changes history moment next) moment }
+    {
+        self.tables.apply(changes, moment);
+    }
+
+    /// Lets go of what has expired, which changes no answer.
+    pub fn drop_expired(&mut self, moment: Moment)
+        ensures fits { (history : List Event) → FitsStore self.old history moment → FitsStore self.new history moment }
+        // Spent ones and those of ended families are unexpired too.
+        ensures kept { (history : List Event) → FitsStore self.old history moment →
+            length self.new.kept ≡ unexpired_count history moment }
+    {
+        self.tables.drop_expired(moment);
+    }
+
+    /// How many codes and tokens it has in memory, with those that have expired and were not let go of.
+    pub fn kept(&self) -> usize
+        ensures { result ≡ length self.now.kept }
+    {
+        self.tables.count()
+    }
+}

@@ -1,0 +1,470 @@
+//! The tables: records by digest, their order by expiry, the families, and those of each owner and client.
+ghost use Rattle.std.specs.Prelude.{◌≡◌, ◌≢◌, ◌+◌, ◌<◌, ◌≤◌, ◌^◌, ℕ, List, [], ◌∷◌, ◌++◌, None, Some, true, false, not, nat_le, if◌then◌else◌, length, count_by, map, is_some, option_map, option_copied, slice_index_or, IfOk, OnOk, OnErr};
+ghost use Rattle.std.specs.List.{list_any, IsDistinct};
+ghost use Rattle.std.specs.Str.{bytes_eq};
+ghost use Rattle.std.specs.Map.{lookup, keys_of, values_of};
+ghost use Rattle.std.specs.BTreeMap.{is_at};
+ghost use Rattle.std.specs.BinaryHeap.{heap_items, heap_len, heap_capacity};
+ghost use Rattle.std.specs.HashMap.{spare};
+ghost use Rattle.consent.specs.Limits.{record_limit};
+ghost use Rattle.consent.specs.History.{are_taken};
+ghost use Rattle.consent.specs.declared.change.Change.{Change};
+ghost use Rattle.token_store.specs.Kept.{kept_at, kept_unexpired};
+ghost use Rattle.token_store.specs.Fits.{refusal_by};
+ghost use Rattle.token_store.specs.Room.{Waits, HasSpare, HasRoomFor, room_of};
+ghost use Rattle.token_store.specs.Records.{is_live_at, kept_by, kept_of, kept_in, shared_at, IsOwned, IsNextOwned, start_of, owner_cmp, HasEntered, HasLeft, HasEnded, HasOpened, HasClosed, HasLowered, lowered_by, TellsSame, IsTied, AllLive, IsLate, Forgets, Mark, marked, spent_in};
+
+use crate::fault::StoreFault;
+use crate::record::{CodeTexts, Record, Shared};
+use consent::{ClientNo, Moment, OwnerNo, RECORD_LIMIT, is_within};
+use slab::Slab;
+use std::alloc::{AllocError, Global};
+use std::cmp::Reverse;
+use std::collections::{BTreeSet, BinaryHeap, HashMap};
+use std::ops::Bound;
+
+/// A family without records, for a code or a token that is about to come.
+#[derive(Drop)]
+pub(crate) struct Coming {
+    pub(crate) number: usize,
+    /// A code's texts.
+    pub(crate) texts: Option<Box<CodeTexts>>,
+}
+
+#[derive(Drop)]
+pub(crate) struct Tables {
+    pub(crate) records: HashMap<[u8; 32], Record>,
+    /// When each record expires, the first first. It may have places of records that are gone.
+    pub(crate) order: BinaryHeap<Reverse<(u64, [u8; 32])>>,
+    pub(crate) families: Slab<Shared>,
+    /// The families that a code opened, by its owner and client.
+    pub(crate) owners: BTreeSet<((u32, u32), usize)>,
+    /// What room was made for, the first to come at the end.
+    pub(crate) coming: Vec<Coming>,
+}
+
+impl Tables {
+    pub(crate) fn new(alloc: Global) -> Self
+        ensures tied { IsTied result [] }
+        ensures empty { kept_of result ≡ [] }
+    {
+        Tables {
+            records: HashMap::new(alloc),
+            order: BinaryHeap::new(alloc),
+            families: Slab::new(alloc),
+            owners: BTreeSet::new(alloc),
+            coming: Vec::new(alloc),
+        }
+    }
+
+    /// How many records there are.
+    pub(crate) fn count(&self) -> usize
+        ensures { result ≡ length (kept_of self.now) }
+    {
+        self.records.len()
+    }
+
+    /// The unexpired record of the digest.
+    #[tactic(auto, using(crate::proofs::Looking::found))]
+    pub(crate) fn record_at(&self, digest: &[u8; 32], moment: Moment) -> Option<&Record>
+        requires { IsDistinct bytes_eq (keys_of self.now.records.entries) }
+        ensures { option_map (λ r. kept_in self.now.families.slots (digest.now, r)) (option_copied result)
+            ≡ kept_at (kept_of self.now) digest.now moment }
+    {
+        let record = self.records.get(digest)?;
+        if !record.is_unexpired(moment) {
+            return None;
+        }
+        Some(record)
+    }
+
+    /// The unexpired record of the digest, and what its family shares.
+    pub(crate) fn at(&self, digest: &[u8; 32], moment: Moment) -> Option<(&Record, &Shared)>
+        requires { IsTied self.now [] }
+        ensures { option_map (λ p. kept_by p.1.now digest.now p.0.now) result ≡ kept_at (kept_of self.now) digest.now moment }
+    {
+        let record = self.record_at(digest, moment)?;
+        let shared = self.families.get(record.family)?;
+        Some((record, shared))
+    }
+
+    // How many records are unexpired.
+    fn count_unexpired(&self, moment: Moment) -> usize
+        requires { IsTied self.now [] }
+        ensures { result ≡ kept_unexpired (kept_of self.now) moment }
+    {
+        if self.is_none_expired(moment) {
+            return self.records.len();
+        }
+        count_live(&self.records, moment)
+    }
+
+    // Whether the first place lies behind the moment, or there is none.
+    fn is_none_expired(&self, moment: Moment) -> bool
+        requires { IsTied self.now [] }
+        ensures live { result ≡ true → AllLive self.now.records.entries moment }
+        ensures late { result ≡ false → IsLate (heap_items self.now.order) moment }
+    {
+        match self.order.peek() {
+            Some(Reverse(first)) => first.0 > moment.get(),
+            None => true,
+        }
+    }
+
+    /// So many more would be one too many.
+    pub(crate) fn is_full(&self, more: usize, moment: Moment) -> bool
+        requires { IsTied self.now [] }
+        ensures { result ≡ not (nat_le (kept_unexpired (kept_of self.now) moment + more) record_limit) }
+    {
+        if more > RECORD_LIMIT {
+            return true;
+        }
+        let most = RECORD_LIMIT - more;
+        self.records.len() > most && self.count_unexpired(moment) > most
+    }
+
+    // One of the digests is that of an unexpired record, or of another of them.
+    fn is_taken(&self, digests: &[[u8; 32]], moment: Moment) -> bool
+        requires { IsDistinct bytes_eq (keys_of self.now.records.entries) }
+        ensures { result ≡ are_taken (λ d. is_some (kept_at (kept_of self.now) d moment)) digests.now }
+    {
+        let [digest, others @ ..] = digests else {
+            return false;
+        };
+        if self.record_at(digest, moment).is_some() {
+            return true;
+        }
+        if is_among(digest, others) {
+            return true;
+        }
+        self.is_taken(others, moment)
+    }
+
+    /// Why codes or tokens of these digests may not be given.
+    pub(crate) fn refusal(&self, digests: &[[u8; 32]], moment: Moment) -> Option<StoreFault>
+        requires { IsTied self.now [] }
+        ensures { result ≡ refusal_by (nat_le (kept_unexpired (kept_of self.now) moment + length digests.now) record_limit)
+            (are_taken (λ d. is_some (kept_at (kept_of self.now) d moment)) digests.now) }
+    {
+        if self.is_full(digests.len(), moment) {
+            return Some(StoreFault::Full);
+        }
+        if self.is_taken(digests, moment) {
+            return Some(StoreFault::DrawTaken);
+        }
+        None
+    }
+
+    // Takes the first place out of the order, with its record, if it has expired.
+    fn drop_first(&mut self, moment: Moment) -> bool
+        requires { IsTied self.old [] }
+        ensures tied { IsTied self.new [] }
+        ensures same { TellsSame (kept_of self.old) (kept_of self.new) moment }
+        ensures more { result ≡ true → heap_len self.new.order < heap_len self.old.order }
+        ensures done { result ≡ false → AllLive self.new.records.entries moment }
+    {
+        if self.is_none_expired(moment) {
+            return false;
+        }
+        let Some(Reverse(first)) = self.order.pop() else {
+            return false;
+        };
+        let digest = first.1;
+        if self.record_at(&digest, moment).is_some() {
+            return true;
+        }
+        if let Some(record) = self.records.remove(&digest) {
+            leave(&mut self.families, &mut self.owners, record.family);
+        }
+        true
+    }
+
+    /// Lets go of all that has expired.
+    pub(crate) fn drop_expired(&mut self, moment: Moment)
+        requires { IsTied self.old [] }
+        ensures tied { IsTied self.new [] }
+        ensures same { TellsSame (kept_of self.old) (kept_of self.new) moment }
+        ensures live { AllLive self.new.records.entries moment }
+    {
+        loop {
+            if !self.drop_first(moment) {
+                return;
+            }
+        }
+    }
+}
+
+impl Tables {
+    /// Ends the family, if there is one with the number.
+    pub(crate) fn end(&mut self, number: usize)
+        requires { IsTied self.old [] }
+        ensures tied { IsTied self.new [] }
+        ensures marked { kept_of self.new ≡ map (marked (Mark.Ended number)) (kept_of self.old) }
+        ensures room { (changes : List Change) → HasRoomFor (room_of self.old) changes → HasRoomFor (room_of self.new) changes }
+    {
+        end_one(&mut self.families, number);
+    }
+
+    /// Ends each family of the two whose code's scope is not within the mask.
+    pub(crate) fn lower(&mut self, owner: OwnerNo, client: ClientNo, mask: u64)
+        requires { IsTied self.old [] }
+        ensures tied { IsTied self.new [] }
+        ensures marked { kept_of self.new ≡ map (marked (Mark.Lowered owner client mask)) (kept_of self.old) }
+        ensures room { (changes : List Change) → HasRoomFor (room_of self.old) changes → HasRoomFor (room_of self.new) changes }
+    {
+        lower_all(
+            &mut self.families,
+            &self.owners,
+            owner.get(),
+            client.get(),
+            mask,
+        );
+    }
+
+    /// Marks the record of the digest as spent.
+    pub(crate) fn spend(&mut self, digest: &[u8; 32])
+        requires { IsTied self.old [] }
+        ensures tied { IsTied self.new [] }
+        ensures marked { (moment : ℕ) → is_some (kept_at (kept_of self.old) digest.now moment) ≡ true →
+            kept_of self.new ≡ map (marked (Mark.Spent digest.now moment)) (kept_of self.old) }
+        ensures room { room_of self.new ≡ room_of self.old }
+    {
+        spend_one(&mut self.records, digest);
+    }
+
+    /// Opens a family without records.
+    pub(crate) fn open_family(&mut self, shared: Shared) -> Result<usize, AllocError>
+        requires tied { IsTied self.old [] }
+        requires empty { shared.count ≡ 0 }
+        ensures tied { IsTied self.new [] }
+        ensures opened { IfOk result (λ n. HasOpened self.old.families.slots self.new.families.slots n shared) }
+        ensures same { kept_of self.new ≡ kept_of self.old }
+        ensures records { self.new.records ≡ self.old.records }
+        ensures order { self.new.order ≡ self.old.order }
+        ensures coming { self.new.coming ≡ self.old.coming }
+    {
+        self.families.reserve(1)?;
+        let number = self.families.vacant_key();
+        add_owner(&mut self.owners, &shared, number)?;
+        self.families.insert_reserved(shared);
+        Ok(number)
+    }
+
+    // Lets go of a family without records.
+    fn close_family(&mut self, number: usize)
+        requires tied { IsTied self.old [] }
+        requires empty { (shared_at self.old.families.slots number).count ≡ 0 }
+        ensures tied { IsTied self.new [] }
+        ensures same { kept_of self.new ≡ kept_of self.old }
+        ensures coming { self.new.coming ≡ self.old.coming }
+    {
+        let Some(shared) = self.families.try_remove(number) else {
+            return;
+        };
+        self.owners
+            .remove(&((shared.owner, shared.client.get()), number));
+    }
+
+    /// Lets go of the family, if it has no records.
+    pub(crate) fn close_if_empty(&mut self, number: usize)
+        requires { IsTied self.old [] }
+        ensures tied { IsTied self.new [] }
+        ensures same { kept_of self.new ≡ kept_of self.old }
+        ensures coming { self.new.coming ≡ self.old.coming }
+    {
+        let Some(shared) = self.families.get(number) else {
+            return;
+        };
+        if shared.count == 0 {
+            self.close_family(number);
+        }
+    }
+
+    // Lets go of what has expired under the digest of a record that is about to come.
+    fn forget(&mut self, digest: &[u8; 32])
+        ensures forgotten { (n : ℕ) → IsTied self.old (n ∷ []) → Forgets self.old self.new digest.now n }
+        ensures waiting { (n k : ℕ) (s : Shared) → IsTied self.old (k ∷ []) → Waits self.old.families.slots n s → Waits self.new.families.slots n s }
+        ensures spare { spare self.old.records ≤ spare self.new.records }
+        ensures order { self.new.order ≡ self.old.order }
+        ensures coming { self.new.coming ≡ self.old.coming }
+    {
+        if let Some(old) = self.records.remove(digest) {
+            leave(&mut self.families, &mut self.owners, old.family);
+        }
+    }
+
+    /// Keeps the record in its family.
+    pub(crate) fn put(&mut self, digest: &[u8; 32], new: Record)
+        requires tied { IsTied self.old [] }
+        requires open { is_some (slice_index_or self.old.families.slots new.family None) ≡ true }
+        requires room { HasSpare (room_of self.old) 1 }
+        ensures tied { IsTied self.new [] }
+        ensures tells { (moment : ℕ) → kept_at (kept_of self.old) digest.now moment ≡ None →
+            TellsSame (kept_of self.old ++ kept_by (shared_at self.old.families.slots new.family) digest.now new ∷ []) (kept_of self.new) moment }
+        ensures room { (n : ℕ) → HasSpare (room_of self.old) (n + 1) → HasSpare (room_of self.new) n }
+        ensures waiting { (n : ℕ) (s : Shared) → n ≢ new.family → Waits self.old.families.slots n s → Waits self.new.families.slots n s }
+        ensures coming { self.new.coming ≡ self.old.coming }
+    {
+        // There are fewer than 2^63, and so there are of the family.
+        let _ = self.records.len();
+        enter(&mut self.families, new.family, 1);
+        self.forget(digest);
+        let place = Reverse((new.expiry(), *digest));
+        let Ok(()) = self.order.push(place) else {
+            unreachable!()
+        };
+        let Ok(_) = self.records.insert(*digest, new) else {
+            unreachable!()
+        };
+    }
+}
+
+// Puts a family that a code opened into the index.
+fn add_owner(
+    owners: &mut BTreeSet<((u32, u32), usize)>,
+    shared: &Shared,
+    number: usize,
+) -> Result<(), AllocError>
+    ensures coded { OnOk result (is_some shared.now.code_scope ≡ true → (q : (ℕ × ℕ) × ℕ) → list_any (is_at (owner_cmp q)) owners.new.keys
+        ≡ (if is_at (owner_cmp ((shared.now.owner, shared.now.client), number)) q then true else list_any (is_at (owner_cmp q)) owners.old.keys)) }
+    ensures uncoded { OnOk result (is_some shared.now.code_scope ≡ false → owners.new.keys ≡ owners.old.keys) }
+    ensures err { OnErr result (owners.new.keys ≡ owners.old.keys) }
+{
+    if shared.code_scope.is_none() {
+        return Ok(());
+    }
+    owners.insert(((shared.owner, shared.client.get()), number))?;
+    Ok(())
+}
+
+// So many records more are of the family.
+pub(crate) fn enter(families: &mut Slab<Shared>, number: usize, more: usize)
+    requires few { (shared_at families.old.slots number).count + more < 2 ^ 64 }
+    ensures entered { HasEntered families.old.slots families.new.slots number more }
+{
+    if let Some(shared) = families.get_mut(number) {
+        shared.count += more;
+    }
+}
+
+// The family, which has no records, is as it is given.
+pub(crate) fn renew(families: &mut Slab<Shared>, number: usize, shared: Shared)
+    ensures here { is_some (slice_index_or families.old.slots number None) ≡ true → slice_index_or families.new.slots number None ≡ Some shared }
+    ensures others { (k : ℕ) → k ≢ number → slice_index_or families.new.slots k None ≡ slice_index_or families.old.slots k None }
+{
+    if let Some(found) = families.get_mut(number) {
+        *found = shared;
+    }
+}
+
+fn end_one(families: &mut Slab<Shared>, number: usize)
+    ensures ended { HasEnded families.old.slots families.new.slots number }
+{
+    if let Some(shared) = families.get_mut(number) {
+        shared.ended = true;
+    }
+}
+
+fn spend_one(records: &mut HashMap<[u8; 32], Record>, digest: &[u8; 32])
+    ensures spare { spare records.new ≡ spare records.old }
+    ensures spent { records.new.entries ≡ spent_in digest.now records.old.entries (lookup (bytes_eq digest.now) records.old.entries) }
+{
+    if let Some(record) = records.get_mut(digest) {
+        record.spent = true;
+    }
+}
+
+fn lower_all(
+    families: &mut Slab<Shared>,
+    owners: &BTreeSet<((u32, u32), usize)>,
+    owner: u32,
+    client: u32,
+    mask: u64,
+)
+    requires owned { IsOwned families.old.slots owners.now.keys }
+    ensures lowered { HasLowered families.old.slots families.new.slots owner client mask }
+{
+    let mut after = None;
+    while let Some(number) = next_owned(owners, owner, client, after) {
+        lower_one(families, number, mask);
+        after = Some(number);
+    }
+}
+
+// The first number after the one given of a family of the two that a code opened.
+fn next_owned(
+    owners: &BTreeSet<((u32, u32), usize)>,
+    owner: u32,
+    client: u32,
+    after: Option<usize>,
+) -> Option<usize>
+    ensures { IsNextOwned owners.now.keys owner client after result }
+{
+    let start = start_of(owner, client, after);
+    let key = owners.range((start, Bound::Unbounded)).next()?;
+    if key.0 != (owner, client) {
+        return None;
+    }
+    Some(key.1)
+}
+
+fn start_of(owner: u32, client: u32, after: Option<usize>) -> Bound<((u32, u32), usize)>
+    ensures { result ≡ start_of owner client after }
+{
+    match after {
+        Some(number) => Bound::Excluded(((owner, client), number)),
+        None => Bound::Included(((owner, client), 0)),
+    }
+}
+
+fn lower_one(families: &mut Slab<Shared>, number: usize, mask: u64)
+    ensures lowered { slice_index_or families.new.slots number None ≡ option_map (lowered_by mask) (slice_index_or families.old.slots number None) }
+    ensures others { (k : ℕ) → k ≢ number → slice_index_or families.new.slots k None ≡ slice_index_or families.old.slots k None }
+{
+    if let Some(shared) = families.get_mut(number) {
+        if let Some(scope) = shared.code_scope {
+            if !is_within(scope, mask) {
+                shared.ended = true;
+            }
+        }
+    }
+}
+
+// How many of the records are unexpired.
+fn count_live(records: &HashMap<[u8; 32], Record>, moment: Moment) -> usize
+    ensures { result ≡ count_by (is_live_at moment) (values_of records.now.entries) }
+{
+    records
+        .values()
+        .filter(|record| record.is_unexpired(moment))
+        .count()
+}
+
+fn is_among(digest: &[u8; 32], digests: &[[u8; 32]]) -> bool
+    ensures { result ≡ list_any (bytes_eq digest.now) digests.now }
+{
+    digests.iter().any(|other| *digest == *other)
+}
+
+// One record of the family is gone, and so is the family with the last.
+pub(crate) fn leave(
+    families: &mut Slab<Shared>,
+    owners: &mut BTreeSet<((u32, u32), usize)>,
+    number: usize,
+)
+    ensures owned { IsOwned families.old.slots owners.old.keys → IsOwned families.new.slots owners.new.keys }
+    ensures left { HasLeft families.old.slots families.new.slots number }
+{
+    let Some(found) = families.get(number) else {
+        return;
+    };
+    let shared = *found;
+    if shared.count > 1 {
+        if let Some(state) = families.get_mut(number) {
+            state.count = shared.count - 1;
+        }
+        return;
+    }
+    families.try_remove(number);
+    owners.remove(&((shared.owner, shared.client.get()), number));
+}

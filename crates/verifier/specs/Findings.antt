@@ -1,0 +1,64 @@
+-- What is told of a program that is looked at.
+use Rattle.std.specs.Prelude.{◌≡◌, ◌≢◌, ℕ, false, List, [], ◌∷◌, ◌++◌, Option, Some, None, All}
+use Rattle.insn.specs.declared.instruction.Insn.{Insn}
+use Rattle.insn.specs.declared.layout.Layout.{Layout}
+use Rattle.insn.specs.declared.verify_fault.WalkFault.{WalkFault}
+use Rattle.insn.specs.declared.verify_fault.VerifyFault.{VerifyFault}
+use Rattle.insn.specs.declared.verify_fault.VerifyFault.TheVariants.{Memory}
+use Rattle.insn.specs.Faults.{look_verdict, walk_fault_at}
+use Rattle.insn.specs.Program.{begins_at}
+use Rattle.insn.specs.Step.{Reaches, Safe}
+use Rattle.insn.specs.Values.{Config, IsRecord}
+use Rattle.verifier.specs.declared.known.Known.{Known}
+use Rattle.verifier.specs.declared.explain.Refusal.{Refusal}
+use Rattle.verifier.specs.declared.explain.Finding.{Finding}
+use Rattle.verifier.specs.declared.explain.Finding.TheVariants.{Accepted, Looked, Refused}
+use Rattle.verifier.specs.Fits.{StateFits}
+use Rattle.verifier.specs.Verdicts.{IsRefusal}
+
+-- whatever the record is, a run that comes to a slot does so in a state of which this is known
+abbrev pub IsKnownAt : Layout → List Insn → ℕ → Known → Type 0
+IsKnownAt layout program slot known =
+    (bytes : List ℕ) (n : ℕ) (c : Config) → IsRecord layout bytes → Reaches layout program bytes n c → c.slot ≡ slot
+    → StateFits false layout known c.state
+
+-- no run comes to a slot
+abbrev pub NoneComesTo : Layout → List Insn → ℕ → Type 0
+NoneComesTo layout program slot =
+    (bytes : List ℕ) (n : ℕ) (c : Config) → IsRecord layout bytes → Reaches layout program bytes n c → c.slot ≢ slot
+
+-- a program is refused with this fault, at this instruction, and this is known of each run that comes to it
+pub record IsExplained (layout : Layout) (program : List Insn) (refusal : Refusal) : Type 0 where
+  pub refused : IsRefusal layout program refusal.fault
+  pub wrong : WalkFault
+  pub is : refusal.fault ≡ walk_fault_at wrong refusal.slot
+  pub begins : begins_at program refusal.slot ≡ Some refusal.insn
+  pub known : IsKnownAt layout program refusal.slot refusal.known.value
+
+-- a program is accepted, and no run comes to these slots
+pub record IsAcceptance (layout : Layout) (program : List Insn) (slots : List ℕ) : Type 0 where
+  pub safe : Safe layout program
+  pub unreached : All (NoneComesTo layout program) slots
+
+-- what the walk finds
+abbrev pub IsWalkFinding : Layout → List Insn → Finding → Type 0
+IsWalkFinding layout program (Accepted unreached) = IsAcceptance layout program unreached.items
+IsWalkFinding layout program (Looked fault) = ⊥
+IsWalkFinding layout program (Refused refusal) = IsExplained layout program refusal
+
+-- what both looks find, the first look's fault before the walk's
+abbrev pub IsFinding : Layout → List Insn → Finding → Type 0
+IsFinding layout program (Looked fault) = look_verdict program ≡ Some fault
+IsFinding layout program finding = (look_verdict program ≡ None) × IsWalkFinding layout program finding
+
+-- a refusal of an instruction, where this was known before it
+abbrev pub IsRefusedWith : VerifyFault → ℕ → Insn → Option Known → Finding → Type 0
+IsRefusedWith fault slot insn known (Accepted slots) = ⊥
+IsRefusedWith fault slot insn known (Looked other) = ⊥
+IsRefusedWith fault slot insn known (Refused r) =
+    (fault ≢ Memory) × (r.fault ≡ fault) × (r.slot ≡ slot) × (r.insn ≡ insn) × (known ≡ Some r.known.value)
+
+-- a slot is added where nothing is known there
+abbrev pub IsNoted : ℕ → Option Known → List ℕ → List ℕ → Type 0
+IsNoted slot None old new = new ≡ old ++ (slot ∷ [])
+IsNoted slot (Some known) old new = new ≡ old
