@@ -127,9 +127,11 @@ const DENIED: &str = r#"
 1 = 400 {"error":"invalid_grant"}
 1 1000 00/00 POST /introspect | $APP | token=$K2
 1 = 200 {"active":false}
-// The host has no hooks, and takes none.
+// Its hooks come and go as those of a chain.
 1 1000 00/00 POST /hooks?name=h1 | $OPERATOR | 0x$ALLOW
-1 = 400 {"detail":"Full","error":"hook_refused"}
+1 = 200 {"name":"h1"}
+1 1000 00/00 POST /hooks/remove | $OPERATOR | name=h1
+1 = 200 {"name":"h1"}
 1 1000 00/00 POST /hooks/remove | $OPERATOR | name=h1
 1 = 400 {"detail":"Unknown","error":"hook_refused"}
 1 1000 00/00 GET /hooks/list | $OPERATOR
