@@ -1,5 +1,7 @@
 -- The faults of devices and of files of batches, and how they are printed.
 use Rattle.std.specs.Prelude.{ℕ, List, codes}
+use Rattle.std.specs.declared.fs.locks.TryLockError.{TryLockError}
+use Rattle.std.specs.declared.fs.locks.TryLockError.TheVariants as lock
 use Rattle.batch_file.specs.declared.device.DeviceFault.{DeviceFault}
 use Rattle.batch_file.specs.declared.device.DeviceFault.TheVariants as device
 use Rattle.batch_file.specs.declared.appending.BatchFault.{BatchFault}
@@ -11,6 +13,11 @@ use Rattle.batch_file.specs.declared.disk_file.OpenFault.TheVariants as opening
 abbrev pub of_device : DeviceFault → BatchFault
 of_device device.Memory = batch.Memory
 of_device device.Failed = batch.Failed
+
+-- a lock that another holds is InUse
+abbrev pub of_lock : TryLockError → OpenFault
+of_lock lock.WouldBlock = opening.InUse
+of_lock (lock.Error e) = opening.Failed
 
 abbrev pub device_fault_text : DeviceFault → List ℕ
 device_fault_text device.Memory = codes "Memory"

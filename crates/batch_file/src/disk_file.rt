@@ -4,10 +4,10 @@
 //! The lock is held on a file of its own beside it, since the file itself is another one after a replacement.
 
 ghost use Rattle.std.specs.Prelude.{◌≡◌, length, IfOk, Some};
-ghost use Rattle.batch_file.specs.declared.disk_file.OpenFault.TheVariants.{Memory};
+ghost use Rattle.batch_file.specs.declared.disk_file.OpenFault.TheVariants.{Failed, Memory};
 ghost use Rattle.batch_file.specs.Calls.{content, failures, LeftSince, MayLeave};
 ghost use Rattle.batch_file.specs.Crashes.{Only};
-ghost use Rattle.batch_file.specs.FaultTexts.{open_fault_text};
+ghost use Rattle.batch_file.specs.FaultTexts.{of_lock, open_fault_text};
 ghost use Rattle.batch_file.specs.Moments.{counts_now_of, only_now_of};
 
 use crate::call_log::{CallLog, DiskCall};
@@ -53,12 +53,16 @@ impl From<AllocError> for OpenFault {
 }
 
 impl From<io::Error> for OpenFault {
+    ghost from_gives = { λ _ fault. fault ≡ Failed };
+
     fn from(_: io::Error) -> OpenFault {
         OpenFault::Failed
     }
 }
 
 impl From<TryLockError> for OpenFault {
+    ghost from_gives = { λ refused fault. fault ≡ of_lock refused };
+
     fn from(fault: TryLockError) -> OpenFault {
         match fault {
             TryLockError::WouldBlock => OpenFault::InUse,
