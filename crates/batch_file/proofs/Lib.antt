@@ -1,0 +1,6 @@
+mod Kept
+mod Moments
+mod Reading
+mod Repair
+mod Steps
+mod Tearing

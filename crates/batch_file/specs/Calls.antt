@@ -1,0 +1,92 @@
+-- The calls that were made on a file, and what a crash between them may leave.
+use Rattle.std.specs.Prelude.{◌≡◌, ◌+◌, ◌≤◌, ◌⊎◌, ℕ, Result, is_ok, List, [], ◌∷◌, ◌++◌, length, take, drop, Bool, true, ◌==◌, slice_index, if◌then◌else◌}
+use Rattle.batch_file.specs.declared.call_log.DiskCall.{DiskCall}
+use Rattle.batch_file.specs.declared.call_log.DiskCall.TheVariants as made
+use Rattle.batch_file.specs.declared.device.DeviceFault.{DeviceFault}
+use Rattle.batch_file.specs.Crashes.{Torn, Cut, Swapped}
+
+pub data Call : Type 0 where
+  Opened : (bytes : List ℕ) → Call
+  Wrote : (at : ℕ) → (bytes : List ℕ) → Call
+  CutTo : (len : ℕ) → Call
+  Synced : Call
+  Replaced : (bytes : List ℕ) → Call
+
+-- a call, and whether it succeeded
+pub record Logged : Type 0 where
+  pub call : Call
+  pub is_ok : Bool
+
+-- the call that a program makes
+abbrev pub call_made : DiskCall → Call
+call_made (made.Opened bytes) = Opened bytes.now
+call_made (made.Wrote at bytes) = Wrote at bytes.now
+call_made (made.CutTo len) = CutTo len
+call_made made.Synced = Synced
+call_made (made.Replaced bytes) = Replaced bytes.now
+
+-- with what a device answered of it
+abbrev pub logged : DiskCall → Result (Unit {0}) DeviceFault → Logged
+logged call answer = record { call = call_made call; is_ok = is_ok answer }
+
+-- the call of this kind at this place, with these bytes
+abbrev pub call_of : ℕ → ℕ → List ℕ → Call
+call_of kind place bytes =
+    if kind == 0 then Opened bytes
+    else if kind == 1 then Wrote place bytes
+    else if kind == 2 then CutTo place
+    else if kind == 3 then Synced
+    else Replaced bytes
+
+abbrev pub noted : List ℕ → List ℕ → Logged
+noted numbers bytes =
+    record { call = call_of (slice_index numbers 0) (slice_index numbers 1) bytes; is_ok = slice_index numbers 2 == 1 }
+
+-- what a read would return after a call that succeeded
+abbrev pub after_call : Call → List ℕ → List ℕ
+after_call (Opened bytes) old = bytes
+after_call (Wrote at bytes) old = take at old ++ bytes ++ drop (at + length bytes) old
+after_call (CutTo len) old = take len old
+after_call Synced old = old
+after_call (Replaced bytes) old = bytes
+
+-- what a read would return after these calls, the last of them first
+abbrev pub content : List Logged → List ℕ
+content [] = []
+content (e ∷ before) = if e.is_ok then after_call e.call (content before) else content before
+
+-- what a call that a crash cuts short may make of a file
+abbrev pub Step : Call → List ℕ → List ℕ → Type 0
+Step (Opened bytes) old new = new ≡ bytes
+Step (Wrote at bytes) old new = Torn at (length bytes) old new
+Step (CutTo len) old new = Cut len old new
+Step Synced old new = new ≡ old
+Step (Replaced bytes) old new = Swapped bytes old new
+
+-- after a sync or a replacement that succeeded, nothing but what a read would return
+abbrev pub IsKeptBy : Bool → Call → List ℕ → List ℕ → Type 0
+IsKeptBy true Synced seen c = c ≡ seen
+IsKeptBy true (Replaced bytes) seen c = c ≡ bytes
+IsKeptBy _ _ seen c = Unit {0}
+
+-- what was on the disk when the file was opened
+abbrev pub IsOpenedWith : Call → List ℕ → Type 0
+IsOpenedWith (Opened bytes) c = c ≡ bytes
+IsOpenedWith _ c = ⊥
+
+-- what a crash after these calls may leave
+abbrev pub MayLeave : List Logged → List ℕ → Type 0
+MayLeave [] c = ⊥
+MayLeave (e ∷ []) c = IsOpenedWith e.call c
+MayLeave (e ∷ f ∷ before) c =
+    ((d : List ℕ) × MayLeave (f ∷ before) d × Step e.call d c) × IsKeptBy e.is_ok e.call (content (f ∷ before)) c
+
+-- what a crash since that many calls had been made might have left
+abbrev pub LeftSince : List Logged → ℕ → List ℕ → Type 0
+LeftSince [] t c = ⊥
+LeftSince (e ∷ before) t c = MayLeave (e ∷ before) c ⊎ ((t ≤ length before) × LeftSince before t c)
+
+-- how many of them failed
+abbrev pub failures : List Logged → ℕ
+failures [] = 0
+failures (e ∷ before) = (if e.is_ok then 0 else 1) + failures before

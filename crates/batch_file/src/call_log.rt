@@ -1,0 +1,76 @@
+//! The calls that were made of the system on a file, as a list that only clauses read and that takes no memory.
+
+ghost use Rattle.std.specs.Prelude.{◌≡◌, List, [], ◌∷◌, is_ok, IsErrOf};
+ghost use Rattle.std.specs.Borrow.{ftrue};
+ghost use Rattle.batch_file.specs.declared.device.DeviceFault.TheVariants.{Memory};
+ghost use Rattle.batch_file.specs.Calls.{logged, noted, Logged};
+
+use crate::device::DeviceFault;
+use std::io;
+use std::marker::{Model, PhantomData};
+
+/// A call of the system on the file.
+#[derive(Clone, Copy)]
+pub enum DiskCall<'b> {
+    /// The file was opened, and had these bytes.
+    Opened(&'b [u8]),
+    /// These bytes were written at this place.
+    Wrote { at: u64, bytes: &'b [u8] },
+    /// The file was cut to this length.
+    CutTo(u64),
+    /// What was done is on the disk (`fdatasync`).
+    Synced,
+    /// Another file with these bytes was renamed over it, and the folder synced.
+    Replaced(&'b [u8]),
+}
+
+/// The calls, the last one first.
+#[derive(Drop)]
+pub struct CallLog {
+    marker: PhantomData<u8>,
+    pub ghost calls: { List Logged },
+}
+
+impl Model for CallLog {
+    ghost also_owns = { λ _. ftrue };
+}
+
+impl CallLog {
+    /// No call.
+    pub(crate) fn new() -> CallLog
+        ensures { result.calls ≡ [] }
+    {
+        CallLog {
+            marker: PhantomData,
+        }
+    }
+
+    /// Notes a call by numbers: its kind, its place, and 1 where it succeeded.
+    fn note(&mut self, _numbers: &[u64], _bytes: &[u8])
+        ensures { self.new.calls ≡ noted _numbers.now _bytes.now ∷ self.old.calls }
+    {}
+
+    /// Notes a call with what the system answered, which it gives as that of a device.
+    pub(crate) fn told(
+        &mut self,
+        call: DiskCall<'_>,
+        answer: io::Result<()>,
+    ) -> Result<(), DeviceFault>
+        ensures noted { self.new.calls ≡ logged call.entry result ∷ self.old.calls }
+        ensures answered { is_ok result ≡ is_ok answer }
+        ensures failed { IsErrOf result Memory → ⊥ }
+    {
+        let succeeded = u64::from(answer.is_ok());
+        match call {
+            DiskCall::Opened(bytes) => self.note(&[0, 0, succeeded], bytes),
+            DiskCall::Wrote { at, bytes } => self.note(&[1, at, succeeded], bytes),
+            DiskCall::CutTo(len) => self.note(&[2, len, succeeded], &[]),
+            DiskCall::Synced => self.note(&[3, 0, succeeded], &[]),
+            DiskCall::Replaced(bytes) => self.note(&[4, 0, succeeded], bytes),
+        }
+        match answer {
+            Ok(()) => Ok(()),
+            Err(_) => Err(DeviceFault::Failed),
+        }
+    }
+}

@@ -1,0 +1,101 @@
+//! A file as a `BatchFile` sees it: what a read would return, and what a crash may leave.
+
+ghost use Rattle.std.specs.Prelude.{◌≡◌, ◌≤◌, List, ℕ, length, take, OnOk, Some};
+ghost use Rattle.batch_file.specs.declared.device.DeviceFault.TheVariants.{Memory};
+ghost use Rattle.batch_file.specs.Crashes.{Cut, Elapses, Follows, HasCause, Holds, Only, Swapped, Torn};
+ghost use Rattle.batch_file.specs.FaultTexts.{device_fault_text};
+
+use std::alloc::{AllocError, AllocFailed};
+use std::fmt::{self, Display, Formatter, Write};
+
+/// Why a device did not do what it was asked for.
+#[derive(Clone, Copy, Debug, PartialEq, Eq)]
+pub enum DeviceFault {
+    /// Memory was refused.
+    Memory,
+    /// The disk failed.
+    Failed,
+}
+
+impl Display for DeviceFault {
+    ghost output = { λ fault. Some (device_fault_text fault) };
+
+    fn fmt<W: Write>(&self, f: &mut Formatter<W>) -> fmt::Result {
+        match self {
+            DeviceFault::Memory => write!(f, "Memory"),
+            DeviceFault::Failed => write!(f, "Failed"),
+        }
+    }
+}
+
+impl From<AllocError> for DeviceFault {
+    ghost from_gives = { λ _ fault. fault ≡ Memory };
+
+    fn from(_: AllocError) -> DeviceFault {
+        DeviceFault::Memory
+    }
+}
+
+impl<T: Drop> From<AllocFailed<T>> for DeviceFault {
+    ghost from_gives = { λ _ fault. fault ≡ Memory };
+
+    fn from(_: AllocFailed<T>) -> DeviceFault {
+        DeviceFault::Memory
+    }
+}
+
+/// A file that outlives the program. Until a `sync` has succeeded, a crash may undo or tear what was done to it.
+pub trait Device {
+    /// The bytes that a read would return.
+    ghost seen: { Self → List ℕ };
+
+    /// What a crash at this moment may leave.
+    ghost may_leave: { Self → List ℕ → Type 0 };
+
+    /// The moment, as a number that doesn't fall.
+    ghost moment: { Self → ℕ };
+
+    /// What a crash at some moment from that one on might have left, during a call or between two.
+    ghost left_since: { Self → ℕ → List ℕ → Type 0 };
+
+    /// How often the disk has failed.
+    ghost faults: { Self → ℕ };
+
+    /// Writes over what is there, and past the end. Until a sync, a crash may leave any bytes in the range.
+    fn write_at(&mut self, at: usize, bytes: &[u8]) -> Result<(), DeviceFault>
+        requires { at ≤ length (seen self.old) }
+        ensures written { OnOk result (Holds (seen self.old) at bytes.now (seen self.new)) }
+        ensures crash { Follows (Torn at (length bytes.now)) (may_leave self.old) (may_leave self.new) }
+        ensures time { Elapses (moment self.old) (moment self.new) (left_since self.old) (left_since self.new) (may_leave self.new) }
+        ensures cause { HasCause (faults self.old) (faults self.new) result };
+
+    /// Cuts the file to a length.
+    fn cut(&mut self, len: usize) -> Result<(), DeviceFault>
+        requires { len ≤ length (seen self.old) }
+        ensures cut { OnOk result (seen self.new ≡ take len (seen self.old)) }
+        ensures crash { Follows (Cut len) (may_leave self.old) (may_leave self.new) }
+        ensures time { Elapses (moment self.old) (moment self.new) (left_since self.old) (left_since self.new) (may_leave self.new) }
+        ensures cause { HasCause (faults self.old) (faults self.new) result };
+
+    /// Waits until the file is on the disk: after it a crash leaves what a read would return.
+    fn sync(&mut self) -> Result<(), DeviceFault>
+        ensures durable { OnOk result (Only (seen self.old) (may_leave self.new)) }
+        ensures seen { seen self.new ≡ seen self.old }
+        ensures crash { (left : List ℕ) → may_leave self.new left → may_leave self.old left }
+        ensures time { Elapses (moment self.old) (moment self.new) (left_since self.old) (left_since self.new) (may_leave self.new) }
+        ensures cause { HasCause (faults self.old) (faults self.new) result };
+
+    /// Puts another file in the place of this one. A crash leaves the one or the other.
+    fn replace(&mut self, bytes: &[u8]) -> Result<(), DeviceFault>
+        ensures replaced { OnOk result (seen self.new ≡ bytes.now) }
+        ensures durable { OnOk result (Only bytes.now (may_leave self.new)) }
+        ensures crash { Follows (Swapped bytes.now) (may_leave self.old) (may_leave self.new) }
+        ensures time { Elapses (moment self.old) (moment self.new) (left_since self.old) (left_since self.new) (may_leave self.new) }
+        ensures cause { HasCause (faults self.old) (faults self.new) result };
+
+    /// This moment is one of those since an earlier one.
+    ghost counts_now: { (file : Self) (t : ℕ) (left : List ℕ) → t ≤ moment file → may_leave file left → left_since file t left };
+
+    /// Since this moment there is no other.
+    ghost only_now: { (file : Self) (left : List ℕ) → left_since file (moment file) left → may_leave file left };
+}

@@ -1,0 +1,185 @@
+//! A file of the system as a device. Each method makes the calls that it notes: this has to be read, since a body that
+//! notes a sync and makes none would be proved as well.
+//!
+//! The lock is held on a file of its own beside it, since the file itself is another one after a replacement.
+
+ghost use Rattle.std.specs.Prelude.{◌≡◌, length, IfOk, Some};
+ghost use Rattle.batch_file.specs.declared.disk_file.OpenFault.TheVariants.{Failed, Memory};
+ghost use Rattle.batch_file.specs.Calls.{content, failures, LeftSince, MayLeave};
+ghost use Rattle.batch_file.specs.Crashes.{Only};
+ghost use Rattle.batch_file.specs.FaultTexts.{of_lock, open_fault_text};
+ghost use Rattle.batch_file.specs.Moments.{counts_now_of, only_now_of};
+
+use crate::call_log::{CallLog, DiskCall};
+use crate::device::{Device, DeviceFault};
+use std::alloc::AllocError;
+use std::fmt::{self, Display, Formatter, Write as _};
+use std::fs::{self, File, OpenOptions, TryLockError};
+use std::io::{self, Read, Write};
+use std::os::unix::fs::{FileExt, OpenOptionsExt};
+
+/// A new file may be read and written by its owner alone.
+const OWNER_ONLY: u32 = 0o600;
+
+/// Why a file is not opened.
+#[derive(Clone, Copy, Debug, PartialEq, Eq)]
+pub enum OpenFault {
+    /// Memory was refused.
+    Memory,
+    /// Another program holds its lock.
+    InUse,
+    /// The system refused a call.
+    Failed,
+}
+
+impl Display for OpenFault {
+    ghost output = { λ fault. Some (open_fault_text fault) };
+
+    fn fmt<W: std::fmt::Write>(&self, f: &mut Formatter<W>) -> fmt::Result {
+        match self {
+            OpenFault::Memory => write!(f, "Memory"),
+            OpenFault::InUse => write!(f, "InUse"),
+            OpenFault::Failed => write!(f, "Failed"),
+        }
+    }
+}
+
+impl From<AllocError> for OpenFault {
+    ghost from_gives = { λ _ fault. fault ≡ Memory };
+
+    fn from(_: AllocError) -> OpenFault {
+        OpenFault::Memory
+    }
+}
+
+impl From<io::Error> for OpenFault {
+    ghost from_gives = { λ _ fault. fault ≡ Failed };
+
+    fn from(_: io::Error) -> OpenFault {
+        OpenFault::Failed
+    }
+}
+
+impl From<TryLockError> for OpenFault {
+    ghost from_gives = { λ refused fault. fault ≡ of_lock refused };
+
+    fn from(fault: TryLockError) -> OpenFault {
+        match fault {
+            TryLockError::WouldBlock => OpenFault::InUse,
+            TryLockError::Error(_) => OpenFault::Failed,
+        }
+    }
+}
+
+/// A file in a folder, open for reading and writing and locked, and the name of the one that is to take its place.
+#[derive(Drop)]
+pub struct DiskFile {
+    rt: HostRuntime,
+    file: File,
+    folder: File,
+    lock: File,
+    path: String,
+    next_path: String,
+    log: CallLog,
+}
+
+/// A file that was opened, and its bytes.
+#[derive(Drop)]
+pub struct Opened {
+    pub device: DiskFile,
+    pub bytes: Vec<u8>,
+}
+
+/// How a file is opened that is made where there is none.
+fn options() -> OpenOptions {
+    let mut options = OpenOptions::new();
+    options.read(true).write(true).create(true).mode(OWNER_ONLY);
+    options
+}
+
+/// Opens the file of a name in a folder, or makes it, and locks it. What is read of it is on the disk.
+pub fn open_file(rt: HostRuntime, folder: &str, name: &str) -> Result<Opened, OpenFault>
+    ensures same { IfOk result (λ opened. opened.bytes.items ≡ content opened.device.log.calls) }
+    ensures durable { IfOk result (λ opened. Only (content opened.device.log.calls) (MayLeave opened.device.log.calls)) }
+{
+    let alloc = rt.alloc();
+    let path = format!(in alloc; "{folder}/{name}")?;
+    let next_path = format!(in alloc; "{folder}/{name}.next")?;
+    let lock_path = format!(in alloc; "{folder}/{name}.lock")?;
+    let folder = File::open(&rt, folder)?;
+    let lock = options().open(&rt, lock_path.as_str())?;
+    lock.try_lock()?;
+    let _ = fs::remove_file(&rt, next_path.as_str());
+    let mut file = options().open(&rt, path.as_str())?;
+    file.sync_all()?;
+    folder.sync_all()?;
+    let mut bytes = Vec::new(alloc);
+    file.read_to_end(&mut bytes)?;
+    let mut log = CallLog::new();
+    if log.told(DiskCall::Opened(&bytes), Ok(())).is_err() {
+        return Err(OpenFault::Failed);
+    }
+    let device = DiskFile {
+        rt,
+        file,
+        folder,
+        lock,
+        path,
+        next_path,
+        log,
+    };
+    Ok(Opened { device, bytes })
+}
+
+impl DiskFile {
+    /// Writes another file with these bytes, and puts it in the place of this one.
+    fn swap(&mut self, bytes: &[u8]) -> io::Result<()>
+        ensures { self.new.log ≡ self.old.log }
+    {
+        let next_path = self.next_path.as_str();
+        let mut file = options().truncate(true).open(&self.rt, next_path)?;
+        file.write_all(bytes)?;
+        file.sync_all()?;
+        fs::rename(&self.rt, next_path, self.path.as_str())?;
+        self.file = file;
+        self.folder.sync_all()
+    }
+}
+
+impl Device for DiskFile {
+    ghost seen = { λ device. content device.log.calls };
+
+    ghost may_leave = { λ device left. MayLeave device.log.calls left };
+
+    ghost moment = { λ device. length device.log.calls };
+
+    ghost left_since = { λ device t left. LeftSince device.log.calls t left };
+
+    ghost faults = { λ device. failures device.log.calls };
+
+    ghost counts_now = { λ device t left le now. counts_now_of device.log.calls t left le now };
+
+    ghost only_now = { λ device left since. only_now_of device.log.calls left since };
+
+    fn write_at(&mut self, at: usize, bytes: &[u8]) -> Result<(), DeviceFault> {
+        let at = at as u64;
+        let answer = self.file.write_all_at(bytes, at);
+        self.log.told(DiskCall::Wrote { at, bytes }, answer)
+    }
+
+    fn cut(&mut self, len: usize) -> Result<(), DeviceFault> {
+        let len = len as u64;
+        let answer = self.file.set_len(len);
+        self.log.told(DiskCall::CutTo(len), answer)
+    }
+
+    fn sync(&mut self) -> Result<(), DeviceFault> {
+        let answer = self.file.sync_data();
+        self.log.told(DiskCall::Synced, answer)
+    }
+
+    fn replace(&mut self, bytes: &[u8]) -> Result<(), DeviceFault> {
+        let answer = self.swap(bytes);
+        self.log.told(DiskCall::Replaced(bytes), answer)
+    }
+}
