@@ -84,7 +84,7 @@ printf '7110400000000000b7000000010000009500000000000000\n' >behind.hex
 ends 'a load behind a record of version 1' 1 '' 'oauthd: Verify OutOfRegion(0)\n' check behind.hex
 ends 'the same load in version 2' 0 'accepted 3\n' '' check2 behind.hex
 printf '9500000000000000\n' >unset.hex
-ends 'why a program is not accepted' 1 "refused UnsetRegister(0)\n0: exit\nr0: unset\n\n$("$program" help UnsetRegister | sed 's/%/%%/g')\n" '' check --why unset.hex
+ends 'why a program is not accepted' 1 "refused UnsetRegister(0)\n0: exit\nr0: unset\nfrom slot 0: nothing writes r0\n\n$("$program" help UnsetRegister | sed 's/%/%%/g')\n" '' check --why unset.hex
 ends 'a traced run that would be stuck' 1 '' 'oauthd: Verify UnsetRegister(0)\n' run --trace 9500000000000000 "$record"
 ends 'a run that would be stuck' 1 '' 'oauthd: Verify UnsetRegister(0)\n' run 9500000000000000 "$record"
 ends 'a run that is refused' 1 '' 'oauthd: Insn Empty\n' run '' "$record"

@@ -3,16 +3,19 @@
 ghost use Rattle.std.specs.Prelude.{◌≡◌, Some, IfOk};
 ghost use Rattle.std.specs.Option.{option_copied};
 ghost use Rattle.std.specs.String.{string_bytes};
-ghost use Rattle.hook_trial.specs.Explanations.{acceptance_text, accepted_text, fault_name as spec_fault_name, head_text, line_text, look_text, reads_text, refused_text, slot_text, slots_text, IsExplanation, IsHelp, IsLookTold, IsRefusalTold};
+ghost use Rattle.hook_trial.specs.Explanations.{acceptance_text, accepted_text, fault_name as spec_fault_name, head_text, line_text, look_text, reads_text, refused_text, seen_text, slot_text, slots_text, unset_among, unset_read, IsExplanation, IsHelp, IsLookTold, IsRefusalTold};
 
+use crate::bytes_text::bytes_told;
 use crate::known_text::KnownText;
 use crate::reading::{left_read, right_read};
+use crate::way::way_to_told;
 use insn::instruction::Insn;
 use insn::layout::Layout;
 use insn::program::Program;
 use insn::register::RegNo;
 use insn::verify_fault::VerifyFault;
 use lister::Line;
+use reg_kind::Reg;
 use std::alloc::{AllocError, Global};
 use std::fmt::{self, Display, Formatter, Write};
 use verifier::Known;
@@ -112,21 +115,40 @@ impl<'k> Display for Reads<'k> {
     }
 }
 
-/// A refusal by the walk: the fault, the instruction, what is known of the registers that it reads, and how to mend it.
+/// What was seen before a refused instruction: what is known of the registers and of the bytes that it reads, and the
+/// way that leads there.
+#[derive(Clone, Copy)]
+struct Seen<'k> {
+    reads: Reads<'k>,
+    bytes: &'k str,
+    way: &'k str,
+}
+
+impl<'k> Display for Seen<'k> {
+    ghost output = { λ s. Some (seen_text (reads_text s.reads.left s.reads.right) s.bytes.now s.way.now) };
+
+    fn fmt<W: Write>(&self, f: &mut Formatter<W>) -> fmt::Result {
+        let (reads, bytes, way) = (self.reads, self.bytes, self.way);
+        write!(f, "{reads}{bytes}{way}")
+    }
+}
+
+/// A refusal by the walk: the fault and the instruction, what was seen before it, and how to mend it.
 #[derive(Clone, Copy)]
 struct Refused<'k> {
     head: Head,
-    reads: Reads<'k>,
+    seen: Seen<'k>,
     help: &'k str,
 }
 
 impl<'k> Display for Refused<'k> {
     ghost output = { λ r. Some (refused_text
-        (head_text r.head.fault r.head.slot r.head.insn) (reads_text r.reads.left r.reads.right) r.help.now) };
+        (head_text r.head.fault r.head.slot r.head.insn)
+        (seen_text (reads_text r.seen.reads.left r.seen.reads.right) r.seen.bytes.now r.seen.way.now) r.help.now) };
 
     fn fmt<W: Write>(&self, f: &mut Formatter<W>) -> fmt::Result {
-        let (head, reads, help) = (self.head, self.reads, self.help);
-        write!(f, "{head}{reads}\n{help}")
+        let (head, seen, help) = (self.head, self.seen, self.help);
+        write!(f, "{head}{seen}\n{help}")
     }
 }
 
@@ -210,11 +232,39 @@ fn look_told(alloc: Global, fault: VerifyFault) -> Result<String, AllocError>
     format!(in alloc; "{looked}")
 }
 
+/// The register, if it is unset.
+fn unset_among(known: &Known, register: Option<RegNo>) -> Option<RegNo>
+    ensures { result ≡ unset_among known.now register }
+{
+    let register = register?;
+    match known.register(register) {
+        Reg::Unset => Some(register),
+        Reg::Number(_) | Reg::Record(_) | Reg::Stack(_) => None,
+    }
+}
+
+/// The first register that an instruction reads and that is unset.
+fn unset_read(known: &Known, insn: Insn) -> Option<RegNo>
+    ensures { result ≡ unset_read known.now insn }
+{
+    match unset_among(known, left_read(insn)) {
+        Some(register) => Some(register),
+        None => unset_among(known, right_read(insn)),
+    }
+}
+
 /// What is told of a refusal by the walk.
-fn refusal_told(alloc: Global, refusal: &Refusal) -> Result<String, AllocError>
-    ensures { IfOk result (λ text. IsRefusalTold refusal.now (string_bytes text)) }
+fn refusal_told(
+    alloc: Global,
+    program: &Program,
+    layout: Layout,
+    refusal: &Refusal,
+) -> Result<String, AllocError>
+    ensures { IfOk result (λ text. IsRefusalTold layout program.now refusal.now (string_bytes text)) }
 {
     let (fault, slot, insn) = (refusal.fault, refusal.slot, refusal.insn);
+    let bytes = bytes_told(alloc, layout, &refusal.known, insn)?;
+    let way = way_to_told(alloc, program, unset_read(&refusal.known, insn), slot)?;
     let left = ReadLine {
         known: &refusal.known,
         register: left_read(insn),
@@ -223,16 +273,21 @@ fn refusal_told(alloc: Global, refusal: &Refusal) -> Result<String, AllocError>
         known: &refusal.known,
         register: right_read(insn),
     };
+    let seen = Seen {
+        reads: Reads { left, right },
+        bytes: bytes.as_str(),
+        way: way.as_str(),
+    };
     let refused = Refused {
         head: Head { fault, slot, insn },
-        reads: Reads { left, right },
+        seen,
         help: help_on(fault),
     };
     format!(in alloc; "{refused}")
 }
 
-/// What is found of a program, told at length: the fault that `verify` has, what is known where it is refused, and what
-/// the manual says of it; or the slots that no way reaches. It fails only where memory is refused.
+/// What is found of a program, told at length: the fault that `verify` has, what is known where it is refused, the way
+/// that leads there, and what the manual says of it; or the slots that no way reaches. It fails only where memory is refused.
 pub fn explanation(alloc: Global, program: &Program, layout: Layout) -> Result<Told, AllocError>
     ensures { IfOk result (IsExplanation layout program.now) }
 {
@@ -243,6 +298,8 @@ pub fn explanation(alloc: Global, program: &Program, layout: Layout) -> Result<T
             &slots,
         )?)),
         Finding::Looked(fault) => Ok(Told::Refused(look_told(alloc, fault)?)),
-        Finding::Refused(refusal) => Ok(Told::Refused(refusal_told(alloc, &refusal)?)),
+        Finding::Refused(refusal) => Ok(Told::Refused(refusal_told(
+            alloc, program, layout, &refusal,
+        )?)),
     }
 }

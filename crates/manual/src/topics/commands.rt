@@ -48,7 +48,7 @@ list FILE: turns the hex of a hook's code into text: an instruction a line. list
     Topic {
         name: "check",
         text: "\
-check FILE: says whether a server takes the hook whose hex stands in FILE, for records of version 1, and how many instructions it has. check --why prints, of a hook that is not taken, the fault, the instruction behind its slot, what is known of the registers that it reads (unset, or between which numbers or offsets they lie), and how to mend it; of one that is taken, the slots of instructions that no way reaches.
+check FILE: says whether a server takes the hook whose hex stands in FILE, for records of version 1, and how many instructions it has. check --why prints, of a hook that is not taken, the fault, the instruction behind its slot, what is known of the registers that it reads (unset, or between which numbers or offsets they lie) and of the bytes that it loads from the stack, a way that leads there, and how to mend it; of one that is taken, the slots of instructions that no way reaches.
 
   oauthd check hook.hex
   oauthd check --why hook.hex

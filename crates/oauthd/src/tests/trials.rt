@@ -32,19 +32,31 @@ fn why_a_program_is_refused(rt: HostRuntime) -> Result<(), Fail> {
         ("ja -1\nexit", "refused JumpBack(0)\n\nJumpBack(N): "),
         (
             "mov64 r2 1\nexit",
-            "refused UnsetRegister(1)\n1: exit\nr0: unset\n\nUnsetRegister(N): ",
+            "refused UnsetRegister(1)\n1: exit\nr0: unset\nfrom slot 0: nothing writes r0\n\nUnsetRegister(N): ",
         ),
         (
             "mov64 r3 r10\nldxb r4 r1 8\nsub64 r3 r4\nldxb r0 r3 -300\nexit",
-            "refused OutOfRegion(3)\n3: ldxb r0 r3 -300\nr3: stack, -255 to 0\n\nOutOfRegion(N): ",
+            "refused OutOfRegion(3)\n3: ldxb r0 r3 -300\nr3: stack, -255 to 0\nfrom slot 0\n\nOutOfRegion(N): ",
         ),
         (
             "stdw r1 48 60\nexit",
-            "refused ReadOnlyField(0)\n0: stdw r1 48 60\nr1: record, 0 to 0\n\nReadOnlyField(N): ",
+            "refused ReadOnlyField(0)\n0: stdw r1 48 60\nr1: record, 0 to 0\nfrom slot 0\n\nReadOnlyField(N): ",
         ),
         (
             "ldxdw r0 r1 8\nadd64 r1 r0\nexit",
-            "refused PointerRange(1)\n1: add64 r1 r0\nr1: record, 0 to 0\nr0: number, 0 to 18446744073709551615, signed -9223372036854775808 to 9223372036854775807\n\nPointerRange(N): ",
+            "refused PointerRange(1)\n1: add64 r1 r0\nr1: record, 0 to 0\nr0: number, 0 to 18446744073709551615, signed -9223372036854775808 to 9223372036854775807\nfrom slot 0\n\nPointerRange(N): ",
+        ),
+        (
+            "ldxdw r2 r1 8\njeq64 r2 0 +1\nmov64 r0 1\nexit",
+            "refused UnsetRegister(3)\n3: exit\nr0: unset\nfrom slot 0, 1 jumps to 3: nothing writes r0\n\nUnsetRegister(N): ",
+        ),
+        (
+            "stb r10 -3 1\nldxdw r0 r10 -12\nexit",
+            "refused UnsetByte(1)\n1: ldxdw r0 r10 -12\nr10: stack, 0 to 0\nstack -16 to -9: unset\nstack -8: unset\nstack -7: unset\nstack -6: unset\nstack -5: unset\nstack -4: unset\nstack -3: byte\nstack -2: unset\nstack -1: unset\nfrom slot 0\n\nUnsetByte(N): ",
+        ),
+        (
+            "ldxb r2 r1 8\nstxdw r10 -16 r2\nldxdw r0 r10 -12\nexit",
+            "refused UnsetByte(2)\n2: ldxdw r0 r10 -12\nr10: stack, 0 to 0\nstack -16 to -9: number, 0 to 255\nstack -8 to -1: unset\nfrom slot 0\n\nUnsetByte(N): ",
         ),
     ] {
         for command in ["check", "check2"] {
