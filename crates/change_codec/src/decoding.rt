@@ -1,0 +1,318 @@
+//! Dated changes from bytes.
+
+ghost use Rattle.std.specs.Prelude.{◌≡◌, ◌<◌, ◌≤◌, ◌^◌, List, IfOk, Ok};
+ghost use Rattle.std.specs.Int.{w32, w64};
+ghost use Rattle.change_codec.specs.Spelling.{DatedFact, HaveSpelling, code_of, dated_fact, dated_facts, fact_of, spelling};
+ghost use Rattle.change_codec.specs.Reading.{Gives, code_at, code_given_at, consented_at, counted_at, dated_at, each_dated_at, fact_at, family_ended_at, hook_gone_at, hook_set_at, issued_alone_at, issued_at, kind_at, moment_at, number_at, part_at, party_at, reading, spent_at, text_at, token_at, whole_at};
+
+use crate::dated::DatedChange;
+use crate::fault::{ChangeFault, DecodeFault};
+use consent::{Change, ClientNo, CodeFacts, Moment, NewToken, OwnerNo, TokenKind};
+use std::alloc::Global;
+
+fn short_of(bytes: &[u8]) -> Result<(u32, &[u8]), DecodeFault>
+    ensures { Gives (λ x. (x.0, x.1.now)) result (number_at w32 bytes.now) }
+{
+    if bytes.len() < 4 {
+        return Err(DecodeFault::Bytes(ChangeFault::Short));
+    }
+    let (front, rest) = bytes.split_at(4);
+    let number = u32::from_be_bytes([front[0], front[1], front[2], front[3]]);
+    Ok((number, rest))
+}
+
+fn wide_of(bytes: &[u8]) -> Result<(u64, &[u8]), DecodeFault>
+    ensures { Gives (λ x. (x.0, x.1.now)) result (number_at w64 bytes.now) }
+{
+    if bytes.len() < 8 {
+        return Err(DecodeFault::Bytes(ChangeFault::Short));
+    }
+    let (front, rest) = bytes.split_at(8);
+    let number = u64::from_be_bytes([
+        front[0], front[1], front[2], front[3], front[4], front[5], front[6], front[7],
+    ]);
+    Ok((number, rest))
+}
+
+#[tactic(auto, unfolding(crate::specs::Reading::party_at))]
+fn party_of(bytes: &[u8]) -> Result<(u32, &[u8]), DecodeFault>
+    ensures read { Gives (λ x. (x.0, x.1.now)) result (party_at bytes.now) }
+    ensures from_1 { IfOk result (λ x. 1 ≤ x.0) }
+{
+    let (number, rest) = short_of(bytes)?;
+    if number == 0 {
+        return Err(DecodeFault::Bytes(ChangeFault::Number));
+    }
+    Ok((number, rest))
+}
+
+#[tactic(auto, unfolding(crate::specs::Reading::moment_at))]
+fn moment_of(bytes: &[u8]) -> Result<(u64, &[u8]), DecodeFault>
+    ensures read { Gives (λ x. (x.0, x.1.now)) result (moment_at bytes.now) }
+    ensures in_range { IfOk result (λ x. x.0 < 2 ^ 63) }
+{
+    let (seconds, rest) = wide_of(bytes)?;
+    if seconds >= 1 << 63 {
+        return Err(DecodeFault::Bytes(ChangeFault::Moment));
+    }
+    Ok((seconds, rest))
+}
+
+#[tactic(auto, unfolding(crate::specs::Reading::part_at, crate::specs::Reading::counted_at))]
+fn counted_of(bytes: &[u8]) -> Result<(&[u8], &[u8]), DecodeFault>
+    ensures { Gives (λ x. (x.0.now, x.1.now)) result (counted_at bytes.now) }
+{
+    let (len, rest) = short_of(bytes)?;
+    let len = len as usize;
+    if rest.len() < len {
+        return Err(DecodeFault::Bytes(ChangeFault::Short));
+    }
+    let (part, rest) = rest.split_at(len);
+    Ok((part, rest))
+}
+
+#[tactic(auto, using(crate::proofs::Texts::utf8_where, crate::proofs::Texts::not_utf8), unfolding(crate::specs::Reading::text_at))]
+fn text_of(bytes: &[u8]) -> Result<(&str, &[u8]), DecodeFault>
+    ensures { Gives (λ x. (x.0.now, x.1.now)) result (text_at bytes.now) }
+{
+    let (part, rest) = counted_of(bytes)?;
+    match str::from_utf8(part) {
+        Ok(text) => Ok((text, rest)),
+        Err(_) => Err(DecodeFault::Bytes(ChangeFault::NotText)),
+    }
+}
+
+#[tactic(auto, unfolding(crate::specs::Reading::part_at))]
+fn digest_of(bytes: &[u8]) -> Result<([u8; 32], &[u8]), DecodeFault>
+    ensures { Gives (λ x. (x.0, x.1.now)) result (part_at 32 bytes.now) }
+{
+    if bytes.len() < 32 {
+        return Err(DecodeFault::Bytes(ChangeFault::Short));
+    }
+    let (front, rest) = bytes.split_at(32);
+    let mut digest = [0u8; 32];
+    digest.copy_from_slice(front);
+    Ok((digest, rest))
+}
+
+#[tactic(auto, unfolding(crate::specs::Reading::kind_at))]
+fn kind_of(bytes: &[u8]) -> Result<(TokenKind, &[u8]), DecodeFault>
+    ensures { Gives (λ x. (x.0, x.1.now)) result (kind_at bytes.now) }
+{
+    match bytes {
+        [] => Err(DecodeFault::Bytes(ChangeFault::Short)),
+        [0, rest @ ..] => Ok((TokenKind::Access, rest)),
+        [1, rest @ ..] => Ok((TokenKind::Refresh, rest)),
+        [_, ..] => Err(DecodeFault::Bytes(ChangeFault::Kind)),
+    }
+}
+
+#[tactic(auto, unfolding(crate::specs::Reading::token_at))]
+fn token_of(bytes: &[u8]) -> Result<(NewToken, &[u8]), DecodeFault>
+    ensures { Gives (λ x. (x.0, x.1.now)) result (token_at bytes.now) }
+{
+    let (kind, rest) = kind_of(bytes)?;
+    let (digest, rest) = digest_of(rest)?;
+    let (scope, rest) = wide_of(rest)?;
+    let (life, rest) = short_of(rest)?;
+    let token = NewToken {
+        kind,
+        digest,
+        scope,
+        life,
+    };
+    Ok((token, rest))
+}
+
+#[tactic(auto, unfolding(crate::specs::Reading::code_at))]
+fn code_facts_of(bytes: &[u8]) -> Result<(CodeFacts, &[u8]), DecodeFault>
+    ensures { Gives (λ x. (code_of x.0, x.1.now)) result (code_at bytes.now) }
+{
+    let (client, rest) = party_of(bytes)?;
+    let (owner, rest) = party_of(rest)?;
+    let (scope, rest) = wide_of(rest)?;
+    let (redirect, rest) = text_of(rest)?;
+    let (challenge, rest) = text_of(rest)?;
+    let facts = CodeFacts {
+        client: ClientNo::new(client),
+        owner: OwnerNo::new(owner),
+        scope,
+        redirect,
+        challenge,
+    };
+    Ok((facts, rest))
+}
+
+#[tactic(auto, unfolding(crate::specs::Reading::consented_at))]
+fn consented_of(bytes: &[u8]) -> Result<(Change, &[u8]), DecodeFault>
+    ensures { Gives (λ x. (fact_of x.0, x.1.now)) result (consented_at bytes.now) }
+{
+    let (owner, rest) = party_of(bytes)?;
+    let (client, rest) = party_of(rest)?;
+    let (mask, rest) = wide_of(rest)?;
+    let change = Change::Consented {
+        owner: OwnerNo::new(owner),
+        client: ClientNo::new(client),
+        mask,
+    };
+    Ok((change, rest))
+}
+
+#[tactic(auto, unfolding(crate::specs::Reading::code_given_at))]
+fn code_given_of(bytes: &[u8]) -> Result<(Change, &[u8]), DecodeFault>
+    ensures { Gives (λ x. (fact_of x.0, x.1.now)) result (code_given_at bytes.now) }
+{
+    match code_facts_of(bytes) {
+        Ok((facts, rest)) => {
+            let (digest, rest) = digest_of(rest)?;
+            Ok((Change::CodeGiven { facts, digest }, rest))
+        }
+        Err(fault) => Err(fault),
+    }
+}
+
+#[tactic(auto, unfolding(crate::specs::Reading::issued_alone_at))]
+fn issued_alone_of(bytes: &[u8]) -> Result<(Change, &[u8]), DecodeFault>
+    ensures { Gives (λ x. (fact_of x.0, x.1.now)) result (issued_alone_at bytes.now) }
+{
+    let (client, rest) = party_of(bytes)?;
+    let (token, rest) = token_of(rest)?;
+    let client = ClientNo::new(client);
+    Ok((Change::IssuedAlone { client, token }, rest))
+}
+
+#[tactic(auto, unfolding(crate::specs::Reading::issued_at))]
+fn issued_of(bytes: &[u8]) -> Result<(Change, &[u8]), DecodeFault>
+    ensures { Gives (λ x. (fact_of x.0, x.1.now)) result (issued_at bytes.now) }
+{
+    let (of, rest) = digest_of(bytes)?;
+    let (token, rest) = token_of(rest)?;
+    Ok((Change::Issued { of, token }, rest))
+}
+
+#[tactic(auto, unfolding(crate::specs::Reading::spent_at))]
+fn spent_of(bytes: &[u8]) -> Result<(Change, &[u8]), DecodeFault>
+    ensures { Gives (λ x. (fact_of x.0, x.1.now)) result (spent_at bytes.now) }
+{
+    let (digest, rest) = digest_of(bytes)?;
+    Ok((Change::Spent { digest }, rest))
+}
+
+#[tactic(auto, unfolding(crate::specs::Reading::family_ended_at))]
+fn family_ended_of(bytes: &[u8]) -> Result<(Change, &[u8]), DecodeFault>
+    ensures { Gives (λ x. (fact_of x.0, x.1.now)) result (family_ended_at bytes.now) }
+{
+    let (of, rest) = digest_of(bytes)?;
+    Ok((Change::FamilyEnded { of }, rest))
+}
+
+#[tactic(auto, unfolding(crate::specs::Reading::hook_set_at))]
+fn hook_set_of(bytes: &[u8]) -> Result<(Change, &[u8]), DecodeFault>
+    ensures { Gives (λ x. (fact_of x.0, x.1.now)) result (hook_set_at bytes.now) }
+{
+    let (name, rest) = text_of(bytes)?;
+    let (version, rest) = wide_of(rest)?;
+    let (code, rest) = counted_of(rest)?;
+    let change = Change::HookSet {
+        name,
+        version,
+        code,
+    };
+    Ok((change, rest))
+}
+
+#[tactic(auto, unfolding(crate::specs::Reading::hook_gone_at))]
+fn hook_gone_of(bytes: &[u8]) -> Result<(Change, &[u8]), DecodeFault>
+    ensures { Gives (λ x. (fact_of x.0, x.1.now)) result (hook_gone_at bytes.now) }
+{
+    let (name, rest) = text_of(bytes)?;
+    Ok((Change::HookGone { name }, rest))
+}
+
+#[tactic(auto, unfolding(crate::specs::Reading::fact_at))]
+fn change_of(bytes: &[u8]) -> Result<(Change, &[u8]), DecodeFault>
+    ensures { Gives (λ x. (fact_of x.0, x.1.now)) result (fact_at bytes.now) }
+{
+    match bytes {
+        [] => Err(DecodeFault::Bytes(ChangeFault::Short)),
+        [1, rest @ ..] => consented_of(rest),
+        [2, rest @ ..] => code_given_of(rest),
+        [3, rest @ ..] => issued_alone_of(rest),
+        [4, rest @ ..] => issued_of(rest),
+        [5, rest @ ..] => spent_of(rest),
+        [6, rest @ ..] => family_ended_of(rest),
+        [7, rest @ ..] => hook_set_of(rest),
+        [8, rest @ ..] => hook_gone_of(rest),
+        [_, ..] => Err(DecodeFault::Bytes(ChangeFault::Variant)),
+    }
+}
+
+#[tactic(auto, unfolding(crate::specs::Reading::dated_at))]
+fn dated_of(bytes: &[u8]) -> Result<(DatedChange, &[u8]), DecodeFault>
+    ensures { Gives (λ x. (dated_fact x.0, x.1.now)) result (dated_at bytes.now) }
+{
+    let (moment, rest) = moment_of(bytes)?;
+    let moment = Moment::new(moment);
+    match change_of(rest) {
+        Ok((change, rest)) => Ok((DatedChange { moment, change }, rest)),
+        Err(fault) => Err(fault),
+    }
+}
+
+fn each_dated_of(
+    alloc: Global,
+    count: u32,
+    bytes: &[u8],
+) -> Result<(Vec<DatedChange>, &[u8]), DecodeFault>
+    ensures { Gives (λ x. (dated_facts x.0.items, x.1.now)) result (each_dated_at count bytes.now) }
+{
+    let mut changes = Vec::new(alloc);
+    let mut rest = bytes;
+    for _ in 0..count {
+        match dated_of(rest) {
+            Ok((dated, after)) => {
+                changes.extend_from_slice(&[dated])?;
+                rest = after;
+            }
+            Err(fault) => return Err(fault),
+        }
+    }
+    Ok((changes, rest))
+}
+
+#[tactic(auto, unfolding(crate::specs::Reading::whole_at))]
+fn whole_of(alloc: Global, bytes: &[u8]) -> Result<Vec<DatedChange>, DecodeFault>
+    ensures { Gives (λ v. dated_facts v.items) result (whole_at bytes.now) }
+{
+    let (count, rest) = short_of(bytes)?;
+    let (changes, rest) = each_dated_of(alloc, count, rest)?;
+    if !rest.is_empty() {
+        return Err(DecodeFault::Bytes(ChangeFault::Behind));
+    }
+    Ok(changes)
+}
+
+#[tactic(auto, unfolding(crate::specs::Reading::reading))]
+fn read_all(alloc: Global, bytes: &[u8]) -> Result<Vec<DatedChange>, DecodeFault>
+    ensures { Gives (λ v. dated_facts v.items) result (reading bytes.now) }
+{
+    match bytes {
+        [] => Err(DecodeFault::Bytes(ChangeFault::Short)),
+        [1, rest @ ..] => whole_of(alloc, rest),
+        [_, ..] => Err(DecodeFault::Bytes(ChangeFault::Version)),
+    }
+}
+
+/// The dated changes that all of the bytes spell. Their texts and their code lie in the bytes.
+pub fn decode(alloc: Global, bytes: &[u8]) -> Result<Vec<DatedChange>, DecodeFault>
+    // What is read is spelled so.
+    ensures spelled { IfOk result (λ v. bytes.now ≡ spelling (dated_facts v.items)) }
+    ensures fits { IfOk result (λ v. HaveSpelling (dated_facts v.items)) }
+    // What is spelled so is read, unless memory runs out.
+    ensures again { (ds : List DatedFact) → HaveSpelling ds → bytes.now ≡ spelling ds
+        → Gives (λ v. dated_facts v.items) result (Ok ds) }
+    // Which fault it is.
+    ensures exact { Gives (λ v. dated_facts v.items) result (reading bytes.now) }
+{
+    read_all(alloc, bytes)
+}
