@@ -123,25 +123,7 @@ fn bytes_read(layout: Layout, known: &Known, insn: Insn) -> Option<BytesRead>
             offset,
             ..
         } => bytes_behind(layout, known.register(src), offset, size.size()),
-        Insn::Alu64Imm { .. }
-        | Insn::Alu64Reg { .. }
-        | Insn::Alu32Imm { .. }
-        | Insn::Alu32Reg { .. }
-        | Insn::Divide { .. }
-        | Insn::Remainder { .. }
-        | Insn::Negate { .. }
-        | Insn::MoveSigned { .. }
-        | Insn::SwapBytes { .. }
-        | Insn::LoadWide { .. }
-        | Insn::StoreReg { .. }
-        | Insn::StoreImm { .. }
-        | Insn::Jump { .. }
-        | Insn::JumpLong { .. }
-        | Insn::Jump64IfImm { .. }
-        | Insn::Jump64IfReg { .. }
-        | Insn::Jump32IfImm { .. }
-        | Insn::Jump32IfReg { .. }
-        | Insn::Exit => None,
+        _ => None,
     }
 }
 

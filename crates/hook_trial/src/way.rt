@@ -36,27 +36,7 @@ enum Step {
 fn goes_on(insn: Insn) -> bool
     ensures { result ≡ goes_on insn }
 {
-    match insn {
-        Insn::Exit | Insn::Jump { .. } | Insn::JumpLong { .. } => false,
-        Insn::Alu64Imm { .. }
-        | Insn::Alu64Reg { .. }
-        | Insn::Alu32Imm { .. }
-        | Insn::Alu32Reg { .. }
-        | Insn::Divide { .. }
-        | Insn::Remainder { .. }
-        | Insn::Negate { .. }
-        | Insn::MoveSigned { .. }
-        | Insn::SwapBytes { .. }
-        | Insn::LoadWide { .. }
-        | Insn::Load { .. }
-        | Insn::LoadSigned { .. }
-        | Insn::StoreReg { .. }
-        | Insn::StoreImm { .. }
-        | Insn::Jump64IfImm { .. }
-        | Insn::Jump64IfReg { .. }
-        | Insn::Jump32IfImm { .. }
-        | Insn::Jump32IfReg { .. } => true,
-    }
+    !matches!(insn, Insn::Exit | Insn::Jump { .. } | Insn::JumpLong { .. })
 }
 
 /// Whether a way goes on behind an instruction, leaving a register unwritten, if one is to be.
@@ -98,10 +78,7 @@ fn jump_target(slot: usize, insn: Insn) -> Option<usize>
 fn step_at(steps: &[Option<Step>], slot: usize) -> Option<Step>
     ensures { result ≡ slice_index_or steps.now slot None }
 {
-    match steps.get(slot) {
-        Some(step) => *step,
-        None => None,
-    }
+    *steps.get(slot)?
 }
 
 /// A slot, if a way leads from it to the goal.

@@ -247,10 +247,7 @@ fn unset_among(known: &Known, register: Option<RegNo>) -> Option<RegNo>
 fn unset_read(known: &Known, insn: Insn) -> Option<RegNo>
     ensures { result ≡ unset_read known.now insn }
 {
-    match unset_among(known, left_read(insn)) {
-        Some(register) => Some(register),
-        None => unset_among(known, right_read(insn)),
-    }
+    unset_among(known, left_read(insn)).or(unset_among(known, right_read(insn)))
 }
 
 /// What is told of a refusal by the walk.
