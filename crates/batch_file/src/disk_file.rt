@@ -4,10 +4,13 @@
 //! The lock is held on a file of its own beside it, since the file itself is another one after a replacement.
 
 ghost use Rattle.std.specs.Prelude.{◌≡◌, length, IfOk, Some};
-ghost use Rattle.batch_file.specs.declared.disk_file.OpenFault.TheVariants.{Failed, Memory};
+ghost use Rattle.std.specs.IoError.{error_kind};
+ghost use Rattle.std.specs.Path.{path_bytes};
+ghost use Rattle.batch_file.specs.declared.disk_file.OpenFault.TheVariants.{Memory};
 ghost use Rattle.batch_file.specs.Calls.{content, failures, LeftSince, MayLeave};
 ghost use Rattle.batch_file.specs.Crashes.{Only};
-ghost use Rattle.batch_file.specs.FaultTexts.{of_lock, open_fault_text};
+ghost use Rattle.batch_file.specs.FaultTexts.{of_error, of_lock, open_fault_text, system_fault, system_fault_text};
+ghost use Rattle.batch_file.specs.Folders.{folder_of};
 ghost use Rattle.batch_file.specs.Moments.{counts_now_of, only_now_of};
 
 use crate::call_log::{CallLog, DiskCall};
@@ -15,11 +18,69 @@ use crate::device::{Device, DeviceFault};
 use std::alloc::AllocError;
 use std::fmt::{self, Display, Formatter, Write as _};
 use std::fs::{self, File, OpenOptions, TryLockError};
-use std::io::{self, Read, Write};
+use std::io::{self, ErrorKind, Read, Write};
 use std::os::unix::fs::{FileExt, OpenOptionsExt};
+use std::path::Path;
+use std::rt::Files;
 
 /// A new file may be read and written by its owner alone.
 const OWNER_ONLY: u32 = 0o600;
+
+/// Why the system refused a call on a file.
+#[derive(Clone, Copy, Debug, PartialEq, Eq)]
+pub enum SystemFault {
+    /// A folder of the path is not there.
+    NotFound,
+    /// The program may not do it.
+    PermissionDenied,
+    /// What should be a folder is none.
+    NotADirectory,
+    /// The path is that of a folder.
+    IsADirectory,
+    /// Nothing can be written on the disk.
+    ReadOnlyFilesystem,
+    /// The disk is full.
+    StorageFull,
+    /// The program's owner has no more room on the disk.
+    QuotaExceeded,
+    /// Some other fault.
+    Other,
+}
+
+impl SystemFault {
+    /// The fault of a kind of error.
+    fn of_kind(kind: ErrorKind) -> SystemFault
+        ensures { result ≡ system_fault kind }
+    {
+        match kind {
+            ErrorKind::NotFound => SystemFault::NotFound,
+            ErrorKind::PermissionDenied => SystemFault::PermissionDenied,
+            ErrorKind::NotADirectory => SystemFault::NotADirectory,
+            ErrorKind::IsADirectory => SystemFault::IsADirectory,
+            ErrorKind::ReadOnlyFilesystem => SystemFault::ReadOnlyFilesystem,
+            ErrorKind::StorageFull => SystemFault::StorageFull,
+            ErrorKind::QuotaExceeded => SystemFault::QuotaExceeded,
+            _ => SystemFault::Other,
+        }
+    }
+}
+
+impl Display for SystemFault {
+    ghost output = { λ fault. Some (system_fault_text fault) };
+
+    fn fmt<W: std::fmt::Write>(&self, f: &mut Formatter<W>) -> fmt::Result {
+        match self {
+            SystemFault::NotFound => write!(f, "not found"),
+            SystemFault::PermissionDenied => write!(f, "permission denied"),
+            SystemFault::NotADirectory => write!(f, "not a directory"),
+            SystemFault::IsADirectory => write!(f, "is a directory"),
+            SystemFault::ReadOnlyFilesystem => write!(f, "read-only filesystem"),
+            SystemFault::StorageFull => write!(f, "no storage space"),
+            SystemFault::QuotaExceeded => write!(f, "quota exceeded"),
+            SystemFault::Other => write!(f, "other error"),
+        }
+    }
+}
 
 /// Why a file is not opened.
 #[derive(Clone, Copy, Debug, PartialEq, Eq)]
@@ -29,7 +90,7 @@ pub enum OpenFault {
     /// Another program holds its lock.
     InUse,
     /// The system refused a call.
-    Failed,
+    Open(SystemFault),
 }
 
 impl Display for OpenFault {
@@ -39,7 +100,7 @@ impl Display for OpenFault {
         match self {
             OpenFault::Memory => write!(f, "Memory"),
             OpenFault::InUse => write!(f, "InUse"),
-            OpenFault::Failed => write!(f, "Failed"),
+            OpenFault::Open(fault) => write!(f, "Open: {fault}"),
         }
     }
 }
@@ -53,28 +114,31 @@ impl From<AllocError> for OpenFault {
 }
 
 impl From<io::Error> for OpenFault {
-    ghost from_gives = { λ _ fault. fault ≡ Failed };
+    ghost from_gives = { λ error fault. fault ≡ of_error (error_kind error) };
 
-    fn from(_: io::Error) -> OpenFault {
-        OpenFault::Failed
+    fn from(error: io::Error) -> OpenFault {
+        match error.kind() {
+            ErrorKind::OutOfMemory => OpenFault::Memory,
+            kind => OpenFault::Open(SystemFault::of_kind(kind)),
+        }
     }
 }
 
 impl From<TryLockError> for OpenFault {
     ghost from_gives = { λ refused fault. fault ≡ of_lock refused };
 
-    fn from(fault: TryLockError) -> OpenFault {
-        match fault {
+    fn from(refused: TryLockError) -> OpenFault {
+        match refused {
             TryLockError::WouldBlock => OpenFault::InUse,
-            TryLockError::Error(_) => OpenFault::Failed,
+            TryLockError::Error(error) => OpenFault::from(error),
         }
     }
 }
 
-/// A file in a folder, open for reading and writing and locked, and the name of the one that is to take its place.
+/// A file of the system, open for reading and writing and locked, and the path of the one that is to take its place.
 #[derive(Drop)]
-pub struct DiskFile {
-    rt: HostRuntime,
+pub struct DiskFile<'r, R> {
+    rt: &'r R,
     file: File,
     folder: File,
     lock: File,
@@ -85,8 +149,8 @@ pub struct DiskFile {
 
 /// A file that was opened, and its bytes.
 #[derive(Drop)]
-pub struct Opened {
-    pub device: DiskFile,
+pub struct Opened<'r, R> {
+    pub device: DiskFile<'r, R>,
     pub bytes: Vec<u8>,
 }
 
@@ -97,56 +161,66 @@ fn options() -> OpenOptions {
     options
 }
 
-/// Opens the file of a name in a folder, or makes it, and locks it. What is read of it is on the disk.
-pub fn open_file(rt: HostRuntime, folder: &str, name: &str) -> Result<Opened, OpenFault>
-    ensures same { IfOk result (λ opened. opened.bytes.items ≡ content opened.device.log.calls) }
-    ensures durable { IfOk result (λ opened. Only (content opened.device.log.calls) (MayLeave opened.device.log.calls)) }
+/// The folder in which the file of a path lies.
+fn folder_of(path: &str) -> Path<'_>
+    ensures { path_bytes result ≡ folder_of path.now }
 {
-    let alloc = rt.alloc();
-    let path = format!(in alloc; "{folder}/{name}")?;
-    let next_path = format!(in alloc; "{folder}/{name}.next")?;
-    let lock_path = format!(in alloc; "{folder}/{name}.lock")?;
-    let folder = File::open(&rt, folder)?;
-    let lock = options().open(&rt, lock_path.as_str())?;
-    lock.try_lock()?;
-    let _ = fs::remove_file(&rt, next_path.as_str());
-    let mut file = options().open(&rt, path.as_str())?;
-    file.sync_all()?;
-    folder.sync_all()?;
-    let mut bytes = Vec::new(alloc);
-    file.read_to_end(&mut bytes)?;
-    let mut log = CallLog::new();
-    if log.told(DiskCall::Opened(&bytes), Ok(())).is_err() {
-        return Err(OpenFault::Failed);
+    match Path::new(path).parent() {
+        None => Path::new("/"),
+        Some(folder) if folder.as_os_str().is_empty() => Path::new("."),
+        Some(folder) => folder,
     }
-    let device = DiskFile {
-        rt,
-        file,
-        folder,
-        lock,
-        path,
-        next_path,
-        log,
-    };
-    Ok(Opened { device, bytes })
 }
 
-impl DiskFile {
+impl<'r, R: Files<File = File> + AllocGlobal> DiskFile<'r, R> {
+    /// Opens the file of a path, or makes it, and locks it. What is read of it is on the disk.
+    pub fn open(rt: &'r R, path: &str) -> Result<Opened<'r, R>, OpenFault>
+        ensures same { IfOk result (λ opened. opened.bytes.items ≡ content opened.device.log.calls) }
+        ensures durable { IfOk result (λ opened. Only (content opened.device.log.calls) (MayLeave opened.device.log.calls)) }
+        ensures faultless { IfOk result (λ opened. failures opened.device.log.calls ≡ 0) }
+    {
+        let alloc = rt.alloc();
+        let next_path = format!(in alloc; "{path}.next")?;
+        let lock_path = format!(in alloc; "{path}.lock")?;
+        let path = String::from_str(alloc, path)?;
+        let folder = File::open(rt, folder_of(path.as_str()))?;
+        let lock = options().open(rt, lock_path.as_str())?;
+        lock.try_lock()?;
+        let _ = fs::remove_file(rt, next_path.as_str());
+        let mut file = options().open(rt, path.as_str())?;
+        file.sync_all()?;
+        folder.sync_all()?;
+        let mut bytes = Vec::new(alloc);
+        file.read_to_end(&mut bytes)?;
+        let mut log = CallLog::new();
+        let _ = log.told(DiskCall::Opened(&bytes), Ok(()));
+        let device = DiskFile {
+            rt,
+            file,
+            folder,
+            lock,
+            path,
+            next_path,
+            log,
+        };
+        Ok(Opened { device, bytes })
+    }
+
     /// Writes another file with these bytes, and puts it in the place of this one.
     fn swap(&mut self, bytes: &[u8]) -> io::Result<()>
         ensures { self.new.log ≡ self.old.log }
     {
         let next_path = self.next_path.as_str();
-        let mut file = options().truncate(true).open(&self.rt, next_path)?;
+        let mut file = options().truncate(true).open(self.rt, next_path)?;
         file.write_all(bytes)?;
         file.sync_all()?;
-        fs::rename(&self.rt, next_path, self.path.as_str())?;
+        fs::rename(self.rt, next_path, self.path.as_str())?;
         self.file = file;
         self.folder.sync_all()
     }
 }
 
-impl Device for DiskFile {
+impl<'r, R: Files<File = File> + AllocGlobal> Device for DiskFile<'r, R> {
     ghost seen = { λ device. content device.log.calls };
 
     ghost may_leave = { λ device left. MayLeave device.log.calls left };
