@@ -12,7 +12,7 @@ use Rattle.change_codec.specs.declared.fault.ChangeFault.TheVariants.{Behind, Ve
 use Rattle.change_codec.specs.declared.fault.DecodeFault.{DecodeFault}
 use Rattle.change_codec.specs.Spelling.{DatedFact, dated_facts, short, wide, fact_spelling, dated_spelling, spelling, DatedFits, HaveSpelling}
 use Rattle.change_codec.specs.Reading.{◌>>=◌, Gives, number_at, moment_at, fact_at, dated_at, each_dated_at, whole_at, reading}
-use Rattle.change_codec.proofs.Fields.{IsBytes, IsBytes-rest, bind_ok, passed, ok_is, Takes, Takes-then, short_takes, short_again, moment_takes, moment_again}
+use Rattle.change_codec.specs.FieldLaws.{IsBytes, IsBytes-rest, bind_ok, passed, ok_is, Takes, Takes-then, short_takes, short_again, moment_takes, moment_again}
 use Rattle.change_codec.proofs.Facts.{fact_takes, fact_again}
 
 -- ---- what is read is spelled so

@@ -6,7 +6,8 @@ use Rattle.consent.specs.declared.change.NewToken.{NewToken}
 use Rattle.change_codec.specs.declared.fault.ChangeFault.{ChangeFault}
 use Rattle.change_codec.specs.Spelling.{Code, Fact, Consented, CodeGiven, IssuedAlone, Issued, Spent, FamilyEnded, HookSet, HookGone, short, wide, counted, token_spelling, code_spelling, fact_spelling, IsDigest, IsText, FactFits}
 use Rattle.change_codec.specs.Reading.{◌>>=◌, number_at, part_at, party_at, counted_at, text_at, token_at, code_at, consented_at, code_given_at, issued_alone_at, issued_at, spent_at, family_ended_at, hook_set_at, hook_gone_at, fact_at}
-use Rattle.change_codec.proofs.Fields.{IsBytes, IsBytes-rest, bind_ok, ok_is, Takes, Takes-then, wide_takes, wide_again, party_takes, party_again, part_takes, part_again, counted_takes, counted_again, text_takes, text_again, token_takes, token_again, code_takes, code_again}
+use Rattle.change_codec.specs.FieldLaws.{IsBytes, IsBytes-rest, bind_ok, ok_is, Takes, Takes-then, wide_takes, wide_again, party_takes, party_again, part_takes, part_again, counted_takes, counted_again, text_takes, text_again}
+use Rattle.change_codec.proofs.Fields.{token_takes, token_again, code_takes, code_again}
 
 -- ---- what is read is spelled so
 

@@ -7,93 +7,9 @@ ghost use Rattle.change_codec.specs.Reading.{Gives, code_at, code_given_at, cons
 
 use crate::dated::DatedChange;
 use crate::fault::{ChangeFault, DecodeFault};
+use crate::field::{counted_of, digest_of, moment_of, party_of, short_of, text_of, wide_of};
 use consent::{Change, ClientNo, CodeFacts, Moment, NewToken, OwnerNo, TokenKind};
 use std::alloc::Global;
-
-fn short_of(bytes: &[u8]) -> Result<(u32, &[u8]), DecodeFault>
-    ensures { Gives (λ x. (x.0, x.1.now)) result (number_at w32 bytes.now) }
-{
-    if bytes.len() < 4 {
-        return Err(DecodeFault::Bytes(ChangeFault::Short));
-    }
-    let (front, rest) = bytes.split_at(4);
-    let number = u32::from_be_bytes([front[0], front[1], front[2], front[3]]);
-    Ok((number, rest))
-}
-
-fn wide_of(bytes: &[u8]) -> Result<(u64, &[u8]), DecodeFault>
-    ensures { Gives (λ x. (x.0, x.1.now)) result (number_at w64 bytes.now) }
-{
-    if bytes.len() < 8 {
-        return Err(DecodeFault::Bytes(ChangeFault::Short));
-    }
-    let (front, rest) = bytes.split_at(8);
-    let number = u64::from_be_bytes([
-        front[0], front[1], front[2], front[3], front[4], front[5], front[6], front[7],
-    ]);
-    Ok((number, rest))
-}
-
-#[tactic(auto, unfolding(crate::specs::Reading::party_at))]
-fn party_of(bytes: &[u8]) -> Result<(u32, &[u8]), DecodeFault>
-    ensures read { Gives (λ x. (x.0, x.1.now)) result (party_at bytes.now) }
-    ensures from_1 { IfOk result (λ x. 1 ≤ x.0) }
-{
-    let (number, rest) = short_of(bytes)?;
-    if number == 0 {
-        return Err(DecodeFault::Bytes(ChangeFault::Number));
-    }
-    Ok((number, rest))
-}
-
-#[tactic(auto, unfolding(crate::specs::Reading::moment_at))]
-fn moment_of(bytes: &[u8]) -> Result<(u64, &[u8]), DecodeFault>
-    ensures read { Gives (λ x. (x.0, x.1.now)) result (moment_at bytes.now) }
-    ensures in_range { IfOk result (λ x. x.0 < 2 ^ 63) }
-{
-    let (seconds, rest) = wide_of(bytes)?;
-    if seconds >= 1 << 63 {
-        return Err(DecodeFault::Bytes(ChangeFault::Moment));
-    }
-    Ok((seconds, rest))
-}
-
-#[tactic(auto, unfolding(crate::specs::Reading::part_at, crate::specs::Reading::counted_at))]
-fn counted_of(bytes: &[u8]) -> Result<(&[u8], &[u8]), DecodeFault>
-    ensures { Gives (λ x. (x.0.now, x.1.now)) result (counted_at bytes.now) }
-{
-    let (len, rest) = short_of(bytes)?;
-    let len = len as usize;
-    if rest.len() < len {
-        return Err(DecodeFault::Bytes(ChangeFault::Short));
-    }
-    let (part, rest) = rest.split_at(len);
-    Ok((part, rest))
-}
-
-#[tactic(auto, using(crate::proofs::Texts::utf8_where, crate::proofs::Texts::not_utf8), unfolding(crate::specs::Reading::text_at))]
-fn text_of(bytes: &[u8]) -> Result<(&str, &[u8]), DecodeFault>
-    ensures { Gives (λ x. (x.0.now, x.1.now)) result (text_at bytes.now) }
-{
-    let (part, rest) = counted_of(bytes)?;
-    match str::from_utf8(part) {
-        Ok(text) => Ok((text, rest)),
-        Err(_) => Err(DecodeFault::Bytes(ChangeFault::NotText)),
-    }
-}
-
-#[tactic(auto, unfolding(crate::specs::Reading::part_at))]
-fn digest_of(bytes: &[u8]) -> Result<([u8; 32], &[u8]), DecodeFault>
-    ensures { Gives (λ x. (x.0, x.1.now)) result (part_at 32 bytes.now) }
-{
-    if bytes.len() < 32 {
-        return Err(DecodeFault::Bytes(ChangeFault::Short));
-    }
-    let (front, rest) = bytes.split_at(32);
-    let mut digest = [0u8; 32];
-    digest.copy_from_slice(front);
-    Ok((digest, rest))
-}
 
 #[tactic(auto, unfolding(crate::specs::Reading::kind_at))]
 fn kind_of(bytes: &[u8]) -> Result<(TokenKind, &[u8]), DecodeFault>

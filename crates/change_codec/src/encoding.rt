@@ -6,14 +6,12 @@ ghost use Rattle.change_codec.specs.Spelling.{CanCount, CanCountIn, CodeFits, Co
 
 use crate::dated::DatedChange;
 use crate::fault::EncodeFault;
+use crate::field::{
+    is_short, put_client, put_counted, put_digest, put_moment, put_owner, put_short, put_text,
+    put_wide,
+};
 use consent::{Change, ClientNo, CodeFacts, Moment, NewToken, OwnerNo, TokenKind};
 use std::alloc::AllocError;
-
-fn is_short(bytes: &[u8]) -> bool
-    ensures { IsTrue result ↔ IsShort (length bytes.now) }
-{
-    bytes.len() < 1 << 32
-}
 
 fn can_count_in(change: &Change) -> bool
     ensures { IsTrue result ↔ CanCountIn (fact_of change.now) }
@@ -44,72 +42,6 @@ fn can_count(changes: &[DatedChange]) -> bool
         }
     }
     true
-}
-
-fn put_wide(out: &mut Vec<u8>, value: u64) -> Result<(), AllocError>
-    ensures written { OnOk result (out.new.items ≡ out.old.items ++ wide value) }
-    ensures fits { IsWide value }
-{
-    out.extend_from_slice(&value.to_be_bytes())?;
-    Ok(())
-}
-
-fn put_short(out: &mut Vec<u8>, number: u32) -> Result<(), AllocError>
-    ensures written { OnOk result (out.new.items ≡ out.old.items ++ short number) }
-    ensures fits { IsShort number }
-{
-    out.extend_from_slice(&number.to_be_bytes())?;
-    Ok(())
-}
-
-fn put_client(out: &mut Vec<u8>, client: ClientNo) -> Result<(), AllocError>
-    ensures written { OnOk result (out.new.items ≡ out.old.items ++ short client) }
-    ensures fits { OnOk result (IsParty client) }
-{
-    put_short(out, client.get())?;
-    Ok(())
-}
-
-fn put_owner(out: &mut Vec<u8>, owner: OwnerNo) -> Result<(), AllocError>
-    ensures written { OnOk result (out.new.items ≡ out.old.items ++ short owner) }
-    ensures fits { OnOk result (IsParty owner) }
-{
-    put_short(out, owner.get())?;
-    Ok(())
-}
-
-fn put_moment(out: &mut Vec<u8>, moment: Moment) -> Result<(), AllocError>
-    ensures written { OnOk result (out.new.items ≡ out.old.items ++ wide moment) }
-    ensures fits { OnOk result (IsMoment moment) }
-{
-    put_wide(out, moment.get())?;
-    Ok(())
-}
-
-fn put_digest(out: &mut Vec<u8>, digest: &[u8; 32]) -> Result<(), AllocError>
-    ensures written { OnOk result (out.new.items ≡ out.old.items ++ digest.now) }
-    ensures fits { IsDigest digest.now }
-{
-    out.extend_from_slice(digest)?;
-    Ok(())
-}
-
-fn put_counted(out: &mut Vec<u8>, bytes: &[u8]) -> Result<(), AllocError>
-    requires { IsShort (length bytes.now) }
-    ensures { OnOk result (out.new.items ≡ out.old.items ++ counted bytes.now) }
-{
-    put_short(out, bytes.len() as u32)?;
-    out.extend_from_slice(bytes)?;
-    Ok(())
-}
-
-fn put_text(out: &mut Vec<u8>, text: &str) -> Result<(), AllocError>
-    requires { IsShort (length text.now) }
-    ensures written { OnOk result (out.new.items ≡ out.old.items ++ counted text.now) }
-    ensures fits { IsText text.now }
-{
-    put_counted(out, text.as_bytes())?;
-    Ok(())
 }
 
 fn byte_of(kind: TokenKind) -> u8

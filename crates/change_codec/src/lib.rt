@@ -22,6 +22,7 @@ mod dated;
 mod decoding;
 mod encoding;
 mod fault;
+pub mod field;
 mod laws;
 
 pub use dated::DatedChange;
