@@ -133,13 +133,13 @@ unset_or_not (kind.Number a) = inr (λ e. cc)
 unset_or_not (kind.Record a) = inr (λ e. cc)
 unset_or_not (kind.Stack a) = inr (λ e. cc)
 
-of_err : (layout : Layout) (size : Size) (wrong : WalkFault) (value : Kind) (r : Result Unit WalkFault) (old new : Known) → value ≢ kind.Unset → StoredOf layout (put_at size value (Err wrong)) r old new → r ≡ Err wrong
+pub of_err : (layout : Layout) (size : Size) (wrong : WalkFault) (value : Kind) (r : Result Unit WalkFault) (old new : Known) → value ≢ kind.Unset → StoredOf layout (put_at size value (Err wrong)) r old new → r ≡ Err wrong
 of_err layout size wrong kind.Unset r old new set h = absurd (set refl)
 of_err layout size wrong (kind.Number a) r old new set h = h.0
 of_err layout size wrong (kind.Record a) r old new set h = h.0
 of_err layout size wrong (kind.Stack a) r old new set h = h.0
 
-of_ok : (layout : Layout) (size : Size) (place : Place) (value : Kind) (r : Result Unit WalkFault) (old new : Known) → value ≢ kind.Unset → StoredOf layout (put_at size value (Ok place)) r old new → StoredAt layout (record { size = size; place = place; value = value }) r old new
+pub of_ok : (layout : Layout) (size : Size) (place : Place) (value : Kind) (r : Result Unit WalkFault) (old new : Known) → value ≢ kind.Unset → StoredOf layout (put_at size value (Ok place)) r old new → StoredAt layout (record { size = size; place = place; value = value }) r old new
 of_ok layout size place kind.Unset r old new set h = absurd (set refl)
 of_ok layout size place (kind.Number a) r old new set h = h
 of_ok layout size place (kind.Record a) r old new set h = h

@@ -1,6 +1,6 @@
 -- What an instruction leaves of what is known, and why it is refused: a table by the kinds of what is known before it.
 -- Nothing is changed but what is said here.
-use Rattle.std.specs.Prelude.{◌≡◌, ◌≢◌, ℕ, ℤ, Bool, true, false, slice_set, Some, Result, Ok, Err}
+use Rattle.std.specs.Prelude.{◌≡◌, ◌≢◌, ℕ, ℤ, Bool, true, false, length, slice_set, Some, Result, Ok, Err}
 use Rattle.insn.specs.declared.register.RegNo.{RegNo}
 use Rattle.insn.specs.declared.register.RegNo.TheVariants.{R0}
 use Rattle.insn.specs.declared.instruction.Insn.{Insn}
@@ -38,8 +38,9 @@ use Rattle.verifier.specs.Follows.{IsFaulty, IsOperand, comparison_of, reg_of}
 
 -- ---- what a register receives
 
--- a register holds a value, and all else stays
+-- of the eleven registers one holds a value, and all else stays
 pub record IsSet (dst : RegNo) (value : Kind) (old new : Known) : Type 0 where
+  pub eleven : length old.registers ≡ 11
   pub registers : new.registers ≡ slice_set old.registers (reg_number dst) value
   pub stack : new.stack ≡ old.stack
 

@@ -1,0 +1,5 @@
+use Rattle.verifier.proofs.TypedUniform.{uniform_is_typed}
+use Rattle.verifier.proofs.laws.uniform_programs_have_typings.Goals as goal
+
+pub returns : goal.returns
+returns c = uniform_is_typed
