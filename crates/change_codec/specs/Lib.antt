@@ -1,6 +1,9 @@
 pub mod Spelling
 pub mod Reading
 pub mod FaultTexts
-pub mod FieldLaws
+pub mod Batches
+pub mod BatchForm
 pub mod Happened
 pub mod HappenedLaws
+pub mod FieldLaws
+pub mod Keeping

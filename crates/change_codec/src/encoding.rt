@@ -13,7 +13,7 @@ use crate::field::{
 use consent::{Change, ClientNo, CodeFacts, Moment, NewToken, OwnerNo, TokenKind};
 use std::alloc::AllocError;
 
-fn can_count_in(change: &Change) -> bool
+pub(crate) fn can_count_in(change: &Change) -> bool
     ensures { IsTrue result ↔ CanCountIn (fact_of change.now) }
 {
     match change {
@@ -161,7 +161,7 @@ fn put_hook_gone(out: &mut Vec<u8>, name: &str) -> Result<(), AllocError>
     Ok(())
 }
 
-fn put_change(out: &mut Vec<u8>, change: &Change) -> Result<(), AllocError>
+pub(crate) fn put_change(out: &mut Vec<u8>, change: &Change) -> Result<(), AllocError>
     requires { CanCountIn (fact_of change.now) }
     ensures written { OnOk result (out.new.items ≡ out.old.items ++ fact_spelling (fact_of change.now)) }
     ensures fits { OnOk result (FactFits (fact_of change.now)) }

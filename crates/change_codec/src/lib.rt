@@ -18,15 +18,19 @@
 //! refresh), its digest, its scope (wide) and its life (short).
 #![tactic(auto)]
 
+mod batch;
 mod dated;
 mod decoding;
 mod encoding;
 mod fault;
 pub mod field;
+mod keeper;
 mod laws;
 
+pub use batch::Batch;
 pub use dated::DatedChange;
 pub use decoding::decode;
 pub use encoding::encode;
 pub use fault::{ChangeFault, DecodeFault, EncodeFault};
+pub use keeper::{KeepFault, Keeper, NoKeeper};
 pub use laws::bytes_spell_one_list;

@@ -1,0 +1,6 @@
+pub mod Lists
+pub mod Loops
+pub mod Chains
+pub mod Fields
+pub mod Images
+pub mod Kept
