@@ -86,6 +86,13 @@ impl Catalogue {
         }
     }
 
+    /// The names, in their order.
+    pub fn names(&self) -> &[String]
+        ensures { map string_bytes result.now ≡ self.now }
+    {
+        &self.names
+    }
+
     /// Takes a further name, which the next bit stands for.
     pub fn push(&mut self, name: &str) -> Result<(), CatalogueFault>
         // Faults are tested in their order, and Memory comes after all tests.
