@@ -2,8 +2,8 @@
 use Rattle.std.proofs.Common.{◌≡◌, ℕ, List, Bool, true, false, Option, Some, None, refl}
 use Rattle.std.specs.Prelude.{not, if◌then◌else◌, Result, Ok, Err}
 use Rattle.clients.specs.RegistryRecord.{RegistryRecord}
-use Rattle.clients.specs.declared.authentication.AuthFault.{AuthFault}
-use Rattle.clients.specs.declared.authentication.AuthFault.TheVariants as auth
+use Rattle.authentication.specs.declared.authentication.AuthFault.{AuthFault}
+use Rattle.authentication.specs.declared.authentication.AuthFault.TheVariants as auth
 use Rattle.consent.specs.History.{Event, has_room, is_taken}
 use Rattle.consent.specs.Changes.{AllFollow}
 use Rattle.messages.specs.declared.error.ErrorName.{ErrorName}

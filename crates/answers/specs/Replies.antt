@@ -5,6 +5,8 @@ use Rattle.pkce.specs.Token.{token_text}
 use Rattle.std.specs.Option.{option_map_or}
 use Rattle.clients.specs.RegistryRecord.{RegistryRecord}
 use Rattle.clients.specs.Clients.{client_at}
+use Rattle.clients.specs.Owners.{sub_of}
+use Rattle.token_store.specs.Found.{owner_number}
 use Rattle.hook_host.specs.Faults.{hook_fault_text}
 use Rattle.messages.specs.declared.request.Draws.{Draws}
 use Rattle.messages.specs.declared.token.ActiveToken.{ActiveToken}
@@ -25,7 +27,7 @@ both_reply rules draws scope life =
 
 -- what is told of a live token
 abbrev pub live_body : ActiveToken → body
-live_body token = body.Active token.client.now token.expires token.issued token.scope.now token.kind
+live_body token = body.Active token.client.now token.expires token.issued token.scope.now (option_copied token.sub) token.kind
 
 -- the id of the client of the number
 abbrev pub id_of : RegistryRecord → ℕ → List ℕ
@@ -45,8 +47,8 @@ reply_of rules names (CodeSent uri draw state) =
     sent_back uri.now (codes "code") (token_text draw) (option_copied state)
 reply_of rules names (TurnedBack uri error state) =
     sent_back uri.now (codes "error") (error_text error) (option_copied state)
-reply_of rules names (Active client issued expires scope kind) =
-    plain 200 (body.Active (id_of rules client) expires issued (scope_text rules.scopes scope) kind)
+reply_of rules names (Active client issued expires scope owner kind) =
+    plain 200 (body.Active (id_of rules client) expires issued (scope_text rules.scopes scope) (sub_of (owner_number owner) rules.owners) kind)
 reply_of rules names Inactive = plain 200 body.Inactive
 reply_of rules names (HookDone name) = plain 200 (body.Hook name.now)
 reply_of rules names (HookRefused fault) = plain 400 (body.HookRefused (hook_fault_text fault))

@@ -7,9 +7,10 @@ use Rattle.clients.specs.RegistryRecord.{RegistryRecord}
 use Rattle.clients.specs.ClientRecord.{ClientRecord}
 use Rattle.clients.specs.Clients.{ids, client_at}
 use Rattle.clients.specs.Numbers.{number_of}
-use Rattle.clients.specs.Authentication.{authenticated}
-use Rattle.clients.specs.declared.authentication.AuthFault.{AuthFault}
-use Rattle.clients.specs.declared.authentication.AuthFault.TheVariants as auth
+use Rattle.clients.specs.Owners.{owner_with}
+use Rattle.authentication.specs.Authentication.{authenticated}
+use Rattle.authentication.specs.declared.authentication.AuthFault.{AuthFault}
+use Rattle.authentication.specs.declared.authentication.AuthFault.TheVariants as auth
 use Rattle.consent.specs.History.{is_within}
 use Rattle.messages.specs.Asked.{Asked}
 use Rattle.messages.specs.MediaType.{is_form}
@@ -68,7 +69,7 @@ with_authenticated rules asked next =
 
 -- the owner of the key that was sent
 abbrev pub owner_of : RegistryRecord → Asked → Option ℕ
-owner_of rules asked = option_and_then (λ key. number_of key rules.owners) asked.owner_key
+owner_of rules asked = option_and_then (λ key. owner_with key rules.owners) asked.owner_key
 
 -- SCOPES (RFC 6749, section 3.3)
 

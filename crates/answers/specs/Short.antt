@@ -1,6 +1,6 @@
 -- How long replies are.
 use Rattle.std.specs.Prelude.{◌≤◌, ◌<◌, ℕ, List, [], Option, length, option_copied, unwrap_or}
-use Rattle.clients.specs.Limits.{identifier_limit, redirect_limit}
+use Rattle.clients.specs.Limits.{identifier_limit, key_limit, redirect_limit}
 use Rattle.hook_host.specs.Names.{name_limit}
 use Rattle.params.specs.Limits.{scope_text_limit}
 use Rattle.messages.specs.declared.token.ActiveToken.{ActiveToken}
@@ -22,10 +22,11 @@ pub record IsShortReturn (uri : List ℕ) (state : Option (List ℕ)) : Type 0 w
   pub short_uri : length uri ≤ redirect_limit
   pub short_state : length (unwrap_or state []) ≤ state_limit
 
--- a live token's client and scope are short
+-- a live token's client and scope are short, and so is what its owner is called
 pub record IsShortLive (token : ActiveToken) : Type 0 where
   pub client : length token.client.now ≤ identifier_limit
   pub scope : length token.scope.now ≤ scope_text_limit
+  pub sub : length (unwrap_or (option_copied token.sub) []) ≤ key_limit
 
 -- what came with the request and is said again is short
 abbrev pub IsShortAnswer : Answer → Type 0

@@ -1,6 +1,6 @@
 //! Replies as values, before they are written.
 
-use consent::{ClientNo, TokenKind};
+use consent::{ClientNo, OwnerNo, TokenKind};
 use hook_host::HookFault;
 use messages::{Draws, ErrorName};
 
@@ -51,6 +51,8 @@ pub enum Answer<'a> {
         issued: u64,
         expires: u64,
         scope: u64,
+        /// `None` where it is the client's own.
+        owner: Option<OwnerNo>,
         kind: TokenKind,
     },
     /// Or of what is none.

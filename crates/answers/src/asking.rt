@@ -9,7 +9,8 @@ ghost use Rattle.answers.specs.Scene.{known_of};
 
 use crate::halt::Halt;
 use crate::view::KnownClient;
-use clients::{AuthFault, OwnerNo, Registry};
+use authentication::{AuthFault, authenticate};
+use clients::{OwnerNo, Registry};
 use messages::{ErrorName, Request};
 use params::{ParamFault, Params};
 use std::alloc::Global;
@@ -44,7 +45,7 @@ pub fn authenticated_client<'r>(
     ensures { (next : asked.KnownClient → Outcome) → Leads result
         (with_credentials rules.now (asked_of request.entry.now) params.now next) (λ known. next (known_of known)) }
 {
-    match rules.authenticate(alloc, request.authorization, params) {
+    match authenticate(alloc, rules, request.authorization, params) {
         Ok(number) => Ok(KnownClient {
             number,
             client: rules.client(number),

@@ -1,7 +1,9 @@
 //! The one place that writes replies.
-ghost use Rattle.std.specs.Prelude.{◌≡◌, ◌≤◌, IfOk, codes, length, map};
+ghost use Rattle.std.specs.Prelude.{◌≡◌, ◌≤◌, IfOk, IfSome, codes, length, map};
 ghost use Rattle.std.specs.Option.{option_copied};
-ghost use Rattle.clients.specs.Limits.{identifier_limit};
+ghost use Rattle.clients.specs.Limits.{identifier_limit, key_limit};
+ghost use Rattle.clients.specs.Owners.{sub_of};
+ghost use Rattle.token_store.specs.Found.{owner_number};
 ghost use Rattle.hook_host.specs.Names.{AreHookNames};
 ghost use Rattle.messages.specs.Reply.{plain, sent_back};
 ghost use Rattle.messages.specs.Reply.Body.{Consent, HookRefused, Hooks};
@@ -15,7 +17,7 @@ ghost use Rattle.answers.specs.Short.{IsShort, IsShortAnswer, IsShortLive, IsSho
 use crate::answer::Answer;
 use crate::halt::status_of;
 use clients::Registry;
-use consent::ClientNo;
+use consent::{ClientNo, OwnerNo};
 use hook_host::{HookFault, HookHost};
 use http::StatusCode;
 use messages::{
@@ -81,6 +83,14 @@ fn id_of(rules: &Registry, number: ClientNo) -> &str
         Some(client) => client.id(),
         None => "",
     }
+}
+
+// What the owner is called, if there is one and it is called anything.
+fn sub_of(rules: &Registry, owner: Option<OwnerNo>) -> Option<&str>
+    ensures value { option_copied result ≡ sub_of (owner_number owner) rules.now.owners }
+    ensures short { IfSome result (λ sub. length sub.now ≤ key_limit) }
+{
+    rules.owner_sub(owner?)
 }
 
 fn live(alloc: Global, token: ActiveToken<'_>) -> Result<Response, AllocError>
@@ -165,6 +175,7 @@ pub fn write<H: HookHost>(
             issued,
             expires,
             scope,
+            owner,
             kind,
         } => {
             let scope = rules.catalogue().scope_text(alloc, scope)?;
@@ -173,6 +184,7 @@ pub fn write<H: HookHost>(
                 issued,
                 expires,
                 scope: &scope,
+                sub: sub_of(rules, owner),
                 kind,
             };
             live(alloc, token)

@@ -1,18 +1,23 @@
 -- The clients of a registry (RFC 6749, section 2).
-use Rattle.std.specs.Prelude.{ℕ, List, [], ◌∷◌, ◌++◌, map, codes, ◌-◌, ◌==◌, slice_get, if◌then◌else◌, Bool, Option, None, Result, Ok}
+use Rattle.std.specs.Prelude.{ℕ, List, [], ◌∷◌, ◌++◌, map, codes, ◌-◌, ◌==◌, slice_get, if◌then◌else◌, Bool, Option, None, Result, Ok, Err}
 use Rattle.std.specs.List.{list_any}
+use Rattle.std.specs.Option.{option_map_or}
 use Rattle.std.specs.Str.{bytes_eq}
+use Rattle.sha2.specs.Sha256.{sha256}
 use Rattle.serde_json.specs.Data.{Data, Items, no_items, item}
+use Rattle.serde_json.specs.Find.{as_array}
 use Rattle.clients.specs.Limits.{redirect_count_limit}
 use Rattle.clients.specs.Faults.{◌>>=◌}
 use Rattle.clients.specs.Json.{member_of, list_of, items_within}
-use Rattle.clients.specs.Texts.{key_of, identifier_of}
+use Rattle.clients.specs.Texts.{identifier_of}
+use Rattle.clients.specs.Keys.{key_digest}
 use Rattle.clients.specs.Numbers.{new_among}
 use Rattle.clients.specs.Redirect.{redirects_after}
 use Rattle.clients.specs.Scopes.{scope_of}
 use Rattle.clients.specs.Grants.{no_grants, grants_after}
 use Rattle.clients.specs.ClientRecord.{ClientRecord}
 use Rattle.clients.specs.declared.fault.ConfigFault.{ConfigFault}
+use Rattle.clients.specs.declared.fault.ConfigFault.TheVariants.{OutOfRange}
 use Rattle.clients.specs.declared.grant.Grants.{Grants}
 
 -- the clients' identifiers
@@ -22,6 +27,10 @@ ids clients = map (λ c. c.id) clients
 -- the client of a number
 abbrev pub client_at : ℕ → List ClientRecord → Option ClientRecord
 client_at number clients = if number == 0 then None else slice_get clients (number - 1)
+
+-- whether this is a secret of the client: one that has one of the digests
+abbrev pub has_secret : List ℕ → ClientRecord → Bool
+has_secret secret client = list_any (bytes_eq (sha256 secret)) client.secrets
 
 -- whether the text is one of the client's redirect URIs
 abbrev pub has_redirect : List ℕ → ClientRecord → Bool
@@ -34,11 +43,27 @@ id_member clients value = do
   id ← identifier_of member
   new_among (ids clients) id
 
+-- the digests of one secret or two
+abbrev pub one_or_two : Items → Result (List (List ℕ)) ConfigFault
+one_or_two no_items = Err OutOfRange
+one_or_two (item d no_items) = do
+  digest ← key_digest d
+  Ok (digest ∷ [])
+one_or_two (item d (item e no_items)) = do
+  first ← key_digest d
+  second ← key_digest e
+  Ok (first ∷ second ∷ [])
+one_or_two (item d (item e (item f items))) = Err OutOfRange
+
+-- the digests of a secret, or of a list of one or two
+abbrev pub secrets_of : Data → Result (List (List ℕ)) ConfigFault
+secrets_of value = option_map_or one_or_two (as_array value) (one_or_two (item value no_items))
+
 -- the member `secret`
-abbrev pub secret_member : Data → Result (List ℕ) ConfigFault
+abbrev pub secret_member : Data → Result (List (List ℕ)) ConfigFault
 secret_member value = do
   member ← member_of (codes "secret") value
-  key_of member
+  secrets_of member
 
 -- the member `redirects`: at most 8 redirect URIs
 abbrev pub redirects_member : Data → Result (List (List ℕ)) ConfigFault
@@ -64,11 +89,11 @@ grants_member value = do
 abbrev pub client_of : List (List ℕ) → List ClientRecord → Data → Result ClientRecord ConfigFault
 client_of scopes clients value = do
   id ← id_member clients value
-  secret ← secret_member value
+  secrets ← secret_member value
   redirects ← redirects_member value
   allowed ← scope_member scopes value
   grants ← grants_member value
-  Ok (record { id = id; secret = secret; redirects = redirects; allowed = allowed; grants = grants })
+  Ok (record { id = id; secrets = secrets; redirects = redirects; allowed = allowed; grants = grants })
 
 -- the clients so far, and those of these items after them
 abbrev pub clients_after : List (List ℕ) → List ClientRecord → Items → Result (List ClientRecord) ConfigFault

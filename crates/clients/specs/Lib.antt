@@ -6,14 +6,14 @@ pub mod Redirect
 pub mod Scopes
 pub mod Grants
 pub mod Numbers
+pub mod Keys
+pub mod OwnerRecord
 pub mod Owners
 pub mod ClientRecord
 pub mod Clients
-pub mod Authentication
 pub mod RegistryRecord
 pub mod Registry
 pub mod RegistryRules
+pub mod Spots
 pub mod FaultTexts
 pub mod RegistryLaws
-pub mod AuthenticationLaws
-pub mod HeaderLaws

@@ -23,7 +23,11 @@ redirect_count_limit = 8
 abbrev pub redirect_limit : ℕ
 redirect_limit = 2048
 
--- so many characters has a key or a secret at most
+-- so many secrets has a client at most
+abbrev pub secret_count_limit : ℕ
+secret_count_limit = 2
+
+-- so many characters has a key, a secret or what an owner is called at most
 abbrev pub key_limit : ℕ
 key_limit = 128
 

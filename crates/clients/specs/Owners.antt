@@ -1,15 +1,58 @@
 -- The owners of a registry.
-use Rattle.std.specs.Prelude.{ℕ, List, [], ◌∷◌, ◌++◌, Result, Ok}
-use Rattle.serde_json.specs.Data.{Items, no_items, item}
+use Rattle.std.specs.Prelude.{ℕ, ◌-◌, ◌==◌, List, [], ◌∷◌, ◌++◌, map, codes, slice_get, unwrap_or, if◌then◌else◌, Option, Some, None, option_and_then, Result, Ok}
+use Rattle.sha2.specs.Sha256.{sha256}
+use Rattle.serde_json.specs.Data.{Data, Items, no_items, item}
+use Rattle.serde_json.specs.Find.{get}
 use Rattle.clients.specs.Faults.{◌>>=◌}
 use Rattle.clients.specs.Texts.{key_of}
-use Rattle.clients.specs.Numbers.{new_among}
+use Rattle.clients.specs.Keys.{key_digest}
+use Rattle.clients.specs.Numbers.{number_of, new_among}
+use Rattle.clients.specs.OwnerRecord.{OwnerRecord}
 use Rattle.clients.specs.declared.fault.ConfigFault.{ConfigFault}
 
--- the owner keys so far, and those of these items after them
-abbrev pub owners_after : List (List ℕ) → Items → Result (List (List ℕ)) ConfigFault
-owners_after keys no_items = Ok keys
-owners_after keys (item d ds) = do
-  key ← key_of d
-  new ← new_among keys key
-  owners_after (keys ++ new ∷ []) ds
+-- the digests of the owners' keys
+abbrev pub keys : List OwnerRecord → List (List ℕ)
+keys owners = map (λ o. o.key) owners
+
+-- the number of the owner whose key this is: the one with its digest
+abbrev pub owner_with : List ℕ → List OwnerRecord → Option ℕ
+owner_with key owners = number_of (sha256 key) (keys owners)
+
+-- what the owner of a number is called
+abbrev pub sub_of : ℕ → List OwnerRecord → Option (List ℕ)
+sub_of number owners = if number == 0 then None else option_and_then (λ o. o.sub) (slice_get owners (number - 1))
+
+-- the key of an owner: its member `key`, or the value itself
+abbrev pub key_in : Data → Data
+key_in value = unwrap_or (get (codes "key") value) value
+
+-- an optional key
+abbrev pub key_if_any : Option Data → Result (Option (List ℕ)) ConfigFault
+key_if_any None = Ok None
+key_if_any (Some value) = do
+  key ← key_of value
+  Ok (Some key)
+
+-- the member `sub`, if there is one: 1 to 128 visible characters
+abbrev pub sub_member : Data → Result (Option (List ℕ)) ConfigFault
+sub_member value = key_if_any (get (codes "sub") value)
+
+-- the digest of the owner's key, which none of these owners has
+abbrev pub new_key : List OwnerRecord → Data → Result (List ℕ) ConfigFault
+new_key owners value = do
+  key ← key_digest (key_in value)
+  new_among (keys owners) key
+
+-- an owner after these
+abbrev pub owner_of : List OwnerRecord → Data → Result OwnerRecord ConfigFault
+owner_of owners value = do
+  key ← new_key owners value
+  sub ← sub_member value
+  Ok (record { key = key; sub = sub })
+
+-- the owners so far, and those of these items after them
+abbrev pub owners_after : List OwnerRecord → Items → Result (List OwnerRecord) ConfigFault
+owners_after owners no_items = Ok owners
+owners_after owners (item d ds) = do
+  owner ← owner_of owners d
+  owners_after (owners ++ owner ∷ []) ds

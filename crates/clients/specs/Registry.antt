@@ -1,15 +1,18 @@
 -- The registry that JSON text stands for, or its first fault.
-use Rattle.std.specs.Prelude.{◌≤◌, ℕ, List, [], length, codes, nat_lt, if◌then◌else◌, IsOk, IsUtf8, Result, Ok, Err}
+use Rattle.std.specs.Prelude.{◌≤◌, ℕ, List, [], length, codes, Bool, bytes_eq, is_some, nat_lt, if◌then◌else◌, IsOk, IsUtf8, Result, Ok, Err}
 use Rattle.std.specs.Option.{ok_or}
 use Rattle.std.specs.Str.{is_utf8}
+use Rattle.sha2.specs.Sha256.{sha256}
 use Rattle.serde_json.specs.Data.{Data}
 use Rattle.serde_json.specs.Read.{read}
 use Rattle.params.specs.Limits.{scope_name_count_limit}
 use Rattle.clients.specs.Limits.{registry_limit, owner_limit, client_limit}
 use Rattle.clients.specs.Faults.{◌>>=◌}
 use Rattle.clients.specs.Json.{member_of, life_of, items_within}
-use Rattle.clients.specs.Texts.{key_of}
-use Rattle.clients.specs.Owners.{owners_after}
+use Rattle.clients.specs.Keys.{key_digest}
+use Rattle.clients.specs.OwnerRecord.{OwnerRecord}
+use Rattle.clients.specs.Numbers.{number_of}
+use Rattle.clients.specs.Owners.{keys, owners_after}
 use Rattle.clients.specs.Scopes.{scopes_after}
 use Rattle.clients.specs.Clients.{clients_after}
 use Rattle.clients.specs.ClientRecord.{ClientRecord}
@@ -27,10 +30,10 @@ life_member name value = do
 abbrev pub operator_member : Data → Result (List ℕ) ConfigFault
 operator_member value = do
   member ← member_of (codes "operator") value
-  key_of member
+  key_digest member
 
--- the member `owners`: at most 4,096 keys
-abbrev pub owners_member : Data → Result (List (List ℕ)) ConfigFault
+-- the member `owners`: at most 4,096 owners
+abbrev pub owners_member : Data → Result (List OwnerRecord) ConfigFault
 owners_member value = do
   member ← member_of (codes "owners") value
   items ← items_within 0 owner_limit member
@@ -60,6 +63,14 @@ registry_of value = do
   scopes ← scopes_member value
   clients ← clients_member scopes value
   Ok (record { access_life = access_life; refresh_life = refresh_life; operator = operator; owners = owners; scopes = scopes; clients = clients })
+
+-- this is the operator's key: it has the digest
+abbrev pub is_operator_key : List ℕ → RegistryRecord → Bool
+is_operator_key key rules = bytes_eq (sha256 key) rules.operator
+
+-- an owner has the operator's key
+abbrev pub has_operator_among_owners : RegistryRecord → Bool
+has_operator_among_owners rules = is_some (number_of rules.operator (keys rules.owners))
 
 -- what comes before all that takes memory is right
 abbrev pub AreLivesAndOperatorRight : Data → Type 0

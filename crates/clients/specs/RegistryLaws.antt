@@ -1,8 +1,8 @@
 -- Laws of registries: what is read is a registry, and its clients are clients.
-use Rattle.std.proofs.Common.{inl, inr, ◌≡◌, ◌≤◌, ◌<◌, ◌^◌, ℕ, ◌-◌, ◌==◌, ◌&&◌, List, [], ◌∷◌, ◌++◌, length, Bool, true, false, nat_le, if◌then◌else◌, refl, sym, ap, ◌∙◌, subst, Option, Some, None, is_some, Result, Ok, Err, codes}
-use Rattle.std.specs.Prelude.{All, slice_get, bytes_eq}
+use Rattle.std.proofs.Common.{inl, inr, ◌≡◌, ◌≤◌, ◌<◌, ◌^◌, ℕ, ◌-◌, ◌==◌, ◌&&◌, List, [], ◌∷◌, ◌++◌, length, Bool, true, false, nat_le, if◌then◌else◌, refl, sym, ap, ◌∙◌, subst, arith, Option, Some, None, is_some, Result, Ok, Err, codes}
+use Rattle.std.specs.Prelude.{All, IfSome, slice_get, bytes_eq}
 use Rattle.std.specs.List.{list_all, list_any}
-use Rattle.std.specs.Option.{ok_or}
+use Rattle.std.specs.Option.{ok_or, option_map_or}
 use Rattle.std.proofs.lemmas.Bool.{and_parts, and_from, leb-true, or_cases}
 use Rattle.std.proofs.lemmas.List.{map-append}
 use Rattle.std.proofs.lemmas.List.Folds.{list_all-append}
@@ -10,21 +10,23 @@ use Rattle.std.proofs.lemmas.List.Elements.{All-nil, All-push, All-get_or}
 use Rattle.std.proofs.lemmas.Option.{slice_get_within, get_or_from_slice_get}
 use Rattle.std.proofs.lemmas.Slice.Eq.{bytes_eq-Decides}
 use Rattle.url.specs.Parser.{parse_url}
-use Rattle.serde_json.specs.Find.{as_number, as_u64}
+use Rattle.serde_json.specs.Find.{get, as_number, as_u64, as_array}
 use Rattle.serde_json.specs.Data.{Data, Items, no_items, item}
 use Rattle.params.specs.declared.catalogue.CatalogueFault.{CatalogueFault}
 use Rattle.params.specs.Form.{any_twice}
 use Rattle.params.specs.FormLaws.{any_twice-append}
 use Rattle.params.specs.Scope.{IsCatalogue, name_fault, scope_mask}
 use Rattle.params.specs.ScopeLaws.{IsCatalogue-push, IsCatalogue-nil, is_some-position_from, scope_mask-within}
-use Rattle.clients.specs.Limits.{life_limit, identifier_limit, redirect_limit}
+use Rattle.clients.specs.Limits.{life_limit, key_limit, identifier_limit, redirect_limit}
 use Rattle.clients.specs.Faults.{◌>>=◌}
 use Rattle.clients.specs.Json.{member_of, text_of, life_of, life_within, items_within}
-use Rattle.clients.specs.Texts.{is_identifier, is_identifier_byte, identifier_of, is_key}
+use Rattle.clients.specs.Texts.{is_identifier, is_identifier_byte, identifier_of, is_visible, is_key, key_of}
+use Rattle.clients.specs.Keys.{key_digest}
+use Rattle.clients.specs.Owners.{key_if_any, sub_member}
 use Rattle.clients.specs.Redirect.{is_redirect, is_written, redirect_of, redirects_after}
 use Rattle.clients.specs.Scopes.{with_name, scopes_after}
 use Rattle.clients.specs.Numbers.{number_of}
-use Rattle.clients.specs.Clients.{ids, id_member, secret_member, redirects_member, scope_member, grants_member, client_of, clients_after, client_at}
+use Rattle.clients.specs.Clients.{ids, id_member, one_or_two, secrets_of, secret_member, redirects_member, scope_member, grants_member, client_of, clients_after, client_at}
 use Rattle.clients.specs.ClientRecord.{ClientRecord}
 use Rattle.clients.specs.RegistryRecord.{RegistryRecord}
 use Rattle.clients.specs.Registry.{life_member, operator_member, owners_member, scopes_member, clients_member, registry_of}
@@ -99,12 +101,46 @@ id-read clients value id ok =
     absent None e = refl
     absent (Some n) e = cc e
 
-pub secret-read : (value : Data) (secret : List ℕ) → secret_member value ≡ Ok secret → is_key secret ≡ true
-secret-read value secret ok =
-    let member = then_ok (member_of (codes "secret") value) _ secret ok in
-    let text = then_ok (text_of member.0) _ secret member.2 in
-    let is = test_ok (is_key text.0) text.0 secret OutOfRange text.2 in
-    ap is_key (sym is.1) ∙ is.0
+one_or_two-read : (items : Items) (secrets : List (List ℕ)) → one_or_two items ≡ Ok secrets → (1 ≤ length secrets) × (length secrets ≤ 2)
+one_or_two-read no_items secrets ok = cc ok
+one_or_two-read (item d no_items) secrets ok =
+    let one = then_ok (key_digest d) _ secrets ok in
+    let same : one.0 ∷ [] ≡ secrets = cc one.2 in
+    subst (λ (l : List (List ℕ)). (1 ≤ length l) × (length l ≤ 2)) same (omega arith, omega arith)
+one_or_two-read (item d (item e no_items)) secrets ok =
+    let one = then_ok (key_digest d) _ secrets ok in
+    let two = then_ok (key_digest e) _ secrets one.2 in
+    let same : one.0 ∷ two.0 ∷ [] ≡ secrets = cc two.2 in
+    subst (λ (l : List (List ℕ)). (1 ≤ length l) × (length l ≤ 2)) same (omega arith, omega arith)
+one_or_two-read (item d (item e (item f items))) secrets ok = cc ok
+
+pub secret-read : (value : Data) (secrets : List (List ℕ)) → secret_member value ≡ Ok secrets → (1 ≤ length secrets) × (length secrets ≤ 2)
+secret-read value secrets ok =
+    let member = then_ok (member_of (codes "secret") value) secrets_of secrets ok in
+    either member.0 (as_array member.0) member.2
+  where
+    either : (d : Data) (list : Option Items) → option_map_or one_or_two list (one_or_two (item d no_items)) ≡ Ok secrets → (1 ≤ length secrets) × (length secrets ≤ 2)
+    either d None is = one_or_two-read (item d no_items) secrets is
+    either d (Some items) is = one_or_two-read items secrets is
+
+-- what an owner is called
+pub sub-read : (value : Data) (sub : Option (List ℕ)) → sub_member value ≡ Ok sub → IfSome sub (λ text. is_key text ≡ true)
+sub-read value sub ok = by (get (codes "sub") value) ok
+  where
+    by : (o : Option Data) → key_if_any o ≡ Ok sub → IfSome sub (λ text. is_key text ≡ true)
+    by None is = let same : None ≡ sub = cc is in subst (λ (o : Option (List ℕ)). IfSome o (λ text. is_key text ≡ true)) same tt
+    by (Some d) is =
+        let key = then_ok (key_of d) _ sub is in
+        let text = then_ok (text_of d) _ key.0 key.1 in
+        let passed = test_ok (is_key text.0) text.0 key.0 OutOfRange text.2 in
+        let same : Some key.0 ≡ sub = cc key.2 in
+        subst (λ (o : Option (List ℕ)). IfSome o (λ text. is_key text ≡ true)) same (ap is_key (sym passed.1) ∙ passed.0)
+
+-- a key is short
+pub length-key : (text : List ℕ) → is_key text ≡ true → length text ≤ key_limit
+length-key text is =
+    let parts = and_parts (nat_le 1 (length text) && nat_le (length text) key_limit) (list_all is_visible text) is in
+    leb-true (length text) key_limit (and_parts (nat_le 1 (length text)) (nat_le (length text) key_limit) parts.0).1
 
 pub redirects_member-read : (value : Data) (redirects : List (List ℕ)) → redirects_member value ≡ Ok redirects → list_all is_redirect redirects ≡ true
 redirects_member-read value redirects ok =
@@ -123,15 +159,15 @@ pub client-read : (scopes : List (List ℕ)) (clients : List ClientRecord) (valu
     → IsClientOf scopes client × (number_of client.id (ids clients) ≡ None)
 client-read scopes clients value client ok =
     let id = then_ok (id_member clients value) _ client ok in
-    let secret = then_ok (secret_member value) _ client id.2 in
-    let redirects = then_ok (redirects_member value) _ client secret.2 in
+    let secrets = then_ok (secret_member value) _ client id.2 in
+    let redirects = then_ok (redirects_member value) _ client secrets.2 in
     let allowed = then_ok (scope_member scopes value) _ client redirects.2 in
     let grants = then_ok (grants_member value) _ client allowed.2 in
     let known = id-read clients value id.0 id.1 in
-    let same : record { id = id.0; secret = secret.0; redirects = redirects.0; allowed = allowed.0; grants = grants.0 } ≡ client = cc grants.2 in
+    let same : record { id = id.0; secrets = secrets.0; redirects = redirects.0; allowed = allowed.0; grants = grants.0 } ≡ client = cc grants.2 in
     subst (λ (c : ClientRecord). IsClientOf scopes c × (number_of c.id (ids clients) ≡ None)) same (
       record {
-        is_client = record { id = known.0; secret = secret-read value secret.0 secret.1; redirects = redirects_member-read value redirects.0 redirects.1 };
+        is_client = record { id = known.0; secrets = secret-read value secrets.0 secrets.1; redirects = redirects_member-read value redirects.0 redirects.1 };
         allowed = allowed-read scopes value allowed.0 allowed.1;
       },
       known.1,

@@ -1,6 +1,6 @@
 //! The clients of a registry (RFC 6749, section 2).
 
-ghost use Rattle.std.specs.Prelude.{◌≡◌, ◌<◌, ◌≤◌, [], ◌∷◌, ◌++◌, length, map, string_bytes, None, Some, IfSome, IsOk, IsTrue, option_copied, OnOk, OnErr};
+ghost use Rattle.std.specs.Prelude.{◌≡◌, ◌<◌, ◌≤◌, [], ◌∷◌, ◌++◌, length, map, string_bytes, None, Some, IfSome, IfOk, IsOk, IsTrue, option_copied, OnOk, OnErr};
 ghost use Rattle.std.specs.List.{list_any};
 ghost use Rattle.std.specs.Str.{bytes_eq};
 ghost use Rattle.serde_json.specs.View.{view, items_view};
@@ -8,15 +8,19 @@ ghost use Rattle.clients.specs.Faults.{GivesUnless, seen_by};
 ghost use Rattle.clients.specs.Limits.{client_limit, identifier_limit, redirect_limit};
 ghost use Rattle.clients.specs.Grants.{has_grant};
 ghost use Rattle.clients.specs.Numbers.{number_of};
-ghost use Rattle.clients.specs.Clients.{ids, has_redirect, id_member, secret_member, redirects_member, scope_member, grants_member, client_at, client_of, clients_after};
+ghost use Rattle.clients.specs.Clients.{ids, has_secret, has_redirect, id_member, secret_member, redirects_member, scope_member, grants_member, client_at, client_of, clients_after};
+ghost use Rattle.clients.specs.Spots.{item_at, redirect_at_fault, grant_at_fault, redirects_in, grants_in, client_spot, clients_spot};
 
+use crate::digest::digest_of;
 use crate::fault::ConfigFault;
-use crate::grant::{GrantType, Grants, grant_set};
+use crate::grant::{GrantType, Grants, grant_at_fault, grant_set};
 use crate::json::{items, list, member};
 use crate::numbering::Numbering;
-use crate::redirect::redirect_list;
+use crate::redirect::{redirect_at_fault, redirect_list};
 use crate::scope::scope;
-use crate::text::{identifier, key};
+use crate::secret::{Secrets, client_secrets};
+use crate::spot::{ClientSpot, Spot};
+use crate::text::identifier;
 use consent::ClientNo;
 use params::Catalogue;
 use serde_json::Value;
@@ -35,7 +39,7 @@ fn stands_among(text: &str, strings: &[String]) -> bool
 #[derive(Drop)]
 pub struct Client {
     id: String,
-    secret: String,
+    secrets: Secrets,
     redirects: Vec<String>,
     allowed: u64,
     grants: Grants,
@@ -49,9 +53,9 @@ impl Model for Client {
     ghost use Rattle.std.specs.Prelude.{map, string_bytes};
     ghost use Rattle.clients.specs.RegistryRules.{IsClient};
 
-    ghost view = { λ c. record { id = string_bytes c.id; secret = string_bytes c.secret; redirects = map string_bytes c.redirects.items; allowed = c.allowed; grants = c.grants } };
+    ghost view = { λ c. record { id = string_bytes c.id; secrets = c.secrets; redirects = map string_bytes c.redirects.items; allowed = c.allowed; grants = c.grants } };
 
-    ghost invariant = { λ c. IsClient (record { id = string_bytes c.id; secret = string_bytes c.secret; redirects = map string_bytes c.redirects.items; allowed = c.allowed; grants = c.grants }) };
+    ghost invariant = { λ c. IsClient (record { id = string_bytes c.id; secrets = c.secrets; redirects = map string_bytes c.redirects.items; allowed = c.allowed; grants = c.grants }) };
 }
 
 impl Client {
@@ -63,11 +67,11 @@ impl Client {
         &self.id
     }
 
-    // Whether this is the client's secret.
-    pub(crate) fn has_secret(&self, secret: &str) -> bool
-        ensures { result ≡ bytes_eq secret.now self.now.secret }
+    /// Whether this is a secret of the client: one with a SHA-256 that it has. It is compared with each.
+    pub fn has_secret(&self, secret: &str) -> bool
+        ensures { result ≡ has_secret secret.now self.now }
     {
-        secret == self.secret.as_str()
+        self.secrets.has(&digest_of(secret.as_bytes()))
     }
 
     /// Whether the text is one of the client's redirect URIs, character by character (RFC 6749, section 3.1.2.3).
@@ -146,6 +150,13 @@ impl Clients {
         &self.list[number.get() as usize - 1]
     }
 
+    // How many clients there are.
+    pub(crate) fn count(&self) -> usize
+        ensures { result ≡ length self.now }
+    {
+        self.list.len()
+    }
+
     // Takes a further client.
     fn push(&mut self, alloc: Global, client: Client) -> Result<(), AllocError>
         requires new { number_of client.id (ids self.old) ≡ None }
@@ -174,10 +185,24 @@ fn id_member<'v>(clients: &Clients, value: &'v Value) -> Result<&'v str, ConfigF
 }
 
 // The member `secret`.
-fn secret_member(value: &Value) -> Result<&str, ConfigFault>
-    ensures { seen_by (λ s. s.now) result ≡ secret_member (view value.now) }
+fn secret_member(value: &Value) -> Result<Secrets, ConfigFault>
+    ensures { result ≡ secret_member (view value.now) }
 {
-    key(member(value, "secret")?)
+    client_secrets(member(value, "secret")?)
+}
+
+// The list of the member `redirects`.
+fn redirects_in(value: &Value) -> Result<&[Value], ConfigFault>
+    ensures { seen_by (λ list. items_view list.now) result ≡ redirects_in (view value.now) }
+{
+    items(member(value, "redirects")?, 0, MOST_REDIRECTS)
+}
+
+// The list of the member `grants`.
+fn grants_in(value: &Value) -> Result<&[Value], ConfigFault>
+    ensures { seen_by (λ list. items_view list.now) result ≡ grants_in (view value.now) }
+{
+    list(member(value, "grants")?)
 }
 
 // The member `redirects`.
@@ -185,10 +210,7 @@ fn redirects_member(alloc: Global, value: &Value) -> Result<Vec<String>, ConfigF
     ensures { GivesUnless ConfigFault.Memory Unit (seen_by (λ v. map string_bytes v.items) result)
         (redirects_member (view value.now)) }
 {
-    redirect_list(
-        alloc,
-        items(member(value, "redirects")?, 0, MOST_REDIRECTS)?,
-    )
+    redirect_list(alloc, redirects_in(value)?)
 }
 
 // The member `scope`.
@@ -202,7 +224,76 @@ fn scope_member(catalogue: &Catalogue, value: &Value) -> Result<u64, ConfigFault
 fn grants_member(value: &Value) -> Result<Grants, ConfigFault>
     ensures { result ≡ grants_member (view value.now) }
 {
-    grant_set(list(member(value, "grants")?)?)
+    grant_set(grants_in(value)?)
+}
+
+// The first redirect URI at fault of a member that is a list of few enough.
+fn redirects_item(alloc: Global, value: &Value) -> Result<Option<usize>, AllocError>
+    ensures { IfOk result (λ number. number ≡ item_at (redirect_at_fault 0) (redirects_in (view value.now))) }
+{
+    match redirects_in(value) {
+        Ok(list) => Ok(Some(redirect_at_fault(alloc, list)?)),
+        Err(_) => Ok(None),
+    }
+}
+
+// The first grant type at fault of a member that is a list.
+fn grants_item(value: &Value) -> Option<usize>
+    ensures { result ≡ item_at (grant_at_fault 0) (grants_in (view value.now)) }
+{
+    match grants_in(value) {
+        Ok(list) => Some(grant_at_fault(list)),
+        Err(_) => None,
+    }
+}
+
+// The first member at fault of what is no client after these.
+fn client_spot(
+    alloc: Global,
+    catalogue: &Catalogue,
+    clients: &Clients,
+    value: &Value,
+) -> Result<ClientSpot, AllocError>
+    ensures { IfOk result (λ spot. spot ≡ client_spot catalogue.now clients.now (view value.now)) }
+{
+    if id_member(clients, value).is_err() {
+        return Ok(ClientSpot::Id);
+    }
+    if secret_member(value).is_err() {
+        return Ok(ClientSpot::Secret);
+    }
+    match redirects_member(alloc, value) {
+        Ok(_) => {}
+        Err(ConfigFault::Memory) => return Err(AllocError),
+        Err(_) => return Ok(ClientSpot::Redirects(redirects_item(alloc, value)?)),
+    }
+    if scope_member(catalogue, value).is_err() {
+        return Ok(ClientSpot::Scope);
+    }
+    Ok(ClientSpot::Grants(grants_item(value)))
+}
+
+// The first item at fault of a list of clients, and where in it. Where none is, the list.
+pub(crate) fn clients_spot(
+    alloc: Global,
+    catalogue: &Catalogue,
+    list: &[Value],
+) -> Result<Spot, AllocError>
+    requires { length list.now ≤ client_limit }
+    ensures { IfOk result (λ spot. spot ≡ clients_spot catalogue.now [] (items_view list.now)) }
+{
+    let mut clients = Clients::new(alloc);
+    for value in list {
+        match read_client(alloc, catalogue, &clients, value) {
+            Ok(client) => clients.push(alloc, client)?,
+            Err(ConfigFault::Memory) => return Err(AllocError),
+            Err(_) => {
+                let within = client_spot(alloc, catalogue, &clients, value)?;
+                return Ok(Spot::Client(clients.list.len(), within));
+            }
+        }
+    }
+    Ok(Spot::Clients)
 }
 
 // A client after these.
@@ -216,15 +307,14 @@ fn read_client(
         (client_of catalogue.now clients.now (view value.now)) }
 {
     let id = id_member(clients, value)?;
-    let secret = secret_member(value)?;
+    let secrets = secret_member(value)?;
     let redirects = redirects_member(alloc, value)?;
     let allowed = scope_member(catalogue, value)?;
     let grants = grants_member(value)?;
     let own_id = String::from_str(alloc, id)?;
-    let own_secret = String::from_str(alloc, secret)?;
     Ok(Client {
         id: own_id,
-        secret: own_secret,
+        secrets,
         redirects,
         allowed,
         grants,

@@ -3,6 +3,7 @@
 ghost use Rattle.std.specs.Prelude.{◌≡◌};
 ghost use Rattle.serde_json.specs.View.{view, items_view};
 ghost use Rattle.clients.specs.Grants.{grant_named, no_grants, with_grant, has_grant, grant_of, grants_after};
+ghost use Rattle.clients.specs.Spots.{grant_at_fault};
 
 use crate::fault::ConfigFault;
 use crate::json::text;
@@ -87,6 +88,20 @@ fn grant(value: &Value) -> Result<GrantType, ConfigFault>
     ensures { result ≡ grant_of (view value.now) }
 {
     GrantType::named(text(value)?).ok_or(ConfigFault::BadShape)
+}
+
+// The first item of a list that names no grant type: where each names one, how many there are.
+pub(crate) fn grant_at_fault(list: &[Value]) -> usize
+    ensures { result ≡ grant_at_fault 0 (items_view list.now) }
+{
+    let mut number = 0;
+    for value in list {
+        if grant(value).is_err() {
+            return number;
+        }
+        number += 1;
+    }
+    number
 }
 
 // The grant types that a list names.

@@ -1,4 +1,4 @@
-//! Distinct texts and their numbers, from 1: the keys of owners and the identifiers of clients.
+//! Distinct texts and their numbers, from 1: the identifiers of clients.
 
 ghost use Rattle.std.specs.Prelude.{◌≡◌, ◌<◌, ◌≤◌, [], ◌∷◌, ◌++◌, length, None, IfSome, OnOk, OnErr};
 ghost use Rattle.clients.specs.Numbers.{number_of};

@@ -1,39 +1,218 @@
 //! The owners of a registry.
 
-ghost use Rattle.std.specs.Prelude.{◌≡◌, ◌<◌, ◌≤◌, [], length, IfSome};
-ghost use Rattle.serde_json.specs.View.{items_view};
-ghost use Rattle.clients.specs.Limits.{owner_limit};
-ghost use Rattle.clients.specs.Faults.{GivesUnless};
+ghost use Rattle.std.specs.Prelude.{◌≡◌, ◌<◌, ◌≤◌, [], ◌∷◌, ◌++◌, length, map, string_bytes, option_map, option_copied, bytes_eq, is_some, None, IfSome, IfOk, IsOk, OnOk, OnErr};
+ghost use Rattle.serde_json.specs.View.{view, items_view};
+ghost use Rattle.clients.specs.Limits.{owner_limit, key_limit};
+ghost use Rattle.clients.specs.Faults.{GivesUnless, seen_by};
+ghost use Rattle.clients.specs.Keys.{key_digest};
 ghost use Rattle.clients.specs.Numbers.{number_of};
-ghost use Rattle.clients.specs.Owners.{owners_after};
+ghost use Rattle.clients.specs.Owners.{keys, owner_with, sub_of, key_in, new_key, sub_member, owner_of, owners_after};
+ghost use Rattle.clients.specs.Spots.{owner_at_fault};
 
+use crate::digest::{are_same, digest_of, key_digest};
 use crate::fault::ConfigFault;
-use crate::numbering::Numbering;
 use crate::text::key;
 use consent::OwnerNo;
 use serde_json::Value;
-use std::alloc::Global;
+use std::alloc::{AllocError, Global};
+use std::marker::Model;
 
-// The number of the owner with this key.
-pub(crate) fn owner_number(keys: &Numbering, key: &[u8]) -> Option<OwnerNo>
-    ensures value { result ≡ number_of key.now keys.now }
-    ensures listed { IfSome result (λ number. number ≤ length keys.now) }
-{
-    keys.number(key).map(OwnerNo::new)
+// An owner of what is protected (RFC 6749, section 1.1).
+#[derive(Drop)]
+pub(crate) struct Owner {
+    key: [u8; 32],
+    sub: Option<String>,
 }
 
-// The owners' keys of a list.
-pub(crate) fn owner_list(alloc: Global, list: &[Value]) -> Result<Numbering, ConfigFault>
+impl Model for Owner {
+    ghost use Rattle.clients.specs.OwnerRecord.{OwnerRecord};
+
+    ghost Value = { OwnerRecord };
+
+    ghost use Rattle.std.specs.Prelude.{option_map, string_bytes};
+    ghost use Rattle.clients.specs.RegistryRules.{IsOwner};
+
+    ghost view = { λ o. record { key = o.key; sub = option_map string_bytes o.sub } };
+
+    ghost invariant = { λ o. IsOwner (record { key = o.key; sub = option_map string_bytes o.sub }) };
+}
+
+impl Owner {
+    // Whether this is the digest of the owner's key.
+    fn has_key(&self, digest: &[u8; 32]) -> bool
+        ensures { result ≡ bytes_eq digest.now self.now.key }
+    {
+        are_same(digest, &self.key)
+    }
+
+    // What the owner is called.
+    fn sub(&self) -> Option<&str>
+        ensures value { option_copied result ≡ self.now.sub }
+        ensures short { IfSome result (λ text. length text.now ≤ key_limit) }
+    {
+        match &self.sub {
+            Some(sub) => Some(sub.as_str()),
+            None => None,
+        }
+    }
+}
+
+// Owners, no two of one key.
+#[derive(Drop)]
+pub(crate) struct Owners {
+    list: Vec<Owner>,
+}
+
+impl Model for Owners {
+    ghost use Rattle.std.specs.Prelude.{◌≤◌, List, length};
+    ghost use Rattle.clients.specs.Limits.{owner_limit};
+    ghost use Rattle.clients.specs.OwnerRecord.{OwnerRecord};
+
+    ghost Value = { List OwnerRecord };
+
+    ghost view = { λ owners. owners.list.items };
+
+    ghost invariant = { λ owners. length owners.list.items ≤ owner_limit };
+}
+
+impl Owners {
+    fn new(alloc: Global) -> Owners
+        ensures { result ≡ [] }
+    {
+        Owners {
+            list: Vec::new(alloc),
+        }
+    }
+
+    // The number of the owner with this digest of a key. The digest is compared with that of each owner, whichever is
+    // the right one.
+    fn number(&self, digest: &[u8; 32]) -> Option<OwnerNo>
+        ensures value { result ≡ number_of digest.now (keys self.now) }
+        ensures listed { IfSome result (λ number. number ≤ length self.now) }
+    {
+        let mut found = None;
+        let mut number = 0u32;
+        for owner in &self.list {
+            number += 1;
+            if owner.has_key(digest) & found.is_none() {
+                found = Some(number);
+            }
+        }
+        found.map(OwnerNo::new)
+    }
+
+    // The number of the owner whose key this is.
+    pub(crate) fn with_key(&self, key: &[u8]) -> Option<OwnerNo>
+        ensures value { result ≡ owner_with key.now self.now }
+        ensures listed { IfSome result (λ number. number ≤ length self.now) }
+    {
+        self.number(&digest_of(key))
+    }
+
+    // Whether this is the digest of an owner's key.
+    pub(crate) fn have_key(&self, digest: &[u8; 32]) -> bool
+        ensures { result ≡ is_some (number_of digest.now (keys self.now)) }
+    {
+        self.number(digest).is_some()
+    }
+
+    // How many owners there are.
+    pub(crate) fn count(&self) -> usize
+        ensures value { result ≡ length self.now }
+        ensures few { result ≤ owner_limit }
+    {
+        self.list.len()
+    }
+
+    // What the owner of this number is called.
+    pub(crate) fn sub(&self, number: OwnerNo) -> Option<&str>
+        ensures value { option_copied result ≡ sub_of number self.now }
+        ensures short { IfSome result (λ text. length text.now ≤ key_limit) }
+    {
+        self.list.get(number.get() as usize - 1)?.sub()
+    }
+
+    // Takes a further owner.
+    fn push(&mut self, owner: Owner) -> Result<(), AllocError>
+        requires room { length self.old < owner_limit }
+        ensures ok { OnOk result (self.new ≡ self.old ++ owner ∷ []) }
+        ensures err { OnErr result (self.new ≡ self.old) }
+    {
+        self.list.reserve(1)?;
+        let Ok(()) = self.list.push(owner) else {
+            unreachable!();
+        };
+        Ok(())
+    }
+}
+
+// The key of an owner: its member `key`, or the value itself.
+fn key_in(value: &Value) -> &Value
+    ensures { view result.now ≡ key_in (view value.now) }
+{
+    match value.get("key") {
+        Some(key) => key,
+        None => value,
+    }
+}
+
+// The digest of an owner's key, which none of the owners has.
+fn new_key(owners: &Owners, value: &Value) -> Result<[u8; 32], ConfigFault>
+    ensures { result ≡ new_key owners.now (view value.now) }
+{
+    let digest = key_digest(key_in(value))?;
+    match owners.number(&digest) {
+        Some(_) => Err(ConfigFault::Twice),
+        None => Ok(digest),
+    }
+}
+
+// The member `sub`, if there is one.
+fn sub_member(value: &Value) -> Result<Option<&str>, ConfigFault>
+    ensures { seen_by option_copied result ≡ sub_member (view value.now) }
+{
+    match value.get("sub") {
+        Some(sub) => Ok(Some(key(sub)?)),
+        None => Ok(None),
+    }
+}
+
+// An owner after these.
+fn read_owner(alloc: Global, owners: &Owners, value: &Value) -> Result<Owner, ConfigFault>
+    ensures { GivesUnless ConfigFault.Memory Unit result (owner_of owners.now (view value.now)) }
+{
+    let key = new_key(owners, value)?;
+    let sub = match sub_member(value)? {
+        Some(sub) => Some(String::from_str(alloc, sub)?),
+        None => None,
+    };
+    Ok(Owner { key, sub })
+}
+
+// The first item of a list that is no owner after those before it: where each is one, how many there are.
+pub(crate) fn owner_at_fault(alloc: Global, list: &[Value]) -> Result<usize, AllocError>
+    requires { length list.now ≤ owner_limit }
+    ensures { IfOk result (λ number. number ≡ owner_at_fault [] (items_view list.now)) }
+{
+    let mut owners = Owners::new(alloc);
+    for value in list {
+        match read_owner(alloc, &owners, value) {
+            Ok(owner) => owners.push(owner)?,
+            Err(ConfigFault::Memory) => return Err(AllocError),
+            Err(_) => return Ok(owners.list.len()),
+        }
+    }
+    Ok(owners.list.len())
+}
+
+// The owners of a list.
+pub(crate) fn owner_list(alloc: Global, list: &[Value]) -> Result<Owners, ConfigFault>
     requires { length list.now ≤ owner_limit }
     ensures { GivesUnless ConfigFault.Memory (0 < length list.now) result (owners_after [] (items_view list.now)) }
 {
-    let mut keys = Numbering::new(alloc);
+    let mut owners = Owners::new(alloc);
     for value in list {
-        let key = key(value)?;
-        if keys.number(key.as_bytes()).is_some() {
-            return Err(ConfigFault::Twice);
-        }
-        keys.push(alloc, key)?;
+        owners.push(read_owner(alloc, &owners, value)?)?;
     }
-    Ok(keys)
+    Ok(owners)
 }

@@ -6,6 +6,7 @@ ghost use Rattle.clients.specs.Limits.{redirect_limit};
 ghost use Rattle.clients.specs.Json.{text_of};
 ghost use Rattle.clients.specs.Faults.{GivesUnless, seen_by};
 ghost use Rattle.clients.specs.Redirect.{is_plain_web, is_redirect, redirect_of, redirects_after};
+ghost use Rattle.clients.specs.Spots.{redirect_at_fault};
 
 use crate::fault::ConfigFault;
 use crate::json::text;
@@ -47,6 +48,21 @@ pub(crate) fn redirect(alloc: Global, value: &Value) -> Result<&str, ConfigFault
     } else {
         Err(ConfigFault::BadRedirect)
     }
+}
+
+// The first item of a list that is no redirect URI: where each is one, how many there are.
+pub(crate) fn redirect_at_fault(alloc: Global, list: &[Value]) -> Result<usize, AllocError>
+    ensures { IfOk result (λ number. number ≡ redirect_at_fault 0 (items_view list.now)) }
+{
+    let mut number = 0;
+    for value in list {
+        match redirect(alloc, value) {
+            Ok(_) => number += 1,
+            Err(ConfigFault::Memory) => return Err(AllocError),
+            Err(_) => return Ok(number),
+        }
+    }
+    Ok(number)
 }
 
 // The redirect URIs of a list.

@@ -1,26 +1,27 @@
 //! The registry: owners, scope names and clients, and the lives of tokens.
 
-ghost use Rattle.std.specs.Prelude.{◌≡◌, ◌<◌, ◌≤◌, true, length, Some, IfOk, OnOk, IfSome, bytes_eq, option_copied, IsUtf8};
-ghost use Rattle.serde_json.specs.View.{view};
+ghost use Rattle.std.specs.Prelude.{◌≡◌, ◌<◌, ◌≤◌, [], true, length, Some, IfOk, OnOk, IfSome, option_copied, IsUtf8};
+ghost use Rattle.serde_json.specs.View.{view, items_view};
 ghost use Rattle.clients.specs.Faults.{GivesUnless, seen_by};
 ghost use Rattle.clients.specs.Numbers.{number_of};
+ghost use Rattle.clients.specs.Limits.{key_limit, owner_limit, client_limit};
+ghost use Rattle.clients.specs.Owners.{owner_with, sub_of};
 ghost use Rattle.clients.specs.Clients.{ids, client_at};
-ghost use Rattle.clients.specs.Authentication.{authenticated, wants_memory};
-ghost use Rattle.clients.specs.Registry.{IsReadable, AreLivesAndOperatorRight, life_member, operator_member, owners_member, scopes_member, clients_member, registry_of, data_of, registry_in};
+ghost use Rattle.clients.specs.Registry.{IsReadable, AreLivesAndOperatorRight, life_member, operator_member, owners_member, scopes_member, clients_member, registry_of, data_of, registry_in, is_operator_key, has_operator_among_owners};
+ghost use Rattle.clients.specs.Spots.{item_at, owner_at_fault, scope_at_fault, owners_in, scopes_in, clients_in, list_spot, spot_of, spot_in};
 ghost use Rattle.clients.specs.RegistryRules.{IsRegistry};
 
-use crate::authentication::{AuthFault, authenticate};
-use crate::client::{Client, Clients, client_list};
+use crate::client::{Client, Clients, client_list, clients_spot};
+use crate::digest::{are_same, digest_of, key_digest};
 use crate::fault::ConfigFault;
 use crate::json::{items, life, member};
-use crate::numbering::Numbering;
-use crate::owner::{owner_list, owner_number};
-use crate::scope::scope_list;
-use crate::text::key;
+use crate::owner::{Owners, owner_at_fault, owner_list};
+use crate::scope::{scope_at_fault, scope_list};
+use crate::spot::Spot;
 use consent::{ClientNo, OwnerNo};
-use params::{Catalogue, Params};
+use params::Catalogue;
 use serde_json::{Category, Value};
-use std::alloc::Global;
+use std::alloc::{AllocError, Global};
 use std::marker::Model;
 use std::str;
 
@@ -36,8 +37,8 @@ const MOST_CLIENTS: usize = 256;
 pub struct Registry {
     access_life: u32,
     refresh_life: u32,
-    operator: String,
-    owners: Numbering,
+    operator: [u8; 32],
+    owners: Owners,
     catalogue: Catalogue,
     clients: Clients,
 }
@@ -48,7 +49,7 @@ impl Drop for Registry {
         let Registry {
             access_life: _,
             refresh_life: _,
-            operator: _operator,
+            operator: _,
             owners: _owners,
             catalogue: _catalogue,
             clients: _clients,
@@ -61,19 +62,19 @@ impl Model for Registry {
 
     ghost Value = { RegistryRecord };
 
-    ghost use Rattle.std.specs.Prelude.{string_bytes};
     ghost use Rattle.clients.specs.RegistryRules.{IsRegistry};
 
-    ghost view = { λ r. record { access_life = r.access_life; refresh_life = r.refresh_life; operator = string_bytes r.operator; owners = r.owners; scopes = r.catalogue; clients = r.clients } };
+    ghost view = { λ r. record { access_life = r.access_life; refresh_life = r.refresh_life; operator = r.operator; owners = r.owners; scopes = r.catalogue; clients = r.clients } };
 
-    ghost invariant = { λ r. IsRegistry (record { access_life = r.access_life; refresh_life = r.refresh_life; operator = string_bytes r.operator; owners = r.owners; scopes = r.catalogue; clients = r.clients }) };
+    ghost invariant = { λ r. IsRegistry (record { access_life = r.access_life; refresh_life = r.refresh_life; operator = r.operator; owners = r.owners; scopes = r.catalogue; clients = r.clients }) };
 }
 
 impl Registry {
     /// Reads a registry from JSON text (RFC 8259) of at most 1,048,576 bytes. Members of other names are ignored, and
     /// of two members of one name the last counts. The first fault is answered: bytes that are too many, then text
     /// that is no JSON, then the members in the order `access_life`, `refresh_life`, `operator`, `owners`, `scopes`,
-    /// `clients`. In a list the count comes first, then each element whole.
+    /// `clients`. In a list the count comes first, then each element whole. Of keys and secrets only the SHA-256 is
+    /// kept.
     pub fn read(alloc: Global, bytes: &[u8]) -> Result<Registry, ConfigFault>
         ensures value { GivesUnless ConfigFault.Memory (IsReadable bytes.now) result (registry_in bytes.now) }
         ensures registry { IfOk result IsRegistry }
@@ -84,20 +85,40 @@ impl Registry {
         read_registry(alloc, &read_data(alloc, bytes)?)
     }
 
-    /// The client that a request authenticates, by the value of its Authorization header or, without one, by its
-    /// parameters `client_id` and `client_secret` (RFC 6749, section 2.3.1). Beside a header, `client_secret` and the
-    /// `client_id` of another client are refused.
-    pub fn authenticate(
-        &self,
-        alloc: Global,
-        header: Option<&[u8]>,
-        params: &Params,
-    ) -> Result<ClientNo, AuthFault>
-        ensures value { GivesUnless AuthFault.Memory (wants_memory (option_copied header.entry) params.now ≡ true) result
-            (authenticated self.now.clients (option_copied header.entry) params.now) }
-        ensures listed { IfOk result (λ number. number ≤ length self.now.clients) }
+    /// Where in JSON text of no registry its first fault lies. None: the text as a whole is at fault.
+    pub fn spot_of_fault(alloc: Global, bytes: &[u8]) -> Result<Option<Spot>, AllocError>
+        ensures { IfOk result (λ spot. spot ≡ spot_in bytes.now) }
     {
-        authenticate(alloc, &self.clients, header, params)
+        if bytes.len() > MOST_BYTES {
+            return Ok(None);
+        }
+        match read_data(alloc, bytes) {
+            Ok(value) => Ok(Some(spot_of(alloc, &value)?)),
+            Err(ConfigFault::Memory) => Err(AllocError),
+            Err(_) => Ok(None),
+        }
+    }
+
+    /// How many owners there are.
+    pub fn owner_count(&self) -> usize
+        ensures value { result ≡ length self.now.owners }
+        ensures few { result ≤ owner_limit }
+    {
+        self.owners.count()
+    }
+
+    /// How many clients there are.
+    pub fn client_count(&self) -> usize
+        ensures { result ≡ length self.now.clients }
+    {
+        self.clients.count()
+    }
+
+    /// Whether an owner has the operator's key.
+    pub fn has_operator_among_owners(&self) -> bool
+        ensures { result ≡ has_operator_among_owners self.now }
+    {
+        self.owners.have_key(&self.operator)
     }
 
     /// The number of the client with this identifier.
@@ -124,19 +145,27 @@ impl Registry {
         self.clients.get(number)
     }
 
-    /// The number of the owner with this key.
+    /// The number of the owner whose key this is: the one with its SHA-256. It is compared with that of each owner.
     pub fn owner_no(&self, key: &[u8]) -> Option<OwnerNo>
-        ensures value { result ≡ number_of key.now self.now.owners }
+        ensures value { result ≡ owner_with key.now self.now.owners }
         ensures listed { IfSome result (λ number. number ≤ length self.now.owners) }
     {
-        owner_number(&self.owners, key)
+        self.owners.with_key(key)
     }
 
-    /// Whether this is the operator's key.
-    pub fn is_operator(&self, key: &[u8]) -> bool
-        ensures { result ≡ bytes_eq key.now self.now.operator }
+    /// What the owner of this number is called where tokens are introspected, if anything (RFC 7662, section 2.2, `sub`).
+    pub fn owner_sub(&self, number: OwnerNo) -> Option<&str>
+        ensures value { option_copied result ≡ sub_of number self.now.owners }
+        ensures short { IfSome result (λ sub. length sub.now ≤ key_limit) }
     {
-        key == self.operator.as_bytes()
+        self.owners.sub(number)
+    }
+
+    /// Whether this is the operator's key: one of the operator's SHA-256.
+    pub fn is_operator(&self, key: &[u8]) -> bool
+        ensures { result ≡ is_operator_key key.now self.now }
+    {
+        are_same(&digest_of(key), &self.operator)
     }
 
     /// The life of an access token, in seconds.
@@ -190,24 +219,47 @@ fn life_member(value: &Value, name: &str) -> Result<u32, ConfigFault>
 }
 
 // The member `operator`.
-fn operator_member(value: &Value) -> Result<&str, ConfigFault>
-    ensures { seen_by (λ s. s.now) result ≡ operator_member (view value.now) }
+fn operator_member(value: &Value) -> Result<[u8; 32], ConfigFault>
+    ensures { result ≡ operator_member (view value.now) }
 {
-    key(member(value, "operator")?)
+    key_digest(member(value, "operator")?)
+}
+
+// The list of the member `owners`.
+fn owners_in(value: &Value) -> Result<&[Value], ConfigFault>
+    ensures value { seen_by (λ list. items_view list.now) result ≡ owners_in (view value.now) }
+    ensures at_most { IfOk result (λ list. length list.now ≤ owner_limit) }
+{
+    items(member(value, "owners")?, 0, MOST_OWNERS)
+}
+
+// The list of the member `scopes`.
+fn scopes_in(value: &Value) -> Result<&[Value], ConfigFault>
+    ensures { seen_by (λ list. items_view list.now) result ≡ scopes_in (view value.now) }
+{
+    items(member(value, "scopes")?, 1, MOST_SCOPES)
+}
+
+// The list of the member `clients`.
+fn clients_in(value: &Value) -> Result<&[Value], ConfigFault>
+    ensures value { seen_by (λ list. items_view list.now) result ≡ clients_in (view value.now) }
+    ensures at_most { IfOk result (λ list. length list.now ≤ client_limit) }
+{
+    items(member(value, "clients")?, 0, MOST_CLIENTS)
 }
 
 // The member `owners`.
-fn owners_member(alloc: Global, value: &Value) -> Result<Numbering, ConfigFault>
+fn owners_member(alloc: Global, value: &Value) -> Result<Owners, ConfigFault>
     ensures { GivesUnless ConfigFault.Memory Unit result (owners_member (view value.now)) }
 {
-    owner_list(alloc, items(member(value, "owners")?, 0, MOST_OWNERS)?)
+    owner_list(alloc, owners_in(value)?)
 }
 
 // The member `scopes`.
 fn scopes_member(alloc: Global, value: &Value) -> Result<Catalogue, ConfigFault>
     ensures { GivesUnless ConfigFault.Memory Unit result (scopes_member (view value.now)) }
 {
-    scope_list(alloc, items(member(value, "scopes")?, 1, MOST_SCOPES)?)
+    scope_list(alloc, scopes_in(value)?)
 }
 
 // The member `clients`.
@@ -218,11 +270,63 @@ fn clients_member(
 ) -> Result<Clients, ConfigFault>
     ensures { GivesUnless ConfigFault.Memory Unit result (clients_member catalogue.now (view value.now)) }
 {
-    client_list(
-        alloc,
-        catalogue,
-        items(member(value, "clients")?, 0, MOST_CLIENTS)?,
-    )
+    client_list(alloc, catalogue, clients_in(value)?)
+}
+
+// The first owner at fault of a member that is a list of few enough.
+fn owners_item(alloc: Global, value: &Value) -> Result<Option<usize>, AllocError>
+    ensures { IfOk result (λ number. number ≡ item_at (owner_at_fault []) (owners_in (view value.now))) }
+{
+    match owners_in(value) {
+        Ok(list) => Ok(Some(owner_at_fault(alloc, list)?)),
+        Err(_) => Ok(None),
+    }
+}
+
+// The first scope name at fault of a member that is a list of as many as may be.
+fn scopes_item(alloc: Global, value: &Value) -> Result<Option<usize>, AllocError>
+    ensures { IfOk result (λ number. number ≡ item_at (scope_at_fault []) (scopes_in (view value.now))) }
+{
+    match scopes_in(value) {
+        Ok(list) => Ok(Some(scope_at_fault(alloc, list)?)),
+        Err(_) => Ok(None),
+    }
+}
+
+// Where in the lists of a registry, the last of its members, the first fault lies.
+fn list_spot(alloc: Global, value: &Value) -> Result<Spot, AllocError>
+    ensures { IfOk result (λ spot. spot ≡ list_spot (view value.now)) }
+{
+    match owners_member(alloc, value) {
+        Ok(_) => {}
+        Err(ConfigFault::Memory) => return Err(AllocError),
+        Err(_) => return Ok(Spot::Owners(owners_item(alloc, value)?)),
+    }
+    let catalogue = match scopes_member(alloc, value) {
+        Ok(catalogue) => catalogue,
+        Err(ConfigFault::Memory) => return Err(AllocError),
+        Err(_) => return Ok(Spot::Scopes(scopes_item(alloc, value)?)),
+    };
+    match clients_in(value) {
+        Ok(list) => clients_spot(alloc, &catalogue, list),
+        Err(_) => Ok(Spot::Clients),
+    }
+}
+
+// Where in JSON data of no registry the first fault lies.
+fn spot_of(alloc: Global, value: &Value) -> Result<Spot, AllocError>
+    ensures { IfOk result (λ spot. spot ≡ spot_of (view value.now)) }
+{
+    if life_member(value, "access_life").is_err() {
+        return Ok(Spot::AccessLife);
+    }
+    if life_member(value, "refresh_life").is_err() {
+        return Ok(Spot::RefreshLife);
+    }
+    if operator_member(value).is_err() {
+        return Ok(Spot::Operator);
+    }
+    list_spot(alloc, value)
 }
 
 // The registry of JSON data.
@@ -235,11 +339,10 @@ fn read_registry(alloc: Global, value: &Value) -> Result<Registry, ConfigFault>
     let owners = owners_member(alloc, value)?;
     let catalogue = scopes_member(alloc, value)?;
     let clients = clients_member(alloc, &catalogue, value)?;
-    let own_operator = String::from_str(alloc, operator)?;
     Ok(Registry {
         access_life,
         refresh_life,
-        operator: own_operator,
+        operator,
         owners,
         catalogue,
         clients,

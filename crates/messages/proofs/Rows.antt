@@ -4,7 +4,7 @@ use Rattle.std.specs.Fmt.{digits}
 use Rattle.json.specs.Print.{escape_byte}
 use Rattle.form_urlencoded.specs.Form.{byte_serialize}
 use Rattle.percent_encoding.specs.Percent.{percent_encode_byte}
-use Rattle.consent.specs.declared.grant.TokenKind.TheVariants.{Refresh}
+use Rattle.consent.specs.declared.grant.TokenKind.TheVariants.{Access, Refresh}
 use Rattle.messages.specs.declared.error.ErrorName.TheVariants.{InvalidClient, AccessDenied}
 use Rattle.messages.specs.Reply.{plain, sent_back}
 use Rattle.messages.specs.Reply.Body.{Empty, Failure, Tokens, Active, Inactive, HookRefused, Hooks}
@@ -35,10 +35,16 @@ not_found = refl
 faulty_reply : faulty_bytes ≡ codes "HTTP/1.1 400 Bad Request\r\nContent-Length: 0\r\nConnection: close\r\n\r\n"
 faulty_reply = refl
 
-refresh_text : body_text (Active (codes "app") 87400 1000 (codes "read") Refresh)
+refresh_text : body_text (Active (codes "app") 87400 1000 (codes "read") None Refresh)
     ≡ Some (codes "{\"active\":true,\"client_id\":\"app\",\"exp\":87400,\"iat\":1000,\"scope\":\"read\"}")
 unfolding escape_byte digits
 refresh_text = refl
+
+-- with what the owner is called, in which a quote is escaped
+owned_text : body_text (Active (codes "app") 1300 1000 (codes "read") (Some (codes "a\"nn")) Access)
+    ≡ Some (codes "{\"active\":true,\"client_id\":\"app\",\"exp\":1300,\"iat\":1000,\"scope\":\"read\",\"sub\":\"a\\\"nn\",\"token_type\":\"Bearer\"}")
+unfolding escape_byte digits
+owned_text = refl
 
 inactive_text : body_text Inactive ≡ Some (codes "{\"active\":false}")
 unfolding escape_byte

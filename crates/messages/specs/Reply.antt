@@ -23,7 +23,7 @@ pub data Body : Type 0 where
   -- what is consented to
   Consent : (scope : List ℕ) → Body
   -- RFC 7662, section 2.2
-  Active : (client : List ℕ) → (expires issued : ℕ) → (scope : List ℕ) → (kind : TokenKind) → Body
+  Active : (client : List ℕ) → (expires issued : ℕ) → (scope : List ℕ) → (sub : Option (List ℕ)) → (kind : TokenKind) → Body
   Inactive : Body
   -- a hook that was installed or removed, the fault for which it was not, and all hooks
   Hook : (name : List ℕ) → Body

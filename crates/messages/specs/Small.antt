@@ -30,8 +30,8 @@ IsSmallBody (Failure error) = Unit {0}
 IsSmallBody (Tokens access life refresh scope) =
     (length access ≤ 64) × (life < 2 ^ 64) × (length (unwrap_or refresh []) ≤ 64) × (length scope ≤ 2111)
 IsSmallBody (Consent scope) = length scope ≤ 2111
-IsSmallBody (Active client expires issued scope kind) =
-    (length client ≤ 64) × (expires < 2 ^ 64) × (issued < 2 ^ 64) × (length scope ≤ 2111)
+IsSmallBody (Active client expires issued scope sub kind) =
+    (length client ≤ 64) × (expires < 2 ^ 64) × (issued < 2 ^ 64) × (length scope ≤ 2111) × (length (unwrap_or sub []) ≤ 128)
 IsSmallBody Inactive = Unit {0}
 IsSmallBody (Hook name) = length name ≤ 64
 IsSmallBody (HookRefused detail) = length detail ≤ 256

@@ -105,18 +105,32 @@ body_short (Tokens access life (Some refresh) scope) small =
 body_short (Consent scope) small =
     let a = length-escape scope in
     simp length-append (omega (arith, a, small))
-body_short (Active client expires issued scope Access) small =
+body_short (Active client expires issued scope None Access) small =
     let a = length-escape client in
     let b = length-escape scope in
     let c = number_short expires small.1 in
     let d = number_short issued small.2 in
     simp length-append (omega (arith, a, b, c, d, small.0, small.3))
-body_short (Active client expires issued scope Refresh) small =
+body_short (Active client expires issued scope (Some sub) Access) small =
+    let a = length-escape client in
+    let b = length-escape scope in
+    let c = number_short expires small.1 in
+    let d = number_short issued small.2 in
+    let e = length-escape sub in
+    simp length-append (omega (arith, a, b, c, d, e, small.0, small.3, small.4))
+body_short (Active client expires issued scope None Refresh) small =
     let a = length-escape client in
     let b = length-escape scope in
     let c = number_short expires small.1 in
     let d = number_short issued small.2 in
     simp length-append (omega (arith, a, b, c, d, small.0, small.3))
+body_short (Active client expires issued scope (Some sub) Refresh) small =
+    let a = length-escape client in
+    let b = length-escape scope in
+    let c = number_short expires small.1 in
+    let d = number_short issued small.2 in
+    let e = length-escape sub in
+    simp length-append (omega (arith, a, b, c, d, e, small.0, small.3, small.4))
 body_short Inactive small = omega arith
 body_short (Hook name) small =
     let a = length-escape name in

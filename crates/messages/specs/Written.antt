@@ -35,6 +35,10 @@ abbrev pub refresh_member : Option (List ℕ) → Members → Members
 refresh_member None members = members
 refresh_member (Some text) members = text_member (codes "refresh_token") text members
 
+abbrev pub sub_member : Option (List ℕ) → Members → Members
+sub_member None members = members
+sub_member (Some text) members = text_member (codes "sub") text members
+
 abbrev pub type_member : TokenKind → Members
 type_member Access = text_member (codes "token_type") (codes "Bearer") no_members
 type_member Refresh = no_members
@@ -53,13 +57,14 @@ json_of (Tokens access life refresh scope) =
     (text_member (codes "scope") scope
     (type_member Access))))))
 json_of (Consent scope) = Some (object (text_member (codes "scope") scope no_members))
-json_of (Active client expires issued scope kind) =
+json_of (Active client expires issued scope sub kind) =
     Some (object (member (codes "active") (boolean true)
     (text_member (codes "client_id") client
     (number_member (codes "exp") expires
     (number_member (codes "iat") issued
     (text_member (codes "scope") scope
-    (type_member kind)))))))
+    (sub_member sub
+    (type_member kind))))))))
 json_of Inactive = Some (object (member (codes "active") (boolean false) no_members))
 json_of (Hook name) = Some (object (text_member (codes "name") name no_members))
 json_of (HookRefused detail) =

@@ -64,7 +64,7 @@ pub(crate) fn consent(alloc: Global, scope: &str) -> Result<Vec<u8>, AllocError>
 }
 
 pub(crate) fn active(alloc: Global, token: ActiveToken<'_>) -> Result<Vec<u8>, AllocError>
-    ensures { IfOk result (λ text. body_text (Active token.entry.client.now token.entry.expires token.entry.issued token.entry.scope.now token.entry.kind) ≡ Some text.items) }
+    ensures { IfOk result (λ text. body_text (Active token.entry.client.now token.entry.expires token.entry.issued token.entry.scope.now (option_copied token.entry.sub) token.entry.kind) ≡ Some text.items) }
 {
     let mut json = Object::new(alloc, token.scope.len())?;
     json.boolean("active", true)?;
@@ -72,6 +72,9 @@ pub(crate) fn active(alloc: Global, token: ActiveToken<'_>) -> Result<Vec<u8>, A
     json.number("exp", token.expires)?;
     json.number("iat", token.issued)?;
     json.text("scope", token.scope)?;
+    if let Some(sub) = token.sub {
+        json.text("sub", sub)?;
+    }
     kind(&mut json, token.kind)?;
     json.finish()
 }

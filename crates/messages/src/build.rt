@@ -44,7 +44,8 @@ pub fn consent(alloc: Global, scope: &str) -> Result<Response, AllocError>
 /// What is told of a live token (RFC 7662, section 2.2).
 pub fn active(alloc: Global, token: ActiveToken<'_>) -> Result<Response, AllocError>
     ensures { IfOk result (λ reply. reply ≡ written (plain 200
-        (Active token.entry.client.now token.entry.expires token.entry.issued token.entry.scope.now token.entry.kind))) }
+        (Active token.entry.client.now token.entry.expires token.entry.issued token.entry.scope.now
+        (option_copied token.entry.sub) token.entry.kind))) }
 {
     Ok(Response::with_body(StatusCode::OK, body::active(alloc, token)?))
 }

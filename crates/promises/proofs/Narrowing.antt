@@ -8,9 +8,9 @@ use Rattle.pkce.specs.Proof.{proves}
 use Rattle.params.specs.Form.{value_of}
 use Rattle.clients.specs.RegistryRecord.{RegistryRecord}
 use Rattle.clients.specs.ClientRecord.{ClientRecord}
-use Rattle.clients.specs.Authentication.{authenticated}
-use Rattle.clients.specs.declared.authentication.AuthFault.{AuthFault}
-use Rattle.clients.specs.declared.authentication.AuthFault.TheVariants as auth
+use Rattle.authentication.specs.Authentication.{authenticated}
+use Rattle.authentication.specs.declared.authentication.AuthFault.{AuthFault}
+use Rattle.authentication.specs.declared.authentication.AuthFault.TheVariants as auth
 use Rattle.clients.specs.Grants.{has_grant, grant_named}
 use Rattle.clients.specs.declared.grant.GrantType.{GrantType}
 use Rattle.clients.specs.declared.grant.GrantType.TheVariants.{AuthorizationCode, RefreshToken, ClientCredentials}

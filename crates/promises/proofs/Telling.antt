@@ -55,7 +55,7 @@ use Rattle.promises.proofs.Walking.{at_point, at_need, at_chosen, at_authenticat
 
 -- the body tells of no active token
 abbrev pub IsQuiet : Body → Type 0
-IsQuiet (Active client expires issued scope kind) = ⊥
+IsQuiet (Active client expires issued scope sub kind) = ⊥
 IsQuiet body = Unit {0}
 
 -- What holds of each reply without changes, and of each with changes that is no 503, holds of the endpoints' outcomes: all
@@ -309,7 +309,7 @@ active_bounded rules history bounded occasion =
     quiet_tells (Failure error) quiet = tt
     quiet_tells (Tokens access life refresh scope) quiet = tt
     quiet_tells (Consent scope) quiet = tt
-    quiet_tells (Active client expires issued scope kind) quiet = absurd quiet
+    quiet_tells (Active client expires issued scope sub kind) quiet = absurd quiet
     quiet_tells Inactive quiet = tt
     quiet_tells (Hook name) quiet = tt
     quiet_tells (HookRefused detail) quiet = tt
@@ -318,4 +318,4 @@ active_bounded rules history bounded occasion =
     told_tells : (g : Grant) (client : ClientRecord) → client_at g.client rules.clients ≡ Some client → KeepsScope rules history g →
         (k : Kind) → ((kind : TokenKind) → k ≡ Token kind → g.life ≤ life_limit rules kind) → TellsBounded rules history (told_of rules client g k)
     told_tells g client at keeps Code short = tt
-    told_tells g client at keeps (Token kind) short = let few = short kind refl in (g, keeps, refl, client, at, refl, omega (arith, few))
+    told_tells g client at keeps (Token kind) short = let few = short kind refl in (g, keeps, refl, client, at, refl, refl, omega (arith, few))

@@ -2,9 +2,9 @@
 use Rattle.std.proofs.Common.{◌≡◌, ℕ, Bool, true, false, Option, Some, None, Result, Ok, Err, eqb, refl, sym, ◌∙◌}
 use Rattle.std.proofs.lemmas.Bool.{eq-eqb, false≢true}
 use Rattle.clients.specs.RegistryRecord.{RegistryRecord}
-use Rattle.clients.specs.declared.authentication.AuthFault.{AuthFault}
-use Rattle.clients.specs.declared.authentication.AuthFault.TheVariants as auth
-use Rattle.clients.specs.Authentication.{authenticated}
+use Rattle.authentication.specs.declared.authentication.AuthFault.{AuthFault}
+use Rattle.authentication.specs.declared.authentication.AuthFault.TheVariants as auth
+use Rattle.authentication.specs.Authentication.{authenticated}
 use Rattle.messages.specs.Asked.{Asked}
 use Rattle.messages.specs.declared.error.ErrorName.{ErrorName}
 use Rattle.messages.specs.declared.error.ErrorName.TheVariants.{InvalidRequest, InvalidClient, InvalidGrant, InvalidScope, UnauthorizedClient, UnsupportedGrantType, UnsupportedResponseType, AccessDenied}

@@ -4,6 +4,7 @@ use Rattle.params.specs.Scope.{scope_text}
 use Rattle.clients.specs.RegistryRecord.{RegistryRecord}
 use Rattle.clients.specs.ClientRecord.{ClientRecord}
 use Rattle.clients.specs.Clients.{client_at}
+use Rattle.clients.specs.Owners.{sub_of}
 use Rattle.consent.specs.History.{Event, Grant, event_at, grant_at, live_grant, is_code, is_within, consented_scope, last_consent}
 use Rattle.consent.specs.History.Change.{Consented}
 use Rattle.hook_host.specs.declared.host.HookHost.{Ghosts as Hosting}
@@ -19,11 +20,12 @@ pub record KeepsScope (rules : RegistryRecord) (history : List Event) (token : G
   pub consented : (token.owner ≡ 0) ⊎ (is_within token.scope (consented_scope history token.owner token.client) ≡ true)
 
 -- Where a body tells of an active token, it tells the identifier of the token's client, its scope, which keeps to what it
--- may be, and a life within the limit of its kind.
+-- may be, what its owner is called, and a life within the limit of its kind.
 abbrev pub TellsBounded : RegistryRecord → List Event → Body → Type 0
-TellsBounded rules history (Active id expires issued scope kind) =
+TellsBounded rules history (Active id expires issued scope sub kind) =
     (token : Grant) × KeepsScope rules history token × (scope ≡ scope_text rules.scopes token.scope)
     × (client : ClientRecord) × (client_at token.client rules.clients ≡ Some client) × (id ≡ client.id)
+    × (sub ≡ sub_of token.owner rules.owners)
     × (expires ≤ issued + life_limit rules kind)
 TellsBounded rules history body = Unit {0}
 

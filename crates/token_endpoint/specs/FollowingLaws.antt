@@ -6,7 +6,7 @@ use Rattle.params.specs.Form.{value_of}
 use Rattle.clients.specs.RegistryRecord.{RegistryRecord}
 use Rattle.clients.specs.ClientRecord.{ClientRecord}
 use Rattle.clients.specs.Grants.{grant_named, has_grant}
-use Rattle.clients.specs.Authentication.{authenticated}
+use Rattle.authentication.specs.Authentication.{authenticated}
 use Rattle.clients.specs.declared.grant.GrantType.{GrantType}
 use Rattle.clients.specs.declared.grant.GrantType.TheVariants.{AuthorizationCode, RefreshToken, ClientCredentials}
 use Rattle.consent.specs.History.{Event, Change, Grant, IsHistory, event_at, grant_at, is_code, is_spent, has_ended, is_taken, with_change, CanFollow}

@@ -37,6 +37,37 @@ fn points_of_an_introspection(rt: HostRuntime) -> Result<(), Fail> {
     assert_rows(&rt, REGISTRY, TOKENS_GIVEN, INTROSPECTIONS)
 }
 
+/// Two owners, the first of whom is called something.
+const NAMED_OWNERS: &str = r#"{"access_life":300,"refresh_life":86400,"operator":"op-key",
+"owners":[{"key":"ann-key","sub":"ann"},"eve-key"],"scopes":["read","write"],"clients":[
+{"id":"app","secret":["0ld","s3cret"],"redirects":["https://app.example/cb"],"scope":"read write",
+"grants":["authorization_code","refresh_token","client_credentials"]}]}"#;
+
+/// What her tokens, the other owner's and the client's own are told to be (RFC 7662, section 2.2).
+const OWNED: &str = r#"
+1 1000 00/00 POST /introspect | $APP | token=$K2
+1 = 200 {"active":true,"client_id":"app","exp":1300,"iat":1000,"scope":"read","sub":"ann","token_type":"Bearer"}
+1 1000 00/00 POST /introspect | client_id=app&client_secret=0ld&token=$K3
+1 = 200 {"active":true,"client_id":"app","exp":87400,"iat":1000,"scope":"read","sub":"ann"}
+1 1000 04/00 POST /token | $APP | grant_type=client_credentials&scope=read
+1 = 200 {"access_token":"$K4","expires_in":300,"scope":"read","token_type":"Bearer"}
+1 1000 00/00 POST /introspect | $APP | token=$K4
+1 = 200 {"active":true,"client_id":"app","exp":1300,"iat":1000,"scope":"read","token_type":"Bearer"}
+1 1000 00/00 POST /consent | X-Owner-Key: eve-key | client_id=app&scope=read
+1 = 200 {"scope":"read"}
+1 1000 05/00 GET /authorize?response_type=code&client_id=app&redirect_uri=$CB&scope=read&$PROOF | X-Owner-Key: eve-key
+1 = 302 https://app.example/cb?code=$K5
+1 1000 06/07 POST /token | $APP | grant_type=authorization_code&code=$K5&redirect_uri=$CB&code_verifier=$VERIFIER
+1 = 200 {"access_token":"$K6","expires_in":300,"refresh_token":"BwcHBwcHBwcHBwcHBwcHBwcHBwcHBwcHBwcHBwcHBwc","scope":"read","token_type":"Bearer"}
+1 1000 00/00 POST /introspect | $APP | token=$K6
+1 = 200 {"active":true,"client_id":"app","exp":1300,"iat":1000,"scope":"read","token_type":"Bearer"}
+"#;
+
+#[test]
+fn an_owner_is_told(rt: HostRuntime) -> Result<(), Fail> {
+    assert_rows(&rt, NAMED_OWNERS, TOKENS_GIVEN, OWNED)
+}
+
 const EARLIER_MOMENTS: &str = r#"
 1 500 04/00 POST /token | $BOT | grant_type=client_credentials
 1 = 200 {"access_token":"$K4","expires_in":300,"scope":"read","token_type":"Bearer"}

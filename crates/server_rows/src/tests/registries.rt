@@ -2,7 +2,8 @@
 //! succeed. What wants memory that is refused is tried once more, so that the rows hold with each allocation refused in
 //! turn.
 
-use clients::{AuthFault, ClientNo, ConfigFault, GrantType, Registry};
+use authentication::{AuthFault, authenticate};
+use clients::{ClientNo, ConfigFault, GrantType, OwnerNo, Registry};
 use params::{ParamFault, Params};
 use std::alloc::{AllocError, Global};
 use std::process::Abort;
@@ -10,6 +11,10 @@ use std::test::Fail;
 
 const REGISTRY: &str =
     "{\"access_life\":300,\"refresh_life\":86400,\"operator\":\"op-key\",\"owners\":[\"ann-key\"],\"scopes\":[\"read\",\"write\",\"admin\"],\"clients\":[{\"id\":\"app\",\"secret\":\"s3cret\",\"redirects\":[\"https://app.example/cb\"],\"scope\":\"read write\",\"grants\":[\"authorization_code\",\"refresh_token\"]},{\"id\":\"bot\",\"secret\":\"b0t\",\"redirects\":[],\"scope\":\"read\",\"grants\":[\"client_credentials\"]}]}";
+
+// Each key and secret by its SHA-256, in either case of the digits, or as it is.
+const DIGESTS: &str =
+    "{\"access_life\":300,\"refresh_life\":86400,\"operator\":{\"sha256\":\"7007eeb3a4e88de3167e9466573e1881916bb7a86e4d89c56c50eb0c82df0e2b\"},\"owners\":[{\"key\":{\"sha256\":\"21FDBEECB49C56644F6CC4444328F5DA14132C8A38FD86AAD19B4DA9E521A79C\"},\"sub\":\"ann\"},\"bob-key\",{\"sha256\":\"f9997a1ef325b9d77fe62190e856b77e7af59868db80c1602bb765c0c14775e6\",\"sub\":\"c@t\"}],\"scopes\":[\"read\"],\"clients\":[{\"id\":\"app\",\"secret\":[{\"sha256\":\"1ec1c26b50d5d3c58d9583181af8076655fe00756bf7285940ba3670f99fcba0\"},\"n3w\"],\"redirects\":[],\"scope\":\"read\",\"grants\":[]},{\"id\":\"bot\",\"secret\":[\"b0t\"],\"redirects\":[],\"scope\":\"read\",\"grants\":[]}]}";
 
 // The registry's text with another part in place of its first one of this text.
 fn altered(alloc: Global, part: &str, other: &str) -> Result<String, AllocError> {
@@ -106,6 +111,117 @@ fn refuses_registries(rt: HostRuntime) -> Result<(), Fail> {
     Ok(())
 }
 
+// Keys and secrets that are no text.
+#[test]
+fn refuses_keys(rt: HostRuntime) -> Result<(), Fail> {
+    let alloc = rt.alloc();
+    let rows = [
+        ("\"s3cret\"", "{}", ConfigFault::BadShape),
+        ("\"s3cret\"", "{\"sha256\":1}", ConfigFault::BadShape),
+        ("\"s3cret\"", "{\"sha256\":\"\"}", ConfigFault::OutOfRange),
+        (
+            "\"s3cret\"",
+            "{\"sha256\":\"1ec1c26b50d5d3c58d9583181af8076655fe00756bf7285940ba3670f99fcba\"}",
+            ConfigFault::OutOfRange,
+        ),
+        (
+            "\"s3cret\"",
+            "{\"sha256\":\"1ec1c26b50d5d3c58d9583181af8076655fe00756bf7285940ba3670f99fcb0g\"}",
+            ConfigFault::OutOfRange,
+        ),
+        (
+            "\"s3cret\"",
+            "{\"sha256\":\"1ec1c26b50d5d3c58d9583181af8076655fe00756bf7285940ba3670f99fcba000\"}",
+            ConfigFault::OutOfRange,
+        ),
+        ("\"s3cret\"", "[]", ConfigFault::OutOfRange),
+        ("\"s3cret\"", "[\"a\",\"b\",\"c\"]", ConfigFault::OutOfRange),
+        ("\"s3cret\"", "[\"a\",\"\"]", ConfigFault::OutOfRange),
+        ("\"s3cret\"", "[\"a\",1]", ConfigFault::BadShape),
+        ("\"op-key\"", "[\"op-key\"]", ConfigFault::BadShape),
+        ("\"ann-key\"", "{\"sub\":\"ann\"}", ConfigFault::BadShape),
+        ("\"ann-key\"", "{\"key\":[]}", ConfigFault::BadShape),
+        (
+            "\"ann-key\"",
+            "{\"key\":\"ann-key\",\"sub\":1}",
+            ConfigFault::BadShape,
+        ),
+        (
+            "\"ann-key\"",
+            "{\"key\":\"ann-key\",\"sub\":\"\"}",
+            ConfigFault::OutOfRange,
+        ),
+        (
+            "\"ann-key\"",
+            "{\"key\":\"ann-key\",\"sub\":\"a b\"}",
+            ConfigFault::OutOfRange,
+        ),
+        // One key in two forms.
+        (
+            "\"ann-key\"",
+            "\"ann-key\",{\"key\":{\"sha256\":\"21fdbeecb49c56644f6cc4444328f5da14132c8a38fd86aad19b4da9e521a79c\"},\"sub\":\"ann\"}",
+            ConfigFault::Twice,
+        ),
+    ];
+    for (part, other, fault) in rows {
+        let text = match altered(alloc, part, other) {
+            Ok(text) => text,
+            Err(_) => altered(alloc, part, other)?,
+        };
+        match read(alloc, &text) {
+            Ok(_) => assert!(rt; false, "no fault for {other}"),
+            Err(found) => assert_eq!(rt; found, fault, "for {other}"),
+        }
+    }
+    Ok(())
+}
+
+// A registry whose keys and secrets are digests, and one of whose clients has two secrets.
+#[test]
+fn knows_keys_by_their_digests(rt: HostRuntime) -> Result<(), Fail> {
+    let alloc = rt.alloc();
+    let registry = read(alloc, DIGESTS).expect(&rt, "the registry of digests");
+    assert!(rt; registry.is_operator(b"op-key"));
+    assert!(rt;
+        !registry.is_operator(b"7007eeb3a4e88de3167e9466573e1881916bb7a86e4d89c56c50eb0c82df0e2b")
+    );
+    assert!(rt; !registry.is_operator(b"ann-key"));
+    let owners: [(&[u8], Option<u32>); 5] = [
+        (b"ann-key", Some(1)),
+        (b"bob-key", Some(2)),
+        (b"cat-key", Some(3)),
+        (b"op-key", None),
+        (b"", None),
+    ];
+    for (key, number) in owners {
+        assert_eq!(rt; registry.owner_no(key).map(|owner| owner.get()), number);
+    }
+    for (number, sub) in [(1, Some("ann")), (2, None), (3, Some("c@t")), (4, None)] {
+        assert_eq!(rt; registry.owner_sub(OwnerNo::new(number)), sub);
+    }
+    let secrets: [(&[u8], Result<u32, AuthFault>); 6] = [
+        (b"client_id=app&client_secret=s3cret", Ok(1)),
+        (b"client_id=app&client_secret=n3w", Ok(1)),
+        (
+            b"client_id=app&client_secret=b0t",
+            Err(AuthFault::BadSecret),
+        ),
+        // A parameter without a value counts as omitted (RFC 6749, section 3.2).
+        (b"client_id=app&client_secret=", Err(AuthFault::NoClient)),
+        (b"client_id=bot&client_secret=b0t", Ok(2)),
+        (
+            b"client_id=bot&client_secret=n3w",
+            Err(AuthFault::BadSecret),
+        ),
+    ];
+    for (sent, wanted) in secrets {
+        let params = parameters(alloc, sent).expect(&rt, "parameters");
+        let found = authenticate(alloc, &registry, None, &params);
+        assert_eq!(rt; found.map(|number| number.get()), wanted);
+    }
+    Ok(())
+}
+
 // What `authenticate` answers: the client's number, or the fault.
 fn answer(
     rt: &impl Abort,
@@ -115,8 +231,10 @@ fn answer(
 ) -> Result<u32, AuthFault> {
     let registry = registry(rt, alloc);
     let params = parameters(alloc, params).expect(rt, "parameters");
-    let number = match registry.authenticate(alloc, header, &params) {
-        Err(AuthFault::Memory) if header.is_some() => registry.authenticate(alloc, header, &params),
+    let number = match authenticate(alloc, &registry, header, &params) {
+        Err(AuthFault::Memory) if header.is_some() => authenticate(
+            alloc, &registry, header, &params,
+        ),
         answer => answer,
     };
     Ok(number?.get())

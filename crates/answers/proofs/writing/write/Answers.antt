@@ -1,10 +1,16 @@
-use Rattle.std.proofs.Common.{rules, ◌≤◌, refl, length, arith}
+use Rattle.std.proofs.Common.{rules, ◌≤◌, ℕ, List, [], Option, Some, None, Bor, refl, length, arith}
+use Rattle.std.specs.Prelude.{IfSome, unwrap_or, option_copied}
+use Rattle.clients.specs.Limits.{key_limit}
 use Rattle.hook_host.specs.Names.{name_limit}
 use Rattle.messages.specs.Reply.{plain}
 use Rattle.messages.specs.Reply.Body.{Empty, Failure, Inactive, Hook}
 use Rattle.answers.specs.Outcomes.{status_of}
 use Rattle.answers.proofs.Sizes.{failure_small, if_short, written_short}
 use Rattle.answers.proofs.writing.write.Goals as goal
+
+few : (sub : Option (Bor (List ℕ))) → IfSome sub (λ text. length text.now ≤ key_limit) → length (unwrap_or (option_copied sub) []) ≤ key_limit
+few None short = omega arith
+few (Some text) short = short
 
 pub returns-in-Done-clause-short : goal.returns-in-Done-clause-short
 returns-in-Done-clause-short g c = λ _. written_short (plain 200 Empty) c.bare.result (record { status = refl; short = tt }) c.bare.ensures
@@ -23,7 +29,7 @@ returns-in-NotAllowed-clause-short g c = λ _. written_short (plain 405 Empty) c
 
 pub returns-in_ok-scope-in-Active-clause-short : goal.returns-in_ok-scope-in-Active-clause-short
 returns-in_ok-scope-in-Active-clause-short g c = λ _.
-    c.live.ensures.short (record { client = c.id_of.ensures.short; scope = rw c.deref.ensures c.in_ok-scope-in-Active.ensures.short })
+    c.live.ensures.short (record { client = c.id_of.ensures.short; scope = rw c.deref.ensures c.in_ok-scope-in-Active.ensures.short; sub = few c.sub_of.result c.sub_of.ensures.short })
 
 pub returns-in-Inactive-clause-short : goal.returns-in-Inactive-clause-short
 returns-in-Inactive-clause-short g c = λ _. if_short c.inactive.result (plain 200 Inactive) (record { status = refl; short = tt }) (search rules)

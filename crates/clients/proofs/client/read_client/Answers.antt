@@ -7,10 +7,10 @@ use Rattle.clients.proofs.client.read_client.Goals as goal
 pub invariant_of-result : goal.invariant_of-result
 invariant_of-result c =
     let id : id_member c.args.clients.now (view c.args.value.now) ≡ Ok (string_bytes c.in_ok-own_id.own_id) = search rules in
-    let secret : secret_member (view c.args.value.now) ≡ Ok (string_bytes c.in_ok-own_secret.own_secret) = search rules in
+    let secrets : secret_member (view c.args.value.now) ≡ Ok c.in_ok-secrets.secrets = search rules in
     let redirects : redirects_member (view c.args.value.now) ≡ Ok (map string_bytes c.in_ok-redirects.redirects.items) = search rules in
     record {
       id = (id-read c.args.clients.now (view c.args.value.now) (string_bytes c.in_ok-own_id.own_id) id).0;
-      secret = secret-read (view c.args.value.now) (string_bytes c.in_ok-own_secret.own_secret) secret;
+      secrets = secret-read (view c.args.value.now) c.in_ok-secrets.secrets secrets;
       redirects = redirects_member-read (view c.args.value.now) (map string_bytes c.in_ok-redirects.redirects.items) redirects;
     }

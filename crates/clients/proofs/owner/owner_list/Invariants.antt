@@ -5,5 +5,5 @@ use Rattle.clients.proofs.owner.owner_list.Given as goal
 
 abbrev pub invariant-loop-value : goal.invariant-loop-value
 invariant-loop-value l =
-    (length l.keys ≡ l.value-index)
-    × (owners_after [] (items_view l.list) ≡ owners_after l.keys (items_view (drop l.value-index l.list)))
+    (length l.owners ≡ l.value-index)
+    × (owners_after [] (items_view l.list) ≡ owners_after l.owners (items_view (drop l.value-index l.list)))

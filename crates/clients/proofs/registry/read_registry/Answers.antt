@@ -1,4 +1,4 @@
-use Rattle.std.proofs.Common.{◌≡◌, rules, string_bytes, Ok}
+use Rattle.std.proofs.Common.{◌≡◌, rules, Ok}
 use Rattle.serde_json.specs.View.{view}
 use Rattle.clients.specs.Registry.{registry_of}
 use Rattle.clients.specs.RegistryRecord.{RegistryRecord}
@@ -10,7 +10,7 @@ invariant_of-result c =
     let read : RegistryRecord = record {
       access_life = c.in_ok-access_life.access_life;
       refresh_life = c.in_ok-refresh_life.refresh_life;
-      operator = string_bytes c.in_ok-own_operator.own_operator;
+      operator = c.in_ok-operator.operator;
       owners = c.in_ok-owners.owners;
       scopes = c.in_ok-catalogue.catalogue;
       clients = c.in_ok-clients.clients;

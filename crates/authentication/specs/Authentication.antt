@@ -1,0 +1,95 @@
+-- Client authentication by HTTP Basic or by parameters (RFC 6749, section 2.3.1; RFC 7617).
+use Rattle.std.specs.Prelude.{◌≡◌, ℕ, ◌+◌, List, ◌∷◌, ◌++◌, map, take, drop, codes, Bool, true, false, not, ◌==◌, ◌&&◌, bytes_eq, is_some, if◌then◌else◌, Option, Some, None, Result, Ok, Err}
+use Rattle.std.specs.List.{position}
+use Rattle.std.specs.Option.{ok_or, option_map_or}
+use Rattle.std.specs.Result.{result_ok}
+use Rattle.std.specs.Str.{is_utf8}
+use Rattle.std.specs.Char.{to_ascii_lowercase}
+use Rattle.base64.specs.Engines.{standard}
+use Rattle.base64.specs.GeneralPurpose.{decode_of, encode_of}
+use Rattle.form_urlencoded.specs.Form.{byte_serialize}
+use Rattle.params.specs.Form.{text_of, has_replacement, value_of}
+use Rattle.clients.specs.Faults.{◌>>=◌}
+use Rattle.clients.specs.Texts.{is_key}
+use Rattle.clients.specs.Numbers.{number_of}
+use Rattle.clients.specs.Clients.{ids, client_at, has_secret}
+use Rattle.clients.specs.ClientRecord.{ClientRecord}
+use Rattle.authentication.specs.declared.authentication.AuthFault.{AuthFault}
+use Rattle.authentication.specs.declared.authentication.AuthFault.TheVariants.{NoClient, BadSecret, TwoMethods, BadHeader}
+
+-- the header's scheme is Basic, in either case, with one space
+abbrev pub is_basic : List ℕ → Bool
+is_basic header = bytes_eq (map to_ascii_lowercase (take 6 header)) (codes "basic ")
+
+-- the UTF-8 text whose strict padded base64 (RFC 4648, section 4) stands behind the scheme
+abbrev pub basic_text : List ℕ → Result (List ℕ) AuthFault
+basic_text header =
+    if is_basic header
+    then (do
+      bytes ← ok_or (result_ok (decode_of standard (drop 6 header))) BadHeader
+      if is_utf8 bytes then Ok bytes else Err BadHeader)
+    else Err BadHeader
+
+-- the text that was form-encoded (RFC 6749, appendix B), unless it contains U+FFFD
+abbrev pub form_text : List ℕ → Result (List ℕ) AuthFault
+form_text bytes = if has_replacement (text_of bytes) then Err BadHeader else Ok (text_of bytes)
+
+-- the bytes on the two sides of the first colon
+abbrev pub around_colon : List ℕ → Result (List ℕ × List ℕ) AuthFault
+around_colon text = do
+  place ← ok_or (position (λ b. b == 58) text) BadHeader
+  Ok (take place text, drop (place + 1) text)
+
+-- the identifier and the secret of a Basic header
+abbrev pub basic_credentials : List ℕ → Result (List ℕ × List ℕ) AuthFault
+basic_credentials header = do
+  text ← basic_text header
+  parts ← around_colon text
+  id ← form_text parts.0
+  secret ← form_text parts.1
+  Ok (id, secret)
+
+-- this is a secret of the client of this number
+abbrev pub is_secret_of : ℕ → List ClientRecord → List ℕ → Bool
+is_secret_of number clients secret = option_map_or (has_secret secret) (client_at number clients) false
+
+-- the client of an identifier and a secret, unless another client is named beside them
+abbrev pub identified : List ClientRecord → Option (List ℕ) → List ℕ → List ℕ → Result ℕ AuthFault
+identified clients named id secret = do
+  number ← ok_or (number_of id (ids clients)) NoClient
+  if option_map_or (λ other. not (bytes_eq other id)) named false then Err TwoMethods
+      else (if is_secret_of number clients secret then Ok number else Err BadSecret)
+
+-- the client that a request authenticates, by its Authorization header or, without one, its parameters
+abbrev pub authenticated : List ClientRecord → Option (List ℕ) → List (List ℕ × List ℕ) → Result ℕ AuthFault
+authenticated clients None params = do
+  id ← ok_or (value_of (codes "client_id") params) NoClient
+  secret ← ok_or (value_of (codes "client_secret") params) NoClient
+  identified clients None id secret
+authenticated clients (Some header) params =
+    if is_some (value_of (codes "client_secret") params) then Err TwoMethods
+    else (do
+      sent ← basic_credentials header
+      identified clients (value_of (codes "client_id") params) sent.0 sent.1)
+
+-- memory may be wanted: a Basic header is read, which has no secret beside it
+abbrev pub wants_memory : Option (List ℕ) → List (List ℕ × List ℕ) → Bool
+wants_memory None params = false
+wants_memory (Some header) params = not (is_some (value_of (codes "client_secret") params)) && is_basic header
+
+-- the request has this identifier and this secret, in a Basic header or, without one, as parameters
+abbrev pub HasSent : Option (List ℕ) → List (List ℕ × List ℕ) → List ℕ → List ℕ → Type 0
+HasSent None params id secret = (value_of (codes "client_id") params ≡ Some id) × (value_of (codes "client_secret") params ≡ Some secret)
+HasSent (Some header) params id secret = basic_credentials header ≡ Ok (id, secret)
+
+-- the Basic header of an identifier and a secret: both form-encoded, a colon between them, in base64
+abbrev pub basic_header : List ℕ → List ℕ → List ℕ
+basic_header id secret = codes "Basic " ++ encode_of standard (byte_serialize id ++ 58 ∷ byte_serialize secret)
+
+-- each client is authenticated by its Basic header with any secret of its own, where no parameters name a client or a secret
+abbrev pub HeadersAuthenticate : List ClientRecord → Type 0
+HeadersAuthenticate clients =
+    (number : ℕ) (client : ClientRecord) (secret : List ℕ) (params : List (List ℕ × List ℕ)) → client_at number clients ≡ Some client
+    → is_key secret ≡ true → has_secret secret client ≡ true
+    → value_of (codes "client_id") params ≡ None → value_of (codes "client_secret") params ≡ None
+    → authenticated clients (Some (basic_header client.id secret)) params ≡ Ok number

@@ -1,0 +1,157 @@
+-- Laws of Basic headers: the header of a client's identifier and secret authenticates the client.
+use Rattle.std.proofs.Common.{◌≡◌, ◌<◌, ℕ, zero, suc, ◌+◌, ◌-◌, ◌==◌, ◌&&◌, ◌||◌, nat_lt, nat_eq, List, [], ◌∷◌, ◌++◌, length, take, drop, length-append, Bool, true, false, if◌then◌else◌, refl, ap, sym, ◌∙◌, subst, arith, Option, Some, None, Result, Ok, Err, codes, IsAscii, All, ⊎_elim}
+use Rattle.std.specs.Prelude.{bytes_eq, slice_get, is_some}
+use Rattle.std.specs.List.{position, position_or_len, position_from, list_all, list_any}
+use Rattle.std.specs.Cmp.Lexicographic.{pointwise}
+use Rattle.std.specs.Option.{ok_or, option_map_or}
+use Rattle.std.specs.Result.{result_ok}
+use Rattle.std.specs.Str.{is_utf8}
+use Rattle.std.specs.Str.Lossy.{utf8_lossy}
+use Rattle.std.proofs.Math.Seq.{take-append_seam, drop-append-add}
+use Rattle.std.proofs.lemmas.Bool.{and_parts, or_parts, ne_eqb, lt-ltb}
+use Rattle.std.proofs.lemmas.Bool.Decides.{nat_tests}
+use Rattle.std.proofs.lemmas.List.Elements.{All-nil, All-cons, All-head, All-tail, All-weaker}
+use Rattle.std.proofs.lemmas.Slice.Eq.{bytes_eq-Decides}
+use Rattle.std.proofs.lemmas.Str.{IsUtf8-from_ascii, is_utf8-from_IsUtf8, utf8_lossy-IsUtf8, IsAscii-append}
+use Rattle.std.proofs.lemmas.Str.Ascii.{IsAscii-from_all, IsAscii-cons}
+use Rattle.base64.specs.declared.decode.DecodeError.{DecodeError}
+use Rattle.base64.specs.Engines.{standard}
+use Rattle.base64.specs.GeneralPurpose.{decode_of, encode_of}
+use Rattle.base64.proofs.EngineFacts.{decode_of-encode_of}
+use Rattle.form_urlencoded.specs.Form.{byte_serialize}
+use Rattle.form_urlencoded.proofs.FormLemmas.{IsSerializedByte, All-byte_serialize, IsAscii-byte_serialize, decode-byte_serialize}
+use Rattle.params.specs.Form.{text_of, has_replacement, value_of, any_twice}
+use Rattle.clients.specs.Faults.{◌>>=◌}
+use Rattle.clients.specs.Texts.{is_visible, is_key, is_identifier_byte, is_identifier}
+use Rattle.clients.specs.Numbers.{number_of}
+use Rattle.clients.specs.Clients.{ids, has_secret}
+use Rattle.clients.specs.ClientRecord.{ClientRecord}
+use Rattle.clients.specs.RegistryRecord.{RegistryRecord}
+use Rattle.clients.specs.RegistryRules.{IsRegistry}
+use Rattle.clients.specs.RegistryLaws.{client-of}
+use Rattle.authentication.specs.Authentication.{basic_text, form_text, around_colon, basic_credentials, basic_header, is_secret_of, identified, HeadersAuthenticate}
+use Rattle.authentication.specs.declared.authentication.AuthFault.{AuthFault}
+use Rattle.authentication.specs.declared.authentication.AuthFault.TheVariants.{NoClient, BadSecret, TwoMethods, BadHeader}
+
+-- the characters of keys and identifiers are ASCII
+ascii-where : (test : ℕ → Bool) → ((b : ℕ) → test b ≡ true → b < 128) → (text : List ℕ) → list_all test text ≡ true → All (λ b. b < 128) text
+ascii-where test small [] is = All-nil (λ b. b < 128)
+ascii-where test small (b ∷ text) is =
+    let parts = and_parts (test b) (list_all test text) is in
+    All-cons (λ b. b < 128) b text (small b parts.0) (ascii-where test small text parts.1)
+
+visible-small : (b : ℕ) → is_visible b ≡ true → b < 128
+visible-small b is = grind (arith, nat_tests)
+
+identifier-small : (b : ℕ) → is_identifier_byte b ≡ true → b < 128
+identifier-small b is = grind (arith, nat_tests)
+
+key-ascii : (text : List ℕ) → is_key text ≡ true → All (λ b. b < 128) text
+key-ascii text is = ascii-where is_visible visible-small text (and_parts _ (list_all is_visible text) is).1
+
+identifier-ascii : (text : List ℕ) → is_identifier text ≡ true → All (λ b. b < 128) text
+identifier-ascii text is = ascii-where is_identifier_byte identifier-small text (and_parts _ (list_all is_identifier_byte text) is).1
+
+-- ASCII text comes back from its form encoding
+no_replacement : (text : List ℕ) → All (λ b. b < 128) text → has_replacement text ≡ false
+no_replacement [] ascii = refl
+no_replacement (b ∷ text) ascii =
+    let small : b < 128 = All-head (λ b. b < 128) b text ascii in
+    ap (λ first. (first && pointwise nat_eq (0xBF ∷ 0xBD ∷ []) (take 2 text)) || has_replacement text) (ne_eqb 0xEF b (λ same. omega (arith, small, same)))
+    ∙ no_replacement text (All-tail (λ b. b < 128) b text ascii)
+
+form_text-back : (text : List ℕ) → All (λ b. b < 128) text → form_text (byte_serialize text) ≡ Ok text
+form_text-back text ascii =
+    let decoded = decode-byte_serialize text (All-weaker (λ b. b < 128) (λ b. b < 256) (λ b small. omega (arith, small)) text ascii) in
+    let same : text_of (byte_serialize text) ≡ text = ap utf8_lossy decoded ∙ utf8_lossy-IsUtf8 text (IsUtf8-from_ascii text (IsAscii-from_all text ascii)) in
+    ap (λ t. if has_replacement t then Err BadHeader else Ok t) same ∙ ap (λ b. if b then Err BadHeader else Ok text) (no_replacement text ascii)
+
+-- a form encoding has no colon
+no_colon : (b : ℕ) → IsSerializedByte b → (b == 58) ≡ false
+no_colon b is = ne_eqb b 58 (λ same. ⊎_elim (λ kept. grind (arith, nat_tests)) (λ other. grind arith) is.allowed)
+
+first_colon : (before after : List ℕ) → All IsSerializedByte before → position_or_len (λ b. b == 58) (before ++ 58 ∷ after) ≡ length before
+first_colon [] after none = refl
+first_colon (b ∷ before) after none =
+    let later = first_colon before after (All-tail IsSerializedByte b before none) in
+    rw (no_colon b (All-head IsSerializedByte b before none)) (omega (arith, later))
+
+around_colon-back : (before after : List ℕ) → All IsSerializedByte before → around_colon (before ++ 58 ∷ after) ≡ Ok (before, after)
+around_colon-back before after none =
+    let place = first_colon before after none in
+    let within : nat_lt (length before) (length (before ++ 58 ∷ after)) ≡ true = lt-ltb _ _ (omega (arith, length-append {A = ℕ})) in
+    parts (position (λ b. b == 58) (before ++ 58 ∷ after)) (rw (place, within) refl)
+  where
+    parts : (o : Option ℕ) → o ≡ Some (length before)
+        → ◌>>=◌ {B = List ℕ × List ℕ} (ok_or o BadHeader) (λ place. Ok (take place (before ++ 58 ∷ after), drop (place + 1) (before ++ 58 ∷ after))) ≡ Ok (before, after)
+    parts None e = cc e
+    parts (Some n) e =
+        let same : n ≡ length before = cc e in
+        rw (same, take-append_seam before (58 ∷ after), drop-append-add before (58 ∷ after) 1) refl
+
+-- base64 of UTF-8 text is read as the text
+basic_text-back : (text : List ℕ) → IsAscii text → basic_text (codes "Basic " ++ encode_of standard text) ≡ Ok text
+basic_text-back text ascii =
+    by (decode_of standard (encode_of standard text)) (decode_of-encode_of standard text refl (λ i. omega (arith, ascii i))) (is_utf8-from_IsUtf8 text (IsUtf8-from_ascii text ascii))
+  where
+    by : (r : Result (List ℕ) DecodeError) → r ≡ Ok text → is_utf8 text ≡ true
+        → (ok_or (result_ok r) BadHeader >>= (λ bytes. if is_utf8 bytes then Ok bytes else Err BadHeader)) ≡ Ok text
+    by r read utf8 = rw (read, utf8) refl
+
+credentials-back : (id secret : List ℕ) → All (λ b. b < 128) id → All (λ b. b < 128) secret → basic_credentials (basic_header id secret) ≡ Ok (id, secret)
+credentials-back id secret id_ascii secret_ascii =
+    let ascii : IsAscii (byte_serialize id ++ 58 ∷ byte_serialize secret) =
+    IsAscii-append (byte_serialize id) (58 ∷ byte_serialize secret) (IsAscii-byte_serialize id) (IsAscii-cons 58 (byte_serialize secret) (omega arith) (IsAscii-byte_serialize secret)) in
+    read (basic_text (basic_header id secret)) (basic_text-back _ ascii)
+    (around_colon-back (byte_serialize id) (byte_serialize secret) (All-byte_serialize id)) (form_text-back id id_ascii) (form_text-back secret secret_ascii)
+  where
+    read : (r : Result (List ℕ) AuthFault) → r ≡ Ok (byte_serialize id ++ 58 ∷ byte_serialize secret)
+        → around_colon (byte_serialize id ++ 58 ∷ byte_serialize secret) ≡ Ok (byte_serialize id, byte_serialize secret)
+        → form_text (byte_serialize id) ≡ Ok id → form_text (byte_serialize secret) ≡ Ok secret
+        → (r >>= (λ text. around_colon text >>= (λ parts. form_text parts.0 >>= (λ id. ◌>>=◌ {B = List ℕ × List ℕ} (form_text parts.1) (λ secret. Ok (id, secret)))))) ≡ Ok (id, secret)
+    read r text parts first second = rw (text, parts, first, second) refl
+
+-- the number of a client whose identifier no other has
+numbered : (clients : List ClientRecord) (at i : ℕ) (client : ClientRecord) → any_twice (ids clients) ≡ false → slice_get clients at ≡ Some client
+    → (list_any (bytes_eq client.id) (ids clients) ≡ true) × (position_from (bytes_eq client.id) i (ids clients) ≡ Some (i + at))
+numbered [] at i client once is = cc is
+numbered (c ∷ clients) zero i client once is =
+    let same : c ≡ client = cc is in
+    let eq : bytes_eq client.id c.id ≡ true = (bytes_eq-Decides client.id c.id).1 (ap (λ (c : ClientRecord). c.id) (sym same)) in
+    rw eq (refl, ap Some (omega arith))
+numbered (c ∷ clients) (suc at) i client once is =
+    let parts = or_parts (list_any (bytes_eq c.id) (ids clients)) (any_twice (ids clients)) once in
+    let later = numbered clients at (i + 1) client parts.1 is in
+    let other : bytes_eq client.id c.id ≡ false = differs (bytes_eq client.id c.id) refl parts.0 later.0 in
+    rw other (later.0, later.1 ∙ ap Some (omega arith))
+  where
+    differs : (b : Bool) → bytes_eq client.id c.id ≡ b → list_any (bytes_eq c.id) (ids clients) ≡ false → list_any (bytes_eq client.id) (ids clients) ≡ true → bytes_eq client.id c.id ≡ false
+    differs false e none some = e
+    differs true e none some =
+        let same : client.id ≡ c.id = (bytes_eq-Decides client.id c.id).0 e in
+        let h : list_any (bytes_eq c.id) (ids clients) ≡ true = subst (λ (t : List ℕ). list_any (bytes_eq t) (ids clients) ≡ true) same some in
+        cc (h, none)
+
+-- each client of a registry is authenticated by the header of its identifier and secret
+pub headers_authenticate : (rules : RegistryRecord) → IsRegistry rules → HeadersAuthenticate rules.clients
+headers_authenticate rules is number client secret params at is_key right no_id no_secret =
+    let one = client-of rules number client is at in
+    let sent = credentials-back client.id secret (identifier-ascii client.id one.is_client.id) (key-ascii secret is_key) in
+    let known : number_of client.id (ids rules.clients) ≡ Some number = number_where (number == 0) refl at in
+    let among : is_secret_of number rules.clients secret ≡ true = ap (λ (o : Option ClientRecord). option_map_or (has_secret secret) o false) at ∙ right in
+    by (value_of (codes "client_secret") params) (value_of (codes "client_id") params) (basic_credentials (basic_header client.id secret)) no_secret no_id sent
+    (found (number_of client.id (ids rules.clients)) known among)
+  where
+    number_where : (none : Bool) → (number == 0) ≡ none → (if none then None else slice_get rules.clients (number - 1)) ≡ Some client
+        → number_of client.id (ids rules.clients) ≡ Some number
+    number_where true e at = cc at
+    number_where false e at = (numbered rules.clients (number - 1) 1 client is.distinct at).1 ∙ ap Some (grind (arith, nat_tests))
+
+    found : (o : Option ℕ) → o ≡ Some number → is_secret_of number rules.clients secret ≡ true
+        → (ok_or o NoClient >>= (λ n. if is_secret_of n rules.clients secret then Ok n else Err BadSecret)) ≡ Ok number
+    found o known right = rw (known, right) refl
+
+    by : (beside named : Option (List ℕ)) (sent : Result (List ℕ × List ℕ) AuthFault)
+        → beside ≡ None → named ≡ None → sent ≡ Ok (client.id, secret) → identified rules.clients None client.id secret ≡ Ok number
+        → (if is_some beside then Err TwoMethods else (sent >>= (λ sent. identified rules.clients named sent.0 sent.1))) ≡ Ok number
+    by beside named sent none unnamed credentials known = rw (none, unnamed, credentials) known

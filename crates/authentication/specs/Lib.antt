@@ -1,0 +1,4 @@
+pub mod Authentication
+pub mod FaultTexts
+pub mod AuthenticationLaws
+pub mod HeaderLaws

@@ -1,0 +1,9 @@
+use Rattle.std.proofs.Common.{◌≡◌, [], drop, length}
+use Rattle.serde_json.specs.View.{items_view}
+use Rattle.clients.specs.Spots.{owner_at_fault}
+use Rattle.clients.proofs.owner.owner_at_fault.Given as goal
+
+abbrev pub invariant-loop-value : goal.invariant-loop-value
+invariant-loop-value l =
+    (length l.owners ≡ l.value-index)
+    × (owner_at_fault [] (items_view l.list) ≡ owner_at_fault l.owners (items_view (drop l.value-index l.list)))

@@ -1,0 +1,34 @@
+-- The digests of keys and secrets, by which alone they are known: SHA-256 (FIPS 180-4).
+use Rattle.std.specs.Prelude.{ℕ, List, codes, is_some, if◌then◌else◌, Result, Ok}
+use Rattle.std.specs.Option.{ok_or}
+use Rattle.std.specs.Result.{result_ok}
+use Rattle.sha2.specs.Sha256.{sha256}
+use Rattle.hex.specs.Hex.{decode_sized}
+use Rattle.serde_json.specs.Data.{Data}
+use Rattle.serde_json.specs.Find.{as_object}
+use Rattle.clients.specs.Faults.{◌>>=◌}
+use Rattle.clients.specs.Json.{member_of, text_of}
+use Rattle.clients.specs.Texts.{key_of}
+use Rattle.clients.specs.declared.fault.ConfigFault.{ConfigFault}
+use Rattle.clients.specs.declared.fault.ConfigFault.TheVariants.{OutOfRange}
+
+-- the 32 bytes of 64 hexadecimal digits, in either case
+abbrev pub digest_in : List ℕ → Result (List ℕ) ConfigFault
+digest_in text = ok_or (result_ok (decode_sized text 32)) OutOfRange
+
+-- the digest in an object's member `sha256`
+abbrev pub written_digest : Data → Result (List ℕ) ConfigFault
+written_digest value = do
+  member ← member_of (codes "sha256") value
+  text ← text_of member
+  digest_in text
+
+-- the digest of a string that is a key
+abbrev pub made_digest : Data → Result (List ℕ) ConfigFault
+made_digest value = do
+  key ← key_of value
+  Ok (sha256 key)
+
+-- the digest of a key or a secret: of the key itself, or as an object has it
+abbrev pub key_digest : Data → Result (List ℕ) ConfigFault
+key_digest value = if is_some (as_object value) then written_digest value else made_digest value

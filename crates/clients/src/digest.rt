@@ -1,0 +1,66 @@
+//! The digests of keys and secrets, by which alone they are known: SHA-256 (FIPS 180-4).
+
+ghost use Rattle.std.specs.Prelude.{◌≡◌, bytes_eq};
+ghost use Rattle.sha2.specs.Sha256.{sha256};
+ghost use Rattle.serde_json.specs.View.{view};
+ghost use Rattle.clients.specs.Keys.{digest_in, written_digest, made_digest, key_digest};
+
+use crate::fault::ConfigFault;
+use crate::json::{member, text};
+use crate::text::key;
+use hex::FromHex;
+use serde_json::Value;
+use sha2::{Digest, Sha256};
+
+// The digest of a key or a secret that was sent.
+pub(crate) fn digest_of(key: &[u8]) -> [u8; 32]
+    ensures { result ≡ sha256 key.now }
+{
+    Sha256::digest(key)
+}
+
+// Whether the digests are the same. All their bytes are compared, so that the time tells nothing of them.
+pub(crate) fn are_same(one: &[u8; 32], other: &[u8; 32]) -> bool
+    ensures { result ≡ bytes_eq one.now other.now }
+{
+    let mut same = true;
+    for place in 0..32 {
+        same &= one[place] == other[place];
+    }
+    same
+}
+
+// The 32 bytes of 64 hexadecimal digits, in either case.
+fn digest_in(text: &str) -> Result<[u8; 32], ConfigFault>
+    ensures { result ≡ digest_in text.now }
+{
+    match <[u8; 32] as FromHex>::from_hex(text) {
+        Ok(digest) => Ok(digest),
+        Err(_) => Err(ConfigFault::OutOfRange),
+    }
+}
+
+// The digest in an object's member `sha256`.
+fn written_digest(value: &Value) -> Result<[u8; 32], ConfigFault>
+    ensures { result ≡ written_digest (view value.now) }
+{
+    digest_in(text(member(value, "sha256")?)?)
+}
+
+// The digest of a string that is a key.
+fn made_digest(value: &Value) -> Result<[u8; 32], ConfigFault>
+    ensures { result ≡ made_digest (view value.now) }
+{
+    Ok(digest_of(key(value)?.as_bytes()))
+}
+
+// The digest of a key or a secret: of the key itself, or as an object has it.
+pub(crate) fn key_digest(value: &Value) -> Result<[u8; 32], ConfigFault>
+    ensures { result ≡ key_digest (view value.now) }
+{
+    if value.is_object() {
+        written_digest(value)
+    } else {
+        made_digest(value)
+    }
+}

@@ -1,0 +1,48 @@
+-- The last of objects.
+use Rattle.std.proofs.Common.{◌≡◌, ℕ, ◌+◌, ◌-◌, List, [], ◌∷◌, ◌++◌, length, refl, sym, ap, ◌∙◌, false, ◌||◌, Option, Some, None, map, String, Global, Vec, string_bytes, arith}
+use Rattle.std.specs.Prelude.{slice_get, option_to_list, MatchOption}
+use native.Mathlib.Numerals.{unary_clauses}
+use Rattle.std.specs.List.{list_any}
+use Rattle.std.specs.Option.{option_map_or}
+use Rattle.std.specs.Str.{bytes_eq}
+use Rattle.std.proofs.lemmas.List.{map-append}
+use Rattle.registry_warnings.specs.Warnings.{Objects, names_of, innermost, outer}
+
+pub outer-append : (objects : Objects) (names : List (List ℕ)) → outer (objects ++ names ∷ []) ≡ objects
+outer-append [] names = refl
+outer-append (first ∷ []) names = refl
+outer-append (first ∷ (second ∷ objects)) names = ap (λ (rest : Objects). first ∷ rest) (outer-append (second ∷ objects) names)
+
+pub innermost-append : (objects : Objects) (names : List (List ℕ)) → innermost (objects ++ names ∷ []) ≡ names
+innermost-append [] names = refl
+innermost-append (first ∷ []) names = refl
+innermost-append (first ∷ (second ∷ objects)) names = innermost-append (second ∷ objects) names
+
+-- what is popped is the innermost, and the others stay
+pub popped : (old new : List (Vec (String Global) Global)) (last : Option (Vec (String Global) Global)) → old ≡ new ++ option_to_list last
+    → (n m : ℕ) → length old ≡ n → MatchOption last ((n ≡ 0) × (m ≡ 0)) (λ _. m + 1 ≡ n)
+    → (option_map_or names_of last [] ≡ innermost (map names_of old)) × (map names_of new ≡ outer (map names_of old))
+popped [] [] None is n m count few = (refl, refl)
+popped [] (x ∷ new) None is n m count few = absurd (cc is)
+popped (o ∷ old) new None is n m count few = absurd (omega (arith, count, few.0))
+popped old new (Some last) is n m count few =
+    let mapped : map names_of old ≡ map names_of new ++ names_of last ∷ [] = ap (λ (l : List (Vec (String Global) Global)). map names_of l) is ∙ map-append names_of new (last ∷ []) in
+    (rw mapped (sym (innermost-append (map names_of new) (names_of last))), rw mapped (sym (outer-append (map names_of new) (names_of last))))
+
+-- a text is among the texts of strings where one of the strings has it
+pub any_text : (text : List ℕ) (strings : List (String Global))
+    → list_any (λ s. bytes_eq text (string_bytes s)) strings ≡ list_any (bytes_eq text) (map string_bytes strings)
+any_text text [] = refl
+any_text text (s ∷ ss) = ap (λ b. bytes_eq text (string_bytes s) || b) (any_text text ss)
+
+-- the innermost one is the last
+pub last-innermost : (text : List ℕ) (open_ones : List (Vec (String Global) Global)) (last : Option (Vec (String Global) Global))
+    → last ≡ slice_get open_ones (length open_ones - 1)
+    → option_map_or (λ names. list_any (λ s. bytes_eq text (string_bytes s)) names.items) last false ≡ list_any (bytes_eq text) (innermost (map names_of open_ones))
+last-innermost text [] None is = refl
+last-innermost text [] (Some names) is = absurd (cc is)
+last-innermost text (o ∷ []) None is = absurd (cc is)
+last-innermost text (o ∷ []) (Some names) is =
+    let same : names ≡ o = cc is in
+    rw same (any_text text o.items)
+last-innermost text (o ∷ (p ∷ rest)) last is = last-innermost text (p ∷ rest) last (is ∙ simp unary_clauses)

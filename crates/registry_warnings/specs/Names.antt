@@ -1,0 +1,30 @@
+-- The names that members of a registry have.
+use Rattle.std.specs.Prelude.{ℕ, List, codes, Bool, true, ◌||◌, bytes_eq, if◌then◌else◌, Option, Some, None}
+
+-- the members of a registry
+abbrev pub is_of_registry : List ℕ → Bool
+is_of_registry name =
+    bytes_eq name (codes "access_life") || bytes_eq name (codes "refresh_life") || bytes_eq name (codes "operator")
+    || bytes_eq name (codes "owners") || bytes_eq name (codes "scopes") || bytes_eq name (codes "clients")
+
+-- the members of a client
+abbrev pub is_of_client : List ℕ → Bool
+is_of_client name =
+    bytes_eq name (codes "id") || bytes_eq name (codes "secret") || bytes_eq name (codes "redirects")
+    || bytes_eq name (codes "scope") || bytes_eq name (codes "grants")
+
+-- the members of an owner
+abbrev pub is_of_owner : List ℕ → Bool
+is_of_owner name = bytes_eq name (codes "key") || bytes_eq name (codes "sub") || bytes_eq name (codes "sha256")
+
+-- an object that stands for a key
+abbrev pub is_of_key : List ℕ → Bool
+is_of_key name = bytes_eq name (codes "sha256")
+
+-- the members of an object in the registry's member of this name. Nothing is said of what stands in a member that is not known.
+abbrev pub is_known_in : Option (List ℕ) → List ℕ → Bool
+is_known_in None name = true
+is_known_in (Some place) name =
+    if bytes_eq place (codes "clients") then is_of_client name
+    else (if bytes_eq place (codes "owners") then is_of_owner name
+    else (if bytes_eq place (codes "operator") then is_of_key name else true))

@@ -1,0 +1,84 @@
+-- What in the text of a registry may be a mistake.
+use Rattle.std.specs.Prelude.{ℕ, List, [], ◌∷◌, ◌++◌, length, map, codes, bytes_eq, string_bytes, slice_get, option_and_then, Bool, Option, ◌-◌, ◌==◌, if◌then◌else◌, String, Vec}
+use Rattle.std.specs.declared.alloc.Global.{Global}
+use Rattle.std.specs.List.{list_any}
+use Rattle.std.specs.Str.{is_utf8}
+use Rattle.json.specs.Token.{Token, begin_object, end_object, begin_array, end_array, key, string, number, boolean, null, bad}
+use Rattle.json.specs.Lex.{tokens}
+use Rattle.registry_warnings.specs.Names.{is_of_registry, is_of_key, is_known_in}
+
+-- OBJECTS that are open, the innermost last, each with the names of its members so far
+
+abbrev pub Objects : Type 0
+Objects = List (List (List ℕ))
+
+abbrev pub names_of : Vec (String Global) Global → List (List ℕ)
+names_of names = map string_bytes names.items
+
+abbrev pub innermost : Objects → List (List ℕ)
+innermost [] = []
+innermost (names ∷ []) = names
+innermost (names ∷ (more ∷ objects)) = innermost (more ∷ objects)
+
+-- all but the innermost one
+abbrev pub outer : Objects → Objects
+outer [] = []
+outer (names ∷ []) = []
+outer (names ∷ (more ∷ objects)) = names ∷ outer (more ∷ objects)
+
+-- the innermost one has one more member
+abbrev pub with_member : List ℕ → Objects → Objects
+with_member name objects = outer objects ++ (innermost objects ++ name ∷ []) ∷ []
+
+-- the name of the registry's member that is read
+abbrev pub place_of : Objects → Option (List ℕ)
+place_of objects = option_and_then (λ names. slice_get names (length names - 1)) (slice_get objects 0)
+
+-- WARNINGS
+
+-- the name means something in the innermost object: the registry, what stands in one of its members, or a key in that
+abbrev pub is_known : Objects → List ℕ → Bool
+is_known objects name =
+    if length objects == 1 then is_of_registry name
+    else (if length objects == 2 then is_known_in (place_of objects) name else is_of_key name)
+
+-- the objects that are open behind a token
+abbrev pub after : Objects → Token → Objects
+after objects begin_object = objects ++ [] ∷ []
+after objects end_object = outer objects
+after objects (key name) = with_member name objects
+after objects begin_array = objects
+after objects end_array = objects
+after objects (string text) = objects
+after objects (number text) = objects
+after objects (boolean b) = objects
+after objects null = objects
+after objects bad = objects
+
+-- a member whose name means nothing where it stands, and one that its object has already: a line each
+abbrev pub unknown_text : Objects → List ℕ → List ℕ
+unknown_text objects name = if is_known objects name then [] else codes "warning: unknown member " ++ name ++ codes "\n"
+
+abbrev pub twice_text : Objects → List ℕ → List ℕ
+twice_text objects name = if list_any (bytes_eq name) (innermost objects) then codes "warning: a member stands twice: " ++ name ++ codes "\n" else []
+
+abbrev pub told : Objects → Token → List ℕ
+told objects (key name) = unknown_text objects name ++ twice_text objects name
+told objects begin_object = []
+told objects end_object = []
+told objects begin_array = []
+told objects end_array = []
+told objects (string text) = []
+told objects (number text) = []
+told objects (boolean b) = []
+told objects null = []
+told objects bad = []
+
+-- of tokens, where these objects are open
+abbrev pub warnings : Objects → List Token → List ℕ
+warnings objects [] = []
+warnings objects (token ∷ tokens) = told objects token ++ warnings (after objects token) tokens
+
+-- of UTF-8 text
+abbrev pub warnings_in : List ℕ → List ℕ
+warnings_in bytes = if is_utf8 bytes then warnings [] (tokens bytes) else []

@@ -1,0 +1,103 @@
+//! The warnings about a registry's text, a line each.
+
+ghost use Rattle.std.specs.Prelude.{◌≡◌, [], ◌++◌, string_bytes, codes, IfOk, OnOk};
+ghost use Rattle.json.specs.Reads.{token_of};
+ghost use Rattle.json.specs.Lex.{tokens};
+ghost use Rattle.registry_warnings.specs.Warnings.{is_known, unknown_text, twice_text, after, told, warnings, warnings_in};
+
+use crate::names::{is_known_in, is_of_key, is_of_registry};
+use crate::objects::Objects;
+use json::{Reader, Scratch, Token};
+use std::alloc::{AllocError, Global};
+use std::str;
+
+// One more line: a text and a name.
+fn push_line(lines: &mut String, text: &str, name: &str) -> Result<(), AllocError>
+    ensures { OnOk result (string_bytes lines.new ≡ string_bytes lines.old ++ text.now ++ name.now ++ codes "\n") }
+{
+    lines.push_str(text)?;
+    lines.push_str(name)?;
+    lines.push_str("\n")
+}
+
+// Whether the name means something in the innermost object.
+fn is_known(objects: &Objects, name: &str) -> bool
+    ensures { result ≡ is_known objects.now name.now }
+{
+    match objects.depth() {
+        1 => is_of_registry(name),
+        2 => is_known_in(objects.place(), name),
+        _ => is_of_key(name),
+    }
+}
+
+// Tells of a member whose name means nothing where it stands.
+fn push_unknown(lines: &mut String, objects: &Objects, name: &str) -> Result<(), AllocError>
+    ensures { OnOk result (string_bytes lines.new ≡ string_bytes lines.old ++ unknown_text objects.now name.now) }
+{
+    if is_known(objects, name) {
+        return Ok(());
+    }
+    push_line(lines, "warning: unknown member ", name)
+}
+
+// Tells of a member that its object has already.
+fn push_twice(lines: &mut String, objects: &Objects, name: &str) -> Result<(), AllocError>
+    ensures { OnOk result (string_bytes lines.new ≡ string_bytes lines.old ++ twice_text objects.now name.now) }
+{
+    if !objects.has(name) {
+        return Ok(());
+    }
+    push_line(lines, "warning: a member stands twice: ", name)
+}
+
+// Takes a token, and tells of it.
+fn take_token(
+    alloc: Global,
+    objects: &mut Objects,
+    token: Token<'_>,
+    lines: &mut String,
+) -> Result<(), AllocError>
+    ensures objects { OnOk result (objects.new ≡ after objects.old (token_of token.entry)) }
+    ensures lines { OnOk result (string_bytes lines.new ≡ string_bytes lines.old ++ told objects.old (token_of token.entry)) }
+{
+    match token {
+        Token::BeginObject => objects.begin(alloc),
+        Token::EndObject => {
+            let _ = objects.end();
+            Ok(())
+        }
+        Token::Key(name) => {
+            push_unknown(lines, objects, name)?;
+            push_twice(lines, objects, name)?;
+            objects.take(alloc, name)
+        }
+        _ => Ok(()),
+    }
+}
+
+// The warnings about JSON text.
+fn text_warnings(alloc: Global, text: &str) -> Result<String, AllocError>
+    ensures { IfOk result (λ lines. string_bytes lines ≡ warnings [] (tokens text.now)) }
+{
+    let mut scratch = Scratch::new(alloc);
+    let mut reader = Reader::new(text, &mut scratch)?;
+    let mut objects = Objects::new(alloc);
+    let mut lines = String::new(alloc);
+    while let Some(token) = reader.next() {
+        take_token(alloc, &mut objects, token, &mut lines)?;
+    }
+    Ok(lines)
+}
+
+/// The warnings about the JSON text of a registry, in the order of the text: of each member whose name means nothing where it
+/// stands, and of each that stands in its object already. Of bytes that are not UTF-8 there are none.
+#[tactic(auto, using(crate::proofs::Utf8::warnings_where, crate::proofs::Utf8::no_warnings_where))]
+pub fn warnings(alloc: Global, bytes: &[u8]) -> Result<String, AllocError>
+    ensures { IfOk result (λ lines. string_bytes lines ≡ warnings_in bytes.now) }
+{
+    match str::from_utf8(bytes) {
+        Ok(text) => text_warnings(alloc, text),
+        Err(_) => Ok(String::new(alloc)),
+    }
+}
