@@ -1,9 +1,13 @@
 -- What a ruling comes to is answered, at its endpoint and by its path.
-use Rattle.std.proofs.Common.{◌≡◌, ◌≤◌, ℕ, List, Bool, true, false, max, refl, ap, sym, ◌∙◌, arith, append-nil, subst, Result, Ok, Err, Option, Some}
+use Rattle.std.proofs.Common.{◌≡◌, ◌≤◌, ℕ, List, [], ◌++◌, Bool, true, false, max, refl, ap, sym, ◌∙◌, arith, append-nil, subst, Result, Ok, Err, Option, Some, None}
 use Rattle.std.specs.Prelude.{bytes_eq}
 use Rattle.clients.specs.RegistryRecord.{RegistryRecord}
 use Rattle.consent.specs.Changes.{changes_of, listed, AllFollow}
-use Rattle.consent.specs.History.{Event, with_changes}
+use Rattle.consent.specs.History.{Event, Change as happening, with_changes}
+use Rattle.consent.specs.declared.change.Changes.{Changes}
+use Rattle.change_codec.specs.Spelling.{DatedFact}
+use Rattle.change_codec.specs.Happened.{all_dated}
+use Rattle.change_codec.specs.HappenedLaws.{Happened-joined, Happened-own}
 use Rattle.hook_host.specs.declared.fault.HookFault.{HookFault}
 use Rattle.hook_host.specs.declared.host.HookHost.{Ghosts as Hosting}
 use Rattle.messages.specs.Asked.{Asked}
@@ -13,23 +17,38 @@ use Rattle.messages.specs.declared.request.Draws.{Draws}
 use Rattle.token_store.specs.Kept.{Held}
 use Rattle.token_store.specs.Fits.{FitsStore}
 use Rattle.token_store.specs.FitsLaws.{fits_later}
-use Rattle.answers.specs.Outcomes.{bare}
+use Rattle.answers.specs.Outcomes.{Outcome, bare}
 use Rattle.answers.specs.Replies.{reply_of}
 use Rattle.endpoints.specs.declared.endpoint.Endpoint.{Endpoint}
 use Rattle.endpoints.specs.declared.ruling.Ruling.{Ruling}
 use Rattle.endpoints.specs.HookPaths.{hook_change_at}
 use Rattle.endpoints.specs.Hosts.{IsHostFault}
 use Rattle.endpoints.specs.Making.{IsSame, Makes, StandsAlone}
+use Rattle.endpoints.specs.Noting.{with_notes}
 use Rattle.endpoints.specs.Bounded.{AllRightAfter}
 use Rattle.endpoints.specs.Ruling.{CanMakeAll}
 use Rattle.endpoints.specs.Paths.{endpoint_at, method_at}
 use Rattle.endpoints.specs.Replies.{outcome, hook_change}
 use Rattle.endpoints.specs.Rulings.{Answers, Asking, FitsNow, IsRuling, comes_to, says_with, scene_now}
-use Rattle.endpoints.specs.Server.{Seen, FitsServer, IsStep}
+use Rattle.endpoints.specs.Server.{Seen, FitsServer, AreUnkept, IsNoted, IsStep}
 use Rattle.endpoints.proofs.Ruled.{told_changes, told_reply}
 
 pub at_moment : (greatest m moment n : ℕ) → n ≡ max greatest moment → greatest ≡ m → (m ≤ n) × (n ≡ max m moment)
 at_moment greatest m moment n is same = (omega (arith, is, same), is ∙ ap (λ x. max x moment) same)
+
+-- what is noted at the moment is what is changed
+pub notes_on : (unkept : Option (List DatedFact)) (kept : Option (List Event)) (history : List Event) (m : ℕ) (changes : Changes) (next : List happening) →
+    changes_of history m (listed changes) ≡ Some next → AllFollow history m next →
+    AreUnkept unkept kept history → AreUnkept (with_notes unkept m changes) kept (with_changes history m next)
+notes_on None None history m changes next meant follow noted = tt
+notes_on None (Some kept) history m changes next meant follow noted = absurd noted
+notes_on (Some facts) None history m changes next meant follow noted = absurd noted
+notes_on (Some facts) (Some kept) history m changes next meant follow noted =
+    Happened-joined kept history (with_changes history m next) facts (all_dated m changes) noted (Happened-own history m changes next meant follow)
+
+-- nothing is noted where nothing happens
+still_noted : {H : Type 0} (old new : Seen H) (history : List Event) → new.unkept ≡ old.unkept → IsNoted old new history (history ++ [])
+still_noted old new history same kept noted = rw (append-nil history) (subst (λ u. AreUnkept u kept history) (sym same) noted)
 
 module _ {H : Type 0} (hosting : Hosting H) where
   -- time goes on, and what has expired is let go of
@@ -46,18 +65,20 @@ module _ {H : Type 0} (hosting : Hosting H) where
   }
 
   -- nothing happens
-  pub bare_step : (new : Seen H) (rules : RegistryRecord) (first : H) (history : List Event) (m status : ℕ) (reply : Written) →
+  pub bare_step : (old new : Seen H) (rules : RegistryRecord) (first : H) (history : List Event) (m status : ℕ) (reply : Written) →
       FitsServer hosting.installs hosting.removes new rules first history m → reply ≡ written (bare status).reply →
-      IsStep hosting.installs hosting.removes (bare status) reply new rules first history m
-  bare_step new rules first history m status reply fits is = record { reply_is = is; fits = rw (append-nil history) fits }
+      new.unkept ≡ old.unkept → IsStep hosting.installs hosting.removes (bare status) reply old new rules first history m
+  bare_step old new rules first history m status reply fits is same =
+      record { reply_is = is; fits = rw (append-nil history) fits; noted = still_noted old new history same }
 
   -- the ruling is written, room is made for its changes, and they are made
   pub answered : (old mid new : Seen H) (first : H) (history : List Event) (asking : Asking) (ruling : Ruling H) (reply : Written) →
       IsRuling hosting old history asking ruling → IsSame hosting old mid → Makes hosting mid (listed ruling.decision.changes) ruling.checked new →
+      new.unkept ≡ with_notes mid.unkept mid.greatest ruling.decision.changes →
       reply ≡ written (reply_of old.rules (hosting.names old.host) ruling.decision.answer) → FitsNow hosting old first history →
       (fault : Option HookFault) × IsHostFault hosting.refuses_install hosting.refuses_remove old.host (hook_change_at asking.endpoint asking.asked) fault
-      × IsStep hosting.installs hosting.removes (comes_to hosting old history asking fault) reply new old.rules first history old.greatest
-  answered old mid new first history asking ruling reply r same makes is fits =
+      × IsStep hosting.installs hosting.removes (comes_to hosting old history asking fault) reply old new old.rules first history old.greatest
+  answered old mid new first history asking ruling reply r same makes noted is fits =
       let o = comes_to hosting old history asking r.fault in
       let changes = told_changes hosting (scene_now hosting old history asking.draws) ruling.decision o r.told_is in
       let go = subst (λ (n : ℕ). FitsServer hosting.installs hosting.removes mid old.rules first history n → changes_of history n (listed ruling.decision.changes) ≡ Some o.changes →
@@ -69,6 +90,11 @@ module _ {H : Type 0} (hosting : Hosting H) where
         record {
           reply_is = is ∙ ap written (sym (told_reply hosting (scene_now hosting old history asking.draws) ruling.decision o r.told_is));
           fits = go (same.fits old.rules first history old.greatest fits) changes r.follow r.right r.alone (rw same.host r.hooks);
+          noted = λ kept before.
+              let now : new.unkept ≡ with_notes old.unkept old.greatest ruling.decision.changes =
+              noted ∙ ap (λ u. with_notes u mid.greatest ruling.decision.changes) same.unkept ∙ ap (λ n. with_notes old.unkept n ruling.decision.changes) same.greatest in
+              subst (λ u. AreUnkept u kept (with_changes history old.greatest o.changes)) (sym now)
+              (notes_on old.unkept kept history old.greatest ruling.decision.changes o.changes changes r.follow before);
         },
       )
 
@@ -78,16 +104,34 @@ module _ {H : Type 0} (hosting : Hosting H) where
   none_made old new asking (Ok reply) none made = absurd (none reply refl)
   none_made old new asking (Err e) none made = made
 
+  -- what was noted before time went on is noted still
+  noted_before : (older old new : Seen H) (outcome : Outcome) (reply : Written) (rules : RegistryRecord) (first : H) (history : List Event) (m : ℕ) → old.unkept ≡ older.unkept →
+      IsStep hosting.installs hosting.removes outcome reply old new rules first history m → IsStep hosting.installs hosting.removes outcome reply older new rules first history m
+  noted_before older old new outcome reply rules first history m same step = record {
+    reply_is = step.reply_is;
+    fits = step.fits;
+    noted = λ kept before. step.noted kept (subst (λ u. AreUnkept u kept history) (sym same) before);
+  }
+
   -- what happens at an endpoint is what happens at its path
-  pub stepped : (old new : Seen H) (wanted : RegistryRecord) (first : H) (history : List Event) (endpoint : Endpoint) (asked : Asked) (draws : Draws) (reply : Written) →
+  pub stepped : (older old new : Seen H) (wanted : RegistryRecord) (first : H) (history : List Event) (endpoint : Endpoint) (asked : Asked) (draws : Draws) (reply : Written) →
       endpoint_at (path_of asked.target) ≡ Some endpoint → bytes_eq asked.method (method_at endpoint) ≡ true →
       FitsServer hosting.installs hosting.removes old wanted first history old.greatest →
-      Answers {E = ℕ} hosting old (record { endpoint = endpoint; asked = asked; draws = draws }) (Ok reply) new →
-      (refused : Bool) × (fault : Option HookFault) × IsHostFault hosting.refuses_install hosting.refuses_remove old.host (hook_change asked) fault
-      × IsStep hosting.installs hosting.removes (outcome refused wanted (says_with hosting old.host fault) history asked old.greatest draws) reply new wanted first history old.greatest
-  stepped old new wanted first history endpoint asked draws reply at method fits answers =
+      Answers {E = ℕ} hosting old (record { endpoint = endpoint; asked = asked; draws = draws }) (Ok reply) new → old.host ≡ older.host → old.unkept ≡ older.unkept →
+      (refused : Bool) × (fault : Option HookFault) × IsHostFault hosting.refuses_install hosting.refuses_remove older.host (hook_change asked) fault
+      × IsStep hosting.installs hosting.removes (outcome refused wanted (says_with hosting older.host fault) history asked old.greatest draws) reply older new wanted first history old.greatest
+  stepped older old new wanted first history endpoint asked draws reply at method fits answers host_same unkept_same =
       let own = subst (λ (r : RegistryRecord). FitsServer hosting.installs hosting.removes old r first history old.greatest) (sym fits.rules_are) fits in
       let done = answers first history own in
-      subst (λ (r : RegistryRecord). (refused : Bool) × (fault : Option HookFault) × IsHostFault hosting.refuses_install hosting.refuses_remove old.host (hook_change asked) fault
-      × IsStep hosting.installs hosting.removes (outcome refused r (says_with hosting old.host fault) history asked old.greatest draws) reply new r first history old.greatest)
-      fits.rules_are (rw (at, method) (false, done.0, done.1, done.2))
+      let Stepped : RegistryRecord → H → Type 0 = λ r host. (refused : Bool) × (fault : Option HookFault) × IsHostFault hosting.refuses_install hosting.refuses_remove host (hook_change asked) fault
+      × IsStep hosting.installs hosting.removes (outcome refused r (says_with hosting host fault) history asked old.greatest draws) reply older new r first history old.greatest in
+      let here : Stepped old.rules old.host =
+      rw (at, method) (false, done.0, done.1, noted_before older old new (comes_to hosting old history (record { endpoint = endpoint; asked = asked; draws = draws }) done.0) reply old.rules first history old.greatest unkept_same done.2) in
+      subst (λ (host : H). Stepped wanted host) host_same (subst (λ (r : RegistryRecord). Stepped r old.host) fits.rules_are here)
+
+-- two that are seen alike have noted the same, and have the same host
+pub unkept_as : {H : Type 0} (one other : Seen H) → one ≡ other → one.unkept ≡ other.unkept
+unkept_as one other same = ap (λ server. server.unkept) same
+
+pub host_as : {H : Type 0} (one other : Seen H) → one ≡ other → one.host ≡ other.host
+host_as one other same = ap (λ server. server.host) same

@@ -12,6 +12,7 @@ use Rattle.consent.specs.declared.change.Change.TheVariants.{Consented, CodeGive
 use Rattle.consent.specs.declared.change.Changes.{Changes}
 use Rattle.consent.specs.declared.change.Changes.TheVariants.{Nothing, One, Two, Three}
 use Rattle.consent.specs.declared.change.NewToken.{NewToken}
+use Rattle.change_codec.specs.Spelling.{DatedFact}
 use Rattle.hook_host.specs.Versions.{layout_of}
 use Rattle.hook_host.specs.declared.host.HookHost.{Ghosts as Hosting}
 use Rattle.token_store.specs.Fits.{FitsStore}
@@ -142,12 +143,12 @@ module _ {H : Type 0} (hosting : Hosting H) where
       absurd (kept_on old name checked other (subst (λ c. CanMake hosting old c checked) same can))
 
   -- what is made beside the store and in it is made in the server
-  pub made : (old : Seen H) (host : H) (store : Held) (consents : KeptConsents) (cs : List Change) (checked : Checked H) →
+  pub made : (old : Seen H) (host : H) (store : Held) (consents : KeptConsents) (unkept prepared : Option (List DatedFact)) (cs : List Change) (checked : Checked H) →
       MakesConsents old.consents cs consents → MakesHost hosting old.host cs checked host →
       ((history : List Event) (next : List happening) → FitsStore old.store history old.greatest → changes_of history old.greatest cs ≡ Some next →
       AllFollow history old.greatest next → FitsStore store (with_changes history old.greatest next) old.greatest) →
-      Makes hosting old cs checked (record { rules = old.rules; host = host; store = store; consents = consents; greatest = old.greatest })
-  made old host store consents cs checked puts runs keeps rules first history next fits is follow right alone can = record {
+      Makes hosting old cs checked (record { rules = old.rules; host = host; store = store; consents = consents; greatest = old.greatest; unkept = unkept; prepared = prepared })
+  made old host store consents unkept prepared cs checked puts runs keeps rules first history next fits is follow right alone can = record {
     rules_are = fits.rules_are;
     greatest_is = refl;
     store = keeps history next fits.store is follow;

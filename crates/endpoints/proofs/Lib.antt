@@ -11,3 +11,4 @@ pub mod Ruled
 pub mod Shorter
 pub mod Answering
 pub mod Besides
+pub mod Redoing

@@ -4,9 +4,9 @@ use Rattle.std.specs.Prelude.{option_map, Result, Ok, Err, not}
 use Rattle.clients.specs.RegistryRecord.{RegistryRecord}
 use Rattle.clients.specs.ClientRecord.{ClientRecord}
 use Rattle.clients.specs.Clients.{client_at}
-use Rattle.clients.specs.Authentication.{authenticated}
-use Rattle.clients.specs.declared.authentication.AuthFault.{AuthFault}
-use Rattle.clients.specs.declared.authentication.AuthFault.TheVariants as auth
+use Rattle.authentication.specs.Authentication.{authenticated}
+use Rattle.authentication.specs.declared.authentication.AuthFault.{AuthFault}
+use Rattle.authentication.specs.declared.authentication.AuthFault.TheVariants as auth
 use Rattle.messages.specs.Asked.{Asked}
 use Rattle.messages.specs.Reply.{Reply, plain}
 use Rattle.messages.specs.Reply.Body.{Failure, Empty}

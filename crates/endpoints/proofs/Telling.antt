@@ -6,6 +6,7 @@ use Rattle.params.specs.Scope.{scope_text}
 use Rattle.clients.specs.RegistryRecord.{RegistryRecord}
 use Rattle.clients.specs.ClientRecord.{ClientRecord}
 use Rattle.clients.specs.Clients.{client_at}
+use Rattle.clients.specs.Owners.{sub_of}
 use Rattle.consent.specs.History.{Event, Grant, grant_at, has_consent_room, is_code, is_good, live_grant, where_good}
 use Rattle.consent.specs.History.Change.{Consented, FamilyEnded}
 use Rattle.consent.specs.declared.grant.Kind.{Kind}
@@ -85,7 +86,7 @@ other_refused number g other = by_test (g.client == number) refl
 -- what is told of a live token
 pub active_told : (rules : RegistryRecord) (g : Grant) (client : ClientRecord) (kind : TokenKind) (issued expires : ℕ) →
     client_at g.client rules.clients ≡ Some client → g.kind ≡ Token kind → issued ≡ g.moment → expires ≡ g.moment + g.life →
-    introspection.told rules (Some g) ≡ only (plain 200 (Active (id_of rules g.client) expires issued (scope_text rules.scopes g.scope) kind))
+    introspection.told rules (Some g) ≡ only (plain 200 (Active (id_of rules g.client) expires issued (scope_text rules.scopes g.scope) (sub_of g.owner rules.owners) kind))
 active_told rules g client kind issued expires at is_kind is_issued is_expires = rw (at, is_kind, is_issued, is_expires) refl
 
 pub nobody_told : (rules : RegistryRecord) (g : Grant) → client_at g.client rules.clients ≡ None → introspection.told rules (Some g) ≡ unavailable

@@ -4,6 +4,7 @@ use Rattle.std.specs.Option.{option_map_or}
 use Rattle.std.specs.Result.{result_ok}
 use Rattle.params.specs.Form.{read_params, value_of}
 use Rattle.clients.specs.RegistryRecord.{RegistryRecord}
+use Rattle.clients.specs.Registry.{is_operator_key}
 use Rattle.consent.specs.History.{Change}
 use Rattle.consent.specs.History.Change.{HookSet, HookGone}
 use Rattle.hook_host.specs.declared.fault.HookFault.{HookFault}
@@ -21,7 +22,7 @@ use Rattle.endpoints.specs.declared.endpoint.Endpoint.TheVariants as endpoint
 
 -- the operator's key was sent
 abbrev pub is_operator : RegistryRecord → Asked → Bool
-is_operator rules asked = option_map_or (λ key. bytes_eq key rules.operator) asked.operator_key false
+is_operator rules asked = option_map_or (λ key. is_operator_key key rules) asked.operator_key false
 
 abbrev pub with_operator : RegistryRecord → Asked → Outcome → Outcome
 with_operator rules asked next = point (not (is_operator rules asked)) (refuse AccessDenied) next

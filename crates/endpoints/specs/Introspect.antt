@@ -5,6 +5,7 @@ use Rattle.params.specs.Scope.{scope_text}
 use Rattle.clients.specs.RegistryRecord.{RegistryRecord}
 use Rattle.clients.specs.ClientRecord.{ClientRecord}
 use Rattle.clients.specs.Clients.{client_at}
+use Rattle.clients.specs.Owners.{sub_of}
 use Rattle.consent.specs.History.{Event, Grant}
 use Rattle.consent.specs.declared.grant.Kind.{Kind}
 use Rattle.consent.specs.declared.grant.Kind.TheVariants.{Code, Token}
@@ -20,7 +21,7 @@ use Rattle.answers.specs.Tokens.{live_token}
 abbrev pub told_of : RegistryRecord → ClientRecord → Grant → Kind → Body
 told_of rules client token Code = Inactive
 told_of rules client token (Token kind) =
-    Active client.id (token.moment + token.life) token.moment (scope_text rules.scopes token.scope) kind
+    Active client.id (token.moment + token.life) token.moment (scope_text rules.scopes token.scope) (sub_of token.owner rules.owners) kind
 
 -- 3 and 4, by the live token
 abbrev pub told : RegistryRecord → Option Grant → Outcome

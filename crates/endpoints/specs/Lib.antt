@@ -14,6 +14,11 @@ pub mod Bounded
 pub mod BoundedLaws
 pub mod Reading
 pub mod Server
+pub mod Noting
 pub mod Making
 pub mod Rulings
+pub mod Widening
+pub mod WideningLaws
+pub mod Redo
+pub mod FaultTexts
 pub mod Steps

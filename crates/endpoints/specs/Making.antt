@@ -1,15 +1,17 @@
 -- What is made of changes.
 use Rattle.std.specs.Prelude.{◌≡◌, ◌≤◌, ℕ, List, [], ◌∷◌, Some}
 use Rattle.clients.specs.RegistryRecord.{RegistryRecord}
-use Rattle.consent.specs.Changes.{changes_of, AllFollow}
+use Rattle.consent.specs.Changes.{changes_of, listed, AllFollow}
 use Rattle.consent.specs.Consents.{KeptConsents, FitsConsents}
 use Rattle.consent.specs.History.{Event, Change as Happening, with_changes}
 use Rattle.consent.specs.declared.change.Change.{Change}
 use Rattle.consent.specs.declared.change.Change.TheVariants.{Consented, HookSet, HookGone}
+use Rattle.consent.specs.declared.change.Changes.{Changes}
 use Rattle.hook_host.specs.declared.host.HookHost.{Ghosts as Hosting}
 use Rattle.token_store.specs.Room.{HasRoom}
 use Rattle.endpoints.specs.Bounded.{AllRightAfter}
 use Rattle.endpoints.specs.Hosts.{HostRun}
+use Rattle.endpoints.specs.Noting.{ArePrepared}
 use Rattle.endpoints.specs.Ruling.{CanMakeAll, CanTake}
 use Rattle.endpoints.specs.declared.ruling.Checked.{Checked}
 use Rattle.endpoints.specs.Server.{Seen, FitsServer}
@@ -35,23 +37,25 @@ abbrev pub HasConsentRoom : KeptConsents → List Change → Type 0
 HasConsentRoom kept (Consented owner client mask ∷ []) = 1 ≤ kept.room
 HasConsentRoom kept cs = Unit {0}
 
--- there is room for the changes
-pub record HasRooms {H : Type 0} (server : Seen H) (changes : List Change) : Type 0 where
-  pub store : HasRoom server.store changes
-  pub consents : HasConsentRoom server.consents changes
+-- there is room for the changes, and they are ready to be noted at the moment
+pub record HasRooms {H : Type 0} (server : Seen H) (moment : ℕ) (changes : Changes) : Type 0 where
+  pub store : HasRoom server.store (listed changes)
+  pub consents : HasConsentRoom server.consents (listed changes)
+  pub notes : ArePrepared server.prepared moment changes
 
 -- nothing has changed but what room there is
 pub record IsSame {H : Type 0} (hosting : Hosting H) (old new : Seen H) : Type 0 where
   pub rules : new.rules ≡ old.rules
   pub host : new.host ≡ old.host
   pub greatest : new.greatest ≡ old.greatest
+  pub unkept : new.unkept ≡ old.unkept
   pub fits : (rules : RegistryRecord) (first : H) (history : List Event) (m : ℕ) →
       FitsServer hosting.installs hosting.removes old rules first history m → FitsServer hosting.installs hosting.removes new rules first history m
 
--- the server can make the changes of a ruling, without memory
-pub record IsReady {H : Type 0} (hosting : Hosting H) (server : Seen H) (changes : List Change) (checked : Checked H) : Type 0 where
-  pub rooms : HasRooms server changes
-  pub hook : CanTake hosting server.host changes checked
+-- the server can make and note the changes of a ruling, without memory
+pub record IsReady {H : Type 0} (hosting : Hosting H) (server : Seen H) (changes : Changes) (checked : Checked H) : Type 0 where
+  pub rooms : HasRooms server server.greatest changes
+  pub hook : CanTake hosting server.host (listed changes) checked
 
 -- whatever the changes mean, the consents that are kept are then those with them
 abbrev pub MakesConsents : KeptConsents → List Change → KeptConsents → Type 0

@@ -108,5 +108,5 @@ abbrev pub Answers : {H E : Type 0} → Hosting H → Seen H → Asking → Resu
 Answers {H = H} hosting old asking (Ok reply) new =
     (first : H) (history : List Event) → FitsNow hosting old first history →
     (fault : Option HookFault) × IsHostFault hosting.refuses_install hosting.refuses_remove old.host (hook_change_at asking.endpoint asking.asked) fault
-    × IsStep hosting.installs hosting.removes (comes_to hosting old history asking fault) reply new old.rules first history old.greatest
+    × IsStep hosting.installs hosting.removes (comes_to hosting old history asking fault) reply old new old.rules first history old.greatest
 Answers hosting old asking (Err _) new = IsSame hosting old new

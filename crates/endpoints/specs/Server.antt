@@ -1,9 +1,11 @@
 -- When a server fits a history, and what one request does.
-use Rattle.std.specs.Prelude.{◌≡◌, ℕ, List, []}
+use Rattle.std.specs.Prelude.{◌≡◌, ℕ, List, [], Option, Some, None}
 use Rattle.insn.specs.declared.layout.Layout.{Layout}
 use Rattle.clients.specs.RegistryRecord.{RegistryRecord}
 use Rattle.consent.specs.History.{Event, with_changes}
 use Rattle.consent.specs.Consents.{KeptConsents, FitsConsents}
+use Rattle.change_codec.specs.Spelling.{DatedFact}
+use Rattle.change_codec.specs.Happened.{Happened}
 use Rattle.token_store.specs.Kept.{Held}
 use Rattle.token_store.specs.Fits.{FitsStore}
 use Rattle.messages.specs.Written.{Written, written}
@@ -19,6 +21,10 @@ pub record Seen (H : Type 0) : Type 0 where
   pub consents : KeptConsents
   -- the greatest moment that a request was handed
   pub greatest : ℕ
+  -- what has happened and was not kept yet, where it is noted
+  pub unkept : Option (List DatedFact)
+  -- what is ready to be noted next, without memory
+  pub prepared : Option (List DatedFact)
 
 -- From its greatest moment on the server answers as the history says, under these rules, and its host comes from the
 -- first one by the history's hooks. `installs` and `removes` are the host's own relations.
@@ -31,7 +37,26 @@ pub record FitsServer {H : Type 0} (installs : H → List ℕ → Layout → Lis
   -- what the bounds of all tokens follow from
   pub right : AllRight rules [] history
 
--- the reply is the outcome's, and the server fits the history with the outcome's changes
-pub record IsStep {H : Type 0} (installs : H → List ℕ → Layout → List ℕ → H → Type 0) (removes : H → List ℕ → H → Type 0) (outcome : Outcome) (reply : Written) (server : Seen H) (rules : RegistryRecord) (first : H) (history : List Event) (m : ℕ) : Type 0 where
+-- the facts lead from the history that was kept last to this one; where none is kept, there are none
+abbrev pub AreUnkept : Option (List DatedFact) → Option (List Event) → List Event → Type 0
+AreUnkept None None history = Unit {0}
+AreUnkept (Some facts) (Some kept) history = Happened kept facts history
+AreUnkept facts kept history = ⊥
+
+-- what the server has noted leads from the history that was kept last to this one
+abbrev pub Notes : {H : Type 0} → Seen H → Option (List Event) → List Event → Type 0
+Notes server kept history = AreUnkept server.unkept kept history
+
+-- whatever was kept last: where what was noted led to the one history, it now leads to the other
+abbrev pub IsNoted : {H : Type 0} → Seen H → Seen H → List Event → List Event → Type 0
+IsNoted old new before after = (kept : Option (List Event)) → Notes old kept before → Notes new kept after
+
+-- just these facts are noted now: all else is as it was, but for what is ready to be noted
+abbrev pub NowNotes : {H : Type 0} → Seen H → Seen H → Option (List DatedFact) → Type 0
+NowNotes old new unkept = new ≡ record old { unkept = unkept; prepared = new.prepared }
+
+-- the reply is the outcome's, the server fits the history with the outcome's changes, and just these are noted
+pub record IsStep {H : Type 0} (installs : H → List ℕ → Layout → List ℕ → H → Type 0) (removes : H → List ℕ → H → Type 0) (outcome : Outcome) (reply : Written) (old new : Seen H) (rules : RegistryRecord) (first : H) (history : List Event) (m : ℕ) : Type 0 where
   pub reply_is : reply ≡ written outcome.reply
-  pub fits : FitsServer installs removes server rules first (with_changes history m outcome.changes) m
+  pub fits : FitsServer installs removes new rules first (with_changes history m outcome.changes) m
+  pub noted : IsNoted old new history (with_changes history m outcome.changes)

@@ -19,12 +19,12 @@ pub record Arrival : Type 0 where
   pub draws : Draws
 
 -- Whatever history the server fitted, it then fits that history with what the request's outcome changes, at the greatest
--- moment so far, and the reply is the outcome's. What is left open in the outcome is whether memory was refused, and which
--- of its own faults the host has, if it has one.
+-- moment so far, just that is noted, and the reply is the outcome's. What is left open in the outcome is whether memory was
+-- refused, and which of its own faults the host has, if it has one.
 abbrev pub Steps : {H : Type 0} → Hosting H → Seen H → Arrival → Written → Seen H → Type 0
 Steps {H = H} hosting server arrival reply server' =
     (rules : RegistryRecord) (first : H) (history : List Event) (m : ℕ) → FitsServer hosting.installs hosting.removes server rules first history m →
     (refused : Bool) × (fault : Option HookFault) × IsHostFault hosting.refuses_install hosting.refuses_remove server.host (hook_change arrival.asked) fault
     × IsStep hosting.installs hosting.removes
     (outcome refused rules (says_with hosting server.host fault) history arrival.asked (max m arrival.moment) arrival.draws)
-    reply server' rules first history (max m arrival.moment)
+    reply server server' rules first history (max m arrival.moment)

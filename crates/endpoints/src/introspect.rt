@@ -55,6 +55,7 @@ pub(crate) fn introspect<'c>(
             issued,
             expires: issued + u64::from(token.life),
             scope: token.scope,
+            owner: token.owner,
             kind,
         },
         changes: Changes::Nothing,

@@ -8,13 +8,18 @@ mod consenting;
 mod endpoint;
 mod hooks;
 mod introspect;
+mod noting;
 mod reading;
+mod redo;
 mod revoke;
 mod ruling;
 mod server;
+mod widening;
 
 pub use consent::Moment;
 pub use endpoint::Endpoint;
 pub use reading::Reading;
+pub use redo::RedoFault;
 pub use ruling::{Checked, Ruling};
 pub use server::Server;
+pub use widening::wider_rules_keep_what_is_right;

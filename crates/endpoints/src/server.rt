@@ -1,13 +1,18 @@
 //! The server.
-ghost use Rattle.std.specs.Prelude.{◌≡◌, ◌≤◌, [], IfErr, IfOk, OnOk, max, length};
+ghost use Rattle.std.specs.Prelude.{◌≡◌, ◌<◌, ◌≤◌, ◌↔◌, ℕ, List, [], Err, None, Some, IfErr, IfOk, OnErr, OnOk, max, length, option_map};
 ghost use Rattle.consent.specs.Changes.{listed};
+ghost use Rattle.consent.specs.declared.change.Changes.TheVariants.{One};
 ghost use Rattle.messages.specs.Asked.{asked_of};
 ghost use Rattle.answers.specs.Short.{IsShort, IsShortAnswer, state_limit};
+ghost use Rattle.change_codec.specs.Batches.{facts_in};
 ghost use Rattle.endpoints.specs.Making.{HasRooms, IsReady, IsSame, Makes};
+ghost use Rattle.consent.specs.History.{Event};
+ghost use Rattle.endpoints.specs.Redo.{Follows, Redoes, RefusesRedo};
+ghost use Rattle.endpoints.specs.Noting.{with_notes};
 ghost use Rattle.endpoints.specs.Reading.{EndsAt, IsRead, IsShortReading, endpoint_of};
-ghost use Rattle.endpoints.specs.Ruling.{CanTake};
+ghost use Rattle.endpoints.specs.Ruling.{CanMake, CanTake};
 ghost use Rattle.endpoints.specs.Rulings.{Answers, IsAlone, IsHalted, Rules, RulesAlone, asking_of};
-ghost use Rattle.endpoints.specs.Server.{FitsServer};
+ghost use Rattle.endpoints.specs.Server.{FitsServer, Notes, NowNotes};
 ghost use Rattle.endpoints.specs.Steps.{Steps};
 
 use crate::authorize::authorize;
@@ -16,10 +21,13 @@ use crate::consenting::consent;
 use crate::endpoint::Endpoint;
 use crate::hooks::{install, remove};
 use crate::introspect::introspect;
+use crate::noting::{note_prepared, prepare};
 use crate::reading::{Reading, read};
+use crate::redo::{RedoFault, alone, check_hook, history_refusal};
 use crate::revoke::revoke;
 use crate::ruling::{Checked, Ruling};
 use answers::{Answer, Decision, Halt, View, status_of, write};
+use change_codec::Batch;
 use clients::Registry;
 use consent::{Change, Changes, Consents, Moment};
 use hook_host::HookHost;
@@ -37,6 +45,8 @@ pub struct Server<H> {
     store: Store,
     consents: Consents,
     greatest: Moment,
+    // What has happened and was not kept yet, where that is noted.
+    unkept: Option<Batch>,
     alloc: Global,
 }
 
@@ -49,17 +59,27 @@ impl<H: Drop> Drop for Server<H> {
             store: _store,
             consents: _consents,
             greatest: _,
+            unkept: _unkept,
             alloc: _,
         } = self;
     }
 }
 
 impl<H> Model for Server<H> {
+    ghost use Rattle.endpoints.specs.Noting.{noted_in, prepared_in};
     ghost use Rattle.endpoints.specs.Server.{Seen};
 
     ghost Value = { Seen H };
 
-    ghost view = { λ s. record { rules = s.rules; host = s.host; store = s.store; consents = s.consents; greatest = s.greatest } };
+    ghost view = { λ s. record {
+      rules = s.rules;
+      host = s.host;
+      store = s.store;
+      consents = s.consents;
+      greatest = s.greatest;
+      unkept = noted_in s.unkept;
+      prepared = prepared_in s.unkept;
+    } };
 }
 
 fn greater(a: Moment, b: Moment) -> Moment
@@ -69,9 +89,11 @@ fn greater(a: Moment, b: Moment) -> Moment
 }
 
 impl<H: HookHost> Server<H> {
-    /// A server under the rules, to which nothing has happened yet. What it keeps takes memory from `alloc`.
+    /// A server under the rules, to which nothing has happened yet, and which notes nothing. What it keeps takes memory
+    /// from `alloc`.
     pub fn new(alloc: Global, rules: Registry, host: H) -> Self
-        ensures { FitsServer H.installs H.removes result rules host [] 0 }
+        ensures fits { FitsServer H.installs H.removes result rules host [] 0 }
+        ensures notes { Notes result None [] }
     {
         Server {
             rules,
@@ -79,7 +101,34 @@ impl<H: HookHost> Server<H> {
             store: Store::new(alloc),
             consents: Consents::new(alloc),
             greatest: Moment::new(0),
+            unkept: None,
             alloc,
+        }
+    }
+
+    /// From now on what happens is noted, unless memory is refused for that.
+    pub fn begin_noting(&mut self) -> Result<(), AllocError>
+        ensures noting { OnOk result (NowNotes self.old self.new (Some [])) }
+        ensures err { OnErr result (self.new ≡ self.old) }
+    {
+        let batch = Batch::new(self.alloc)?;
+        self.unkept = Some(batch);
+        Ok(())
+    }
+
+    /// What has happened and was not kept yet, where that is noted: as a batch of dated changes.
+    pub fn unkept(&self) -> Option<&Batch>
+        ensures { facts_in result ≡ self.now.unkept }
+    {
+        self.unkept.as_ref()
+    }
+
+    /// What has happened was kept. Where it is noted, nothing is unkept from now on.
+    pub fn forget_unkept(&mut self)
+        ensures { NowNotes self.old self.new (option_map (λ facts. []) self.old.unkept) }
+    {
+        if let Some(batch) = &mut self.unkept {
+            batch.clear();
         }
     }
 
@@ -150,22 +199,33 @@ impl<H: HookHost> Server<H> {
         }
     }
 
-    /// Makes room for the changes, which changes no answer, also where memory is refused.
-    pub fn reserve(&mut self, changes: &Changes<'_>) -> Result<(), AllocError>
-        ensures same { IsSame H.HookHost self.old self.new }
-        ensures room { OnOk result (HasRooms self.new (listed changes.now)) }
+    // The greatest moment that a request was handed.
+    fn moment(&self) -> Moment
+        ensures { result ≡ self.now.greatest }
     {
+        self.greatest
+    }
+
+    /// Makes room for the changes, and makes them ready to be noted at the moment, which changes no answer, also where memory
+    /// is refused.
+    pub fn reserve(&mut self, moment: Moment, changes: &Changes<'_>) -> Result<(), AllocError>
+        ensures same { IsSame H.HookHost self.old self.new }
+        ensures room { OnOk result (HasRooms self.new moment changes.now) }
+    {
+        prepare(&mut self.unkept, moment, changes)?;
         if let Changes::One(Change::Consented { .. }) = changes {
             self.consents.reserve(1)?;
         }
         self.store.reserve(changes)
     }
 
-    /// Makes the changes of a ruling, which room was made for.
+    /// Makes the changes of a ruling, which room was made for, and notes them at the greatest moment, where that is done.
     pub fn apply(&mut self, changes: &Changes<'_>, checked: Checked<H>)
-        requires { IsReady H.HookHost self.old (listed changes.now) checked }
-        ensures { Makes H.HookHost self.old (listed changes.now) checked self.new }
+        requires { IsReady H.HookHost self.old changes.now checked }
+        ensures makes { Makes H.HookHost self.old (listed changes.now) checked self.new }
+        ensures notes { self.new.unkept ≡ with_notes self.old.unkept self.old.greatest changes.now }
     {
+        note_prepared(&mut self.unkept);
         make_beside(&mut self.host, &mut self.consents, changes, checked);
         self.store.apply(changes, self.greatest);
     }
@@ -190,7 +250,8 @@ impl<H: HookHost> Server<H> {
             Err(halt) => return halted(self.alloc, halt),
         };
         let reply = write(self.alloc, &self.rules, &self.host, &decision.answer)?;
-        self.reserve(&decision.changes)?;
+        let now = self.moment();
+        self.reserve(now, &decision.changes)?;
         self.apply(&decision.changes, checked);
         Ok(reply)
     }
@@ -214,6 +275,44 @@ impl<H: HookHost> Server<H> {
             return Response::bare(StatusCode::SERVICE_UNAVAILABLE);
         };
         reply
+    }
+}
+
+impl<H: HookHost> Server<H> {
+    // What the host finds of a change that may be made again at the moment.
+    fn check_again(&self, moment: Moment, change: &Change<'_>) -> Result<Checked<H>, RedoFault>
+        ensures back { (result ≡ Err RedoFault.MomentBack) ↔ (moment < self.now.greatest) }
+        ensures follows { OnOk result (Follows H.HookHost self.now moment change.now) }
+        ensures can { IfOk result (CanMake H.HookHost self.now.host change.now) }
+        ensures refused { IfErr result (RefusesRedo H.HookHost self.now moment change.now) }
+    {
+        if moment.get() < self.greatest.get() {
+            return Err(RedoFault::MomentBack);
+        }
+        if let Some(fault) = history_refusal(&self.store, &self.consents, moment, change) {
+            return Err(fault);
+        }
+        check_hook(&self.host, change)
+    }
+
+    /// Makes a change again that happened at the moment, which is then the greatest. What the change means is said by the
+    /// changes that were made before it. A refused one changes nothing.
+    pub fn redo(&mut self, moment: Moment, change: &Change<'_>) -> Result<(), RedoFault>
+        ensures redone { OnOk result (Redoes H.HookHost self.old moment change.now self.new) }
+        ensures noted { OnOk result (self.new.unkept ≡ with_notes self.old.unkept moment (One change.now)) }
+        ensures back { (result ≡ Err RedoFault.MomentBack) ↔ (moment < self.old.greatest) }
+        ensures refused { IfErr result (RefusesRedo H.HookHost self.old moment change.now) }
+        ensures same { OnErr result (IsSame H.HookHost self.old self.new) }
+    {
+        let checked = self.check_again(moment, change)?;
+        let changes = alone(change);
+        let Ok(()) = self.reserve(moment, &changes) else {
+            return Err(RedoFault::Memory);
+        };
+        self.greatest = moment;
+        self.apply(&changes, checked);
+        self.store.drop_expired(moment);
+        Ok(())
     }
 }
 

@@ -1,22 +1,24 @@
 -- An edge goes on by one event.
 use Rattle.std.proofs.Common.{◌≡◌, ◌≤◌, ◌<◌, ◌+◌, inl, inr, ℕ, List, [], ◌∷◌, ◌++◌, Bool, true, false, cond, Some, None, length, length-append, append_assoc, drop, refl, ap, ◌∙◌, sym, subst, arith}
 use Rattle.std.proofs.lemmas.List.{length-drop, drop-drop, drop-append-le}
+use Rattle.std.specs.Prelude.{Option, IsSome, option_map}
 use Rattle.hook_host.specs.declared.host.HookHost.{Ghosts as Hosting}
 use Rattle.clients.specs.RegistryRecord.{RegistryRecord}
 use Rattle.consent.specs.History.{Event, with_changes}
+use Rattle.change_codec.specs.Spelling.{DatedFact}
 use Rattle.messages.specs.declared.request.Draws.{Draws}
 use Rattle.answers.specs.Outcomes.{Outcome}
 use Rattle.endpoints.specs.Bounded.{IsBounded}
 use Rattle.endpoints.specs.BoundedLaws.{tokens_keep_their_bounds}
-use Rattle.endpoints.specs.Server.{Seen, FitsServer}
+use Rattle.endpoints.specs.Server.{Seen, FitsServer, AreUnkept, NowNotes}
 use Rattle.heads.specs.Message.{Message}
 use Rattle.heads.specs.ReadingLaws.{messages_cut, nothing_has_none}
 use Rattle.http_edge.specs.Answers.{changes_of, replies_of}
-use Rattle.http_edge.specs.Schedule.{World, Connection, Happening, Opened, Came, HasEnded, Taken, Forgotten, Happens, Run, ended, has_ended, start, fresh, heard, with_connection, without_connection, moment_after, faulty_if}
+use Rattle.http_edge.specs.Schedule.{World, Connection, Happening, Opened, Came, HasEnded, Taken, Forgotten, Kept, Happens, Run, ended, has_ended, start, resumed, fresh, heard, with_connection, without_connection, moment_after, faulty_if}
 use Rattle.http_edge.specs.Lanes.{SeenLane, lane_at, with_lane, without_lane, fresh_lane, ShowsConnection, ShowsConnections}
 use Rattle.http_edge.specs.Heard.{IsRead, LaneHeard}
 use Rattle.http_edge.specs.Edges.{SeenEdge}
-use Rattle.http_edge.specs.Reached.{Reached, GoesOn, Leads, PieceLeads}
+use Rattle.http_edge.specs.Reached.{Reached, BeginsOver, ResumesOver, GoesOn, Leads, PieceLeads}
 use Rattle.http_edge.specs.declared.lane.Phase.{Phase}
 use Rattle.http_edge.specs.declared.lane.Phase.TheVariants.{Open, Closing}
 use Rattle.http_edge.proofs.Phases.{ended_not_open}
@@ -34,7 +36,7 @@ run_push hosting rules first old middle new (x ∷ es) e run happens = (run.0, r
 
 -- the world with other connections
 abbrev pub changed : World → List Connection → World
-changed world connections = record { connections = connections; greatest = world.greatest; history = world.history }
+changed world connections = record world { connections = connections }
 
 -- an event after which the same server has other lanes
 goes_on : {H : Type 0} (hosting : Hosting H) (edge edge' : SeenEdge H) (rules : RegistryRecord) (first : H) (schedule : List Happening) (world : World) (connections : List Connection) (e : Happening) →
@@ -46,6 +48,7 @@ goes_on hosting edge edge' rules first schedule world connections e reached same
   reached = record {
     run = run_push hosting rules first start world (changed world connections) schedule e reached.run happens;
     server = rw same reached.server;
+    notes = rw same reached.notes;
     shows = shows;
     bounded = reached.bounded;
   };
@@ -64,7 +67,7 @@ on_opened hosting edge edge' c same none few lanes rules first schedule world re
     let size = shows_length edge.lanes world.connections reached.shows in
     goes_on hosting edge edge' rules first schedule world (world.connections ++ fresh c ∷ []) _ reached same
     (shows_as _ _ _ lanes (shows_added edge.lanes world.connections (fresh_lane c) (fresh c) reached.shows (shows_fresh c)))
-    (record { absent = shows_none edge.lanes world.connections c reached.shows none; few = omega (arith, size, few); still = record { greatest = refl; history = refl }; connections = refl })
+    (record { absent = shows_none edge.lanes world.connections c reached.shows none; few = omega (arith, size, few); still = record { greatest = refl; history = refl; kept = refl }; connections = refl })
 
 pub on_ended : {H : Type 0} (hosting : Hosting H) (edge edge' : SeenEdge H) (c : ℕ) (lane : SeenLane) → edge'.server ≡ edge.server → lane_at edge.lanes c ≡ Some lane → has_ended lane.phase ≡ false →
     edge'.lanes ≡ with_lane c (record { number = lane.number; phase = ended lane.phase; rest = []; output = lane.output }) edge.lanes → Leads hosting edge edge' (HasEnded c)
@@ -82,7 +85,7 @@ on_ended hosting edge edge' c lane same here not_ended lanes rules first schedul
       rest = λ e. absurd (ended_not_open at.0.phase e);
       nothing_held = λ e. refl;
     })))
-    (record { before = at.0; here = at.1; not_ended = sym (ap has_ended shows.phase) ∙ not_ended; still = record { greatest = refl; history = refl }; connections = refl })
+    (record { before = at.0; here = at.1; not_ended = sym (ap has_ended shows.phase) ∙ not_ended; still = record { greatest = refl; history = refl; kept = refl }; connections = refl })
 
 pub on_taken : {H : Type 0} (hosting : Hosting H) (edge edge' : SeenEdge H) (c n : ℕ) (lane : SeenLane) → edge'.server ≡ edge.server → lane_at edge.lanes c ≡ Some lane → n ≤ length lane.output →
     edge'.lanes ≡ with_lane c (record { number = lane.number; phase = lane.phase; rest = lane.rest; output = drop n lane.output }) edge.lanes → Leads hosting edge edge' (Taken c n)
@@ -98,7 +101,7 @@ on_taken hosting edge edge' c n lane same here fits lanes rules first schedule w
     goes_on hosting edge edge' rules first schedule world (with_connection c k world.connections) _ reached same
     (shows_as _ _ _ lanes (shows_put edge.lanes world.connections c _ k reached.shows
     (record { number = shows.number; phase = shows.phase; within = enough; output = ap (drop n) shows.output ∙ drop-drop n x.taken x.output; rest = shows.rest; nothing_held = shows.nothing_held })))
-    (inl (record { before = x; here = at.1; fits = enough; still = record { greatest = refl; history = refl }; connections = refl }))
+    (inl (record { before = x; here = at.1; fits = enough; still = record { greatest = refl; history = refl; kept = refl }; connections = refl }))
 
 pub on_taken_nothing : {H : Type 0} (hosting : Hosting H) (edge edge' : SeenEdge H) (c n : ℕ) → edge'.server ≡ edge.server → lane_at edge.lanes c ≡ None → n ≡ 0 → edge'.lanes ≡ edge.lanes →
     Leads hosting edge edge' (Taken c n)
@@ -106,11 +109,67 @@ on_taken_nothing hosting edge edge' c n same none zero lanes rules first schedul
     goes_on hosting edge edge' rules first schedule world world.connections _ reached same (shows_as _ _ _ lanes reached.shows)
     (inr (record { absent = shows_none edge.lanes world.connections c reached.shows none; nothing = zero; same = refl }))
 
+-- a server that notes does so from a history that was kept
+kept_before : (unkept : Option (List DatedFact)) (kept : Option (List Event)) (history : List Event) → IsSome unkept → AreUnkept unkept kept history →
+    (before : List Event) × (kept ≡ Some before)
+kept_before None kept history noting noted = absurd (cc)
+kept_before (Some facts) None history noting noted = absurd noted
+kept_before (Some facts) (Some before) history noting noted = (before, refl)
+
+-- it then notes from this one on
+notes_anew : (unkept : Option (List DatedFact)) (history : List Event) → IsSome unkept → AreUnkept (option_map (λ facts. []) unkept) (Some history) history
+notes_anew None history noting = absurd (cc)
+notes_anew (Some facts) history noting = refl
+
+-- what is noted changes no answer
+fits_noting : {H : Type 0} (hosting : Hosting H) (old new : Seen H) (unkept : Option (List DatedFact)) (rules : RegistryRecord) (first : H) (history : List Event) (m : ℕ) → NowNotes old new unkept →
+    FitsServer hosting.installs hosting.removes old rules first history m → FitsServer hosting.installs hosting.removes new rules first history m
+fits_noting {H = H} hosting old new unkept rules first history m same fits =
+    let P : Seen H → Type 0 = λ server. FitsServer hosting.installs hosting.removes server rules first history m in
+    subst P (sym same)
+    (record { rules_are = fits.rules_are; greatest_is = fits.greatest_is; store = fits.store; consents = fits.consents; hosts = fits.hosts; right = fits.right })
+
+-- what has happened was kept
+pub on_kept : {H : Type 0} (hosting : Hosting H) (edge edge' : SeenEdge H) → NowNotes edge.server edge'.server (option_map (λ facts. []) edge.server.unkept) → edge'.lanes ≡ edge.lanes →
+    IsSome edge.server.unkept → Leads hosting edge edge' Kept
+on_kept hosting edge edge' same lanes noting rules first schedule world reached =
+    let before = kept_before edge.server.unkept world.kept world.history noting reached.notes in
+    let world' : World = record world { kept = Some world.history } in
+    let happens : Happens hosting rules first world Kept world' = record { before = before.0; kept_before = before.1; kept = refl } in
+    record {
+      world = world';
+      happens = happens;
+      reached = record {
+        run = run_push hosting rules first start world world' schedule _ reached.run happens;
+        server = fits_noting hosting edge.server edge'.server _ rules first world.history world.greatest same reached.server;
+        notes =
+            (let P : Option (List DatedFact) → Type 0 = λ unkept. AreUnkept unkept (Some world.history) world.history in
+            subst P (sym (ap (λ server. server.unkept) same)) (notes_anew edge.server.unkept world.history noting));
+        shows = shows_as _ _ _ lanes reached.shows;
+        bounded = reached.bounded;
+      };
+    }
+
+-- an edge without connections over a server
+pub begun : {H : Type 0} (hosting : Hosting H) (edge : SeenEdge H) → edge.lanes ≡ [] → BeginsOver hosting edge.server edge
+begun hosting edge none rules first fits notes =
+    record { run = refl; server = fits; notes = notes; shows = shows_as _ _ [] none tt; bounded = fits_bounded hosting edge.server rules first [] 0 fits }
+
+-- that goes on from a history
+pub goes_on_from : {H : Type 0} (hosting : Hosting H) (edge : SeenEdge H) → edge.lanes ≡ [] → ResumesOver hosting edge.server edge
+goes_on_from hosting edge none rules first history m fits notes = record {
+  run = (resumed history m, record { first = refl; is_history = fits.store.fits.is_history; right = fits.right; resumed = refl }, refl);
+  server = fits;
+  notes = notes;
+  shows = shows_as _ _ [] none tt;
+  bounded = fits_bounded hosting edge.server rules first history m fits;
+}
+
 pub on_forgotten : {H : Type 0} (hosting : Hosting H) (edge edge' : SeenEdge H) (c : ℕ) → edge'.server ≡ edge.server → edge'.lanes ≡ without_lane c edge.lanes → Leads hosting edge edge' (Forgotten c)
 on_forgotten hosting edge edge' c same lanes rules first schedule world reached =
     goes_on hosting edge edge' rules first schedule world (without_connection c world.connections) _ reached same
     (shows_as _ _ _ lanes (shows_without edge.lanes world.connections c reached.shows))
-    (record { still = record { greatest = refl; history = refl }; connections = refl })
+    (record { still = record { greatest = refl; history = refl; kept = refl }; connections = refl })
 
 -- bytes after the 400 of a faulty head
 pub on_passed : {H : Type 0} (hosting : Hosting H) (edge edge' : SeenEdge H) (c : ℕ) (lane : SeenLane) (piece : List ℕ) (moment : ℕ) (draws : List Draws) → edge'.server ≡ edge.server → edge'.lanes ≡ edge.lanes →
@@ -166,7 +225,7 @@ on_heard hosting edge edge' c lane lane' piece moment draws here is_open short l
     let served = hears.serves rules first world.history world.greatest reached.server in
     let m = moment_after world.greatest moment messages in
     let k' = heard k piece messages served.outcomes closes in
-    let world' : World = record { connections = with_connection c k' world.connections; greatest = m; history = with_changes world.history m (changes_of served.outcomes) } in
+    let world' : World = record { connections = with_connection c k' world.connections; greatest = m; history = with_changes world.history m (changes_of served.outcomes); kept = world.kept } in
     let happens : Happens hosting rules first world (Came c piece moment draws served.marks closes) world' = (
       short,
       inl (record {
@@ -184,6 +243,7 @@ on_heard hosting edge edge' c lane lane' piece moment draws here is_open short l
         must_tell = hears.read.must_tell;
         greatest = refl;
         history = refl;
+        kept = refl;
         connections = refl;
       }),
     ) in
@@ -198,6 +258,7 @@ on_heard hosting edge edge' c lane lane' piece moment draws here is_open short l
         reached = record {
           run = run_push hosting rules first start world world' schedule _ reached.run happens;
           server = served.fits;
+          notes = served.noted world.kept reached.notes;
           shows = shows_as _ _ _ lanes (shows_put edge.lanes world.connections c lane' k' reached.shows shown);
           bounded = fits_bounded hosting edge'.server rules first world'.history m served.fits;
         };

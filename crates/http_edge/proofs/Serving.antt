@@ -13,7 +13,7 @@ use Rattle.messages.specs.Written.{Written, written, reply_bytes}
 use Rattle.answers.specs.Outcomes.{Outcome}
 use Rattle.endpoints.specs.Hosts.{IsHostFault}
 use Rattle.endpoints.specs.Replies.{outcome, hook_change}
-use Rattle.endpoints.specs.Server.{Seen, FitsServer, IsStep}
+use Rattle.endpoints.specs.Server.{Seen, FitsServer, IsNoted, IsStep}
 use Rattle.heads.specs.Message.{Message, asked_of_message}
 use Rattle.http_edge.specs.Answers.{Mark, says, IsAnswered, AreAnswered, changes_of, replies_of}
 use Rattle.http_edge.specs.Schedule.{moment_after}
@@ -57,20 +57,21 @@ StepsOn hosting rules first server server' asked moment d reply =
     (refused : Bool) × (fault : Option HookFault) × IsHostFault hosting.refuses_install hosting.refuses_remove server.host (hook_change asked) fault
     × IsStep hosting.installs hosting.removes
     (outcome refused rules (record { answer = hosting.answer server.host; names = hosting.names server.host; fault = fault }) h asked (max g moment) d)
-    reply server' rules first h (max g moment)
+    reply server server' rules first h (max g moment)
 
 -- it answers it after the others
-served_more : {H : Type 0} (hosting : Hosting H) (server server' : Seen H) (output out : List ℕ) (rules : RegistryRecord) (first : H) (history : List Event) (g m moment : ℕ) (messages : List Message) (draws : List Draws) (marks : List Mark) (os : List Outcome) (message : Message) (d : Draws) (reply : Written) →
+served_more : {H : Type 0} (hosting : Hosting H) (before server server' : Seen H) (output out : List ℕ) (rules : RegistryRecord) (first : H) (history : List Event) (g m moment : ℕ) (messages : List Message) (draws : List Draws) (marks : List Mark) (os : List Outcome) (message : Message) (d : Draws) (reply : Written) →
     max g moment ≡ m → AreAnswered hosting rules first m history (map asked_of_message messages) draws marks os → out ≡ output ++ replies_of os →
-    FitsServer hosting.installs hosting.removes server rules first (with_changes history m (changes_of os)) g → length messages < length draws →
+    FitsServer hosting.installs hosting.removes server rules first (with_changes history m (changes_of os)) g → IsNoted before server history (with_changes history m (changes_of os)) →
+    length messages < length draws →
     StepsOn hosting rules first server server' (asked_of_message message) moment (get_or draws (length messages) d) reply →
-    IsServed hosting server' output (out ++ reply_bytes reply) rules first history m (messages ++ message ∷ []) draws
-served_more hosting server server' output out rules first history g m moment messages draws marks os message d reply later answered written_is fits less steps =
+    IsServed hosting before server' output (out ++ reply_bytes reply) rules first history m (messages ++ message ∷ []) draws
+served_more hosting before server server' output out rules first history g m moment messages draws marks os message d reply later answered written_is fits noted less steps =
     let h = with_changes history m (changes_of os) in
     let step = steps h g fits in
     let mark : Mark = record { refused = step.0; fault = step.1 } in
     let o : Outcome = outcome step.0 rules (says hosting server.host mark) h (asked_of_message message) m (get_or draws (length messages) d) in
-    let done : IsStep hosting.installs hosting.removes o reply server' rules first h m = rw later at step.3 in
+    let done : IsStep hosting.installs hosting.removes o reply server server' rules first h m = rw later at step.3 in
     let size = length-map messages asked_of_message in
     let is : IsAnswered hosting rules first m h (asked_of_message message) (get_or draws (length messages) d) mark o =
     record { host = server.host; comes = fits.hosts; fault = step.2; outcome_is = refl } in
@@ -86,17 +87,21 @@ served_more hosting server server' output out rules first history g m moment mes
       fits =
           (let P : List Event → Type 0 = λ x. FitsServer hosting.installs hosting.removes server' rules first x m in
           subst P (changes_join history m (changes_of os) o.changes ∙ ap (with_changes history m) (sym (changes_push os o))) done.fits);
+      noted =
+          (let P : List Event → Type 0 = λ x. IsNoted before server' history x in
+          subst P (changes_join history m (changes_of os) o.changes ∙ ap (with_changes history m) (sym (changes_push os o))) (λ kept notes. done.noted kept (noted kept notes)));
     }
 
 -- no request is answered yet
 pub served_none : {H : Type 0} (hosting : Hosting H) (server : Seen H) (output : List ℕ) (rules : RegistryRecord) (first : H) (history : List Event) (m : ℕ) (draws : List Draws) →
-    FitsServer hosting.installs hosting.removes server rules first history m → IsServed hosting server output output rules first history m [] draws
+    FitsServer hosting.installs hosting.removes server rules first history m → IsServed hosting server server output output rules first history m [] draws
 served_none hosting server output rules first history m draws fits = record {
   marks = [];
   outcomes = [];
   answered = tt;
   output_is = sym (append-nil output);
   fits = rw append-nil fits;
+  noted = λ kept notes. rw append-nil notes;
 }
 
 nothing_answered : {H : Type 0} (hosting : Hosting H) (rules : RegistryRecord) (first : H) (m : ℕ) (history : List Event) (ds : List Draws) (marks : List Mark) (os : List Outcome) → AreAnswered hosting rules first m history [] ds marks os → (marks ≡ []) × (os ≡ [])
@@ -107,28 +112,30 @@ nothing_answered hosting rules first m history (d ∷ ds) (x ∷ marks) os all =
 nothing_answered hosting rules first m history (d ∷ ds) [] (y ∷ os) all = absurd all
 
 -- one more message is answered
-served_next : {H : Type 0} (hosting : Hosting H) (server server' : Seen H) (output out : List ℕ) (rules : RegistryRecord) (first : H) (history : List Event) (m moment : ℕ) (messages : List Message) (draws : List Draws) (i : ℕ) (message : Message) (d : Draws) (reply : Written) →
-    length messages ≡ i → i < length draws → IsServed hosting server output out rules first history (moment_after m moment messages) messages draws →
+served_next : {H : Type 0} (hosting : Hosting H) (before server server' : Seen H) (output out : List ℕ) (rules : RegistryRecord) (first : H) (history : List Event) (m moment : ℕ) (messages : List Message) (draws : List Draws) (i : ℕ) (message : Message) (d : Draws) (reply : Written) →
+    length messages ≡ i → i < length draws → IsServed hosting before server output out rules first history (moment_after m moment messages) messages draws →
     StepsOn hosting rules first server server' (asked_of_message message) moment (get_or draws i d) reply →
-    IsServed hosting server' output (out ++ reply_bytes reply) rules first history (moment_after m moment (messages ++ message ∷ [])) (messages ++ message ∷ []) draws
-served_next hosting server server' output out rules first history m moment [] draws i message d reply count less served steps =
+    IsServed hosting before server' output (out ++ reply_bytes reply) rules first history (moment_after m moment (messages ++ message ∷ [])) (messages ++ message ∷ []) draws
+served_next hosting before server server' output out rules first history m moment [] draws i message d reply count less served steps =
     let none = nothing_answered hosting rules first m history draws served.marks served.outcomes served.answered in
     let said : out ≡ output ++ [] = served.output_is ∙ ap (λ os. output ++ replies_of os) none.1 in
     let fits : FitsServer hosting.installs hosting.removes server rules first (history ++ []) m =
     (let P : List Outcome → Type 0 = λ os. FitsServer hosting.installs hosting.removes server rules first (with_changes history m (changes_of os)) m in subst P none.1 served.fits) in
-    served_more hosting server server' output out rules first history m (max m moment) moment [] draws [] [] message d reply refl tt said fits (omega (arith, count, less)) (rw (← count) at steps)
-served_next hosting server server' output out rules first history m moment (x ∷ messages) draws i message d reply count less served steps =
-    served_more hosting server server' output out rules first history (max m moment) (max m moment) moment (x ∷ messages) draws served.marks served.outcomes message d reply (max_more m moment)
-    served.answered served.output_is served.fits (omega (arith, count, less)) (rw (← count) at steps)
+    let noted : IsNoted before server history (history ++ []) =
+    (let P : List Outcome → Type 0 = λ os. IsNoted before server history (with_changes history m (changes_of os)) in subst P none.1 served.noted) in
+    served_more hosting before server server' output out rules first history m (max m moment) moment [] draws [] [] message d reply refl tt said fits noted (omega (arith, count, less)) (rw (← count) at steps)
+served_next hosting before server server' output out rules first history m moment (x ∷ messages) draws i message d reply count less served steps =
+    served_more hosting before server server' output out rules first history (max m moment) (max m moment) moment (x ∷ messages) draws served.marks served.outcomes message d reply (max_more m moment)
+    served.answered served.output_is served.fits served.noted (omega (arith, count, less)) (rw (← count) at steps)
 
 -- one more message, which asks this, is answered
-pub served_push : {H : Type 0} (hosting : Hosting H) (server server' : Seen H) (output out : List ℕ) (rules : RegistryRecord) (first : H) (history : List Event) (m moment : ℕ) (messages : List Message) (draws : List Draws) (i : ℕ) (message : Message) (d : Draws) (reply : Written) (asked : Asked) →
-    asked ≡ asked_of_message message → length messages ≡ i → i < length draws → IsServed hosting server output out rules first history (moment_after m moment messages) messages draws →
+pub served_push : {H : Type 0} (hosting : Hosting H) (before server server' : Seen H) (output out : List ℕ) (rules : RegistryRecord) (first : H) (history : List Event) (m moment : ℕ) (messages : List Message) (draws : List Draws) (i : ℕ) (message : Message) (d : Draws) (reply : Written) (asked : Asked) →
+    asked ≡ asked_of_message message → length messages ≡ i → i < length draws → IsServed hosting before server output out rules first history (moment_after m moment messages) messages draws →
     StepsOn hosting rules first server server' asked moment (get_or draws i d) reply →
-    IsServed hosting server' output (out ++ reply_bytes reply) rules first history (moment_after m moment (messages ++ message ∷ [])) (messages ++ message ∷ []) draws
-served_push hosting server server' output out rules first history m moment messages draws i message d reply asked asks count less served steps =
+    IsServed hosting before server' output (out ++ reply_bytes reply) rules first history (moment_after m moment (messages ++ message ∷ [])) (messages ++ message ∷ []) draws
+served_push hosting before server server' output out rules first history m moment messages draws i message d reply asked asks count less served steps =
     let P : Asked → Type 0 = λ q. StepsOn hosting rules first server server' q moment (get_or draws i d) reply in
-    served_next hosting server server' output out rules first history m moment messages draws i message d reply count less served (subst P asks steps)
+    served_next hosting before server server' output out rules first history m moment messages draws i message d reply count less served (subst P asks steps)
 
 -- bytes in which there is no message are heard
 pub heard_none : {H : Type 0} (hosting : Hosting H) (server : Seen H) (bytes kept output : List ℕ) (moment : ℕ) (draws : List Draws) → IsStillNone bytes → kept ≡ bytes →

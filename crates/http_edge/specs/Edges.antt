@@ -1,5 +1,6 @@
 -- An edge as it is seen, and why its events are refused.
-use Rattle.std.specs.Prelude.{◌≡◌, ◌≤◌, ◌<◌, ◌++◌, ℕ, List, Some, None, IsSome, length}
+use Rattle.std.specs.Prelude.{◌≡◌, ◌≤◌, ◌<◌, ◌++◌, ℕ, List, Option, Some, None, IsSome, length}
+use Rattle.change_codec.specs.Spelling.{DatedFact}
 use Rattle.messages.specs.declared.request.Draws.{Draws}
 use Rattle.endpoints.specs.Server.{Seen}
 use Rattle.http_edge.specs.Limits.{connection_limit, piece_limit}
@@ -15,6 +16,10 @@ pub record SeenEdge (H : Type 0) : Type 0 where
 
 abbrev pub output_of : {H : Type 0} → SeenEdge H → ℕ → List ℕ
 output_of edge c = output_in (lane_at edge.lanes c)
+
+-- what has happened and was not kept yet, where it is noted
+abbrev pub unkept_of : {H : Type 0} → SeenEdge H → Option (List DatedFact)
+unkept_of edge = edge.server.unkept
 
 -- why a connection is not opened
 abbrev pub IsOpenRefusal : EdgeFault → List SeenLane → ℕ → Type 0

@@ -5,7 +5,7 @@ use Rattle.clients.specs.RegistryRecord.{RegistryRecord}
 use Rattle.consent.specs.History.{Event, with_changes}
 use Rattle.messages.specs.declared.request.Draws.{Draws}
 use Rattle.answers.specs.Outcomes.{Outcome}
-use Rattle.endpoints.specs.Server.{Seen, FitsServer}
+use Rattle.endpoints.specs.Server.{Seen, FitsServer, IsNoted}
 use Rattle.heads.specs.Message.{Message, HasNone, Reads, Messages, IsHopeless, MustTell, asked_of_message}
 use Rattle.http_edge.specs.Limits.{request_limit}
 use Rattle.http_edge.specs.Answers.{Mark, AreAnswered, changes_of, replies_of}
@@ -27,19 +27,21 @@ pub record HasMessages (bytes : List ℕ) (count : ℕ) : Type 0 where
   pub reads : Reads bytes messages rest
   pub count_is : length messages ≡ count
 
--- the messages have outcomes, whose replies were written behind the output, and the server fits what they changed
-pub record IsServed {H : Type 0} (hosting : Hosting H) (server : Seen H) (output output' : List ℕ) (rules : RegistryRecord) (first : H) (history : List Event) (m : ℕ) (messages : List Message) (draws : List Draws) : Type 0 where
+-- the messages have outcomes, whose replies were written behind the output, the server fits what they changed, and just
+-- that is noted
+pub record IsServed {H : Type 0} (hosting : Hosting H) (server server' : Seen H) (output output' : List ℕ) (rules : RegistryRecord) (first : H) (history : List Event) (m : ℕ) (messages : List Message) (draws : List Draws) : Type 0 where
   pub marks : List Mark
   pub outcomes : List Outcome
   pub answered : AreAnswered hosting rules first m history (map asked_of_message messages) draws marks outcomes
   pub output_is : output' ≡ output ++ replies_of outcomes
-  pub fits : FitsServer hosting.installs hosting.removes server rules first (with_changes history m (changes_of outcomes)) m
+  pub fits : FitsServer hosting.installs hosting.removes server' rules first (with_changes history m (changes_of outcomes)) m
+  pub noted : IsNoted server server' history (with_changes history m (changes_of outcomes))
 
 -- whatever history the server fitted
 abbrev pub Serves : {H : Type 0} → Hosting H → Seen H → Seen H → List ℕ → List ℕ → List Message → ℕ → List Draws → Type 0
 Serves hosting server server' output output' messages moment draws =
     (rules : RegistryRecord) (first : _) (history : List Event) (m : ℕ) → FitsServer hosting.installs hosting.removes server rules first history m →
-    IsServed hosting server' output output' rules first history (moment_after m moment messages) messages draws
+    IsServed hosting server server' output output' rules first history (moment_after m moment messages) messages draws
 
 -- the messages of the bytes, how many there may be, and what is kept of the bytes
 pub record IsRead (bytes kept : List ℕ) (messages : List Message) (draws : List Draws) (closes : Bool) : Type 0 where

@@ -2,24 +2,40 @@
 use Rattle.std.specs.Prelude.{◌≡◌, ◌≢◌, length, ℕ, List, [], ◌∷◌, ◌++◌, Bool, false, Option, Some, None}
 use Rattle.hook_host.specs.declared.host.HookHost.{Ghosts as Hosting}
 use Rattle.clients.specs.RegistryRecord.{RegistryRecord}
+use Rattle.consent.specs.History.{Event}
 use Rattle.messages.specs.declared.request.Draws.{Draws}
-use Rattle.endpoints.specs.Server.{FitsServer}
+use Rattle.endpoints.specs.Server.{Seen, FitsServer, Notes}
 use Rattle.heads.specs.Message.{Messages}
 use Rattle.endpoints.specs.Bounded.{IsBounded}
 use Rattle.http_edge.specs.Answers.{Mark}
-use Rattle.http_edge.specs.Schedule.{World, Connection, Happening, Came, Happens, Run, is_closing_phase, start}
+use Rattle.http_edge.specs.Schedule.{World, Connection, Happening, Came, Resumed, Happens, Run, is_closing_phase, start, resumed}
 use Rattle.http_edge.specs.Lanes.{ShowsConnections}
 use Rattle.http_edge.specs.Edges.{SeenEdge}
 use Rattle.http_edge.specs.declared.lane.Phase.TheVariants.{Open}
 
 -- The schedule leads to the world, and the edge shows it: its server answers as the world's history says, its host comes
--- from the first one by that history, and it keeps of each connection what is known of it. Every token of that history
--- keeps to its client's allowance, its owner's consent and its life.
+-- from the first one by that history, what it has noted leads to it from the one that was kept last, and the edge keeps of
+-- each connection what is known of it. Every token of that history keeps to its client's allowance, its owner's consent and
+-- its life.
 pub record Reached {H : Type 0} (hosting : Hosting H) (edge : SeenEdge H) (rules : RegistryRecord) (first : H) (schedule : List Happening) (world : World) : Type 0 where
   pub run : Run hosting rules first start schedule world
   pub server : FitsServer hosting.installs hosting.removes edge.server rules first world.history world.greatest
+  pub notes : Notes edge.server world.kept world.history
   pub shows : ShowsConnections edge.lanes world.connections
   pub bounded : IsBounded rules world.history
+
+-- over a server that notes nothing, and to which nothing has happened yet, no event leads to the edge
+abbrev pub BeginsOver : {H : Type 0} → Hosting H → Seen H → SeenEdge H → Type 0
+BeginsOver hosting server edge =
+    (rules : RegistryRecord) (first : _) → FitsServer hosting.installs hosting.removes server rules first [] 0 → Notes server None [] →
+    Reached hosting edge rules first [] start
+
+-- over a server that notes what happens from a history on, its going on from there leads to the edge
+abbrev pub ResumesOver : {H : Type 0} → Hosting H → Seen H → SeenEdge H → Type 0
+ResumesOver hosting server edge =
+    (rules : RegistryRecord) (first : _) (history : List Event) (m : ℕ) →
+    FitsServer hosting.installs hosting.removes server rules first history m → Notes server (Some history) history →
+    Reached hosting edge rules first (Resumed history m ∷ []) (resumed history m)
 
 -- so it is in every world that the edge shows
 abbrev pub InEach : {H : Type 0} → Hosting H → SeenEdge H → (World → Type 0) → Type 0

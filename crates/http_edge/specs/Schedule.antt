@@ -1,11 +1,12 @@
--- What came and went on connections, and what the server's outputs are then.
+-- What came and went on connections, what was kept, and what the server's outputs are then.
 use Rattle.std.specs.Prelude.{◌≡◌, ◌⊎◌, ◌≤◌, ◌<◌, ◌+◌, ℕ, List, [], ◌∷◌, ◌++◌, Bool, true, false, not, Option, Some, None, ◌==◌, if◌then◌else◌, find, filter, length, drop, map, max}
 use Rattle.hook_host.specs.declared.host.HookHost.{Ghosts as Hosting}
 use Rattle.clients.specs.RegistryRecord.{RegistryRecord}
-use Rattle.consent.specs.History.{Event, with_changes}
+use Rattle.consent.specs.History.{Event, IsHistory, with_changes}
 use Rattle.messages.specs.declared.request.Draws.{Draws}
 use Rattle.messages.specs.Written.{faulty_bytes}
 use Rattle.answers.specs.Outcomes.{Outcome}
+use Rattle.endpoints.specs.Bounded.{AllRight}
 use Rattle.heads.specs.Message.{Message, Messages, IsHopeless, MustTell, asked_of_message}
 use Rattle.http_edge.specs.Limits.{connection_limit, piece_limit, request_limit}
 use Rattle.http_edge.specs.Answers.{Mark, AreAnswered, changes_of, replies_of}
@@ -20,6 +21,10 @@ pub data Happening : Type 0 where
   HasEnded : (c : ℕ) → Happening
   Taken : (c n : ℕ) → Happening
   Forgotten : (c : ℕ) → Happening
+  -- what the server has done is kept, so that it outlives the server
+  Kept : Happening
+  -- the server goes on from what was kept of one before it
+  Resumed : (history : List Event) → (greatest : ℕ) → Happening
 
 -- its stream has ended
 abbrev pub has_ended : Phase → Bool
@@ -50,15 +55,20 @@ pub record Connection : Type 0 where
   pub taken : ℕ
 
 -- the connections that were not forgotten, in the order of their opening, the greatest moment that a request was
--- handed, and what the server has done
+-- handed, what the server has done, and how much of that was kept, if anything is kept
 pub record World : Type 0 where
   pub connections : List Connection
   pub greatest : ℕ
   pub history : List Event
+  pub kept : Option (List Event)
 
--- nothing has happened yet
+-- nothing has happened yet, and nothing is kept
 abbrev pub start : World
-start = record { connections = []; greatest = 0; history = [] }
+start = record { connections = []; greatest = 0; history = []; kept = None }
+
+-- nothing has happened since the history, which was kept, up to its greatest moment
+abbrev pub resumed : List Event → ℕ → World
+resumed history greatest = record { connections = []; greatest = greatest; history = history; kept = Some history }
 
 -- THE CONNECTIONS
 
@@ -121,12 +131,14 @@ pub record Comes {H : Type 0} (hosting : Hosting H) (rules : RegistryRecord) (fi
   pub must_tell : MustTell rest → closes ≡ true
   pub greatest : new.greatest ≡ moment_after old.greatest moment messages
   pub history : new.history ≡ with_changes old.history new.greatest (changes_of outcomes)
+  pub kept : new.kept ≡ old.kept
   pub connections : new.connections ≡ with_connection c (heard before piece messages outcomes closes) old.connections
 
 -- the server's side is as it was
 pub record IsStill (old new : World) : Type 0 where
   pub greatest : new.greatest ≡ old.greatest
   pub history : new.history ≡ old.history
+  pub kept : new.kept ≡ old.kept
 
 -- bytes that come after the 400 of a faulty head change nothing
 pub record Passes (old new : World) (c : ℕ) (marks : List Mark) (closes : Bool) : Type 0 where
@@ -171,6 +183,19 @@ pub record Forgets (old new : World) (c : ℕ) : Type 0 where
   pub still : IsStill old new
   pub connections : new.connections ≡ without_connection c old.connections
 
+-- where something was kept before, the server's whole history is kept
+pub record Keeps (old new : World) : Type 0 where
+  pub before : List Event
+  pub kept_before : old.kept ≡ Some before
+  pub kept : new ≡ record old { kept = Some old.history }
+
+-- where nothing has happened yet, the server goes on from a history that is right under its rules
+pub record Resumes (rules : RegistryRecord) (old new : World) (history : List Event) (greatest : ℕ) : Type 0 where
+  pub first : old ≡ start
+  pub is_history : IsHistory history greatest
+  pub right : AllRight rules [] history
+  pub resumed : new ≡ resumed history greatest
+
 abbrev pub Happens : {H : Type 0} → Hosting H → RegistryRecord → H → World → Happening → World → Type 0
 Happens hosting rules first old (Opened c) new = Opens old new c
 Happens hosting rules first old (Came c piece moment draws marks closes) new =
@@ -178,6 +203,8 @@ Happens hosting rules first old (Came c piece moment draws marks closes) new =
 Happens hosting rules first old (HasEnded c) new = Ends old new c
 Happens hosting rules first old (Taken c n) new = Takes old new c n ⊎ TakesNothing old new c n
 Happens hosting rules first old (Forgotten c) new = Forgets old new c
+Happens hosting rules first old Kept new = Keeps old new
+Happens hosting rules first old (Resumed history greatest) new = Resumes rules old new history greatest
 
 -- A SCHEDULE
 

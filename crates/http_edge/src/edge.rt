@@ -1,17 +1,17 @@
 //! Connections of bytes over a server.
-ghost use Rattle.std.specs.Prelude.{None, ◌≡◌, ◌≤◌, ◌<◌, ◌==◌, ℕ, List, [], ◌∷◌, ◌++◌, length, drop, is_some, vec_len, vec_capacity, IfOk, OnOk, OnErr, IfErr};
+ghost use Rattle.std.specs.Prelude.{None, ◌≡◌, ◌≤◌, ◌<◌, ◌==◌, ℕ, List, [], ◌∷◌, ◌++◌, length, drop, is_some, vec_len, vec_capacity, IsSome, Some, IfOk, OnOk, OnErr, IfErr};
 ghost use Rattle.std.specs.Option.{option_copied};
 ghost use Rattle.std.specs.List.{position};
-ghost use Rattle.clients.specs.RegistryRecord.{RegistryRecord};
-ghost use Rattle.endpoints.specs.Server.{FitsServer};
+ghost use Rattle.change_codec.specs.Batches.{facts_in};
+ghost use Rattle.endpoints.specs.Server.{AreUnkept};
 ghost use Rattle.http_edge.specs.declared.lane.Phase.TheVariants.{Open};
 ghost use Rattle.http_edge.specs.Limits.{piece_limit, room_to_hear};
-ghost use Rattle.http_edge.specs.Schedule.{HasEnded, Opened, Taken, Forgotten, start, connection_at, ended, untaken};
+ghost use Rattle.http_edge.specs.Schedule.{HasEnded, Opened, Taken, Forgotten, Kept, connection_at, ended, untaken};
 ghost use Rattle.http_edge.specs.Lanes.{lane_at, fresh_lane, without_lane, rest_in, output_in, is_closing_lane};
 ghost use Rattle.http_edge.specs.Places.{IsPosition};
 ghost use Rattle.http_edge.specs.Heard.{LaneHeard, IsHearingRefusal};
-ghost use Rattle.http_edge.specs.Edges.{output_of, IsOpenRefusal, IsEndRefusal, IsBytesRefusal};
-ghost use Rattle.http_edge.specs.Reached.{Reached, InEach, Leads, PieceLeads, is_closing, IsHeld};
+ghost use Rattle.http_edge.specs.Edges.{output_of, unkept_of, IsOpenRefusal, IsEndRefusal, IsBytesRefusal};
+ghost use Rattle.http_edge.specs.Reached.{BeginsOver, ResumesOver, InEach, Leads, PieceLeads, is_closing, IsHeld};
 ghost use Rattle.http_edge.specs.Events.{EventLeads};
 ghost use Rattle.http_edge.specs.Refusals.{Refuses};
 
@@ -22,6 +22,7 @@ use crate::lane::{Lane, Phase};
 use crate::limits::{CONNECTION_LIMIT, PIECE_LIMIT, ROOM_TO_HEAR};
 use crate::rest::Rest;
 use crate::room::take_front;
+use change_codec::Batch;
 use endpoints::{Moment, Server};
 use hook_host::HookHost;
 use messages::Draws;
@@ -197,10 +198,11 @@ fn hear_lane<H: HookHost>(
 }
 
 impl<H: HookHost> Edge<H> {
-    /// An edge over a server, without connections.
+    /// An edge over a server, without connections. Where the server notes what happens, the edge goes on from the history
+    /// from which it notes.
     pub fn new(alloc: Global, server: Server<H>) -> Self
-        ensures { (rules : RegistryRecord) (first : H) → FitsServer H.installs H.removes server rules first [] 0 →
-            Reached H.HookHost result rules first [] start }
+        ensures begun { BeginsOver H.HookHost server result }
+        ensures resumed { ResumesOver H.HookHost server result }
     {
         Edge {
             server,
@@ -232,6 +234,24 @@ impl<H: HookHost> Edge<H> {
         ensures held { InEach H.HookHost self.now (λ world. IsHeld (connection_at world.connections c) result) }
     {
         held_in(&self.lanes, c)
+    }
+
+    /// What has happened and was not kept yet, as a batch of dated changes, where the server notes it.
+    pub fn unkept(&self) -> Option<&Batch>
+        ensures noted { facts_in result ≡ unkept_of self.now }
+        ensures unkept { InEach H.HookHost self.now (λ world. AreUnkept (facts_in result) world.kept world.history) }
+    {
+        self.server.unkept()
+    }
+
+    /// All that has happened was kept, and is no longer unkept.
+    pub fn forget_unkept(&mut self)
+        requires { IsSome (unkept_of self.old) }
+        ensures kept { Leads H.HookHost self.old self.new Kept }
+        ensures none { unkept_of self.new ≡ Some [] }
+        ensures lanes { self.new.lanes ≡ self.old.lanes }
+    {
+        self.server.forget_unkept();
     }
 
     // A connection is opened.

@@ -5,7 +5,7 @@ use Rattle.std.proofs.lemmas.Bool.Decides.{nat_tests}
 use Rattle.hook_host.specs.declared.host.HookHost.{Ghosts as Hosting}
 use Rattle.clients.specs.RegistryRecord.{RegistryRecord}
 use Rattle.http_edge.specs.Answers.{Mark}
-use Rattle.http_edge.specs.Schedule.{ended, World, Connection, Happening, Opened, Came, HasEnded, Taken, Forgotten, Comes, Passes, Happens, Run, start, fresh, heard, connection_at, with_connection}
+use Rattle.http_edge.specs.Schedule.{ended, World, Connection, Happening, Opened, Came, HasEnded, Taken, Forgotten, Kept, Resumed, Comes, Passes, Happens, Run, start, fresh, heard, connection_at, with_connection}
 use Rattle.http_edge.specs.Lanes.{SeenLane, lane_at, output_in, ShowsConnections}
 use Rattle.http_edge.specs.Edges.{SeenEdge}
 use Rattle.transcript.specs.Lines.{Statement, Opens, Brings, Ends}
@@ -92,11 +92,23 @@ added_whole ks ns c none whole = record {
 same_numbers : (ks : List Connection) (ns : List ℕ) → AreWhole ks ns → AreWhole ks (ns ++ [])
 same_numbers ks ns whole = subst (AreWhole ks) (sym (append-nil ns)) whole
 
-not_stated : (statement : Statement) (event : Happening) (marks : List Mark) (closes : Bool) → event ≡ happening statement marks closes
-    → ((c n : ℕ) → event ≢ Taken c n) × ((c : ℕ) → event ≢ Forgotten c)
-not_stated (Opens d) event marks closes is = (λ c n e. let both = sym is ∙ e in cc, λ c e. let both = sym is ∙ e in cc)
-not_stated (Brings d moment draws piece) event marks closes is = (λ c n e. let both = sym is ∙ e in cc, λ c e. let both = sym is ∙ e in cc)
-not_stated (Ends d) event marks closes is = (λ c n e. let both = sym is ∙ e in cc, λ c e. let both = sym is ∙ e in cc)
+-- what a statement is
+abbrev IsStated : Happening → Type 0
+IsStated (Opened c) = Unit {0}
+IsStated (Came c piece moment draws marks closes) = Unit {0}
+IsStated (HasEnded c) = Unit {0}
+IsStated (Taken c n) = ⊥
+IsStated (Forgotten c) = ⊥
+IsStated Kept = ⊥
+IsStated (Resumed history greatest) = ⊥
+
+all_stated : (statement : Statement) (marks : List Mark) (closes : Bool) → IsStated (happening statement marks closes)
+all_stated (Opens c) marks closes = tt
+all_stated (Brings c moment draws piece) marks closes = tt
+all_stated (Ends c) marks closes = tt
+
+is_stated : (line : List ℕ) (e : Happening) → StandsFor line e → IsStated e
+is_stated line e stands = subst IsStated (sym stands.event_is) (all_stated stands.statement stands.marks stands.closes)
 
 happens_whole : {H : Type 0} (hosting : Hosting H) (rules : RegistryRecord) (first : H) (old new : World) (line : List ℕ) (e : Happening) (ns : List ℕ) → StandsFor line e
     → Happens hosting rules first old e new → AreWhole old.connections ns → AreWhole new.connections (ns ++ opened_at e)
@@ -110,8 +122,10 @@ happens_whole hosting rules first old new line (Came c piece moment draws marks 
     by_way (inr passes) = subst (λ (w : World). AreWhole w.connections ns) (sym passes.same) whole
 happens_whole hosting rules first old new line (HasEnded c) ns stands h whole =
     same_numbers new.connections ns (subst (λ (ks : List Connection). AreWhole ks ns) (sym h.connections) (with_whole old.connections ns c h.before (record h.before { phase = ended h.before.phase }) h.here refl refl whole))
-happens_whole hosting rules first old new line (Taken c n) ns stands h whole = absurd ((not_stated stands.statement (Taken c n) stands.marks stands.closes stands.event_is).0 c n refl)
-happens_whole hosting rules first old new line (Forgotten c) ns stands h whole = absurd ((not_stated stands.statement (Forgotten c) stands.marks stands.closes stands.event_is).1 c refl)
+happens_whole hosting rules first old new line (Taken c n) ns stands h whole = absurd (is_stated line (Taken c n) stands)
+happens_whole hosting rules first old new line (Forgotten c) ns stands h whole = absurd (is_stated line (Forgotten c) stands)
+happens_whole hosting rules first old new line Kept ns stands h whole = absurd (is_stated line Kept stands)
+happens_whole hosting rules first old new line (Resumed history greatest) ns stands h whole = absurd (is_stated line (Resumed history greatest) stands)
 
 run_whole : {H : Type 0} (hosting : Hosting H) (rules : RegistryRecord) (first : H) (lines : List (List ℕ)) (schedule : List Happening) (old new : World) (ns : List ℕ) → StandFor lines schedule
     → Run hosting rules first old schedule new → AreWhole old.connections ns → AreWhole new.connections (ns ++ flat_map opened_at schedule)

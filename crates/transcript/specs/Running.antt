@@ -3,7 +3,7 @@ use Rattle.std.specs.Prelude.{◌≡◌, ◌≢◌, ◌++◌, ℕ, List, [], ◌
 use Rattle.std.specs.List.{flat_map}
 use Rattle.hook_host.specs.declared.host.HookHost.{Ghosts as Hosting}
 use Rattle.clients.specs.RegistryRecord.{RegistryRecord}
-use Rattle.http_edge.specs.Schedule.{World, Happening, Opened, Came, HasEnded, Taken, Forgotten, start}
+use Rattle.http_edge.specs.Schedule.{World, Happening, Opened, Came, HasEnded, Taken, Forgotten, Kept, Resumed, start}
 use Rattle.http_edge.specs.Edges.{SeenEdge, output_of}
 use Rattle.http_edge.specs.Reached.{Reached, Leads, PieceLeads}
 use Rattle.http_edge.specs.declared.fault.EdgeFault.{EdgeFault}
@@ -52,6 +52,8 @@ opened_at (Came c piece moment draws marks closes) = []
 opened_at (HasEnded c) = []
 opened_at (Taken c n) = []
 opened_at (Forgotten c) = []
+opened_at Kept = []
+opened_at (Resumed history greatest) = []
 
 -- lines were run: their events lead to the edge, and these connections were opened
 pub record RunTo {H : Type 0} (hosting : Hosting H) (rules : RegistryRecord) (first : H) (lines : List (List ℕ)) (edge : SeenEdge H) (opened : List ℕ) : Type 0 where

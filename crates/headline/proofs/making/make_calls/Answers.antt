@@ -12,7 +12,7 @@ loop-call-init c =
     let edge = c.new-edge.result in
     subst (λ upshots. Progress chain.ghosts c.args.rules [] [] upshots edge) (sym c.new-upshots.ensures.items)
     (nothing_made chain.ghosts c.args.rules [] edge
-    (subst (λ host. Reached chain.ghosts edge c.args.rules host [] start) c.new.ensures (c.new-edge.ensures c.args.rules c.new.result c.new-2.ensures)))
+    (subst (λ host. Reached chain.ghosts edge c.args.rules host [] start) c.new.ensures (c.new-edge.ensures.begun c.args.rules c.new.result c.new-2.ensures.fits c.new-2.ensures.notes)))
 
 pub loop-call-preserved : goal.loop-call-preserved
 loop-call-preserved c =

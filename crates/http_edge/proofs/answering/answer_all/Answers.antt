@@ -87,7 +87,7 @@ loop-i-preserved g c =
       front = λ e. absurd (omega (arith, e));
       served = λ rules first history m fit.
           rw c.push.ensures.items
-          (served_push g.H.HookHost c.loop-i.server c.step-reply.new.self c.args.output.now.items c.loop-i.output.items rules first history m c.args.moment before.messages c.args.draws.now c.loop-i.i message _ c.step-reply.result (asked_of c.lend-request.result) asked count (omega (arith, test, enough))
+          (served_push g.H.HookHost c.args.server.now c.loop-i.server c.step-reply.new.self c.args.output.now.items c.loop-i.output.items rules first history m c.args.moment before.messages c.args.draws.now c.loop-i.i message _ c.step-reply.result (asked_of c.lend-request.result) asked count (omega (arith, test, enough))
           (before.served rules first history m fit)
           (c.step-reply.ensures.replies rules first));
       len =

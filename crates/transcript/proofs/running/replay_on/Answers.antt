@@ -21,11 +21,11 @@ answers_later hosting edge first text rules later (Err fault) items configures r
 pub returns-clause-done : goal.returns-clause-done
 returns-clause-done g c =
     let configures : Configures c.args.text.now c.in_ok-registry.registry (texts c.in-Some.later.now) = search rules in
-    let reached : Reached g.H.HookHost c.new.result c.in_ok-registry.registry c.args.host [] start = c.new.ensures c.in_ok-registry.registry c.args.host c.new-server.ensures in
+    let reached : Reached g.H.HookHost c.new.result c.in_ok-registry.registry c.args.host [] start = c.new.ensures.begun c.in_ok-registry.registry c.args.host c.new-server.ensures.fits c.new-server.ensures.notes in
     answers_later g.H.HookHost c.new.result c.args.host c.args.text.now c.in_ok-registry.registry (texts c.in-Some.later.now) c.answer.result (λ out. out.items) configures reached c.answer.ensures.done
 
 pub returns-clause-fault : goal.returns-clause-fault
 returns-clause-fault g c =
     let configures : Configures c.args.text.now c.in_ok-registry.registry (texts c.in-Some.later.now) = search rules in
-    let reached : Reached g.H.HookHost c.new.result c.in_ok-registry.registry c.args.host [] start = c.new.ensures c.in_ok-registry.registry c.args.host c.new-server.ensures in
+    let reached : Reached g.H.HookHost c.new.result c.in_ok-registry.registry c.args.host [] start = c.new.ensures.begun c.in_ok-registry.registry c.args.host c.new-server.ensures.fits c.new-server.ensures.notes in
     fails_later g.H.HookHost c.new.result c.args.host c.args.text.now c.in_ok-registry.registry (texts c.in-Some.later.now) c.answer.result configures reached c.answer.ensures.fault

@@ -1,6 +1,8 @@
-use Rattle.std.proofs.Common.{[], refl}
-use Rattle.http_edge.proofs.Going.{fits_bounded}
+use Rattle.http_edge.proofs.Going.{begun, goes_on_from}
 use Rattle.http_edge.proofs.edge.Edge.new.Goals as goal
 
-pub returns : goal.returns
-returns g c = λ rules first fits. record { run = refl; server = fits; shows = rw c.new.ensures.items tt; bounded = fits_bounded g.H.HookHost c.args.server rules first [] 0 fits }
+pub returns-clause-begun : goal.returns-clause-begun
+returns-clause-begun g c = begun g.H.HookHost (record { server = c.args.server; lanes = c.new.result.items }) c.new.ensures.items
+
+pub returns-clause-resumed : goal.returns-clause-resumed
+returns-clause-resumed g c = goes_on_from g.H.HookHost (record { server = c.args.server; lanes = c.new.result.items }) c.new.ensures.items

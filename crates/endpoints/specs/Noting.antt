@@ -1,0 +1,22 @@
+-- What is noted of what happens.
+use Rattle.std.specs.Prelude.{◌≡◌, ◌++◌, ℕ, List, Option, Some, None, option_map}
+use Rattle.consent.specs.declared.change.Changes.{Changes}
+use Rattle.change_codec.specs.Spelling.{DatedFact}
+use Rattle.change_codec.specs.Happened.{all_dated}
+use Rattle.change_codec.specs.Batches.{Gathered}
+
+-- what was noted, and what is ready to be noted next, where there is a batch for it
+abbrev pub noted_in : Option Gathered → Option (List DatedFact)
+noted_in batch = option_map (λ b. b.facts) batch
+
+abbrev pub prepared_in : Option Gathered → Option (List DatedFact)
+prepared_in batch = option_map (λ b. b.prepared) batch
+
+-- the changes are ready to be noted at the moment, where anything is noted
+abbrev pub ArePrepared : Option (List DatedFact) → ℕ → Changes → Type 0
+ArePrepared None moment changes = Unit {0}
+ArePrepared (Some prepared) moment changes = prepared ≡ all_dated moment changes
+
+-- the changes are noted at the moment, behind all that was noted
+abbrev pub with_notes : Option (List DatedFact) → ℕ → Changes → Option (List DatedFact)
+with_notes unkept moment changes = option_map (λ facts. facts ++ all_dated moment changes) unkept

@@ -1,0 +1,74 @@
+-- What becomes of a change that happened before, when it is made again.
+use Rattle.std.specs.Prelude.{◌≡◌, ◌≢◌, ◌<◌, ℕ, List, [], ◌∷◌, Bool, Option, Some, None, is_some, option_map, if◌then◌else◌}
+use Rattle.clients.specs.RegistryRecord.{RegistryRecord}
+use Rattle.consent.specs.Changes.{change_of}
+use Rattle.consent.specs.History.{Event, Change as Happening, grant_at, has_consent_room, with_change, CanFollow}
+use Rattle.consent.specs.declared.change.Change.{Change}
+use Rattle.consent.specs.declared.change.Change.TheVariants.{Consented, CodeGiven, IssuedAlone, Issued, FamilyEnded, HookSet, HookGone}
+use Rattle.hook_host.specs.Versions.{layout_of}
+use Rattle.hook_host.specs.declared.host.HookHost.{Ghosts as Hosting}
+use Rattle.token_store.specs.Fits.{refusal}
+use Rattle.endpoints.specs.Bounded.{IsRight}
+use Rattle.endpoints.specs.Server.{Seen, FitsServer}
+use Rattle.endpoints.specs.declared.redo.RedoFault.{RedoFault}
+use Rattle.endpoints.specs.declared.redo.RedoFault.TheVariants.{MomentBack, Unknown, Store, ConsentsFull, HookVersion, Hook, Memory}
+
+-- Whatever history the server fitted, the change means what may come next, and where that is right, the server then fits the
+-- history with it, at its moment.
+abbrev pub Redoes : {H : Type 0} → Hosting H → Seen H → ℕ → Change → Seen H → Type 0
+Redoes {H = H} hosting old moment change new =
+    (rules : RegistryRecord) (first : H) (history : List Event) (m : ℕ) → FitsServer hosting.installs hosting.removes old rules first history m →
+    (next : Happening) × (change_of history moment change ≡ Some next) × CanFollow history moment next
+    × (IsRight rules history next → FitsServer hosting.installs hosting.removes new rules first (with_change history moment next) moment)
+
+-- WHY IT IS NOT MADE
+
+-- what the digest names is not known
+abbrev pub unless_known : Bool → Option RedoFault → Option RedoFault
+unless_known known fault = if known then fault else Some Unknown
+
+-- why the history does not go on with the change at the moment
+abbrev pub history_refusal : List Event → ℕ → Change → Option RedoFault
+history_refusal history moment (Consented owner client mask) = if has_consent_room history owner client mask then None else Some ConsentsFull
+history_refusal history moment (CodeGiven facts digest) = option_map Store (refusal history moment (digest ∷ []))
+history_refusal history moment (IssuedAlone client token) = option_map Store (refusal history moment (token.digest ∷ []))
+history_refusal history moment (Issued of token) =
+    unless_known (is_some (grant_at history of moment)) (option_map Store (refusal history moment (token.digest ∷ [])))
+history_refusal history moment (FamilyEnded of) = unless_known (is_some (grant_at history of moment)) None
+history_refusal history moment _ = None
+
+-- no record of the version is handed to hooks
+abbrev pub IsUnversioned : ℕ → Type 0
+IsUnversioned version = (version ≢ 1) × (version ≢ 2)
+
+-- each history that the server fits goes on with it
+abbrev pub Follows : {H : Type 0} → Hosting H → Seen H → ℕ → Change → Type 0
+Follows {H = H} hosting server moment change =
+    (rules : RegistryRecord) (first : H) (history : List Event) (m : ℕ) → FitsServer hosting.installs hosting.removes server rules first history m →
+    history_refusal history moment change ≡ None
+
+-- why the host does not make its change
+abbrev pub RefusesHook : {H : Type 0} → Hosting H → H → Change → RedoFault → Type 0
+RefusesHook hosting host (HookSet name version code) HookVersion = IsUnversioned version
+RefusesHook hosting host (HookSet name version code) (Hook fault) = hosting.refuses_install host name.now (layout_of version) code.now fault
+RefusesHook hosting host (HookGone name) (Hook fault) = hosting.refuses_remove host name.now fault
+RefusesHook hosting host _ Memory = Unit {0}
+RefusesHook hosting host _ _ = ⊥
+
+-- Why the change is not made: its moment is before the server's, or no history that the server fits goes on with it, or the
+-- host has a fault, or memory was refused.
+abbrev pub RefusesRedo : {H : Type 0} → Hosting H → Seen H → ℕ → Change → RedoFault → Type 0
+RefusesRedo hosting server moment change MomentBack = moment < server.greatest
+RefusesRedo hosting server moment change Memory = Unit {0}
+RefusesRedo hosting server moment change HookVersion = RefusesHook hosting server.host change HookVersion
+RefusesRedo hosting server moment change (Hook fault) = RefusesHook hosting server.host change (Hook fault)
+RefusesRedo {H = H} hosting server moment change fault =
+    (rules : RegistryRecord) (first : H) (history : List Event) (m : ℕ) → FitsServer hosting.installs hosting.removes server rules first history m →
+    history_refusal history moment change ≡ Some fault
+
+-- the fault is one that a history has
+abbrev pub IsOfHistory : RedoFault → Type 0
+IsOfHistory Unknown = Unit {0}
+IsOfHistory (Store fault) = Unit {0}
+IsOfHistory ConsentsFull = Unit {0}
+IsOfHistory _ = ⊥

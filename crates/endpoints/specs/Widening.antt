@@ -1,0 +1,21 @@
+-- When rules are wider than others.
+use Rattle.std.specs.Prelude.{◌≡◌, ◌≤◌, ℕ, List, [], ◌∷◌, ◌++◌, length, true}
+use Rattle.clients.specs.ClientRecord.{ClientRecord}
+use Rattle.clients.specs.RegistryRecord.{RegistryRecord}
+use Rattle.consent.specs.History.{is_within}
+use Rattle.consent.specs.declared.grant.TokenKind.{TokenKind}
+use Rattle.endpoints.specs.Bounded.{life_limit}
+
+-- each client has its number, and may be allowed all that it was
+abbrev pub AreWider : List ClientRecord → List ClientRecord → Type 0
+AreWider [] new = Unit {0}
+AreWider (c ∷ cs) [] = ⊥
+AreWider (c ∷ cs) (d ∷ ds) = (d.id ≡ c.id) × (is_within c.allowed d.allowed ≡ true) × AreWider cs ds
+
+-- Scope names, owners and clients have the numbers that they had, each client may be allowed all that it was, and tokens may
+-- live as long.
+pub record IsWider (old new : RegistryRecord) : Type 0 where
+  pub scopes : (more : List (List ℕ)) × (new.scopes ≡ old.scopes ++ more)
+  pub owners : length old.owners ≤ length new.owners
+  pub clients : AreWider old.clients new.clients
+  pub lives : (kind : TokenKind) → life_limit old kind ≤ life_limit new kind

@@ -1,0 +1,65 @@
+-- What is right under rules is right under wider ones.
+use Rattle.std.proofs.Common.{◌≡◌, ℕ, List, [], ◌∷◌, ◌++◌, Bool, true, false, Option, None, refl, ap, ◌-◌, zero, suc, arith}
+use Rattle.std.specs.Prelude.{◌==◌, if◌then◌else◌, slice_get}
+use Rattle.std.specs.Int.Bits.{and_zero_l}
+use Rattle.std.specs.Option.{option_map_or}
+use Rattle.insn.specs.declared.layout.Layout.{Layout}
+use Rattle.clients.specs.ClientRecord.{ClientRecord}
+use Rattle.clients.specs.RegistryRecord.{RegistryRecord}
+use Rattle.consent.specs.CoveredLaws.{is_within-trans}
+use Rattle.consent.specs.History.{Event, Change, is_within}
+use Rattle.consent.specs.History.Change.{Consented, CodeGiven, Issued, Spent, FamilyEnded, HookSet, HookGone}
+use Rattle.endpoints.specs.Bounded.{IsRight, AllRight, allowed_to}
+use Rattle.endpoints.specs.Server.{Seen, FitsServer}
+use Rattle.endpoints.specs.Widening.{AreWider, IsWider}
+
+-- what a client may be allowed, if there is one
+abbrev allowance : Option ClientRecord → ℕ
+allowance client = option_map_or (λ (c : ClientRecord). c.allowed) client 0
+
+nothing_within : (mask : ℕ) → is_within 0 mask ≡ true
+nothing_within mask = ap (λ (n : ℕ). n == 0) (and_zero_l mask)
+
+wider_at : (old new : List ClientRecord) (i : ℕ) → AreWider old new → is_within (allowance (slice_get old i)) (allowance (slice_get new i)) ≡ true
+wider_at [] new i are = nothing_within (allowance (slice_get new i))
+wider_at (c ∷ cs) [] i are = absurd are
+wider_at (c ∷ cs) (d ∷ ds) zero are = are.1
+wider_at (c ∷ cs) (d ∷ ds) (suc i) are = wider_at cs ds i are.2
+
+wider_numbered : (none : Bool) (old new : List ClientRecord) (i : ℕ) → AreWider old new →
+    is_within (allowance (if none then None else slice_get old i)) (allowance (if none then None else slice_get new i)) ≡ true
+wider_numbered true old new i are = nothing_within 0
+wider_numbered false old new i are = wider_at old new i are
+
+module _ (old new : RegistryRecord) (wider : IsWider old new) where
+  allowed_wider : (scope client : ℕ) → is_within scope (allowed_to old client) ≡ true → is_within scope (allowed_to new client) ≡ true
+  allowed_wider scope client within =
+      is_within-trans scope (allowed_to old client) (allowed_to new client) within
+      (wider_numbered (client == 0) old.clients new.clients (client - 1) wider.clients)
+
+  right_wider : (before : List Event) (change : Change) → IsRight old before change → IsRight new before change
+  right_wider before (CodeGiven family client owner scope redirect challenge digest) right = (allowed_wider scope client right.0, right.1)
+  right_wider before (Issued family client owner kind digest scope life) right =
+      let longer = wider.lives kind in let within = right.1 in (allowed_wider scope client right.0, omega (arith, within, longer), right.2)
+  right_wider before (Consented owner client mask) right = tt
+  right_wider before (Spent digest) right = tt
+  right_wider before (FamilyEnded family) right = tt
+  right_wider before (HookSet name version code) right = tt
+  right_wider before (HookGone name) right = tt
+
+  -- so it is of a whole history
+  pub all_right-wider : (before later : List Event) → AllRight old before later → AllRight new before later
+  all_right-wider before [] all = tt
+  all_right-wider before (e ∷ later) all = (right_wider before e.change all.0, all_right-wider (before ++ e ∷ []) later all.1)
+
+  -- and a server under wider rules fits what it fitted
+  pub fits_server-wider : {H : Type 0} (installs : H → List ℕ → Layout → List ℕ → H → Type 0) (removes : H → List ℕ → H → Type 0) (server : Seen H) (first : H) (history : List Event) (m : ℕ) →
+      FitsServer installs removes server old first history m → FitsServer installs removes (record server { rules = new }) new first history m
+  fits_server-wider installs removes server first history m fits = record {
+    rules_are = refl;
+    greatest_is = fits.greatest_is;
+    store = fits.store;
+    consents = fits.consents;
+    hosts = fits.hosts;
+    right = all_right-wider [] history fits.right;
+  }

@@ -1,0 +1,216 @@
+//! A change that happened before is made again.
+ghost use Rattle.std.specs.Prelude.{◌≡◌, ℕ, List, ◌∷◌, [], Some, IfOk, IfErr, IfSome, IfNone, is_some, option_map};
+ghost use Rattle.consent.specs.Changes.{listed};
+ghost use Rattle.consent.specs.Consents.{FitsConsents};
+ghost use Rattle.consent.specs.History.{Event, grant_at};
+ghost use Rattle.hook_host.specs.Versions.{layout_of};
+ghost use Rattle.token_store.specs.Fits.{FitsStore, refusal};
+ghost use Rattle.endpoints.specs.FaultTexts.{redo_fault_text, of_hook_fault};
+ghost use Rattle.endpoints.specs.Redo.{IsOfHistory, IsUnversioned, RefusesHook, history_refusal};
+ghost use Rattle.endpoints.specs.Ruling.{CanMake};
+
+use crate::ruling::Checked;
+use consent::{Change, Changes, CodeFacts, Consents, Moment};
+use hook_host::{HookFault, HookHost};
+use insn::layout::Layout;
+use std::fmt::{self, Display, Formatter, Write};
+use token_store::{Store, StoreFault};
+
+/// Why a change is not made again.
+#[derive(Clone, Copy, Debug, PartialEq, Eq)]
+pub enum RedoFault {
+    /// It is of an earlier moment than what was made before it.
+    MomentBack,
+    /// The digest by which it names a family names nothing.
+    Unknown,
+    /// The store refuses the code or the token.
+    Store(StoreFault),
+    /// As many consents to something are kept as may be.
+    ConsentsFull,
+    /// No record of that version is handed to hooks.
+    HookVersion,
+    /// The host refuses the change of its hooks.
+    Hook(HookFault),
+    /// Memory was refused.
+    Memory,
+}
+
+impl Display for RedoFault {
+    ghost output = { λ fault. Some (redo_fault_text fault) };
+
+    fn fmt<W: Write>(&self, f: &mut Formatter<W>) -> fmt::Result {
+        match self {
+            RedoFault::MomentBack => write!(f, "MomentBack"),
+            RedoFault::Unknown => write!(f, "Unknown"),
+            RedoFault::Store(fault) => write!(f, "Store {fault}"),
+            RedoFault::ConsentsFull => write!(f, "ConsentsFull"),
+            RedoFault::HookVersion => write!(f, "HookVersion"),
+            RedoFault::Hook(fault) => write!(f, "Hook {fault}"),
+            RedoFault::Memory => write!(f, "Memory"),
+        }
+    }
+}
+
+impl From<HookFault> for RedoFault {
+    ghost from_gives = { λ fault e. e ≡ of_hook_fault fault };
+
+    fn from(fault: HookFault) -> RedoFault {
+        match fault {
+            HookFault::Memory => RedoFault::Memory,
+            fault => RedoFault::Hook(fault),
+        }
+    }
+}
+
+// The same change.
+fn same<'a>(change: &Change<'a>) -> Change<'a>
+    ensures { result ≡ change.now }
+{
+    match change {
+        Change::Consented {
+            owner,
+            client,
+            mask,
+        } => Change::Consented {
+            owner: *owner,
+            client: *client,
+            mask: *mask,
+        },
+        Change::CodeGiven { facts, digest } => Change::CodeGiven {
+            facts: CodeFacts {
+                client: facts.client,
+                owner: facts.owner,
+                scope: facts.scope,
+                redirect: facts.redirect,
+                challenge: facts.challenge,
+            },
+            digest: *digest,
+        },
+        Change::IssuedAlone { client, token } => Change::IssuedAlone {
+            client: *client,
+            token: *token,
+        },
+        Change::Issued { of, token } => Change::Issued {
+            of: *of,
+            token: *token,
+        },
+        Change::Spent { digest } => Change::Spent { digest: *digest },
+        Change::FamilyEnded { of } => Change::FamilyEnded { of: *of },
+        Change::HookSet {
+            name,
+            version,
+            code,
+        } => Change::HookSet {
+            name,
+            version: *version,
+            code,
+        },
+        Change::HookGone { name } => Change::HookGone { name },
+    }
+}
+
+/// The change, by itself.
+pub(crate) fn alone<'a>(change: &Change<'a>) -> Changes<'a>
+    ensures { listed result ≡ change.now ∷ [] }
+{
+    Changes::One(same(change))
+}
+
+// Whether the digest names something that is unexpired.
+fn is_known(store: &Store, digest: &[u8; 32], moment: Moment) -> bool
+    ensures { (history : List Event) → FitsStore store.now history moment → result ≡ is_some (grant_at history digest.now moment) }
+{
+    store.at(digest, moment).is_some()
+}
+
+// Why nothing may be given under the digest.
+fn digest_refusal(store: &Store, digest: &[u8; 32], moment: Moment) -> Option<RedoFault>
+    ensures refusal { (history : List Event) → FitsStore store.now history moment →
+        result ≡ option_map RedoFault.Store (refusal history moment (digest.now ∷ [])) }
+    ensures own { IfSome result IsOfHistory }
+{
+    match store.refusal(&[*digest], moment) {
+        Some(fault) => Some(RedoFault::Store(fault)),
+        None => None,
+    }
+}
+
+/// Why the history does not go on with the change at the moment.
+pub(crate) fn history_refusal(
+    store: &Store,
+    consents: &Consents,
+    moment: Moment,
+    change: &Change<'_>,
+) -> Option<RedoFault>
+    ensures refusal { (history : List Event) → FitsStore store.now history moment → FitsConsents consents.now history →
+        result ≡ history_refusal history moment change.now }
+    ensures own { IfSome result IsOfHistory }
+{
+    match change {
+        Change::Consented {
+            owner,
+            client,
+            mask,
+        } => {
+            if consents.has_room(*owner, *client, *mask) {
+                return None;
+            }
+            Some(RedoFault::ConsentsFull)
+        }
+        Change::CodeGiven { digest, .. } => digest_refusal(store, digest, moment),
+        Change::IssuedAlone { token, .. } => digest_refusal(store, &token.digest, moment),
+        Change::Issued { of, token } => {
+            if is_known(store, of, moment) {
+                return digest_refusal(store, &token.digest, moment);
+            }
+            Some(RedoFault::Unknown)
+        }
+        Change::FamilyEnded { of } => {
+            if is_known(store, of, moment) {
+                return None;
+            }
+            Some(RedoFault::Unknown)
+        }
+        Change::Spent { .. } | Change::HookSet { .. } | Change::HookGone { .. } => None,
+    }
+}
+
+// The layout of a version.
+fn layout_of(version: u64) -> Option<Layout>
+    ensures there { IfSome result (λ layout. layout ≡ layout_of version) }
+    ensures none { IfNone result (IsUnversioned version) }
+{
+    match version {
+        1 => Some(Layout::V1),
+        2 => Some(Layout::V2),
+        _ => None,
+    }
+}
+
+/// What the host finds of the change, where it is of its hooks.
+pub(crate) fn check_hook<H: HookHost>(
+    host: &H,
+    change: &Change<'_>,
+) -> Result<Checked<H>, RedoFault>
+    ensures can { IfOk result (CanMake H.HookHost host.now change.now) }
+    ensures refused { IfErr result (RefusesHook H.HookHost host.now change.now) }
+{
+    match change {
+        Change::HookSet {
+            name,
+            version,
+            code,
+        } => {
+            let Some(layout) = layout_of(*version) else {
+                return Err(RedoFault::HookVersion);
+            };
+            let hook = host.check(name, layout, code)?;
+            Ok(Checked::Installs(hook))
+        }
+        Change::HookGone { name } => {
+            host.check_removal(name)?;
+            Ok(Checked::Removes)
+        }
+        _ => Ok(Checked::NoHook),
+    }
+}
