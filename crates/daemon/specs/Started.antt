@@ -1,8 +1,9 @@
 -- What comes of a server that is started.
-use Rattle.std.specs.Prelude.{◌≡◌, ◌⊎◌, []}
+use Rattle.std.specs.Prelude.{◌≡◌, ◌⊎◌, ℕ, List, Some}
 use Rattle.clients.specs.RegistryRecord.{RegistryRecord}
+use Rattle.consent.specs.History.{Event}
+use Rattle.endpoints.specs.Server.{Seen, FitsServer, Notes}
 use Rattle.http_edge.specs.Edges.{SeenEdge}
-use Rattle.http_edge.specs.Schedule.{start}
 use Rattle.event_loop.specs.declared.fault.LoopFault.{LoopFault}
 use Rattle.event_loop.specs.declared.limits.Limits.{Limits}
 use Rattle.event_loop.specs.declared.tools.Tools.{Tools}
@@ -11,27 +12,42 @@ use Rattle.event_loop.specs.Ends.{HasServed, ServesNothing}
 use Rattle.daemon.specs.declared.means.Ending.{Ending}
 use Rattle.daemon.specs.declared.means.Means.{Means}
 use Rattle.daemon.specs.declared.patience.Patience.{Patience}
-use Rattle.daemon.specs.Begun.{IsBegun}
+use Rattle.daemon.specs.Begun.{Beginning, IsAt, new_beginning, resumed_beginning}
 
 -- the limits of a loop that is so patient
 abbrev pub limits_of : Patience → Limits
 limits_of patience = record { idle = patience.silence; crowded = patience.full }
 
 -- the tools that a server has, by what it was handed and an edge
-abbrev pub tools_of : {N C J H : Type 0} → Means N C J → SeenEdge H → Tools N C J H
-tools_of means edge = record { sockets = means.sockets; edge = edge; clocks = means.clocks; generator = means.generator; journal = means.journal }
+abbrev pub tools_of : {N C J K H : Type 0} → Means N C J K → SeenEdge H → Tools N C J K H
+tools_of means edge = record { sockets = means.sockets; edge = edge; clocks = means.clocks; generator = means.generator; journal = means.journal; keeper = means.keeper }
 
--- A new server, with these rules and what it was handed, served its connections step by step until it could not go on; or
--- the clocks told nothing, and it served none.
-pub record Serves {N C J H : Type 0} (p : Promises N C J H) (rules : RegistryRecord) (host : H) (means : Means N C J) (ending : Ending N C J H) : Type 0 where
+-- A server, from its beginning on and with what it was handed, served its connections step by step until it could not go on;
+-- or the clocks told nothing, and it served none.
+pub record Serves {N C J K H : Type 0} (p : Promises N C J K H) (beginning : Beginning H) (means : Means N C J K) (ending : Ending N C J K H) : Type 0 where
   pub edge : SeenEdge H
-  pub begun : IsBegun p.hosting rules host edge
-  pub served : HasServed p rules host (limits_of means.patience) (tools_of means edge) [] start ending.fault ending.tools ⊎ ServesNothing p (tools_of means edge) ending.fault ending.tools
+  pub begun : IsAt p.hosting beginning edge
+  pub served : HasServed p beginning.rules beginning.host (limits_of means.patience) (tools_of means edge) beginning.schedule beginning.world ending.fault ending.tools ⊎ ServesNothing p (tools_of means edge) ending.fault ending.tools
 
--- so did one that was so patient, with some sockets, clocks, journal and draws
-pub record HasStarted {N C J H : Type 0} (p : Promises N C J H) (rules : RegistryRecord) (host : H) (patience : Patience) (fault : LoopFault) : Type 0 where
-  pub means : Means N C J
+-- from whatever history on a server has noted what happens, it served from there
+abbrev pub ServesFrom : {N C J K H : Type 0} → Promises N C J K H → Seen H → Means N C J K → Ending N C J K H → Type 0
+ServesFrom p server means ending =
+    (rules : RegistryRecord) (host : _) (history : List Event) (m : ℕ) → FitsServer p.hosting.installs p.hosting.removes server rules host history m → Notes server (Some history) history →
+    Serves p (resumed_beginning rules host history m) means ending
+
+-- a new server with these rules, that was so patient, did so, with some sockets, clocks, journal, keeper and draws
+pub record HasStarted {N C J K H : Type 0} (p : Promises N C J K H) (rules : RegistryRecord) (host : H) (patience : Patience) (fault : LoopFault) : Type 0 where
+  pub means : Means N C J K
   pub patience_is : means.patience ≡ patience
-  pub ending : Ending N C J H
+  pub ending : Ending N C J K H
   pub fault_is : ending.fault ≡ fault
-  pub serves : Serves p rules host means ending
+  pub serves : Serves p (new_beginning rules host) means ending
+
+-- a server that was made before did so, with this keeper, and with some sockets, clocks, journal and draws
+pub record HasGoneOn {N C J K H : Type 0} (p : Promises N C J K H) (server : Seen H) (keeper : K) (patience : Patience) (fault : LoopFault) : Type 0 where
+  pub means : Means N C J K
+  pub keeper_is : means.keeper ≡ keeper
+  pub patience_is : means.patience ≡ patience
+  pub ending : Ending N C J K H
+  pub fault_is : ending.fault ≡ fault
+  pub serves : ServesFrom p server means ending

@@ -3,17 +3,19 @@
 ghost use Rattle.std.specs.Prelude.{◌≡◌, ◌≢◌, OnOk, OnErr, IfOk, IfErr};
 ghost use Rattle.event_loop.specs.Scenes.{promises};
 ghost use Rattle.daemon.specs.Listening.{Announces};
-ghost use Rattle.daemon.specs.Started.{HasStarted};
+ghost use Rattle.daemon.specs.Started.{HasGoneOn, HasStarted};
 ghost use Rattle.daemon.specs.declared.fault.ListenFault.TheVariants.{Unwritten};
 
 use crate::fault::ListenFault;
 use crate::line_journal::LineJournal;
 use crate::listening::announce;
 use crate::machine_clocks::MachineClocks;
-use crate::means::{Means, serve_with};
+use crate::means::{Means, go_on_with, serve_with};
 use crate::patience::Patience;
 use crate::sockets::MachineSockets;
+use change_codec::{Keeper, NoKeeper};
 use clients::Registry;
+use endpoints::Server;
 use event_loop::{Clocks, Journal, LoopFault, Sockets};
 use hook_chain::Chain;
 use hook_host::HookHost;
@@ -65,7 +67,7 @@ pub fn start<'r, 'e, R: Net + Clock + RandomSource + AllocGlobal, W: Write, E: W
     err: &'e mut E,
 ) -> Result<LoopFault, ListenFault>
     ensures done { OnOk result (Announces (W.contents out.old) (W.contents out.new)) }
-    ensures serves { IfOk result (HasStarted (promises ⟦<MachineSockets as Sockets>⟧.does ⟦<MachineClocks<'r, R> as Clocks>⟧.tells ⟦<LineJournal<'e, E> as Journal>⟧.notes ⟦<Chain as HookHost>⟧) registry hooks patience) }
+    ensures serves { IfOk result (HasStarted (promises ⟦<MachineSockets as Sockets>⟧ ⟦<MachineClocks<'r, R> as Clocks>⟧ ⟦<LineJournal<'e, E> as Journal>⟧ ⟦<NoKeeper as Keeper>⟧ ⟦<Chain as HookHost>⟧) registry hooks patience) }
     ensures silent { IfErr result (λ fault. fault ≢ Unwritten → out.new ≡ out.old) }
     ensures quiet { OnErr result (err.new ≡ err.old) }
 {
@@ -75,9 +77,50 @@ pub fn start<'r, 'e, R: Net + Clock + RandomSource + AllocGlobal, W: Write, E: W
         sockets,
         clocks: MachineClocks(rt),
         journal: LineJournal(err),
+        keeper: NoKeeper,
         generator,
         patience,
     };
     let ending = serve_with(rt.alloc(), registry, hooks, means);
+    Ok(ending.fault)
+}
+
+/// Listens at an address, tells where, and serves up to 64 connections at once until the program is stopped, by a server that
+/// was made before, whose changes are kept before a reply tells of them, and with draws by random bytes of the system. The
+/// fault of a connection ends that one alone, and is told to `err`, in at most one line a second. What it gives is why it
+/// can't go on.
+pub fn go_on<
+    'r,
+    'e,
+    R: Net + Clock + RandomSource + AllocGlobal,
+    K: Keeper + Drop,
+    W: Write,
+    E: Write,
+>(
+    rt: &'r R,
+    address: &str,
+    server: Server<Chain>,
+    keeper: K,
+    patience: Patience,
+    out: &mut W,
+    err: &'e mut E,
+) -> Result<LoopFault, ListenFault>
+    ensures done { OnOk result (Announces (W.contents out.old) (W.contents out.new)) }
+    ensures serves { IfOk result (HasGoneOn (promises ⟦<MachineSockets as Sockets>⟧ ⟦<MachineClocks<'r, R> as Clocks>⟧
+        ⟦<LineJournal<'e, E> as Journal>⟧ K.Keeper ⟦<Chain as HookHost>⟧) server keeper patience) }
+    ensures silent { IfErr result (λ fault. fault ≢ Unwritten → out.new ≡ out.old) }
+    ensures quiet { OnErr result (err.new ≡ err.old) }
+{
+    let generator = random_generator(rt)?;
+    let sockets = listening_sockets(rt, address, out)?;
+    let means = Means {
+        sockets,
+        clocks: MachineClocks(rt),
+        journal: LineJournal(err),
+        keeper,
+        generator,
+        patience,
+    };
+    let ending = go_on_with(rt.alloc(), server, means);
     Ok(ending.fault)
 }

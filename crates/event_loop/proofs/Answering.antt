@@ -4,7 +4,7 @@ use Rattle.std.specs.Prelude.{slice_get, slice_set}
 use Rattle.std.proofs.lemmas.Bool.{false≢true}
 use Rattle.std.proofs.lemmas.Bool.Decides.{eqb_tells}
 use Rattle.clients.specs.RegistryRecord.{RegistryRecord}
-use Rattle.http_edge.specs.Schedule.{untaken}
+use Rattle.http_edge.specs.Schedule.{connection_at, untaken}
 use Rattle.http_edge.specs.Reached.{is_closing}
 use Rattle.event_loop.specs.declared.fault.ConnectionFault.TheVariants.{Read, Write, Refused}
 use Rattle.event_loop.specs.declared.place.Place.{Place}
@@ -21,9 +21,10 @@ use Rattle.event_loop.specs.Reading.{Reads, read_place}
 use Rattle.event_loop.specs.Writing as writing
 use Rattle.event_loop.specs.Writing.{Writes}
 use Rattle.event_loop.specs.Closing.{Closes, leaves}
-use Rattle.event_loop.specs.Served.{Step, Served, waits, hears_of_listener, hears_of, hears_of_none, comes, tries_again, reads, writes, closes, begins, goes}
+use Rattle.event_loop.specs.Served.{Step, Served, waits, hears_of_listener, hears_of, hears_of_none, comes, tries_again, reads, writes, closes, keeps, begins, goes}
 use Rattle.event_loop.specs.Answered.{Exchange, IsAnswered, read_at, written_at}
 use Rattle.event_loop.proofs.Putting.{set_cases}
+use Rattle.event_loop.proofs.Kept.{kept_connections}
 use Rattle.event_loop.proofs.Others.{no_other, is_itself, opens_other, ends_other, takes_other, forgets_other}
 use Rattle.event_loop.proofs.Telling.{Talk, talk_opened, talk_lost, talk_given, talk_ended, talk_written, closing_taken, gives_reached, gives_other}
 
@@ -38,12 +39,12 @@ served_taken (Broken fault) is = tt
 not_free : (places : List Place) (k : ℕ) (place : Place) → IsFreeAt places k → slice_get places k ≡ Some place → IsTaken place.stage → ⊥
 not_free places k place free here taken = subst IsTaken (free place here) taken
 
-module _ {N C J H : Type 0} where
+module _ {N C J K H : Type 0} where
   -- the exchange as a talk
-  talk_of : (s : Scene N C J H) (k : ℕ) (place : Place) (x : Exchange s k place) → Talk (read_at k s.deeds) (written_at k s.deeds) x.lost (known s.course k)
+  talk_of : (s : Scene N C J K H) (k : ℕ) (place : Place) (x : Exchange s k place) → Talk (read_at k s.deeds) (written_at k s.deeds) x.lost (known s.course k)
   talk_of s k place x = record { connection = x.connection; here = x.here; stream = x.stream; rest = x.rest; requests = x.requests; front = x.front }
 
-  exchange_of : (s : Scene N C J H) (k : ℕ) (place : Place) (read written lost : List ℕ) → read_at k s.deeds ≡ read → written_at k s.deeds ≡ written → (t : Talk read written lost (known s.course k)) →
+  exchange_of : (s : Scene N C J K H) (k : ℕ) (place : Place) (read written lost : List ℕ) → read_at k s.deeds ≡ read → written_at k s.deeds ≡ written → (t : Talk read written lost (known s.course k)) →
       (place.stage ≡ Open → is_closing (known s.course k) ≡ false → lost ≡ []) → Exchange s k place
   exchange_of s k place read written lost same_read same_written t whole = record {
     connection = t.connection;
@@ -57,7 +58,7 @@ module _ {N C J H : Type 0} where
   }
 
   -- nothing happened to it
-  stays_same : (s s' : Scene N C J H) (k : ℕ) (place place' : Place) → Exchange s k place → known s'.course k ≡ known s.course k → read_at k s'.deeds ≡ read_at k s.deeds → written_at k s'.deeds ≡ written_at k s.deeds →
+  stays_same : (s s' : Scene N C J K H) (k : ℕ) (place place' : Place) → Exchange s k place → known s'.course k ≡ known s.course k → read_at k s'.deeds ≡ read_at k s.deeds → written_at k s'.deeds ≡ written_at k s.deeds →
       (place'.stage ≡ Open → place.stage ≡ Open) → Exchange s' k place'
   stays_same s s' k place place' x same_known same_read same_written opened = record {
     connection = x.connection;
@@ -71,9 +72,9 @@ module _ {N C J H : Type 0} where
   }
 
   -- the place of a step at j, and another
-  module _ (p : Promises N C J H) (rules : RegistryRecord) (host : H) (s : Scene N C J H) (before : IsAnswered p rules host s) where
+  module _ (p : Promises N C J K H) (rules : RegistryRecord) (host : H) (s : Scene N C J K H) (before : IsAnswered p rules host s) where
     -- the place of a step is as it says, and the others are as they were
-    at_places : (s' : Scene N C J H) (j : ℕ) (place' : Place) → s'.places ≡ slice_set s.places j place' → (IsTaken place'.stage → Exchange s' j place') →
+    at_places : (s' : Scene N C J K H) (j : ℕ) (place' : Place) → s'.places ≡ slice_set s.places j place' → (IsTaken place'.stage → Exchange s' j place') →
         ((k : ℕ) → k ≢ j → known s'.course k ≡ known s.course k) → ((k : ℕ) → k ≢ j → read_at k s'.deeds ≡ read_at k s.deeds) → ((k : ℕ) → k ≢ j → written_at k s'.deeds ≡ written_at k s.deeds) →
         (k : ℕ) (place : Place) → slice_get s'.places k ≡ Some place → IsTaken place.stage → Exchange s' k place
     at_places s' j place' put at same_known same_read same_written k place here taken =
@@ -104,7 +105,7 @@ module _ {N C J H : Type 0} where
     came_here j deeds = rw (is_itself j) (refl, refl)
 
     -- nothing was done at any place
-    idles : (s' : Scene N C J H) → s'.places ≡ s.places → s'.course ≡ s.course → ((k : ℕ) → read_at k s'.deeds ≡ read_at k s.deeds) → ((k : ℕ) → written_at k s'.deeds ≡ written_at k s.deeds) → IsAnswered p rules host s'
+    idles : (s' : Scene N C J K H) → s'.places ≡ s.places → s'.course ≡ s.course → ((k : ℕ) → read_at k s'.deeds ≡ read_at k s.deeds) → ((k : ℕ) → written_at k s'.deeds ≡ written_at k s.deeds) → IsAnswered p rules host s'
     idles s' same_places same_course same_read same_written = record {
       reached = subst (IsReached p.hosting rules host) (sym same_course) before.reached;
       exchanges = λ k place here taken.
@@ -112,7 +113,7 @@ module _ {N C J H : Type 0} where
     }
 
     -- one place is noted to be otherwise, and its connection is as it was
-    notes_place : (s' : Scene N C J H) (j : ℕ) (place place' : Place) → slice_get s.places j ≡ Some place → s'.places ≡ slice_set s.places j place' → s'.course ≡ s.course → (IsTaken place'.stage → IsTaken place.stage) → (place'.stage ≡ Open → place.stage ≡ Open) →
+    notes_place : (s' : Scene N C J K H) (j : ℕ) (place place' : Place) → slice_get s.places j ≡ Some place → s'.places ≡ slice_set s.places j place' → s'.course ≡ s.course → (IsTaken place'.stage → IsTaken place.stage) → (place'.stage ≡ Open → place.stage ≡ Open) →
         ((k : ℕ) → read_at k s'.deeds ≡ read_at k s.deeds) → ((k : ℕ) → written_at k s'.deeds ≡ written_at k s.deeds) → IsAnswered p rules host s'
     notes_place s' j place place' here put same_course taken opened same_read same_written = record {
       reached = subst (IsReached p.hosting rules host) (sym same_course) before.reached;
@@ -122,7 +123,7 @@ module _ {N C J H : Type 0} where
           (λ k other. ap (λ course. known course k) same_course) (λ k other. same_read k) (λ k other. same_written k);
     }
 
-    comes_answered : (s' : Scene N C J H) → Comes p rules host s s' → IsAnswered p rules host s'
+    comes_answered : (s' : Scene N C J K H) → Comes p rules host s s' → IsAnswered p rules host s'
     comes_answered s' (opens j n e on within free done) = record {
       reached = on.reached;
       exchanges =
@@ -141,7 +142,7 @@ module _ {N C J H : Type 0} where
     comes_answered s' (fails n last journal done noted) = idles _ refl refl (λ k. refl) (λ k. refl)
     comes_answered s' (asks n taken done) = idles _ refl refl (λ k. refl) (λ k. refl)
 
-    reads_answered : (j : ℕ) (place : Place) (s' : Scene N C J H) → slice_get s.places j ≡ Some place → MayRead place (known s.course j) → Reads p rules host j place s s' → IsAnswered p rules host s'
+    reads_answered : (j : ℕ) (place : Place) (s' : Scene N C J K H) → slice_get s.places j ≡ Some place → MayRead place (known s.course j) → Reads p rules host j place s s' → IsAnswered p rules host s'
     reads_answered j place s' here may (reading.hears bytes n course place' some few done heard is) =
         let taken : IsTaken place.stage = subst IsTaken (sym may.is_open) tt in
         let x = before.exchanges j place here taken in
@@ -195,7 +196,7 @@ module _ {N C J H : Type 0} where
     reads_answered j place s' here may (reading.fails n done) =
         notes_place _ j place (record place { stage = Broken Read }) here refl refl (λ taken. subst IsTaken (sym may.is_open) tt) (λ e. may.is_open) (λ k. refl) (λ k. refl)
 
-    writes_answered : (j : ℕ) (place : Place) (s' : Scene N C J H) → slice_get s.places j ≡ Some place → IsTaken place.stage → Writes p rules host j place s s' → IsAnswered p rules host s'
+    writes_answered : (j : ℕ) (place : Place) (s' : Scene N C J K H) → slice_get s.places j ≡ Some place → IsTaken place.stage → Writes p rules host j place s s' → IsAnswered p rules host s'
     writes_answered j place s' here taken (writing.sends count front n e on some is_front done) =
         let x = before.exchanges j place here taken in
         let t' = talk_written s.course.world on.world j count _ _ x.lost front some is_front on.happens (talk_of s j place x) in
@@ -211,7 +212,7 @@ module _ {N C J H : Type 0} where
     writes_answered j place s' here taken (writing.fails n done) =
         notes_place _ j place (record place { stage = Broken Write }) here refl refl (λ t. taken) (λ e. absurd (cc)) (λ k. refl) (λ k. refl)
 
-    closes_answered : (j : ℕ) (place : Place) (s' : Scene N C J H) → Closes p rules host j place s s' → IsAnswered p rules host s'
+    closes_answered : (j : ℕ) (place : Place) (s' : Scene N C J K H) → Closes p rules host j place s s' → IsAnswered p rules host s'
     closes_answered j place s' (leaves n e on last journal done noted) = record {
       reached = on.reached;
       exchanges =
@@ -219,7 +220,7 @@ module _ {N C J H : Type 0} where
           (λ k other. forgets_other s.course.world on.world j k on.happens other) (λ k other. refl) (λ k other. refl);
     }
 
-    step_answered : (s' : Scene N C J H) → Step p rules host s s' → IsAnswered p rules host s'
+    step_answered : (s' : Scene N C J K H) → Step p rules host s s' → IsAnswered p rules host s'
     step_answered s' (waits limit room found n times c may done told) = idles _ refl refl (λ k. refl) (λ k. refl)
     step_answered s' (hears_of_listener more is) = idles _ refl refl (λ k. refl) (λ k. refl)
     step_answered s' (hears_of j readable writable hung more place place' is here told) =
@@ -229,11 +230,16 @@ module _ {N C J H : Type 0} where
     step_answered s' (comes s'' told coming) = comes_answered s'' coming
     step_answered s' (tries_again since barred later) = idles _ refl refl (λ k. refl) (λ k. refl)
     step_answered s' (reads j place s'' here readable unread may reading) = reads_answered j place s'' here may reading
-    step_answered s' (writes j place s'' here writable unwritten may writing) = writes_answered j place s'' here (served_taken place.stage may.served) writing
+    step_answered s' (writes j place s'' here writable unwritten kept may writing) = writes_answered j place s'' here (served_taken place.stage may.served) writing
     step_answered s' (closes j place s'' here taken cause closing) = closes_answered j place s'' closing
+    step_answered s' (keeps keeper e unkept on undone kept) = record {
+      reached = on.reached;
+      exchanges = λ k place here taken.
+          stays_same s _ k place place (before.exchanges k place here taken) (ap (λ ks. connection_at ks k) (kept_connections s.course.world on.world on.happens)) refl refl (λ e. e);
+    }
 
   -- so it is wherever steps lead to
-  pub served_answered : (p : Promises N C J H) (rules : RegistryRecord) (host : H) (first s : Scene N C J H) → Served p rules host first s → IsAnswered p rules host s
+  pub served_answered : (p : Promises N C J K H) (rules : RegistryRecord) (host : H) (first s : Scene N C J K H) → Served p rules host first s → IsAnswered p rules host s
   served_answered p rules host first s (begins is) = record {
     reached = is.reached;
     exchanges = λ k place here taken. absurd (not_free first.places k place (is.free k) here taken);

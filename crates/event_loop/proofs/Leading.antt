@@ -11,26 +11,31 @@ use Rattle.event_loop.specs.declared.sockets.Ready.{Ready}
 use Rattle.event_loop.specs.declared.tools.Tools.{Tools}
 use Rattle.event_loop.specs.Courses.{known, IsReached}
 use Rattle.event_loop.specs.Places.{IsUnread, IsUnwritten}
-use Rattle.event_loop.specs.Scenes.{Promises, Scene}
+use Rattle.event_loop.specs.Scenes.{Promises, Scene, IsAllKept}
 use Rattle.event_loop.specs.Closing.{Closes, leaves}
 use Rattle.event_loop.specs.Deeds.{Reading, Writing, IsDone, done_since}
-use Rattle.event_loop.specs.Goes.{Past, DoneAfter, LeavesOthers, IsKnownAt, LeadsToActs, LeadsToTidy, LeadsToRest, LeadsTo, LeadsToAccepts, LeadsRound, LeadsWrong, IsStill, ActsAt, TidiesAt, IsHeardAt, IsRestedAt, IsRested, IsSettledAt}
+use Rattle.event_loop.specs.Goes.{Past, DoneAfter, LeavesOthers, IsKnownAt, LeadsToActs, LeadsToTidy, LeadsToRest, LeadsTo, LeadsToAccepts, GoesReading, GoesKept, GoesWriting, LeadsToKept, LeadsWriting, LeadsRound, LeadsWrong, IsStill, ActsAt, TidiesAt, IsHeardAt, IsRestedAt, IsRested, IsSettledAt}
 use Rattle.event_loop.proofs.Others.{forgets_other}
 use Rattle.event_loop.proofs.Doing.{none_more, done_then, done_some}
-use Rattle.event_loop.proofs.Resting.{none_left, unread_still, still_unread, unwritten_still, others_then, settled_other, heard_other, rested_other, rests_turned}
+use Rattle.event_loop.proofs.Kept.{all_kept_still}
+use Rattle.event_loop.proofs.Resting.{none_left, unread_still, still_unread, unwritten_still, others_then, settled_other, heard_other, rested_other, rested_kept, heard_kept, rests_turned}
 
-module _ {N C J H : Type 0} (p : Promises N C J H) where
+module _ {N C J K H : Type 0} (p : Promises N C J K H) where
   -- what closes a connection leaves the others
-  pub closes_other : (rules : RegistryRecord) (host : H) (k : ℕ) (place : Place) (s s' : Scene N C J H) → Closes p rules host k place s s' → (j : ℕ) → j ≢ k → known s'.course j ≡ known s.course j
+  pub closes_other : (rules : RegistryRecord) (host : H) (k : ℕ) (place : Place) (s s' : Scene N C J K H) → Closes p rules host k place s s' → (j : ℕ) → j ≢ k → known s'.course j ≡ known s.course j
   closes_other rules host k place s s' (leaves n e on last journal done noted) j other = forgets_other s.course.world on.world k j on.happens other
 
+  -- and nothing more is unkept
+  pub closes_kept : (rules : RegistryRecord) (host : H) (k : ℕ) (place : Place) (s s' : Scene N C J K H) → Closes p rules host k place s s' → IsAllKept s.course.world → IsAllKept s'.course.world
+  closes_kept rules host k place s s' (leaves n e on last journal done noted) all = all_kept_still s.course.world on.world on.happens.still.kept on.happens.still.history all
+
   -- and it is reached
-  pub closes_reached : (rules : RegistryRecord) (host : H) (k : ℕ) (place : Place) (s s' : Scene N C J H) → Closes p rules host k place s s' → IsReached p.hosting rules host s'.course
+  pub closes_reached : (rules : RegistryRecord) (host : H) (k : ℕ) (place : Place) (s s' : Scene N C J K H) → Closes p rules host k place s s' → IsReached p.hosting rules host s'.course
   closes_reached rules host k place s s' (leaves n e on last journal done noted) = on.reached
 
   -- a write, and a close where it is over
-  pub turn_then : (k : ℕ) (b c d : Service) (u v w : Tools N C J H) → LeadsToActs p k (Writing k) IsUnwritten b u c v → LeadsToTidy p k c v d w → LeadsToRest p k b u d w
-  turn_then k b c d u v w one two rules host first found past heard unwritten served =
+  pub turn_then : (k : ℕ) (b c d : Service) (u v w : Tools N C J K H) → LeadsToActs p k (Writing k) IsUnwritten b u c v → LeadsToTidy p k c v d w → LeadsToRest p k b u d w
+  turn_then k b c d u v w one two rules host first found past heard unwritten kept served =
       record {
         goes = record {
           next = z.goes.next;
@@ -38,6 +43,7 @@ module _ {N C J H : Type 0} (p : Promises N C J H) where
           done = done_then _ _ _ y.goes.done z.goes.done;
           others = others_then k b past.world c y.goes.next.world d z.goes.next.world y.goes.others z.goes.others;
           alone = λ other differs not. z.goes.alone other differs (y.goes.alone other differs not);
+          ready = λ was. z.goes.ready (y.goes.ready was);
         };
         settled = record {
           rested = z.rested;
@@ -53,7 +59,7 @@ module _ {N C J H : Type 0} (p : Promises N C J H) where
       }
     where
       y : ActsAt p rules host first found k (Writing k) IsUnwritten b past c v
-      y = one rules host first found past unwritten served
+      y = one rules host first found past unwritten kept served
 
       z : TidiesAt p rules host first found k c y.goes.next d w
       z = two rules host first found y.goes.next y.goes.served
@@ -68,8 +74,8 @@ module _ {N C J H : Type 0} (p : Promises N C J H) where
       ]
 
       tended_some : IsDone (Reading k) y.goes.next.deeds ⊎ IsDone (Writing k) y.goes.next.deeds → 0 < done_since y.goes.next.deeds
-      tended_some (inl read) = done_some (Reading k) y.goes.next.deeds read
-      tended_some (inr done) = done_some (Writing k) y.goes.next.deeds done
+      tended_some (inl read) = done_some (Reading k) y.goes.next.deeds (λ e. absurd (cc)) read
+      tended_some (inr done) = done_some (Writing k) y.goes.next.deeds (λ e. absurd (cc)) done
 
       written : IsKnownAt k c y.goes.next.world IsUnwritten ⊎ IsDone (Writing k) y.goes.next.deeds
       written = elim y.acts [
@@ -77,18 +83,41 @@ module _ {N C J H : Type 0} (p : Promises N C J H) where
         | inr done ↦ inr done
       ]
 
+  -- all places are read, what changed is kept, and all are written to
+  pub kept_then : (rules : RegistryRecord) (host : H) (first : Scene N C J K H) (found : List Ready) (past : Past) (b c : Service) (u v w : Tools N C J K H) →
+      GoesReading p rules host first found 64 past b u → LeadsToKept p u v → LeadsWriting p 64 b v c w → GoesWriting p rules host first found 64 past c w
+  kept_then rules host first found past b c u v w read keep write = record {
+    next = z.next;
+    served = z.served;
+    below = z.below;
+    rested = z.rested;
+    heard = z.heard;
+    unwritten = z.unwritten;
+    kept = z.kept;
+    done = done_then past.deeds y.next.deeds z.next.deeds (done_then past.deeds read.next.deeds y.next.deeds read.done y.done) z.done;
+  }
+    where
+      y : GoesKept p rules host first found b read.next v
+      y = keep rules host first found b read.next read.not_kept read.served
+
+      z : GoesWriting p rules host first found 64 y.next c w
+      z = write rules host first found y.next
+          (rested_kept b read.next.world y.next.world y.connections read.rested)
+          (λ j less. heard_kept b read.next y.next y.connections y.done j (read.heard j less))
+          (λ j. y.alone (Writing j) (λ e. absurd (cc)) (read.unwritten j)) y.kept y.served
+
   -- at all places, one after another
-  pub to_then : (f g h : List Ready) (a b c : Service) (t u v : Tools N C J H) → LeadsTo p f a t g b u → LeadsTo p g b u h c v → LeadsTo p f a t h c v
+  pub to_then : (f g h : List Ready) (a b c : Service) (t u v : Tools N C J K H) → LeadsTo p f a t g b u → LeadsTo p g b u h c v → LeadsTo p f a t h c v
   to_then f g h a b c t u v one two rules host first past served settled =
       let x = one rules host first past served settled in
       let y = two rules host first x.next x.served x.settled in
       record { next = y.next; served = y.served; settled = y.settled; done = done_then _ _ _ x.done y.done }
 
-  pub nowhere : (f : List Ready) (a : Service) (t : Tools N C J H) → LeadsTo p f a t f a t
+  pub nowhere : (f : List Ready) (a : Service) (t : Tools N C J K H) → LeadsTo p f a t f a t
   nowhere f a t rules host first past served settled = record { next = past; served = served; settled = settled; done = none_more past.deeds }
 
   -- and then it was tried to accept
-  pub accepts_then : {P Q : Type 0} (f : List Ready) (a b c : Service) (t u v : Tools N C J H) → LeadsToAccepts p f P a t b u → LeadsToAccepts p f ⊤ b u c v → LeadsToAccepts p f Q a t c v
+  pub accepts_then : {P Q : Type 0} (f : List Ready) (a b c : Service) (t u v : Tools N C J K H) → LeadsToAccepts p f P a t b u → LeadsToAccepts p f ⊤ b u c v → LeadsToAccepts p f Q a t c v
   accepts_then f a b c t u v one two rules host first past served settled =
       let x = one rules host first past served settled in
       let y = two rules host first x.goes.next x.goes.served x.goes.settled in
@@ -98,16 +127,16 @@ module _ {N C J H : Type 0} (p : Promises N C J H) where
       }
 
   -- rounds, one after another
-  pub round_then : (m n : ℕ) (a b c : Service) (t u v : Tools N C J H) → LeadsRound p m a t b u → LeadsRound p n b u c v → LeadsRound p (m + n) a t c v
+  pub round_then : (m n : ℕ) (a b c : Service) (t u v : Tools N C J K H) → LeadsRound p m a t b u → LeadsRound p n b u c v → LeadsRound p (m + n) a t c v
   round_then m n a b c t u v one two rules host first past served ready =
       let x = one rules host first past served ready in
       let y = two rules host first x.next x.served x.ready in
       record { next = y.next; served = y.served; ready = y.ready; waits_are = omega (arith, x.waits_are, y.waits_are) }
 
-  pub no_round : (a : Service) (t : Tools N C J H) → LeadsRound p 0 a t a t
+  pub no_round : (a : Service) (t : Tools N C J K H) → LeadsRound p 0 a t a t
   no_round a t rules host first past served ready = record { next = past; served = served; ready = ready; waits_are = omega arith }
 
-  pub then_wrong : (fault : LoopFault) (count : ℕ) (a b c : Service) (t u v : Tools N C J H) → LeadsRound p count a t b u → LeadsWrong p fault b u c v → LeadsWrong p fault a t c v
+  pub then_wrong : (fault : LoopFault) (count : ℕ) (a b c : Service) (t u v : Tools N C J K H) → LeadsRound p count a t b u → LeadsWrong p fault b u c v → LeadsWrong p fault a t c v
   then_wrong fault count a b c t u v one two rules host first past served ready =
       let x = one rules host first past served ready in
       two rules host first x.next x.served x.ready
@@ -133,7 +162,7 @@ heard_next k service past service' past' others done below =
     one_below k (λ j. IsHeardAt j service' past') (λ j less. heard_other k j service past service' past' others done (λ is. absurd (omega (arith, less, is))) (below j less))
 
 -- what was done at a place, or nothing was to be done there
-pub acts_heard : {N C J H : Type 0} (p : Promises N C J H) (rules : RegistryRecord) (host : H) (first : Scene N C J H) (found : List Ready) (k : ℕ) (service : Service) (past : Past) (service' : Service) (tools' : Tools N C J H) →
+pub acts_heard : {N C J K H : Type 0} (p : Promises N C J K H) (rules : RegistryRecord) (host : H) (first : Scene N C J K H) (found : List Ready) (k : ℕ) (service : Service) (past : Past) (service' : Service) (tools' : Tools N C J K H) →
     (x : ActsAt p rules host first found k (Reading k) IsUnread service past service' tools') → IsHeardAt k service' x.goes.next
 acts_heard p rules host first found k service past service' tools' x = elim x.acts [
   | inl still ↦ inl (still_unread k service service' past.world x.goes.next.world still)

@@ -6,4 +6,6 @@ pub mod Doing
 pub mod Resting
 pub mod Leading
 pub mod Cutting
+pub mod Kept
+pub mod Fronts
 pub mod Leaving

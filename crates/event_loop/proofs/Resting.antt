@@ -122,6 +122,18 @@ settled_other k j service past service' past' others done other settled = record
   active = λ e. (let some = settled.active (sym (others.due j other) ∙ e) in omega (arith, some, done.grows));
 }
 
+-- keeping leaves all places at rest, and what was heard there
+others_kept : (j : ℕ) (service : Service) (world world' : World) → world'.connections ≡ world.connections → LeavesOthers (suc j) service world service world'
+others_kept j service world world' same = record { places = λ i other. refl; due = λ i other. refl; connections = λ i other. ap (λ ks. connection_at ks i) same }
+
+pub rested_kept : (service : Service) (world world' : World) → world'.connections ≡ world.connections → IsRested service world → IsRested service world'
+rested_kept service world world' same rested j less =
+    rested_other (suc j) j service world service world' (others_kept j service world world' same) (λ is. absurd (omega (arith, is))) (rested j less)
+
+pub heard_kept : (service : Service) (past past' : Past) → past'.world.connections ≡ past.world.connections → DoneAfter past.deeds past'.deeds → (j : ℕ) → IsHeardAt j service past → IsHeardAt j service past'
+heard_kept service past past' same done j heard =
+    heard_other (suc j) j service past service past' (others_kept j service past.world past'.world same) done (λ is. absurd (omega (arith, is))) heard
+
 -- where one place is settled and the others are, all are
 pub all_settled : (k : ℕ) (service : Service) (past : Past) (service' : Service) (past' : Past) → LeavesOthers k service past.world service' past'.world → DoneAfter past.deeds past'.deeds →
     IsSettled service past → IsSettledAt k service' past' → IsSettled service' past'
@@ -165,7 +177,7 @@ put_settled k service service' place past' put rests active = record {
 }
 
 -- a connection that is not over stays, and it is noted whether something is due there
-pub stays_tidy : {N C J H : Type 0} (p : Promises N C J H) (rules : RegistryRecord) (host : H) (first : Scene N C J H) (found : List Ready) (k : ℕ) (service : Service) (tools : Tools N C J H) (past : Past) (place : Place) (due : List Bool) →
+pub stays_tidy : {N C J K H : Type 0} (p : Promises N C J K H) (rules : RegistryRecord) (host : H) (first : Scene N C J K H) (found : List Ready) (k : ℕ) (service : Service) (tools : Tools N C J K H) (past : Past) (place : Place) (due : List Bool) →
     slice_get service.places k ≡ Some place → ¬ (IsOver place (connection_at past.world.connections k)) → ((j : ℕ) → j ≢ k → slice_get due j ≡ slice_get service.due j) →
     (slice_get due k ≡ Some false → IsAtRest place (connection_at past.world.connections k)) → (slice_get due k ≡ Some true → IsLeft place (connection_at past.world.connections k)) →
     Served p rules host first (scene_of service tools found past) → TidiesAt p rules host first found k service past (record service { due = due }) tools
@@ -176,6 +188,7 @@ stays_tidy p rules host first found k service tools past place due here goes_on 
     done = none_more past.deeds;
     others = record { places = λ j other. refl; due = others; connections = λ j other. refl };
     alone = λ other differs not. not;
+    ready = λ was. was;
   };
   rested = λ none place' here'. subst (λ q. IsAtRest q (connection_at past.world.connections k)) (same_some place place' (sym here ∙ here')) (rests none);
   turned = λ unread unwritten place' here'. record {

@@ -26,7 +26,7 @@ AreWithin limit times places = (k : ℕ) (place : Place) → slice_get places k 
 -- Why the connection at a place is closed: it is over; it took no byte of a reply for longer than the limit; or all places
 -- are taken, another connection waits, and it is silent longest, for longer than the other limit. Of the seconds that are
 -- counted the first may be short, so more are counted than the limit has.
-pub data Cause {N C J H : Type 0} (s : Scene N C J H) (k : ℕ) (place : Place) : Type 0 where
+pub data Cause {N C J K H : Type 0} (s : Scene N C J K H) (k : ℕ) (place : Place) : Type 0 where
   is_over : IsOver place (known s.course k) → Cause s k place
   is_silent : s.limits.idle < s.times.steady - place.since → Cause s k place
   gives_way : s.queue ≡ Waits → s.limits.crowded < s.times.steady - place.since → IsSilentLongest s.places place → Cause s k place
@@ -40,7 +40,7 @@ freed_queue Asked = Empty
 freed_queue Waits = Told
 
 -- A connection is closed and forgotten, its fault is noted, and its place is free.
-pub data Closes {N C J H : Type 0} (p : Promises N C J H) (rules : RegistryRecord) (host : H) (k : ℕ) (place : Place) (s : Scene N C J H) : Scene N C J H → Type 0 where
+pub data Closes {N C J K H : Type 0} (p : Promises N C J K H) (rules : RegistryRecord) (host : H) (k : ℕ) (place : Place) (s : Scene N C J K H) : Scene N C J K H → Type 0 where
   leaves : (n : N) (e : SeenEdge H) (on : GoesOn p.hosting e rules host s.course.schedule s.course.world (Forgotten k)) (last : Option ℕ) (journal : J) → p.does s.sockets (deed.Closed k) n →
       NotesEnd p.notes place.stage s.times.steady s.noted s.journal last journal →
       Closes p rules host k place s (record s { sockets = n; deeds = deed.Closed k ∷ s.deeds; course = led s.course e (Forgotten k) on.world; noted = last; journal = journal; places = slice_set s.places k (record place { stage = Free }); queue = freed_queue s.queue })

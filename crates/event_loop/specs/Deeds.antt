@@ -1,4 +1,4 @@
--- What sockets do.
+-- What is done.
 use Rattle.std.specs.Prelude.{◌≡◌, ◌⊎◌, ℕ, suc, ◌≤◌, ◌<◌, List, [], ◌∷◌, length, take, Option, Some, None, ⊤}
 use Rattle.event_loop.specs.declared.sockets.Ready.{Ready}
 use Rattle.event_loop.specs.declared.sockets.Accepted.{Accepted}
@@ -9,7 +9,8 @@ use Rattle.event_loop.specs.declared.sockets.Sent.{Sent}
 use Rattle.event_loop.specs.declared.sockets.Sent.TheVariants as sent
 
 -- One call of the sockets, and what came of it. A wait has its limit in milliseconds, how much it had room for, and what
--- it found ready; the others have the place of their connection, and a read how many bytes it had room for.
+-- it found ready; the others have the place of their connection, and a read how many bytes it had room for. Or what was
+-- unkept was given to the keeper, and is kept.
 pub data Deed : Type 0 where
   Waited : (limit : Option ℕ) → (room : ℕ) → (found : List Ready) → Deed
   WaitFailed : (limit : Option ℕ) → (room : ℕ) → Deed
@@ -25,6 +26,7 @@ pub data Deed : Type 0 where
   WroteNothing : (k : ℕ) → Deed
   WriteFailed : (k : ℕ) → Deed
   Closed : (k : ℕ) → Deed
+  Kept : Deed
 
 abbrev pub wait_deed : Option ℕ → Option ℕ → List Ready → Deed
 wait_deed limit (Some n) found = Waited limit (length found) (take n found)
@@ -64,15 +66,18 @@ waits [] = 0
 waits (Waited limit room found ∷ earlier) = suc (waits earlier)
 waits (deed ∷ earlier) = waits earlier
 
--- how much was done since the last wait
+-- how much was done for connections since the last wait
 abbrev pub done_since : List Deed → ℕ
 done_since [] = 0
 done_since (Waited limit room found ∷ earlier) = 0
+done_since (Kept ∷ earlier) = done_since earlier
 done_since (deed ∷ earlier) = suc (done_since earlier)
 
--- what is to be done again and again: a place is read, a place is written to, and connections are accepted
+-- what is to be done again and again: a place is read, what is unkept is kept, a place is written to, and connections are
+-- accepted
 pub data Task : Type 0 where
   Reading : (k : ℕ) → Task
+  Keeping : Task
   Writing : (k : ℕ) → Task
   Accepting : Task
 
@@ -89,6 +94,7 @@ task_of (ReadFailed k) = Some (Reading k)
 task_of (Wrote k bytes) = Some (Writing k)
 task_of (WroteNothing k) = Some (Writing k)
 task_of (WriteFailed k) = Some (Writing k)
+task_of Kept = Some Keeping
 task_of deed = None
 
 -- it was done since the last wait

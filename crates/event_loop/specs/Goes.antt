@@ -1,5 +1,5 @@
 -- How each part of the loop leads on. Only the contracts of its parts and their proofs cite this: no public clause does.
-use Rattle.std.specs.Prelude.{◌≡◌, ◌≢◌, ◌⊎◌, ◌≤◌, ◌<◌, ◌+◌, ℕ, true, false, List, [], Option, Some, slice_get, None}
+use Rattle.std.specs.Prelude.{◌≡◌, ◌≢◌, ◌⊎◌, ◌≤◌, ◌<◌, ◌+◌, ℕ, true, false, List, [], Option, Some, slice_get, None, ⊤}
 use Rattle.rand_chacha.specs.ChaCha.{ChaCha}
 use Rattle.hook_host.specs.declared.host.HookHost.{Ghosts as Hosting}
 use Rattle.clients.specs.RegistryRecord.{RegistryRecord}
@@ -13,10 +13,11 @@ use Rattle.event_loop.specs.declared.queue.Queue.TheVariants.{Told, Barred, Wait
 use Rattle.event_loop.specs.declared.service.Service.{Service}
 use Rattle.event_loop.specs.declared.sockets.Ready.{Ready}
 use Rattle.event_loop.specs.declared.tools.Tools.{Tools}
-use Rattle.event_loop.specs.Deeds.{Deed, Task, Reading, Writing, Accepting, IsDone, waits, done_since}
+use Rattle.event_loop.specs.declared.fault.LoopFault.TheVariants.{Keep}
+use Rattle.event_loop.specs.Deeds.{Deed, Task, Reading, Keeping, Writing, Accepting, IsDone, waits, done_since}
 use Rattle.event_loop.specs.Giving.{GivesAll, GivesSome}
 use Rattle.event_loop.specs.Places.{IsTaken, MayRead, MayWrite, IsUnread, IsUnwritten, IsAtRest, AllFree}
-use Rattle.event_loop.specs.Scenes.{Promises, Scene}
+use Rattle.event_loop.specs.Scenes.{Promises, Scene, IsAllKept}
 use Rattle.event_loop.specs.Closing.{IsSilentLongest, AreWithin, Closes}
 use Rattle.event_loop.specs.Served.{HadTurn, Served, Shuts}
 use Rattle.event_loop.specs.Ends.{Fails}
@@ -31,11 +32,12 @@ pub record Past : Type 0 where
   pub schedule : List Happening
   pub world : World
 
-abbrev pub scene_of : {N C J H : Type 0} → Service → Tools N C J H → List Ready → Past → Scene N C J H
+abbrev pub scene_of : {N C J K H : Type 0} → Service → Tools N C J K H → List Ready → Past → Scene N C J K H
 scene_of service tools found past = record {
   sockets = tools.sockets;
   clocks = tools.clocks;
   journal = tools.journal;
+  keeper = tools.keeper;
   course = record { edge = tools.edge; generator = tools.generator; schedule = past.schedule; world = past.world };
   limits = service.limits;
   places = service.places;
@@ -103,12 +105,18 @@ pub record LeavesOthers (k : ℕ) (service : Service) (world : World) (service' 
   pub due : (j : ℕ) → j ≢ k → slice_get service'.due j ≡ slice_get service.due j
   pub connections : (j : ℕ) → j ≢ k → connection_at world'.connections j ≡ connection_at world.connections j
 
--- steps lead on, which touch one place alone, and do one task alone
-pub record GoesAt {N C J H : Type 0} (p : Promises N C J H) (rules : RegistryRecord) (host : H) (first : Scene N C J H) (found : List Ready) (k : ℕ) (task : Task) (service : Service) (past : Past) (service' : Service) (tools' : Tools N C J H) : Type 0 where
+-- what must be so that a task is done: for a write nothing is unkept
+abbrev pub IsReadyFor : Task → World → Type 0
+IsReadyFor (Writing k) world = IsAllKept world
+IsReadyFor task world = ⊤
+
+-- steps lead on, which touch one place alone, and do one task alone; what was ready for it stays ready
+pub record GoesAt {N C J K H : Type 0} (p : Promises N C J K H) (rules : RegistryRecord) (host : H) (first : Scene N C J K H) (found : List Ready) (k : ℕ) (task : Task) (service : Service) (past : Past) (service' : Service) (tools' : Tools N C J K H) : Type 0 where
   pub next : Past
   pub served : Served p rules host first (scene_of service' tools' found next)
   pub done : DoneAfter past.deeds next.deeds
   pub others : LeavesOthers k service past.world service' next.world
+  pub ready : IsReadyFor task past.world → IsReadyFor task next.world
   pub alone : (other : Task) → other ≢ task → ¬ (IsDone other past.deeds) → ¬ (IsDone other next.deeds)
 
 -- it holds of what is known of the place, and of its connection
@@ -122,15 +130,15 @@ pub record IsStill (k : ℕ) (service : Service) (world : World) (service' : Ser
   pub rests : IsKnownAt k service world P
 
 -- a task is done at one place, or nothing changed, since it is not to be done
-pub record ActsAt {N C J H : Type 0} (p : Promises N C J H) (rules : RegistryRecord) (host : H) (first : Scene N C J H) (found : List Ready) (k : ℕ) (task : Task) (P : Place → Option Connection → Type 0) (service : Service) (past : Past) (service' : Service) (tools' : Tools N C J H) : Type 0 where
+pub record ActsAt {N C J K H : Type 0} (p : Promises N C J K H) (rules : RegistryRecord) (host : H) (first : Scene N C J K H) (found : List Ready) (k : ℕ) (task : Task) (P : Place → Option Connection → Type 0) (service : Service) (past : Past) (service' : Service) (tools' : Tools N C J K H) : Type 0 where
   pub goes : GoesAt p rules host first found k task service past service' tools'
   pub due : service'.due ≡ service.due
   pub acts : IsStill k service past.world service' goes.next.world P ⊎ IsDone task goes.next.deeds
 
--- so it is where it was not done since the last wait
-abbrev pub LeadsToActs : {N C J H : Type 0} → Promises N C J H → ℕ → Task → (Place → Option Connection → Type 0) → Service → Tools N C J H → Service → Tools N C J H → Type 0
-LeadsToActs {N} {C} {J} {H} p k task P service tools service' tools' =
-    (rules : RegistryRecord) (host : H) (first : Scene N C J H) (found : List Ready) (past : Past) → ¬ (IsDone task past.deeds) → Served p rules host first (scene_of service tools found past) →
+-- so it is where it was not done since the last wait, and may be done
+abbrev pub LeadsToActs : {N C J K H : Type 0} → Promises N C J K H → ℕ → Task → (Place → Option Connection → Type 0) → Service → Tools N C J K H → Service → Tools N C J K H → Type 0
+LeadsToActs {N} {C} {J} {K} {H} p k task P service tools service' tools' =
+    (rules : RegistryRecord) (host : H) (first : Scene N C J K H) (found : List Ready) (past : Past) → ¬ (IsDone task past.deeds) → IsReadyFor task past.world → Served p rules host first (scene_of service tools found past) →
     ActsAt p rules host first found k task P service past service' tools'
 
 -- a read or a write is to be done
@@ -159,35 +167,35 @@ pub record IsSettledAt (k : ℕ) (service : Service) (past : Past) : Type 0 wher
   pub active : slice_get service.due k ≡ Some true → 0 < done_since past.deeds
 
 -- steps lead on, which touch one place alone, and it is settled
-pub record SettlesAt {N C J H : Type 0} (p : Promises N C J H) (rules : RegistryRecord) (host : H) (first : Scene N C J H) (found : List Ready) (k : ℕ) (service : Service) (past : Past) (service' : Service) (tools' : Tools N C J H) : Type 0 where
+pub record SettlesAt {N C J K H : Type 0} (p : Promises N C J K H) (rules : RegistryRecord) (host : H) (first : Scene N C J K H) (found : List Ready) (k : ℕ) (service : Service) (past : Past) (service' : Service) (tools' : Tools N C J K H) : Type 0 where
   pub goes : GoesAt p rules host first found k (Writing k) service past service' tools'
   pub settled : IsSettledAt k service' goes.next
 
 -- it is closed where it is over, and else it is noted whether something is due there
-pub record TidiesAt {N C J H : Type 0} (p : Promises N C J H) (rules : RegistryRecord) (host : H) (first : Scene N C J H) (found : List Ready) (k : ℕ) (service : Service) (past : Past) (service' : Service) (tools' : Tools N C J H) : Type 0 where
+pub record TidiesAt {N C J K H : Type 0} (p : Promises N C J K H) (rules : RegistryRecord) (host : H) (first : Scene N C J K H) (found : List Ready) (k : ℕ) (service : Service) (past : Past) (service' : Service) (tools' : Tools N C J K H) : Type 0 where
   pub goes : GoesAt p rules host first found k (Writing k) service past service' tools'
   pub rested : IsRestedAt k service' goes.next.world
   pub turned : IsKnownAt k service past.world IsUnread ⊎ (IsDone (Reading k) past.deeds ⊎ IsDone (Writing k) past.deeds) → IsKnownAt k service past.world IsUnwritten ⊎ IsDone (Writing k) past.deeds →
       IsKnownAt k service' goes.next.world (λ place connection. HadTurn k place connection goes.next.deeds)
   pub left : slice_get service'.due k ≡ Some true → IsLeftAt k service past.world
 
-abbrev pub LeadsToTidy : {N C J H : Type 0} → Promises N C J H → ℕ → Service → Tools N C J H → Service → Tools N C J H → Type 0
-LeadsToTidy {N} {C} {J} {H} p k service tools service' tools' =
-    (rules : RegistryRecord) (host : H) (first : Scene N C J H) (found : List Ready) (past : Past) → Served p rules host first (scene_of service tools found past) →
+abbrev pub LeadsToTidy : {N C J K H : Type 0} → Promises N C J K H → ℕ → Service → Tools N C J K H → Service → Tools N C J K H → Type 0
+LeadsToTidy {N} {C} {J} {K} {H} p k service tools service' tools' =
+    (rules : RegistryRecord) (host : H) (first : Scene N C J K H) (found : List Ready) (past : Past) → Served p rules host first (scene_of service tools found past) →
     TidiesAt p rules host first found k service past service' tools'
 
-abbrev pub LeadsToRest : {N C J H : Type 0} → Promises N C J H → ℕ → Service → Tools N C J H → Service → Tools N C J H → Type 0
-LeadsToRest {N} {C} {J} {H} p k service tools service' tools' =
-    (rules : RegistryRecord) (host : H) (first : Scene N C J H) (found : List Ready) (past : Past) → IsHeardAt k service past → ¬ (IsDone (Writing k) past.deeds) → Served p rules host first (scene_of service tools found past) →
+abbrev pub LeadsToRest : {N C J K H : Type 0} → Promises N C J K H → ℕ → Service → Tools N C J K H → Service → Tools N C J K H → Type 0
+LeadsToRest {N} {C} {J} {K} {H} p k service tools service' tools' =
+    (rules : RegistryRecord) (host : H) (first : Scene N C J K H) (found : List Ready) (past : Past) → IsHeardAt k service past → ¬ (IsDone (Writing k) past.deeds) → IsAllKept past.world → Served p rules host first (scene_of service tools found past) →
     SettlesAt p rules host first found k service past service' tools'
 
 -- a connection is closed, wherever the edge was reached
-pub record GoesAway {N C J H : Type 0} (p : Promises N C J H) (rules : RegistryRecord) (host : H) (found : List Ready) (k : ℕ) (place : Place) (service : Service) (tools : Tools N C J H) (past : Past) (service' : Service) (tools' : Tools N C J H) : Type 0 where
+pub record GoesAway {N C J K H : Type 0} (p : Promises N C J K H) (rules : RegistryRecord) (host : H) (found : List Ready) (k : ℕ) (place : Place) (service : Service) (tools : Tools N C J K H) (past : Past) (service' : Service) (tools' : Tools N C J K H) : Type 0 where
   pub next : Past
   pub closes : Closes p rules host k place (scene_of service tools found past) (scene_of service' tools' found next)
 
-abbrev pub LeadsAway : {N C J H : Type 0} → Promises N C J H → ℕ → Place → Service → Tools N C J H → Service → Tools N C J H → Type 0
-LeadsAway {N} {C} {J} {H} p k place service tools service' tools' =
+abbrev pub LeadsAway : {N C J K H : Type 0} → Promises N C J K H → ℕ → Place → Service → Tools N C J K H → Service → Tools N C J K H → Type 0
+LeadsAway {N} {C} {J} {K} {H} p k place service tools service' tools' =
     (rules : RegistryRecord) (host : H) (found : List Ready) (past : Past) → Reached p.hosting tools.edge rules host past.schedule past.world →
     GoesAway p rules host found k place service tools past service' tools'
 
@@ -200,62 +208,84 @@ abbrev pub IsSettled : Service → Past → Type 0
 IsSettled service past = (k : ℕ) → k < 64 → IsSettledAt k service past
 
 -- steps lead on, and all places are settled
-pub record GoesTo {N C J H : Type 0} (p : Promises N C J H) (rules : RegistryRecord) (host : H) (first : Scene N C J H) (found : List Ready) (past : Past) (service' : Service) (tools' : Tools N C J H) : Type 0 where
+pub record GoesTo {N C J K H : Type 0} (p : Promises N C J K H) (rules : RegistryRecord) (host : H) (first : Scene N C J K H) (found : List Ready) (past : Past) (service' : Service) (tools' : Tools N C J K H) : Type 0 where
   pub next : Past
   pub served : Served p rules host first (scene_of service' tools' found next)
   pub settled : IsSettled service' next
   pub done : DoneAfter past.deeds next.deeds
 
-abbrev pub LeadsTo : {N C J H : Type 0} → Promises N C J H → List Ready → Service → Tools N C J H → List Ready → Service → Tools N C J H → Type 0
-LeadsTo {N} {C} {J} {H} p found service tools found' service' tools' =
-    (rules : RegistryRecord) (host : H) (first : Scene N C J H) (past : Past) → Served p rules host first (scene_of service tools found past) → IsSettled service past →
+abbrev pub LeadsTo : {N C J K H : Type 0} → Promises N C J K H → List Ready → Service → Tools N C J K H → List Ready → Service → Tools N C J K H → Type 0
+LeadsTo {N} {C} {J} {K} {H} p found service tools found' service' tools' =
+    (rules : RegistryRecord) (host : H) (first : Scene N C J K H) (past : Past) → Served p rules host first (scene_of service tools found past) → IsSettled service past →
     GoesTo p rules host first found' past service' tools'
 
 -- so they do, and where it is so then, it was tried to accept since the last wait
-pub record Accepts {N C J H : Type 0} (p : Promises N C J H) (rules : RegistryRecord) (host : H) (first : Scene N C J H) (found : List Ready) (P : Type 0) (past : Past) (service' : Service) (tools' : Tools N C J H) : Type 0 where
+pub record Accepts {N C J K H : Type 0} (p : Promises N C J K H) (rules : RegistryRecord) (host : H) (first : Scene N C J K H) (found : List Ready) (P : Type 0) (past : Past) (service' : Service) (tools' : Tools N C J K H) : Type 0 where
   pub goes : GoesTo p rules host first found past service' tools'
   pub tried : P → IsDone Accepting goes.next.deeds
 
-abbrev pub LeadsToAccepts : {N C J H : Type 0} → Promises N C J H → List Ready → Type 0 → Service → Tools N C J H → Service → Tools N C J H → Type 0
-LeadsToAccepts {N} {C} {J} {H} p found P service tools service' tools' =
-    (rules : RegistryRecord) (host : H) (first : Scene N C J H) (past : Past) → Served p rules host first (scene_of service tools found past) → IsSettled service past →
+abbrev pub LeadsToAccepts : {N C J K H : Type 0} → Promises N C J K H → List Ready → Type 0 → Service → Tools N C J K H → Service → Tools N C J K H → Type 0
+LeadsToAccepts {N} {C} {J} {K} {H} p found P service tools service' tools' =
+    (rules : RegistryRecord) (host : H) (first : Scene N C J K H) (past : Past) → Served p rules host first (scene_of service tools found past) → IsSettled service past →
     Accepts p rules host first found P past service' tools'
 
 -- what was found ready is noted at its place
-abbrev pub LeadsToHearing : {N C J H : Type 0} → Promises N C J H → List Ready → Service → Tools N C J H → List Ready → Service → Type 0
-LeadsToHearing {N} {C} {J} {H} p found service tools found' service' =
-    (rules : RegistryRecord) (host : H) (first : Scene N C J H) (past : Past) → Served p rules host first (scene_of service tools found past) → IsRested service past.world →
+abbrev pub LeadsToHearing : {N C J K H : Type 0} → Promises N C J K H → List Ready → Service → Tools N C J K H → List Ready → Service → Type 0
+LeadsToHearing {N} {C} {J} {K} {H} p found service tools found' service' =
+    (rules : RegistryRecord) (host : H) (first : Scene N C J K H) (past : Past) → Served p rules host first (scene_of service tools found past) → IsRested service past.world →
     Served p rules host first (scene_of service' tools found' past) × IsRested service' past.world
 
--- each place below i was read, where it may be; those from i on were not, and none was written to
-pub record GoesReading {N C J H : Type 0} (p : Promises N C J H) (rules : RegistryRecord) (host : H) (first : Scene N C J H) (found : List Ready) (i : ℕ) (past : Past) (service' : Service) (tools' : Tools N C J H) : Type 0 where
+-- each place below i was read, where it may be; those from i on were not, none was written to, and nothing was kept
+pub record GoesReading {N C J K H : Type 0} (p : Promises N C J K H) (rules : RegistryRecord) (host : H) (first : Scene N C J K H) (found : List Ready) (i : ℕ) (past : Past) (service' : Service) (tools' : Tools N C J K H) : Type 0 where
   pub next : Past
   pub served : Served p rules host first (scene_of service' tools' found next)
   pub rested : IsRested service' next.world
   pub heard : (j : ℕ) → j < i → IsHeardAt j service' next
   pub unread : (j : ℕ) → i ≤ j → ¬ (IsDone (Reading j) next.deeds)
   pub unwritten : (j : ℕ) → ¬ (IsDone (Writing j) next.deeds)
+  pub not_kept : ¬ (IsDone Keeping next.deeds)
   pub done : DoneAfter past.deeds next.deeds
 
-abbrev pub LeadsReading : {N C J H : Type 0} → Promises N C J H → ℕ → Service → Tools N C J H → Service → Tools N C J H → Type 0
-LeadsReading {N} {C} {J} {H} p i service tools service' tools' =
-    (rules : RegistryRecord) (host : H) (first : Scene N C J H) (found : List Ready) (past : Past) → ((task : Task) → ¬ (IsDone task past.deeds)) → IsRested service past.world →
+abbrev pub LeadsReading : {N C J K H : Type 0} → Promises N C J K H → ℕ → Service → Tools N C J K H → Service → Tools N C J K H → Type 0
+LeadsReading {N} {C} {J} {K} {H} p i service tools service' tools' =
+    (rules : RegistryRecord) (host : H) (first : Scene N C J K H) (found : List Ready) (past : Past) → ((task : Task) → ¬ (IsDone task past.deeds)) → IsRested service past.world →
     Served p rules host first (scene_of service tools found past) → GoesReading p rules host first found i past service' tools'
 
--- each place below i is settled; those from i on were heard, and not written to
-pub record GoesWriting {N C J H : Type 0} (p : Promises N C J H) (rules : RegistryRecord) (host : H) (first : Scene N C J H) (found : List Ready) (i : ℕ) (past : Past) (service' : Service) (tools' : Tools N C J H) : Type 0 where
+-- nothing is unkept, and all else is as it was
+pub record GoesKept {N C J K H : Type 0} (p : Promises N C J K H) (rules : RegistryRecord) (host : H) (first : Scene N C J K H) (found : List Ready) (service : Service) (past : Past) (tools' : Tools N C J K H) : Type 0 where
+  pub next : Past
+  pub served : Served p rules host first (scene_of service tools' found next)
+  pub kept : IsAllKept next.world
+  pub connections : next.world.connections ≡ past.world.connections
+  pub done : DoneAfter past.deeds next.deeds
+  pub alone : (other : Task) → other ≢ Keeping → ¬ (IsDone other past.deeds) → ¬ (IsDone other next.deeds)
+
+abbrev pub LeadsToKept : {N C J K H : Type 0} → Promises N C J K H → Tools N C J K H → Tools N C J K H → Type 0
+LeadsToKept {N} {C} {J} {K} {H} p tools tools' =
+    (rules : RegistryRecord) (host : H) (first : Scene N C J K H) (found : List Ready) (service : Service) (past : Past) → ¬ (IsDone Keeping past.deeds) → Served p rules host first (scene_of service tools found past) →
+    GoesKept p rules host first found service past tools'
+
+-- or keeping failed
+abbrev pub LeadsToLoss : {N C J K H : Type 0} → Promises N C J K H → Tools N C J K H → LoopFault → Tools N C J K H → Type 0
+LeadsToLoss {N} {C} {J} {K} {H} p tools fault tools' =
+    (rules : RegistryRecord) (host : H) (first : Scene N C J K H) (found : List Ready) (service : Service) (past : Past) → ¬ (IsDone Keeping past.deeds) → Served p rules host first (scene_of service tools found past) →
+    Fails p (scene_of service tools found past) fault (scene_of service tools' found past)
+
+-- each place below i is settled; those from i on were heard, and not written to; and nothing is unkept
+pub record GoesWriting {N C J K H : Type 0} (p : Promises N C J K H) (rules : RegistryRecord) (host : H) (first : Scene N C J K H) (found : List Ready) (i : ℕ) (past : Past) (service' : Service) (tools' : Tools N C J K H) : Type 0 where
   pub next : Past
   pub served : Served p rules host first (scene_of service' tools' found next)
   pub below : (j : ℕ) → j < i → IsSettledAt j service' next
   pub rested : (j : ℕ) → i ≤ j → j < 64 → IsRestedAt j service' next.world
   pub heard : (j : ℕ) → i ≤ j → j < 64 → IsHeardAt j service' next
   pub unwritten : (j : ℕ) → i ≤ j → ¬ (IsDone (Writing j) next.deeds)
+  pub kept : IsAllKept next.world
   pub done : DoneAfter past.deeds next.deeds
 
-abbrev pub LeadsWriting : {N C J H : Type 0} → Promises N C J H → ℕ → Service → Tools N C J H → Service → Tools N C J H → Type 0
-LeadsWriting {N} {C} {J} {H} p i service tools service' tools' =
-    (rules : RegistryRecord) (host : H) (first : Scene N C J H) (found : List Ready) (past : Past) → IsRested service past.world → ((j : ℕ) → j < 64 → IsHeardAt j service past) →
-    ((j : ℕ) → ¬ (IsDone (Writing j) past.deeds)) → Served p rules host first (scene_of service tools found past) → GoesWriting p rules host first found i past service' tools'
+abbrev pub LeadsWriting : {N C J K H : Type 0} → Promises N C J K H → ℕ → Service → Tools N C J K H → Service → Tools N C J K H → Type 0
+LeadsWriting {N} {C} {J} {K} {H} p i service tools service' tools' =
+    (rules : RegistryRecord) (host : H) (first : Scene N C J K H) (found : List Ready) (past : Past) → IsRested service past.world → ((j : ℕ) → j < 64 → IsHeardAt j service past) →
+    ((j : ℕ) → ¬ (IsDone (Writing j) past.deeds)) → IsAllKept past.world → Served p rules host first (scene_of service tools found past) → GoesWriting p rules host first found i past service' tools'
 
 -- where an accept failed and was not tried again, it failed in this second
 abbrev pub IsTried : Service → Type 0
@@ -274,37 +304,37 @@ pub record IsReady (service : Service) (past : Past) : Type 0 where
   pub quick : IsQuick service
 
 -- steps lead through so many waits
-pub record GoesRound {N C J H : Type 0} (p : Promises N C J H) (rules : RegistryRecord) (host : H) (first : Scene N C J H) (count : ℕ) (past : Past) (service' : Service) (tools' : Tools N C J H) : Type 0 where
+pub record GoesRound {N C J K H : Type 0} (p : Promises N C J K H) (rules : RegistryRecord) (host : H) (first : Scene N C J K H) (count : ℕ) (past : Past) (service' : Service) (tools' : Tools N C J K H) : Type 0 where
   pub next : Past
   pub served : Served p rules host first (scene_of service' tools' [] next)
   pub ready : IsReady service' next
   pub waits_are : waits next.deeds ≡ waits past.deeds + count
 
-abbrev pub LeadsRound : {N C J H : Type 0} → Promises N C J H → ℕ → Service → Tools N C J H → Service → Tools N C J H → Type 0
-LeadsRound {N} {C} {J} {H} p count service tools service' tools' =
-    (rules : RegistryRecord) (host : H) (first : Scene N C J H) (past : Past) → Served p rules host first (scene_of service tools [] past) → IsReady service past →
+abbrev pub LeadsRound : {N C J K H : Type 0} → Promises N C J K H → ℕ → Service → Tools N C J K H → Service → Tools N C J K H → Type 0
+LeadsRound {N} {C} {J} {K} {H} p count service tools service' tools' =
+    (rules : RegistryRecord) (host : H) (first : Scene N C J K H) (past : Past) → Served p rules host first (scene_of service tools [] past) → IsReady service past →
     GoesRound p rules host first count past service' tools'
 
 -- steps lead to a scene where something fails
-pub record GoesWrong {N C J H : Type 0} (p : Promises N C J H) (rules : RegistryRecord) (host : H) (first : Scene N C J H) (fault : LoopFault) (service' : Service) (tools' : Tools N C J H) : Type 0 where
-  pub last : Scene N C J H
+pub record GoesWrong {N C J K H : Type 0} (p : Promises N C J K H) (rules : RegistryRecord) (host : H) (first : Scene N C J K H) (fault : LoopFault) (service' : Service) (tools' : Tools N C J K H) : Type 0 where
+  pub last : Scene N C J K H
   pub served : Served p rules host first last
   pub found : List Ready
   pub next : Past
   pub fails : Fails p last fault (scene_of service' tools' found next)
 
-abbrev pub LeadsWrong : {N C J H : Type 0} → Promises N C J H → LoopFault → Service → Tools N C J H → Service → Tools N C J H → Type 0
-LeadsWrong {N} {C} {J} {H} p fault service tools service' tools' =
-    (rules : RegistryRecord) (host : H) (first : Scene N C J H) (past : Past) → Served p rules host first (scene_of service tools [] past) → IsReady service past →
+abbrev pub LeadsWrong : {N C J K H : Type 0} → Promises N C J K H → LoopFault → Service → Tools N C J K H → Service → Tools N C J K H → Type 0
+LeadsWrong {N} {C} {J} {K} {H} p fault service tools service' tools' =
+    (rules : RegistryRecord) (host : H) (first : Scene N C J K H) (past : Past) → Served p rules host first (scene_of service tools [] past) → IsReady service past →
     GoesWrong p rules host first fault service' tools'
 
 -- connections that are left are closed
-pub record GoesShut {N C J H : Type 0} (p : Promises N C J H) (rules : RegistryRecord) (host : H) (first : Scene N C J H) (found : List Ready) (service' : Service) (tools' : Tools N C J H) : Type 0 where
+pub record GoesShut {N C J K H : Type 0} (p : Promises N C J K H) (rules : RegistryRecord) (host : H) (first : Scene N C J K H) (found : List Ready) (service' : Service) (tools' : Tools N C J K H) : Type 0 where
   pub next : Past
   pub shuts : Shuts p rules host first (scene_of service' tools' found next)
   pub reached : Reached p.hosting tools'.edge rules host next.schedule next.world
 
-abbrev pub LeadsShut : {N C J H : Type 0} → Promises N C J H → Service → Tools N C J H → Service → Tools N C J H → Type 0
-LeadsShut {N} {C} {J} {H} p service tools service' tools' =
-    (rules : RegistryRecord) (host : H) (first : Scene N C J H) (found : List Ready) (past : Past) → Shuts p rules host first (scene_of service tools found past) →
+abbrev pub LeadsShut : {N C J K H : Type 0} → Promises N C J K H → Service → Tools N C J K H → Service → Tools N C J K H → Type 0
+LeadsShut {N} {C} {J} {K} {H} p service tools service' tools' =
+    (rules : RegistryRecord) (host : H) (first : Scene N C J K H) (found : List Ready) (past : Past) → Shuts p rules host first (scene_of service tools found past) →
     Reached p.hosting tools.edge rules host past.schedule past.world → GoesShut p rules host first found service' tools'

@@ -10,6 +10,7 @@ pub mod Reading
 pub mod Writing
 pub mod Closing
 pub mod Served
+pub mod Durable
 pub mod Answered
 pub mod Ends
 pub mod Goes

@@ -20,7 +20,7 @@ abbrev pub read_place : Place → ℕ → Place
 read_place place count = record place { readable = nat_le read_limit count || place.hung }
 
 -- The connection at a place is read once, into a buffer of just so many bytes, and what came is given to the edge at the moment that the clocks told.
-pub data Reads {N C J H : Type 0} (p : Promises N C J H) (rules : RegistryRecord) (host : H) (k : ℕ) (place : Place) (s : Scene N C J H) : Scene N C J H → Type 0 where
+pub data Reads {N C J K H : Type 0} (p : Promises N C J K H) (rules : RegistryRecord) (host : H) (k : ℕ) (place : Place) (s : Scene N C J K H) : Scene N C J K H → Type 0 where
   hears : (bytes : List ℕ) (n : N) (course : Course H) (place' : Place) → 0 < length bytes → length bytes ≤ read_limit → p.does s.sockets (deed.Read k read_limit bytes) n →
       IsHeard p.hosting rules host k s.times.moment bytes s.course course → place' ≡ read_place place (length bytes) →
       Reads p rules host k place s (record s { sockets = n; deeds = deed.Read k read_limit bytes ∷ s.deeds; course = course; places = slice_set s.places k place' })

@@ -1,6 +1,13 @@
 -- What the loop knows and works with, at one time.
-use Rattle.std.specs.Prelude.{ℕ, List, Option}
+use Rattle.std.specs.Prelude.{◌≡◌, ◌≢◌, ℕ, List, Option, Some}
 use Rattle.hook_host.specs.declared.host.HookHost.{Ghosts as Hosting}
+use Rattle.consent.specs.History.{Event}
+use Rattle.http_edge.specs.Schedule.{World}
+use Rattle.event_loop.specs.declared.sockets.Sockets.{Ghosts as Sockets}
+use Rattle.event_loop.specs.declared.clocks.Clocks.{Ghosts as Clocks}
+use Rattle.event_loop.specs.declared.journal.Journal.{Ghosts as Journal}
+use Rattle.change_codec.specs.declared.keeper.Keeper.{Ghosts as Keeper}
+use Rattle.change_codec.specs.Keeping.{Crashes, crashes}
 use Rattle.event_loop.specs.declared.clocks.Times.{Times}
 use Rattle.event_loop.specs.declared.fault.ConnectionFault.{ConnectionFault}
 use Rattle.event_loop.specs.declared.limits.Limits.{Limits}
@@ -10,23 +17,31 @@ use Rattle.event_loop.specs.declared.sockets.Ready.{Ready}
 use Rattle.event_loop.specs.Deeds.{Deed}
 use Rattle.event_loop.specs.Courses.{Course}
 
--- what the sockets, the clocks, the journal and the host promise
-pub record Promises (N C J H : Type 0) : Type 1 where
+-- what the sockets, the clocks, the journal, the keeper and the host promise
+pub record Promises (N C J K H : Type 0) : Type 1 where
   pub does : N → Deed → N → Type 0
   pub tells : C → Option Times → C → Type 0
   pub notes : J → ConnectionFault → J → Type 0
+  pub keeping : Crashes K
   pub hosting : Hosting H
 
-abbrev pub promises : {N C J H : Type 0} → (N → Deed → N → Type 0) → (C → Option Times → C → Type 0) → (J → ConnectionFault → J → Type 0) → Hosting H → Promises N C J H
-promises does tells notes hosting = record { does = does; tells = tells; notes = notes; hosting = hosting }
+abbrev pub promises : {N C J K H : Type 0} → Sockets N → Clocks C → Journal J → Keeper K → Hosting H → Promises N C J K H
+promises sockets clocks journal keeper hosting = record {
+  does = sockets.does;
+  tells = clocks.tells;
+  notes = journal.notes;
+  keeping = crashes keeper.stands_for keeper.may_leave keeper.moment keeper.left_since;
+  hosting = hosting;
+}
 
--- What the loop works with: sockets, clocks, a journal, and an edge with its draws, on its course. What it knows: its
--- limits, its places, what the last wait found and was not looked at yet, who waits to be accepted, what the clocks told
--- last, and when a fault was noted last. What the sockets did so far, the last deed first.
-pub record Scene (N C J H : Type 0) : Type 0 where
+-- What the loop works with: sockets, clocks, a journal, a keeper, and an edge with its draws, on its course. What it knows:
+-- its limits, its places, what the last wait found and was not looked at yet, who waits to be accepted, what the clocks
+-- told last, and when a fault was noted last. What was done so far, the last deed first.
+pub record Scene (N C J K H : Type 0) : Type 0 where
   pub sockets : N
   pub clocks : C
   pub journal : J
+  pub keeper : K
   pub course : Course H
   pub limits : Limits
   pub places : List Place
@@ -35,3 +50,13 @@ pub record Scene (N C J H : Type 0) : Type 0 where
   pub times : Times
   pub noted : Option ℕ
   pub deeds : List Deed
+
+-- what was kept last, if anything is kept, is all that happened
+abbrev pub IsAllKept : World → Type 0
+IsAllKept world = (kept : List Event) → world.kept ≡ Some kept → kept ≡ world.history
+
+-- a history was kept last, and more has happened
+pub record IsUnkept (world : World) : Type 0 where
+  pub kept : List Event
+  pub here : world.kept ≡ Some kept
+  pub more : kept ≢ world.history

@@ -7,18 +7,21 @@ use Rattle.event_loop.specs.declared.queue.Queue.TheVariants.{Told, Empty, Barre
 use Rattle.event_loop.specs.declared.sockets.Ready.{Ready}
 use Rattle.event_loop.specs.declared.sockets.Ready.TheVariants as ready
 use Rattle.event_loop.specs.Deeds as deed
-use Rattle.event_loop.specs.Deeds.{Deed, Reading, Writing, Accepting, IsDone, done_since}
-use Rattle.event_loop.specs.Courses.{known, IsReached}
-use Rattle.http_edge.specs.Schedule.{Connection}
+use Rattle.event_loop.specs.Deeds.{Deed, Reading, Keeping, Writing, Accepting, IsDone, done_since}
+use Rattle.event_loop.specs.Courses.{known, led, IsReached}
+use Rattle.change_codec.specs.Keeping.{Keeps}
+use Rattle.http_edge.specs.Edges.{SeenEdge}
+use Rattle.http_edge.specs.Reached.{GoesOn}
+use Rattle.http_edge.specs.Schedule.{Connection, Kept}
 use Rattle.event_loop.specs.Places.{IsTaken, MayRead, MayWrite, IsUnread, IsUnwritten, IsOver, IsAtRest, AllFree, places_limit, ready_limit}
-use Rattle.event_loop.specs.Scenes.{Promises, Scene}
+use Rattle.event_loop.specs.Scenes.{Promises, Scene, IsAllKept, IsUnkept}
 use Rattle.event_loop.specs.Coming.{Comes, told_queue}
 use Rattle.event_loop.specs.Reading.{Reads}
 use Rattle.event_loop.specs.Writing.{Writes}
 use Rattle.event_loop.specs.Closing.{AreWithin, Cause, Closes}
 
 -- nothing is to be done now: at no place, and nobody is to be accepted
-pub record IsIdle {N C J H : Type 0} (s : Scene N C J H) : Type 0 where
+pub record IsIdle {N C J K H : Type 0} (s : Scene N C J K H) : Type 0 where
   pub places : (k : ℕ) (place : Place) → slice_get s.places k ≡ Some place → IsAtRest place (known s.course k)
   pub queue : s.queue ≢ Told
 
@@ -30,26 +33,26 @@ pub record HadTurn (k : ℕ) (place : Place) (connection : Option Connection) (d
   pub goes_on : ¬ (IsOver place connection)
 
 -- so did each place; and nobody is to be accepted, or it was tried
-pub record IsFair {N C J H : Type 0} (s : Scene N C J H) : Type 0 where
+pub record IsFair {N C J K H : Type 0} (s : Scene N C J K H) : Type 0 where
   pub places : (k : ℕ) (place : Place) → slice_get s.places k ≡ Some place → HadTurn k place (known s.course k) s.deeds
   pub queue : s.queue ≢ Told ⊎ IsDone Accepting s.deeds
 
 -- As the clocks told last, nobody is silent for longer than the limit, nor, where another connection waits for a place, for
 -- longer than the other limit; and where an accept failed and was not tried again, it failed in this second.
-pub record IsPrompt {N C J H : Type 0} (s : Scene N C J H) : Type 0 where
+pub record IsPrompt {N C J K H : Type 0} (s : Scene N C J K H) : Type 0 where
   pub idle : AreWithin s.limits.idle s.times s.places
   pub crowded : s.queue ≡ Waits → AreWithin s.limits.crowded s.times s.places
   pub tried : (since : ℕ) → s.queue ≡ Barred since → since ≡ s.times.steady
 
 -- How long it waits, in milliseconds: not at all only where something was done since the last wait; else, where nothing is
 -- to be done, for a second, or, while no connection is there and no accept is to be tried again, for ever.
-pub data IsPatient {N C J H : Type 0} (s : Scene N C J H) : Option ℕ → Type 0 where
+pub data IsPatient {N C J K H : Type 0} (s : Scene N C J K H) : Option ℕ → Type 0 where
   looks : 0 < done_since s.deeds → IsPatient s (Some 0)
   rests : IsIdle s → IsPatient s (Some 1000)
   sleeps : IsIdle s → AllFree s.places → ((since : ℕ) → s.queue ≢ Barred since) → IsPatient s None
 
 -- It may wait so long now, with room for so much: all that the last wait found was looked at.
-pub record MayWait {N C J H : Type 0} (s : Scene N C J H) (limit : Option ℕ) (room : ℕ) : Type 0 where
+pub record MayWait {N C J K H : Type 0} (s : Scene N C J K H) (limit : Option ℕ) (room : ℕ) : Type 0 where
   pub patient : IsPatient s limit
   pub fair : IsFair s
   pub prompt : IsPrompt s
@@ -61,9 +64,10 @@ abbrev pub told_place : Place → Bool → Bool → Bool → Place
 told_place place readable writable hung =
     record place { readable = place.readable || readable; writable = place.writable || writable; hung = place.hung || hung }
 
--- One step: a wait with a look at the clocks behind it, a look at what the wait found, or something done for connections.
--- A place is read at most once between two waits, and written to at most once.
-pub data Step {N C J H : Type 0} (p : Promises N C J H) (rules : RegistryRecord) (host : H) (s : Scene N C J H) : Scene N C J H → Type 0 where
+-- One step: a wait with a look at the clocks behind it, a look at what the wait found, something done for connections, or
+-- what is unkept is kept. Between two waits a place is read at most once, and written to at most once, and it is kept at
+-- most once. Nothing is written while something is unkept.
+pub data Step {N C J K H : Type 0} (p : Promises N C J K H) (rules : RegistryRecord) (host : H) (s : Scene N C J K H) : Scene N C J K H → Type 0 where
   waits : (limit : Option ℕ) (room : ℕ) (found : List Ready) (n : N) (times : Times) (c : C) → MayWait s limit room →
       p.does s.sockets (deed.Waited limit room found) n → p.tells s.clocks (Some times) c →
       Step p rules host s (record s { sockets = n; clocks = c; deeds = deed.Waited limit room found ∷ s.deeds; found = found; times = times })
@@ -72,17 +76,20 @@ pub data Step {N C J H : Type 0} (p : Promises N C J H) (rules : RegistryRecord)
       place' ≡ told_place place readable writable hung → Step p rules host s (record s { found = more; places = slice_set s.places k place' })
   hears_of_none : (k : ℕ) (readable writable hung : Bool) (more : List Ready) → s.found ≡ ready.Connection k readable writable hung ∷ more → slice_get s.places k ≡ None →
       Step p rules host s (record s { found = more })
-  comes : (s' : Scene N C J H) → s.queue ≡ Told → Comes p rules host s s' → Step p rules host s s'
+  comes : (s' : Scene N C J K H) → s.queue ≡ Told → Comes p rules host s s' → Step p rules host s s'
   -- in another second than an accept failed in, it is tried again
   tries_again : (since : ℕ) → s.queue ≡ Barred since → since ≢ s.times.steady → Step p rules host s (record s { queue = Told })
-  reads : (k : ℕ) (place : Place) (s' : Scene N C J H) → slice_get s.places k ≡ Some place → place.readable ≡ true → ¬ (IsDone (Reading k) s.deeds) →
+  reads : (k : ℕ) (place : Place) (s' : Scene N C J K H) → slice_get s.places k ≡ Some place → place.readable ≡ true → ¬ (IsDone (Reading k) s.deeds) →
       MayRead place (known s.course k) → Reads p rules host k place s s' → Step p rules host s s'
-  writes : (k : ℕ) (place : Place) (s' : Scene N C J H) → slice_get s.places k ≡ Some place → place.writable ≡ true → ¬ (IsDone (Writing k) s.deeds) →
+  writes : (k : ℕ) (place : Place) (s' : Scene N C J K H) → slice_get s.places k ≡ Some place → place.writable ≡ true → ¬ (IsDone (Writing k) s.deeds) → IsAllKept s.course.world →
       MayWrite place (known s.course k) → Writes p rules host k place s s' → Step p rules host s s'
-  closes : (k : ℕ) (place : Place) (s' : Scene N C J H) → slice_get s.places k ≡ Some place → IsTaken place.stage → Cause s k place → Closes p rules host k place s s' → Step p rules host s s'
+  closes : (k : ℕ) (place : Place) (s' : Scene N C J K H) → slice_get s.places k ≡ Some place → IsTaken place.stage → Cause s k place → Closes p rules host k place s s' → Step p rules host s s'
+  keeps : (keeper : K) (e : SeenEdge H) (unkept : IsUnkept s.course.world) (on : GoesOn p.hosting e rules host s.course.schedule s.course.world Kept) → ¬ (IsDone Keeping s.deeds) →
+      Keeps p.keeping unkept.kept s.course.world.history s.keeper keeper →
+      Step p rules host s (record s { keeper = keeper; course = led s.course e Kept on.world; deeds = deed.Kept ∷ s.deeds })
 
 -- At first no connection is there, none is known to wait, and nothing was done, and the edge is reached.
-pub record IsFirst {N C J H : Type 0} (p : Promises N C J H) (rules : RegistryRecord) (host : H) (s : Scene N C J H) : Type 0 where
+pub record IsFirst {N C J K H : Type 0} (p : Promises N C J K H) (rules : RegistryRecord) (host : H) (s : Scene N C J K H) : Type 0 where
   pub size : length s.places ≡ places_limit
   pub free : AllFree s.places
   pub found : s.found ≡ []
@@ -92,12 +99,12 @@ pub record IsFirst {N C J H : Type 0} (p : Promises N C J H) (rules : RegistryRe
   pub reached : IsReached p.hosting rules host s.course
 
 -- Steps lead from the first scene to another.
-pub data Served {N C J H : Type 0} (p : Promises N C J H) (rules : RegistryRecord) (host : H) (first : Scene N C J H) : Scene N C J H → Type 0 where
+pub data Served {N C J K H : Type 0} (p : Promises N C J K H) (rules : RegistryRecord) (host : H) (first : Scene N C J K H) : Scene N C J K H → Type 0 where
   begins : IsFirst p rules host first → Served p rules host first first
-  goes : {s s' : Scene N C J H} → Served p rules host first s → Step p rules host s s' → Served p rules host first s'
+  goes : {s s' : Scene N C J K H} → Served p rules host first s → Step p rules host s s' → Served p rules host first s'
 
 -- Connections that are left are closed and forgotten, one after another.
-pub data Shuts {N C J H : Type 0} (p : Promises N C J H) (rules : RegistryRecord) (host : H) (first : Scene N C J H) : Scene N C J H → Type 0 where
+pub data Shuts {N C J K H : Type 0} (p : Promises N C J K H) (rules : RegistryRecord) (host : H) (first : Scene N C J K H) : Scene N C J K H → Type 0 where
   stops : Shuts p rules host first first
-  shuts : {s s' : Scene N C J H} (k : ℕ) (place : Place) → Shuts p rules host first s → slice_get s.places k ≡ Some place → IsTaken place.stage → Closes p rules host k place s s' →
+  shuts : {s s' : Scene N C J K H} (k : ℕ) (place : Place) → Shuts p rules host first s → slice_get s.places k ≡ Some place → IsTaken place.stage → Closes p rules host k place s s' →
       Shuts p rules host first s'

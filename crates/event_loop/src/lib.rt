@@ -1,12 +1,13 @@
 //! Up to 64 connections served at once from one thread, by the readiness of their sockets.
 //!
-//! It knows sockets, clocks and a journal by what they do, and makes no system call.
+//! It knows sockets, clocks, a journal and a keeper by what they do, and makes no system call.
 #![tactic(auto)]
 
 mod admit;
 mod clocks;
 mod fault;
 mod journal;
+mod keep;
 mod leave;
 mod limits;
 mod noting;

@@ -14,6 +14,7 @@ use crate::place::{Place, Stage};
 use crate::service::Service;
 use crate::sockets::{Received, Sockets};
 use crate::tools::Tools;
+use change_codec::Keeper;
 use consent::Moment;
 use hook_host::HookHost;
 use http_edge::{Edge, EdgeFault, Event};
@@ -91,9 +92,9 @@ fn give_all<H: HookHost>(
 
 impl Service {
     // Reads a connection once, and gives what came to the edge.
-    fn read_once<N: Sockets, C: Clocks, J: Journal, H: HookHost>(
+    fn read_once<N: Sockets, C: Clocks, J: Journal, K: Keeper, H: HookHost>(
         &mut self,
-        tools: &mut Tools<N, C, J, H>,
+        tools: &mut Tools<N, C, J, K, H>,
         k: u32,
         place: Place,
     )
@@ -101,7 +102,7 @@ impl Service {
         requires here { slice_get self.old.places k ≡ Some place }
         requires readable { place.readable ≡ true }
         requires may { WhereKnown H.HookHost tools.old.edge k (MayRead place) }
-        ensures { LeadsToActs (promises N.does C.tells J.notes H.HookHost) k (Reading k) IsUnread self.old tools.old self.new tools.new }
+        ensures { LeadsToActs (promises N.Sockets C.Clocks J.Journal K.Keeper H.HookHost) k (Reading k) IsUnread self.old tools.old self.new tools.new }
     {
         let i = k as usize;
         match tools.sockets.read(k, &mut self.buffer) {
@@ -143,13 +144,13 @@ impl Service {
     }
 
     /// Reads a connection once, where it may be read.
-    pub(crate) fn read<N: Sockets, C: Clocks, J: Journal, H: HookHost>(
+    pub(crate) fn read<N: Sockets, C: Clocks, J: Journal, K: Keeper, H: HookHost>(
         &mut self,
-        tools: &mut Tools<N, C, J, H>,
+        tools: &mut Tools<N, C, J, K, H>,
         k: u32,
     )
         requires bound { k < 64 }
-        ensures { LeadsToActs (promises N.does C.tells J.notes H.HookHost) k (Reading k) IsUnread self.old tools.old self.new tools.new }
+        ensures { LeadsToActs (promises N.Sockets C.Clocks J.Journal K.Keeper H.HookHost) k (Reading k) IsUnread self.old tools.old self.new tools.new }
     {
         let place = self.place_at(k);
         if may_read(&tools.edge, place, k) {

@@ -7,11 +7,13 @@ ghost use Rattle.event_loop.specs.Scenes.{promises};
 use crate::clocks::Clocks;
 use crate::fault::LoopFault;
 use crate::journal::Journal;
+use crate::keep::keep_all;
 use crate::limits::PLACES;
 use crate::queue::Queue;
 use crate::service::Service;
 use crate::sockets::{Ready, Sockets};
 use crate::tools::Tools;
+use change_codec::Keeper;
 use hook_host::HookHost;
 
 // In milliseconds.
@@ -60,16 +62,16 @@ impl Service {
         Some(SECOND)
     }
 
-    /// Waits once and looks at the clocks, notes what was found, reads each place, writes to each, and then closes and
-    /// accepts.
-    pub(crate) fn round<N: Sockets, C: Clocks, J: Journal, H: HookHost>(
+    /// Waits once and looks at the clocks, notes what was found, reads each place, keeps what changed, writes to each, and
+    /// then closes and accepts.
+    pub(crate) fn round<N: Sockets, C: Clocks, J: Journal, K: Keeper, H: HookHost>(
         &mut self,
-        tools: &mut Tools<N, C, J, H>,
+        tools: &mut Tools<N, C, J, K, H>,
         found: &mut [Ready],
     ) -> Result<(), LoopFault>
         requires room { 65 ≤ length found.old }
-        ensures goes { OnOk result (LeadsRound (promises N.does C.tells J.notes H.HookHost) 1 self.old tools.old self.new tools.new) }
-        ensures wrong { IfErr result (λ fault. LeadsWrong (promises N.does C.tells J.notes H.HookHost) fault self.old tools.old self.new tools.new) }
+        ensures goes { OnOk result (LeadsRound (promises N.Sockets C.Clocks J.Journal K.Keeper H.HookHost) 1 self.old tools.old self.new tools.new) }
+        ensures wrong { IfErr result (λ fault. LeadsWrong (promises N.Sockets C.Clocks J.Journal K.Keeper H.HookHost) fault self.old tools.old self.new tools.new) }
     {
         let limit = self.wait_limit();
         let Some(count) = tools.sockets.wait(limit, found) else {
@@ -81,6 +83,9 @@ impl Service {
         self.times = times;
         self.hear_all(tools, &found[..count]);
         self.read_all(tools);
+        if let Err(fault) = keep_all(tools) {
+            return Err(fault);
+        }
         self.write_all(tools);
         self.tidy(tools);
         self.make_room(tools);

@@ -10,15 +10,16 @@ use crate::limits::Limits;
 use crate::service::Service;
 use crate::sockets::{Ready, Sockets};
 use crate::tools::Tools;
+use change_codec::Keeper;
 use hook_host::HookHost;
 
 impl Service {
     // Makes round after round.
-    fn rounds<N: Sockets, C: Clocks, J: Journal, H: HookHost>(
+    fn rounds<N: Sockets, C: Clocks, J: Journal, K: Keeper, H: HookHost>(
         &mut self,
-        tools: &mut Tools<N, C, J, H>,
+        tools: &mut Tools<N, C, J, K, H>,
     ) -> LoopFault
-        ensures { LeadsWrong (promises N.does C.tells J.notes H.HookHost) result self.old tools.old self.new tools.new }
+        ensures { LeadsWrong (promises N.Sockets C.Clocks J.Journal K.Keeper H.HookHost) result self.old tools.old self.new tools.new }
     {
         let mut found = [Ready::Listener; 65];
         for _nth in 0..u64::MAX {
@@ -30,13 +31,13 @@ impl Service {
     }
 }
 
-/// Serves up to 64 connections at once, until a wait fails or the clocks tell nothing, and says which. Then each connection
-/// that is left is closed and forgotten.
-pub fn serve_all<N: Sockets, C: Clocks, J: Journal, H: HookHost>(
-    tools: &mut Tools<N, C, J, H>,
+/// Serves up to 64 connections at once, until a wait fails, the clocks tell nothing or changes can't be kept, and says which.
+/// Then each connection that is left is closed and forgotten.
+pub fn serve_all<N: Sockets, C: Clocks, J: Journal, K: Keeper, H: HookHost>(
+    tools: &mut Tools<N, C, J, K, H>,
     limits: Limits,
 ) -> LoopFault
-    ensures { Ends (promises N.does C.tells J.notes H.HookHost) limits tools.old result tools.new }
+    ensures { Ends (promises N.Sockets C.Clocks J.Journal K.Keeper H.HookHost) limits tools.old result tools.new }
 {
     let Some(times) = tools.clocks.read() else {
         return LoopFault::Clock;

@@ -1,5 +1,6 @@
 //! Connections over sockets without a system, and over streams in memory.
 
+mod keeping;
 mod readiness;
 mod streams;
 
@@ -16,4 +17,12 @@ const REGISTRY: &str =
 fn new_edge(alloc: Global) -> Result<Edge<Chain>, ConfigFault> {
     let registry = Registry::read(alloc, REGISTRY.as_bytes())?;
     Ok(Edge::new(alloc, Server::new(alloc, registry, Chain::new(alloc))))
+}
+
+/// One that notes what changes.
+fn noting_edge(alloc: Global) -> Result<Edge<Chain>, ConfigFault> {
+    let registry = Registry::read(alloc, REGISTRY.as_bytes())?;
+    let mut server = Server::new(alloc, registry, Chain::new(alloc));
+    server.begin_noting()?;
+    Ok(Edge::new(alloc, server))
 }

@@ -2,12 +2,13 @@
 use http_edge::Edge;
 use rand_chacha::ChaCha20Rng;
 
-/// What the loop works with: sockets, an edge, clocks, a generator of draws, and a journal.
+/// What the loop works with: sockets, an edge, clocks, a generator of draws, a journal, and a keeper.
 #[derive(Drop)]
-pub struct Tools<N, C, J, H> {
+pub struct Tools<N, C, J, K, H> {
     pub sockets: N,
     pub edge: Edge<H>,
     pub clocks: C,
     pub generator: ChaCha20Rng,
     pub journal: J,
+    pub keeper: K,
 }

@@ -10,16 +10,17 @@ use crate::limits::PLACES;
 use crate::service::Service;
 use crate::sockets::{Ready, Sockets};
 use crate::tools::Tools;
+use change_codec::Keeper;
 use hook_host::HookHost;
 
 impl Service {
     // What was found ready is noted.
-    fn hear<N: Sockets, C: Clocks, J: Journal, H: HookHost>(
+    fn hear<N: Sockets, C: Clocks, J: Journal, K: Keeper, H: HookHost>(
         &mut self,
-        tools: &Tools<N, C, J, H>,
+        tools: &Tools<N, C, J, K, H>,
         ready: Ready,
     )
-        ensures { (more : List Ready) → LeadsToHearing (promises N.does C.tells J.notes H.HookHost) (ready ∷ more) self.old tools.now more self.new }
+        ensures { (more : List Ready) → LeadsToHearing (promises N.Sockets C.Clocks J.Journal K.Keeper H.HookHost) (ready ∷ more) self.old tools.now more self.new }
     {
         match ready {
             Ready::Listener => self.queue = self.queue.told(),
@@ -40,12 +41,12 @@ impl Service {
     }
 
     /// All that was found ready is noted.
-    pub(crate) fn hear_all<N: Sockets, C: Clocks, J: Journal, H: HookHost>(
+    pub(crate) fn hear_all<N: Sockets, C: Clocks, J: Journal, K: Keeper, H: HookHost>(
         &mut self,
-        tools: &Tools<N, C, J, H>,
+        tools: &Tools<N, C, J, K, H>,
         found: &[Ready],
     )
-        ensures { LeadsToHearing (promises N.does C.tells J.notes H.HookHost) found.now self.old tools.now [] self.new }
+        ensures { LeadsToHearing (promises N.Sockets C.Clocks J.Journal K.Keeper H.HookHost) found.now self.old tools.now [] self.new }
     {
         for index in 0..found.len() {
             self.hear(tools, found[index]);
@@ -53,11 +54,11 @@ impl Service {
     }
 
     /// Each connection where something may be due is read once, where it may be.
-    pub(crate) fn read_all<N: Sockets, C: Clocks, J: Journal, H: HookHost>(
+    pub(crate) fn read_all<N: Sockets, C: Clocks, J: Journal, K: Keeper, H: HookHost>(
         &mut self,
-        tools: &mut Tools<N, C, J, H>,
+        tools: &mut Tools<N, C, J, K, H>,
     )
-        ensures { LeadsReading (promises N.does C.tells J.notes H.HookHost) 64 self.old tools.old self.new tools.new }
+        ensures { LeadsReading (promises N.Sockets C.Clocks J.Journal K.Keeper H.HookHost) 64 self.old tools.old self.new tools.new }
     {
         for k in 0..PLACES {
             if !self.is_due(k) {
@@ -68,24 +69,24 @@ impl Service {
     }
 
     // A connection is written to once, where it may be, and closed where it is over.
-    fn turn<N: Sockets, C: Clocks, J: Journal, H: HookHost>(
+    fn turn<N: Sockets, C: Clocks, J: Journal, K: Keeper, H: HookHost>(
         &mut self,
-        tools: &mut Tools<N, C, J, H>,
+        tools: &mut Tools<N, C, J, K, H>,
         k: u32,
     )
         requires bound { k < 64 }
-        ensures { LeadsToRest (promises N.does C.tells J.notes H.HookHost) k self.old tools.old self.new tools.new }
+        ensures { LeadsToRest (promises N.Sockets C.Clocks J.Journal K.Keeper H.HookHost) k self.old tools.old self.new tools.new }
     {
         self.write(tools, k);
         self.settle(tools, k);
     }
 
     /// Each connection where something may be due is written to once, where it may be, and closed where it is over.
-    pub(crate) fn write_all<N: Sockets, C: Clocks, J: Journal, H: HookHost>(
+    pub(crate) fn write_all<N: Sockets, C: Clocks, J: Journal, K: Keeper, H: HookHost>(
         &mut self,
-        tools: &mut Tools<N, C, J, H>,
+        tools: &mut Tools<N, C, J, K, H>,
     )
-        ensures { LeadsWriting (promises N.does C.tells J.notes H.HookHost) 64 self.old tools.old self.new tools.new }
+        ensures { LeadsWriting (promises N.Sockets C.Clocks J.Journal K.Keeper H.HookHost) 64 self.old tools.old self.new tools.new }
     {
         for k in 0..PLACES {
             if !self.is_due(k) {

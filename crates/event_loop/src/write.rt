@@ -12,6 +12,7 @@ use crate::place::{Place, Stage};
 use crate::service::Service;
 use crate::sockets::{Sent, Sockets};
 use crate::tools::Tools;
+use change_codec::Keeper;
 use hook_host::HookHost;
 use http_edge::Edge;
 
@@ -35,13 +36,13 @@ pub(crate) fn may_write<H: HookHost>(edge: &Edge<H>, place: Place, k: u32) -> bo
 
 impl Service {
     /// Writes to a connection once, where there is output and the socket may take it.
-    pub(crate) fn write<N: Sockets, C: Clocks, J: Journal, H: HookHost>(
+    pub(crate) fn write<N: Sockets, C: Clocks, J: Journal, K: Keeper, H: HookHost>(
         &mut self,
-        tools: &mut Tools<N, C, J, H>,
+        tools: &mut Tools<N, C, J, K, H>,
         k: u32,
     )
         requires bound { k < 64 }
-        ensures { LeadsToActs (promises N.does C.tells J.notes H.HookHost) k (Writing k) IsUnwritten self.old tools.old self.new tools.new }
+        ensures { LeadsToActs (promises N.Sockets C.Clocks J.Journal K.Keeper H.HookHost) k (Writing k) IsUnwritten self.old tools.old self.new tools.new }
     {
         let i = k as usize;
         let place = self.place_at(k);

@@ -8,6 +8,7 @@ use crate::{
     Accepted, Clocks, ConnectionFault, Journal, Limits, LoopFault, Ready, Received, Sent, Sockets,
     Times, Tools, serve_all,
 };
+use change_codec::NoKeeper;
 use clients::ConfigFault;
 use consent::Moment;
 use rand_chacha::ChaCha20Rng;
@@ -276,8 +277,8 @@ impl Sockets for Fake {
 
 /// A second goes by at each look.
 #[derive(Drop)]
-struct Ticking {
-    steady: u64,
+pub(super) struct Ticking {
+    pub(super) steady: u64,
 }
 
 impl Clocks for Ticking {
@@ -295,8 +296,8 @@ impl Clocks for Ticking {
 }
 
 #[derive(Drop)]
-struct Count {
-    faults: u32,
+pub(super) struct Count {
+    pub(super) faults: u32,
 }
 
 impl Journal for Count {
@@ -322,6 +323,7 @@ fn serves(
         clocks: Ticking { steady: 0 },
         generator: ChaCha20Rng::from_seed([0; 32]),
         journal: Count { faults: 0 },
+        keeper: NoKeeper,
     };
     let limits = Limits {
         idle: u64::MAX,

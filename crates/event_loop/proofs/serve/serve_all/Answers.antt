@@ -9,6 +9,7 @@ use Rattle.event_loop.specs.Goes.{Past, IsReady, scene_of}
 use Rattle.event_loop.proofs.Answering.{served_answered}
 use Rattle.event_loop.proofs.Resting.{free_rests}
 use Rattle.event_loop.proofs.Leading.{rested_settled}
+use Rattle.event_loop.proofs.Fronts.{served_durable, durable_to_end}
 use Rattle.event_loop.proofs.Leaving.{fails_reached}
 use Rattle.event_loop.proofs.serve.serve_all.Goals as goal
 
@@ -17,9 +18,9 @@ returns-in_default g c = λ rules host schedule world reached. inr (record { is_
 
 pub returns : goal.returns
 returns g c = λ rules host schedule world reached.
-    let p = promises g.N.Sockets.does g.C.Clocks.tells g.J.Journal.notes g.H.HookHost in
+    let p = promises g.N.Sockets g.C.Clocks g.J.Journal g.K.Keeper g.H.HookHost in
     let past : Past = record { deeds = []; schedule = schedule; world = world } in
-    let first : Scene g.row.N.Denot g.row.C.Denot g.row.J.Denot g.row.H.Denot = scene_of c.new-service.result (record c.args.tools.now { clocks = c.read.new.self }) [] past in
+    let first : Scene g.row.N.Denot g.row.C.Denot g.row.J.Denot g.row.K.Denot g.row.H.Denot = scene_of c.new-service.result (record c.args.tools.now { clocks = c.read.new.self }) [] past in
     let is_first : IsFirst p rules host first =
     record { size = c.new-service.ensures.size; free = c.new-service.ensures.free; found = refl; noted = c.new-service.ensures.noted; queue = c.new-service.ensures.queue; deeds = refl; reached = reached } in
     let nobody : (limit : ℕ) → AreWithin limit c.new-service.result.times c.new-service.result.places = λ limit k place here taken. absurd (subst IsTaken (c.new-service.ensures.free k place here) taken) in
@@ -39,14 +40,16 @@ returns g c = λ rules host schedule world reached.
       schedule_is = refl;
       world_is = refl;
       told = subst (λ (t : Times). g.C.Clocks.tells c.args.tools.now.clocks (Some t) c.read.new.self) (sym c.new-service.ensures.times) c.in-Some.ensures;
-      tools_are = record { sockets = refl; clocks = refl; journal = refl; edge = refl; generator = refl };
+      tools_are = record { sockets = refl; clocks = refl; journal = refl; keeper = refl; edge = refl; generator = refl };
       last = wrong.last;
       served = wrong.served;
       answered = λ s. served_answered p rules host first s;
+      durable = λ held. served_durable p rules host g.met.K.Keeper.only_now first held;
       failed = failed;
       fails = wrong.fails;
       end = scene_of c.leave_all.new.self c.leave_all.new.tools wrong.found shut.next;
       shuts = shut.shuts;
+      durable_then = λ held s served on. durable_to_end p rules host g.met.K.Keeper.only_now first held s wrong.last failed _ _ served on wrong.fails shut.shuts;
       free = c.leave_all.ensures.free;
-      tools_are_then = record { sockets = refl; clocks = refl; journal = refl; edge = refl; generator = refl };
+      tools_are_then = record { sockets = refl; clocks = refl; journal = refl; keeper = refl; edge = refl; generator = refl };
     })

@@ -8,7 +8,7 @@ use Rattle.event_loop.proofs.service.Service.admit_all.Given as goal
 
 abbrev pub invariant-loop-nth : goal.invariant-loop-nth
 invariant-loop-nth g l = record {
-  leads : (found : List Ready) → LeadsToAccepts (promises g.N.Sockets.does g.C.Clocks.tells g.J.Journal.notes g.H.HookHost) found (0 < l._nth) l.initial.self l.initial.tools l.self l.tools;
+  leads : (found : List Ready) → LeadsToAccepts (promises g.N.Sockets g.C.Clocks g.J.Journal g.K.Keeper g.H.HookHost) found (0 < l._nth) l.initial.self l.initial.tools l.self l.tools;
   within : (limit : ℕ) → AreWithin limit l.initial.self.times l.initial.self.places → AreWithin limit l.self.times l.self.places;
   waits : l.self.queue ≡ Waits → l.initial.self.queue ≡ Waits;
   tried : IsTried l.initial.self → IsTried l.self;

@@ -5,4 +5,4 @@ use Rattle.event_loop.proofs.service.Service.hear_all.Given as goal
 
 abbrev pub invariant-loop-index : goal.invariant-loop-index
 invariant-loop-index g l =
-    LeadsToHearing (promises g.N.Sockets.does g.C.Clocks.tells g.J.Journal.notes g.H.HookHost) l.found l.initial.self l.tools (drop l.index l.found) l.self
+    LeadsToHearing (promises g.N.Sockets g.C.Clocks g.J.Journal g.K.Keeper g.H.HookHost) l.found l.initial.self l.tools (drop l.index l.found) l.self

@@ -6,7 +6,7 @@ use Rattle.event_loop.proofs.service.Service.leave_all.Given as goal
 
 abbrev pub invariant-loop-k : goal.invariant-loop-k
 invariant-loop-k g l = record {
-  shut : LeadsShut (promises g.N.Sockets.does g.C.Clocks.tells g.J.Journal.notes g.H.HookHost) l.initial.self l.initial.tools l.self l.tools;
+  shut : LeadsShut (promises g.N.Sockets g.C.Clocks g.J.Journal g.K.Keeper g.H.HookHost) l.initial.self l.initial.tools l.self l.tools;
   size : length l.self.places ≡ length l.initial.self.places;
   free : (j : ℕ) → j < l.k → IsFreeAt l.self.places j;
 }

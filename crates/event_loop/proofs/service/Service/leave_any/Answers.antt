@@ -19,7 +19,7 @@ returns-then-not-is_taken-clause-free g c = λ place here.
 
 pub returns-clause-shut : goal.returns-clause-shut
 returns-clause-shut g c = λ rules host first found past done reached.
-    let p = promises g.N.Sockets.does g.C.Clocks.tells g.J.Journal.notes g.H.HookHost in
+    let p = promises g.N.Sockets g.C.Clocks g.J.Journal g.K.Keeper g.H.HookHost in
     let away = c.leave.ensures.away rules host found past reached in
     record {
       next = away.next;

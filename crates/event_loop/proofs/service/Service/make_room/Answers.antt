@@ -19,7 +19,7 @@ returns-clause-leads g c =
     let taken : IsTaken place.stage = subst (λ (q : Place). IsTaken q.stage) same longest.taken in
     let is_longest : IsSilentLongest c.args.self.now.places place = subst (λ q. IsSilentLongest c.args.self.now.places q) same longest.longest in
     let long : c.args.self.now.limits.crowded < c.args.self.now.times.steady - place.since = omega (arith, c.saturating_sub.ensures, c.if-saturating_sub-self.false) in
-    leaves_to (promises g.N.Sockets.does g.C.Clocks.tells g.J.Journal.notes g.H.HookHost) c.in-Some.k place c.args.self.now c.args.tools.now c.leave.new.self c.leave.new.tools c.place_at-place.ensures
+    leaves_to (promises g.N.Sockets g.C.Clocks g.J.Journal g.K.Keeper g.H.HookHost) c.in-Some.k place c.args.self.now c.args.tools.now c.leave.new.self c.leave.new.tools c.place_at-place.ensures
     taken (λ found past. gives_way c.in-Waits.is long is_longest) c.leave.ensures.away (ap (λ (s : Service). s.places) c.leave.ensures.rest) (ap (λ (s : Service). s.due) c.leave.ensures.rest)
 
 pub returns-then-saturating_sub-self-clause-crowded : goal.returns-then-saturating_sub-self-clause-crowded

@@ -9,14 +9,14 @@ use Rattle.event_loop.proofs.Resting.{no_others}
 use Rattle.event_loop.proofs.service.Service.read.Goals as goal
 
 pub returns-else-may_read : goal.returns-else-may_read
-returns-else-may_read g c = λ rules host first found past undone h. record {
-  goes = record { next = past; served = h; done = none_more past.deeds; others = no_others c.args.k c.args.self.now past.world; alone = λ other differs not. not };
+returns-else-may_read g c = λ rules host first found past undone ready h. record {
+  goes = record { next = past; served = h; done = none_more past.deeds; others = no_others c.args.k c.args.self.now past.world; alone = λ other differs not. not; ready = λ was. was };
   due = refl;
   acts = inl (record {
     service_is = refl;
     world_is = refl;
     rests = λ place here.
-        let reached = (served_answered (promises g.N.Sockets.does g.C.Clocks.tells g.J.Journal.notes g.H.HookHost) rules host first _ h).reached in
+        let reached = (served_answered (promises g.N.Sockets g.C.Clocks g.J.Journal g.K.Keeper g.H.HookHost) rules host first _ h).reached in
         let unread : IsUnread c.place_at-place.result (connection_at past.world.connections c.args.k) = λ readable. c.may_read.ensures.rests c.if-may_read.false readable rules host past.schedule past.world reached in
         subst (λ q. IsUnread q (connection_at past.world.connections c.args.k)) (same_some c.place_at-place.result place (sym c.place_at-place.ensures ∙ here)) unread;
   });

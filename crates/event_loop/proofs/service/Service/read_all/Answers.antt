@@ -8,7 +8,7 @@ use Rattle.event_loop.proofs.service.Service.read_all.Goals as goal
 
 pub loop-k-init : goal.loop-k-init
 loop-k-init g c = λ rules host first found past undone rested h.
-    record { next = past; served = h; rested = rested; heard = λ j less. absurd (omega (arith, less)); unread = λ j from. undone _; unwritten = λ j. undone _; done = none_more past.deeds }
+    record { next = past; served = h; rested = rested; heard = λ j less. absurd (omega (arith, less)); unread = λ j from. undone _; unwritten = λ j. undone _; not_kept = undone _; done = none_more past.deeds }
 
 pub loop-k-preserved-then-not-is_due : goal.loop-k-preserved-then-not-is_due
 loop-k-preserved-then-not-is_due g c = λ rules host first found past undone rested h.
@@ -22,15 +22,16 @@ loop-k-preserved-then-not-is_due g c = λ rules host first found past undone res
       heard = one_below k (λ j. IsHeardAt j c.loop-k.self before.next) before.heard (rested_heard k c.loop-k.self before.next (before.rested k (omega (arith, c.loop-k-test.true))) none);
       unread = λ j from. before.unread j (omega (arith, from));
       unwritten = before.unwritten;
+      not_kept = before.not_kept;
       done = before.done;
     }
 
 pub loop-k-preserved : goal.loop-k-preserved
 loop-k-preserved g c = λ rules host first found past undone rested h.
-    let p = promises g.N.Sockets.does g.C.Clocks.tells g.J.Journal.notes g.H.HookHost in
+    let p = promises g.N.Sockets g.C.Clocks g.J.Journal g.K.Keeper g.H.HookHost in
     let k = c.loop-k.k in
     let before = c.loop-k.invariant rules host first found past undone rested h in
-    let x = c.read.ensures rules host first found before.next (before.unread k (omega arith)) before.served in
+    let x = c.read.ensures rules host first found before.next (before.unread k (omega arith)) tt before.served in
     record {
       next = x.goes.next;
       served = x.goes.served;
@@ -38,10 +39,11 @@ loop-k-preserved g c = λ rules host first found past undone rested h.
       heard = heard_next k c.loop-k.self before.next c.read.new.self x.goes.next x.goes.others x.goes.done before.heard (acts_heard p rules host first found k c.loop-k.self before.next c.read.new.self c.read.new.tools x);
       unread = λ j from. x.goes.alone _ (λ e. absurd (reading_other j k from e)) (before.unread j (omega (arith, from)));
       unwritten = λ j. x.goes.alone _ (λ e. absurd (cc)) (before.unwritten j);
+      not_kept = x.goes.alone _ (λ e. absurd (cc)) before.not_kept;
       done = done_then _ _ _ before.done x.goes.done;
     }
 
 pub returns : goal.returns
 returns g c = λ rules host first found past undone rested h.
     let all = c.loop-k.invariant rules host first found past undone rested h in
-    record { next = all.next; served = all.served; rested = all.rested; heard = λ j less. all.heard j (omega (arith, less, c.loop-k-test.false)); unread = λ j from. all.unread j (omega (arith, from)); unwritten = all.unwritten; done = all.done }
+    record { next = all.next; served = all.served; rested = all.rested; heard = λ j less. all.heard j (omega (arith, less, c.loop-k-test.false)); unread = λ j from. all.unread j (omega (arith, from)); unwritten = all.unwritten; not_kept = all.not_kept; done = all.done }

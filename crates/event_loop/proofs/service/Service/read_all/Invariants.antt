@@ -3,4 +3,4 @@ use Rattle.event_loop.specs.Scenes.{promises}
 use Rattle.event_loop.proofs.service.Service.read_all.Given as goal
 
 abbrev pub invariant-loop-k : goal.invariant-loop-k
-invariant-loop-k g l = LeadsReading (promises g.N.Sockets.does g.C.Clocks.tells g.J.Journal.notes g.H.HookHost) l.k l.initial.self l.initial.tools l.self l.tools
+invariant-loop-k g l = LeadsReading (promises g.N.Sockets g.C.Clocks g.J.Journal g.K.Keeper g.H.HookHost) l.k l.initial.self l.initial.tools l.self l.tools

@@ -18,8 +18,8 @@ use Rattle.event_loop.proofs.Resting.{put_others}
 use Rattle.event_loop.proofs.service.Service.read_once.Goals as goal
 
 pub returns-in-Ok : goal.returns-in-Ok
-returns-in-Ok g c = λ rules host first found past undone h.
-    let reached = (served_answered (promises g.N.Sockets.does g.C.Clocks.tells g.J.Journal.notes g.H.HookHost) rules host first _ h).reached in
+returns-in-Ok g c = λ rules host first found past undone ready h.
+    let reached = (served_answered (promises g.N.Sockets g.C.Clocks g.J.Journal g.K.Keeper g.H.HookHost) rules host first _ h).reached in
     let count = c.in-Bytes.count in
     let bytes : List ℕ = take count c.read.new.buffer in
     let room : length c.read.new.buffer ≡ read_limit = search rules in
@@ -37,14 +37,15 @@ returns-in-Ok g c = λ rules host first found past undone h.
             (λ j other. gives_other g.H.HookHost rules host c.args.k c.args.self.now.times.moment j _ given.heard.given _ given.heard.gives other);
         done = one_more _ _ refl refl (λ task t. inr t);
         alone = λ other differs not. not_another (Reading c.args.k) other past.deeds differs not;
+        ready = λ was. tt;
       };
       due = refl;
       acts = inr (inl refl);
     }
 
 pub returns-in-Err : goal.returns-in-Err
-returns-in-Err g c = λ rules host first found past undone h.
-    let reached = (served_answered (promises g.N.Sockets.does g.C.Clocks.tells g.J.Journal.notes g.H.HookHost) rules host first _ h).reached in
+returns-in-Err g c = λ rules host first found past undone ready h.
+    let reached = (served_answered (promises g.N.Sockets g.C.Clocks g.J.Journal g.K.Keeper g.H.HookHost) rules host first _ h).reached in
     let count = c.in-Bytes.count in
     let bytes : List ℕ = take count c.read.new.buffer in
     let room : length c.read.new.buffer ≡ read_limit = search rules in
@@ -64,14 +65,15 @@ returns-in-Err g c = λ rules host first found past undone h.
             ∙ gives_other g.H.HookHost rules host c.args.k c.args.self.now.times.moment j _ some.unheard.given some.unheard.before some.unheard.gives other);
         done = one_more _ _ refl refl (λ task t. inr t);
         alone = λ other differs not. not_another (Reading c.args.k) other past.deeds differs not;
+        ready = λ was. tt;
       };
       due = refl;
       acts = inr (inl refl);
     }
 
 pub returns-in-Ok-event : goal.returns-in-Ok-event
-returns-in-Ok-event g c = λ rules host first found past undone h.
-    let reached = (served_answered (promises g.N.Sockets.does g.C.Clocks.tells g.J.Journal.notes g.H.HookHost) rules host first _ h).reached in
+returns-in-Ok-event g c = λ rules host first found past undone ready h.
+    let reached = (served_answered (promises g.N.Sockets g.C.Clocks g.J.Journal g.K.Keeper g.H.HookHost) rules host first _ h).reached in
     let on = c.in-Ok-event.ensures.done rules host past.schedule past.world reached in
     record {
       goes = record {
@@ -85,14 +87,15 @@ returns-in-Ok-event g c = λ rules host first found past undone h.
             (λ j other. ends_other past.world on.world c.args.k j on.happens other);
         done = one_more _ _ refl refl (λ task t. inr t);
         alone = λ other differs not. not_another (Reading c.args.k) other past.deeds differs not;
+        ready = λ was. tt;
       };
       due = refl;
       acts = inr (inl refl);
     }
 
 pub returns-in-Later : goal.returns-in-Later
-returns-in-Later g c = λ rules host first found past undone h.
-    let reached = (served_answered (promises g.N.Sockets.does g.C.Clocks.tells g.J.Journal.notes g.H.HookHost) rules host first _ h).reached in
+returns-in-Later g c = λ rules host first found past undone ready h.
+    let reached = (served_answered (promises g.N.Sockets g.C.Clocks g.J.Journal g.K.Keeper g.H.HookHost) rules host first _ h).reached in
     record {
       goes = record {
         next = record past { deeds = deed.ReadNothing c.args.k ∷ past.deeds };
@@ -103,14 +106,15 @@ returns-in-Later g c = λ rules host first found past undone h.
         others = put_others c.args.k c.args.self.now _ (record c.args.place { readable = false }) past.world past.world refl (λ j other. refl) (λ j other. refl);
         done = one_more _ _ refl refl (λ task t. inr t);
         alone = λ other differs not. not_another (Reading c.args.k) other past.deeds differs not;
+        ready = λ was. tt;
       };
       due = refl;
       acts = inr (inl refl);
     }
 
 pub returns-in-Failed : goal.returns-in-Failed
-returns-in-Failed g c = λ rules host first found past undone h.
-    let reached = (served_answered (promises g.N.Sockets.does g.C.Clocks.tells g.J.Journal.notes g.H.HookHost) rules host first _ h).reached in
+returns-in-Failed g c = λ rules host first found past undone ready h.
+    let reached = (served_answered (promises g.N.Sockets g.C.Clocks g.J.Journal g.K.Keeper g.H.HookHost) rules host first _ h).reached in
     record {
       goes = record {
         next = record past { deeds = deed.ReadFailed c.args.k ∷ past.deeds };
@@ -121,14 +125,15 @@ returns-in-Failed g c = λ rules host first found past undone h.
         others = put_others c.args.k c.args.self.now _ (record c.args.place { stage = Broken Read }) past.world past.world refl (λ j other. refl) (λ j other. refl);
         done = one_more _ _ refl refl (λ task t. inr t);
         alone = λ other differs not. not_another (Reading c.args.k) other past.deeds differs not;
+        ready = λ was. tt;
       };
       due = refl;
       acts = inr (inl refl);
     }
 
 pub returns-in-Err-event : goal.returns-in-Err-event
-returns-in-Err-event g c = λ rules host first found past undone h.
-    let reached = (served_answered (promises g.N.Sockets.does g.C.Clocks.tells g.J.Journal.notes g.H.HookHost) rules host first _ h).reached in
+returns-in-Err-event g c = λ rules host first found past undone ready h.
+    let reached = (served_answered (promises g.N.Sockets g.C.Clocks g.J.Journal g.K.Keeper g.H.HookHost) rules host first _ h).reached in
     let fault = c.in-Err-event.fault in
     rw c.in-Err-event.ensures.err
     (record {
@@ -141,6 +146,7 @@ returns-in-Err-event g c = λ rules host first found past undone h.
         others = put_others c.args.k c.args.self.now _ (record c.args.place { stage = Broken (Refused fault) }) past.world past.world refl (λ j other. refl) (λ j other. refl);
         done = one_more _ _ refl refl (λ task t. inr t);
         alone = λ other differs not. not_another (Reading c.args.k) other past.deeds differs not;
+        ready = λ was. tt;
       };
       due = refl;
       acts = inr (inl refl);

@@ -1,13 +1,13 @@
-use Rattle.std.proofs.Common.{◌≤◌, ◌∷◌, take, arith, length, ◌≡◌, subst, sym, ◌∙◌, []}
+use Rattle.std.proofs.Common.{add-one, ◌≤◌, ◌∷◌, take, arith, length, ◌≡◌, subst, sym, ◌∙◌, []}
 use Rattle.event_loop.specs.declared.limits.Limits.{Limits}
 use Rattle.event_loop.specs.Closing.{AreWithin}
 use Rattle.event_loop.specs.Deeds as deed
+use Rattle.event_loop.specs.Deeds.{Accepting, IsDone}
 use Rattle.event_loop.specs.Served.{goes, waits}
 use Rattle.event_loop.specs.Ends.{no_wait, no_time}
 use Rattle.event_loop.specs.Goes.{Past, scene_of}
 use Rattle.event_loop.specs.Scenes.{promises}
-use Rattle.event_loop.proofs.Doing.{done_then}
-use Rattle.event_loop.proofs.Leading.{to_then}
+use Rattle.event_loop.proofs.Leading.{to_then, kept_then}
 use Rattle.event_loop.proofs.Leaving.{may_wait, told_or_not}
 use Rattle.event_loop.proofs.service.Service.round.Goals as goal
 
@@ -37,9 +37,8 @@ returns-in_default-read-clause-wrong g c = λ rules host first past h ready.
       fails = no_time c.wait_limit-limit.result (length c.wait.new.found) heard c.wait.new.self c.read.new.self may c.in-Some.ensures.done c.in_default-read.ensures;
     }
 
-pub returns-clause-goes : goal.returns-clause-goes
-returns-clause-goes g c = λ rules host first past h ready.
-    let p = promises g.N.Sockets.does g.C.Clocks.tells g.J.Journal.notes g.H.HookHost in
+pub returns-in-Err-clause-wrong : goal.returns-in-Err-clause-wrong
+returns-in-Err-clause-wrong g c = λ rules host first past h ready.
     let heard = take c.in-Some.count c.wait.new.found in
     let size : length c.args.self.now.places ≡ 64 = search rules in
     let room : 65 ≤ length c.wait.new.found = search (rules, arith, c.requires.room) in
@@ -48,16 +47,34 @@ returns-clause-goes g c = λ rules host first past h ready.
     let since : Past = record past { deeds = deed.Waited c.wait_limit-limit.result (length c.wait.new.found) heard ∷ past.deeds } in
     let told = c.hear_all.ensures rules host first since waited (λ k less. (ready.settled k less).rested) in
     let read = c.read_all.ensures rules host first [] since (λ task is. is) told.1 told.0 in
-    let written = c.write_all.ensures rules host first [] read.next read.rested read.heard read.unwritten read.served in
+    record {
+      last = scene_of c.read_all.new.self c.read_all.new.tools [] read.next;
+      served = read.served;
+      found = [];
+      next = read.next;
+      fails = c.in-Err.ensures.lost rules host first [] c.read_all.new.self read.next read.not_kept read.served;
+    }
+
+pub returns-clause-goes : goal.returns-clause-goes
+returns-clause-goes g c = λ rules host first past h ready.
+    let p = promises g.N.Sockets g.C.Clocks g.J.Journal g.K.Keeper g.H.HookHost in
+    let heard = take c.in-Some.count c.wait.new.found in
+    let size : length c.args.self.now.places ≡ 64 = search rules in
+    let room : 65 ≤ length c.wait.new.found = search (rules, arith, c.requires.room) in
+    let may = may_wait c.args.self.now c.args.tools.now past c.wait_limit-limit.result (length c.wait.new.found) size ready c.wait_limit-limit.ensures room in
+    let waited = goes h (waits c.wait_limit-limit.result (length c.wait.new.found) heard c.wait.new.self c.in-Some-read.times c.read.new.self may c.in-Some.ensures.done c.in-Some-read.ensures) in
+    let since : Past = record past { deeds = deed.Waited c.wait_limit-limit.result (length c.wait.new.found) heard ∷ past.deeds } in
+    let told = c.hear_all.ensures rules host first since waited (λ k less. (ready.settled k less).rested) in
+    let read = c.read_all.ensures rules host first [] since (λ task is. is) told.1 told.0 in
+    let written = kept_then p rules host first [] since c.read_all.new.self c.write_all.new.self c.read_all.new.tools c.keep_all.new.tools c.write_all.new.tools read c.in_default-keep_all.ensures.kept c.write_all.ensures in
     let on = to_then p [] [] [] _ _ _ _ _ _ (c.tidy.ensures.leads []) (c.make_room.ensures.leads []) rules host first written.next written.served written.below in
     let admitted = c.admit_all.ensures.leads [] rules host first on.next on.served on.settled in
-    let done = done_then _ _ _ read.done (done_then _ _ _ written.done (done_then _ _ _ on.done admitted.goes.done)) in
     record {
       next = admitted.goes.next;
       served = admitted.goes.served;
       ready = record {
         settled = admitted.goes.settled;
-        queue = told_or_not c.admit_all.new.self.queue admitted.tried;
+        queue = told_or_not {P = IsDone Accepting admitted.goes.next.deeds} c.admit_all.new.self.queue admitted.tried;
         quick = record {
           idle =
               subst (λ (l : Limits). AreWithin l.idle c.admit_all.new.self.times c.admit_all.new.self.places) (sym (c.admit_all.ensures.limits ∙ c.make_room.ensures.limits))
@@ -68,5 +85,5 @@ returns-clause-goes g c = λ rules host first past h ready.
           tried = c.admit_all.ensures.tried (c.make_room.ensures.tried c.tidy.ensures.tried);
         };
       };
-      waits_are = omega (arith, done.waits);
+      waits_are = admitted.goes.done.waits ∙ on.done.waits ∙ written.done.waits ∙ sym (add-one (deed.waits past.deeds));
     }

@@ -3,4 +3,4 @@ use Rattle.event_loop.specs.Scenes.{promises}
 use Rattle.event_loop.proofs.service.Service.rounds.Given as goal
 
 abbrev pub invariant-loop-nth : goal.invariant-loop-nth
-invariant-loop-nth g l = LeadsRound (promises g.N.Sockets.does g.C.Clocks.tells g.J.Journal.notes g.H.HookHost) l._nth l.initial.self l.initial.tools l.self l.tools
+invariant-loop-nth g l = LeadsRound (promises g.N.Sockets g.C.Clocks g.J.Journal g.K.Keeper g.H.HookHost) l._nth l.initial.self l.initial.tools l.self l.tools

@@ -10,14 +10,14 @@ use Rattle.event_loop.specs.Goes.{a_read, a_write}
 use Rattle.event_loop.specs.Scenes.{promises}
 use Rattle.event_loop.proofs.Answering.{served_answered}
 use Rattle.event_loop.proofs.Doing.{closes_done, closes_some, closes_alone}
-use Rattle.event_loop.proofs.Leading.{closes_other}
+use Rattle.event_loop.proofs.Leading.{closes_other, closes_kept}
 use Rattle.event_loop.proofs.Putting.{set_other}
 use Rattle.event_loop.proofs.Resting.{put_others, put_settled, free_rests, stays_tidy, not_due, not_rested}
 use Rattle.event_loop.proofs.service.Service.settle.Goals as goal
 
 pub returns-then-is_over : goal.returns-then-is_over
 returns-then-is_over g c = λ rules host first found past h.
-    let p = promises g.N.Sockets.does g.C.Clocks.tells g.J.Journal.notes g.H.HookHost in
+    let p = promises g.N.Sockets g.C.Clocks g.J.Journal g.K.Keeper g.H.HookHost in
     let k = c.args.k in
     let reached = (served_answered p rules host first _ h).reached in
     let place = c.place_at-place.result in
@@ -35,6 +35,7 @@ returns-then-is_over g c = λ rules host first found past h.
             put_others k c.args.self.now c.leave.new.self (record place { stage = Free }) past.world away.next.world places
             (λ j other. ap (λ l. slice_get l j) due ∙ set_other c.args.self.now.due k j false other) (closes_other p rules host k place _ _ away.closes);
         alone = λ other differs not. closes_alone p rules host k place _ _ away.closes other not;
+        ready = λ was. closes_kept p rules host k place _ _ away.closes was;
       };
       rested = settled.rested;
       turned = λ unread unwritten. settled.turned;
@@ -43,7 +44,7 @@ returns-then-is_over g c = λ rules host first found past h.
 
 pub returns-then-may_read : goal.returns-then-may_read
 returns-then-may_read g c = λ rules host first found past h.
-    let p = promises g.N.Sockets.does g.C.Clocks.tells g.J.Journal.notes g.H.HookHost in
+    let p = promises g.N.Sockets g.C.Clocks g.J.Journal g.K.Keeper g.H.HookHost in
     let reached = (served_answered p rules host first _ h).reached in
     let due = c.args.self.now.due in
     let k = c.args.k in
@@ -54,7 +55,7 @@ returns-then-may_read g c = λ rules host first found past h.
 
 pub returns-then-may_write : goal.returns-then-may_write
 returns-then-may_write g c = λ rules host first found past h.
-    let p = promises g.N.Sockets.does g.C.Clocks.tells g.J.Journal.notes g.H.HookHost in
+    let p = promises g.N.Sockets g.C.Clocks g.J.Journal g.K.Keeper g.H.HookHost in
     let reached = (served_answered p rules host first _ h).reached in
     let due = c.args.self.now.due in
     let k = c.args.k in
@@ -65,7 +66,7 @@ returns-then-may_write g c = λ rules host first found past h.
 
 pub returns-else-may_write : goal.returns-else-may_write
 returns-else-may_write g c = λ rules host first found past h.
-    let p = promises g.N.Sockets.does g.C.Clocks.tells g.J.Journal.notes g.H.HookHost in
+    let p = promises g.N.Sockets g.C.Clocks g.J.Journal g.K.Keeper g.H.HookHost in
     let reached = (served_answered p rules host first _ h).reached in
     let due = c.args.self.now.due in
     let k = c.args.k in

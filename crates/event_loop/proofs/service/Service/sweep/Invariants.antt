@@ -9,7 +9,7 @@ use Rattle.event_loop.proofs.service.Service.sweep.Given as goal
 
 abbrev pub invariant-loop-k : goal.invariant-loop-k
 invariant-loop-k g l = record {
-  leads : (found : List Ready) → LeadsTo (promises g.N.Sockets.does g.C.Clocks.tells g.J.Journal.notes g.H.HookHost) found l.initial.self l.initial.tools found l.self l.tools;
+  leads : (found : List Ready) → LeadsTo (promises g.N.Sockets g.C.Clocks g.J.Journal g.K.Keeper g.H.HookHost) found l.initial.self l.initial.tools found l.self l.tools;
   below : (j : ℕ) (place : Place) → j < l.k → slice_get l.self.places j ≡ Some place → IsTaken place.stage → l.self.times.steady - place.since ≤ l.self.limits.idle;
   size : length l.self.places ≡ length l.initial.self.places;
 }

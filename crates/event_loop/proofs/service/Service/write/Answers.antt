@@ -9,6 +9,7 @@ use Rattle.event_loop.specs.Writing.{sends, finds_no_room, fails}
 use Rattle.event_loop.specs.Served.{goes, writes}
 use Rattle.event_loop.specs.Scenes.{promises}
 use Rattle.event_loop.proofs.Others.{takes_other}
+use Rattle.event_loop.proofs.Kept.{takes_kept}
 use Rattle.event_loop.proofs.Answering.{served_answered}
 use Rattle.event_loop.proofs.Doing.{none_more, one_more, not_another}
 use Rattle.event_loop.proofs.Putting.{same_some}
@@ -16,8 +17,8 @@ use Rattle.event_loop.proofs.Resting.{put_others, no_others}
 use Rattle.event_loop.proofs.service.Service.write.Goals as goal
 
 pub returns-in-Bytes : goal.returns-in-Bytes
-returns-in-Bytes g c = λ rules host first found past undone h.
-    let reached = (served_answered (promises g.N.Sockets.does g.C.Clocks.tells g.J.Journal.notes g.H.HookHost) rules host first _ h).reached in
+returns-in-Bytes g c = λ rules host first found past undone kept h.
+    let reached = (served_answered (promises g.N.Sockets g.C.Clocks g.J.Journal g.K.Keeper g.H.HookHost) rules host first _ h).reached in
     let place = c.place_at-place.result in
     let out = c.output-output.ensures.output rules host past.schedule past.world reached in
     let may = c.may_write.ensures.may c.if-not-may_write.false rules host past.schedule past.world reached in
@@ -27,61 +28,64 @@ returns-in-Bytes g c = λ rules host first found past undone h.
         next = record { deeds = deed.Wrote c.args.k (take c.in-Bytes.count c.output-output.result.now) ∷ past.deeds; schedule = past.schedule ++ Taken c.args.k c.in-Bytes.count ∷ []; world = on.world };
         served =
             goes h
-            (writes c.args.k place _ c.place_at-place.ensures (c.may_write.ensures.writable c.if-not-may_write.false) undone may
+            (writes c.args.k place _ c.place_at-place.ensures (c.may_write.ensures.writable c.if-not-may_write.false) undone kept may
             (sends c.in-Bytes.count (take c.in-Bytes.count c.output-output.result.now) c.write.new.self c.take.new.self on c.in-Bytes.ensures.within.0 (ap (take c.in-Bytes.count) out) c.in-Bytes.ensures.done));
         others =
             put_others c.args.k c.args.self.now _ (record place { since = c.args.self.now.times.steady }) past.world on.world refl (λ j other. refl)
             (λ j other. takes_other past.world on.world c.args.k j c.in-Bytes.count on.happens other);
         done = one_more _ _ refl refl (λ task t. inr t);
         alone = λ other differs not. not_another (Writing c.args.k) other past.deeds differs not;
+        ready = takes_kept past.world on.world c.args.k c.in-Bytes.count on.happens;
       };
       due = refl;
       acts = inr (inl refl);
     }
 
 pub returns-in-Later : goal.returns-in-Later
-returns-in-Later g c = λ rules host first found past undone h.
-    let reached = (served_answered (promises g.N.Sockets.does g.C.Clocks.tells g.J.Journal.notes g.H.HookHost) rules host first _ h).reached in
+returns-in-Later g c = λ rules host first found past undone kept h.
+    let reached = (served_answered (promises g.N.Sockets g.C.Clocks g.J.Journal g.K.Keeper g.H.HookHost) rules host first _ h).reached in
     let place = c.place_at-place.result in
     let may = c.may_write.ensures.may c.if-not-may_write.false rules host past.schedule past.world reached in
     record {
       goes = record {
         next = record past { deeds = deed.WroteNothing c.args.k ∷ past.deeds };
-        served = goes h (writes c.args.k place _ c.place_at-place.ensures (c.may_write.ensures.writable c.if-not-may_write.false) undone may (finds_no_room c.write.new.self c.in-Later.ensures.done));
+        served = goes h (writes c.args.k place _ c.place_at-place.ensures (c.may_write.ensures.writable c.if-not-may_write.false) undone kept may (finds_no_room c.write.new.self c.in-Later.ensures.done));
         others = put_others c.args.k c.args.self.now _ (record place { writable = false }) past.world past.world refl (λ j other. refl) (λ j other. refl);
         done = one_more _ _ refl refl (λ task t. inr t);
         alone = λ other differs not. not_another (Writing c.args.k) other past.deeds differs not;
+        ready = λ was. was;
       };
       due = refl;
       acts = inr (inl refl);
     }
 
 pub returns-in-Failed : goal.returns-in-Failed
-returns-in-Failed g c = λ rules host first found past undone h.
-    let reached = (served_answered (promises g.N.Sockets.does g.C.Clocks.tells g.J.Journal.notes g.H.HookHost) rules host first _ h).reached in
+returns-in-Failed g c = λ rules host first found past undone kept h.
+    let reached = (served_answered (promises g.N.Sockets g.C.Clocks g.J.Journal g.K.Keeper g.H.HookHost) rules host first _ h).reached in
     let place = c.place_at-place.result in
     let may = c.may_write.ensures.may c.if-not-may_write.false rules host past.schedule past.world reached in
     record {
       goes = record {
         next = record past { deeds = deed.WriteFailed c.args.k ∷ past.deeds };
-        served = goes h (writes c.args.k place _ c.place_at-place.ensures (c.may_write.ensures.writable c.if-not-may_write.false) undone may (fails c.write.new.self c.in-Failed.ensures.done));
+        served = goes h (writes c.args.k place _ c.place_at-place.ensures (c.may_write.ensures.writable c.if-not-may_write.false) undone kept may (fails c.write.new.self c.in-Failed.ensures.done));
         others = put_others c.args.k c.args.self.now _ (record place { stage = Broken Write }) past.world past.world refl (λ j other. refl) (λ j other. refl);
         done = one_more _ _ refl refl (λ task t. inr t);
         alone = λ other differs not. not_another (Writing c.args.k) other past.deeds differs not;
+        ready = λ was. was;
       };
       due = refl;
       acts = inr (inl refl);
     }
 
 pub returns-then-not-may_write : goal.returns-then-not-may_write
-returns-then-not-may_write g c = λ rules host first found past undone h. record {
-  goes = record { next = past; served = h; done = none_more past.deeds; others = no_others c.args.k c.args.self.now past.world; alone = λ other differs not. not };
+returns-then-not-may_write g c = λ rules host first found past undone kept h. record {
+  goes = record { next = past; served = h; done = none_more past.deeds; others = no_others c.args.k c.args.self.now past.world; alone = λ other differs not. not; ready = λ was. was };
   due = refl;
   acts = inl (record {
     service_is = refl;
     world_is = refl;
     rests = λ place here.
-        let reached = (served_answered (promises g.N.Sockets.does g.C.Clocks.tells g.J.Journal.notes g.H.HookHost) rules host first _ h).reached in
+        let reached = (served_answered (promises g.N.Sockets g.C.Clocks g.J.Journal g.K.Keeper g.H.HookHost) rules host first _ h).reached in
         let unwritten : IsUnwritten c.place_at-place.result (connection_at past.world.connections c.args.k) = λ writable. c.may_write.ensures.rests c.if-not-may_write.true writable rules host past.schedule past.world reached in
         subst (λ q. IsUnwritten q (connection_at past.world.connections c.args.k)) (same_some c.place_at-place.result place (sym c.place_at-place.ensures ∙ here)) unwritten;
   });

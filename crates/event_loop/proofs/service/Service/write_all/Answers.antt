@@ -7,20 +7,21 @@ use Rattle.event_loop.proofs.Resting.{heard_other, rested_other}
 use Rattle.event_loop.proofs.service.Service.write_all.Goals as goal
 
 pub loop-k-init : goal.loop-k-init
-loop-k-init g c = λ rules host first found past rested heard unwritten h. record {
+loop-k-init g c = λ rules host first found past rested heard unwritten kept h. record {
   next = past;
   served = h;
   below = λ j less. absurd (omega (arith, less));
   rested = λ j from less. rested j less;
   heard = λ j from less. heard j less;
   unwritten = λ j from. unwritten j;
+  kept = kept;
   done = none_more past.deeds;
 }
 
 pub loop-k-preserved-then-not-is_due : goal.loop-k-preserved-then-not-is_due
-loop-k-preserved-then-not-is_due g c = λ rules host first found past rested heard unwritten h.
+loop-k-preserved-then-not-is_due g c = λ rules host first found past rested heard unwritten kept h.
     let k = c.loop-k.k in
-    let before = c.loop-k.invariant rules host first found past rested heard unwritten h in
+    let before = c.loop-k.invariant rules host first found past rested heard unwritten kept h in
     let none = subst (λ b. slice_get c.loop-k.self.due k ≡ Some b) c.if-not-is_due.true c.is_due.ensures in
     record {
       next = before.next;
@@ -29,14 +30,15 @@ loop-k-preserved-then-not-is_due g c = λ rules host first found past rested hea
       rested = λ j from less. before.rested j (omega (arith, from)) less;
       heard = λ j from less. before.heard j (omega (arith, from)) less;
       unwritten = λ j from. before.unwritten j (omega (arith, from));
+      kept = before.kept;
       done = before.done;
     }
 
 pub loop-k-preserved : goal.loop-k-preserved
-loop-k-preserved g c = λ rules host first found past rested heard unwritten h.
+loop-k-preserved g c = λ rules host first found past rested heard unwritten kept h.
     let k = c.loop-k.k in
-    let before = c.loop-k.invariant rules host first found past rested heard unwritten h in
-    let turn = c.turn.ensures rules host first found before.next (before.heard k (omega arith) (omega (arith, c.loop-k-test.true))) (before.unwritten k (omega arith)) before.served in
+    let before = c.loop-k.invariant rules host first found past rested heard unwritten kept h in
+    let turn = c.turn.ensures rules host first found before.next (before.heard k (omega arith) (omega (arith, c.loop-k-test.true))) (before.unwritten k (omega arith)) before.kept before.served in
     record {
       next = turn.goes.next;
       served = turn.goes.served;
@@ -44,12 +46,13 @@ loop-k-preserved g c = λ rules host first found past rested heard unwritten h.
       rested = λ j from less. rested_other k j c.loop-k.self before.next.world c.turn.new.self turn.goes.next.world turn.goes.others (λ is. absurd (omega (arith, from, is))) (before.rested j (omega (arith, from)) less);
       heard = λ j from less. heard_other k j c.loop-k.self before.next c.turn.new.self turn.goes.next turn.goes.others turn.goes.done (λ is. absurd (omega (arith, from, is))) (before.heard j (omega (arith, from)) less);
       unwritten = λ j from. turn.goes.alone _ (λ e. absurd (writing_other j k from e)) (before.unwritten j (omega (arith, from)));
+      kept = turn.goes.ready before.kept;
       done = done_then _ _ _ before.done turn.goes.done;
     }
 
 pub returns : goal.returns
-returns g c = λ rules host first found past rested heard unwritten h.
-    let all = c.loop-k.invariant rules host first found past rested heard unwritten h in
+returns g c = λ rules host first found past rested heard unwritten kept h.
+    let all = c.loop-k.invariant rules host first found past rested heard unwritten kept h in
     record {
       next = all.next;
       served = all.served;
@@ -57,5 +60,6 @@ returns g c = λ rules host first found past rested heard unwritten h.
       rested = λ j from less. absurd (omega (arith, from, less));
       heard = λ j from less. absurd (omega (arith, from, less));
       unwritten = λ j from. all.unwritten j (omega (arith, from));
+      kept = all.kept;
       done = all.done;
     }

@@ -1,0 +1,246 @@
+-- Each crash leaves what stands for what was kept at some scene.
+use Rattle.std.proofs.Common.{◌≡◌, ◌⊎◌, inl, inr, ◌≤◌, ℕ, List, [], ◌++◌, Bool, Some, refl, sym, ap, subst, ◌∙◌, arith}
+use Rattle.hook_host.specs.declared.host.HookHost.{Ghosts as Hosting}
+use Rattle.consent.specs.History.{Event}
+use Rattle.clients.specs.RegistryRecord.{RegistryRecord}
+use Rattle.messages.specs.declared.request.Draws.{Draws}
+use Rattle.http_edge.specs.Answers.{Mark}
+use Rattle.http_edge.specs.Schedule.{World, Comes as PieceComes, Passes, Takes, TakesNothing}
+use Rattle.event_loop.specs.declared.fault.LoopFault.{LoopFault}
+use Rattle.event_loop.specs.declared.place.Place.{Place}
+use Rattle.change_codec.specs.Keeping.{Crashes, IsFrontOf, Holds, Keeps, KeepsNot, LeavesEither}
+use Rattle.event_loop.specs.Courses.{Course}
+use Rattle.event_loop.specs.Giving.{Gives, nothing, gives, tries}
+use Rattle.event_loop.specs.Scenes.{Promises, Scene, IsUnkept}
+use Rattle.event_loop.specs.Coming.{Comes, opens, denies, finds_nobody, fails, asks}
+use Rattle.event_loop.specs.Reading as reading
+use Rattle.event_loop.specs.Reading.{Reads}
+use Rattle.event_loop.specs.Writing as writing
+use Rattle.event_loop.specs.Writing.{Writes}
+use Rattle.event_loop.specs.Closing.{Closes, leaves}
+use Rattle.event_loop.specs.Served.{Step, Served, Shuts, waits, hears_of_listener, hears_of, hears_of_none, comes, tries_again, reads, writes, closes, keeps, begins, goes, stops, shuts}
+use Rattle.event_loop.specs.Durable.{Onward, stays, onward, IsHeld, StandsBetween, IsDurable, IsDurableToEnd}
+use Rattle.event_loop.specs.Ends.{Fails, no_wait, no_time, not_kept, no_more}
+use Rattle.event_loop.proofs.Answering.{served_answered}
+use Rattle.event_loop.proofs.Kept.{same_front, front_then, reached_front, kept_history, kept_last}
+
+-- the history grows, and what was kept last is as it was
+record Grows (old new : World) : Type 0 where
+  pub kept : new.kept ≡ old.kept
+  pub front : IsFrontOf old.history new.history
+
+grows_not : (old new : World) → new ≡ old → Grows old new
+grows_not old new same = record { kept = ap (λ (w : World). w.kept) same; front = same_front old.history new.history (ap (λ (w : World). w.history) same) }
+
+grows_then : (a b c : World) → Grows a b → Grows b c → Grows a c
+grows_then a b c one two = record { kept = two.kept ∙ one.kept; front = front_then a.history b.history c.history one.front two.front }
+
+came_grows : {H : Type 0} (hosting : Hosting H) (rules : RegistryRecord) (host : H) (old new : World) (c : ℕ) (piece : List ℕ) (moment : ℕ) (draws : List Draws) (marks : List Mark) (closed : Bool) →
+    PieceComes hosting rules host old new c piece moment draws marks closed ⊎ Passes old new c marks closed → Grows old new
+came_grows hosting rules host old new c piece moment draws marks closed (inl came) = record { kept = came.kept; front = (_, came.history) }
+came_grows hosting rules host old new c piece moment draws marks closed (inr passes) = grows_not old new passes.same
+
+gives_grows : {H : Type 0} (hosting : Hosting H) (rules : RegistryRecord) (host : H) (k moment : ℕ) (first : Course H) (bytes : List ℕ) (course : Course H) → Gives hosting rules host k moment first bytes course →
+    Grows first.world course.world
+gives_grows hosting rules host k moment first bytes course nothing = grows_not _ _ refl
+gives_grows hosting rules host k moment first bytes course (gives {bytes = front} {course = before} piece given still g) =
+    grows_then first.world before.world _ (gives_grows hosting rules host k moment first front before given) (came_grows hosting rules host before.world g.on.on.world k piece moment _ g.on.marks g.on.closes g.on.on.happens.1)
+gives_grows hosting rules host k moment first bytes course (tries {course = before} piece given r) = gives_grows hosting rules host k moment first bytes before given
+
+takes_grows : (old new : World) (c n : ℕ) → Takes old new c n ⊎ TakesNothing old new c n → Grows old new
+takes_grows old new c n (inl takes) = record { kept = takes.still.kept; front = same_front _ _ takes.still.history }
+takes_grows old new c n (inr absent) = grows_not old new absent.same
+
+-- the keeper is as it was, and the history grows; or what is unkept is kept
+data Moves {N C J K H : Type 0} (p : Promises N C J K H) (s s' : Scene N C J K H) : Type 0 where
+  goes_on : s'.keeper ≡ s.keeper → Grows s.course.world s'.course.world → Moves p s s'
+  keeps_all : (unkept : IsUnkept s.course.world) → Keeps p.keeping unkept.kept s.course.world.history s.keeper s'.keeper → s'.course.world.kept ≡ Some s.course.world.history →
+      s'.course.world.history ≡ s.course.world.history → Moves p s s'
+
+module _ {N C J K H : Type 0} (p : Promises N C J K H) (rules : RegistryRecord) (host : H) where
+  comes_moves : (s s' : Scene N C J K H) → Comes p rules host s s' → Moves p s s'
+  comes_moves s s' (opens j n e on within free done) = goes_on refl (record { kept = on.happens.still.kept; front = same_front _ _ on.happens.still.history })
+  comes_moves s s' (denies j n n' fault last journal within free done refused closed noted) = goes_on refl (grows_not _ _ refl)
+  comes_moves s s' (finds_nobody n done) = goes_on refl (grows_not _ _ refl)
+  comes_moves s s' (fails n last journal done noted) = goes_on refl (grows_not _ _ refl)
+  comes_moves s s' (asks n taken done) = goes_on refl (grows_not _ _ refl)
+
+  reads_moves : (j : ℕ) (place : Place) (s s' : Scene N C J K H) → Reads p rules host j place s s' → Moves p s s'
+  reads_moves j place s s' (reading.hears bytes n course place' some few done heard is) =
+      goes_on refl (gives_grows p.hosting rules host j s.times.moment s.course heard.given course heard.gives)
+  reads_moves j place s s' (reading.refuses bytes n fault course some few done unheard) =
+      goes_on refl
+      (grows_then s.course.world unheard.before.world course.world (gives_grows p.hosting rules host j s.times.moment s.course unheard.given unheard.before unheard.gives)
+      (grows_not _ _ (ap (λ (c : Course H). c.world) unheard.is_after)))
+  reads_moves j place s s' (reading.ends n e on done) = goes_on refl (record { kept = on.happens.still.kept; front = same_front _ _ on.happens.still.history })
+  reads_moves j place s s' (reading.ends_nothing n fault done refused) = goes_on refl (grows_not _ _ refl)
+  reads_moves j place s s' (reading.finds_nothing n done) = goes_on refl (grows_not _ _ refl)
+  reads_moves j place s s' (reading.fails n done) = goes_on refl (grows_not _ _ refl)
+
+  writes_moves : (j : ℕ) (place : Place) (s s' : Scene N C J K H) → Writes p rules host j place s s' → Moves p s s'
+  writes_moves j place s s' (writing.sends count front n e on some is_front done) = goes_on refl (takes_grows s.course.world on.world j count on.happens)
+  writes_moves j place s s' (writing.finds_no_room n done) = goes_on refl (grows_not _ _ refl)
+  writes_moves j place s s' (writing.fails n done) = goes_on refl (grows_not _ _ refl)
+
+  closes_moves : (j : ℕ) (place : Place) (s s' : Scene N C J K H) → Closes p rules host j place s s' → Moves p s s'
+  closes_moves j place s s' (leaves n e on last journal done noted) = goes_on refl (record { kept = on.happens.still.kept; front = same_front _ _ on.happens.still.history })
+
+  step_moves : (s s' : Scene N C J K H) → Step p rules host s s' → Moves p s s'
+  step_moves s s' (waits limit room found n times c may done told) = goes_on refl (grows_not _ _ refl)
+  step_moves s s' (hears_of_listener more is) = goes_on refl (grows_not _ _ refl)
+  step_moves s s' (hears_of j readable writable hung more place place' is here told) = goes_on refl (grows_not _ _ refl)
+  step_moves s s' (hears_of_none j readable writable hung more is none) = goes_on refl (grows_not _ _ refl)
+  step_moves s s' (comes s'' told coming) = comes_moves s s'' coming
+  step_moves s s' (tries_again since barred later) = goes_on refl (grows_not _ _ refl)
+  step_moves s s' (reads j place s'' here readable unread may reading) = reads_moves j place s s'' reading
+  step_moves s s' (writes j place s'' here writable unwritten kept may writing) = writes_moves j place s s'' writing
+  step_moves s s' (closes j place s'' here taken cause closing) = closes_moves j place s s'' closing
+  step_moves s s' (keeps keeper e unkept on undone kept) =
+      keeps_all unkept kept (kept_last s.course.world on.world on.happens) (kept_history s.course.world on.world on.happens)
+
+  -- what was kept is a front of what happened, wherever steps lead to
+  served_front : (first s : Scene N C J K H) → Served p rules host first s → (kept : List Event) → s.course.world.kept ≡ Some kept → IsFrontOf kept s.course.world.history
+  served_front first s served kept is = reached_front p.hosting s.course.edge rules host s.course.schedule s.course.world (served_answered p rules host first s served).reached kept is
+
+  moves_held : (s s' : Scene N C J K H) → Moves p s s' → IsHeld p s → IsHeld p s'
+  moves_held s s' (goes_on same grows) held = λ kept is c left. held kept (sym grows.kept ∙ is) c (subst (λ k. p.keeping.may_leave k c) same left)
+  moves_held s s' (keeps_all unkept kept last history) held = λ now is c left.
+      let same : Some s.course.world.history ≡ Some now = sym last ∙ is in
+      let e : s.course.world.history ≡ now = cc in
+      subst (p.keeping.stands_for c) e (kept.holds (held unkept.kept unkept.here) c left)
+
+  served_held : (first s : Scene N C J K H) → IsHeld p first → Served p rules host first s → IsHeld p s
+  served_held first s held (begins is) = held
+  served_held first s held (goes {s = before} served step) = moves_held before s (step_moves before s step) (served_held first before held served)
+
+  -- what is known on the way from a scene at which so much was kept
+  record Lasts (first s : Scene N C J K H) (before : List Event) (s' : Scene N C J K H) : Type 0 where
+    pub served : Served p rules host first s'
+    pub on : Onward p rules host s s'
+    pub later : p.keeping.moment s.keeper ≤ p.keeping.moment s'.keeper
+    pub durable : (c : List ℕ) → p.keeping.left_since s'.keeper (p.keeping.moment s.keeper) c → StandsBetween p rules host s before s' c
+    pub kept : List Event
+    pub here : s'.course.world.kept ≡ Some kept
+    pub from : IsFrontOf before kept
+    pub held : IsHeld p s'
+
+  -- what was kept at the last scene lies between
+  kept_between : (first s : Scene N C J K H) (before : List Event) (s' : Scene N C J K H) (l : Lasts first s before s') (kept : List Event) → s'.course.world.kept ≡ Some kept → (c : List ℕ) →
+      p.keeping.stands_for c kept → StandsBetween p rules host s before s' c
+  kept_between first s before s' l kept is c stands =
+      let same : Some l.kept ≡ Some kept = sym l.here ∙ is in
+      let e : l.kept ≡ kept = cc in
+      record {
+        at = s';
+        since = l.on;
+        until = stays;
+        kept = kept;
+        kept_there = is;
+        stands = stands;
+        from = subst (IsFrontOf before) e l.from;
+        to = served_front first s' l.served kept is;
+      }
+
+  -- it still lies between one step later
+  between_on : (s : Scene N C J K H) (before : List Event) (s' s'' : Scene N C J K H) (c : List ℕ) → Step p rules host s' s'' → IsFrontOf s'.course.world.history s''.course.world.history →
+      StandsBetween p rules host s before s' c → StandsBetween p rules host s before s'' c
+  between_on s before s' s'' c step grows b = record {
+    at = b.at;
+    since = b.since;
+    until = onward b.until step;
+    kept = b.kept;
+    kept_there = b.kept_there;
+    stands = b.stands;
+    from = b.from;
+    to = front_then b.kept s'.course.world.history s''.course.world.history b.to grows;
+  }
+
+  lasts_on : (first s : Scene N C J K H) (before : List Event) (s' s'' : Scene N C J K H) → Lasts first s before s' → Step p rules host s' s'' → Moves p s' s'' → Lasts first s before s''
+  lasts_on first s before s' s'' l step (goes_on same grows) = record {
+    served = goes l.served step;
+    on = onward l.on step;
+    later = subst (λ k. p.keeping.moment s.keeper ≤ p.keeping.moment k) (sym same) l.later;
+    durable = λ c left. between_on s before s' s'' c step grows.front (l.durable c (subst (λ k. p.keeping.left_since k (p.keeping.moment s.keeper) c) same left));
+    kept = l.kept;
+    here = grows.kept ∙ l.here;
+    from = l.from;
+    held = moves_held s' s'' (goes_on same grows) l.held;
+  }
+  lasts_on first s before s' s'' l step (keeps_all unkept kept last history) =
+      let meanwhile = kept.meanwhile (l.held unkept.kept unkept.here) in
+      let grows : IsFrontOf s'.course.world.history s''.course.world.history = same_front _ _ history in
+      let front : IsFrontOf before s'.course.world.history = front_then before l.kept s'.course.world.history l.from (served_front first s' l.served l.kept l.here) in
+      record {
+        served = goes l.served step;
+        on = onward l.on step;
+        later = omega (arith, l.later, meanwhile.later);
+        durable = λ c left. elim (meanwhile.earlier (p.keeping.moment s.keeper) c l.later left) [
+          | inl then ↦ between_on s before s' s'' c step grows (l.durable c then)
+          | inr now ↦ elim now [
+            | inl old ↦ between_on s before s' s'' c step grows (kept_between first s before s' l unkept.kept unkept.here c old)
+            | inr new ↦ record { at = s''; since = onward l.on step; until = stays; kept = s'.course.world.history; kept_there = last; stands = new; from = front; to = grows }
+          ]
+        ];
+        kept = s'.course.world.history;
+        here = last;
+        from = front;
+        held = moves_held s' s'' (keeps_all unkept kept last history) l.held;
+      }
+
+  module _ (only_now : (keeper : K) (c : List ℕ) → p.keeping.left_since keeper (p.keeping.moment keeper) c → p.keeping.may_leave keeper c) (first : Scene N C J K H) (at_first : IsHeld p first) where
+    lasts : (s : Scene N C J K H) (before : List Event) (s' : Scene N C J K H) → s.course.world.kept ≡ Some before → Served p rules host first s → Onward p rules host s s' → Lasts first s before s'
+    lasts s before s' is served stays =
+        let held = served_held first s at_first served in
+        record {
+          served = served;
+          on = stays;
+          later = omega arith;
+          durable = λ c left. record {
+            at = s;
+            since = stays;
+            until = stays;
+            kept = before;
+            kept_there = is;
+            stands = held before is c (only_now s.keeper c left);
+            from = same_front before before refl;
+            to = served_front first s served before is;
+          };
+          kept = before;
+          here = is;
+          from = same_front before before refl;
+          held = held;
+        }
+    lasts s before s' is served (onward {s' = middle} on step) = lasts_on first s before middle s' (lasts s before middle is served on) step (step_moves middle s' step)
+
+    -- each crash leaves what was kept at some scene
+    pub served_durable : (s s' : Scene N C J K H) → Served p rules host first s → Onward p rules host s s' → IsDurable p rules host s s'
+    served_durable s s' served on = λ kept is. (lasts s kept s' is served on).durable
+
+    fails_durable : (s last failed : Scene N C J K H) (fault : LoopFault) → Served p rules host first s → Onward p rules host s last → Fails p last fault failed → IsDurableToEnd p rules host s last failed
+    fails_durable s last failed fault served on (no_wait limit room n may done) = λ kept is c left. inl (served_durable s last served on kept is c left)
+    fails_durable s last failed fault served on (no_time limit room found n c may done told) = λ kept is c left. inl (served_durable s last served on kept is c left)
+    fails_durable s last failed fault served on (no_more many) = λ kept is c left. inl (served_durable s last served on kept is c left)
+    fails_durable s last failed fault served on (not_kept keeper unkept undone lost) = λ kept is c left.
+        let l = lasts s kept last is served on in
+        let meanwhile = lost.meanwhile (l.held unkept.kept unkept.here) in
+        elim (meanwhile.earlier (p.keeping.moment s.keeper) c l.later left) [
+          | inl then ↦ inl (l.durable c then)
+          | inr now ↦ elim now [
+            | inl old ↦ inl (kept_between first s kept last l unkept.kept unkept.here c old)
+            | inr new ↦ inr new
+          ]
+        ]
+
+    -- closing keeps nothing
+    closes_keeper : (k : ℕ) (place : Place) (s s' : Scene N C J K H) → Closes p rules host k place s s' → s'.keeper ≡ s.keeper
+    closes_keeper k place s s' (leaves n e on last journal done noted) = refl
+
+    shuts_keeper : (s s' : Scene N C J K H) → Shuts p rules host s s' → s'.keeper ≡ s.keeper
+    shuts_keeper s s' stops = refl
+    shuts_keeper s s' (shuts {s = before} k place shut here taken closing) = closes_keeper k place before s' closing ∙ shuts_keeper s before shut
+
+    -- and so it is up to the end
+    pub durable_to_end : (s last failed end : Scene N C J K H) (fault : LoopFault) → Served p rules host first s → Onward p rules host s last → Fails p last fault failed → Shuts p rules host failed end →
+        IsDurableToEnd p rules host s last end
+    durable_to_end s last failed end fault served on failing shut = λ kept is c left.
+        fails_durable s last failed fault served on failing kept is c (subst (λ k. p.keeping.left_since k (p.keeping.moment s.keeper) c) (shuts_keeper failed end shut) left)
