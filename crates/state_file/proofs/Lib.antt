@@ -1,0 +1,10 @@
+pub mod Compared
+pub mod FromFile
+pub mod Hooked
+pub mod Kept
+pub mod Left
+pub mod Listed
+pub mod Redone
+pub mod Refused
+pub mod Setting
+pub mod Tells

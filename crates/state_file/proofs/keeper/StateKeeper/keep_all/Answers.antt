@@ -1,0 +1,31 @@
+use Rattle.std.proofs.Common.{subst}
+use Rattle.batch_file.specs.declared.appending.BatchFile.{BatchFile}
+use Rattle.change_codec.specs.Keeping.{KeepsEach, KeepsNone}
+use Rattle.image_codec.specs.Facts.{RulesFact}
+use Rattle.state_file.specs.Telling.{LeavesRules}
+use Rattle.state_file.proofs.Kept.{of_file, keeps, keeps_not, keeps_rules}
+use Rattle.state_file.proofs.keeper.StateKeeper.keep_all.Goals as goal
+
+pub returns-in-Ok-clause-kept : goal.returns-in-Ok-clause-kept
+returns-in-Ok-clause-kept g c =
+    let seen = g.D.Device.seen in
+    let may_leave = g.D.Device.may_leave in
+    let P : BatchFile g.row.D.Denot → Type 0 = λ old. KeepsEach (of_file seen may_leave g.D.Device.moment g.D.Device.left_since) c.args.batch.now.facts old c.append.new.self in
+    subst P c.self.view_is
+    (keeps seen may_leave g.D.Device.moment g.D.Device.left_since c.self.inside.file c.append.new.self c.args.batch.now.facts c.bytes.result.now c.bytes.ensures.spelled c.bytes.ensures.fits c.in-Ok.ensures.any_moment c.in-Ok.ensures.settled c.in-Ok.ensures.added)
+
+pub returns-in-Err-clause-lost : goal.returns-in-Err-clause-lost
+returns-in-Err-clause-lost g c =
+    let seen = g.D.Device.seen in
+    let may_leave = g.D.Device.may_leave in
+    let P : BatchFile g.row.D.Denot → Type 0 = λ old. KeepsNone (of_file seen may_leave g.D.Device.moment g.D.Device.left_since) c.args.batch.now.facts old c.append.new.self in
+    subst P c.self.view_is
+    (keeps_not seen may_leave g.D.Device.moment g.D.Device.left_since c.self.inside.file c.append.new.self c.args.batch.now.facts c.bytes.result.now c.bytes.ensures.spelled c.bytes.ensures.fits c.in-Err.ensures.any_moment)
+
+pub returns-in-Ok-clause-told : goal.returns-in-Ok-clause-told
+returns-in-Ok-clause-told g c =
+    let seen = g.D.Device.seen in
+    let may_leave = g.D.Device.may_leave in
+    let P : BatchFile g.row.D.Denot → Type 0 = λ old. (rules : RulesFact) → LeavesRules seen may_leave old rules → LeavesRules seen may_leave c.append.new.self rules in
+    subst P c.self.view_is
+    (keeps_rules seen may_leave g.D.Device.moment g.D.Device.left_since c.self.inside.file c.append.new.self c.args.batch.now.facts c.bytes.result.now c.bytes.ensures.spelled c.in-Ok.ensures.settled c.in-Ok.ensures.added)

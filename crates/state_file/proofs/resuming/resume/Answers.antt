@@ -1,0 +1,71 @@
+use Rattle.std.proofs.Common.{rules, ◌≡◌, ◌⊎◌, ◌∙◌, ℕ, List, [], Err, Some, sym, ap, subst}
+use Rattle.std.specs.Prelude.{IfErr}
+use Rattle.batch_file.specs.Crashes.{LeavesOnly}
+use Rattle.batch_file.specs.Frames.{lists, recovered}
+use Rattle.batch_file.specs.declared.appending.BatchFile.{BatchFile}
+use Rattle.consent.specs.History.{Event}
+use Rattle.state_file.specs.Resuming.{RefusesResume}
+use Rattle.state_file.specs.Standing.{AreTold, StandsFor}
+use Rattle.state_file.specs.StandingLaws.{StandsFor-same}
+use Rattle.state_file.specs.Telling.{LeavesRules, Tell, TellsRules, rules_of}
+use Rattle.state_file.proofs.Compared.{wider}
+use Rattle.state_file.proofs.Left.{leaves_then, leaves_weaker}
+use Rattle.state_file.proofs.Refused.{no_start}
+use Rattle.state_file.proofs.Tells.{StandsOn, leaves_rules, leaves_standing}
+use Rattle.state_file.proofs.resuming.resume.Goals as goal
+
+pub returns-in_err-rules-clause-refused : goal.returns-in_err-rules-clause-refused
+returns-in_err-rules-clause-refused g c =
+    let are : lists c.deref.result.now ≡ recovered c.args.bytes.now = ap lists c.deref.ensures.value ∙ c.in_ok-found.ensures.batches ∙ ap recovered (sym c.requires.same) in
+    let is : c.from_residual-in_err-rules.result ≡ Err c.in_err-rules.field-0.0 = search rules in
+    subst (λ r. IfErr r (RefusesResume (recovered c.args.bytes.now) (rules_of c.args.registry))) (sym is)
+    (subst (λ (batches : List (List ℕ)). RefusesResume batches (rules_of c.args.registry) c.in_err-rules.field-0.0) are
+    (no_start (lists c.deref.result.now) (rules_of c.args.registry) c.in_err-rules.field-0.0 c.in_err-rules.ensures.refused))
+
+pub returns-clause-answers : goal.returns-clause-answers
+returns-clause-answers g c history stands right =
+    let are : recovered c.args.bytes.now ≡ lists c.deref-2.result.now = ap recovered c.requires.same ∙ sym c.in_ok-found.ensures.batches ∙ ap lists (sym c.deref-2.ensures.value) in
+    let told : AreTold (lists c.deref-2.result.now) stands.0 = subst (λ (bs : List (List ℕ)). AreTold bs stands.0) are stands.1 in
+    c.in_ok-redo_all.ensures.redone stands.0 told c.args.registry c.args.host [] history c.new-restored.ensures.fits stands.2 right
+
+pub returns-clause-held : goal.returns-clause-held
+returns-clause-held g c =
+    let seen = g.D.Device.seen in
+    let may_leave = g.D.Device.may_leave in
+    let same : recovered (seen c.recover.new.device) ≡ recovered c.args.bytes.now = c.in_ok-found.ensures.same ∙ ap recovered (sym c.requires.same) in
+    let P : BatchFile g.row.D.Denot → Type 0 = λ file. (history : List Event) → StandsFor c.args.bytes.now history → (left : List ℕ) → may_leave file.device left ⊎ (left ≡ seen file.device) → StandsFor left history in
+    subst P (sym c.new.ensures)
+    (λ history stands. leaves_standing seen may_leave c.tell.new.file history c.in_ok-tell.ensures.settled
+    (c.in_ok-tell.ensures.stands history (StandsFor-same c.args.bytes.now (seen c.recover.new.device) history same stands)))
+
+pub returns-clause-any_moment : goal.returns-clause-any_moment
+returns-clause-any_moment g c =
+    let seen = g.D.Device.seen in
+    let moment = g.D.Device.moment in
+    let left_since = g.D.Device.left_since in
+    let bytes = c.args.bytes.now in
+    let old = c.args.device in
+    let mid = c.recover.new.device in
+    let same : recovered (seen mid) ≡ recovered bytes = c.in_ok-found.ensures.same ∙ ap recovered (sym c.requires.same) in
+    let P : BatchFile g.row.D.Denot → Type 0 = λ file. LeavesOnly moment left_since old file.device (StandsOn bytes) in
+    subst P (sym c.new.ensures)
+    (leaves_then moment left_since old mid c.tell.new.file.device (StandsOn bytes)
+    (leaves_weaker moment left_since old mid (λ left. recovered left ≡ recovered (seen old)) (StandsOn bytes)
+    (λ left is history stands. StandsFor-same bytes left history (is ∙ ap recovered (sym c.requires.same)) stands) c.in_ok-found.ensures.any_moment)
+    (leaves_weaker moment left_since mid c.tell.new.file.device (StandsOn (seen mid)) (StandsOn bytes)
+    (λ left on history stands. on history (StandsFor-same bytes (seen mid) history same stands)) c.in_ok-tell.ensures.any_moment))
+
+pub returns-clause-wider : goal.returns-clause-wider
+returns-clause-wider g c old tells =
+    let are : recovered c.args.bytes.now ≡ lists c.deref.result.now = ap recovered c.requires.same ∙ sym c.in_ok-found.ensures.batches ∙ ap lists (sym c.deref.ensures.value) in
+    wider old c.args.registry (c.in_ok-rules.ensures.taken.1 (rules_of old) (subst (λ (batches : List (List ℕ)). Tell batches (rules_of old)) are tells))
+
+pub returns-clause-told : goal.returns-clause-told
+returns-clause-told g c =
+    let seen = g.D.Device.seen in
+    let may_leave = g.D.Device.may_leave in
+    let now = rules_of c.args.registry in
+    let told : TellsRules (seen c.tell.new.file.device) now =
+    (c.in_ok-rules.ensures.fit, c.in_ok-tell.ensures.told ∙ ap Some (c.deref-4.ensures.value ∙ c.in_ok-rules.ensures.spelled)) in
+    let P : BatchFile g.row.D.Denot → Type 0 = λ file. LeavesRules seen may_leave file now in
+    subst P (sym c.new.ensures) (leaves_rules seen may_leave c.tell.new.file now c.in_ok-tell.ensures.settled told)

@@ -1,0 +1,8 @@
+use Rattle.std.proofs.Common.{◌≡◌, take}
+use Rattle.std.specs.Option.{option_copied}
+use Rattle.batch_file.specs.Frames.{lists}
+use Rattle.state_file.specs.Telling.{last_rules}
+use Rattle.state_file.proofs.telling.last_rules.Given as goal
+
+abbrev pub invariant-loop-batch : goal.invariant-loop-batch
+invariant-loop-batch l = option_copied l.last ≡ last_rules (lists (take l.batch-index l.batches))

@@ -1,0 +1,91 @@
+-- When a registry's rules are as wide as those that a file tells, and where they first are not.
+use Rattle.std.specs.Prelude.{◌≡◌, ◌≤◌, ◌<◌, ◌^◌, ◌⊎◌, ℕ, List, [], ◌∷◌, length, map, Option, None, Some, if◌then◌else◌, string_bytes}
+use Rattle.std.specs.Str.{bytes_eq}
+use Rattle.consent.specs.History.{is_within}
+use Rattle.image_codec.specs.Facts.{ClientFact, RulesFact}
+use Rattle.image_codec.specs.Reading.{rules_reading}
+use Rattle.image_codec.specs.Spelling.{RulesCount, RulesFit, rules_spelling}
+use Rattle.std.specs.Prelude.{Err}
+use Rattle.state_file.specs.Telling.{last_rules, Tell, BeginWithRules}
+use Rattle.state_file.specs.declared.fault.StateFault.{StateFault}
+use Rattle.state_file.specs.declared.fault.StateFault.TheVariants.{Memory, Device, Full, TooLong, NoRules, Spelling, ScopeMoved, OwnerMoved, ClientMoved, ClientNarrowed, LifeNarrowed}
+
+-- the first of the names told that does not have its place now
+abbrev pub moved : List (List ℕ) → List (List ℕ) → Option (List ℕ)
+moved [] now = None
+moved (name ∷ names) [] = Some name
+moved (name ∷ names) (other ∷ others) = if bytes_eq name other then moved names others else Some name
+
+-- the first of the clients told that may not be allowed now all that it was
+abbrev pub narrowed : List ClientFact → List ClientFact → Option (List ℕ)
+narrowed [] now = None
+narrowed (c ∷ cs) [] = None
+narrowed (c ∷ cs) (d ∷ ds) = if is_within c.allowed d.allowed then narrowed cs ds else Some c.name
+
+abbrev pub client_names : List ClientFact → List (List ℕ)
+client_names clients = map (λ c. c.name) clients
+
+-- WHAT STAYS, in the order in which it is looked at: what is told comes first
+
+module _ (told now : RulesFact) where
+  abbrev pub KeepScopes : Type 0
+  KeepScopes = moved told.scopes now.scopes ≡ None
+
+  abbrev pub KeepOwners : Type 0
+  KeepOwners = KeepScopes × (told.owners ≤ now.owners)
+
+  abbrev pub KeepClients : Type 0
+  KeepClients = KeepOwners × (moved (client_names told.clients) (client_names now.clients) ≡ None)
+
+  abbrev pub KeepAllowed : Type 0
+  KeepAllowed = KeepClients × (narrowed told.clients now.clients ≡ None)
+
+  abbrev pub AreAsWide : Type 0
+  AreAsWide = KeepAllowed × (told.access_life ≤ now.access_life) × (told.refresh_life ≤ now.refresh_life)
+
+  -- the first of them that does not stay, by its fault
+  abbrev pub AreNarrower : StateFault → Type 0
+  AreNarrower (ScopeMoved name) = moved told.scopes now.scopes ≡ Some (string_bytes name)
+  AreNarrower OwnerMoved = KeepScopes × (now.owners < told.owners)
+  AreNarrower (ClientMoved name) = KeepOwners × (moved (client_names told.clients) (client_names now.clients) ≡ Some (string_bytes name))
+  AreNarrower (ClientNarrowed name) = KeepClients × (narrowed told.clients now.clients ≡ Some (string_bytes name))
+  AreNarrower LifeNarrowed = KeepAllowed × ((now.access_life < told.access_life) ⊎ (now.refresh_life < told.refresh_life))
+  AreNarrower Memory = Unit {0}
+  AreNarrower _ = ⊥
+
+-- WHY THEY ARE REFUSED
+
+-- the length of a name, or how many names there are, takes more than four bytes, or the length of all does
+abbrev pub IsTooLong : RulesFact → Type 0
+IsTooLong rules = (¬ RulesCount rules) ⊎ (2 ^ 32 ≤ length (rules_spelling rules))
+
+-- why the rules are not told
+abbrev pub IsUntold : RulesFact → StateFault → Type 0
+IsUntold rules TooLong = IsTooLong rules
+IsUntold rules Memory = Unit {0}
+IsUntold rules _ = ⊥
+
+-- why the spelling of rules is not written: the disk failed, or has no room, or memory was refused, or it is too long
+abbrev pub IsUnwritten : List ℕ → StateFault → Type 0
+IsUnwritten bytes TooLong = 2 ^ 32 ≤ length bytes
+IsUnwritten bytes Memory = Unit {0}
+IsUnwritten bytes Device = Unit {0}
+IsUnwritten bytes Full = Unit {0}
+IsUnwritten bytes _ = ⊥
+
+-- why rules are not taken where a batch tells others
+abbrev pub RefuseBeside : List ℕ → RulesFact → StateFault → Type 0
+RefuseBeside batch now Memory = Unit {0}
+RefuseBeside batch now (Spelling fault) = rules_reading batch ≡ Err fault
+RefuseBeside batch now fault = (told : RulesFact) × RulesFit told × (batch ≡ rules_spelling told) × AreNarrower told now fault
+
+-- why rules are not taken behind the batches
+abbrev pub RefuseRules : List (List ℕ) → RulesFact → StateFault → Type 0
+RefuseRules batches now Memory = Unit {0}
+RefuseRules batches now TooLong = IsTooLong now
+RefuseRules batches now NoRules = ¬ BeginWithRules batches
+RefuseRules batches now fault = (batch : List ℕ) × (last_rules batches ≡ Some batch) × RefuseBeside batch now fault
+
+-- the batches begin with rules, and those told last are ones that these are as wide as
+abbrev pub TakesRules : List (List ℕ) → RulesFact → Type 0
+TakesRules batches now = BeginWithRules batches × ((told : RulesFact) → Tell batches told → AreAsWide told now)

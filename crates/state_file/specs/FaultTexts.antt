@@ -1,0 +1,56 @@
+-- How faults are printed.
+use Rattle.std.specs.Prelude.{ℕ, List, codes, ◌++◌, string_bytes}
+use Rattle.change_codec.specs.FaultTexts.{change_fault_text}
+use Rattle.endpoints.specs.FaultTexts.{redo_fault_text}
+use Rattle.hook_host.specs.Faults.{hook_fault_text}
+use Rattle.change_codec.specs.declared.fault.DecodeFault.{DecodeFault}
+use Rattle.change_codec.specs.declared.fault.DecodeFault.TheVariants as decoding
+use Rattle.change_codec.specs.declared.fault.EncodeFault.{EncodeFault}
+use Rattle.change_codec.specs.declared.fault.EncodeFault.TheVariants as encoding
+use Rattle.batch_file.specs.declared.appending.BatchFault.{BatchFault}
+use Rattle.batch_file.specs.declared.appending.BatchFault.TheVariants as batch
+use Rattle.batch_file.specs.declared.device.DeviceFault.{DeviceFault}
+use Rattle.batch_file.specs.declared.device.DeviceFault.TheVariants as device
+use Rattle.endpoints.specs.declared.redo.RedoFault.{RedoFault}
+use Rattle.endpoints.specs.declared.redo.RedoFault.TheVariants as redoing
+use Rattle.state_file.specs.declared.fault.StateFault.{StateFault}
+use Rattle.state_file.specs.declared.fault.StateFault.TheVariants as state
+
+abbrev pub state_fault_text : StateFault → List ℕ
+state_fault_text state.Memory = codes "Memory"
+state_fault_text state.Device = codes "Device"
+state_fault_text state.Full = codes "Full"
+state_fault_text state.TooLong = codes "TooLong"
+state_fault_text state.NoRules = codes "NoRules"
+state_fault_text (state.Spelling fault) = codes "Spelling " ++ change_fault_text fault
+state_fault_text (state.ScopeMoved name) = codes "ScopeMoved " ++ string_bytes name
+state_fault_text state.OwnerMoved = codes "OwnerMoved"
+state_fault_text (state.ClientMoved name) = codes "ClientMoved " ++ string_bytes name
+state_fault_text (state.ClientNarrowed name) = codes "ClientNarrowed " ++ string_bytes name
+state_fault_text state.LifeNarrowed = codes "LifeNarrowed"
+state_fault_text (state.Follows fault) = codes "Follows " ++ redo_fault_text fault
+state_fault_text (state.HookDiffers name) = codes "HookDiffers " ++ string_bytes name
+state_fault_text (state.Hook name fault) = codes "Hook " ++ string_bytes name ++ codes " " ++ hook_fault_text fault
+
+-- a fault of a part as one of the state file
+abbrev pub of_decoding : DecodeFault → StateFault
+of_decoding decoding.Memory = state.Memory
+of_decoding (decoding.Bytes fault) = state.Spelling fault
+
+abbrev pub of_encoding : EncodeFault → StateFault
+of_encoding encoding.Memory = state.Memory
+of_encoding encoding.TooLong = state.TooLong
+
+abbrev pub of_redoing : RedoFault → StateFault
+of_redoing redoing.Memory = state.Memory
+of_redoing fault = state.Follows fault
+
+abbrev pub of_device : DeviceFault → StateFault
+of_device device.Memory = state.Memory
+of_device device.Failed = state.Device
+
+abbrev pub of_batch : BatchFault → StateFault
+of_batch batch.Memory = state.Memory
+of_batch batch.Failed = state.Device
+of_batch batch.Full = state.Full
+of_batch batch.TooLong = state.TooLong

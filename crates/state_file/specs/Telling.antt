@@ -1,0 +1,50 @@
+-- The rules that a state file tells.
+use Rattle.std.specs.Prelude.{◌≡◌, ◌⊎◌, ℕ, zero, List, [], ◌∷◌, length, map, Option, None, Some}
+use Rattle.std.specs.Option.{option_or}
+use Rattle.batch_file.specs.Frames.{recovered}
+use Rattle.batch_file.specs.declared.appending.BatchFile.{BatchFile}
+use Rattle.clients.specs.ClientRecord.{ClientRecord}
+use Rattle.clients.specs.RegistryRecord.{RegistryRecord}
+use Rattle.image_codec.specs.Facts.{ClientFact, RulesFact}
+use Rattle.image_codec.specs.Spelling.{RulesFit, rules_spelling}
+
+-- what is told of a client
+abbrev pub client_of : ClientRecord → ClientFact
+client_of client = record { name = client.id; allowed = client.allowed }
+
+-- what is told of a registry
+abbrev pub rules_of : RegistryRecord → RulesFact
+rules_of registry = record {
+  scopes = registry.scopes;
+  owners = length registry.owners;
+  clients = map client_of registry.clients;
+  access_life = registry.access_life;
+  refresh_life = registry.refresh_life;
+}
+
+-- the batch, if it is one of rules: those begin with a byte 0
+abbrev pub rules_in : List ℕ → Option (List ℕ)
+rules_in (zero ∷ fields) = Some (0 ∷ fields)
+rules_in _ = None
+
+-- the last batch of rules
+abbrev pub last_rules : List (List ℕ) → Option (List ℕ)
+last_rules [] = None
+last_rules (batch ∷ batches) = option_or (last_rules batches) (rules_in batch)
+
+-- the last batch of rules spells these
+abbrev pub Tell : List (List ℕ) → RulesFact → Type 0
+Tell batches rules = RulesFit rules × (last_rules batches ≡ Some (rules_spelling rules))
+
+-- so it is of the batches that the bytes stand for
+abbrev pub TellsRules : List ℕ → RulesFact → Type 0
+TellsRules left rules = Tell (recovered left) rules
+
+-- so it is of the file, and of all that a crash may leave of it
+abbrev pub LeavesRules : {D : Type 0} → (D → List ℕ) → (D → List ℕ → Type 0) → BatchFile D → RulesFact → Type 0
+LeavesRules seen may_leave file rules = (c : List ℕ) → may_leave file.device c ⊎ (c ≡ seen file.device) → TellsRules c rules
+
+-- the first batch, if there is one, is one of rules
+abbrev pub BeginWithRules : List (List ℕ) → Type 0
+BeginWithRules [] = Unit {0}
+BeginWithRules (batch ∷ batches) = rules_in batch ≡ Some batch

@@ -1,0 +1,69 @@
+//! Whether a registry's rules are as wide as those that a file tells.
+
+ghost use Rattle.std.specs.Prelude.{◌≡◌, OnOk, IfErr, map, option_copied};
+ghost use Rattle.image_codec.specs.Facts.{client_fact, rules_fact};
+ghost use Rattle.state_file.specs.Comparing.{AreAsWide, AreNarrower, client_names, moved, narrowed};
+
+use crate::fault::StateFault;
+use image_codec::{ClientRules, Rules};
+use std::alloc::Global;
+
+/// The first of the names that does not have its place now.
+fn moved_scope<'b>(told: &[&'b str], now: &[&str]) -> Option<&'b str>
+    ensures { option_copied result ≡ moved (map (λ s. s.now) told.now) (map (λ s. s.now) now.now) }
+{
+    for i in 0..told.len() {
+        if i >= now.len() || told[i] != now[i] {
+            return Some(told[i]);
+        }
+    }
+    None
+}
+
+/// The first of the clients whose name does not have its place now.
+fn moved_client<'b>(told: &[ClientRules<'b>], now: &[ClientRules]) -> Option<&'b str>
+    ensures { option_copied result ≡ moved (client_names (map client_fact told.now)) (client_names (map client_fact now.now)) }
+{
+    for i in 0..told.len() {
+        if i >= now.len() || told[i].name != now[i].name {
+            return Some(told[i].name);
+        }
+    }
+    None
+}
+
+/// The first of the clients that may not be allowed now all that it was.
+fn narrowed_client<'b>(told: &[ClientRules<'b>], now: &[ClientRules]) -> Option<&'b str>
+    ensures { option_copied result ≡ narrowed (map client_fact told.now) (map client_fact now.now) }
+{
+    for i in 0..told.len() {
+        if i < now.len() && told[i].allowed & now[i].allowed != told[i].allowed {
+            return Some(told[i].name);
+        }
+    }
+    None
+}
+
+/// Tests whether rules are as wide as those told: the scopes and how many owners there are, the clients in their order, what
+/// each may be allowed, and the lives of tokens.
+pub(crate) fn compare(alloc: Global, told: &Rules<'_>, now: &Rules<'_>) -> Result<(), StateFault>
+    ensures wide { OnOk result (AreAsWide (rules_fact told.now) (rules_fact now.now)) }
+    ensures refused { IfErr result (AreNarrower (rules_fact told.now) (rules_fact now.now)) }
+{
+    if let Some(name) = moved_scope(&told.scopes, &now.scopes) {
+        return Err(StateFault::ScopeMoved(String::from_str(alloc, name)?));
+    }
+    if now.owners < told.owners {
+        return Err(StateFault::OwnerMoved);
+    }
+    if let Some(name) = moved_client(&told.clients, &now.clients) {
+        return Err(StateFault::ClientMoved(String::from_str(alloc, name)?));
+    }
+    if let Some(name) = narrowed_client(&told.clients, &now.clients) {
+        return Err(StateFault::ClientNarrowed(String::from_str(alloc, name)?));
+    }
+    if now.access_life < told.access_life || now.refresh_life < told.refresh_life {
+        return Err(StateFault::LifeNarrowed);
+    }
+    Ok(())
+}

@@ -1,0 +1,59 @@
+//! Making the changes of a state file again.
+
+ghost use Rattle.std.specs.Prelude.{OnOk, IfErr, [], ◌∷◌};
+ghost use Rattle.batch_file.specs.Frames.{lists};
+ghost use Rattle.change_codec.specs.Spelling.{dated_facts};
+ghost use Rattle.state_file.specs.Resuming.{IsOfChanges, Redoes, RedoesBatches};
+
+use crate::fault::StateFault;
+use crate::restored::Restored;
+use change_codec::{DatedChange, decode};
+use endpoints::RedoFault;
+use hook_host::HookHost;
+use std::alloc::Global;
+
+#[tactic(auto, using(crate::proofs::Redone::redoes_none))]
+fn redo_each<H: HookHost>(
+    restored: &mut Restored<H>,
+    changes: &[DatedChange],
+) -> Result<(), RedoFault>
+    ensures { OnOk result (Redoes H.HookHost restored.old (dated_facts changes.now) restored.new) }
+{
+    for dated in changes {
+        restored.redo(dated)?;
+    }
+    Ok(())
+}
+
+#[tactic(auto, using(crate::proofs::Redone::redoes_rules))]
+fn redo_batch<H: HookHost>(
+    alloc: Global,
+    restored: &mut Restored<H>,
+    batch: &[u8],
+) -> Result<(), StateFault>
+    ensures redone { OnOk result (RedoesBatches H.HookHost restored.old (batch.now ∷ []) restored.new) }
+    ensures refused { IfErr result IsOfChanges }
+{
+    if let [0, ..] = batch {
+        return Ok(());
+    }
+    let changes = decode(alloc, batch)?;
+    redo_each(restored, &changes)?;
+    Ok(())
+}
+
+/// Makes the changes of the batches again.
+#[tactic(auto, using(crate::proofs::Redone::redoes_no_batch))]
+pub(crate) fn redo_all<H: HookHost>(
+    alloc: Global,
+    restored: &mut Restored<H>,
+    batches: &[Vec<u8>],
+) -> Result<(), StateFault>
+    ensures redone { OnOk result (RedoesBatches H.HookHost restored.old (lists batches.now) restored.new) }
+    ensures refused { IfErr result IsOfChanges }
+{
+    for batch in batches {
+        redo_batch(alloc, restored, batch)?;
+    }
+    Ok(())
+}

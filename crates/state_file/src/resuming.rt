@@ -1,0 +1,74 @@
+//! Starting a server on a state file.
+
+ghost use Rattle.std.specs.Prelude.{◌≡◌, ◌⊎◌, IfOk, IfErr, List};
+ghost use Rattle.batch_file.specs.Crashes.{LeavesOnly, Only};
+ghost use Rattle.change_codec.specs.Keeping.{Holds, crashes};
+ghost use Rattle.clients.specs.RegistryRecord.{RegistryRecord};
+ghost use Rattle.consent.specs.History.{Event};
+ghost use Rattle.endpoints.specs.Widening.{IsWider};
+ghost use Rattle.batch_file.specs.Frames.{recovered};
+ghost use Rattle.state_file.specs.Resuming.{AnswersFor, RefusesResume};
+ghost use Rattle.state_file.specs.Standing.{StandsFor};
+ghost use Rattle.state_file.specs.Telling.{BeginWithRules, LeavesRules, TellsRules, rules_of};
+
+use crate::fault::StateFault;
+use crate::keeper::StateKeeper;
+use crate::redoing::redo_all;
+use crate::restored::Restored;
+use crate::telling::{rules_behind, tell};
+use batch_file::appending::{BatchFile, recover};
+use batch_file::device::Device;
+use clients::Registry;
+use hook_host::HookHost;
+use std::alloc::Global;
+
+/// A server that was started on a state file, and what keeps its changes there.
+#[derive(Drop)]
+pub struct Resumed<D: Device, H> {
+    pub restored: Restored<H>,
+    pub keeper: StateKeeper<D>,
+}
+
+/// Starts a server on the bytes of a state file, whatever a crash left there: all changes of its whole batches are made
+/// again under these rules, which are then told by the file.
+pub fn resume<D: Device + Drop, H: HookHost>(
+    alloc: Global,
+    mut device: D,
+    bytes: &[u8],
+    registry: Registry,
+    host: H,
+) -> Result<Resumed<D, H>, StateFault>
+    requires same { bytes.now ≡ D.seen device }
+    // After a restart, what is read is what is on the disk.
+    requires durable { Only (D.seen device) (D.may_leave device) }
+    ensures answers { IfOk result (λ resumed. AnswersFor H.HookHost bytes.now registry host resumed.restored) }
+    // All that a crash may leave from then on stands for what the bytes stood for.
+    ensures held { IfOk result (λ resumed. (history : List Event) → StandsFor bytes.now history →
+        Holds (crashes StandsFor (λ f c. D.may_leave f.device c ⊎ (c ≡ D.seen f.device)) (λ f. D.moment f.device) (λ f. D.left_since f.device))
+        resumed.keeper history) }
+    // So does what a crash meanwhile left.
+    ensures any_moment { IfOk result (λ resumed. LeavesOnly D.moment D.left_since device resumed.keeper.device
+        (λ left. (history : List Event) → StandsFor bytes.now history → StandsFor left history)) }
+    // The registry's rules are as wide as those that the file told.
+    ensures wider { IfOk result (λ _. (old : RegistryRecord) → TellsRules bytes.now (rules_of old) → IsWider old registry) }
+    ensures begun { IfOk result (λ _. BeginWithRules (recovered bytes.now)) }
+    // All that a crash may leave from then on tells the registry's rules.
+    ensures told { IfOk result (λ resumed. LeavesRules D.seen D.may_leave resumed.keeper (rules_of registry)) }
+    ensures unwritten { IfOk result (λ resumed. TellsRules bytes.now (rules_of registry) →
+        recovered (D.seen resumed.keeper.device) ≡ recovered bytes.now) }
+    ensures refused { IfErr result (RefusesResume (recovered bytes.now) (rules_of registry)) }
+{
+    let found = recover(alloc, &mut device, bytes)?;
+    let rules = rules_behind(alloc, &found.batches, &registry)?;
+    let mut restored = Restored::new(alloc, registry, host);
+    redo_all(alloc, &mut restored, &found.batches)?;
+    let mut file = BatchFile {
+        device,
+        end: found.end,
+    };
+    tell(alloc, &mut file, &found.batches, &rules)?;
+    Ok(Resumed {
+        restored,
+        keeper: StateKeeper::new(alloc, file),
+    })
+}

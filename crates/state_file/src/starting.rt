@@ -1,0 +1,108 @@
+//! A server that goes on from a state file, with the hooks that it is started with.
+
+ghost use Rattle.std.specs.Prelude.{◌≡◌, ◌⊎◌, IfOk, IfErr, OnOk, map};
+ghost use Rattle.batch_file.specs.Crashes.{LeavesOnly, Only};
+ghost use Rattle.batch_file.specs.Frames.{recovered};
+ghost use Rattle.change_codec.specs.Keeping.{Holds, crashes};
+ghost use Rattle.clients.specs.RegistryRecord.{RegistryRecord};
+ghost use Rattle.endpoints.specs.Server.{NowNotes};
+ghost use Rattle.endpoints.specs.Widening.{IsWider};
+ghost use Rattle.image_codec.specs.Facts.{RulesFact, hook_fact};
+ghost use Rattle.state_file.specs.Hooks.{AreSet, with_hooks};
+ghost use Rattle.state_file.specs.Resuming.{AnswersFor, KeepsNoted, OfEach, RefusesResume, RefusesSome, ServesOn};
+ghost use Rattle.state_file.specs.Standing.{StandsFor};
+ghost use Rattle.state_file.specs.Telling.{LeavesRules, TellsRules, rules_of};
+
+use crate::fault::StateFault;
+use crate::keeper::StateKeeper;
+use crate::restored::Restored;
+use crate::resuming::{Resumed, resume};
+use batch_file::device::Device;
+use change_codec::KeepFault;
+use clients::Registry;
+use consent::Moment;
+use endpoints::Server;
+use hook_host::HookHost;
+use image_codec::KeptHook;
+use std::alloc::Global;
+
+/// A server that goes on from a state file, and notes what happens; what keeps that; and the moment from which it goes on.
+#[derive(Drop)]
+pub struct Started<D: Device, H> {
+    pub server: Server<H>,
+    pub keeper: StateKeeper<D>,
+    pub moment: Moment,
+}
+
+/// Keeps what the server has noted, all of it or nothing. Nothing is unkept then.
+fn keep_noted<D: Device, H: HookHost>(
+    server: &mut Server<H>,
+    keeper: &mut StateKeeper<D>,
+) -> Result<(), KeepFault>
+    ensures same { NowNotes server.old server.new server.new.unkept }
+    ensures kept { OnOk result (KeepsNoted (crashes StandsFor (λ f c. D.may_leave f.device c ⊎ (c ≡ D.seen f.device))
+        (λ f. D.moment f.device) (λ f. D.left_since f.device)) server.old server.new keeper.old keeper.new) }
+    ensures told { OnOk result ((rules : RulesFact) → LeavesRules D.seen D.may_leave keeper.old rules → LeavesRules D.seen D.may_leave keeper.new rules) }
+{
+    let Some(batch) = server.unkept() else {
+        return Ok(());
+    };
+    if batch.is_empty() {
+        return Ok(());
+    }
+    keeper.keep_all(batch)?;
+    server.forget_unkept();
+    Ok(())
+}
+
+/// Starts a server on the bytes of a state file, whatever a crash left there, with hooks. All changes of its whole batches
+/// are made again under these rules. A hook is then set, unless it is, at the moment of the last change. All that is kept
+/// when it is done.
+pub fn start_on<D: Device + Drop, H: HookHost>(
+    alloc: Global,
+    device: D,
+    bytes: &[u8],
+    registry: Registry,
+    host: H,
+    hooks: &[KeptHook<'_>],
+) -> Result<Started<D, H>, StateFault>
+    requires same { bytes.now ≡ D.seen device }
+    // After a restart, what is read is what is on the disk.
+    requires durable { Only (D.seen device) (D.may_leave device) }
+    ensures serves { IfOk result (λ started. OfEach bytes.now (λ history.
+        ServesOn H.HookHost started registry host (with_hooks started.moment history (map hook_fact hooks.now)))) }
+    ensures hooks { IfOk result (λ started. OfEach bytes.now (λ history.
+        AreSet (map hook_fact hooks.now) (with_hooks started.moment history (map hook_fact hooks.now)))) }
+    // All that a crash may leave from then on stands for the history with these hooks.
+    ensures held { IfOk result (λ started. OfEach bytes.now (λ history.
+        Holds (crashes StandsFor (λ f c. D.may_leave f.device c ⊎ (c ≡ D.seen f.device)) (λ f. D.moment f.device) (λ f. D.left_since f.device))
+        started.keeper (with_hooks started.moment history (map hook_fact hooks.now)))) }
+    // What a crash meanwhile left stands for the history with these hooks, or without them.
+    ensures any_moment { IfOk result (λ started. OfEach bytes.now (λ history. LeavesOnly D.moment D.left_since device started.keeper.device
+        (λ left. StandsFor left history ⊎ StandsFor left (with_hooks started.moment history (map hook_fact hooks.now))))) }
+    // The registry's rules are as wide as those that the file told.
+    ensures wider { IfOk result (λ _. (old : RegistryRecord) → TellsRules bytes.now (rules_of old) → IsWider old registry) }
+    // All that a crash may leave from then on tells the registry's rules.
+    ensures told { IfOk result (λ started. LeavesRules D.seen D.may_leave started.keeper (rules_of registry)) }
+    ensures refused { IfErr result (λ fault. RefusesResume (recovered bytes.now) (rules_of registry) fault
+        ⊎ RefusesSome H.HookHost (AnswersFor H.HookHost bytes.now registry host) (map hook_fact hooks.now) fault) }
+{
+    let mut resumed = resume(alloc, device, bytes, registry, host)?;
+    resumed.restored.server.begin_noting()?;
+    resumed.restored.set_hooks(alloc, hooks)?;
+    let Resumed {
+        restored,
+        mut keeper,
+    } = resumed;
+    let Restored {
+        mut server,
+        moment,
+        hooks: _hooks,
+    } = restored;
+    keep_noted(&mut server, &mut keeper)?;
+    Ok(Started {
+        server,
+        keeper,
+        moment,
+    })
+}
