@@ -29,6 +29,8 @@ oauthd start ADDR CONFIG   serves until it is stopped, at an address, with the r
 oauthd serve ADDR CONFIG SEEDHEX COUNT
                            serves so many connections and ends, with draws by a seed
     oauthd serve 127.0.0.1:8080 registry.json 0707070707070707070707070707070707070707070707070707070707070707 1
+oauthd registry FILE       says what the registry of a file has, or where its first fault is
+    oauthd registry registry.json
 oauthd replay FILE         prints what the server of a transcript sends to each connection
     oauthd replay transcript.txt
 oauthd help NAME           says what a command or a fault means

@@ -3,4 +3,6 @@ mod HexReading
 mod Lists
 mod Naming
 mod Refusing
+mod Resuming
 mod Hooking
+pub mod Beginning

@@ -23,6 +23,7 @@ use Rattle.oauthd.specs.Help.{IsExplained, IsPage}
 use Rattle.oauthd.specs.HexText.{IsHexOf, IsNoHex}
 use Rattle.oauthd.specs.Judge.{IsJudged, asked_in}
 use Rattle.oauthd.specs.Printed.{judged_text}
+use Rattle.oauthd.specs.Registries.{IsRegistryTold}
 use Rattle.oauthd.specs.Telling.{IsAskedAs, IsExplainedOn, IsListedWithSlotsAs}
 use Rattle.oauthd.specs.Transcripts.{IsReplayedAs}
 
@@ -82,6 +83,7 @@ IsAnsweredBy (commands.ListSlots path) file outcome = IsListedWithSlotsAs path.n
 IsAnsweredBy (commands.Check layout path) file outcome = IsCheckedOn layout path.now file outcome
 IsAnsweredBy (commands.Why layout path) file outcome = IsExplainedOn layout path.now file outcome
 IsAnsweredBy (commands.Ask layout words) file outcome = IsAskedAs layout words outcome
+IsAnsweredBy (commands.Registry path) file outcome = IsRegistryTold path.now file outcome
 IsAnsweredBy (commands.Replay path) file outcome = IsReplayedAs path.now file outcome
 IsAnsweredBy (commands.Help word) file outcome = IsPage PAGE.now outcome
 IsAnsweredBy (commands.Explain name) file outcome = IsExplained name.now outcome

@@ -10,9 +10,13 @@ use Rattle.clients.specs.declared.fault.ConfigFault.{ConfigFault}
 use Rattle.clients.specs.declared.fault.ConfigFault.TheVariants as config
 use Rattle.daemon.specs.declared.fault.ListenFault.{ListenFault}
 use Rattle.daemon.specs.declared.fault.ListenFault.TheVariants as listen
+use Rattle.batch_file.specs.declared.disk_file.OpenFault.{OpenFault}
+use Rattle.batch_file.specs.declared.disk_file.OpenFault.TheVariants as opening
+use Rattle.state_file.specs.declared.fault.StateFault.{StateFault}
+use Rattle.state_file.specs.declared.fault.StateFault.TheVariants as state
 use Rattle.transcript.specs.declared.fault.ReplayFault.{ReplayFault}
 use Rattle.transcript.specs.declared.fault.ReplayFault.TheVariants as replay
-use Rattle.oauthd.specs.declared.fault.PerformFault.TheVariants.{Text, Insn, Verify, Config, BadLine, Event, CannotListen, NoSeed, OutOfMemory, CannotWrite}
+use Rattle.oauthd.specs.declared.fault.PerformFault.TheVariants.{Text, Insn, Verify, Config, BadLine, Event, Unopened, State, CannotListen, NoSeed, OutOfMemory, CannotWrite}
 
 abbrev pub of_decoding : InsnFault → PerformFault
 of_decoding insn.Memory = OutOfMemory
@@ -35,6 +39,14 @@ of_replaying (replay.Config fault) = Config fault
 of_replaying (replay.BadLine line) = BadLine line
 of_replaying (replay.Refused line fault) = Event line fault
 of_replaying replay.Memory = OutOfMemory
+
+abbrev pub of_opening : OpenFault → PerformFault
+of_opening opening.Memory = OutOfMemory
+of_opening fault = Unopened fault
+
+abbrev pub of_state : StateFault → PerformFault
+of_state state.Memory = OutOfMemory
+of_state fault = State fault
 
 abbrev pub of_listening : ListenFault → PerformFault
 of_listening listen.NoSeed = NoSeed

@@ -6,6 +6,9 @@ use Rattle.hook_host.specs.declared.fault.HookFault.{HookFault}
 use Rattle.hook_host.specs.declared.fault.HookFault.TheVariants as memory
 use Rattle.oauthd.specs.declared.fault.PerformFault.{PerformFault}
 use Rattle.oauthd.specs.declared.fault.PerformFault.TheVariants.{CannotRead, Hook, OutOfMemory}
+use Rattle.hook_host.specs.Versions.{version_of}
+use Rattle.image_codec.specs.Facts.{HookFact}
+use Rattle.oauthd.specs.declared.hook_files.HookCode.{HookCode}
 use Rattle.oauthd.specs.declared.hook_files.HookRead.{HookRead}
 use Rattle.oauthd.specs.File.{File}
 use Rattle.oauthd.specs.HexText.{IsHexOf, IsNoHex}
@@ -25,6 +28,21 @@ said_of hooks = map (λ h. h.said) hooks
 -- the code in a file: the bytes that its text is hex of, or the file itself, where it is no hex
 abbrev pub HoldsCode : File → List ℕ → Type 0
 HoldsCode file code = IsSomeAnd file (λ text. IsHexOf text code ⊎ (IsNoHex text × (code ≡ text)))
+
+-- a hook's name, the version of its record, and the code in its file
+pub record IsFactOf (hook : HookInFile) (fact : HookFact) : Type 0 where
+  pub name : fact.name ≡ hook.said.name
+  pub version : fact.version ≡ version_of hook.said.layout
+  pub held : HoldsCode hook.file fact.code
+
+-- those of each
+abbrev pub AreFactsOf : List HookInFile → List HookFact → Type 0
+AreFactsOf [] [] = ⊤
+AreFactsOf (hook ∷ hooks) (fact ∷ facts) = IsFactOf hook fact × AreFactsOf hooks facts
+AreFactsOf hooks facts = ⊥
+
+abbrev pub fact_of : HookCode → HookFact
+fact_of code = record { name = code.hook.name.now; version = version_of code.hook.layout; code = code.code.items }
 
 -- a hook's code is installed under its name, behind the hooks before
 pub record TakesHook (before : List Named) (hook : HookInFile) (after : List Named) : Type 0 where

@@ -11,7 +11,9 @@ pub mod Judge
 pub mod Listening
 pub mod Performed
 pub mod Printed
+pub mod Registries
 pub mod Services
+pub mod Startings
 pub mod Statuses
 pub mod Telling
 pub mod Transcripts

@@ -1,9 +1,8 @@
 -- How a service serves, or why it doesn't, or no longer.
-use Rattle.std.specs.Prelude.{◌≡◌, ◌⊎◌, ℕ, List, [], map, Option, option_map}
+use Rattle.std.specs.Prelude.{◌≡◌, ◌⊎◌, ℕ, List, [], map, Option, option_map, IsSome}
 use Rattle.std.specs.Io.KnownBytes.{Appends}
 use Rattle.clients.specs.RegistryRecord.{RegistryRecord}
 use Rattle.daemon.specs.Listening.{Announces}
-use Rattle.daemon.specs.declared.patience.Patience.{Patience}
 use Rattle.daemon.specs.declared.fault.ListenFault.{ListenFault}
 use Rattle.event_loop.specs.declared.fault.LoopFault.{LoopFault}
 use Rattle.oauthd.specs.declared.call_files.CallFiles.{CallFiles}
@@ -19,10 +18,12 @@ use Rattle.oauthd.specs.declared.service.Service.TheVariants.{Serve, Start}
 use Rattle.oauthd.specs.Config.{HoldsNoRegistry, HoldsRegistry}
 use Rattle.oauthd.specs.Faults.{of_listening}
 use Rattle.oauthd.specs.File.{File}
-use Rattle.oauthd.specs.Hooks.{HookInFile, in_file, RefusesHooks, TakesHooks}
+use Rattle.oauthd.specs.Hooks.{AreFactsOf, HookInFile, in_file, RefusesHooks, TakesHooks}
 use Rattle.hook_chain.specs.Chains.{Named}
+use Rattle.image_codec.specs.Facts.{HookFact}
 use Rattle.oauthd.specs.Printed.{told_text}
 use Rattle.oauthd.specs.Services.{config_of, patience_of}
+use Rattle.oauthd.specs.Startings.{RefusesState, Startings, handed, starting_of}
 use Rattle.oauthd.specs.Statuses.{status_of}
 
 -- what stands in a service's files: the registry's, and those of its hooks
@@ -37,10 +38,6 @@ files_of registry hooks = record { registry = registry; hooks = map in_file hook
 -- what stands in the files that a call names
 abbrev pub files_in : CallFiles → ServiceFiles
 files_in files = files_of (option_map (λ v. v.items) files.named) files.hooks.items
-
--- what comes of a server that is started with a registry, with hooks and with so much patience, until it can't go on
-abbrev pub Starting : Type 1
-Starting = RegistryRecord → List Named → Patience → LoopFault → Type 0
 
 -- a service's file holds a registry, and it was printed where its server listens
 pub record HasListened (file : File) (old new : Option (List ℕ)) : Type 0 where
@@ -69,9 +66,24 @@ pub record LacksHook (service : Service) (files : ServiceFiles) (fault : Perform
   pub service_is : service ≡ Start given
   pub refused : RefusesHooks [] files.hooks fault
 
--- why a service serves nothing: the file comes first, then its registry, then its hooks, and then the server's socket
+-- `start` has all its hooks, and no server is started on the file that it names for its state, for this fault
+pub record LacksState (service : Service) (files : ServiceFiles) (fault : PerformFault) : Type 0 where
+  pub registry : RegistryRecord
+  pub held : HoldsRegistry files.registry registry
+  pub given : StartWords
+  pub service_is : service ≡ Start given
+  pub hooks : List Named
+  pub taken : TakesHooks [] files.hooks hooks
+  pub codes : List HookFact
+  pub coded : AreFactsOf files.hooks codes
+  pub named : IsSome given.options.state
+  pub refused : RefusesState registry codes fault
+
+-- why a service serves nothing: the file comes first, then its registry, then its hooks, then its state, and then the server's
+-- socket
 abbrev pub ServesNothing : Service → ServiceFiles → PerformFault → Type 0
-ServesNothing service files fault = HoldsNoRegistry (config_of service) files.registry fault ⊎ LacksHook service files fault ⊎ IsDeaf files.registry fault
+ServesNothing service files fault =
+    HoldsNoRegistry (config_of service) files.registry fault ⊎ LacksHook service files fault ⊎ LacksState service files fault ⊎ IsDeaf files.registry fault
 
 -- why a service serves nothing is told, and the status is that of the fault
 pub record TellsNoService (service : Service) (files : ServiceFiles) (status : Status) (old new : Option (List ℕ)) : Type 0 where
@@ -80,25 +92,28 @@ pub record TellsNoService (service : Service) (files : ServiceFiles) (status : S
   pub ended : status ≡ status_of fault
   pub told : Appends old new (told_text fault)
 
--- `start` had all its hooks, and served connections with them until its server could not go on, for this fault
-pub record HasStopped (starts : Starting) (service : Service) (files : ServiceFiles) (fault : PerformFault) (old new : Option (List ℕ)) : Type 0 where
+-- `start` had all its hooks, and its server, on the file of its state where one is named, served connections until it could not
+-- go on, for this fault
+pub record HasStopped (starts : Startings) (service : Service) (files : ServiceFiles) (fault : PerformFault) (old new : Option (List ℕ)) : Type 0 where
   pub listened : HasListened files.registry old new
   pub given : StartWords
   pub service_is : service ≡ Start given
   pub hooks : List Named
   pub taken : TakesHooks [] files.hooks hooks
+  pub codes : List HookFact
+  pub coded : AreFactsOf files.hooks codes
   pub cause : LoopFault
-  pub started : starts listened.registry hooks (patience_of given.options) cause
+  pub started : starting_of starts given.options.state (handed listened.registry hooks codes (patience_of given.options)) cause
   pub fault_is : fault ≡ Stopped cause
 
 -- A service ends with a fault, with what it prints seen as the bytes so far: it serves nothing, and has told nothing, or it
 -- stopped.
-abbrev pub FailsService : {W E : Type 0} → Starting → (W → Option (List ℕ)) → Service → ServiceFiles → PerformFault → W → W → E → E → Type 0
+abbrev pub FailsService : {W E : Type 0} → Startings → (W → Option (List ℕ)) → Service → ServiceFiles → PerformFault → W → W → E → E → Type 0
 FailsService starts of_out service files fault out out' err err' =
     ((err' ≡ err) × ServesNothing service files fault) ⊎ HasStopped starts service files fault (of_out out) (of_out out')
 
 -- so it did, which is told behind the lines of connections that ended, and the status is that of the fault
-pub record TellsStop (starts : Starting) (service : Service) (files : ServiceFiles) (status : Status) (old new told_then : Option (List ℕ)) : Type 0 where
+pub record TellsStop (starts : Startings) (service : Service) (files : ServiceFiles) (status : Status) (old new told_then : Option (List ℕ)) : Type 0 where
   pub fault : PerformFault
   pub stopped : HasStopped starts service files fault old new
   pub ended : status ≡ status_of fault
@@ -107,7 +122,7 @@ pub record TellsStop (starts : Starting) (service : Service) (files : ServiceFil
 
 -- A service ends, with what it prints and what it tells, each seen as the bytes so far: it served, or serves nothing, or
 -- stopped.
-abbrev pub EndsService : {W E : Type 0} → Starting → (W → Option (List ℕ)) → (E → Option (List ℕ)) → Service → ServiceFiles → Status → W → W → E → E → Type 0
+abbrev pub EndsService : {W E : Type 0} → Startings → (W → Option (List ℕ)) → (E → Option (List ℕ)) → Service → ServiceFiles → Status → W → W → E → E → Type 0
 EndsService starts of_out of_err service files status out out' err err' =
     ((status ≡ Done) × HasServed service files (of_out out) (of_out out'))
     ⊎ TellsNoService service files status (of_err err) (of_err err')

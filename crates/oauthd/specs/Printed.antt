@@ -7,17 +7,22 @@ use Rattle.hook_record.specs.declared.Narrowed.{Narrowed}
 use Rattle.hook_record.specs.declared.Narrowed.TheVariants.{Allowed, Denied, EmptyScope}
 use Rattle.insn.specs.FaultTexts.{insn_fault_text, verify_fault_text}
 use Rattle.clients.specs.FaultTexts.{config_fault_text}
+use Rattle.clients.specs.Spots.{spot_text}
 use Rattle.hook_host.specs.Faults.{hook_fault_text}
 use Rattle.http_edge.specs.FaultTexts.{edge_fault_text}
 use Rattle.event_loop.specs.FaultTexts.{loop_fault_text}
+use Rattle.event_loop.specs.declared.fault.LoopFault.{LoopFault}
+use Rattle.event_loop.specs.declared.fault.LoopFault.TheVariants.{Keep}
 use Rattle.start_words.specs.FaultTexts.{word_fault_text}
+use Rattle.batch_file.specs.FaultTexts.{open_fault_text}
+use Rattle.state_file.specs.FaultTexts.{state_fault_text}
 use Rattle.assembler.specs.declared.fault.AsmFault.{AsmFault}
 use Rattle.assembler.specs.Reports.{line_of_fault, name_of_fault}
 use Rattle.oauthd.specs.declared.judge.Judged.{Judged}
 use Rattle.oauthd.specs.declared.answer.Answer.{Answer}
 use Rattle.oauthd.specs.declared.answer.Answer.TheVariants as answers
 use Rattle.oauthd.specs.declared.fault.PerformFault.{PerformFault}
-use Rattle.oauthd.specs.declared.fault.PerformFault.TheVariants.{BadArguments, BadWord, BadRecord, CannotRead, IsElf, IsNotHex, Text, Insn, Verify, Config, Hook, BadLine, Event, CannotListen, NoSeed, Stopped, OutOfMemory, CannotWrite}
+use Rattle.oauthd.specs.declared.fault.PerformFault.TheVariants.{BadArguments, BadWord, BadRecord, CannotRead, IsElf, IsNotHex, Text, Insn, Verify, Config, ConfigAt, Hook, BadLine, Event, Unopened, State, CannotListen, NoSeed, Stopped, OutOfMemory, CannotWrite}
 
 -- what is left of a grant, in words
 abbrev pub narrowed_text : Narrowed → List ℕ
@@ -43,6 +48,11 @@ answer_text (answers.Page text) = text.now
 abbrev pub located_text : AsmFault → List ℕ
 located_text fault = option_map_or (λ line. codes "line " ++ decimal line ++ codes ": ") (line_of_fault fault) [] ++ name_of_fault fault
 
+-- why a server can't go on: where it can't keep its state, that is named
+abbrev pub stop_text : LoopFault → List ℕ
+stop_text Keep = codes "State"
+stop_text fault = loop_fault_text fault
+
 abbrev pub fault_text : PerformFault → List ℕ
 fault_text BadArguments = codes "bad arguments"
 fault_text (BadWord word fault) = codes "bad arguments: " ++ word.now ++ codes " " ++ word_fault_text fault
@@ -54,12 +64,15 @@ fault_text (Text fault) = located_text fault
 fault_text (Insn fault) = codes "Insn " ++ insn_fault_text fault
 fault_text (Verify fault) = codes "Verify " ++ verify_fault_text fault
 fault_text (Config fault) = codes "Config " ++ config_fault_text fault
+fault_text (ConfigAt fault spot) = codes "Config " ++ config_fault_text fault ++ codes " at " ++ spot_text spot
 fault_text (Hook name fault) = codes "hook " ++ name.now ++ codes ": " ++ hook_fault_text fault
 fault_text (BadLine line) = codes "line " ++ decimal line ++ codes ": bad line"
 fault_text (Event line fault) = codes "line " ++ decimal line ++ codes ": " ++ edge_fault_text fault
+fault_text (Unopened fault) = codes "State " ++ open_fault_text fault
+fault_text (State fault) = codes "State " ++ state_fault_text fault
 fault_text CannotListen = codes "cannot listen"
 fault_text NoSeed = codes "no random bytes"
-fault_text (Stopped fault) = codes "stopped: " ++ loop_fault_text fault
+fault_text (Stopped fault) = codes "stopped: " ++ stop_text fault
 fault_text OutOfMemory = codes "out of memory"
 fault_text CannotWrite = codes "cannot write"
 

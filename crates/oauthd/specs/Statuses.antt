@@ -3,7 +3,7 @@ use Rattle.std.specs.Prelude.{ℕ, Option, None, Result, Ok, Err}
 use Rattle.std.specs.declared.io.ErrorKind.{ErrorKind}
 use Rattle.std.specs.declared.io.ErrorKind.TheVariants as kinds
 use Rattle.oauthd.specs.declared.fault.PerformFault.{PerformFault}
-use Rattle.oauthd.specs.declared.fault.PerformFault.TheVariants.{BadArguments, BadWord, BadRecord, CannotRead, IsElf, IsNotHex, Text, Insn, Verify, Config, Hook, BadLine, Event, CannotListen, NoSeed, Stopped, OutOfMemory, CannotWrite}
+use Rattle.oauthd.specs.declared.fault.PerformFault.TheVariants.{BadArguments, BadWord, BadRecord, CannotRead, IsElf, IsNotHex, Text, Insn, Verify, Config, ConfigAt, Hook, BadLine, Event, Unopened, State, CannotListen, NoSeed, Stopped, OutOfMemory, CannotWrite}
 use Rattle.oauthd.specs.declared.answer.Answer.{Answer}
 use Rattle.oauthd.specs.declared.answer.Answer.TheVariants as answers
 use Rattle.oauthd.specs.declared.fault.Status.{Status}
@@ -28,9 +28,12 @@ status_of (Text fault) = Refused
 status_of (Insn fault) = Refused
 status_of (Verify fault) = Refused
 status_of (Config fault) = BadUse
+status_of (ConfigAt fault spot) = BadUse
 status_of (Hook name fault) = BadUse
 status_of (BadLine line) = BadUse
 status_of (Event line fault) = Refused
+status_of (Unopened fault) = BadUse
+status_of (State fault) = BadUse
 status_of CannotListen = BadUse
 status_of NoSeed = BadUse
 status_of (Stopped fault) = BadUse

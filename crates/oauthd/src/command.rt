@@ -11,6 +11,7 @@ use crate::commands::asm::assembled;
 use crate::commands::check::check;
 use crate::commands::help::explained;
 use crate::commands::list::listing;
+use crate::commands::registry::told_registry;
 use crate::commands::replay::replayed;
 use crate::commands::run::run;
 use crate::commands::slots::listing_with_slots;
@@ -75,6 +76,10 @@ pub enum Command<'w> {
         layout: Layout,
         words: AskWords<'w>,
     },
+    /// `registry FILE`: what the registry in a file says.
+    Registry {
+        path: &'w str,
+    },
     /// `replay FILE`: what the server of the transcript in a file sends to each connection.
     Replay {
         path: &'w str,
@@ -119,6 +124,7 @@ fn with_word<'w>(name: &str, word: &'w str) -> Option<Command<'w>>
             layout: Layout::V2,
             path: word,
         }),
+        "registry" => Some(Command::Registry { path: word }),
         "replay" => Some(Command::Replay { path: word }),
         "help" => Some(Command::Explain { name: word }),
         _ => None,
@@ -163,6 +169,7 @@ impl<'w> Command<'w> {
             Command::ListSlots { path } => Some(path),
             Command::Check { path, .. } => Some(path),
             Command::Why { path, .. } => Some(path),
+            Command::Registry { path } => Some(path),
             Command::Replay { path } => Some(path),
             Command::Help(_) | Command::Explain { .. } | Command::Version => None,
         }
@@ -187,6 +194,7 @@ impl<'w> Command<'w> {
             Command::Check { layout, path } => check(alloc, layout, path, file),
             Command::Why { layout, path } => explained_check(alloc, layout, path, file),
             Command::Ask { layout, words } => asked(alloc, layout, words),
+            Command::Registry { path } => told_registry(alloc, path, file),
             Command::Replay { path } => replayed(alloc, path, file),
             Command::Help(_) => Ok(Answer::Page(PAGE)),
             Command::Explain { name } => explained(name),

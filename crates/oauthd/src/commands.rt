@@ -7,6 +7,7 @@ pub mod config_file;
 pub mod help;
 pub mod list;
 mod program_file;
+pub mod registry;
 pub mod replay;
 pub mod run;
 pub mod slots;

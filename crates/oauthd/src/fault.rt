@@ -2,12 +2,13 @@
 
 ghost use Rattle.std.specs.Prelude.{◌≡◌, Some};
 ghost use Rattle.oauthd.specs.Statuses.{code_of, status_of};
-ghost use Rattle.oauthd.specs.Faults.{of_assembling, of_configuring, of_decoding, of_listening, of_replaying, of_verifying};
-ghost use Rattle.oauthd.specs.Printed.{fault_text, located_text};
+ghost use Rattle.oauthd.specs.Faults.{of_assembling, of_configuring, of_decoding, of_listening, of_opening, of_replaying, of_state, of_verifying};
+ghost use Rattle.oauthd.specs.Printed.{fault_text, located_text, stop_text};
 ghost use Rattle.oauthd.specs.declared.fault.PerformFault.TheVariants.{OutOfMemory};
 
 use assembler::AsmFault;
-use clients::ConfigFault;
+use batch_file::disk_file::OpenFault;
+use clients::{ConfigFault, Spot};
 use daemon::ListenFault;
 use event_loop::LoopFault;
 use hook_host::HookFault;
@@ -15,6 +16,7 @@ use http_edge::EdgeFault;
 use insn::fault::InsnFault;
 use insn::verify_fault::VerifyFault;
 use start_words::WordFault;
+use state_file::StateFault;
 use std::alloc::AllocError;
 use std::fmt::{self, Display, Formatter};
 use transcript::ReplayFault;
@@ -42,7 +44,7 @@ impl Status {
 }
 
 /// Why a command is not done.
-#[derive(Clone, Copy, Debug, PartialEq, Eq)]
+#[derive(Debug, Drop)]
 pub enum PerformFault<'w> {
     /// The words are no command, or what is to be hex of some code is none.
     BadArguments,
@@ -64,12 +66,18 @@ pub enum PerformFault<'w> {
     Verify(VerifyFault),
     /// A registry is refused.
     Config(ConfigFault),
+    /// A registry is refused for what stands there.
+    ConfigAt(ConfigFault, Spot),
     /// The hook of this name is refused.
     Hook(&'w str, HookFault),
     /// The line of a transcript with this number has another form.
     BadLine(usize),
     /// The event of the line with this number is refused.
     Event(usize, EdgeFault),
+    /// The file of a server's state is not opened.
+    Unopened(OpenFault),
+    /// No server is started on what stands in the file of its state.
+    State(StateFault),
     /// There is no socket at the address.
     CannotListen,
     /// The system gives no random bytes.
@@ -84,8 +92,8 @@ pub enum PerformFault<'w> {
 
 impl<'w> PerformFault<'w> {
     /// The status with which the program then ends.
-    pub fn status(self) -> Status
-        ensures { result ≡ status_of self.entry }
+    pub fn status(&self) -> Status
+        ensures { result ≡ status_of self.now }
     {
         match self {
             PerformFault::Text(_)
@@ -99,8 +107,11 @@ impl<'w> PerformFault<'w> {
             | PerformFault::IsElf(_)
             | PerformFault::IsNotHex(_)
             | PerformFault::Config(_)
+            | PerformFault::ConfigAt(_, _)
             | PerformFault::Hook(_, _)
             | PerformFault::BadLine(_)
+            | PerformFault::Unopened(_)
+            | PerformFault::State(_)
             | PerformFault::CannotListen
             | PerformFault::NoSeed
             | PerformFault::Stopped(_)
@@ -125,12 +136,15 @@ impl<'w> Display for PerformFault<'w> {
             PerformFault::Insn(fault) => write!(f, "Insn {fault}"),
             PerformFault::Verify(fault) => write!(f, "Verify {fault}"),
             PerformFault::Config(fault) => write!(f, "Config {fault}"),
+            PerformFault::ConfigAt(fault, spot) => write!(f, "Config {fault} at {spot}"),
             PerformFault::Hook(name, fault) => write!(f, "hook {name}: {fault}"),
             PerformFault::BadLine(line) => write!(f, "line {line}: bad line"),
             PerformFault::Event(line, fault) => write!(f, "line {line}: {fault}"),
+            PerformFault::Unopened(fault) => write!(f, "State {fault}"),
+            PerformFault::State(fault) => write!(f, "State {fault}"),
             PerformFault::CannotListen => write!(f, "cannot listen"),
             PerformFault::NoSeed => write!(f, "no random bytes"),
-            PerformFault::Stopped(fault) => write!(f, "stopped: {fault}"),
+            PerformFault::Stopped(fault) => write!(f, "stopped: {}", Stop(*fault)),
             PerformFault::OutOfMemory => write!(f, "out of memory"),
             PerformFault::CannotWrite => write!(f, "cannot write"),
         }
@@ -149,6 +163,21 @@ impl Display for Located {
         match self.0.line() {
             Some(line) => write!(f, "line {line}: {name}"),
             None => write!(f, "{name}"),
+        }
+    }
+}
+
+/// Why a server can't go on: where it can't keep its state, that is named.
+#[derive(Clone, Copy)]
+struct Stop(LoopFault);
+
+impl Display for Stop {
+    ghost output = { λ stop. Some (stop_text stop.0) };
+
+    fn fmt<W: fmt::Write>(&self, f: &mut Formatter<W>) -> fmt::Result {
+        match self.0 {
+            LoopFault::Keep => write!(f, "State"),
+            fault => write!(f, "{fault}"),
         }
     }
 }
@@ -206,6 +235,28 @@ impl<'w> From<ReplayFault> for PerformFault<'w> {
             ReplayFault::BadLine(line) => PerformFault::BadLine(line),
             ReplayFault::Refused(line, fault) => PerformFault::Event(line, fault),
             ReplayFault::Memory => PerformFault::OutOfMemory,
+        }
+    }
+}
+
+impl<'w> From<OpenFault> for PerformFault<'w> {
+    ghost from_gives = { λ fault f. f ≡ of_opening fault };
+
+    fn from(fault: OpenFault) -> PerformFault<'w> {
+        match fault {
+            OpenFault::Memory => PerformFault::OutOfMemory,
+            fault => PerformFault::Unopened(fault),
+        }
+    }
+}
+
+impl<'w> From<StateFault> for PerformFault<'w> {
+    ghost from_gives = { λ fault f. f ≡ of_state fault };
+
+    fn from(fault: StateFault) -> PerformFault<'w> {
+        match fault {
+            StateFault::Memory => PerformFault::OutOfMemory,
+            fault => PerformFault::State(fault),
         }
     }
 }

@@ -18,6 +18,7 @@ mod named_file;
 mod options;
 mod perform;
 mod service;
+mod state;
 #[cfg(test)]
 mod tests;
 

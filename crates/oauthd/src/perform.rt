@@ -3,12 +3,11 @@
 ghost use Rattle.std.specs.Prelude.{◌≡◌, ◌⊎◌, OnOk, IfOk, IfErr, IfSome};
 ghost use Rattle.std.specs.Io.KnownBytes.{Appends};
 ghost use Rattle.std.specs.Option.{option_copied};
-ghost use Rattle.daemon.specs.Started.{HasStarted};
-ghost use Rattle.event_loop.specs.Scenes.{promises};
 ghost use Rattle.oauthd.specs.Endings.{EndsCall, EndsWords};
 ghost use Rattle.oauthd.specs.Listening.{EndsService, FailsService, files_in, HasServed};
 ghost use Rattle.oauthd.specs.Performed.{EndsCommand};
 ghost use Rattle.oauthd.specs.Printed.{told_text};
+ghost use Rattle.oauthd.specs.Startings.{startings};
 ghost use Rattle.oauthd.specs.Statuses.{status_of};
 
 use crate::call::Call;
@@ -16,14 +15,17 @@ use crate::call_files::{CallFiles, read_files};
 use crate::command::Command;
 use crate::commands::config_file::registry_in;
 use crate::fault::{PerformFault, Status};
-use crate::hook_files::chain_of;
+use crate::hook_files::{HooksTaken, take_hooks};
 use crate::service::Service;
-use daemon::{LineJournal, MachineClocks, MachineSockets, Patience, serve, start};
-use event_loop::{Clocks, Journal, Sockets};
-use hook_chain::Chain;
-use hook_host::HookHost;
+use crate::state::start_at;
+use batch_file::disk_file::DiskFile;
+use change_codec::Keeper;
+use daemon::{LineJournal, MachineClocks, Patience, go_on, serve, start};
+use event_loop::{Clocks, Journal};
+use state_file::{Started, StateKeeper};
 use std::alloc::Global;
 use std::fmt::Display;
+use std::fs::File;
 use std::io::{self, Write};
 use std::net::Net;
 use std::random::RandomSource;
@@ -121,7 +123,14 @@ pub fn told<E: Write>(fault: PerformFault<'_>, err: &mut E) -> Status
 }
 
 /// Serves, until that is over, or can't go on.
-fn serve_as<'r, 'e, 'w, R: Net + Clock + RandomSource + AllocGlobal, W: Write, E: Write + 'e>(
+fn serve_as<
+    'r,
+    'e,
+    'w,
+    R: Files<File = File> + Net + Clock + RandomSource + AllocGlobal,
+    W: Write,
+    E: Write + 'e,
+>(
     rt: &'r R,
     service: &Service<'w>,
     files: &CallFiles<'w>,
@@ -130,8 +139,8 @@ fn serve_as<'r, 'e, 'w, R: Net + Clock + RandomSource + AllocGlobal, W: Write, E
 ) -> Result<(), PerformFault<'w>>
     ensures done { OnOk result (HasServed service.now (files_in files.now) (W.contents out.old) (W.contents out.new)) }
     ensures fault { IfErr result (λ fault.
-        FailsService (HasStarted (promises ⟦<MachineSockets as Sockets>⟧.does
-        ⟦<MachineClocks<'r, R> as Clocks>⟧.tells ⟦<LineJournal<'e, E> as Journal>⟧.notes ⟦<Chain as HookHost>⟧))
+        FailsService (startings ⟦<MachineClocks<'r, R> as Clocks>⟧
+        ⟦<LineJournal<'e, E> as Journal>⟧ ⟦<StateKeeper<DiskFile<'r, R>> as Keeper>⟧)
         W.contents service.now (files_in files.now) fault out.old out.new err.old err.new) }
 {
     let registry = registry_in(rt.alloc(), service.config(), files.named.as_deref())?;
@@ -142,12 +151,22 @@ fn serve_as<'r, 'e, 'w, R: Net + Clock + RandomSource + AllocGlobal, W: Write, E
             return Ok(());
         }
     };
-    let chain = chain_of(rt.alloc(), &files.hooks)?;
+    let HooksTaken { chain, codes } = take_hooks(rt.alloc(), &files.hooks)?;
     let patience = Patience {
         silence: given.options.silence(),
         full: given.options.full(),
     };
-    let fault = start(rt, given.address, registry, chain, patience, out, err)?;
+    let fault = match given.options.state() {
+        None => start(rt, given.address, registry, chain, patience, out, err)?,
+        Some(path) => {
+            let Started {
+                server,
+                keeper,
+                moment: _,
+            } = start_at(rt, path, registry, &codes)?;
+            go_on(rt, given.address, server, keeper, patience, out, err)?
+        }
+    };
     Err(PerformFault::Stopped(fault))
 }
 
@@ -155,14 +174,14 @@ fn serve_as<'r, 'e, 'w, R: Net + Clock + RandomSource + AllocGlobal, W: Write, E
 pub fn perform_service<
     'r,
     'e,
-    R: Net + Clock + RandomSource + AllocGlobal,
+    R: Files<File = File> + Net + Clock + RandomSource + AllocGlobal,
     W: Write,
     E: Write + 'e,
 >(rt: &'r R, service: &Service<'_>, files: &CallFiles<'_>, out: &mut W, err: &mut E) -> Status
     // Bad use may be that of a fault that could not be told.
     ensures { (result ≡ Status.BadUse)
-        ⊎ EndsService (HasStarted (promises ⟦<MachineSockets as Sockets>⟧.does
-        ⟦<MachineClocks<'r, R> as Clocks>⟧.tells ⟦<LineJournal<'e, E> as Journal>⟧.notes ⟦<Chain as HookHost>⟧))
+        ⊎ EndsService (startings ⟦<MachineClocks<'r, R> as Clocks>⟧
+        ⟦<LineJournal<'e, E> as Journal>⟧ ⟦<StateKeeper<DiskFile<'r, R>> as Keeper>⟧)
         W.contents E.contents service.now (files_in files.now) result out.old out.new err.old err.new }
 {
     match serve_as(rt, service, files, out, err) {
@@ -172,17 +191,17 @@ pub fn perform_service<
 }
 
 /// Does what was called for, on the files that it names, and says how the program then ends.
-fn perform_call<'r, 'e, R: Net + Clock + RandomSource + AllocGlobal, W: Write, E: Write + 'e>(
-    rt: &'r R,
-    call: &Call<'_>,
-    files: &CallFiles<'_>,
-    out: &mut W,
-    err: &mut E,
-) -> Status
+fn perform_call<
+    'r,
+    'e,
+    R: Files<File = File> + Net + Clock + RandomSource + AllocGlobal,
+    W: Write,
+    E: Write + 'e,
+>(rt: &'r R, call: &Call<'_>, files: &CallFiles<'_>, out: &mut W, err: &mut E) -> Status
     // Bad use may be that of a write that failed.
     ensures { (result ≡ Status.BadUse)
-        ⊎ EndsCall (HasStarted (promises ⟦<MachineSockets as Sockets>⟧.does
-        ⟦<MachineClocks<'r, R> as Clocks>⟧.tells ⟦<LineJournal<'e, E> as Journal>⟧.notes ⟦<Chain as HookHost>⟧))
+        ⊎ EndsCall (startings ⟦<MachineClocks<'r, R> as Clocks>⟧
+        ⟦<LineJournal<'e, E> as Journal>⟧ ⟦<StateKeeper<DiskFile<'r, R>> as Keeper>⟧)
         W.contents E.contents call.now (files_in files.now) result out.old out.new err.old err.new }
 {
     match call {
@@ -198,14 +217,14 @@ fn perform_call<'r, 'e, R: Net + Clock + RandomSource + AllocGlobal, W: Write, E
 pub fn perform<
     'r,
     'e,
-    R: Files + Net + Clock + RandomSource + AllocGlobal,
+    R: Files<File = File> + Net + Clock + RandomSource + AllocGlobal,
     W: Write,
     E: Write + 'e,
 >(rt: &'r R, words: &[String], out: &mut W, err: &mut E) -> Status
     // Bad use may be that of a write that failed.
     ensures { (result ≡ Status.BadUse)
-        ⊎ EndsWords (HasStarted (promises ⟦<MachineSockets as Sockets>⟧.does
-        ⟦<MachineClocks<'r, R> as Clocks>⟧.tells ⟦<LineJournal<'e, E> as Journal>⟧.notes ⟦<Chain as HookHost>⟧))
+        ⊎ EndsWords (startings ⟦<MachineClocks<'r, R> as Clocks>⟧
+        ⟦<LineJournal<'e, E> as Journal>⟧ ⟦<StateKeeper<DiskFile<'r, R>> as Keeper>⟧)
         W.contents E.contents words.now result out.old out.new err.old err.new }
 {
     let call = match Call::from_words(rt.alloc(), words) {

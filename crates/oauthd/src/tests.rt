@@ -7,6 +7,7 @@ mod help_rows;
 mod hooks;
 mod machines;
 mod program;
+mod registries;
 mod run;
 mod services;
 mod sockets;

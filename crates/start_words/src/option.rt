@@ -1,8 +1,9 @@
 //! The options, and what their values say.
 
 ghost use Rattle.std.specs.Prelude.{◌≡◌, option_map};
+ghost use Rattle.std.specs.Option.{option_copied};
 ghost use Rattle.std.specs.Str.{bytes_eq};
-ghost use Rattle.start_words.specs.Options.{above_0, hook_in, hook_said, named};
+ghost use Rattle.start_words.specs.Options.{above_0, hook_in, hook_said, named, path_in};
 
 use crate::number::number_of;
 use insn::layout::Layout;
@@ -25,6 +26,8 @@ pub enum OptionName {
     Silence,
     /// `--full SECONDS`.
     Full,
+    /// `--state FILE`.
+    State,
     /// `--hook NAME=FILE`, and `--hook2 NAME=FILE` for a hook that reads records of version 2.
     Hook(Layout),
 }
@@ -36,6 +39,7 @@ pub fn named(word: &str) -> Option<OptionName>
     match word {
         "--silence" => Some(OptionName::Silence),
         "--full" => Some(OptionName::Full),
+        "--state" => Some(OptionName::State),
         "--hook" => Some(OptionName::Hook(Layout::V1)),
         "--hook2" => Some(OptionName::Hook(Layout::V2)),
         _ => None,
@@ -50,6 +54,13 @@ pub fn above_0(text: &str) -> Option<u32>
         Some(0) | None => None,
         Some(seconds) => Some(seconds),
     }
+}
+
+/// The path that a text says, where it is not empty.
+pub fn path_in<'w>(text: &'w str) -> Option<&'w str>
+    ensures { option_copied result ≡ path_in text.now }
+{
+    if text.is_empty() { None } else { Some(text) }
 }
 
 /// The name and the file that NAME=FILE says. The name ends at the first equals sign.

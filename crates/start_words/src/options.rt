@@ -1,12 +1,13 @@
 //! What the words behind the registry's file give.
 
 ghost use Rattle.std.specs.Prelude.{◌≡◌, ◌∷◌, ◌++◌, [], Ok, Err, OnOk, IfOk, IfErr, IfSome, IfNone, map, string_bytes, unwrap_or, option_map};
+ghost use Rattle.std.specs.Option.{option_copied};
 ghost use Rattle.start_words.specs.Options.{bad_words, blamed, by_place, hook_said, is_option, IsRefused, lone_fault, nothing_said, once, options_after, options_in, placed_after, with_option};
 ghost use Rattle.start_words.specs.declared.fault.StartFault.TheVariants.{Memory};
 
 use crate::fault::{StartFault, WordFault};
 use crate::number::number_of;
-use crate::option::{HookFile, OptionName, above_0, hook_in, named};
+use crate::option::{HookFile, OptionName, above_0, hook_in, named, path_in};
 use std::alloc::Global;
 use std::marker::Model;
 
@@ -15,16 +16,18 @@ use std::marker::Model;
 pub struct Options<'w> {
     silence: Option<u32>,
     full: Option<u32>,
+    state: Option<&'w str>,
     hooks: Vec<HookFile<'w>>,
 }
 
 impl<'w> Model for Options<'w> {
     ghost use Rattle.std.specs.Prelude.{map};
+    ghost use Rattle.std.specs.Option.{option_copied};
     ghost use Rattle.start_words.specs.Options.{hook_said, Said};
 
     ghost Value = { Said };
 
-    ghost view = { λ o. record { silence = o.silence; full = o.full; hooks = map hook_said o.hooks.items } };
+    ghost view = { λ o. record { silence = o.silence; full = o.full; state = option_copied o.state; hooks = map hook_said o.hooks.items } };
 }
 
 /// The first word, where it counts by its place, and those behind it.
@@ -46,8 +49,8 @@ fn is_option(word: &str) -> bool
     word.as_bytes().starts_with(b"--")
 }
 
-/// The number, unless one was said before.
-fn once(said: Option<u32>, value: Option<u32>) -> Result<Option<u32>, WordFault>
+/// The value, unless one was said before.
+fn once<T: Copy>(said: Option<T>, value: Option<T>) -> Result<Option<T>, WordFault>
     ensures { result ≡ once said value }
 {
     match (said, value) {
@@ -75,6 +78,7 @@ impl<'w> Options<'w> {
         Options {
             silence: None,
             full: None,
+            state: None,
             hooks: Vec::new(alloc),
         }
     }
@@ -92,6 +96,13 @@ impl<'w> Options<'w> {
         ensures { result ≡ unwrap_or self.now.full 5 }
     {
         self.full.unwrap_or(5)
+    }
+
+    /// The path of the file in which the server keeps its state, where there is one.
+    pub fn state(&self) -> Option<&'w str>
+        ensures { option_copied result ≡ self.now.state }
+    {
+        self.state
     }
 
     /// The hooks, in their order.
@@ -123,6 +134,7 @@ impl<'w> Options<'w> {
                 blame,
             )?,
             OptionName::Full => self.full = once(self.full, number_of(value)).map_err(blame)?,
+            OptionName::State => self.state = once(self.state, path_in(value)).map_err(blame)?,
             OptionName::Hook(layout) => {
                 let hook = hook_in(layout, value)
                     .ok_or(WordFault::BadValue)

@@ -3,7 +3,7 @@
 use crate::topic::Topic;
 
 /// What each command does.
-pub const COMMANDS: [Topic; 11] = [
+pub const COMMANDS: [Topic; 12] = [
     Topic {
         name: "run",
         text: "\
@@ -65,10 +65,11 @@ check2 FILE: as check, for records of version 2; so check2 --why.
     Topic {
         name: "start",
         text: "\
-start ADDR CONFIG [--hook NAME=FILE].. [--hook2 NAME=FILE].. [--silence SECONDS] [--full SECONDS]: listens at ADDR, which is an IP address or a host's name, a colon and a port, prints listening ADDR, and serves up to 64 connections at once, with the registry in the file CONFIG, until it is stopped. Port 0 lets the system choose one. The options come in any order. --hook installs the program in FILE, hex or bytes, as the hook NAME before the first connection is taken, --hook2 one that reads records of version 2; they answer in the order in which they stand. --silence is after how many seconds a connection is closed that took no byte of a reply, at least 1, or 60 where it is left out; --full is after how many the one that was silent longest is closed where all 64 places are taken and another one waits, or 5. The two may also stand as numbers right behind CONFIG: SILENCE, or SILENCE and FULL. Codes and tokens are drawn by random bytes of the system. A connection that a fault ended is told on standard error, in at most one line a second. All that the server knows is in memory alone, and is lost when it is stopped. docs/OPERATING.md says more.
+start ADDR CONFIG [--state FILE] [--hook NAME=FILE].. [--hook2 NAME=FILE].. [--silence SECONDS] [--full SECONDS]: listens at ADDR, which is an IP address or a host's name, a colon and a port, prints listening ADDR, and serves up to 64 connections at once, with the registry in the file CONFIG, until it is stopped. Port 0 lets the system choose one. The options come in any order. --state names the file in which the server keeps what happens to it: hooks, consents, codes and tokens, the tokens by their digests alone. It is made where there is none, for its owner alone, and a server that is started on it again goes on from there; no reply is written before what it says is on the disk. --hook installs the program in FILE, hex or bytes, as the hook NAME before the first connection is taken, --hook2 one that reads records of version 2; they answer in the order in which they stand. --silence is after how many seconds a connection is closed that took no byte of a reply, at least 1, or 60 where it is left out; --full is after how many the one that was silent longest is closed where all 64 places are taken and another one waits, or 5. The two may also stand as numbers right behind CONFIG: SILENCE, or SILENCE and FULL. Codes and tokens are drawn by random bytes of the system. A connection that a fault ended is told on standard error, in at most one line a second. Without --state all that the server knows is in memory alone, and is lost when it is stopped. docs/OPERATING.md says more.
 
   oauthd start 127.0.0.1:8080 registry.json
   oauthd start 127.0.0.1:8080 registry.json --hook listed=hook.hex --silence 30
+  oauthd start 127.0.0.1:8080 registry.json --state /var/lib/oauthd/state
   oauthd start 127.0.0.1:8080 registry.json 30 2
 ",
     },
@@ -78,6 +79,14 @@ start ADDR CONFIG [--hook NAME=FILE].. [--hook2 NAME=FILE].. [--silence SECONDS]
 serve ADDR CONFIG SEEDHEX COUNT: listens at ADDR, prints listening ADDR, serves COUNT connections, one after the other, with the registry in the file CONFIG, and ends. Codes and tokens are drawn by a generator whose seed is SEEDHEX, 64 hex digits: who knows the seed knows each of them, so it is for tests alone.
 
   oauthd serve 127.0.0.1:8080 registry.json 0707070707070707070707070707070707070707070707070707070707070707 1
+",
+    },
+    Topic {
+        name: "registry",
+        text: "\
+registry FILE: reads the registry in FILE as start does, and serves nothing. Where it is refused, the fault is told with where it stands: Config BadRedirect at clients[17].redirects[0] is the first redirect URI of the 18th client, since items are counted from 0. Else it prints the lives of tokens in seconds, how many owners and clients there are, the names of all scopes, and, behind warning:, what may be a mistake: a member whose name means nothing there, one that stands twice in its object, an owner with the operator's key, and access tokens that live longer than refresh tokens.
+
+  oauthd registry registry.json
 ",
     },
     Topic {

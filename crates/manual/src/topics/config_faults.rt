@@ -15,7 +15,7 @@ NotJson: the registry is no JSON text (RFC 8259). Look for a comma too many, a q
     Topic {
         name: "BadShape",
         text: "\
-BadShape: a member of the registry is missing or of another type, or a grant is none of authorization_code, refresh_token and client_credentials. docs/OPERATING.md has a registry with all members.
+BadShape: a member of the registry is missing or of another type, or a grant is none of authorization_code, refresh_token and client_credentials, or an object in the place of a key or a secret has no sha256. docs/OPERATING.md has a registry with all members.
 
   \"owners\": \"ann-key\"      \"owners\": [\"ann-key\"]
 ",

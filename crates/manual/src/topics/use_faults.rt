@@ -3,7 +3,7 @@
 use crate::topic::Topic;
 
 /// What the faults mean that a command has however its files are.
-pub const USE_FAULTS: [Topic; 13] = [
+pub const USE_FAULTS: [Topic; 14] = [
     Topic {
         name: "bad arguments",
         text: "\
@@ -67,6 +67,14 @@ bad line: the line of a transcript is no event. The first line is config, a spac
 hook NAME: FAULT: start was to install this hook, and it is refused; no connection was taken. BadName: a name is 1 to 32 of a-z, 0-9 and -. NameTaken: two hooks have it. Full: there are more than 8. Insn and Verify are the faults of check: oauthd help has each.
 
   oauthd start 127.0.0.1:8080 registry.json --hook listed=hook.hex
+",
+    },
+    Topic {
+        name: "State",
+        text: "\
+State FAULT: start was to keep its state in the file of --state, and can't; no connection was taken. InUse: another server holds the lock on FILE.lock; stop that one first. Open: the system refused to open or to make the file, its lock or its folder, and says why: not found, permission denied, not a directory, is a directory, read-only filesystem, no storage space, quota exceeded, other error.
+
+  oauthd start 127.0.0.1:8080 registry.json --state /var/lib/oauthd/state
 ",
     },
     Topic {

@@ -5,9 +5,10 @@ use super::*;
 use crate::call_files::CallFiles;
 use crate::hook_files::HookRead;
 use crate::perform::perform_service;
+use std::fs::File;
 use std::net::Net;
 use std::random::RandomSource;
-use std::rt::Clock;
+use std::rt::{Clock, Files};
 
 /// The hex of a seed.
 pub const SEED: &str = "0707070707070707070707070707070707070707070707070707070707070707";
@@ -51,13 +52,11 @@ fn files_read<'w>(
 }
 
 /// Serves as words say, with this in the registry's file, and gives the exit status.
-pub fn serve_by<R: Net + Clock + RandomSource + AllocGlobal, W: Write, E: Write>(
-    rt: &R,
-    words: &[String],
-    file: Option<&[u8]>,
-    out: &mut W,
-    err: &mut E,
-) -> u8 {
+pub fn serve_by<
+    R: Files<File = File> + Net + Clock + RandomSource + AllocGlobal,
+    W: Write,
+    E: Write,
+>(rt: &R, words: &[String], file: Option<&[u8]>, out: &mut W, err: &mut E) -> u8 {
     let call = match Call::from_words(rt.alloc(), words) {
         Ok(call) => call,
         Err(fault) => return told(fault, err).code(),
@@ -71,7 +70,7 @@ pub fn serve_by<R: Net + Clock + RandomSource + AllocGlobal, W: Write, E: Write>
 }
 
 /// Serves as some words say.
-fn served<R: Net + Clock + RandomSource + AllocGlobal>(
+fn served<R: Files<File = File> + Net + Clock + RandomSource + AllocGlobal>(
     rt: &R,
     texts: &[&str],
     file: Option<&[u8]>,
@@ -83,7 +82,7 @@ fn served<R: Net + Clock + RandomSource + AllocGlobal>(
 }
 
 /// Asserts that words serve nothing, and how that is told.
-fn assert_not_served<R: Net + Clock + RandomSource + Abort + AllocGlobal>(
+fn assert_not_served<R: Files<File = File> + Net + Clock + RandomSource + Abort + AllocGlobal>(
     rt: &R,
     texts: &[&str],
     file: Option<&[u8]>,
@@ -141,6 +140,10 @@ fn words_behind_start_that_are_wrong(rt: HostRuntime) -> Result<(), Fail> {
             ["[::1]:8080", "config", "--hook", "hook"],
             "--hook has a bad value",
         ),
+        (
+            ["[::1]:8080", "config", "--state", ""],
+            "--state has a bad value",
+        ),
     ] {
         let [address, config, third, fourth] = words;
         let told = format!(in rt.alloc(); "oauthd: bad arguments: {err}\n")?;
@@ -162,6 +165,17 @@ fn words_behind_start_that_are_wrong(rt: HostRuntime) -> Result<(), Fail> {
         "5",
     ];
     let told = "oauthd: bad arguments: --silence is given twice\n";
+    assert_not_served(&rt, &twice, good, told)?;
+    let twice = [
+        "start",
+        "[::1]:8080",
+        "config",
+        "--state",
+        "a",
+        "--state",
+        "a",
+    ];
+    let told = "oauthd: bad arguments: --state is given twice\n";
     assert_not_served(&rt, &twice, good, told)
 }
 
@@ -184,6 +198,19 @@ fn hooks_of_start_that_are_refused(rt: HostRuntime) -> Result<(), Fail> {
         assert_not_served(&rt, &words, good, told.as_str())?;
     }
     Ok(())
+}
+
+#[test]
+fn a_state_that_is_not_opened(rt: HostRuntime) -> Result<(), Fail> {
+    let words = [
+        "start",
+        "127.0.0.1:99999",
+        "config",
+        "--state",
+        "no-such-folder/state",
+    ];
+    let told = "oauthd: State Open: not found\n";
+    assert_not_served(&rt, &words, Some(REGISTRY.as_bytes()), told)
 }
 
 #[test]

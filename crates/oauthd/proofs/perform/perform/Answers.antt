@@ -1,4 +1,5 @@
 use Rattle.std.proofs.Common.{inl, inr, refl}
+use Rattle.oauthd.specs.Listening.{files_in}
 use Rattle.oauthd.proofs.perform.perform.Goals as goal
 
 pub returns : goal.returns
@@ -10,5 +11,17 @@ returns g c = elim c.told-in-Err-read_files.ensures [
     unprinted = refl;
     ended = told.0;
     told = told.1;
+  }))
+]
+
+pub returns-in-Ok-read_files : goal.returns-in-Ok-read_files
+returns-in-Ok-read_files g c = elim c.perform_call.ensures [
+  | inl bad ↦ inl bad
+  | inr ends ↦ inr (inl (record {
+    call = c.in-Ok.call;
+    files = files_in c.in-Ok-read_files.files;
+    called = c.in-Ok.ensures;
+    hooks = c.in-Ok-read_files.ensures.hooks;
+    ends = ends;
   }))
 ]

@@ -1,6 +1,8 @@
-use Rattle.std.proofs.Common.{[], inr, map, refl, subst}
+use Rattle.std.proofs.Common.{◌≡◌, [], Err, IsSome, None, Some, inl, inr, map, refl, rules, subst}
 use Rattle.oauthd.specs.Config.{HoldsRegistry}
-use Rattle.oauthd.specs.Hooks.{in_file, TakesHooks}
+use Rattle.oauthd.specs.Hooks.{AreFactsOf, fact_of, in_file, TakesHooks}
+use Rattle.oauthd.proofs.Beginning.{anew, comes_of, on_state, refused_of}
+use Rattle.oauthd.proofs.perform.serve_as.Goals.{in-None+in_ok-fault-in-None, in-Some+in_ok-server-in-Some+in_ok-fault-in-Some}
 use Rattle.oauthd.proofs.perform.serve_as.Goals as goal
 
 pub returns-in-Serve-clause-done : goal.returns-in-Serve-clause-done
@@ -10,14 +12,65 @@ returns-in-Serve-clause-done g c = record {
   service_is = c.in-Serve.is;
 }
 
+pub returns-in_err-server-in-Some-clause-fault : goal.returns-in_err-server-in-Some-clause-fault
+returns-in_err-server-in-Some-clause-fault g c =
+    let fault = c.in_err-server-in-Some.field-0.0 in
+    let is : c.from_residual-in_err-server-in-Some.result ≡ Err fault = search rules in
+    let named : IsSome c.in-Start.given.options.state = search rules in
+    let same : c.deref-in-Some.result.now ≡ c.in_ok-chain.field-0.codes.items = search rules in
+    rw is (inl (
+      refl,
+      inr (inr (inl (record {
+        registry = c.in_ok-registry.registry;
+        held = subst (λ f. HoldsRegistry f c.in_ok-registry.registry) c.as_deref.ensures.value c.in_ok-registry.ensures.found;
+        given = c.in-Start.given;
+        service_is = c.in-Start.is;
+        hooks = c.in_ok-chain.field-0.chain;
+        taken = subst (λ hooks. TakesHooks [] (map in_file hooks) c.in_ok-chain.field-0.chain) c.deref.ensures.value c.in_ok-chain.ensures.taken;
+        codes = map fact_of c.in_ok-chain.field-0.codes.items;
+        coded = subst (λ hooks. AreFactsOf (map in_file hooks) (map fact_of c.in_ok-chain.field-0.codes.items)) c.deref.ensures.value c.in_ok-chain.ensures.coded;
+        named = named;
+        refused = refused_of c.in_ok-registry.registry fault c.deref-in-Some.result.now c.in_ok-chain.field-0.codes.items same c.in_err-server-in-Some.ensures.refused;
+      }))),
+    ))
+
 pub returns-clause-fault : goal.returns-clause-fault
-returns-clause-fault g c = inr (record {
-  listened = record { registry = c.in_ok-registry.registry; held = subst (λ f. HoldsRegistry f c.in_ok-registry.registry) c.as_deref.ensures.value c.in_ok-registry.ensures.found; announced = c.in_ok-fault.ensures.done };
-  given = c.in-Start.given;
-  service_is = c.in-Start.is;
-  hooks = c.in_ok-chain.chain;
-  taken = subst (λ hooks. TakesHooks [] (map in_file hooks) c.in_ok-chain.chain) c.deref.ensures.value c.in_ok-chain.ensures.taken;
-  cause = c.in_ok-fault.fault;
-  started = rw (c.silence.ensures, c.full.ensures) at c.in_ok-fault.ensures.serves;
-  fault_is = refl;
-})
+returns-clause-fault g c =
+    let held = subst (λ f. HoldsRegistry f c.in_ok-registry.registry) c.as_deref.ensures.value c.in_ok-registry.ensures.found in
+    let taken = subst (λ hooks. TakesHooks [] (map in_file hooks) c.in_ok-chain.field-0.chain) c.deref.ensures.value c.in_ok-chain.ensures.taken in
+    let coded = subst (λ hooks. AreFactsOf (map in_file hooks) (map fact_of c.in_ok-chain.field-0.codes.items)) c.deref.ensures.value c.in_ok-chain.ensures.coded in
+    elim c.match-state.branch [
+      | in-None+in_ok-fault-in-None w ↦
+          let none : c.in-Start.given.options.state ≡ None = search rules in
+          inr (record {
+            listened = record { registry = c.in_ok-registry.registry; held = held; announced = rw w.out-is w.in_ok-fault-in-None.ensures.done };
+            given = c.in-Start.given;
+            service_is = c.in-Start.is;
+            hooks = c.in_ok-chain.field-0.chain;
+            taken = taken;
+            codes = map fact_of c.in_ok-chain.field-0.codes.items;
+            coded = coded;
+            cause = c.match-state.fault;
+            started = anew _ _ _ _ none (rw w.fault-is (rw (c.silence.ensures, c.full.ensures) at w.in_ok-fault-in-None.ensures.serves));
+            fault_is = refl;
+          })
+      | in-Some+in_ok-server-in-Some+in_ok-fault-in-Some w ↦
+          let named : c.in-Start.given.options.state ≡ Some w.in-Some.path.now = search rules in
+          let same : w.deref-in-Some.result.now ≡ c.in_ok-chain.field-0.codes.items = search rules in
+          inr (record {
+            listened = record { registry = c.in_ok-registry.registry; held = held; announced = rw w.out-is w.in_ok-fault-in-Some.ensures.done };
+            given = c.in-Start.given;
+            service_is = c.in-Start.is;
+            hooks = c.in_ok-chain.field-0.chain;
+            taken = taken;
+            codes = map fact_of c.in_ok-chain.field-0.codes.items;
+            coded = coded;
+            cause = c.match-state.fault;
+            started = on_state _ _ _ _ _ named (record {
+              started = w.in_ok-server-in-Some.field-0;
+              comes = comes_of _ c.in_ok-registry.registry w.in_ok-server-in-Some.field-0 w.deref-in-Some.result.now c.in_ok-chain.field-0.codes.items same w.in_ok-server-in-Some.ensures.started;
+              gone_on = rw w.fault-is (rw (c.silence.ensures, c.full.ensures) at w.in_ok-fault-in-Some.ensures.serves);
+            });
+            fault_is = refl;
+          })
+    ]

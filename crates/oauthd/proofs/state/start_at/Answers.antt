@@ -1,0 +1,27 @@
+use Rattle.std.proofs.Common.{◌≡◌, ◌∙◌, Err, ap, inr, map, refl, rules}
+use Rattle.image_codec.specs.Facts.{hook_fact}
+use Rattle.oauthd.specs.Faults.{of_state}
+use Rattle.oauthd.specs.Hooks.{fact_of}
+use Rattle.oauthd.specs.Startings.{RefusesState}
+use Rattle.oauthd.proofs.Resuming.{comes}
+use Rattle.oauthd.proofs.state.start_at.Goals as goal
+
+pub returns-in_err-started-clause-refused : goal.returns-in_err-started-clause-refused
+returns-in_err-started-clause-refused g c =
+    let cause = c.in_err-started.field-0.0 in
+    let is : c.from_residual-in_err-started.result ≡ Err (of_state cause) = search rules in
+    let refused : RefusesState c.args.registry (map fact_of c.args.codes.now) (of_state cause) = inr (record {
+      bytes = _;
+      cause = cause;
+      fault_is = refl;
+      refused = rw (c.deref-2.ensures.value, c.in_ok-hooks.ensures, c.new.ensures) at c.in_err-started.ensures.refused;
+    }) in
+    rw is refused
+
+pub returns-clause-started : goal.returns-clause-started
+returns-clause-started g c =
+    let same : c.deref.result.now ≡ c.in_ok-device.field-0.bytes.items = search rules in
+    let are : map hook_fact c.deref-2.result.now ≡ map fact_of c.args.codes.now = ap (λ hooks. map hook_fact hooks) c.deref-2.ensures.value ∙ c.in_ok-hooks.ensures in
+    comes _ c.args.registry c.in_ok-started.started c.in_ok-device.field-0 c.deref.result.now (map hook_fact c.deref-2.result.now) (map fact_of c.args.codes.now) c.new.result
+    same are c.new.ensures c.in_ok-device.ensures.same
+    c.in_ok-started.ensures.serves c.in_ok-started.ensures.held c.in_ok-started.ensures.any_moment
