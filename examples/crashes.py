@@ -19,12 +19,18 @@ import time
 import urllib.parse
 
 APP = {"client_id": "app", "client_secret": "s3cret"}
+# Tokens live for so many seconds, so that the store is not full of those that nobody asks for again.
+LIFE = 120
 REDIRECT = "https://app.example/cb"
 OWNERS = ["ann-key", "bob-key"]
 
 
 class Gone(Exception):
     """The server was killed before the whole reply came: what was asked for may have happened or not."""
+
+
+class Refused(Exception):
+    """The server has no room for what was asked for: nothing happened."""
 
 
 class Server:
@@ -85,18 +91,23 @@ class Client:
         query = urllib.parse.urlencode({"response_type": "code", "client_id": "app", "redirect_uri": REDIRECT,
                                         "code_challenge": challenge, "code_challenge_method": "S256", "scope": "read"})
         status, location, _ = self.ask("GET", f"/authorize?{query}", headers={"X-Owner-Key": self.random.choice(OWNERS)})
-        code = urllib.parse.parse_qs(urllib.parse.urlsplit(location).query)["code"][0]
-        status, _, body = self.ask("POST", "/token", dict(APP, grant_type="authorization_code", code=code, redirect_uri=REDIRECT, code_verifier=verifier))
+        answer = urllib.parse.parse_qs(urllib.parse.urlsplit(location or "").query)
+        if status == 503 or answer.get("error") == ["temporarily_unavailable"]:
+            raise Refused()
+        told = self.tokens(grant_type="authorization_code", code=answer["code"][0], redirect_uri=REDIRECT, code_verifier=verifier)
+        self.grants.append({"refresh": told["refresh_token"], "access": [told["access_token"]], "since": time.monotonic()})
+
+    def tokens(self, **form):
+        status, _, body = self.ask("POST", "/token", dict(APP, **form))
+        if status == 503:
+            raise Refused()
         assert status == 200, (status, body)
-        told = json.loads(body)
-        self.grants.append({"refresh": told["refresh_token"], "access": [told["access_token"]]})
+        return json.loads(body)
 
     def refresh(self):
         """The grant's refresh token is changed for another. While no reply came, the grant is in nobody's memory."""
         grant = self.grants.pop(self.random.randrange(len(self.grants)))
-        status, _, body = self.ask("POST", "/token", dict(APP, grant_type="refresh_token", refresh_token=grant["refresh"]))
-        assert status == 200, (status, body)
-        told = json.loads(body)
+        told = self.tokens(grant_type="refresh_token", refresh_token=grant["refresh"])
         self.used.append(grant["refresh"])
         grant["refresh"] = told["refresh_token"]
         grant["access"].append(told["access_token"])
@@ -113,13 +124,16 @@ class Client:
         try:
             while True:
                 choice = self.random.random()
-                if choice < 0.4 or len(self.grants) < 3:
-                    self.begin()
-                elif choice < 0.75:
-                    self.refresh()
-                else:
-                    self.revoke()
-                self.acknowledged += 1
+                try:
+                    if choice < 0.4 or len(self.grants) < 3:
+                        self.begin()
+                    elif choice < 0.75:
+                        self.refresh()
+                    else:
+                        self.revoke()
+                    self.acknowledged += 1
+                except Refused:
+                    time.sleep(0.01)
         except Gone:
             pass
 
@@ -129,7 +143,9 @@ class Client:
         return json.loads(body)["active"]
 
     def faults(self):
-        """What the server answers otherwise than it acknowledged, of what is remembered; and forgets the older half."""
+        """What the server answers otherwise than it acknowledged, of what is remembered; and forgets what is older. A grant
+        that began half a life ago is not asked for: its tokens may have expired."""
+        self.grants = [grant for grant in self.grants if time.monotonic() - grant["since"] < LIFE / 2]
         live = [it for grant in self.grants for it in [grant["refresh"], *grant["access"]]]
         dead = [it for grant in self.ended for it in [grant["refresh"], *grant["access"]]] + self.used
         told = [f"lost {it}" for it in live if not self.is_active(it)] + [f"revived {it}" for it in dead if self.is_active(it)]
@@ -151,7 +167,9 @@ def main():
     chance = random.Random(seed)
     print(f"seed {seed}", flush=True)
     with tempfile.TemporaryDirectory() as room:
-        server = Server(program, registry, f"{room}/state")
+        with open(registry) as given, open(f"{room}/registry.json", "w") as own:
+            json.dump(dict(json.load(given), access_life=LIFE, refresh_life=LIFE), own)
+        server = Server(program, f"{room}/registry.json", f"{room}/state")
         server.start()
         consents(Client(server, 0), "read")
         clients = [Client(server, chance.random()) for _ in range(count)]
@@ -180,6 +198,7 @@ def main():
         server.kill()
     for it in faults[:20]:
         print(it)
+    print(f"{len(faults)} wrong of {asked} that were asked for again, after {kill} kills")
     return 1 if faults else 0
 
 
