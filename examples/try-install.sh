@@ -42,7 +42,7 @@ request="$request&code_challenge=E9Melhoa2OwvFrEMTJguCHaoeK1t8URWbuGJSstw-cM&cod
 process=$(systemctl show -p MainPID --value oauthd)
 check user oauthd "$(stat -c %U /proc/"$process")"
 check privileges '0000000000000000 1' "$(awk '/^CapEff|^NoNewPrivs/{print $2}' /proc/"$process"/status | xargs)"
-check files-it-may-write /run/oauthd/open "$(nsenter -t "$process" -m -- setpriv --reuid oauthd --regid oauthd --clear-groups \
+check files-it-may-write '/run/oauthd/open /var/lib/oauthd/state /var/lib/oauthd/state.lock' "$(nsenter -t "$process" -m -- setpriv --reuid oauthd --regid oauthd --clear-groups \
     find /etc /run /srv /usr/local /var -maxdepth 3 -writable -type f 2>/dev/null | head -n 3 | xargs)"
 check others-read-no-registry 'cat: *Permission denied' "$(setpriv --reuid nobody --regid nogroup --clear-groups \
     cat /etc/oauthd/registry.json 2>&1)"
@@ -97,7 +97,7 @@ check rate-of-another-one 200 "$(status -u "$bot" -d grant_type=client_credentia
 check rate-of-an-address '* 401 * 429' "$(asked_often --interface 127.0.0.3 -d client_id=bot -d client_secret=wrong)"
 check introspection-from-elsewhere 403 "$(status --interface 127.0.0.3 -u "$bot" -d token=none $auth/introspect)"
 
-# A restart forgets all, and nothing is let through before the hooks are there
+# A restart forgets nothing, and nothing is let through before the hooks are there
 hooks() { curl -s -H @/etc/oauthd/operator http://127.0.0.1:8080/hooks/list; }
 check hooks '{"hooks":\["capped"\]}' "$(hooks)"
 before=$(token | python3 -c 'import json, sys; print(json.load(sys.stdin)["access_token"])')
@@ -106,7 +106,7 @@ systemctl kill -s KILL oauthd
 check just-killed '50[23]' "$(status -u "$bot" -d "token=$before" $auth/introspect)"
 opened
 check hooks-after-it '{"hooks":\["capped"\]}' "$(hooks)"
-check after-a-restart '{"active":false}' "$(web -u "$bot" -d "token=$before" $auth/introspect)"
+check after-a-restart '{"active":true*' "$(web -u "$bot" -d "token=$before" $auth/introspect)"
 install -m 755 crates/oauthd/out/oauthd /usr/local/bin/oauthd
 systemctl restart oauthd
 check another-version 200 "$(status -u "$bot" -d grant_type=client_credentials $auth/token)"
