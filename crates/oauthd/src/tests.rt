@@ -127,7 +127,7 @@ fn perform<W: Write, E: Write>(
 ) -> u8 {
     let status = match Call::from_words(alloc, words) {
         Ok(Call::Command(command)) => perform_command(alloc, command, file, out, err),
-        Ok(Call::Service(_)) => told(PerformFault::BadArguments, err),
+        Ok(Call::Service(_service)) => told(PerformFault::BadArguments, err),
         Err(fault) => told(fault, err),
     };
     status.code()

@@ -72,7 +72,18 @@ hook NAME: FAULT: start was to install this hook, and it is refused; no connecti
     Topic {
         name: "State",
         text: "\
-State FAULT: start was to keep its state in the file of --state, and can't; no connection was taken. InUse: another server holds the lock on FILE.lock; stop that one first. Open: the system refused to open or to make the file, its lock or its folder, and says why: not found, permission denied, not a directory, is a directory, read-only filesystem, no storage space, quota exceeded, other error.
+State FAULT: start was to keep its state in the file of --state, and can't; no connection was taken, and all that the file has kept stays there.
+
+  InUse                  another server holds the lock on FILE.lock; stop that one first
+  Open: WHY              the system refused to open or to make the file, its lock or its folder: not found, permission denied, not a directory, is a directory, read-only filesystem, no storage space, quota exceeded, other error
+  Device                 the disk failed, or was full, while the file was read, or what was new was written to it
+  NoRules, Spelling ..   the file is not what a server wrote
+  Follows ..             a change in the file can't have happened after those before it
+  ScopeMoved NAME, OwnerMoved, ClientMoved NAME    the registry has left out or moved what the file has
+  ClientNarrowed NAME, LifeNarrowed                the registry allows less than when the file was written
+  HookDiffers NAME       the file has another hook of that name; remove it by a request, or leave out the option
+  Hook NAME FAULT        a hook behind start is refused: oauthd help hook
+  Full, TooLong          the file, or what is to be written to it, is too long
 
   oauthd start 127.0.0.1:8080 registry.json --state /var/lib/oauthd/state
 ",
@@ -100,7 +111,7 @@ connection ended: FAULT: a connection of start was closed before its client ende
     Topic {
         name: "stopped",
         text: "\
-stopped: FAULT: start served, and can't go on. Wait is a wait for connections that fails, Clock is a clock of the machine that can't be read, and Rounds are more rounds than can be counted. All connections were closed. Start it again.
+stopped: FAULT: start served, and can't go on. Wait is a wait for connections that fails, Clock is a clock of the machine that can't be read, Rounds are more rounds than can be counted, and State is a state that can't be written to its file: the disk is full, or fails. All connections were closed. Start it again.
 ",
     },
     Topic {
