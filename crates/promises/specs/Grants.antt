@@ -5,7 +5,7 @@ use Rattle.clients.specs.RegistryRecord.{RegistryRecord}
 use Rattle.clients.specs.ClientRecord.{ClientRecord}
 use Rattle.clients.specs.Clients.{client_at}
 use Rattle.clients.specs.Owners.{sub_of}
-use Rattle.consent.specs.History.{Event, Grant, event_at, grant_at, live_grant, is_code, is_within, consented_scope, last_consent}
+use Rattle.consent.specs.History.{Event, Grant, event_at, grant_at, live_grant, code_terms, is_code, is_within, consented_scope, last_consent, Terms}
 use Rattle.consent.specs.History.Change.{Consented}
 use Rattle.hook_host.specs.declared.host.HookHost.{Ghosts as Hosting}
 use Rattle.messages.specs.Reply.{Body}
@@ -47,6 +47,12 @@ abbrev pub KeepsToConsents : List Event → Type 0
 KeepsToConsents history =
     (digest : List ℕ) (moment : ℕ) (token : Grant) (mask : ℕ) → live_grant history digest moment ≡ Some token →
     is_code token.kind ≡ false → token.owner ≢ 0 → IsSince history digest moment token mask → is_within token.scope mask ≡ true
+
+-- what comes of a code is of the client and the owner that the code is of
+abbrev pub AreOfTheirCodes : List Event → Type 0
+AreOfTheirCodes history =
+    (digest : List ℕ) (moment : ℕ) (token : Grant) (terms : Terms) → grant_at history digest moment ≡ Some token →
+    code_terms history token.family ≡ Some terms → (terms.client ≡ token.client) × (terms.owner ≡ token.owner)
 
 -- so it is of the rules and the history of each server
 abbrev pub InEachHistory : {H : Type 0} → Hosting H → (RegistryRecord → List Event → Type 0) → Type 0

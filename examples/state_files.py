@@ -1,0 +1,221 @@
+"""Hands a server state files of all kinds: cut at every byte, changed in places, drawn at random, on a full disk, in a
+folder that may not be written, and paths that are no files. It is started on each, or says in one line why not.
+
+Words: PROGRAM REGISTRY [DRAWS]. Ends by itself, with 0 where all is as wanted. SEED=n draws as before."""
+
+import json
+import os
+import random
+import secrets
+import shutil
+import signal
+import subprocess
+import sys
+import tempfile
+
+from crashes import APP, Client, Gone, Server, consents
+
+# What may follow `oauthd: State` where the bytes of a file are wrong.
+OF_BYTES = {"NoRules", "Spelling", "ScopeMoved", "OwnerMoved", "ClientMoved", "ClientNarrowed", "LifeNarrowed", "Follows", "Image", "Hook"}
+
+
+class Trials:
+    """What is tried, and what came out otherwise than wanted."""
+
+    def __init__(self, program, registry, room):
+        self.program, self.registry, self.room = program, registry, room
+        self.faults = []
+
+    def start(self, path, run_as=()):
+        """Starts a server on the path: the process, its first line on standard output and, where it ended, its status and
+        what it said on standard error."""
+        words = [*run_as, self.program, "start", "127.0.0.1:0", self.registry, "--state", path]
+        process = subprocess.Popen(words, stdout=subprocess.PIPE, stderr=subprocess.PIPE, text=True)
+        line = process.stdout.readline()
+        if line:
+            return process, line, None, ""
+        try:
+            status = process.wait(timeout=20)
+        except subprocess.TimeoutExpired:
+            process.kill()
+            status = process.wait()
+        return process, "", status, process.stderr.read()
+
+    def ends(self, process):
+        process.send_signal(signal.SIGKILL)
+        process.wait()
+
+    def wrong(self, what, told):
+        self.faults.append(f"{what}: {told}")
+
+    def taken(self, what, content):
+        """A file of these bytes is taken."""
+        path = self.file_of(content)
+        process, line, status, told = self.start(path)
+        if not line:
+            self.wrong(what, f"not taken: status {status}, {told!r}")
+        else:
+            self.ends(process)
+
+    def taken_or_refused(self, what, content):
+        """A file of these bytes is taken, or it is refused by a name, in one line, and keeps its bytes. Whether it was taken."""
+        path = self.file_of(content)
+        process, line, status, told = self.start(path)
+        if line:
+            self.ends(process)
+            return True
+        names = told.split()
+        if status != 2 or told.count("\n") != 1 or names[:2] != ["oauthd:", "State"] or names[2] not in OF_BYTES:
+            self.wrong(what, f"status {status}, {told!r}")
+        return False
+
+    def refused(self, what, path, wanted, run_as=()):
+        """The path is refused with this line."""
+        process, line, status, told = self.start(path, run_as)
+        if line:
+            self.ends(process)
+        if line or status != 2 or told != f"oauthd: State {wanted}\n":
+            self.wrong(what, f"wanted {wanted!r}: {line!r}, status {status}, {told!r}")
+
+    def file_of(self, content):
+        path = f"{self.room}/tried"
+        with open(path, "wb") as to:
+            to.write(content)
+        return path
+
+
+def worked_on(program, registry, room):
+    """The bytes of a state file after some grants, refreshes, revocations and consents."""
+    server = Server(program, registry, f"{room}/state")
+    server.start()
+    client = Client(server, 1)
+    consents(client, "read")
+    for _ in range(6):
+        client.begin()
+    for _ in range(3):
+        client.refresh()
+    client.revoke()
+    server.kill()
+    with open(f"{room}/state", "rb") as written:
+        return written.read()
+
+
+def drawn_change(chance, content):
+    """The bytes with some of them changed, left out, or put in."""
+    changed = bytearray(content)
+    for _ in range(chance.choice([1, 1, 1, 2, 5, 40])):
+        at = chance.randrange(len(changed) + 1)
+        kind = chance.randrange(4)
+        if kind == 0 and at < len(changed):
+            changed[at] ^= 1 << chance.randrange(8)
+        elif kind == 1:
+            changed[at:at + chance.choice([1, 2, 4, 50])] = b""
+        elif kind == 2:
+            changed[at:at] = chance.randbytes(chance.choice([1, 2, 4, 50]))
+        else:
+            other = chance.randrange(len(changed) + 1)
+            changed[at:at + 40] = changed[other:other + 40]
+        if not changed:
+            break
+    return bytes(changed)
+
+
+def tries_bytes(trials, chance, content, draws):
+    """Every front of a file is taken, whatever stands behind it in its last batch; what was changed is taken or refused."""
+    for length in range(0, len(content) + 1, max(1, len(content) // 400)):
+        trials.taken(f"the first {length} bytes of {len(content)}", content[:length])
+    count = 0
+    for number in range(draws):
+        count += trials.taken_or_refused(f"change {number}", drawn_change(chance, content))
+    for number in range(draws // 4):
+        count += trials.taken_or_refused(f"drawn bytes {number}", chance.randbytes(chance.randrange(200)))
+    print(f"of {draws + draws // 4} files of other bytes {count} were taken, all others refused by name", flush=True)
+
+
+def tries_paths(trials):
+    """Paths on which no state can stand."""
+    room = trials.room
+    trials.refused("a missing folder", f"{room}/missing/state", "Open: not found")
+    trials.refused("a folder", room, "Open: is a directory")
+    trials.refused("a file as a folder", f"{trials.registry}/state", "Open: not a directory")
+    process, line, _, told = trials.start(f"{room}/held")
+    trials.refused("a file that is held", f"{room}/held", "InUse")
+    trials.ends(process)
+    process, line, status, told = trials.start("/dev/full")
+    if line or status != 2 or not told.startswith("oauthd: State "):
+        trials.wrong("/dev/full", f"{line!r}, status {status}, {told!r}")
+    if line:
+        trials.ends(process)
+    if os.geteuid() == 0 and shutil.which("setpriv"):
+        own = f"{room}/closed"
+        os.mkdir(own, 0o755)
+        os.chmod(room, 0o755)
+        nobody = ["setpriv", "--reuid=65534", "--regid=65534", "--clear-groups"]
+        trials.refused("a folder of somebody else", f"{own}/state", "Open: permission denied", nobody)
+
+
+def tries_a_full_disk(trials):
+    """On a full disk the server stops, and what it acknowledged is there once there is room."""
+    if os.geteuid() != 0:
+        print("the full disk was not tried: that wants root")
+        return
+    disk = f"{trials.room}/disk"
+    os.mkdir(disk)
+    if subprocess.run(["mount", "-t", "tmpfs", "-o", "size=64k", "tmpfs", disk], capture_output=True).returncode:
+        print("the full disk was not tried: nothing can be mounted here")
+        return
+    try:
+        process, line, status, told = trials.start(f"{disk}/state")
+        if not line:
+            return trials.wrong("a small disk", f"status {status}, {told!r}")
+        host, port = line.split()[-1].rsplit(":", 1)
+        server = Server(trials.program, trials.registry, f"{disk}/state")
+        server.address, server.process = (host, int(port)), process
+        client = Client(server, 2)
+        try:
+            consents(client, "read")
+            for _ in range(2000):
+                client.begin()
+        except Gone:
+            pass
+        status, told = process.wait(timeout=20), process.stderr.read()
+        if status != 2 or told != "oauthd: stopped: State\n":
+            trials.wrong("a full disk", f"status {status}, {told!r}")
+        subprocess.run(["mount", "-o", "remount,size=1m", disk], check=True)
+        process, line, status, told = trials.start(f"{disk}/state")
+        if not line:
+            return trials.wrong("a disk with room again", f"status {status}, {told!r}")
+        host, port = line.split()[-1].rsplit(":", 1)
+        server.address, server.process, client.connection = (host, int(port)), process, None
+        asked, lost = client.faults()
+        for it in lost:
+            trials.wrong("a disk that was full", it)
+        print(f"a full disk stopped the server; then {asked} tokens were asked for again", flush=True)
+        trials.ends(process)
+    finally:
+        subprocess.run(["umount", "-l", disk])
+
+
+def main():
+    program, given = sys.argv[1:3]
+    draws = int((sys.argv[3:] + ["400"])[0])
+    seed = int(os.environ.get("SEED", secrets.randbits(32)))
+    print(f"seed {seed}", flush=True)
+    with tempfile.TemporaryDirectory() as room:
+        registry = f"{room}/registry.json"
+        with open(given) as text, open(registry, "w") as own:
+            json.dump(dict(json.load(text), access_life=300, refresh_life=3600), own)
+        os.chmod(registry, 0o644)
+        trials = Trials(program, registry, room)
+        content = worked_on(program, registry, room)
+        tries_bytes(trials, random.Random(seed), content, draws)
+        tries_paths(trials)
+        tries_a_full_disk(trials)
+        for it in trials.faults[:20]:
+            print(it)
+        print(f"{len(trials.faults)} not as wanted")
+        return 1 if trials.faults else 0
+
+
+if __name__ == "__main__":
+    sys.exit(main())
