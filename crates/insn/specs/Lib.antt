@@ -2,11 +2,17 @@ pub mod Instruction
 pub mod Program
 pub mod Word
 pub mod Values
+pub mod Effects
+pub mod Arithmetic
 pub mod Memory
+pub mod Jumps
+pub mod Meaning
 pub mod Step
 pub mod FirstLook
 pub mod Shapes
+pub mod Outcomes
 pub mod Faults
+pub mod Refusals
 pub mod FaultTexts
 pub mod WordLaws
 pub mod SlotLaws
@@ -14,6 +20,7 @@ pub mod MemoryLaws
 pub mod PointerLaws
 pub mod StateLaws
 pub mod FaultLaws
+pub mod OutcomeLaws
 pub mod ShapeLaws
 pub mod RunLaws
 pub mod WayLaws
