@@ -1,19 +1,36 @@
+-- What instructions and programs mean, by the chapters of RFC 9669.
+--
+-- For Safe alone read these, in their order, and no laws:
+--   Instruction (section 3), Program, Values: fields, slots, and what the machine holds
+--   Word: numbers (4.1 arithmetic, 4.2 byte swaps, 4.3 conditions)
+--   Effects, Arithmetic (4.1), Memory (5), Jumps (4.3): what is done with what the machine holds
+--   Meaning: what each instruction says, in eight lines what that does
+--   Step: steps, runs, Safe
 pub mod Instruction
 pub mod Program
 pub mod Word
 pub mod Values
+pub mod Effects
+pub mod Arithmetic
 pub mod Memory
+pub mod Jumps
+pub mod Meaning
 pub mod Step
+-- For why a program is refused, these too; Faults says of parts what Outcomes says of the whole, and only proofs need it.
 pub mod FirstLook
 pub mod Shapes
+pub mod Outcomes
 pub mod Faults
+pub mod Refusals
 pub mod FaultTexts
+-- Laws, each proved: a reader may skip them.
 pub mod WordLaws
 pub mod SlotLaws
 pub mod MemoryLaws
 pub mod PointerLaws
 pub mod StateLaws
 pub mod FaultLaws
+pub mod OutcomeLaws
 pub mod ShapeLaws
 pub mod RunLaws
 pub mod WayLaws

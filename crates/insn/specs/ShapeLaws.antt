@@ -32,10 +32,11 @@ use Rattle.insn.specs.declared.verify_fault.WalkFault.{WalkFault}
 use Rattle.insn.specs.declared.verify_fault.WalkFault.TheVariants.{PointerMisuse, ExitsWithPointer}
 use Rattle.insn.specs.Instruction.{division_of, operation_of, reg_number, remainder_of, read_size, size_bytes}
 use Rattle.insn.specs.Values.{only_if, State, cells_of, region_size, value_of}
-use Rattle.insn.specs.Memory.{are_parts, cells_at, may_hold, number_spelled, place_of, same_pointer, value_in, within}
-use Rattle.insn.specs.Step.{defined_result, left_operand, word_of}
+use Rattle.insn.specs.Memory.{are_parts, cells_at, may_hold, number_spelled, place_of, same_pointer, value_in, within, is_unset}
+use Rattle.insn.specs.Effects.{word_of}
+use Rattle.insn.specs.Arithmetic.{defined_result, left_operand}
 use Rattle.insn.specs.Shapes.{NoMovedPointer, blank_cell, blank_value, shape_of}
-use Rattle.insn.specs.Faults.{comparison_tests, fault_at, first_of, is_unset, load_tests, number_tests, operated_tests, operation_tests, read_tests, result_tests, store_tests, tests_of, write_tests}
+use Rattle.insn.specs.Faults.{comparison_tests, fault_at, first_of, load_tests, number_tests, operated_tests, operation_tests, read_tests, result_tests, store_tests, tests_of, write_tests}
 
 -- ---- what a shape holds
 

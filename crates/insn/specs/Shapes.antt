@@ -5,7 +5,7 @@ use Rattle.std.specs.List.{filter_map}
 use Rattle.insn.specs.declared.register.RegNo.{RegNo}
 use Rattle.insn.specs.declared.operation.AluOp.TheVariants.{Add, Sub}
 use Rattle.insn.specs.declared.instruction.Insn.{Insn}
-use Rattle.insn.specs.declared.instruction.Insn.TheVariants.{Alu64Reg, Jump64IfImm, Jump64IfReg, Jump32IfImm, Jump32IfReg}
+use Rattle.insn.specs.declared.instruction.Insn.TheVariants.{Alu64Reg}
 use Rattle.insn.specs.declared.layout.Layout.{Layout}
 use Rattle.insn.specs.declared.state.Pointer.{Pointer}
 use Rattle.insn.specs.declared.state.Value.{Value}
@@ -15,7 +15,9 @@ use Rattle.insn.specs.declared.state.Cell.TheVariants.{Unset, Byte, Part}
 use Rattle.insn.specs.Instruction.{slots_of}
 use Rattle.insn.specs.Program.{begins_at}
 use Rattle.insn.specs.Values.{State, Config, value_of, record_size, start}
-use Rattle.insn.specs.Step.{Effect, Falls, Jumps, Reaches, effect, lead, exit_at}
+use Rattle.insn.specs.Effects.{Effect, Falls, Jumps}
+use Rattle.insn.specs.Meaning.{Action, Branch, action_of, effect}
+use Rattle.insn.specs.Step.{Reaches, lead, exit_at}
 
 -- A shape is a state in which each number and each byte is 0: it has lost its amount.
 abbrev pub blank_value : Value → Value
@@ -34,12 +36,12 @@ abbrev pub shape_config : Config → Config
 shape_config c = record { slot = c.slot; state = shape_of c.state }
 
 -- how far a jump leads that may be taken or not
+abbrev pub branch_in : Action → Option ℤ
+branch_in (Branch w cond dst operand offset) = Some offset
+branch_in action = None
+
 abbrev pub branch_of : Insn → Option ℤ
-branch_of (Jump64IfImm cond dst offset imm) = Some offset
-branch_of (Jump64IfReg cond dst src offset) = Some offset
-branch_of (Jump32IfImm cond dst offset imm) = Some offset
-branch_of (Jump32IfReg cond dst src offset) = Some offset
-branch_of i = None
+branch_of i = branch_in (action_of i)
 
 -- both ways of a conditional jump that is not stuck, and else the one effect
 abbrev pub both_ways : Option ℤ → State → Option Effect → List Effect

@@ -26,9 +26,13 @@ use Rattle.insn.specs.declared.state.Cell.{Cell}
 use Rattle.insn.specs.declared.state.Cell.TheVariants.{Unset, Byte, Part}
 use Rattle.insn.specs.Instruction.{division_of, extended_bits, extended_width, operation_of, reg_number, remainder_of, read_bits, read_size, size_bytes, slots_of}
 use Rattle.insn.specs.Values.{◌>>=◌, only_if, Config, IsRecord, State, number_in, number_of, pointer_in, pointer_of, record_size, region_size, start, value_of}
-use Rattle.insn.specs.Memory.{cells_at, is_writable, low_bytes, may_hold, parts_of, place_of, read, value_in, with_number, with_value, within, write_value, written}
+use Rattle.insn.specs.Memory.{cells_at, is_writable, low_bytes, may_hold, parts_of, place_of, read, value_in, with_number, with_value, within, write_value, written, loaded, stored}
 use Rattle.insn.specs.Word.{word_extended, word_holds, word_negated, word_swapped}
-use Rattle.insn.specs.Step.{Effect, Falls, Jumps, Exits, Reaches, defined_result, effect, left_operand, lead, loaded, operated, result_of, sets, step, steps, stored, target, word_of}
+use Rattle.insn.specs.Effects.{Effect, Falls, Jumps, Exits, sets, word_of}
+use Rattle.insn.specs.Arithmetic.{defined_result, left_operand, operated, result_of}
+use Rattle.insn.specs.Jumps.{target}
+use Rattle.insn.specs.Meaning.{effect}
+use Rattle.insn.specs.Step.{Reaches, lead, step, steps}
 use Rattle.insn.specs.Shapes.{HasNoBranch, MovesNoPointer, NoMovedPointer, IsPointer, IsRunShape, OnWay, blank_cell, blank_value, both_ways, branch_of, shape_config, shape_of, ways, ways_from}
 use Rattle.insn.specs.Program.{begins_at}
 use Rattle.insn.specs.FirstLook.{written_by}

@@ -11,10 +11,13 @@ ghost use Rattle.insn.specs.declared.state.Value.TheVariants.{Address};
 ghost use Rattle.insn.specs.Faults.{fault_at};
 ghost use Rattle.insn.specs.FirstLook.{written_by};
 ghost use Rattle.insn.specs.Memory.{parts_of, value_in};
+ghost use Rattle.insn.specs.Outcomes.{failed, outcome, passed};
 ghost use Rattle.insn.specs.Program.{begins_at};
 ghost use Rattle.insn.specs.Shapes.{shape_config, shape_of, ways, HasNoBranch, IsRunShape, MovesNoPointer, NoMovedPointer, OnWay};
 ghost use Rattle.insn.specs.Instruction.{Fits};
-ghost use Rattle.insn.specs.Step.{effect, step, IsEffect, IsExit, IsStuck, Reaches};
+ghost use Rattle.insn.specs.Effects.{IsEffect};
+ghost use Rattle.insn.specs.Meaning.{effect};
+ghost use Rattle.insn.specs.Step.{step, IsExit, IsStuck, Reaches};
 ghost use Rattle.insn.specs.Values.{entry, Config, IsRecord, IsState, State};
 
 /// The entry of a record is a state, and what an instruction does to a state leads to a state.
@@ -35,6 +38,12 @@ pub fn runs_reach_states()
 pub fn faults_are_named()
     ensures { (layout : Layout) (i : Insn) (s : State) → written_by i ≢ Some R10 →
         effect layout i s ≡ None ↔ IsSome (fault_at layout i s) }
+{}
+
+/// An instruction's effect and its fault are the two halves of its outcome: what passes, and the first test that fails.
+pub fn an_outcome_is_effect_or_fault()
+    ensures { (layout : Layout) (i : Insn) (s : State) →
+        (effect layout i s ≡ passed (outcome layout i s)) × (fault_at layout i s ≡ failed (outcome layout i s)) }
 {}
 
 /// A state and its shape have the same fault, where no pointer is moved by a register.

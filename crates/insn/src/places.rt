@@ -3,7 +3,7 @@
 ghost use Rattle.std.specs.Prelude.{◌≡◌, ◌<◌, ◌^◌, drop, is_some, IfSome};
 ghost use Rattle.std.specs.Option.{option_map};
 ghost use Rattle.insn.specs.Program.{begins_at, places};
-ghost use Rattle.insn.specs.Step.{target as spec_target};
+ghost use Rattle.insn.specs.Jumps.{target as spec_target};
 
 use crate::instruction::Insn;
 

@@ -2,7 +2,7 @@
 
 ghost use Rattle.std.specs.Prelude.{◌≡◌, Some};
 ghost use Rattle.insn.specs.FaultTexts.{verify_fault_text};
-ghost use Rattle.insn.specs.Faults.{look_fault_at, walk_fault_at};
+ghost use Rattle.insn.specs.Refusals.{look_fault_at, walk_fault_at};
 
 use std::fmt::{self, Display, Formatter, Write};
 

@@ -7,7 +7,10 @@ use Rattle.insn.specs.declared.layout.Layout.{Layout}
 use Rattle.insn.specs.Instruction.{slots_of}
 use Rattle.insn.specs.Program.{begins_at, places}
 use Rattle.insn.specs.Values.{◌>>=◌, State, Config, start}
-use Rattle.insn.specs.Step.{Falls, Jumps, Exits, effect, target, steps, Reaches, IsExit}
+use Rattle.insn.specs.Effects.{Falls, Jumps, Exits}
+use Rattle.insn.specs.Jumps.{target}
+use Rattle.insn.specs.Meaning.{effect}
+use Rattle.insn.specs.Step.{steps, Reaches, IsExit}
 use Rattle.insn.specs.RunLaws.{first_rest}
 use Rattle.machine.specs.declared.trace.Traced.{Traced}
 use Rattle.machine.specs.Trace.{AreSteps, traced_at, written_value}

@@ -1,7 +1,7 @@
 -- What one instruction does to the registers, the stack and the record.
 use Rattle.std.specs.Prelude.{◌≡◌, ℕ, List, Option, Some, None, Bool, true, false}
 use Rattle.insn.specs.Values.{State}
-use Rattle.insn.specs.Step.{Effect, Falls, Jumps, Exits}
+use Rattle.insn.specs.Effects.{Effect, Falls, Jumps, Exits}
 use Rattle.machine.specs.declared.frame.Frame.{Frame}
 use Rattle.machine.specs.declared.frame.Flow.{Flow}
 use Rattle.machine.specs.declared.frame.Flow.TheVariants.{Next, Jump, Exit, Stuck}

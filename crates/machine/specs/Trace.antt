@@ -5,7 +5,9 @@ use Rattle.insn.specs.declared.layout.Layout.{Layout}
 use Rattle.insn.specs.declared.state.Value.{Value}
 use Rattle.insn.specs.FirstLook.{written_by}
 use Rattle.insn.specs.Program.{begins_at}
-use Rattle.insn.specs.Step.{Effect, Falls, Jumps, Exits, Reaches, effect, steps}
+use Rattle.insn.specs.Effects.{Effect, Falls, Jumps, Exits}
+use Rattle.insn.specs.Meaning.{effect}
+use Rattle.insn.specs.Step.{Reaches, steps}
 use Rattle.insn.specs.Values.{◌>>=◌, Config, start, value_of}
 use Rattle.machine.specs.declared.run.Outcome.{Outcome}
 use Rattle.machine.specs.declared.run.Outcome.TheVariants.{Exit, Stuck}

@@ -4,7 +4,7 @@ use Rattle.insn.specs.declared.instruction.Insn.{Insn}
 use Rattle.insn.specs.declared.layout.Layout.{Layout}
 use Rattle.insn.specs.declared.verify_fault.VerifyFault.{VerifyFault}
 use Rattle.insn.specs.declared.verify_fault.VerifyFault.TheVariants.{Memory}
-use Rattle.insn.specs.Faults.{look_verdict}
+use Rattle.insn.specs.Refusals.{look_verdict}
 use Rattle.insn.specs.Step.{Safe}
 use Rattle.verifier.specs.Verdicts.{IsVerdict}
 

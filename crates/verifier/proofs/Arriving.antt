@@ -8,7 +8,7 @@ use Rattle.insn.specs.declared.instruction.Insn.{Insn}
 use Rattle.insn.specs.declared.layout.Layout.{Layout}
 use Rattle.insn.specs.declared.verify_fault.VerifyFault.{VerifyFault}
 use Rattle.insn.specs.declared.verify_fault.VerifyFault.TheVariants.{Memory}
-use Rattle.insn.specs.Faults.{look_verdict, walk_fault_at}
+use Rattle.insn.specs.Refusals.{look_verdict, walk_fault_at}
 use Rattle.insn.specs.Instruction.{slots_of}
 use Rattle.insn.specs.Program.{begins_at, slot_count}
 use Rattle.insn.specs.RunLaws.{exit_ends}

@@ -21,7 +21,8 @@ use Rattle.insn.specs.declared.verify_fault.WalkFault.{WalkFault}
 use Rattle.insn.specs.declared.verify_fault.WalkFault.TheVariants.{ExitsWithPointer, PointerMisuse, PointerRange, UnsetRegister}
 use Rattle.insn.specs.Instruction.{division_of, extended_bits, extended_width, operation_of, remainder_of}
 use Rattle.insn.specs.Values.{State, value_of}
-use Rattle.insn.specs.Step.{defined_result, left_operand, operand_value}
+use Rattle.insn.specs.Effects.{operand_value}
+use Rattle.insn.specs.Arithmetic.{defined_result, left_operand}
 use Rattle.insn.specs.Faults.{Test as Check, fault_at, first_of, operated_tests, operation_tests, result_tests}
 use Rattle.reg_kind.specs.declared.reg.Reg.{Reg as Kind}
 use Rattle.reg_kind.specs.declared.reg.Reg.TheVariants as kind

@@ -26,7 +26,7 @@ use Rattle.insn.specs.declared.verify_fault.WalkFault.TheVariants.{OutOfRegion, 
 use Rattle.insn.specs.Instruction.{read_size, reg_number, size_bytes}
 use Rattle.insn.specs.Values.{State, at, region_size, value_of, writable_from, writable_to}
 use Rattle.insn.specs.Memory.{is_writable, within}
-use Rattle.insn.specs.Step.{operand_value}
+use Rattle.insn.specs.Effects.{operand_value}
 use Rattle.insn.specs.Faults.{Test as Check, comparison_tests, first_of, load_tests, number_tests, store_tests, write_tests}
 use Rattle.scalar.specs.declared.scalar.Scalar.{Scalar}
 use Rattle.reg_kind.specs.declared.reg.Reg.{Reg as Kind}

@@ -10,14 +10,15 @@ use Rattle.insn.specs.declared.state.Cell.TheVariants as cell
 use Rattle.insn.specs.declared.verify_fault.WalkFault.{WalkFault}
 use Rattle.insn.specs.declared.verify_fault.WalkFault.TheVariants.{FallsOff, UnsetRegister, UnsetByte, OutOfRegion, ReadOnlyField, PointerMisuse, ExitsWithPointer, PointerRange}
 use Rattle.insn.specs.declared.verify_fault.VerifyFault.{VerifyFault}
-use Rattle.insn.specs.Faults.{look_verdict}
+use Rattle.insn.specs.Refusals.{look_verdict}
 use Rattle.insn.specs.FirstLook.{distance_of, first_found, look_fault}
 use Rattle.insn.specs.Instruction.{slots_of}
 use Rattle.insn.specs.Program.{begins_at, slot_count}
 use Rattle.insn.specs.RunLaws.{StandsAt, begins_here, stands_behind}
 use Rattle.insn.specs.SlotLaws.{slots_of_bounds}
 use Rattle.insn.specs.Shapes.{blank_cell, effects, shape_config, shape_of}
-use Rattle.insn.specs.Step.{Effect, Falls, Jumps, Exits, lead}
+use Rattle.insn.specs.Effects.{Effect, Falls, Jumps, Exits}
+use Rattle.insn.specs.Step.{lead}
 use Rattle.insn.specs.Values.{Config, STACK_SIZE, State, entry, record_size}
 use Rattle.reg_kind.specs.declared.reg.Reg.{Reg as Kind}
 use Rattle.reg_kind.specs.declared.reg.Reg.TheVariants as kind

@@ -8,14 +8,16 @@ use Rattle.insn.specs.declared.instruction.Insn.{Insn}
 use Rattle.insn.specs.declared.layout.Layout.{Layout}
 use Rattle.insn.specs.declared.verify_fault.LookFault.{LookFault}
 use Rattle.insn.specs.declared.verify_fault.LookFault.TheVariants.{JumpIntoWide, JumpOut, WritesR10}
-use Rattle.insn.specs.Faults.{look_fault_at}
+use Rattle.insn.specs.Refusals.{look_fault_at}
 use Rattle.insn.specs.FirstLook.{distance_fault, distance_of, jump_fault, look_fault, write_fault, written_by}
 use Rattle.insn.specs.Instruction.{slots_of}
 use Rattle.insn.specs.Program.{begins_at, slot_count}
 use Rattle.insn.specs.RunLaws.{StandsAt, begins_along}
 use Rattle.insn.specs.SlotLaws.{nothing_inside}
 use Rattle.insn.specs.Shapes.{effects, shape_config, ways}
-use Rattle.insn.specs.Step.{Effect, effect, lead}
+use Rattle.insn.specs.Effects.{Effect}
+use Rattle.insn.specs.Meaning.{effect}
+use Rattle.insn.specs.Step.{lead}
 use Rattle.insn.specs.Values.{Config, State}
 use Rattle.verifier.specs.Follows.{WritesNoR10}
 

@@ -5,7 +5,7 @@ use Rattle.insn.specs.declared.layout.Layout.{Layout}
 use Rattle.insn.specs.declared.verify_fault.WalkFault.{WalkFault}
 use Rattle.insn.specs.declared.verify_fault.VerifyFault.{VerifyFault}
 use Rattle.insn.specs.declared.verify_fault.VerifyFault.TheVariants.{Memory}
-use Rattle.insn.specs.Faults.{look_verdict, walk_fault_at}
+use Rattle.insn.specs.Refusals.{look_verdict, walk_fault_at}
 use Rattle.insn.specs.Program.{begins_at}
 use Rattle.insn.specs.Step.{Reaches, Safe}
 use Rattle.insn.specs.Values.{Config, IsRecord}

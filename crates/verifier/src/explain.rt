@@ -1,7 +1,7 @@
 //! What a look at a program finds, told at length.
 
 ghost use Rattle.std.specs.Prelude.{◌≡◌, IfOk, IsOk};
-ghost use Rattle.insn.specs.Faults.{look_verdict};
+ghost use Rattle.insn.specs.Refusals.{look_verdict};
 ghost use Rattle.verifier.specs.Findings.{IsFinding, IsNoted, IsRefusedWith, IsWalkFinding};
 ghost use Rattle.verifier.specs.Follows.{reg_of};
 
