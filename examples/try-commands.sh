@@ -4,9 +4,9 @@
 # Build the program first: (cd crates/oauthd && rt run -- help).
 cd "$(dirname "$0")/.." || exit 2
 program=$PWD/crates/oauthd/out/oauthd
-tests=$PWD/crates/oauthd/src/tests/examples.rt
+tests=$PWD/crates/hook_rows/src/tests/examples.rt
 hooks=$PWD/examples/hooks
-hex_tests=$PWD/crates/oauthd/src/tests/c_hooks.rt
+hex_tests=$PWD/crates/hook_rows/src/tests/c_hooks.rt
 compiled=$PWD/examples/c
 room=$(mktemp -d) || exit 2
 trap 'rm -rf "$room"' EXIT

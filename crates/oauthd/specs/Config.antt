@@ -5,7 +5,7 @@ use Rattle.clients.specs.RegistryRecord.{RegistryRecord}
 use Rattle.clients.specs.declared.fault.ConfigFault.TheVariants as config
 use Rattle.oauthd.specs.declared.fault.PerformFault.{PerformFault}
 use Rattle.oauthd.specs.declared.fault.PerformFault.TheVariants as faults
-use Rattle.oauthd.specs.File.{File}
+use Rattle.hook_commands.specs.File.{File}
 
 -- a file is JSON text of a registry
 abbrev pub HoldsRegistry : File → RegistryRecord → Type 0

@@ -10,8 +10,8 @@ use Rattle.hook_host.specs.Versions.{version_of}
 use Rattle.image_codec.specs.Facts.{HookFact}
 use Rattle.oauthd.specs.declared.hook_files.HookCode.{HookCode}
 use Rattle.oauthd.specs.declared.hook_files.HookRead.{HookRead}
-use Rattle.oauthd.specs.File.{File}
-use Rattle.oauthd.specs.HexText.{IsHexOf, IsNoHex}
+use Rattle.hook_commands.specs.File.{File}
+use Rattle.hook_commands.specs.HexText.{IsHexOf, IsNoHex}
 
 -- what the words say of a hook, and what stands in its file
 pub record HookInFile : Type 0 where

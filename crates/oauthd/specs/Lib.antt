@@ -1,13 +1,9 @@
 pub mod Answers
-pub mod Assembly
 pub mod Calls
 pub mod Config
 pub mod Endings
 pub mod Faults
-pub mod File
 pub mod Help
-pub mod HexText
-pub mod Judge
 pub mod Listening
 pub mod Performed
 pub mod Printed
@@ -15,8 +11,6 @@ pub mod Registries
 pub mod Services
 pub mod Startings
 pub mod Statuses
-pub mod Telling
 pub mod Transcripts
-pub mod Verdict
 pub mod Words
 pub mod Hooks

@@ -17,7 +17,7 @@ use Rattle.oauthd.specs.declared.service.Service.{Service}
 use Rattle.oauthd.specs.declared.service.Service.TheVariants.{Serve, Start}
 use Rattle.oauthd.specs.Config.{HoldsNoRegistry, HoldsRegistry}
 use Rattle.oauthd.specs.Faults.{of_listening}
-use Rattle.oauthd.specs.File.{File}
+use Rattle.hook_commands.specs.File.{File}
 use Rattle.oauthd.specs.Hooks.{AreFactsOf, HookInFile, in_file, RefusesHooks, TakesHooks}
 use Rattle.hook_chain.specs.Chains.{Named}
 use Rattle.image_codec.specs.Facts.{HookFact}

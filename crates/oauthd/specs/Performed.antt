@@ -6,7 +6,7 @@ use Rattle.oauthd.specs.declared.command.Command.{Command}
 use Rattle.oauthd.specs.declared.fault.PerformFault.{PerformFault}
 use Rattle.oauthd.specs.declared.fault.Status.{Status}
 use Rattle.oauthd.specs.Answers.{IsAnsweredBy}
-use Rattle.oauthd.specs.File.{File}
+use Rattle.hook_commands.specs.File.{File}
 use Rattle.oauthd.specs.Printed.{answer_text, told_text}
 use Rattle.oauthd.specs.Statuses.{status_of, status_of_answer}
 

@@ -1,11 +1,8 @@
 -- What the commands print.
-use Rattle.std.specs.Prelude.{ℕ, List, [], ◌++◌, codes}
+use Rattle.std.specs.Prelude.{ℕ, List, ◌++◌, codes}
 use Rattle.std.specs.Fmt.{decimal}
-use Rattle.std.specs.Option.{option_map_or}
 use Rattle.std.specs.String.{string_bytes}
-use Rattle.hook_record.specs.declared.Narrowed.{Narrowed}
-use Rattle.hook_record.specs.declared.Narrowed.TheVariants.{Allowed, Denied, EmptyScope}
-use Rattle.insn.specs.FaultTexts.{insn_fault_text, verify_fault_text}
+use Rattle.hook_commands.specs.Printed.{answer_text as hook_answer_text, fault_text as hook_command_fault_text}
 use Rattle.clients.specs.FaultTexts.{config_fault_text}
 use Rattle.clients.specs.Spots.{spot_text}
 use Rattle.hook_host.specs.Faults.{hook_fault_text}
@@ -16,37 +13,17 @@ use Rattle.event_loop.specs.declared.fault.LoopFault.TheVariants.{Keep}
 use Rattle.start_words.specs.FaultTexts.{word_fault_text}
 use Rattle.batch_file.specs.FaultTexts.{open_fault_text}
 use Rattle.state_file.specs.FaultTexts.{state_fault_text}
-use Rattle.assembler.specs.declared.fault.AsmFault.{AsmFault}
-use Rattle.assembler.specs.Reports.{line_of_fault, name_of_fault}
-use Rattle.oauthd.specs.declared.judge.Judged.{Judged}
 use Rattle.oauthd.specs.declared.answer.Answer.{Answer}
 use Rattle.oauthd.specs.declared.answer.Answer.TheVariants as answers
 use Rattle.oauthd.specs.declared.fault.PerformFault.{PerformFault}
-use Rattle.oauthd.specs.declared.fault.PerformFault.TheVariants.{BadArguments, BadWord, BadRecord, CannotRead, IsElf, IsNotHex, Text, Insn, Verify, Config, ConfigAt, Hook, BadLine, Event, Unopened, State, CannotListen, NoSeed, Stopped, OutOfMemory, CannotWrite}
-
--- what is left of a grant, in words
-abbrev pub narrowed_text : Narrowed → List ℕ
-narrowed_text (Allowed scope life) = codes "allowed " ++ decimal scope ++ codes " " ++ decimal life
-narrowed_text Denied = codes "denied"
-narrowed_text EmptyScope = codes "empty scope"
-
--- R0, the steps, and what is left of the grant, a line each
-abbrev pub judged_text : Judged → List ℕ
-judged_text judged = codes "r0 " ++ decimal judged.r0 ++ codes "\nsteps " ++ decimal judged.steps ++ codes "\n" ++ narrowed_text judged.answer
+use Rattle.oauthd.specs.declared.fault.PerformFault.TheVariants.{BadArguments, BadWord, HookCommand, CannotRead, Config, ConfigAt, Hook, BadLine, Event, Unopened, State, CannotListen, NoSeed, Stopped, OutOfMemory, CannotWrite}
 
 -- the whole text that an answer is printed as
 abbrev pub answer_text : Answer → List ℕ
-answer_text (answers.Judged judged) = judged_text judged ++ codes "\n"
-answer_text (answers.Code hex) = string_bytes hex ++ codes "\n"
+answer_text (answers.Hook answer) = hook_answer_text answer
 answer_text (answers.Listing text) = string_bytes text
-answer_text (answers.Refusal text) = string_bytes text
-answer_text (answers.Accepted count) = codes "accepted " ++ decimal count ++ codes "\n"
 answer_text (answers.Replayed output) = output.items
 answer_text (answers.Page text) = text.now
-
--- a text's fault, behind its line where it has one
-abbrev pub located_text : AsmFault → List ℕ
-located_text fault = option_map_or (λ line. codes "line " ++ decimal line ++ codes ": ") (line_of_fault fault) [] ++ name_of_fault fault
 
 -- why a server can't go on: where it can't keep its state, that is named
 abbrev pub stop_text : LoopFault → List ℕ
@@ -56,13 +33,8 @@ stop_text fault = loop_fault_text fault
 abbrev pub fault_text : PerformFault → List ℕ
 fault_text BadArguments = codes "bad arguments"
 fault_text (BadWord word fault) = codes "bad arguments: " ++ word.now ++ codes " " ++ word_fault_text fault
-fault_text BadRecord = codes "bad record"
+fault_text (HookCommand fault) = hook_command_fault_text fault
 fault_text (CannotRead path) = codes "cannot read " ++ path.now
-fault_text (IsElf path) = codes "ELF file: " ++ path.now
-fault_text (IsNotHex path) = codes "not hex: " ++ path.now
-fault_text (Text fault) = located_text fault
-fault_text (Insn fault) = codes "Insn " ++ insn_fault_text fault
-fault_text (Verify fault) = codes "Verify " ++ verify_fault_text fault
 fault_text (Config fault) = codes "Config " ++ config_fault_text fault
 fault_text (ConfigAt fault spot) = codes "Config " ++ config_fault_text fault ++ codes " at " ++ spot_text spot
 fault_text (Hook name fault) = codes "hook " ++ name.now ++ codes ": " ++ hook_fault_text fault

@@ -12,7 +12,7 @@ use Rattle.oauthd.specs.declared.answer.Answer.{Answer}
 use Rattle.oauthd.specs.declared.answer.Answer.TheVariants as answers
 use Rattle.oauthd.specs.declared.fault.PerformFault.{PerformFault}
 use Rattle.oauthd.specs.declared.fault.PerformFault.TheVariants as faults
-use Rattle.oauthd.specs.File.{File}
+use Rattle.hook_commands.specs.File.{File}
 
 -- what in a registry may be a mistake, a line each
 abbrev pub warnings_text : RegistryRecord → List ℕ

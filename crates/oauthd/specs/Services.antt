@@ -11,7 +11,7 @@ use Rattle.oauthd.specs.declared.fault.PerformFault.TheVariants.{BadWord, OutOfM
 use Rattle.oauthd.specs.declared.service.ServeWords.{ServeWords}
 use Rattle.oauthd.specs.declared.service.Service.{Service}
 use Rattle.oauthd.specs.declared.service.Service.TheVariants.{Serve, Start}
-use Rattle.oauthd.specs.HexText.{IsHexOf}
+use Rattle.hook_commands.specs.HexText.{IsHexOf}
 use Rattle.oauthd.specs.Words.{Words}
 
 -- a text is hex of a seed, which has 32 bytes

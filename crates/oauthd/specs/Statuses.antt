@@ -2,8 +2,11 @@
 use Rattle.std.specs.Prelude.{ℕ, Option, None, Result, Ok, Err}
 use Rattle.std.specs.declared.io.ErrorKind.{ErrorKind}
 use Rattle.std.specs.declared.io.ErrorKind.TheVariants as kinds
+use Rattle.hook_commands.specs.declared.answer.HookAnswer.TheVariants as hook_answers
+use Rattle.hook_commands.specs.declared.fault.HookCommandFault.{HookCommandFault}
+use Rattle.hook_commands.specs.declared.fault.HookCommandFault.TheVariants as hook
 use Rattle.oauthd.specs.declared.fault.PerformFault.{PerformFault}
-use Rattle.oauthd.specs.declared.fault.PerformFault.TheVariants.{BadArguments, BadWord, BadRecord, CannotRead, IsElf, IsNotHex, Text, Insn, Verify, Config, ConfigAt, Hook, BadLine, Event, Unopened, State, CannotListen, NoSeed, Stopped, OutOfMemory, CannotWrite}
+use Rattle.oauthd.specs.declared.fault.PerformFault.TheVariants.{BadArguments, BadWord, HookCommand, CannotRead, Config, ConfigAt, Hook, BadLine, Event, Unopened, State, CannotListen, NoSeed, Stopped, OutOfMemory, CannotWrite}
 use Rattle.oauthd.specs.declared.answer.Answer.{Answer}
 use Rattle.oauthd.specs.declared.answer.Answer.TheVariants as answers
 use Rattle.oauthd.specs.declared.fault.Status.{Status}
@@ -16,17 +19,24 @@ code_of Refused = 1
 code_of BadUse = 2
 code_of NoMemory = 3
 
--- a hook, a text or an event that is refused is one thing, bad use another
+-- a hook or a text that is refused is one thing, bad use another
+abbrev pub status_of_hook_command : HookCommandFault → Status
+status_of_hook_command hook.BadArguments = BadUse
+status_of_hook_command hook.BadRecord = BadUse
+status_of_hook_command (hook.CannotRead path) = BadUse
+status_of_hook_command (hook.IsElf path) = BadUse
+status_of_hook_command (hook.IsNotHex path) = BadUse
+status_of_hook_command (hook.Text fault) = Refused
+status_of_hook_command (hook.Insn fault) = Refused
+status_of_hook_command (hook.Verify fault) = Refused
+status_of_hook_command hook.OutOfMemory = NoMemory
+
+-- so it is with an event that is refused
 abbrev pub status_of : PerformFault → Status
 status_of BadArguments = BadUse
 status_of (BadWord word fault) = BadUse
-status_of BadRecord = BadUse
+status_of (HookCommand fault) = status_of_hook_command fault
 status_of (CannotRead path) = BadUse
-status_of (IsElf path) = BadUse
-status_of (IsNotHex path) = BadUse
-status_of (Text fault) = Refused
-status_of (Insn fault) = Refused
-status_of (Verify fault) = Refused
 status_of (Config fault) = BadUse
 status_of (ConfigAt fault spot) = BadUse
 status_of (Hook name fault) = BadUse
@@ -42,7 +52,7 @@ status_of CannotWrite = BadUse
 
 -- an answer that tells why a program is refused ends as a refusal, every other one is done
 abbrev pub status_of_answer : Answer → Status
-status_of_answer (answers.Refusal text) = Refused
+status_of_answer (answers.Hook (hook_answers.Refusal text)) = Refused
 status_of_answer answer = Done
 
 -- why a program's words can't be had: memory is refused, or one of them is no text

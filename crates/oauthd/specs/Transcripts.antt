@@ -1,5 +1,5 @@
 -- What `replay` answers to a file.
-use Rattle.std.specs.Prelude.{◌⊎◌, ⊤, ℕ, List, [], Result, Ok, Err}
+use Rattle.std.specs.Prelude.{◌≡◌, ◌⊎◌, ⊤, ℕ, List, [], Result, Ok, Err}
 use Rattle.hook_chain.specs.contracts.chain.ChainHookHost.TheImpl as chain
 use Rattle.transcript.specs.Replays.{IsReplay, IsReplayFault}
 use Rattle.transcript.specs.declared.fault.ReplayFault.{ReplayFault}
@@ -8,7 +8,7 @@ use Rattle.oauthd.specs.declared.answer.Answer.{Answer}
 use Rattle.oauthd.specs.declared.answer.Answer.TheVariants as answers
 use Rattle.oauthd.specs.declared.fault.PerformFault.{PerformFault}
 use Rattle.oauthd.specs.declared.fault.PerformFault.TheVariants as faults
-use Rattle.oauthd.specs.File.{File, HoldsNoText, HoldsText}
+use Rattle.hook_commands.specs.File.{File, HoldsText, IsNoText}
 
 -- a file is a transcript, and the server with the chain of hooks, of which none is there at first, answers it so
 pub record IsReplayed (file : File) (output : List ℕ) : Type 0 where
@@ -29,6 +29,11 @@ HasNoReplay file (faults.BadLine line) = HasReplayFault file (replay.BadLine lin
 HasNoReplay file (faults.Event line fault) = HasReplayFault file (replay.Refused line fault)
 HasNoReplay file faults.OutOfMemory = ⊤
 HasNoReplay file fault = ⊥
+
+-- why the file of a path is no text
+abbrev pub HoldsNoText : List ℕ → File → PerformFault → Type 0
+HoldsNoText path file (faults.CannotRead named) = IsNoText file × (named.now ≡ path)
+HoldsNoText path file fault = ⊥
 
 -- what `replay` answers to the file of a path
 abbrev pub IsReplayedAs : List ℕ → File → Result Answer PerformFault → Type 0

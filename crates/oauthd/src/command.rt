@@ -6,20 +6,12 @@ ghost use Rattle.oauthd.specs.Answers.{IsAnsweredBy};
 ghost use Rattle.oauthd.specs.Words.{file_named_by, words_of, IsCommand, IsNoCommand};
 
 use crate::answer::Answer;
-use crate::commands::ask::asked;
-use crate::commands::asm::assembled;
-use crate::commands::check::check;
 use crate::commands::help::explained;
-use crate::commands::list::listing;
 use crate::commands::registry::told_registry;
 use crate::commands::replay::replayed;
-use crate::commands::run::run;
-use crate::commands::slots::listing_with_slots;
-use crate::commands::trace::traced;
-use crate::commands::why::explained_check;
 use crate::fault::PerformFault;
 use crate::options::{to_ask, to_trace, with_option};
-use hook_trial::asking::AskWords;
+use hook_commands::HookCommand;
 use insn::layout::Layout;
 use manual::{PAGE, VERSION};
 use std::alloc::Global;
@@ -38,58 +30,16 @@ pub enum HelpWord {
 /// A command, with what its words give it.
 #[derive(Clone, Copy, Debug)]
 pub enum Command<'w> {
-    /// `run HEX RECORDHEX`: what the hook of some code answers to a record.
-    Run {
-        code_hex: &'w str,
-        record_hex: &'w str,
-    },
-    /// `run --trace HEX RECORDHEX`: the steps of that hook's run, and what it answers.
-    Trace {
-        code_hex: &'w str,
-        record_hex: &'w str,
-    },
-    /// `asm FILE`: the bytes of the program that the text of a file says, as hex.
-    Assemble {
-        path: &'w str,
-    },
-    /// `list FILE`: the canonical text of the program whose hex stands in a file.
-    List {
-        path: &'w str,
-    },
-    /// `list --slots FILE`: the same, with the slot before each line.
-    ListSlots {
-        path: &'w str,
-    },
-    /// `check FILE` and `check2 FILE`: whether the program whose hex stands in a file is accepted, for records of
-    /// version 1 or 2.
-    Check {
-        layout: Layout,
-        path: &'w str,
-    },
-    /// `check --why FILE` and `check2 --why FILE`: the same, and why it is refused, or what no way reaches.
-    Why {
-        layout: Layout,
-        path: &'w str,
-    },
-    /// `ask KIND MOMENT CLIENT OWNER SCOPE LIFE`, and `ask2` with the same: the record of an ask in version 1 or 2, as hex.
-    Ask {
-        layout: Layout,
-        words: AskWords<'w>,
-    },
+    /// One about a hook, which asks nothing of a server.
+    Hook(HookCommand<'w>),
     /// `registry FILE`: what the registry in a file says.
-    Registry {
-        path: &'w str,
-    },
+    Registry { path: &'w str },
     /// `replay FILE`: what the server of the transcript in a file sends to each connection.
-    Replay {
-        path: &'w str,
-    },
+    Replay { path: &'w str },
     /// `help`, `--help` and `-h`: the commands.
     Help(HelpWord),
     /// `help NAME`: what a command or a fault means.
-    Explain {
-        name: &'w str,
-    },
+    Explain { name: &'w str },
     /// `--version`: the version of the program.
     Version,
 }
@@ -114,16 +64,16 @@ fn with_word<'w>(name: &str, word: &'w str) -> Option<Command<'w>>
     ensures none { IfNone result ((command : Command) → words_of command ≢ name.now ∷ word.now ∷ []) }
 {
     match name {
-        "asm" => Some(Command::Assemble { path: word }),
-        "list" => Some(Command::List { path: word }),
-        "check" => Some(Command::Check {
+        "asm" => Some(Command::Hook(HookCommand::Assemble { path: word })),
+        "list" => Some(Command::Hook(HookCommand::List { path: word })),
+        "check" => Some(Command::Hook(HookCommand::Check {
             layout: Layout::V1,
             path: word,
-        }),
-        "check2" => Some(Command::Check {
+        })),
+        "check2" => Some(Command::Hook(HookCommand::Check {
             layout: Layout::V2,
             path: word,
-        }),
+        })),
         "registry" => Some(Command::Registry { path: word }),
         "replay" => Some(Command::Replay { path: word }),
         "help" => Some(Command::Explain { name: word }),
@@ -141,10 +91,12 @@ impl<'w> Command<'w> {
             return Some(command);
         }
         match words {
-            [name, code_hex, record_hex] if name.as_str() == "run" => Some(Command::Run {
-                code_hex: code_hex.as_str(),
-                record_hex: record_hex.as_str(),
-            }),
+            [name, code_hex, record_hex] if name.as_str() == "run" => {
+                Some(Command::Hook(HookCommand::Run {
+                    code_hex: code_hex.as_str(),
+                    record_hex: record_hex.as_str(),
+                }))
+            }
             [name, option, word] => with_option(name.as_str(), option.as_str(), word.as_str()),
             [name, option, code_hex, record_hex] => to_trace(
                 name.as_str(),
@@ -163,12 +115,7 @@ impl<'w> Command<'w> {
         ensures { option_copied result ≡ file_named_by self.entry }
     {
         match self {
-            Command::Run { .. } | Command::Trace { .. } | Command::Ask { .. } => None,
-            Command::Assemble { path } => Some(path),
-            Command::List { path } => Some(path),
-            Command::ListSlots { path } => Some(path),
-            Command::Check { path, .. } => Some(path),
-            Command::Why { path, .. } => Some(path),
+            Command::Hook(command) => command.file(),
             Command::Registry { path } => Some(path),
             Command::Replay { path } => Some(path),
             Command::Help(_) | Command::Explain { .. } | Command::Version => None,
@@ -180,20 +127,10 @@ impl<'w> Command<'w> {
         ensures { IsAnsweredBy self.entry (option_copied file.entry) result }
     {
         match self {
-            Command::Run {
-                code_hex,
-                record_hex,
-            } => run(alloc, code_hex, record_hex),
-            Command::Trace {
-                code_hex,
-                record_hex,
-            } => traced(alloc, code_hex, record_hex),
-            Command::Assemble { path } => assembled(alloc, path, file),
-            Command::List { path } => listing(alloc, path, file),
-            Command::ListSlots { path } => listing_with_slots(alloc, path, file),
-            Command::Check { layout, path } => check(alloc, layout, path, file),
-            Command::Why { layout, path } => explained_check(alloc, layout, path, file),
-            Command::Ask { layout, words } => asked(alloc, layout, words),
+            Command::Hook(command) => match command.answer(alloc, file) {
+                Ok(answer) => Ok(Answer::Hook(answer)),
+                Err(fault) => Err(PerformFault::HookCommand(fault)),
+            },
             Command::Registry { path } => told_registry(alloc, path, file),
             Command::Replay { path } => replayed(alloc, path, file),
             Command::Help(_) => Ok(Answer::Page(PAGE)),

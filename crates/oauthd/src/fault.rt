@@ -1,20 +1,18 @@
 //! Why a command is not done, and with which status the program then ends.
 
 ghost use Rattle.std.specs.Prelude.{◌≡◌, Some};
-ghost use Rattle.oauthd.specs.Statuses.{code_of, status_of};
-ghost use Rattle.oauthd.specs.Faults.{of_assembling, of_configuring, of_decoding, of_listening, of_opening, of_replaying, of_state, of_verifying};
-ghost use Rattle.oauthd.specs.Printed.{fault_text, located_text, stop_text};
+ghost use Rattle.oauthd.specs.Statuses.{code_of, status_of, status_of_hook_command};
+ghost use Rattle.oauthd.specs.Faults.{of_configuring, of_listening, of_opening, of_replaying, of_state};
+ghost use Rattle.oauthd.specs.Printed.{fault_text, stop_text};
 ghost use Rattle.oauthd.specs.declared.fault.PerformFault.TheVariants.{OutOfMemory};
 
-use assembler::AsmFault;
 use batch_file::disk_file::OpenFault;
 use clients::{ConfigFault, Spot};
 use daemon::ListenFault;
 use event_loop::LoopFault;
+use hook_commands::HookCommandFault;
 use hook_host::HookFault;
 use http_edge::EdgeFault;
-use insn::fault::InsnFault;
-use insn::verify_fault::VerifyFault;
 use start_words::WordFault;
 use state_file::StateFault;
 use std::alloc::AllocError;
@@ -46,24 +44,14 @@ impl Status {
 /// Why a command is not done.
 #[derive(Debug, Drop)]
 pub enum PerformFault<'w> {
-    /// The words are no command, or what is to be hex of some code is none.
+    /// The words are no command.
     BadArguments,
     /// A word behind `start` is refused.
     BadWord(&'w str, WordFault),
-    /// The record is not hex, or what it spells is no record.
-    BadRecord,
+    /// A command about a hook has no answer.
+    HookCommand(HookCommandFault<'w>),
     /// The file of this path cannot be read.
     CannotRead(&'w str),
-    /// The file of this path is an ELF file, where hex is wanted.
-    IsElf(&'w str),
-    /// The file of this path is not hex.
-    IsNotHex(&'w str),
-    /// The text says no program.
-    Text(AsmFault),
-    /// The code is no program.
-    Insn(InsnFault),
-    /// The program is not accepted.
-    Verify(VerifyFault),
     /// A registry is refused.
     Config(ConfigFault),
     /// A registry is refused for what stands there.
@@ -90,22 +78,34 @@ pub enum PerformFault<'w> {
     CannotWrite,
 }
 
+/// The status with which the program ends where a command about a hook has no answer.
+fn status_of_hook_command(fault: &HookCommandFault<'_>) -> Status
+    ensures { result ≡ status_of_hook_command fault.now }
+{
+    match fault {
+        HookCommandFault::Text(_) | HookCommandFault::Insn(_) | HookCommandFault::Verify(_) => {
+            Status::Refused
+        }
+        HookCommandFault::BadArguments
+        | HookCommandFault::BadRecord
+        | HookCommandFault::CannotRead(_)
+        | HookCommandFault::IsElf(_)
+        | HookCommandFault::IsNotHex(_) => Status::BadUse,
+        HookCommandFault::OutOfMemory => Status::NoMemory,
+    }
+}
+
 impl<'w> PerformFault<'w> {
     /// The status with which the program then ends.
     pub fn status(&self) -> Status
         ensures { result ≡ status_of self.now }
     {
         match self {
-            PerformFault::Text(_)
-            | PerformFault::Insn(_)
-            | PerformFault::Verify(_)
-            | PerformFault::Event(_, _) => Status::Refused,
+            PerformFault::HookCommand(fault) => status_of_hook_command(fault),
+            PerformFault::Event(_, _) => Status::Refused,
             PerformFault::BadArguments
             | PerformFault::BadWord(_, _)
-            | PerformFault::BadRecord
             | PerformFault::CannotRead(_)
-            | PerformFault::IsElf(_)
-            | PerformFault::IsNotHex(_)
             | PerformFault::Config(_)
             | PerformFault::ConfigAt(_, _)
             | PerformFault::Hook(_, _)
@@ -128,13 +128,8 @@ impl<'w> Display for PerformFault<'w> {
         match self {
             PerformFault::BadArguments => write!(f, "bad arguments"),
             PerformFault::BadWord(word, fault) => write!(f, "bad arguments: {word} {fault}"),
-            PerformFault::BadRecord => write!(f, "bad record"),
+            PerformFault::HookCommand(fault) => write!(f, "{fault}"),
             PerformFault::CannotRead(path) => write!(f, "cannot read {path}"),
-            PerformFault::IsElf(path) => write!(f, "ELF file: {path}"),
-            PerformFault::IsNotHex(path) => write!(f, "not hex: {path}"),
-            PerformFault::Text(fault) => write!(f, "{}", Located(*fault)),
-            PerformFault::Insn(fault) => write!(f, "Insn {fault}"),
-            PerformFault::Verify(fault) => write!(f, "Verify {fault}"),
             PerformFault::Config(fault) => write!(f, "Config {fault}"),
             PerformFault::ConfigAt(fault, spot) => write!(f, "Config {fault} at {spot}"),
             PerformFault::Hook(name, fault) => write!(f, "hook {name}: {fault}"),
@@ -151,22 +146,6 @@ impl<'w> Display for PerformFault<'w> {
     }
 }
 
-/// The fault of a text, behind its line.
-#[derive(Clone, Copy)]
-struct Located(AsmFault);
-
-impl Display for Located {
-    ghost output = { λ located. Some (located_text located.0) };
-
-    fn fmt<W: fmt::Write>(&self, f: &mut Formatter<W>) -> fmt::Result {
-        let name = self.0.name();
-        match self.0.line() {
-            Some(line) => write!(f, "line {line}: {name}"),
-            None => write!(f, "{name}"),
-        }
-    }
-}
-
 /// Why a server can't go on: where it can't keep its state, that is named.
 #[derive(Clone, Copy)]
 struct Stop(LoopFault);
@@ -178,39 +157,6 @@ impl Display for Stop {
         match self.0 {
             LoopFault::Keep => write!(f, "State"),
             fault => write!(f, "{fault}"),
-        }
-    }
-}
-
-impl<'w> From<AsmFault> for PerformFault<'w> {
-    ghost from_gives = { λ fault f. f ≡ of_assembling fault };
-
-    fn from(fault: AsmFault) -> PerformFault<'w> {
-        match fault {
-            AsmFault::Memory => PerformFault::OutOfMemory,
-            fault => PerformFault::Text(fault),
-        }
-    }
-}
-
-impl<'w> From<InsnFault> for PerformFault<'w> {
-    ghost from_gives = { λ fault f. f ≡ of_decoding fault };
-
-    fn from(fault: InsnFault) -> PerformFault<'w> {
-        match fault {
-            InsnFault::Memory => PerformFault::OutOfMemory,
-            fault => PerformFault::Insn(fault),
-        }
-    }
-}
-
-impl<'w> From<VerifyFault> for PerformFault<'w> {
-    ghost from_gives = { λ fault f. f ≡ of_verifying fault };
-
-    fn from(fault: VerifyFault) -> PerformFault<'w> {
-        match fault {
-            VerifyFault::Memory => PerformFault::OutOfMemory,
-            fault => PerformFault::Verify(fault),
         }
     }
 }

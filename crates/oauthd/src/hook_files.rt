@@ -8,9 +8,9 @@ ghost use Rattle.oauthd.specs.Hooks.{AreFactsOf, fact_of, HoldsCode, in_file, Is
 ghost use Rattle.oauthd.specs.declared.fault.PerformFault.TheVariants.{OutOfMemory};
 
 use crate::fault::PerformFault;
-use crate::hex_text::bytes_of_hex;
 use crate::named_file::file_at;
 use hook_chain::Chain;
+use hook_commands::bytes_of_hex;
 use hook_host::{HookFault, HookHost};
 use image_codec::KeptHook;
 use insn::layout::Layout;

@@ -4,6 +4,7 @@ ghost use Rattle.std.specs.Prelude.{◌≡◌, ◌≢◌, [], ◌∷◌, map, st
 ghost use Rattle.oauthd.specs.Words.{ask_words, words_of, IsAsking, IsCommand, IsOptional};
 
 use crate::command::Command;
+use hook_commands::HookCommand;
 use hook_trial::asking::AskWords;
 use insn::layout::Layout;
 
@@ -14,15 +15,15 @@ pub fn with_option<'w>(name: &str, option: &str, word: &'w str) -> Option<Comman
         words_of command ≢ name.now ∷ option.now ∷ word.now ∷ []) }
 {
     match (name, option) {
-        ("list", "--slots") => Some(Command::ListSlots { path: word }),
-        ("check", "--why") => Some(Command::Why {
+        ("list", "--slots") => Some(Command::Hook(HookCommand::ListSlots { path: word })),
+        ("check", "--why") => Some(Command::Hook(HookCommand::Why {
             layout: Layout::V1,
             path: word,
-        }),
-        ("check2", "--why") => Some(Command::Why {
+        })),
+        ("check2", "--why") => Some(Command::Hook(HookCommand::Why {
             layout: Layout::V2,
             path: word,
-        }),
+        })),
         _ => None,
     }
 }
@@ -40,10 +41,10 @@ pub fn to_trace<'w>(
         words_of command ≢ name.now ∷ option.now ∷ code_hex.now ∷ record_hex.now ∷ []) }
 {
     match (name, option) {
-        ("run", "--trace") => Some(Command::Trace {
+        ("run", "--trace") => Some(Command::Hook(HookCommand::Trace {
             code_hex,
             record_hex,
-        }),
+        })),
         _ => None,
     }
 }
@@ -58,7 +59,7 @@ fn asking<'w>(name: &str, words: AskWords<'w>) -> Option<Command<'w>>
         "ask2" => Layout::V2,
         _ => return None,
     };
-    Some(Command::Ask { layout, words })
+    Some(Command::Hook(HookCommand::Ask { layout, words }))
 }
 
 /// The command that tells an ask, where words name one.

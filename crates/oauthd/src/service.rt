@@ -5,7 +5,7 @@ ghost use Rattle.start_words.specs.Options.{hook_said};
 ghost use Rattle.oauthd.specs.Services.{config_of, GiveServe, GiveStart, hooks_of, IsNoService, IsSeed, IsService, ServiceFails, StartFails};
 
 use crate::fault::PerformFault;
-use crate::hex_text::bytes_of_hex;
+use hook_commands::bytes_of_hex;
 use start_words::{HookFile, StartFault, StartWords, number_of};
 use std::alloc::{AllocError, Global};
 

@@ -1,20 +1,11 @@
 //! Rows of the commands, without the files that they name.
 
-mod assembly_rows;
-mod c_hooks;
-mod examples;
 mod help_rows;
-mod hooks;
-mod machines;
-mod program;
+mod hook_rows;
 mod registries;
-mod run;
 mod services;
 mod sockets;
-mod text;
 mod transcripts;
-mod trials;
-mod verdict_rows;
 mod words;
 
 use crate::call::Call;
@@ -32,10 +23,6 @@ const ALLOW: &str = "b7000000010000009500000000000000";
 /// seconds.
 const A: &str =
     "0100000001000000e80300000000000001000000000000000100000000000000030000000000000003000000000000002c010000000000000300000000000000";
-
-/// The same in version 2: scopes 3 are consented to, and tokens live for at most 300 and 86,400 seconds.
-const B: &str =
-    "0200000001000000e80300000000000001000000000000000100000000000000030000000000000003000000000000002c01000000000000030000000000000003000000000000002c0100008051010000000000000000000000000000000000";
 
 /// The most bytes that a command writes here.
 const ROOM: usize = 4096;
@@ -188,12 +175,4 @@ fn assert_ends_on<R: Abort + AllocGlobal>(
     let ended = outcome(rt, name, &[command, "hook"], Some(file.as_bytes()))?;
     assert_ended(rt, name, &ended, ending);
     Ok(())
-}
-
-/// The hex of the program of a text, as `asm` prints it.
-fn assembled<R: Abort + AllocGlobal>(rt: &R, text: &str) -> Result<String, Fail> {
-    let ended = outcome(rt, text, &["asm", "hook"], Some(text.as_bytes()))?;
-    assert_eq!(rt; ended.status, Status::Done.code(), "{text}");
-    let hex = str::from_utf8(written(&ended.out).unwrap_or(&[])).unwrap_or("");
-    Ok(String::from_str(rt.alloc(), hex)?)
 }

@@ -4,8 +4,8 @@ ghost use Rattle.std.specs.Option.{option_copied};
 ghost use Rattle.oauthd.specs.Transcripts.{IsReplayedAs};
 
 use crate::answer::Answer;
-use crate::commands::text_file::text_in;
 use crate::fault::PerformFault;
+use hook_commands::text_in;
 use std::alloc::Global;
 use transcript::replay;
 
@@ -17,7 +17,9 @@ pub fn replayed<'w>(
 ) -> Result<Answer, PerformFault<'w>>
     ensures { IsReplayedAs path.now (option_copied file.entry) result }
 {
-    let text = text_in(path, file)?;
+    let Some(text) = text_in(file) else {
+        return Err(PerformFault::CannotRead(path));
+    };
     match replay(alloc, text) {
         Ok(output) => Ok(Answer::Replayed(output)),
         Err(fault) => Err(PerformFault::from(fault)),

@@ -81,136 +81,200 @@ fn served<R: Files<File = File> + Net + Clock + RandomSource + AllocGlobal>(
     Ok(Ended { status, out, err })
 }
 
-/// Asserts that words serve nothing, and how that is told.
+/// Words that serve nothing, what stands in the registry's file, and what is told.
+type Row = (&'static [&'static str], Option<&'static str>, &'static str);
+
+/// Asserts that the words of each row serve nothing, and how that is told.
 fn assert_not_served<R: Files<File = File> + Net + Clock + RandomSource + Abort + AllocGlobal>(
     rt: &R,
-    texts: &[&str],
-    file: Option<&[u8]>,
-    err: &str,
+    rows: &[Row],
 ) -> Result<(), Fail> {
-    let ended = served(rt, texts, file)?;
-    assert_ended(rt, err, &ended, misused(err));
+    for (words, registry, err) in rows {
+        let file = match registry {
+            Some(text) => Some(text.as_bytes()),
+            None => None,
+        };
+        let ended = served(rt, words, file)?;
+        assert_ended(rt, err, &ended, misused(err));
+    }
     Ok(())
 }
+
+/// An address at which nobody can listen.
+const NOWHERE: &str = "127.0.0.1:99999";
+
+const BAD: &str = "oauthd: bad arguments\n";
+
+const DEAF: &str = "oauthd: cannot listen\n";
+
+const NOTHING: [Row; 14] = [
+    (&["serve", NOWHERE, "config", SEED], Some(REGISTRY), BAD),
+    (&["serve", NOWHERE, "config", ODD, "0"], None, BAD),
+    (&["serve", NOWHERE, "config", SHORT, "0"], None, BAD),
+    (&["serve", NOWHERE, "config", SEED, ""], None, BAD),
+    (&["serve", NOWHERE, "config", SEED, "4294967296"], None, BAD),
+    (&["serve", NOWHERE, "config", SEED, "+1"], None, BAD),
+    (&["serve", NOWHERE, "config", SEED, "-1"], None, BAD),
+    (&["serve", NOWHERE, "config", SEED, "0x1"], None, BAD),
+    (&["serve", NOWHERE, "config", SEED, "1 "], None, BAD),
+    (
+        &["serve", NOWHERE, "config", SEED, "0"],
+        None,
+        "oauthd: cannot read config\n",
+    ),
+    (
+        &["serve", NOWHERE, "config", SEED, "0"],
+        Some("{"),
+        "oauthd: Config NotJson\n",
+    ),
+    (
+        &["serve", NOWHERE, "config", SEED, "00"],
+        Some(REGISTRY),
+        DEAF,
+    ),
+    (
+        &["start", NOWHERE, "config", "60", "0"],
+        Some(REGISTRY),
+        DEAF,
+    ),
+    (&["start", NOWHERE, "config", "0"], Some(REGISTRY), BAD),
+];
 
 #[test]
 fn words_that_serve_nothing(rt: HostRuntime) -> Result<(), Fail> {
-    let good = Some(REGISTRY.as_bytes());
-    let nowhere = "127.0.0.1:99999";
-    let bad = "oauthd: bad arguments\n";
-    assert_not_served(&rt, &["serve", nowhere, "config", SEED], good, bad)?;
-    assert_not_served(&rt, &["serve", nowhere, "config", ODD, "0"], None, bad)?;
-    assert_not_served(&rt, &["serve", nowhere, "config", SHORT, "0"], None, bad)?;
-    for count in ["", "4294967296", "+1", "-1", "0x1", "1 "] {
-        assert_not_served(&rt, &["serve", nowhere, "config", SEED, count], None, bad)?;
-    }
-    let unread = "oauthd: cannot read config\n";
-    assert_not_served(&rt, &["serve", nowhere, "config", SEED, "0"], None, unread)?;
-    let refused = "oauthd: Config NotJson\n";
-    assert_not_served(
-        &rt,
-        &["serve", nowhere, "config", SEED, "0"],
-        Some(b"{"),
-        refused,
-    )?;
-    let deaf = "oauthd: cannot listen\n";
-    assert_not_served(&rt, &["serve", nowhere, "config", SEED, "00"], good, deaf)?;
-    assert_not_served(&rt, &["start", nowhere, "config", "60", "0"], good, deaf)?;
-    assert_not_served(&rt, &["start", nowhere, "config", "0"], good, bad)
+    assert_not_served(&rt, &NOTHING)
 }
+
+const WRONG: [Row; 8] = [
+    (
+        &["start", "127.0.0.1", "config", "60", "5"],
+        Some(REGISTRY),
+        "oauthd: bad arguments: 127.0.0.1 wants a port\n",
+    ),
+    (
+        &["start", "[::1]:8080", "config", "--frob", "5"],
+        Some(REGISTRY),
+        "oauthd: bad arguments: --frob is not known\n",
+    ),
+    (
+        &["start", "[::1]:8080", "config", "5", "--full"],
+        Some(REGISTRY),
+        "oauthd: bad arguments: --full wants a value\n",
+    ),
+    (
+        &["start", "[::1]:8080", "config", "--silence", "0"],
+        Some(REGISTRY),
+        "oauthd: bad arguments: --silence has a bad value\n",
+    ),
+    (
+        &["start", "[::1]:8080", "config", "--hook", "hook"],
+        Some(REGISTRY),
+        "oauthd: bad arguments: --hook has a bad value\n",
+    ),
+    (
+        &["start", "[::1]:8080", "config", "--state", ""],
+        Some(REGISTRY),
+        "oauthd: bad arguments: --state has a bad value\n",
+    ),
+    (
+        &[
+            "start",
+            "[::1]:8080",
+            "config",
+            "5",
+            "--hook",
+            "a=b",
+            "--silence",
+            "5",
+        ],
+        Some(REGISTRY),
+        "oauthd: bad arguments: --silence is given twice\n",
+    ),
+    (
+        &[
+            "start",
+            "[::1]:8080",
+            "config",
+            "--state",
+            "a",
+            "--state",
+            "a",
+        ],
+        Some(REGISTRY),
+        "oauthd: bad arguments: --state is given twice\n",
+    ),
+];
 
 #[test]
 fn words_behind_start_that_are_wrong(rt: HostRuntime) -> Result<(), Fail> {
-    let good = Some(REGISTRY.as_bytes());
-    for (words, err) in [
-        (["127.0.0.1", "config", "60", "5"], "127.0.0.1 wants a port"),
-        (
-            ["[::1]:8080", "config", "--frob", "5"],
-            "--frob is not known",
-        ),
-        (
-            ["[::1]:8080", "config", "5", "--full"],
-            "--full wants a value",
-        ),
-        (
-            ["[::1]:8080", "config", "--silence", "0"],
-            "--silence has a bad value",
-        ),
-        (
-            ["[::1]:8080", "config", "--hook", "hook"],
-            "--hook has a bad value",
-        ),
-        (
-            ["[::1]:8080", "config", "--state", ""],
-            "--state has a bad value",
-        ),
-    ] {
-        let [address, config, third, fourth] = words;
-        let told = format!(in rt.alloc(); "oauthd: bad arguments: {err}\n")?;
-        assert_not_served(
-            &rt,
-            &["start", address, config, third, fourth],
-            good,
-            told.as_str(),
-        )?;
-    }
-    let twice = [
-        "start",
-        "[::1]:8080",
-        "config",
-        "5",
-        "--hook",
-        "a=b",
-        "--silence",
-        "5",
-    ];
-    let told = "oauthd: bad arguments: --silence is given twice\n";
-    assert_not_served(&rt, &twice, good, told)?;
-    let twice = [
-        "start",
-        "[::1]:8080",
-        "config",
-        "--state",
-        "a",
-        "--state",
-        "a",
-    ];
-    let told = "oauthd: bad arguments: --state is given twice\n";
-    assert_not_served(&rt, &twice, good, told)
+    assert_not_served(&rt, &WRONG)
 }
 
-#[test]
-fn hooks_of_start_that_are_refused(rt: HostRuntime) -> Result<(), Fail> {
-    let good = Some(REGISTRY.as_bytes());
-    let nowhere = "127.0.0.1:99999";
-    for (second, err) in [
-        ("b=nowhere", "cannot read nowhere"),
-        ("b=short", "hook b: Insn BadLength"),
-        ("b=bytes", "hook b: Verify UnsetRegister(0)"),
-        ("a=hook", "hook a: NameTaken"),
-        ("B=hook", "hook B: BadName"),
-        ("b=hook", "cannot listen"),
-    ] {
-        let told = format!(in rt.alloc(); "oauthd: {err}\n")?;
-        let words = [
-            "start", nowhere, "config", "--hook", "a=hook", "--hook2", second,
-        ];
-        assert_not_served(&rt, &words, good, told.as_str())?;
-    }
-    Ok(())
-}
+const REFUSED: [Row; 7] = [
+    (
+        &[
+            "start",
+            NOWHERE,
+            "config",
+            "--hook",
+            "a=hook",
+            "--hook2",
+            "b=nowhere",
+        ],
+        Some(REGISTRY),
+        "oauthd: cannot read nowhere\n",
+    ),
+    (
+        &[
+            "start", NOWHERE, "config", "--hook", "a=hook", "--hook2", "b=short",
+        ],
+        Some(REGISTRY),
+        "oauthd: hook b: Insn BadLength\n",
+    ),
+    (
+        &[
+            "start", NOWHERE, "config", "--hook", "a=hook", "--hook2", "b=bytes",
+        ],
+        Some(REGISTRY),
+        "oauthd: hook b: Verify UnsetRegister(0)\n",
+    ),
+    (
+        &[
+            "start", NOWHERE, "config", "--hook", "a=hook", "--hook2", "a=hook",
+        ],
+        Some(REGISTRY),
+        "oauthd: hook a: NameTaken\n",
+    ),
+    (
+        &[
+            "start", NOWHERE, "config", "--hook", "a=hook", "--hook2", "B=hook",
+        ],
+        Some(REGISTRY),
+        "oauthd: hook B: BadName\n",
+    ),
+    (
+        &[
+            "start", NOWHERE, "config", "--hook", "a=hook", "--hook2", "b=hook",
+        ],
+        Some(REGISTRY),
+        DEAF,
+    ),
+    (
+        &[
+            "start",
+            NOWHERE,
+            "config",
+            "--state",
+            "no-such-folder/state",
+        ],
+        Some(REGISTRY),
+        "oauthd: State Open: not found\n",
+    ),
+];
 
 #[test]
-fn a_state_that_is_not_opened(rt: HostRuntime) -> Result<(), Fail> {
-    let words = [
-        "start",
-        "127.0.0.1:99999",
-        "config",
-        "--state",
-        "no-such-folder/state",
-    ];
-    let told = "oauthd: State Open: not found\n";
-    assert_not_served(&rt, &words, Some(REGISTRY.as_bytes()), told)
+fn hooks_and_states_of_start_that_are_refused(rt: HostRuntime) -> Result<(), Fail> {
+    assert_not_served(&rt, &REFUSED)
 }
 
 #[test]

@@ -15,7 +15,11 @@ fn words_that_are_no_command(rt: HostRuntime) -> Result<(), Fail> {
     for words in [["frob", "x"], ["List", "x"], ["check3", "x"], ["run", "x"]] {
         assert_ends(&rt, words[0], &words, misused(err))?;
     }
-    assert_ends(&rt, "two files", &["list", "x", "y"], misused(err))
+    assert_ends(&rt, "two files", &["list", "x", "y"], misused(err))?;
+    let other_name = ["ask3", "1", "1000", "1", "1", "3", "300"];
+    assert_ends(&rt, "another name", &other_name, misused(err))?;
+    let no_life = ["ask", "1", "1000", "1", "1", "3"];
+    assert_ends(&rt, "no lifetime", &no_life, misused(err))
 }
 
 /// Takes what is written, and fails when that is to reach its end.

@@ -1,0 +1,2 @@
+mod HexReading
+mod Refusing

@@ -1,0 +1,92 @@
+-- What the commands about hooks answer.
+use Rattle.std.specs.Prelude.{◌≡◌, ◌≢◌, ◌⊎◌, ℕ, List, ◌++◌, codes, Option, None, Some, Result, Ok, Err, ⊤}
+use Rattle.std.specs.String.{string_bytes}
+use Rattle.insn.specs.declared.instruction.Insn.{Insn as Instruction}
+use Rattle.encoding.specs.Spelling.{Spells}
+use Rattle.hook_trial.specs.Tracing.{IsTraceTold}
+use Rattle.insn.specs.declared.fault.InsnFault.TheVariants as insn
+use Rattle.insn.specs.declared.verify_fault.VerifyFault.TheVariants as verify
+use Rattle.hook_commands.specs.declared.command.HookCommand.{HookCommand}
+use Rattle.hook_commands.specs.declared.command.HookCommand.TheVariants as commands
+use Rattle.hook_commands.specs.declared.answer.HookAnswer.{HookAnswer}
+use Rattle.hook_commands.specs.declared.answer.HookAnswer.TheVariants as answers
+use Rattle.hook_commands.specs.declared.judge.Asked.{Asked}
+use Rattle.hook_commands.specs.declared.judge.Judged.{Judged}
+use Rattle.hook_commands.specs.declared.judge.JudgeFault.{JudgeFault}
+use Rattle.hook_commands.specs.declared.judge.JudgeFault.TheVariants as judge
+use Rattle.hook_commands.specs.declared.fault.HookCommandFault.{HookCommandFault}
+use Rattle.hook_commands.specs.declared.fault.HookCommandFault.TheVariants.{BadArguments, BadRecord, Insn, Verify, OutOfMemory}
+use Rattle.hook_commands.specs.Assembly.{IsAssembledAs}
+use Rattle.hook_commands.specs.File.{File, IsCheckedOn, IsListedAs}
+use Rattle.hook_commands.specs.HexText.{IsHexOf, IsNoHex}
+use Rattle.hook_commands.specs.Judge.{IsJudged, asked_in}
+use Rattle.hook_commands.specs.Printed.{judged_text}
+use Rattle.hook_commands.specs.Telling.{IsAskedAs, IsExplainedOn, IsListedWithSlotsAs}
+
+-- a hook's code and a record, both as hex text, are judged so
+pub record IsJudgedText (code_hex record_hex : List ℕ) (judged : Result Judged JudgeFault) : Type 0 where
+  pub code : List ℕ
+  pub bytes : List ℕ
+  pub code_spelled : IsHexOf code_hex code
+  pub record_spelled : IsHexOf record_hex bytes
+  pub outcome : IsJudged code bytes judged
+
+-- what `run` answers to a hook's code and a record: the code's text is tested before the record's
+abbrev pub IsRunOn : List ℕ → List ℕ → Result HookAnswer HookCommandFault → Type 0
+IsRunOn code_hex record_hex (Ok (answers.Judged judged)) = IsJudgedText code_hex record_hex (Ok judged)
+IsRunOn code_hex record_hex (Ok answer) = ⊥
+IsRunOn code_hex record_hex (Err BadArguments) = IsNoHex code_hex
+IsRunOn code_hex record_hex (Err BadRecord) =
+    ((code : List ℕ) × IsHexOf code_hex code × IsNoHex record_hex) ⊎ IsJudgedText code_hex record_hex (Err judge.BadRecord)
+IsRunOn code_hex record_hex (Err (Insn fault)) = (fault ≢ insn.Memory) × IsJudgedText code_hex record_hex (Err (judge.Insn fault))
+IsRunOn code_hex record_hex (Err (Verify fault)) = (fault ≢ verify.Memory) × IsJudgedText code_hex record_hex (Err (judge.Verify fault))
+IsRunOn code_hex record_hex (Err OutOfMemory) = ⊤
+IsRunOn code_hex record_hex (Err fault) = ⊥
+
+-- the steps of a program's run on a record: those of the program that a hook's code spells, both as hex text
+pub record AreStepsOf (code_hex record_hex steps : List ℕ) : Type 0 where
+  pub code : List ℕ
+  pub bytes : List ℕ
+  pub code_spelled : IsHexOf code_hex code
+  pub record_spelled : IsHexOf record_hex bytes
+  pub program : List Instruction
+  pub spelled : Spells code program
+  pub asked : Asked
+  pub asks : asked_in bytes ≡ Some asked
+  pub told : IsTraceTold asked.layout program bytes steps
+
+-- the text tells the steps of a run, and then how it is judged
+pub record IsTracedText (code_hex record_hex text : List ℕ) : Type 0 where
+  pub judged : Judged
+  pub is_judged : IsJudgedText code_hex record_hex (Ok judged)
+  pub steps : List ℕ
+  pub are_steps : AreStepsOf code_hex record_hex steps
+  pub whole : text ≡ steps ++ judged_text judged ++ codes "\n"
+
+-- what `run --trace` answers: where `run` has no answer it has none, for the same reason
+abbrev pub IsTracedOn : List ℕ → List ℕ → Result HookAnswer HookCommandFault → Type 0
+IsTracedOn code_hex record_hex (Ok (answers.Listing text)) = IsTracedText code_hex record_hex (string_bytes text)
+IsTracedOn code_hex record_hex (Ok answer) = ⊥
+IsTracedOn code_hex record_hex (Err fault) = IsRunOn code_hex record_hex (Err fault)
+
+-- what a command answers, where this stands in its file
+abbrev pub IsAnsweredBy : HookCommand → File → Result HookAnswer HookCommandFault → Type 0
+IsAnsweredBy (commands.Run code_hex record_hex) file outcome = IsRunOn code_hex.now record_hex.now outcome
+IsAnsweredBy (commands.Trace code_hex record_hex) file outcome = IsTracedOn code_hex.now record_hex.now outcome
+IsAnsweredBy (commands.Assemble path) file outcome = IsAssembledAs path.now file outcome
+IsAnsweredBy (commands.List path) file outcome = IsListedAs path.now file outcome
+IsAnsweredBy (commands.ListSlots path) file outcome = IsListedWithSlotsAs path.now file outcome
+IsAnsweredBy (commands.Check layout path) file outcome = IsCheckedOn layout path.now file outcome
+IsAnsweredBy (commands.Why layout path) file outcome = IsExplainedOn layout path.now file outcome
+IsAnsweredBy (commands.Ask layout words) file outcome = IsAskedAs layout words outcome
+
+-- the path of the file that a command is about
+abbrev pub file_named_by : HookCommand → Option (List ℕ)
+file_named_by (commands.Run code_hex record_hex) = None
+file_named_by (commands.Trace code_hex record_hex) = None
+file_named_by (commands.Assemble path) = Some path.now
+file_named_by (commands.List path) = Some path.now
+file_named_by (commands.ListSlots path) = Some path.now
+file_named_by (commands.Check layout path) = Some path.now
+file_named_by (commands.Why layout path) = Some path.now
+file_named_by (commands.Ask layout words) = None

@@ -1,0 +1,9 @@
+pub mod Answers
+pub mod Assembly
+pub mod Faults
+pub mod File
+pub mod HexText
+pub mod Judge
+pub mod Printed
+pub mod Telling
+pub mod Verdict

@@ -1,0 +1,13 @@
+//! What a person types about a hook: a file for each command.
+
+pub mod ask;
+pub mod asm;
+pub mod check;
+pub mod list;
+mod program_file;
+pub mod run;
+pub mod slots;
+pub mod text_file;
+mod told_file;
+pub mod trace;
+pub mod why;

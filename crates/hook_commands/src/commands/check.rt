@@ -1,0 +1,27 @@
+//! `check FILE` and `check2 FILE`: whether the program whose hex stands in a file is accepted.
+
+ghost use Rattle.std.specs.Option.{option_copied};
+ghost use Rattle.hook_commands.specs.File.{IsCheckedOn};
+
+use crate::answer::HookAnswer;
+use crate::commands::program_file::program_in;
+use crate::fault::HookCommandFault;
+use insn::layout::Layout;
+use std::alloc::Global;
+use verifier::verified::verify;
+
+/// Whether the program whose hex stands in a file is accepted, for records of one version.
+pub fn check<'w>(
+    alloc: Global,
+    layout: Layout,
+    path: &'w str,
+    file: Option<&[u8]>,
+) -> Result<HookAnswer, HookCommandFault<'w>>
+    ensures { IsCheckedOn layout path.now (option_copied file.entry) result }
+{
+    let program = program_in(alloc, path, file)?;
+    match verify(alloc, program, layout) {
+        Ok(verified) => Ok(HookAnswer::Accepted(verified.program().len())),
+        Err((_, fault)) => Err(HookCommandFault::from(fault)),
+    }
+}

@@ -1,0 +1,23 @@
+//! `list --slots FILE`: the canonical text of the program whose hex stands in a file, with the slot before each line.
+
+ghost use Rattle.std.specs.Option.{option_copied};
+ghost use Rattle.hook_commands.specs.Telling.{IsListedWithSlotsAs};
+
+use crate::answer::HookAnswer;
+use crate::commands::told_file::told_program_in;
+use crate::fault::HookCommandFault;
+use lister::list_slots;
+use std::alloc::Global;
+
+/// The canonical text of the program whose hex stands in a file, with its slots.
+pub fn listing_with_slots<'w>(
+    alloc: Global,
+    path: &'w str,
+    file: Option<&[u8]>,
+) -> Result<HookAnswer, HookCommandFault<'w>>
+    ensures { IsListedWithSlotsAs path.now (option_copied file.entry) result }
+{
+    let program = told_program_in(alloc, path, file)?;
+    let text = list_slots(alloc, &program)?;
+    Ok(HookAnswer::Listing(text))
+}
