@@ -1,6 +1,7 @@
 -- When the consents that are kept are those of a history.
-use Rattle.std.specs.Prelude.{◌≡◌, ◌&&◌, ℕ, List, Bool, Option, Some, None, ◌==◌, if◌then◌else◌, length}
+use Rattle.std.specs.Prelude.{◌≡◌, ◌≤◌, ◌&&◌, ℕ, List, Bool, Option, Some, None, ◌==◌, if◌then◌else◌, length, map, count_by}
 use Rattle.std.specs.Map.{lookup}
+use Rattle.consent.specs.declared.kept_consent.KeptConsent.{KeptConsent}
 use Rattle.consent.specs.declared.parties.Parties.{Parties}
 use Rattle.consent.specs.History.{Event, consented_scope, consents_kept}
 
@@ -27,3 +28,15 @@ pub record FitsConsents (kept : KeptConsents) (history : List Event) : Type 0 wh
   pub count : length kept.masks ≡ consents_kept history
   -- an owner of 0 is none, and consents to nothing
   pub nobody : (client : ℕ) → consented_scope history 0 client ≡ 0
+
+-- a consent of a list, as it is kept
+abbrev pub entry_of : KeptConsent → Parties × ℕ
+entry_of c = (record { owner = c.owner; client = c.client }, c.mask)
+
+-- what is kept of a list
+abbrev pub kept_consents : List KeptConsent → KeptConsents
+kept_consents list = record { masks = map entry_of list; room = 0 }
+
+-- two of the list are of one owner and one client
+abbrev pub HasTwo : List KeptConsent → Type 0
+HasTwo list = (parties : Parties) × (2 ≤ count_by (λ c. is_parties parties (entry_of c).0) list)

@@ -1,10 +1,13 @@
 //! The consents that are kept.
 
-ghost use Rattle.std.specs.Prelude.{◌≡◌, ◌≢◌, ◌≤◌, ◌+◌, ℕ, List, [], true, false, Some, IsOk, IsErrOf, OnOk, OnErr};
+ghost use Rattle.std.specs.Prelude.{◌≡◌, ◌≢◌, ◌≤◌, ◌+◌, ℕ, List, [], true, false, None, Some, IsOk, IsErrOf, IfOk, OnOk, OnErr, length, is_some, if◌then◌else◌};
+ghost use Rattle.std.specs.Map.{lookup};
+ghost use Rattle.consent.specs.declared.parties.Parties.{Parties};
 ghost use Rattle.consent.specs.History.{Event, consented_scope, has_consent_room, with_change};
 ghost use Rattle.consent.specs.History.Change.{Consented};
 ghost use Rattle.consent.specs.FaultTexts.{consent_fault_text};
 
+use crate::kept_consent::{KeptConsent, ListFault};
 use crate::limits::CONSENT_LIMIT;
 use crate::numbers::{ClientNo, OwnerNo};
 use crate::parties::Parties;
@@ -49,7 +52,7 @@ impl Model for Consents {
 }
 
 impl Consents {
-    ghost use Rattle.consent.specs.Consents.{FitsConsents};
+    ghost use Rattle.consent.specs.Consents.{FitsConsents, HasTwo, entry_of, is_parties, kept_consents};
 
     /// No consents, which later ones take memory from `alloc` for.
     pub fn new(alloc: Global) -> Self
@@ -132,5 +135,61 @@ impl Consents {
         };
         self.put(owner, client, mask);
         Ok(())
+    }
+
+    /// The consents as a list, of which they can be made again.
+    pub fn listed(&self, alloc: Global) -> Result<Vec<KeptConsent>, AllocError>
+        ensures { IfOk result (λ list. (history : List Event) → FitsConsents self.now history →
+            FitsConsents (kept_consents list.items) history) }
+    {
+        let mut list = Vec::new(alloc);
+        for (parties, mask) in self.masks.iter() {
+            let consent = KeptConsent {
+                owner: parties.owner,
+                client: parties.client,
+                mask: *mask,
+            };
+            let Ok(()) = list.push(consent) else {
+                return Err(AllocError);
+            };
+        }
+        Ok(list)
+    }
+
+    // Keeps one of a list, of two of whom nothing is kept.
+    fn add(&mut self, consent: &KeptConsent) -> Result<(), ListFault>
+        ensures new { OnOk result (lookup (is_parties (entry_of consent.now).0) self.old.masks ≡ None) }
+        ensures found { OnOk result ((q : Parties) → lookup (is_parties q) self.new.masks
+            ≡ (if is_parties (entry_of consent.now).0 q then Some consent.now.mask else lookup (is_parties q) self.old.masks)) }
+        ensures count { OnOk result (length self.new.masks ≡ length self.old.masks + 1) }
+        ensures twice { IsErrOf result ListFault.PartiesTwice →
+            is_some (lookup (is_parties (entry_of consent.now).0) self.old.masks) ≡ true }
+    {
+        let parties = Parties {
+            owner: consent.owner,
+            client: consent.client,
+        };
+        if self.masks.contains_key(&parties) {
+            return Err(ListFault::PartiesTwice);
+        }
+        let Ok(_) = self.masks.insert(parties, consent.mask) else {
+            return Err(ListFault::Memory);
+        };
+        Ok(())
+    }
+
+    /// Consents made of a list. They answer as those do that the list is of.
+    pub fn restored(alloc: Global, list: &[KeptConsent]) -> Result<Self, ListFault>
+        ensures fits { IfOk result (λ consents. (history : List Event) → FitsConsents (kept_consents list.now) history →
+            FitsConsents consents history) }
+        ensures twice { IsErrOf result ListFault.PartiesTwice → HasTwo list.now }
+    {
+        let mut consents = Consents::new(alloc);
+        for consent in list {
+            if let Err(fault) = consents.add(consent) {
+                return Err(fault);
+            }
+        }
+        Ok(consents)
     }
 }

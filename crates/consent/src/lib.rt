@@ -5,6 +5,7 @@
 mod change;
 mod consents;
 mod grant;
+mod kept_consent;
 mod limits;
 mod numbers;
 mod parties;
@@ -13,6 +14,7 @@ mod scope;
 pub use change::{Change, Changes, CodeFacts, NewToken};
 pub use consents::{ConsentFault, Consents};
 pub use grant::{Kind, TokenKind};
+pub use kept_consent::{KeptConsent, ListFault};
 pub use limits::{CODE_LIFE, CONSENT_LIMIT, RECORD_LIMIT, limits_are_the_defined_ones};
 pub use numbers::{ClientNo, Moment, OwnerNo};
 pub use parties::Parties;

@@ -22,3 +22,4 @@ pub mod WideningLaws
 pub mod Redo
 pub mod FaultTexts
 pub mod Steps
+pub mod Restoring

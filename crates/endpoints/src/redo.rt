@@ -175,8 +175,8 @@ pub(crate) fn history_refusal(
     }
 }
 
-// The layout of a version.
-fn layout_of(version: u64) -> Option<Layout>
+/// The layout of a version.
+pub fn layout_of(version: u64) -> Option<Layout>
     ensures there { IfSome result (λ layout. layout ≡ layout_of version) }
     ensures none { IfNone result (IsUnversioned version) }
 {

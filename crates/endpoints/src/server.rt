@@ -1,6 +1,7 @@
 //! The server.
 ghost use Rattle.std.specs.Prelude.{◌≡◌, ◌<◌, ◌≤◌, ◌↔◌, ℕ, List, [], Err, None, Some, IfErr, IfOk, OnErr, OnOk, max, length, option_map};
 ghost use Rattle.consent.specs.Changes.{listed};
+ghost use Rattle.consent.specs.Consents.{FitsConsents, kept_consents};
 ghost use Rattle.consent.specs.declared.change.Changes.TheVariants.{One};
 ghost use Rattle.messages.specs.Asked.{asked_of};
 ghost use Rattle.answers.specs.Short.{IsShort, IsShortAnswer, state_limit};
@@ -12,8 +13,13 @@ ghost use Rattle.endpoints.specs.Noting.{with_notes};
 ghost use Rattle.endpoints.specs.Reading.{EndsAt, IsRead, IsShortReading, endpoint_of};
 ghost use Rattle.endpoints.specs.Ruling.{CanMake, CanTake};
 ghost use Rattle.endpoints.specs.Rulings.{Answers, IsAlone, IsHalted, Rules, RulesAlone, asking_of};
+ghost use Rattle.endpoints.specs.Bounded.{AllRight};
+ghost use Rattle.endpoints.specs.Hosts.{HostRun};
+ghost use Rattle.endpoints.specs.Restoring.{AreOf, RefusesRestore};
 ghost use Rattle.endpoints.specs.Server.{FitsServer, Notes, NowNotes};
 ghost use Rattle.endpoints.specs.Steps.{Steps};
+ghost use Rattle.token_store.specs.Fits.{FitsHistory, FitsStore};
+ghost use Rattle.token_store.specs.Image.{image_of};
 
 use crate::authorize::authorize;
 use crate::beside::make_beside;
@@ -24,19 +30,20 @@ use crate::introspect::introspect;
 use crate::noting::{note_prepared, prepare};
 use crate::reading::{Reading, read};
 use crate::redo::{RedoFault, alone, check_hook, history_refusal};
+use crate::restoring::RestoreFault;
 use crate::revoke::revoke;
 use crate::ruling::{Checked, Ruling};
 use answers::{Answer, Decision, Halt, View, status_of, write};
 use change_codec::Batch;
 use clients::Registry;
-use consent::{Change, Changes, Consents, Moment};
+use consent::{Change, Changes, Consents, KeptConsent, Moment};
 use hook_host::HookHost;
 use http::StatusCode;
 use messages::{Draws, Request, Response, failure};
 use std::alloc::{AllocError, Global};
 use std::marker::Model;
 use token_endpoint::decide;
-use token_store::Store;
+use token_store::{KeptRecord, Store};
 
 /// An authorization server, with any host of hooks.
 pub struct Server<H> {
@@ -104,6 +111,51 @@ impl<H: HookHost> Server<H> {
             unkept: None,
             alloc,
         }
+    }
+
+    /// A server under the rules that goes on from the moment, with a host that has its hooks: made of the codes, tokens and
+    /// consents that are left of another. It notes nothing.
+    pub fn restored(
+        alloc: Global,
+        rules: Registry,
+        host: H,
+        moment: Moment,
+        records: &[KeptRecord<'_>],
+        consents: &[KeptConsent],
+    ) -> Result<Self, RestoreFault>
+        ensures fits { IfOk result (λ server. (first : H) (history : List Event) → AreOf records.now consents.now history moment →
+            HostRun H.installs H.removes first history host → AllRight rules [] history →
+            FitsServer H.installs H.removes server rules first history moment) }
+        ensures notes { IfOk result (λ server. Notes server None []) }
+        ensures refused { IfErr result (RefusesRestore records.now consents.now moment) }
+    {
+        let store = Store::restored(alloc, records, moment)?;
+        let consents = Consents::restored(alloc, consents)?;
+        Ok(Server {
+            rules,
+            host,
+            store,
+            consents,
+            greatest: moment,
+            unkept: None,
+            alloc,
+        })
+    }
+
+    /// The codes and tokens that are unexpired at the greatest moment.
+    pub fn records(&self, alloc: Global) -> Result<Vec<KeptRecord<'_>>, AllocError>
+        ensures { IfOk result (λ records. (history : List Event) → FitsStore self.now.store history self.now.greatest →
+            FitsHistory (image_of records.items) history self.now.greatest) }
+    {
+        self.store.records(alloc, self.greatest)
+    }
+
+    /// The consents.
+    pub fn consents(&self, alloc: Global) -> Result<Vec<KeptConsent>, AllocError>
+        ensures { IfOk result (λ consents. (history : List Event) → FitsConsents self.now.consents history →
+            FitsConsents (kept_consents consents.items) history) }
+    {
+        self.consents.listed(alloc)
     }
 
     /// From now on what happens is noted, unless memory is refused for that.

@@ -5,7 +5,7 @@ use Rattle.consent.specs.declared.grant.TokenKind.TheVariants.{Access, Refresh}
 use Rattle.change_codec.specs.Spelling.{short, wide, counted, IsShort, IsWide, IsParty, IsMoment, IsDigest, IsText}
 use Rattle.change_codec.specs.Reading.{number_at, part_at, party_at, moment_at, counted_at, text_at}
 use Rattle.change_codec.specs.FieldLaws.{IsBytes, IsBytes-rest, ok_is, Takes, Takes-then, short_takes, short_again, wide_takes, wide_again, party_takes, party_again, moment_takes, moment_again, part_takes, part_again, counted_takes, counted_again, text_takes, text_again}
-use Rattle.image_codec.specs.declared.image.KeptConsent.{KeptConsent}
+use Rattle.consent.specs.declared.kept_consent.KeptConsent.{KeptConsent}
 use Rattle.image_codec.specs.Facts.{ClientFact, KindFact, Code, Token, RecordFact, HookFact}
 use Rattle.image_codec.specs.Spelling.{mark, optional, client_spelling, kind_spelling, home_spelling, grant_spelling, marks_spelling, record_spelling, consent_spelling, hook_spelling, ClientFits, KindFits, OptionFits, RecordFits, ConsentFits, HookFits}
 use Rattle.image_codec.specs.Reading.{mark_at, some_at, optional_at, client_at, code_at, kind_at, record_at, consent_at, hook_at}

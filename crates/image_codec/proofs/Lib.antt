@@ -3,4 +3,3 @@ pub mod Loops
 pub mod Chains
 pub mod Fields
 pub mod Images
-pub mod Kept

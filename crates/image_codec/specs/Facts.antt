@@ -6,7 +6,7 @@ use Rattle.token_store.specs.declared.image.KeptKind.TheVariants as kept
 use Rattle.token_store.specs.declared.image.KeptRecord.{KeptRecord}
 use Rattle.image_codec.specs.declared.image.ClientRules.{ClientRules}
 use Rattle.image_codec.specs.declared.image.Rules.{Rules}
-use Rattle.image_codec.specs.declared.image.KeptConsent.{KeptConsent}
+use Rattle.consent.specs.declared.kept_consent.KeptConsent.{KeptConsent}
 use Rattle.image_codec.specs.declared.image.KeptHook.{KeptHook}
 use Rattle.image_codec.specs.declared.image.Image.{Image}
 

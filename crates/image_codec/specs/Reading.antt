@@ -5,7 +5,7 @@ use Rattle.consent.specs.declared.grant.TokenKind.TheVariants.{Access, Refresh}
 use Rattle.change_codec.specs.declared.fault.ChangeFault.{ChangeFault}
 use Rattle.change_codec.specs.declared.fault.ChangeFault.TheVariants as faults
 use Rattle.change_codec.specs.Reading.{◌>>=◌, number_at, part_at, party_at, moment_at, counted_at, text_at}
-use Rattle.image_codec.specs.declared.image.KeptConsent.{KeptConsent}
+use Rattle.consent.specs.declared.kept_consent.KeptConsent.{KeptConsent}
 use Rattle.image_codec.specs.Facts.{ClientFact, RulesFact, KindFact, Code, Token, RecordFact, HookFact, ImageFact}
 
 -- so many of them

@@ -2,7 +2,7 @@
 use Rattle.std.specs.Prelude.{◌++◌, ◌∷◌, [], ℕ, List, Bool, true, false, Option, None, Some, length}
 use Rattle.std.specs.List.{flat_map, AllByRecursion}
 use Rattle.change_codec.specs.Spelling.{wide, short, counted, kind_byte, IsWide, IsShort, IsParty, IsMoment, IsDigest, IsText}
-use Rattle.image_codec.specs.declared.image.KeptConsent.{KeptConsent}
+use Rattle.consent.specs.declared.kept_consent.KeptConsent.{KeptConsent}
 use Rattle.image_codec.specs.Facts.{ClientFact, RulesFact, KindFact, Code, Token, RecordFact, HookFact, ImageFact}
 
 -- SPELLINGS

@@ -6,10 +6,10 @@ ghost use Rattle.image_codec.specs.Facts.{ImageFact, RulesFact, client_fact, hoo
 ghost use Rattle.image_codec.specs.Spelling.{ImageFits, RulesFit, image_spelling, rules_spelling};
 ghost use Rattle.image_codec.specs.Reading.{alone_at, client_at, code_at, consent_at, hook_at, image_at, image_reading, kind_at, listed_at, mark_at, optional_at, record_at, rules_at, rules_reading, some_at};
 
-use crate::image::{ClientRules, Image, KeptConsent, KeptHook, Rules};
+use crate::image::{ClientRules, Image, KeptHook, Rules};
 use change_codec::field::{counted_of, digest_of, moment_of, party_of, short_of, text_of, wide_of};
 use change_codec::{ChangeFault, DecodeFault};
-use consent::{ClientNo, Moment, OwnerNo, TokenKind};
+use consent::{ClientNo, KeptConsent, Moment, OwnerNo, TokenKind};
 use std::alloc::Global;
 use token_store::{KeptKind, KeptRecord};
 

@@ -6,13 +6,13 @@ ghost use Rattle.change_codec.specs.Spelling.{IsShort, IsText, counted, kind_byt
 ghost use Rattle.image_codec.specs.Facts.{Code, Token, client_fact, hook_fact, image_fact, kind_fact, record_fact, rules_fact};
 ghost use Rattle.image_codec.specs.Spelling.{ClientFits, ConsentFits, EachFits, GrantFits, HomeFits, HookCounts, HookFits, ImageCounts, ImageFits, KindCounts, KindFits, OptionFits, RecordFits, RulesCount, RulesFit, client_spelling, consent_spelling, grant_spelling, home_spelling, hook_spelling, image_spelling, kind_spelling, listed, mark, marks_spelling, optional, record_spelling, rules_fields, rules_spelling};
 
-use crate::image::{ClientRules, Image, KeptConsent, KeptHook, Rules};
+use crate::image::{ClientRules, Image, KeptHook, Rules};
 use change_codec::EncodeFault;
 use change_codec::field::{
     is_short, put_client, put_counted, put_digest, put_moment, put_owner, put_short, put_text,
     put_wide,
 };
-use consent::{OwnerNo, TokenKind};
+use consent::{KeptConsent, OwnerNo, TokenKind};
 use std::alloc::AllocError;
 use token_store::{KeptKind, KeptRecord};
 

@@ -1,6 +1,6 @@
 //! What is left of a server when what has expired goes.
 
-use consent::{ClientNo, Moment, OwnerNo};
+use consent::{KeptConsent, Moment};
 use token_store::KeptRecord;
 
 /// A client by its name, with the scope that it may be allowed.
@@ -23,14 +23,6 @@ pub struct Rules<'a> {
     pub access_life: u32,
     /// In seconds.
     pub refresh_life: u32,
-}
-
-/// What an owner has consented to for a client.
-#[derive(Clone, Copy)]
-pub struct KeptConsent {
-    pub owner: OwnerNo,
-    pub client: ClientNo,
-    pub mask: u64,
 }
 
 /// A hook by its name, with its version and its code.

@@ -28,5 +28,6 @@ mod laws;
 pub use change_codec::{ChangeFault, DecodeFault, EncodeFault};
 pub use decoding::{decode, decode_rules};
 pub use encoding::{encode, encode_rules};
-pub use image::{ClientRules, Image, KeptConsent, KeptHook, Rules};
+pub use consent::KeptConsent;
+pub use image::{ClientRules, Image, KeptHook, Rules};
 pub use laws::{bytes_spell_one_image, bytes_tell_one_rules, facts_say_what_is_kept};

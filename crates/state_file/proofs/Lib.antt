@@ -1,4 +1,7 @@
+pub mod Begun
 pub mod Compared
+pub mod Imaged
+pub mod Renewed
 pub mod FromFile
 pub mod Hooked
 pub mod Kept
@@ -6,5 +9,6 @@ pub mod Left
 pub mod Listed
 pub mod Redone
 pub mod Refused
+pub mod Replaying
 pub mod Setting
 pub mod Tells

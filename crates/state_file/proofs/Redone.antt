@@ -20,7 +20,7 @@ use Rattle.state_file.specs.declared.restored.Restored.{Restored}
 use Rattle.state_file.proofs.Hooked.{hooks_told, hooks_of-with}
 
 -- what is right is right as far as it went
-right_before : (rules : RegistryRecord) (start before later : List Event) → AllRight rules start (before ++ later) → AllRight rules start before
+pub right_before : (rules : RegistryRecord) (start before later : List Event) → AllRight rules start (before ++ later) → AllRight rules start before
 right_before rules start [] later all = tt
 right_before rules start (x ∷ before) later all = (all.0, right_before rules (start ++ x ∷ []) before later all.1)
 

@@ -1,40 +1,56 @@
 -- Why rules are refused, over a batch and over all.
-use Rattle.std.proofs.Common.{◌≡◌, ◌<◌, ◌+◌, ◌++◌, ◌∙◌, ℕ, List, ◌∷◌, Result, Ok, Err, None, inl, map, take, drop, length, get_or, sym, ap}
-use Rattle.std.specs.Prelude.{IfErr}
+use Rattle.std.proofs.Common.{◌≡◌, ◌<◌, ◌+◌, ◌++◌, ◌∙◌, ℕ, List, ◌∷◌, None, inl, inr, map, take, drop, length, get_or, sym, ap}
 use Rattle.std.proofs.lemmas.List.{drop_more, map-append, take-append-drop}
 use Rattle.endpoints.specs.declared.redo.RedoFault.{RedoFault}
 use Rattle.endpoints.specs.declared.redo.RedoFault.TheVariants as redoing
 use Rattle.hook_host.specs.declared.host.HookHost.{Ghosts as Hosting}
-use Rattle.image_codec.specs.Facts.{HookFact, RulesFact, hook_fact}
-use Rattle.image_codec.specs.Spelling.{RulesFit, rules_spelling}
+use Rattle.image_codec.specs.Facts.{HookFact, ImageFact, RulesFact, hook_fact}
+use Rattle.image_codec.specs.Spelling.{ImageFits, image_spelling}
 use Rattle.image_codec.specs.declared.image.KeptHook.{KeptHook}
-use Rattle.state_file.specs.Comparing.{AreNarrower, RefuseBeside, RefuseRules}
+use Rattle.state_file.specs.Comparing.{AreNarrower, IsUnread, RefuseBeside, RefuseRules, TakesRules}
 use Rattle.state_file.specs.FaultTexts.{of_redoing}
 use Rattle.state_file.specs.Hooks.{named}
-use Rattle.state_file.specs.Resuming.{RefusesHook, RefusesResume}
+use Rattle.state_file.specs.Resuming.{IsOfChanges, IsOfImage, RefusesHook, RefusesImage, RefusesResume}
+use Rattle.state_file.specs.Telling.{TellsIn}
 use Rattle.state_file.specs.declared.fault.StateFault.{StateFault}
 use Rattle.state_file.specs.declared.fault.StateFault.TheVariants as state
 use Rattle.state_file.specs.declared.restored.Restored.{Restored}
 
-beside_fault : (batch : List ℕ) (told now : RulesFact) → RulesFit told → batch ≡ rules_spelling told → (fault : StateFault) → AreNarrower told now fault → RefuseBeside batch now fault
-beside_fault batch told now fit is state.Memory narrower = tt
-beside_fault batch told now fit is state.Device narrower = absurd narrower
-beside_fault batch told now fit is state.Full narrower = absurd narrower
-beside_fault batch told now fit is state.TooLong narrower = absurd narrower
-beside_fault batch told now fit is state.NoRules narrower = absurd narrower
-beside_fault batch told now fit is (state.Spelling fault) narrower = absurd narrower
-beside_fault batch told now fit is (state.ScopeMoved name) narrower = (told, fit, is, narrower)
-beside_fault batch told now fit is state.OwnerMoved narrower = (told, fit, is, narrower)
-beside_fault batch told now fit is (state.ClientMoved name) narrower = (told, fit, is, narrower)
-beside_fault batch told now fit is (state.ClientNarrowed name) narrower = (told, fit, is, narrower)
-beside_fault batch told now fit is state.LifeNarrowed narrower = (told, fit, is, narrower)
-beside_fault batch told now fit is (state.Follows fault) narrower = absurd narrower
-beside_fault batch told now fit is (state.HookDiffers name) narrower = absurd narrower
-beside_fault batch told now fit is (state.Hook name fault) narrower = absurd narrower
+-- narrower than what the batch tells
+pub beside_fault : (batch : List ℕ) (told now : RulesFact) → TellsIn batch told → (fault : StateFault) → AreNarrower told now fault → RefuseBeside batch now fault
+beside_fault batch told now is state.Memory narrower = tt
+beside_fault batch told now is state.Device narrower = absurd narrower
+beside_fault batch told now is state.Full narrower = absurd narrower
+beside_fault batch told now is state.TooLong narrower = absurd narrower
+beside_fault batch told now is state.NoRules narrower = absurd narrower
+beside_fault batch told now is (state.Spelling fault) narrower = absurd narrower
+beside_fault batch told now is (state.ScopeMoved name) narrower = (told, is, narrower)
+beside_fault batch told now is state.OwnerMoved narrower = (told, is, narrower)
+beside_fault batch told now is (state.ClientMoved name) narrower = (told, is, narrower)
+beside_fault batch told now is (state.ClientNarrowed name) narrower = (told, is, narrower)
+beside_fault batch told now is state.LifeNarrowed narrower = (told, is, narrower)
+beside_fault batch told now is (state.Follows fault) narrower = absurd narrower
+beside_fault batch told now is (state.Image fault) narrower = absurd narrower
+beside_fault batch told now is (state.HookDiffers name) narrower = absurd narrower
+beside_fault batch told now is (state.Hook name fault) narrower = absurd narrower
 
-pub beside : (batch : List ℕ) (told now : RulesFact) → RulesFit told → batch ≡ rules_spelling told → (r : Result (Unit {0}) StateFault) → IfErr r (AreNarrower told now) → IfErr r (RefuseBeside batch now)
-beside batch told now fit is (Ok x) refused = tt
-beside batch told now fit is (Err fault) refused = beside_fault batch told now fit is fault refused
+-- what the batch tells is not read
+pub unread : (batch : List ℕ) (now : RulesFact) (fault : StateFault) → IsUnread batch fault → RefuseBeside batch now fault
+unread batch now state.Memory is = tt
+unread batch now state.Device is = absurd is
+unread batch now state.Full is = absurd is
+unread batch now state.TooLong is = absurd is
+unread batch now state.NoRules is = absurd is
+unread batch now (state.Spelling fault) is = is
+unread batch now (state.ScopeMoved name) is = absurd is
+unread batch now state.OwnerMoved is = absurd is
+unread batch now (state.ClientMoved name) is = absurd is
+unread batch now (state.ClientNarrowed name) is = absurd is
+unread batch now state.LifeNarrowed is = absurd is
+unread batch now (state.Follows fault) is = absurd is
+unread batch now (state.Image fault) is = absurd is
+unread batch now (state.HookDiffers name) is = absurd is
+unread batch now (state.Hook name fault) is = absurd is
 
 -- WHY A HOOK IS REFUSED
 
@@ -69,6 +85,62 @@ no_start batches now state.OwnerMoved refused = refused
 no_start batches now (state.ClientMoved name) refused = refused
 no_start batches now (state.ClientNarrowed name) refused = refused
 no_start batches now state.LifeNarrowed refused = refused
-no_start batches now (state.Follows fault) refused = absurd refused.2.3
+no_start batches now (state.Follows fault) refused = absurd refused.2.2
+no_start batches now (state.Image fault) refused = absurd refused.2.2
 no_start batches now (state.HookDiffers name) refused = refused
-no_start batches now (state.Hook name fault) refused = refused
+no_start batches now (state.Hook name fault) refused = absurd refused.2.2
+
+-- what refuses the image refuses the start
+pub no_server : (batches : List (List ℕ)) (now : RulesFact) (fault : StateFault) → TakesRules batches now → RefusesImage batches fault → RefusesResume batches now fault
+no_server batches now state.Memory takes refuses = tt
+no_server batches now state.Device takes refuses = absurd refuses
+no_server batches now state.Full takes refuses = absurd refuses
+no_server batches now state.TooLong takes refuses = absurd refuses
+no_server batches now state.NoRules takes refuses = absurd refuses
+no_server batches now (state.Spelling fault) takes refuses = inr takes
+no_server batches now (state.ScopeMoved name) takes refuses = absurd refuses
+no_server batches now state.OwnerMoved takes refuses = absurd refuses
+no_server batches now (state.ClientMoved name) takes refuses = absurd refuses
+no_server batches now (state.ClientNarrowed name) takes refuses = absurd refuses
+no_server batches now state.LifeNarrowed takes refuses = absurd refuses
+no_server batches now (state.Follows fault) takes refuses = takes
+no_server batches now (state.Image fault) takes refuses = (takes, refuses)
+no_server batches now (state.HookDiffers name) takes refuses = absurd refuses
+no_server batches now (state.Hook name fault) takes refuses = (takes, refuses)
+
+-- what refuses to be made of the first batch
+pub not_made_of : (batches later : List (List ℕ)) (batch : List ℕ) (image : ImageFact) → batches ≡ batch ∷ later → ImageFits image → batch ≡ image_spelling image →
+    (fault : StateFault) → IsOfImage fault → RefusesImage batches fault
+not_made_of batches later batch image are fits is state.Memory of = tt
+not_made_of batches later batch image are fits is state.Device of = absurd of
+not_made_of batches later batch image are fits is state.Full of = absurd of
+not_made_of batches later batch image are fits is state.TooLong of = absurd of
+not_made_of batches later batch image are fits is state.NoRules of = absurd of
+not_made_of batches later batch image are fits is (state.Spelling fault) of = tt
+not_made_of batches later batch image are fits is (state.ScopeMoved name) of = absurd of
+not_made_of batches later batch image are fits is state.OwnerMoved of = absurd of
+not_made_of batches later batch image are fits is (state.ClientMoved name) of = absurd of
+not_made_of batches later batch image are fits is (state.ClientNarrowed name) of = absurd of
+not_made_of batches later batch image are fits is state.LifeNarrowed of = absurd of
+not_made_of batches later batch image are fits is (state.Follows fault) of = tt
+not_made_of batches later batch image are fits is (state.Image fault) of = (image, later, (fits, are ∙ ap (λ (b : List ℕ). b ∷ later) is))
+not_made_of batches later batch image are fits is (state.HookDiffers name) of = absurd of
+not_made_of batches later batch image are fits is (state.Hook name fault) of = (image, later, (fits, are ∙ ap (λ (b : List ℕ). b ∷ later) is))
+
+-- what refuses the changes refuses the start
+pub not_redone : (batches : List (List ℕ)) (now : RulesFact) (fault : StateFault) → TakesRules batches now → IsOfChanges fault → RefusesResume batches now fault
+not_redone batches now state.Memory takes of = tt
+not_redone batches now state.Device takes of = absurd of
+not_redone batches now state.Full takes of = absurd of
+not_redone batches now state.TooLong takes of = absurd of
+not_redone batches now state.NoRules takes of = absurd of
+not_redone batches now (state.Spelling fault) takes of = inr takes
+not_redone batches now (state.ScopeMoved name) takes of = absurd of
+not_redone batches now state.OwnerMoved takes of = absurd of
+not_redone batches now (state.ClientMoved name) takes of = absurd of
+not_redone batches now (state.ClientNarrowed name) takes of = absurd of
+not_redone batches now state.LifeNarrowed takes of = absurd of
+not_redone batches now (state.Follows fault) takes of = takes
+not_redone batches now (state.Image fault) takes of = absurd of
+not_redone batches now (state.HookDiffers name) takes of = absurd of
+not_redone batches now (state.Hook name fault) takes of = absurd of

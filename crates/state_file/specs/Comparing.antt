@@ -1,12 +1,13 @@
 -- When a registry's rules are as wide as those that a file tells, and where they first are not.
-use Rattle.std.specs.Prelude.{◌≡◌, ◌≤◌, ◌<◌, ◌^◌, ◌⊎◌, ℕ, List, [], ◌∷◌, length, map, Option, None, Some, if◌then◌else◌, string_bytes}
+use Rattle.std.specs.Prelude.{◌≡◌, ◌≤◌, ◌<◌, ◌^◌, ◌⊎◌, ℕ, zero, suc, List, [], ◌∷◌, length, map, Option, None, Some, if◌then◌else◌, string_bytes}
 use Rattle.std.specs.Str.{bytes_eq}
+use Rattle.change_codec.specs.declared.fault.ChangeFault.{ChangeFault}
 use Rattle.consent.specs.History.{is_within}
 use Rattle.image_codec.specs.Facts.{ClientFact, RulesFact}
-use Rattle.image_codec.specs.Reading.{rules_reading}
-use Rattle.image_codec.specs.Spelling.{RulesCount, RulesFit, rules_spelling}
+use Rattle.image_codec.specs.Reading.{image_reading, rules_reading}
+use Rattle.image_codec.specs.Spelling.{RulesCount, rules_spelling}
 use Rattle.std.specs.Prelude.{Err}
-use Rattle.state_file.specs.Telling.{last_rules, Tell, BeginWithRules}
+use Rattle.state_file.specs.Telling.{last_rules, Tell, TellsIn, BeginWithRules}
 use Rattle.state_file.specs.declared.fault.StateFault.{StateFault}
 use Rattle.state_file.specs.declared.fault.StateFault.TheVariants.{Memory, Device, Full, TooLong, NoRules, Spelling, ScopeMoved, OwnerMoved, ClientMoved, ClientNarrowed, LifeNarrowed}
 
@@ -73,11 +74,22 @@ IsUnwritten bytes Device = Unit {0}
 IsUnwritten bytes Full = Unit {0}
 IsUnwritten bytes _ = ⊥
 
+-- the bytes that should tell rules spell none: no image where they begin with a byte 2, and else no rules alone
+abbrev pub IsMisspelled : List ℕ → ChangeFault → Type 0
+IsMisspelled (suc (suc zero) ∷ fields) fault = image_reading (2 ∷ fields) ≡ Err fault
+IsMisspelled batch fault = rules_reading batch ≡ Err fault
+
+-- why what a batch tells is not read
+abbrev pub IsUnread : List ℕ → StateFault → Type 0
+IsUnread batch Memory = Unit {0}
+IsUnread batch (Spelling fault) = IsMisspelled batch fault
+IsUnread batch _ = ⊥
+
 -- why rules are not taken where a batch tells others
 abbrev pub RefuseBeside : List ℕ → RulesFact → StateFault → Type 0
 RefuseBeside batch now Memory = Unit {0}
-RefuseBeside batch now (Spelling fault) = rules_reading batch ≡ Err fault
-RefuseBeside batch now fault = (told : RulesFact) × RulesFit told × (batch ≡ rules_spelling told) × AreNarrower told now fault
+RefuseBeside batch now (Spelling fault) = IsMisspelled batch fault
+RefuseBeside batch now fault = (told : RulesFact) × TellsIn batch told × AreNarrower told now fault
 
 -- why rules are not taken behind the batches
 abbrev pub RefuseRules : List (List ℕ) → RulesFact → StateFault → Type 0

@@ -11,8 +11,11 @@ use Rattle.batch_file.specs.declared.appending.BatchFault.{BatchFault}
 use Rattle.batch_file.specs.declared.appending.BatchFault.TheVariants as batch
 use Rattle.batch_file.specs.declared.device.DeviceFault.{DeviceFault}
 use Rattle.batch_file.specs.declared.device.DeviceFault.TheVariants as device
+use Rattle.endpoints.specs.Restoring.{restore_fault_text}
 use Rattle.endpoints.specs.declared.redo.RedoFault.{RedoFault}
 use Rattle.endpoints.specs.declared.redo.RedoFault.TheVariants as redoing
+use Rattle.endpoints.specs.declared.restoring.RestoreFault.{RestoreFault}
+use Rattle.endpoints.specs.declared.restoring.RestoreFault.TheVariants as restoring
 use Rattle.state_file.specs.declared.fault.StateFault.{StateFault}
 use Rattle.state_file.specs.declared.fault.StateFault.TheVariants as state
 
@@ -29,6 +32,7 @@ state_fault_text (state.ClientMoved name) = codes "ClientMoved " ++ string_bytes
 state_fault_text (state.ClientNarrowed name) = codes "ClientNarrowed " ++ string_bytes name
 state_fault_text state.LifeNarrowed = codes "LifeNarrowed"
 state_fault_text (state.Follows fault) = codes "Follows " ++ redo_fault_text fault
+state_fault_text (state.Image fault) = codes "Image " ++ restore_fault_text fault
 state_fault_text (state.HookDiffers name) = codes "HookDiffers " ++ string_bytes name
 state_fault_text (state.Hook name fault) = codes "Hook " ++ string_bytes name ++ codes " " ++ hook_fault_text fault
 
@@ -44,6 +48,10 @@ of_encoding encoding.TooLong = state.TooLong
 abbrev pub of_redoing : RedoFault → StateFault
 of_redoing redoing.Memory = state.Memory
 of_redoing fault = state.Follows fault
+
+abbrev pub of_restoring : RestoreFault → StateFault
+of_restoring restoring.Memory = state.Memory
+of_restoring fault = state.Image fault
 
 abbrev pub of_device : DeviceFault → StateFault
 of_device device.Memory = state.Memory

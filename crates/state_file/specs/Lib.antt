@@ -6,3 +6,4 @@ pub mod Comparing
 pub mod Hooks
 pub mod Resuming
 pub mod FaultTexts
+pub mod Renewing

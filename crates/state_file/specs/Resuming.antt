@@ -1,22 +1,23 @@
 -- What a server does that is started on a state file.
-use Rattle.std.specs.Prelude.{◌≡◌, ◌≢◌, ◌⊎◌, ◌++◌, ℕ, List, [], ◌∷◌, None, Some, string_bytes}
+use Rattle.std.specs.Prelude.{◌≡◌, ◌≢◌, ◌⊎◌, ◌++◌, ℕ, zero, suc, List, [], ◌∷◌, Bool, true, false, None, Some, string_bytes}
 use Rattle.batch_file.specs.Frames.{recovered}
 use Rattle.change_codec.specs.Happened.{Happened}
-use Rattle.change_codec.specs.Keeping.{Crashes, Holds, LeavesEither}
+use Rattle.change_codec.specs.Keeping.{Crashes, Holds, IsFrontOf, LeavesEither}
 use Rattle.change_codec.specs.Spelling.{DatedFact}
 use Rattle.clients.specs.RegistryRecord.{RegistryRecord}
 use Rattle.consent.specs.History.{Event}
 use Rattle.endpoints.specs.Bounded.{AllRight}
+use Rattle.endpoints.specs.Hosts.{HostRun}
 use Rattle.endpoints.specs.Server.{Seen, FitsServer, Notes, IsNoted}
 use Rattle.hook_host.specs.Versions.{layout_of}
 use Rattle.hook_host.specs.declared.host.HookHost.{Ghosts as Hosting}
-use Rattle.image_codec.specs.Facts.{RulesFact, HookFact}
+use Rattle.image_codec.specs.Facts.{RulesFact, HookFact, ImageFact}
 use Rattle.state_file.specs.Comparing.{RefuseRules, TakesRules}
 use Rattle.state_file.specs.Hooks.{AreSet, hooks_of, named, with_hooks}
-use Rattle.state_file.specs.Standing.{AreTold, StandsFor}
+use Rattle.state_file.specs.Standing.{AreTold, BeginWithImage, IsImageOf, StandsFor}
 use Rattle.state_file.specs.Telling.{TellsRules, rules_of}
 use Rattle.state_file.specs.declared.fault.StateFault.{StateFault}
-use Rattle.state_file.specs.declared.fault.StateFault.TheVariants.{Memory, Device, Full, Spelling, Follows, HookDiffers, Hook}
+use Rattle.state_file.specs.declared.fault.StateFault.TheVariants.{Memory, Device, Full, Spelling, Follows, Image, HookDiffers, Hook}
 use Rattle.state_file.specs.declared.restored.Restored.{Restored}
 use Rattle.state_file.specs.declared.starting.Started.{Started}
 
@@ -38,10 +39,64 @@ Redoes {H = H} hosting old facts new =
 abbrev pub RedoesBatches : {H : Type 0} → Hosting H → Restored H → List (List ℕ) → Restored H → Type 0
 RedoesBatches hosting old batches new = (facts : List DatedFact) → AreTold batches facts → Redoes hosting old facts new
 
--- it fits each history that the bytes stand for and that is right under the rules
+-- A HOST MADE AGAIN
+
+-- the hooks, installed one after the other, lead from the one host to the other
+abbrev pub Installs : {H : Type 0} → Hosting H → H → List HookFact → H → Type 0
+Installs hosting old [] new = new ≡ old
+Installs {H = H} hosting old (hook ∷ hooks) new =
+    (mid : H) × hosting.installs old hook.name (layout_of hook.version) hook.code mid × Installs hosting mid hooks new
+
+-- the first host comes by the history to what it comes to when the hooks that the history sets are installed on it
+abbrev pub Replays : {H : Type 0} → Hosting H → H → List Event → Type 0
+Replays {H = H} hosting first history =
+    (host : H) → Installs hosting first (hooks_of history) host → HostRun hosting.installs hosting.removes first history host
+
+-- an image begins with a byte 2
+abbrev pub begins_image : List ℕ → Bool
+begins_image (suc (suc zero) ∷ fields) = true
+begins_image _ = false
+
+-- the first batch, if there is one, is none
+abbrev pub HaveNoImage : List (List ℕ) → Type 0
+HaveNoImage [] = Unit {0}
+HaveNoImage (batch ∷ batches) = begins_image batch ≡ false
+
+-- The host came by the history to its hooks. It is asked for where the bytes begin with an image alone, and of each front of
+-- the history, since the image is of one.
+abbrev pub WasRun : {H : Type 0} → Hosting H → H → List ℕ → List Event → Type 0
+WasRun hosting first left history =
+    HaveNoImage (recovered left) ⊎ ((front : List Event) → IsFrontOf front history → Replays hosting first front)
+
+-- the server fits each history that the image is one of, where that is right under the rules and was run
+abbrev pub IsMadeOf : {H : Type 0} → Hosting H → ImageFact → RegistryRecord → H → Restored H → Type 0
+IsMadeOf hosting image rules first restored =
+    (history : List Event) → IsImageOf image history → AllRight rules [] history → Replays hosting first history →
+    Fits hosting restored rules first history
+
+-- the server is made of the first batch, where that is an image, and else anew; the later batches are the others
+pub record Begins {H : Type 0} (hosting : Hosting H) (rules : RegistryRecord) (first : H) (batches later : List (List ℕ)) (restored : Restored H) : Type 0 where
+  pub anew : HaveNoImage batches → (later ≡ batches) × Fits hosting restored rules first []
+  pub of_image : (image : ImageFact) (behind : List (List ℕ)) → BeginWithImage batches image behind →
+      (later ≡ behind) × IsMadeOf hosting image rules first restored
+
+-- so it is of each history that the bytes stand for, that is right under the rules and that was run
+abbrev pub OfRight : {H : Type 0} → Hosting H → List ℕ → RegistryRecord → H → (List Event → Type 0) → Type 0
+OfRight hosting left rules first claim =
+    (history : List Event) → StandsFor left history → AllRight rules [] history → WasRun hosting first left history → claim history
+
+-- it fits each of them
 abbrev pub AnswersFor : {H : Type 0} → Hosting H → List ℕ → RegistryRecord → H → Restored H → Type 0
-AnswersFor hosting left rules first restored =
-    (history : List Event) → StandsFor left history → AllRight rules [] history → Fits hosting restored rules first history
+AnswersFor hosting left rules first restored = OfRight hosting left rules first (λ history. Fits hosting restored rules first history)
+
+-- it is a fault of an image
+abbrev pub IsOfImage : StateFault → Type 0
+IsOfImage Memory = Unit {0}
+IsOfImage (Spelling fault) = Unit {0}
+IsOfImage (Follows fault) = Unit {0}
+IsOfImage (Image fault) = Unit {0}
+IsOfImage (Hook name fault) = Unit {0}
+IsOfImage _ = ⊥
 
 -- it is a fault of changes
 abbrev pub IsOfChanges : StateFault → Type 0
@@ -50,12 +105,24 @@ IsOfChanges (Spelling fault) = Unit {0}
 IsOfChanges (Follows fault) = Unit {0}
 IsOfChanges _ = ⊥
 
--- Why no server is started on the batches: for their rules, or else, where the rules are taken, for their changes. The disk
--- may fail, or have no room.
+-- the first batch is an image
+abbrev pub IsImaged : List (List ℕ) → Type 0
+IsImaged batches = (image : ImageFact) × (later : List (List ℕ)) × BeginWithImage batches image later
+
+-- why no server is made of the first batch
+abbrev pub RefusesImage : List (List ℕ) → StateFault → Type 0
+RefusesImage batches (Image fault) = IsImaged batches
+RefusesImage batches (Hook name fault) = IsImaged batches
+RefusesImage batches fault = IsOfImage fault
+
+-- Why no server is started on the batches: for their rules, or else, where the rules are taken, for their image or for their
+-- changes. The disk may fail, or have no room.
 abbrev pub RefusesResume : List (List ℕ) → RulesFact → StateFault → Type 0
 RefusesResume batches now Device = Unit {0}
 RefusesResume batches now Full = Unit {0}
 RefusesResume batches now (Follows fault) = TakesRules batches now
+RefusesResume batches now (Image fault) = TakesRules batches now × IsImaged batches
+RefusesResume batches now (Hook name fault) = TakesRules batches now × IsImaged batches
 RefusesResume batches now (Spelling fault) = RefuseRules batches now (Spelling fault) ⊎ TakesRules batches now
 RefusesResume batches now fault = RefuseRules batches now fault
 
@@ -105,9 +172,10 @@ KeepsNoted crashes old new keeper kept =
 abbrev pub WasRight : List ℕ → List Event → Type 0
 WasRight left history = (recovered left ≡ []) ⊎ ((old : RegistryRecord) × TellsRules left (rules_of old) × AllRight old [] history)
 
--- so it is of each history that the bytes stand for and that was right
-abbrev pub OfEach : List ℕ → (List Event → Type 0) → Type 0
-OfEach left claim = (history : List Event) → StandsFor left history → WasRight left history → claim history
+-- so it is of each history that the bytes stand for, that was right and that was run
+abbrev pub OfEach : {H : Type 0} → Hosting H → H → List ℕ → (List Event → Type 0) → Type 0
+OfEach hosting first left claim =
+    (history : List Event) → StandsFor left history → WasRight left history → WasRun hosting first left history → claim history
 
 -- from its moment on the server answers as the history says, and it notes what happens from there on
 pub record ServesOn {H D : Type 0} (hosting : Hosting H) (started : Started D H) (rules : RegistryRecord) (first : H) (history : List Event) : Type 0 where

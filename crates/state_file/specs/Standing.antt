@@ -1,9 +1,31 @@
 -- What a state file stands for.
-use Rattle.std.specs.Prelude.{◌≡◌, ◌++◌, ℕ, zero, List, [], ◌∷◌}
+use Rattle.std.specs.Prelude.{◌≡◌, ◌⊎◌, ◌++◌, ℕ, zero, List, [], ◌∷◌, map}
 use Rattle.batch_file.specs.Frames.{recovered}
+use Rattle.consent.specs.Consents.{FitsConsents, kept_consents}
 use Rattle.consent.specs.History.{Event}
 use Rattle.change_codec.specs.Spelling.{DatedFact, HaveSpelling, spelling}
 use Rattle.change_codec.specs.Happened.{Happened}
+use Rattle.image_codec.specs.Facts.{ImageFact}
+use Rattle.image_codec.specs.Kept.{kept_told}
+use Rattle.image_codec.specs.Spelling.{ImageFits, image_spelling}
+use Rattle.token_store.specs.Fits.{FitsHistory}
+use Rattle.state_file.specs.Hooks.{hooks_of}
+
+-- The image is one of the history, from its moment on: its records answer as the history does, its consents are the owners'
+-- last ones, and its hooks are those that the history sets. Nothing in the history is later.
+pub record IsImageOf (image : ImageFact) (history : List Event) : Type 0 where
+  pub records : FitsHistory (map kept_told image.records) history image.greatest
+  pub consents : FitsConsents (kept_consents image.consents) history
+  pub hooks : image.hooks ≡ hooks_of history
+
+-- the first batch is this image, and those are behind it
+abbrev pub BeginWithImage : List (List ℕ) → ImageFact → List (List ℕ) → Type 0
+BeginWithImage batches image later = ImageFits image × (batches ≡ image_spelling image ∷ later)
+
+-- the history is what nothing has happened in, or one that the first batch is an image of
+abbrev pub Begin : List (List ℕ) → List Event → List (List ℕ) → Type 0
+Begin batches history later =
+    ((history ≡ []) × (later ≡ batches)) ⊎ ((image : ImageFact) × IsImageOf image history × BeginWithImage batches image later)
 
 -- The batches have these dated changes between them: each batch is rules, which begin with a byte 0, or spells its part.
 abbrev pub AreTold : List (List ℕ) → List DatedFact → Type 0
@@ -12,6 +34,11 @@ AreTold ((zero ∷ rules) ∷ batches) facts = AreTold batches facts
 AreTold (batch ∷ batches) facts =
     (first later : List DatedFact) × HaveSpelling first × (batch ≡ spelling first) × AreTold batches later × (facts ≡ first ++ later)
 
--- the bytes stand for the history: the dated changes of their whole batches lead to it
-abbrev pub StandsFor : List ℕ → List Event → Type 0
-StandsFor left history = (facts : List DatedFact) × AreTold (recovered left) facts × Happened [] facts history
+-- the bytes stand for the history: from where their whole batches begin, the dated changes of the others lead to it
+pub record StandsFor (left : List ℕ) (history : List Event) : Type 0 where
+  pub base : List Event
+  pub later : List (List ℕ)
+  pub facts : List DatedFact
+  pub begins : Begin (recovered left) base later
+  pub told : AreTold later facts
+  pub happened : Happened base facts history

@@ -1,12 +1,12 @@
 -- The rules that a state file tells.
-use Rattle.std.specs.Prelude.{◌≡◌, ◌⊎◌, ℕ, zero, List, [], ◌∷◌, length, map, Option, None, Some}
+use Rattle.std.specs.Prelude.{◌≡◌, ◌⊎◌, ℕ, zero, suc, List, [], ◌∷◌, length, map, Option, None, Some}
 use Rattle.std.specs.Option.{option_or}
 use Rattle.batch_file.specs.Frames.{recovered}
 use Rattle.batch_file.specs.declared.appending.BatchFile.{BatchFile}
 use Rattle.clients.specs.ClientRecord.{ClientRecord}
 use Rattle.clients.specs.RegistryRecord.{RegistryRecord}
-use Rattle.image_codec.specs.Facts.{ClientFact, RulesFact}
-use Rattle.image_codec.specs.Spelling.{RulesFit, rules_spelling}
+use Rattle.image_codec.specs.Facts.{ClientFact, RulesFact, ImageFact}
+use Rattle.image_codec.specs.Spelling.{RulesFit, ImageFits, rules_spelling, image_spelling}
 
 -- what is told of a client
 abbrev pub client_of : ClientRecord → ClientFact
@@ -22,19 +22,30 @@ rules_of registry = record {
   refresh_life = registry.refresh_life;
 }
 
--- the batch, if it is one of rules: those begin with a byte 0
+-- the batch, if it tells rules: it is of rules alone, which begin with a byte 0, or an image, which begins with a byte 2
 abbrev pub rules_in : List ℕ → Option (List ℕ)
 rules_in (zero ∷ fields) = Some (0 ∷ fields)
+rules_in (suc (suc zero) ∷ fields) = Some (2 ∷ fields)
 rules_in _ = None
 
--- the last batch of rules
+-- the last batch that tells rules
 abbrev pub last_rules : List (List ℕ) → Option (List ℕ)
 last_rules [] = None
 last_rules (batch ∷ batches) = option_or (last_rules batches) (rules_in batch)
 
--- the last batch of rules spells these
+-- the bytes spell these rules
+abbrev pub IsOfRules : List ℕ → RulesFact → Type 0
+IsOfRules bytes rules = RulesFit rules × (bytes ≡ rules_spelling rules)
+
+-- the batch spells these rules, or an image under them
+abbrev pub TellsIn : List ℕ → RulesFact → Type 0
+TellsIn batch rules =
+    IsOfRules batch rules
+    ⊎ ((image : ImageFact) × ImageFits image × (image.rules ≡ rules) × (batch ≡ image_spelling image))
+
+-- the last batch that tells rules tells these
 abbrev pub Tell : List (List ℕ) → RulesFact → Type 0
-Tell batches rules = RulesFit rules × (last_rules batches ≡ Some (rules_spelling rules))
+Tell batches rules = (batch : List ℕ) × (last_rules batches ≡ Some batch) × TellsIn batch rules
 
 -- so it is of the batches that the bytes stand for
 abbrev pub TellsRules : List ℕ → RulesFact → Type 0
@@ -44,7 +55,7 @@ TellsRules left rules = Tell (recovered left) rules
 abbrev pub LeavesRules : {D : Type 0} → (D → List ℕ) → (D → List ℕ → Type 0) → BatchFile D → RulesFact → Type 0
 LeavesRules seen may_leave file rules = (c : List ℕ) → may_leave file.device c ⊎ (c ≡ seen file.device) → TellsRules c rules
 
--- the first batch, if there is one, is one of rules
+-- the first batch, if there is one, tells rules
 abbrev pub BeginWithRules : List (List ℕ) → Type 0
 BeginWithRules [] = Unit {0}
 BeginWithRules (batch ∷ batches) = rules_in batch ≡ Some batch

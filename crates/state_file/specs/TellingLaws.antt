@@ -1,10 +1,10 @@
 -- What rules a state file tells once it has one batch more. For proofs alone.
-use Rattle.std.proofs.Common.{◌≡◌, ℕ, List, [], ◌∷◌, ◌++◌, Option, None, Some, refl, sym, ap, ◌∙◌}
+use Rattle.std.proofs.Common.{◌≡◌, inl, inr, ℕ, List, [], ◌∷◌, ◌++◌, Option, None, Some, refl, sym, ap, ◌∙◌}
 use Rattle.std.specs.Option.{option_or}
 use Rattle.batch_file.specs.Frames.{recovered}
 use Rattle.change_codec.specs.Spelling.{DatedFact, spelling}
-use Rattle.image_codec.specs.Facts.{RulesFact}
-use Rattle.image_codec.specs.Spelling.{RulesFit, rules_spelling}
+use Rattle.image_codec.specs.Facts.{ImageFact, RulesFact}
+use Rattle.image_codec.specs.Spelling.{ImageFits, RulesFit, image_spelling, rules_spelling}
 use Rattle.state_file.specs.Telling.{rules_in, last_rules, TellsRules}
 
 or_none : {A : Type 0} (x : Option A) → option_or x None ≡ x
@@ -25,12 +25,16 @@ last_rules-push (b ∷ batches) batch =
 pub TellsRules-more : (left now : List ℕ) (more : List DatedFact) (rules : RulesFact) → recovered now ≡ recovered left ++ spelling more ∷ [] →
     TellsRules left rules → TellsRules now rules
 TellsRules-more left now more rules are tells =
-    (tells.0, ap last_rules are ∙ last_rules-push (recovered left) (spelling more) ∙ tells.1)
+    (tells.0, ap last_rules are ∙ last_rules-push (recovered left) (spelling more) ∙ tells.1, tells.2)
 
 -- a batch of rules more
 pub TellsRules-told : (left now : List ℕ) (rules : RulesFact) → RulesFit rules → recovered now ≡ recovered left ++ rules_spelling rules ∷ [] → TellsRules now rules
-TellsRules-told left now rules fit are = (fit, ap last_rules are ∙ last_rules-push (recovered left) (rules_spelling rules))
+TellsRules-told left now rules fit are = (rules_spelling rules, ap last_rules are ∙ last_rules-push (recovered left) (rules_spelling rules), inl (fit, refl))
 
 -- the same batches
 pub TellsRules-same : (left now : List ℕ) (rules : RulesFact) → recovered now ≡ recovered left → TellsRules left rules → TellsRules now rules
-TellsRules-same left now rules same tells = (tells.0, ap last_rules same ∙ tells.1)
+TellsRules-same left now rules same tells = (tells.0, ap last_rules same ∙ tells.1, tells.2)
+
+-- an image alone
+pub TellsRules-image : (left : List ℕ) (image : ImageFact) → recovered left ≡ image_spelling image ∷ [] → ImageFits image → TellsRules left image.rules
+TellsRules-image left image are fits = (image_spelling image, ap last_rules are, inr (image, fits, refl, refl))

@@ -1,13 +1,13 @@
 //! Why a server is not started on a state file.
 
 ghost use Rattle.std.specs.Prelude.{◌≡◌, Some};
-ghost use Rattle.state_file.specs.FaultTexts.{of_batch, of_decoding, of_device, of_encoding, of_redoing, state_fault_text};
+ghost use Rattle.state_file.specs.FaultTexts.{of_batch, of_decoding, of_device, of_encoding, of_redoing, of_restoring, state_fault_text};
 ghost use Rattle.state_file.specs.declared.fault.StateFault.TheVariants.{Device, Memory};
 
 use batch_file::appending::BatchFault;
 use batch_file::device::DeviceFault;
 use change_codec::{ChangeFault, DecodeFault, EncodeFault, KeepFault};
-use endpoints::RedoFault;
+use endpoints::{RedoFault, RestoreFault};
 use hook_host::HookFault;
 use std::alloc::{AllocError, AllocFailed};
 use std::fmt::{self, Display, Formatter, Write};
@@ -26,7 +26,7 @@ pub enum StateFault {
     TooLong,
     /// The first batch does not tell rules.
     NoRules,
-    /// A batch spells no dated changes, or no rules.
+    /// A batch spells no dated changes, no rules and no image.
     Spelling(ChangeFault),
     /// The scope of this name has another place in the registry, or none.
     ScopeMoved(String),
@@ -40,6 +40,8 @@ pub enum StateFault {
     LifeNarrowed,
     /// A change does not follow those before it.
     Follows(RedoFault),
+    /// No server is made of the image.
+    Image(RestoreFault),
     /// A hook of this name is set that has another version or code.
     HookDiffers(String),
     /// The hook of this name is refused.
@@ -63,6 +65,7 @@ impl Display for StateFault {
             StateFault::ClientNarrowed(name) => write!(f, "ClientNarrowed {name}"),
             StateFault::LifeNarrowed => write!(f, "LifeNarrowed"),
             StateFault::Follows(fault) => write!(f, "Follows {fault}"),
+            StateFault::Image(fault) => write!(f, "Image {fault}"),
             StateFault::HookDiffers(name) => write!(f, "HookDiffers {name}"),
             StateFault::Hook(name, fault) => write!(f, "Hook {name} {fault}"),
         }
@@ -114,6 +117,17 @@ impl From<RedoFault> for StateFault {
         match redoing {
             RedoFault::Memory => StateFault::Memory,
             fault => StateFault::Follows(fault),
+        }
+    }
+}
+
+impl From<RestoreFault> for StateFault {
+    ghost from_gives = { λ restoring fault. fault ≡ of_restoring restoring };
+
+    fn from(restoring: RestoreFault) -> StateFault {
+        match restoring {
+            RestoreFault::Memory => StateFault::Memory,
+            fault => StateFault::Image(fault),
         }
     }
 }

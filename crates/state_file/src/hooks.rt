@@ -1,10 +1,12 @@
 //! The hooks that the changes of a state file set.
 
-ghost use Rattle.std.specs.Prelude.{◌≡◌, ◌↔◌, ◌++◌, ◌∷◌, [], IsTrue, OnOk, option_copied};
+ghost use Rattle.std.specs.Prelude.{◌≡◌, ◌↔◌, ◌++◌, ◌∷◌, [], IsTrue, IfOk, OnOk, map, option_copied};
 ghost use Rattle.change_codec.specs.Spelling.{fact_of};
+ghost use Rattle.image_codec.specs.Facts.{hook_fact};
 ghost use Rattle.state_file.specs.Hooks.{hooks_by, named, without_hook};
 
 use consent::Change;
+use image_codec::KeptHook;
 use std::alloc::{AllocError, Global};
 use std::marker::Model;
 
@@ -26,6 +28,17 @@ impl Model for SetHook {
 }
 
 impl SetHook {
+    // It, where its texts lie here.
+    fn kept(&self) -> KeptHook<'_>
+        ensures { hook_fact result ≡ self.now }
+    {
+        KeptHook {
+            name: self.name.as_str(),
+            version: self.version,
+            code: self.code.as_slice(),
+        }
+    }
+
     /// Whether it has this version and this code.
     pub fn is_of(&self, version: u64, code: &[u8]) -> bool
         ensures { IsTrue result ↔ ((self.now.version ≡ version) × (self.now.code ≡ code.now)) }
@@ -105,5 +118,28 @@ impl SetHooks {
             }
             _ => Ok(()),
         }
+    }
+
+    /// Those that are listed.
+    pub(crate) fn of(alloc: Global, hooks: &[KeptHook<'_>]) -> Result<SetHooks, AllocError>
+        ensures { IfOk result (λ set. set ≡ map hook_fact hooks.now) }
+    {
+        let mut set = SetHooks::new(alloc);
+        for hook in hooks {
+            set.push(hook.name, hook.version, hook.code)?;
+        }
+        Ok(set)
+    }
+
+    /// A list of them.
+    pub(crate) fn listed(&self, alloc: Global) -> Result<Vec<KeptHook<'_>>, AllocError>
+        ensures { IfOk result (λ list. map hook_fact list.items ≡ self.now) }
+    {
+        let mut list = Vec::new(alloc);
+        for hook in self.hooks.as_slice() {
+            let kept = hook.kept();
+            list.extend_from_slice(&[kept])?;
+        }
+        Ok(list)
     }
 }

@@ -1,5 +1,6 @@
 //! Keeping the changes of each round in a state file.
 
+use crate::fault::StateFault;
 use batch_file::appending::BatchFile;
 use batch_file::device::Device;
 use change_codec::{Batch, KeepFault, Keeper};
@@ -64,6 +65,40 @@ impl<D: Device> StateKeeper<D> {
             Err(_) => {
                 self.settled = false;
                 Err(KeepFault::Failed)
+            }
+        }
+    }
+}
+
+impl<D: Device> StateKeeper<D> {
+    ghost use Rattle.std.specs.Prelude.{◌≡◌, [], ◌∷◌, IfErr, OnOk};
+    ghost use Rattle.batch_file.specs.Crashes.{LeavesOnly};
+    ghost use Rattle.batch_file.specs.Frames.{recovered, IsOldOrNew, IsSettled};
+    ghost use Rattle.state_file.specs.Renewing.{IsUnreplaced};
+
+    /// How many bytes the file's batches take.
+    pub(crate) fn end(&self) -> usize
+        ensures { result ≡ self.now.end }
+    {
+        self.file.end
+    }
+
+    /// Puts a batch in the place of all. Where that fails, it keeps nothing more.
+    pub(crate) fn replace(&mut self, batch: &[u8]) -> Result<(), StateFault>
+        ensures settled { OnOk result (IsSettled D.seen D.may_leave self.new) }
+        ensures alone { OnOk result (recovered (D.seen self.new.device) ≡ batch.now ∷ []) }
+        ensures any_moment { OnOk result (LeavesOnly D.moment D.left_since self.old.device self.new.device
+            (IsOldOrNew (recovered (D.seen self.old.device)) batch.now)) }
+        ensures refused { IfErr result (IsUnreplaced batch.now) }
+    {
+        if !self.settled {
+            return Err(StateFault::Device);
+        }
+        match self.file.replace(self.alloc, batch) {
+            Ok(()) => Ok(()),
+            Err(fault) => {
+                self.settled = false;
+                Err(StateFault::from(fault))
             }
         }
     }

@@ -9,8 +9,9 @@ ghost use Rattle.endpoints.specs.Widening.{IsWider};
 ghost use Rattle.batch_file.specs.Frames.{recovered};
 ghost use Rattle.state_file.specs.Resuming.{AnswersFor, RefusesResume};
 ghost use Rattle.state_file.specs.Standing.{StandsFor};
-ghost use Rattle.state_file.specs.Telling.{BeginWithRules, LeavesRules, TellsRules, rules_of};
+ghost use Rattle.state_file.specs.Telling.{BeginWithRules, IsOfRules, LeavesRules, TellsRules, rules_of};
 
+use crate::beginning::{Beginning, begin};
 use crate::fault::StateFault;
 use crate::keeper::StateKeeper;
 use crate::redoing::redo_all;
@@ -27,10 +28,14 @@ use std::alloc::Global;
 pub struct Resumed<D: Device, H> {
     pub restored: Restored<H>,
     pub keeper: StateKeeper<D>,
+    /// The rules, as the file tells them.
+    pub(crate) rules: Vec<u8>,
+    /// How many bytes the file's image has, if it has one.
+    pub(crate) image: usize,
 }
 
-/// Starts a server on the bytes of a state file, whatever a crash left there: all changes of its whole batches are made
-/// again under these rules, which are then told by the file.
+/// Starts a server on the bytes of a state file, whatever a crash left there: it is made of the file's image, if there is
+/// one, and all changes of the whole batches behind it are made again under these rules, which are then told by the file.
 pub fn resume<D: Device + Drop, H: HookHost>(
     alloc: Global,
     mut device: D,
@@ -56,19 +61,26 @@ pub fn resume<D: Device + Drop, H: HookHost>(
     ensures told { IfOk result (λ resumed. LeavesRules D.seen D.may_leave resumed.keeper (rules_of registry)) }
     ensures unwritten { IfOk result (λ resumed. TellsRules bytes.now (rules_of registry) →
         recovered (D.seen resumed.keeper.device) ≡ recovered bytes.now) }
+    ensures rules { IfOk result (λ resumed. IsOfRules resumed.rules.items (rules_of registry)) }
     ensures refused { IfErr result (RefusesResume (recovered bytes.now) (rules_of registry)) }
 {
     let found = recover(alloc, &mut device, bytes)?;
     let rules = rules_behind(alloc, &found.batches, &registry)?;
-    let mut restored = Restored::new(alloc, registry, host);
-    redo_all(alloc, &mut restored, &found.batches)?;
+    let Beginning {
+        mut restored,
+        later,
+        image,
+    } = begin(alloc, registry, host, &found.batches)?;
+    redo_all(alloc, &mut restored, later)?;
     let mut file = BatchFile {
         device,
         end: found.end,
     };
-    tell(alloc, &mut file, &found.batches, &rules)?;
+    tell(alloc, &mut file, &rules)?;
     Ok(Resumed {
         restored,
         keeper: StateKeeper::new(alloc, file),
+        rules: rules.bytes,
+        image,
     })
 }

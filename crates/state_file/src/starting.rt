@@ -15,8 +15,9 @@ ghost use Rattle.state_file.specs.Telling.{LeavesRules, TellsRules, rules_of};
 
 use crate::fault::StateFault;
 use crate::keeper::StateKeeper;
+use crate::renewing::resume_renewed;
 use crate::restored::Restored;
-use crate::resuming::{Resumed, resume};
+use crate::resuming::Resumed;
 use batch_file::device::Device;
 use change_codec::KeepFault;
 use clients::Registry;
@@ -55,9 +56,10 @@ fn keep_noted<D: Device, H: HookHost>(
     Ok(())
 }
 
-/// Starts a server on the bytes of a state file, whatever a crash left there, with hooks. All changes of its whole batches
-/// are made again under these rules. A hook is then set, unless it is, at the moment of the last change. All that is kept
-/// when it is done.
+/// Starts a server on the bytes of a state file, whatever a crash left there, with hooks. It is made of the file's image, if
+/// there is one, and all changes of the whole batches behind that are made again under these rules. A file that is long is
+/// then replaced by the image of the server. A hook is then set, unless it is, at the moment of the last change. All that is
+/// kept when it is done.
 pub fn start_on<D: Device + Drop, H: HookHost>(
     alloc: Global,
     device: D,
@@ -69,16 +71,16 @@ pub fn start_on<D: Device + Drop, H: HookHost>(
     requires same { bytes.now ≡ D.seen device }
     // After a restart, what is read is what is on the disk.
     requires durable { Only (D.seen device) (D.may_leave device) }
-    ensures serves { IfOk result (λ started. OfEach bytes.now (λ history.
+    ensures serves { IfOk result (λ started. OfEach H.HookHost host bytes.now (λ history.
         ServesOn H.HookHost started registry host (with_hooks started.moment history (map hook_fact hooks.now)))) }
-    ensures hooks { IfOk result (λ started. OfEach bytes.now (λ history.
+    ensures hooks { IfOk result (λ started. OfEach H.HookHost host bytes.now (λ history.
         AreSet (map hook_fact hooks.now) (with_hooks started.moment history (map hook_fact hooks.now)))) }
     // All that a crash may leave from then on stands for the history with these hooks.
-    ensures held { IfOk result (λ started. OfEach bytes.now (λ history.
+    ensures held { IfOk result (λ started. OfEach H.HookHost host bytes.now (λ history.
         Holds (crashes StandsFor (λ f c. D.may_leave f.device c ⊎ (c ≡ D.seen f.device)) (λ f. D.moment f.device) (λ f. D.left_since f.device))
         started.keeper (with_hooks started.moment history (map hook_fact hooks.now)))) }
     // What a crash meanwhile left stands for the history with these hooks, or without them.
-    ensures any_moment { IfOk result (λ started. OfEach bytes.now (λ history. LeavesOnly D.moment D.left_since device started.keeper.device
+    ensures any_moment { IfOk result (λ started. OfEach H.HookHost host bytes.now (λ history. LeavesOnly D.moment D.left_since device started.keeper.device
         (λ left. StandsFor left history ⊎ StandsFor left (with_hooks started.moment history (map hook_fact hooks.now))))) }
     // The registry's rules are as wide as those that the file told.
     ensures wider { IfOk result (λ _. (old : RegistryRecord) → TellsRules bytes.now (rules_of old) → IsWider old registry) }
@@ -87,12 +89,14 @@ pub fn start_on<D: Device + Drop, H: HookHost>(
     ensures refused { IfErr result (λ fault. RefusesResume (recovered bytes.now) (rules_of registry) fault
         ⊎ RefusesSome H.HookHost (AnswersFor H.HookHost bytes.now registry host) (map hook_fact hooks.now) fault) }
 {
-    let mut resumed = resume(alloc, device, bytes, registry, host)?;
+    let mut resumed = resume_renewed(alloc, device, bytes, registry, host)?;
     resumed.restored.server.begin_noting()?;
     resumed.restored.set_hooks(alloc, hooks)?;
     let Resumed {
         restored,
         mut keeper,
+        rules: _rules,
+        image: _,
     } = resumed;
     let Restored {
         mut server,

@@ -1,14 +1,15 @@
 //! What rules a state file tells, and telling a registry's.
 
-ghost use Rattle.std.specs.Prelude.{◌≡◌, ◌↔◌, Some, IsTrue, IfOk, IfErr, OnOk, List, is_some, option_copied};
+ghost use Rattle.std.specs.Prelude.{◌≡◌, ◌↔◌, Some, true, false, IsTrue, IfOk, IfErr, OnOk, List, is_some, option_copied};
 ghost use Rattle.batch_file.specs.Crashes.{LeavesOnly};
 ghost use Rattle.batch_file.specs.Frames.{IsSettled, lists, recovered};
 ghost use Rattle.consent.specs.History.{Event};
 ghost use Rattle.image_codec.specs.Facts.{RulesFact, rules_fact};
-ghost use Rattle.image_codec.specs.Spelling.{RulesFit, rules_spelling};
-ghost use Rattle.state_file.specs.Comparing.{AreAsWide, IsUnwritten, RefuseBeside, RefuseRules, TakesRules};
+ghost use Rattle.image_codec.specs.Spelling.{RulesCount, RulesFit, rules_spelling};
+ghost use Rattle.state_file.specs.Comparing.{AreAsWide, IsUnread, IsUnwritten, RefuseBeside, RefuseRules, TakesRules};
 ghost use Rattle.state_file.specs.Standing.{StandsFor};
-ghost use Rattle.state_file.specs.Telling.{BeginWithRules, last_rules, rules_in, rules_of};
+ghost use Rattle.state_file.specs.Telling.{BeginWithRules, Tell, TellsIn, last_rules, rules_in, rules_of};
+ghost use Rattle.state_file.specs.declared.fault.StateFault.TheVariants.{Memory};
 
 use crate::comparing::compare;
 use crate::fault::StateFault;
@@ -16,60 +17,128 @@ use crate::rules::registry_rules;
 use batch_file::appending::BatchFile;
 use batch_file::device::Device;
 use clients::Registry;
-use image_codec::{Rules, decode_rules, encode_rules};
+use image_codec::{EncodeFault, Image, Rules, decode, decode_rules, encode_rules};
 use std::alloc::Global;
 
-/// Whether a batch is one of rules.
-fn is_of_rules(batch: &[u8]) -> bool
-    ensures { IsTrue result ↔ rules_in batch.now ≡ Some batch.now }
-{
-    matches!(batch, [0, ..])
+/// Rules as they are told.
+#[derive(Drop)]
+pub(crate) struct Spelled {
+    /// Their spelling.
+    pub(crate) bytes: Vec<u8>,
+    /// Whether the batches told just these last.
+    pub(crate) told: bool,
 }
 
-/// Whether the first batch, if there is one, is one of rules.
+/// Whether a batch tells rules.
+fn tells_rules(batch: &[u8]) -> bool
+    ensures { IsTrue result ↔ rules_in batch.now ≡ Some batch.now }
+{
+    match batch {
+        [0, ..] => true,
+        [2, ..] => true,
+        _ => false,
+    }
+}
+
+/// Whether the first batch, if there is one, tells rules.
 fn begin_with_rules(batches: &[Vec<u8>]) -> bool
     ensures { IsTrue result ↔ BeginWithRules (lists batches.now) }
 {
     match batches {
         [] => true,
-        [first, ..] => is_of_rules(first),
+        [first, ..] => tells_rules(first),
     }
 }
 
-/// The last batch of rules.
+/// The last batch that tells rules.
 fn last_rules(batches: &[Vec<u8>]) -> Option<&[u8]>
     ensures { option_copied result ≡ last_rules (lists batches.now) }
 {
     let mut last = None;
     for batch in batches {
-        if is_of_rules(batch) {
+        if tells_rules(batch) {
             last = Some(batch.as_slice());
         }
     }
     last
 }
 
-/// Tests whether rules are as wide as those that a batch tells.
-fn compare_beside(alloc: Global, batch: &[u8], now: &Rules<'_>) -> Result<(), StateFault>
-    ensures wide { OnOk result ((told : RulesFact) → RulesFit told → batch.now ≡ rules_spelling told → AreAsWide told (rules_fact now.now)) }
-    ensures refused { IfErr result (RefuseBeside batch.now (rules_fact now.now)) }
+/// The rules that a batch tells.
+fn told_rules(alloc: Global, batch: &[u8]) -> Result<Rules<'_>, StateFault>
+    ensures told { IfOk result (λ rules. TellsIn batch.now (rules_fact rules)) }
+    ensures one { IfOk result (λ rules. (others : RulesFact) → TellsIn batch.now others → others ≡ rules_fact rules) }
+    ensures fit { IfOk result (λ rules. RulesFit (rules_fact rules)) }
+    ensures refused { IfErr result (IsUnread batch.now) }
 {
-    let told = decode_rules(alloc, batch)?;
-    compare(alloc, &told, now)
+    match batch {
+        [2, ..] => {
+            let Image {
+                rules,
+                greatest: _,
+                records: _records,
+                consents: _consents,
+                hooks: _hooks,
+            } = decode(alloc, batch)?;
+            Ok(rules)
+        }
+        _ => Ok(decode_rules(alloc, batch)?),
+    }
 }
 
-/// Tests whether rules are as wide as those that the batches told last.
-fn compare_behind(alloc: Global, batches: &[Vec<u8>], now: &Rules<'_>) -> Result<(), StateFault>
+/// Whether the bytes spell the rules.
+fn are_spelled(alloc: Global, rules: &Rules<'_>, bytes: &[u8]) -> Result<bool, StateFault>
+    requires counted { RulesCount (rules_fact rules.now) }
+    ensures same { IfOk result (λ same. IsTrue same ↔ rules_spelling (rules_fact rules.now) ≡ bytes.now) }
+    ensures refused { IfErr result (λ fault. fault ≡ Memory) }
+{
+    let mut again = Vec::new(alloc);
+    match encode_rules(&mut again, rules) {
+        Ok(()) => Ok(again.as_slice() == bytes),
+        Err(EncodeFault::Memory) => Err(StateFault::Memory),
+        Err(EncodeFault::TooLong) => unreachable!(),
+    }
+}
+
+/// Tests whether rules are as wide as those that a batch tells, and says whether it tells just these.
+fn compare_beside(
+    alloc: Global,
+    batch: &[u8],
+    now: &Rules<'_>,
+    bytes: &[u8],
+) -> Result<bool, StateFault>
+    requires spelled { bytes.now ≡ rules_spelling (rules_fact now.now) }
+    requires fit { RulesFit (rules_fact now.now) }
+    ensures wide { OnOk result ((told : RulesFact) → TellsIn batch.now told → AreAsWide told (rules_fact now.now)) }
+    ensures told { IfOk result (λ told. IsTrue told ↔ TellsIn batch.now (rules_fact now.now)) }
+    ensures refused { IfErr result (RefuseBeside batch.now (rules_fact now.now)) }
+{
+    let told = told_rules(alloc, batch)?;
+    compare(alloc, &told, now)?;
+    let same = are_spelled(alloc, &told, bytes)?;
+    Ok(same)
+}
+
+/// Tests whether rules are as wide as those that the batches told last, and says whether they told just these.
+fn compare_behind(
+    alloc: Global,
+    batches: &[Vec<u8>],
+    now: &Rules<'_>,
+    bytes: &[u8],
+) -> Result<bool, StateFault>
+    requires spelled { bytes.now ≡ rules_spelling (rules_fact now.now) }
+    requires fit { RulesFit (rules_fact now.now) }
     ensures taken { OnOk result (TakesRules (lists batches.now) (rules_fact now.now)) }
+    ensures told { IfOk result (λ told. IsTrue told ↔ Tell (lists batches.now) (rules_fact now.now)) }
     ensures refused { IfErr result (RefuseRules (lists batches.now) (rules_fact now.now)) }
 {
     if !begin_with_rules(batches) {
         return Err(StateFault::NoRules);
     }
-    match last_rules(batches) {
-        None => Ok(()),
-        Some(batch) => compare_beside(alloc, batch, now),
-    }
+    let Some(batch) = last_rules(batches) else {
+        return Ok(false);
+    };
+    let told = compare_beside(alloc, batch, now, bytes)?;
+    Ok(told)
 }
 
 /// The spelling of the registry's rules, which are as wide as those that the batches told last.
@@ -77,51 +146,40 @@ pub(crate) fn rules_behind(
     alloc: Global,
     batches: &[Vec<u8>],
     registry: &Registry,
-) -> Result<Vec<u8>, StateFault>
-    ensures spelled { IfOk result (λ bytes. bytes.items ≡ rules_spelling (rules_of registry.now)) }
+) -> Result<Spelled, StateFault>
+    ensures spelled { IfOk result (λ rules. rules.bytes.items ≡ rules_spelling (rules_of registry.now)) }
     ensures fit { OnOk result (RulesFit (rules_of registry.now)) }
     ensures taken { OnOk result (TakesRules (lists batches.now) (rules_of registry.now)) }
+    ensures told { IfOk result (λ rules. IsTrue rules.told ↔ Tell (lists batches.now) (rules_of registry.now)) }
     ensures refused { IfErr result (RefuseRules (lists batches.now) (rules_of registry.now)) }
 {
     let rules = registry_rules(alloc, registry)?;
-    compare_behind(alloc, batches, &rules)?;
     let mut bytes = Vec::new(alloc);
     encode_rules(&mut bytes, &rules)?;
-    Ok(bytes)
+    let told = compare_behind(alloc, batches, &rules, bytes.as_slice())?;
+    Ok(Spelled { bytes, told })
 }
 
-/// Whether the batches told just these rules last.
-fn are_told(batches: &[Vec<u8>], rules: &[u8]) -> bool
-    ensures { IsTrue result ↔ last_rules (lists batches.now) ≡ Some rules.now }
-{
-    match last_rules(batches) {
-        Some(told) => told == rules,
-        None => false,
-    }
-}
-
-/// Tells rules in a file that has these batches, unless it tells just these.
+/// Tells rules in a file, unless it told just these last.
 pub(crate) fn tell<D: Device>(
     alloc: Global,
     file: &mut BatchFile<D>,
-    batches: &[Vec<u8>],
-    rules: &[u8],
+    rules: &Spelled,
 ) -> Result<(), StateFault>
     requires settled { IsSettled D.seen D.may_leave file.old }
-    requires are { lists batches.now ≡ recovered (D.seen file.old.device) }
-    requires of_rules { rules_in rules.now ≡ Some rules.now }
+    requires of_rules { (told : RulesFact) × (rules.now.bytes.items ≡ rules_spelling told) }
     ensures settled { OnOk result (IsSettled D.seen D.may_leave file.new) }
-    ensures told { OnOk result (last_rules (recovered (D.seen file.new.device)) ≡ Some rules.now) }
+    ensures told { OnOk result (rules.now.told ≡ false → last_rules (recovered (D.seen file.new.device)) ≡ Some rules.now.bytes.items) }
     ensures stands { OnOk result ((history : List Event) → StandsFor (D.seen file.old.device) history → StandsFor (D.seen file.new.device) history) }
     // Where they are told, nothing is written.
-    ensures unwritten { OnOk result (last_rules (recovered (D.seen file.old.device)) ≡ Some rules.now → file.new ≡ file.old) }
+    ensures unwritten { OnOk result (rules.now.told ≡ true → file.new ≡ file.old) }
     ensures any_moment { OnOk result (LeavesOnly D.moment D.left_since file.old.device file.new.device
         (λ left. (history : List Event) → StandsFor (D.seen file.old.device) history → StandsFor left history)) }
-    ensures refused { IfErr result (IsUnwritten rules.now) }
+    ensures refused { IfErr result (IsUnwritten rules.now.bytes.items) }
 {
-    if are_told(batches, rules) {
+    if rules.told {
         return Ok(());
     }
-    file.append(alloc, rules)?;
+    file.append(alloc, rules.bytes.as_slice())?;
     Ok(())
 }

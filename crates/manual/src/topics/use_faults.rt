@@ -77,7 +77,7 @@ State FAULT: start was to keep its state in the file of --state, and can't; no c
   InUse                  another server holds the lock on FILE.lock; stop that one first
   Open: WHY              the system refused to open or to make the file, its lock or its folder: not found, permission denied, not a directory, is a directory, read-only filesystem, no storage space, quota exceeded, other error
   Device                 the disk failed, or was full, while the file was read, or what was new was written to it
-  NoRules, Spelling ..   the file is not what a server wrote
+  NoRules, Spelling .., Image ..    the file is not what a server wrote
   Follows ..             a change in the file can't have happened after those before it
   ScopeMoved NAME, OwnerMoved, ClientMoved NAME    the registry has left out or moved what the file has
   ClientNarrowed NAME, LifeNarrowed                the registry allows less than when the file was written

@@ -1,4 +1,4 @@
-use Rattle.image_codec.proofs.Kept.{one_image_kept}
+use Rattle.image_codec.specs.KeptLaws.{one_image_kept}
 use Rattle.image_codec.proofs.laws.facts_say_what_is_kept.Goals as goal
 
 pub returns : goal.returns

@@ -1,17 +1,19 @@
-use Rattle.std.proofs.Common.{rules, ◌≡◌, ◌⊎◌, ◌∙◌, ℕ, List, [], Err, Some, sym, ap, subst}
+use Rattle.std.proofs.Common.{rules, true, ◌≡◌, ◌⊎◌, ◌∙◌, ℕ, List, Err, sym, ap, subst}
 use Rattle.std.specs.Prelude.{IfErr}
 use Rattle.batch_file.specs.Crashes.{LeavesOnly}
 use Rattle.batch_file.specs.Frames.{lists, recovered}
 use Rattle.batch_file.specs.declared.appending.BatchFile.{BatchFile}
 use Rattle.consent.specs.History.{Event}
-use Rattle.state_file.specs.Resuming.{RefusesResume}
+use Rattle.state_file.specs.Comparing.{TakesRules}
+use Rattle.state_file.specs.Resuming.{RefusesImage, RefusesResume}
 use Rattle.state_file.specs.Standing.{AreTold, StandsFor}
 use Rattle.state_file.specs.StandingLaws.{StandsFor-same}
 use Rattle.state_file.specs.Telling.{LeavesRules, Tell, TellsRules, rules_of}
+use Rattle.state_file.proofs.Begun.{begun_fits}
 use Rattle.state_file.proofs.Compared.{wider}
 use Rattle.state_file.proofs.Left.{leaves_then, leaves_weaker}
-use Rattle.state_file.proofs.Refused.{no_start}
-use Rattle.state_file.proofs.Tells.{StandsOn, leaves_rules, leaves_standing}
+use Rattle.state_file.proofs.Refused.{no_server, no_start, not_redone}
+use Rattle.state_file.proofs.Tells.{StandsOn, leaves_rules, leaves_standing, told_either}
 use Rattle.state_file.proofs.resuming.resume.Goals as goal
 
 pub returns-in_err-rules-clause-refused : goal.returns-in_err-rules-clause-refused
@@ -22,11 +24,33 @@ returns-in_err-rules-clause-refused g c =
     (subst (λ (batches : List (List ℕ)). RefusesResume batches (rules_of c.args.registry) c.in_err-rules.field-0.0) are
     (no_start (lists c.deref.result.now) (rules_of c.args.registry) c.in_err-rules.field-0.0 c.in_err-rules.ensures.refused))
 
+pub returns-in_err-restored-clause-refused : goal.returns-in_err-restored-clause-refused
+returns-in_err-restored-clause-refused g c =
+    let are : lists c.deref-2.result.now ≡ recovered c.args.bytes.now = ap lists c.deref-2.ensures.value ∙ c.in_ok-found.ensures.batches ∙ ap recovered (sym c.requires.same) in
+    let are_too : lists c.deref.result.now ≡ recovered c.args.bytes.now = ap lists c.deref.ensures.value ∙ c.in_ok-found.ensures.batches ∙ ap recovered (sym c.requires.same) in
+    let now = rules_of c.args.registry in
+    let is : c.from_residual-in_err-restored.result ≡ Err c.in_err-restored.field-0.0 = search rules in
+    subst (λ r. IfErr r (RefusesResume (recovered c.args.bytes.now) now)) (sym is)
+    (no_server (recovered c.args.bytes.now) now c.in_err-restored.field-0.0 (subst (λ (bs : List (List ℕ)). TakesRules bs now) are_too c.in_ok-rules.ensures.taken)
+    (subst (λ (bs : List (List ℕ)). RefusesImage bs c.in_err-restored.field-0.0) are c.in_err-restored.ensures.refused))
+
+pub returns-in_err-redo_all-clause-refused : goal.returns-in_err-redo_all-clause-refused
+returns-in_err-redo_all-clause-refused g c =
+    let are : lists c.deref.result.now ≡ recovered c.args.bytes.now = ap lists c.deref.ensures.value ∙ c.in_ok-found.ensures.batches ∙ ap recovered (sym c.requires.same) in
+    let now = rules_of c.args.registry in
+    let is : c.from_residual-in_err-redo_all.result ≡ Err c.in_err-redo_all.field-0.0 = search rules in
+    subst (λ r. IfErr r (RefusesResume (recovered c.args.bytes.now) now)) (sym is)
+    (not_redone (recovered c.args.bytes.now) now c.in_err-redo_all.field-0.0 (subst (λ (bs : List (List ℕ)). TakesRules bs now) are c.in_ok-rules.ensures.taken) c.in_err-redo_all.ensures.refused)
+
 pub returns-clause-answers : goal.returns-clause-answers
-returns-clause-answers g c history stands right =
+returns-clause-answers g c history stands right run =
+    let hosting = g.H.HookHost in
+    let registry = c.args.registry in
+    let host = c.args.host in
     let are : recovered c.args.bytes.now ≡ lists c.deref-2.result.now = ap recovered c.requires.same ∙ sym c.in_ok-found.ensures.batches ∙ ap lists (sym c.deref-2.ensures.value) in
-    let told : AreTold (lists c.deref-2.result.now) stands.0 = subst (λ (bs : List (List ℕ)). AreTold bs stands.0) are stands.1 in
-    c.in_ok-redo_all.ensures.redone stands.0 told c.args.registry c.args.host [] history c.new-restored.ensures.fits stands.2 right
+    let begun = begun_fits hosting registry host c.args.bytes.now (lists c.deref-2.result.now) (lists c.in_ok-restored.field-0.later.now) c.in_ok-restored.field-0.restored history stands are c.in_ok-restored.ensures.begins right run in
+    let told : AreTold (lists c.in_ok-restored.field-0.later.now) stands.facts = subst (λ (bs : List (List ℕ)). AreTold bs stands.facts) begun.0 stands.told in
+    c.in_ok-redo_all.ensures.redone stands.facts told registry host stands.base history begun.1 stands.happened right
 
 pub returns-clause-held : goal.returns-clause-held
 returns-clause-held g c =
@@ -65,7 +89,23 @@ returns-clause-told g c =
     let seen = g.D.Device.seen in
     let may_leave = g.D.Device.may_leave in
     let now = rules_of c.args.registry in
+    let mid = c.recover.new.device in
+    let are : lists c.deref.result.now ≡ recovered (seen mid) = ap lists c.deref.ensures.value ∙ c.in_ok-found.ensures.batches ∙ sym c.in_ok-found.ensures.same in
+    let tells : c.in_ok-rules.rules.told ≡ true → TellsRules (seen mid) now =
+    λ told. subst (λ (batches : List (List ℕ)). Tell batches now) are (c.in_ok-rules.ensures.told.0 told) in
     let told : TellsRules (seen c.tell.new.file.device) now =
-    (c.in_ok-rules.ensures.fit, c.in_ok-tell.ensures.told ∙ ap Some (c.deref-4.ensures.value ∙ c.in_ok-rules.ensures.spelled)) in
+    told_either c.in_ok-rules.rules.told (seen mid) (seen c.tell.new.file.device) now c.in_ok-rules.rules.bytes.items (c.in_ok-rules.ensures.fit, c.in_ok-rules.ensures.spelled) tells
+    (λ told. ap (λ (f : BatchFile g.row.D.Denot). seen f.device) (c.in_ok-tell.ensures.unwritten told)) c.in_ok-tell.ensures.told in
     let P : BatchFile g.row.D.Denot → Type 0 = λ file. LeavesRules seen may_leave file now in
     subst P (sym c.new.ensures) (leaves_rules seen may_leave c.tell.new.file now c.in_ok-tell.ensures.settled told)
+
+pub returns-clause-unwritten : goal.returns-clause-unwritten
+returns-clause-unwritten g c = λ tells.
+    let seen = g.D.Device.seen in
+    let now = rules_of c.args.registry in
+    let bytes = c.args.bytes.now in
+    let are : recovered bytes ≡ lists c.deref.result.now = ap recovered c.requires.same ∙ sym c.in_ok-found.ensures.batches ∙ ap lists (sym c.deref.ensures.value) in
+    let told : c.in_ok-rules.rules.told ≡ true = c.in_ok-rules.ensures.told.1 (subst (λ (batches : List (List ℕ)). Tell batches now) are tells) in
+    let same = ap (λ (f : BatchFile g.row.D.Denot). recovered (seen f.device)) (c.in_ok-tell.ensures.unwritten told) in
+    let P : BatchFile g.row.D.Denot → Type 0 = λ file. recovered (seen file.device) ≡ recovered bytes in
+    subst P (sym c.new.ensures) (same ∙ c.in_ok-found.ensures.same ∙ ap recovered (sym c.requires.same))

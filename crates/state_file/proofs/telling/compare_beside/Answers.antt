@@ -1,7 +1,12 @@
+use Rattle.std.proofs.Common.{◌∙◌, sym}
 use Rattle.image_codec.specs.Facts.{rules_fact}
-use Rattle.state_file.proofs.Refused.{beside}
+use Rattle.state_file.proofs.Tells.{told_spelled}
 use Rattle.state_file.proofs.telling.compare_beside.Goals as goal
 
-pub returns-clause-refused : goal.returns-clause-refused
-returns-clause-refused c =
-    beside c.args.batch.now (rules_fact c.in_ok-told.told) (rules_fact c.args.now.now) c.in_ok-told.ensures.fits c.in_ok-told.ensures.spelled c.compare.result c.compare.ensures.refused
+pub returns-clause-told : goal.returns-clause-told
+returns-clause-told c =
+    let told = rules_fact c.in_ok-told.told in
+    let now = rules_fact c.args.now.now in
+    let either = told_spelled c.args.batch.now told now c.in_ok-told.ensures.told c.in_ok-told.ensures.fit c.requires.fit c.in_ok-told.ensures.one in
+    let same = c.in_ok-same.ensures.same in
+    (λ yes. either.0 (same.0 yes ∙ c.requires.spelled), λ tells. same.1 (either.1 tells ∙ sym c.requires.spelled))

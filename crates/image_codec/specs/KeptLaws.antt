@@ -1,50 +1,11 @@
--- What is kept, from what an image says of it.
+-- What is kept, from what an image says of it. For proofs alone.
 use Rattle.std.proofs.Common.{◌≡◌, ℕ, List, [], ◌∷◌, map, refl, sym, ap, ◌∙◌}
-use Rattle.std.specs.Prelude.{option_map}
-use Rattle.consent.specs.declared.grant.Kind.{Kind}
-use Rattle.consent.specs.declared.grant.Kind.TheVariants as kind
 use Rattle.token_store.specs.declared.image.KeptKind.{KeptKind}
 use Rattle.token_store.specs.declared.image.KeptKind.TheVariants as kept
 use Rattle.token_store.specs.declared.image.KeptRecord.{KeptRecord}
 use Rattle.token_store.specs.Image.{image_of, kept_record, kind_kept, owner_kept, redirect_kept, challenge_kept}
-use Rattle.token_store.specs.Kept.{Kept}
-use Rattle.token_store.specs.Records.{terms_by}
-use Rattle.image_codec.specs.Facts.{KindFact, Code, Token, RecordFact, kind_fact, record_fact}
-
-abbrev kind_told : KindFact → Kind
-kind_told (Code owner redirect challenge) = kind.Code
-kind_told (Token token) = kind.Token token
-
-abbrev owner_told : ℕ → KindFact → ℕ
-owner_told owner (Code o redirect challenge) = o
-owner_told owner (Token token) = owner
-
-abbrev redirect_told : KindFact → List ℕ
-redirect_told (Code owner redirect challenge) = redirect
-redirect_told (Token token) = []
-
-abbrev challenge_told : KindFact → List ℕ
-challenge_told (Code owner redirect challenge) = challenge
-challenge_told (Token token) = []
-
-abbrev kept_told : RecordFact → Kept
-kept_told f = record {
-  grant = record {
-    digest = f.digest;
-    kind = kind_told f.kind;
-    family = f.family;
-    client = f.client;
-    owner = owner_told f.owner f.kind;
-    scope = f.scope;
-    moment = f.moment;
-    life = f.life;
-    redirect = redirect_told f.kind;
-    challenge = challenge_told f.kind;
-  };
-  terms = option_map (terms_by f.client f.owner) f.code_scope;
-  spent = f.spent;
-  ended = f.ended;
-}
+use Rattle.image_codec.specs.Facts.{kind_fact, record_fact}
+use Rattle.image_codec.specs.Kept.{kind_told, owner_told, redirect_told, challenge_told, kept_told}
 
 kind_same : (k : KeptKind) → kind_told (kind_fact k) ≡ kind_kept k
 kind_same (kept.Code owner redirect challenge) = refl
@@ -65,7 +26,7 @@ challenge_same (kept.Token token) = refl
 told_same : (r : KeptRecord) → kept_told (record_fact r) ≡ kept_record r
 told_same r = rw (kind_same r.kind, owner_same r.owner r.kind, redirect_same r.kind, challenge_same r.kind) refl
 
-all_same : (rs : List KeptRecord) → map kept_told (map record_fact rs) ≡ image_of rs
+pub all_same : (rs : List KeptRecord) → map kept_told (map record_fact rs) ≡ image_of rs
 all_same [] = refl
 all_same (r ∷ rs) = rw (told_same r, all_same rs) refl
 

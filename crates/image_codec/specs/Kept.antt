@@ -1,0 +1,42 @@
+-- What an image's records say is kept.
+use Rattle.std.specs.Prelude.{ℕ, List, [], option_map}
+use Rattle.consent.specs.declared.grant.Kind.{Kind}
+use Rattle.consent.specs.declared.grant.Kind.TheVariants as kind
+use Rattle.token_store.specs.Kept.{Kept}
+use Rattle.token_store.specs.Records.{terms_by}
+use Rattle.image_codec.specs.Facts.{KindFact, Code, Token, RecordFact}
+
+abbrev pub kind_told : KindFact → Kind
+kind_told (Code owner redirect challenge) = kind.Code
+kind_told (Token token) = kind.Token token
+
+abbrev pub owner_told : ℕ → KindFact → ℕ
+owner_told owner (Code o redirect challenge) = o
+owner_told owner (Token token) = owner
+
+abbrev pub redirect_told : KindFact → List ℕ
+redirect_told (Code owner redirect challenge) = redirect
+redirect_told (Token token) = []
+
+abbrev pub challenge_told : KindFact → List ℕ
+challenge_told (Code owner redirect challenge) = challenge
+challenge_told (Token token) = []
+
+abbrev pub kept_told : RecordFact → Kept
+kept_told f = record {
+  grant = record {
+    digest = f.digest;
+    kind = kind_told f.kind;
+    family = f.family;
+    client = f.client;
+    owner = owner_told f.owner f.kind;
+    scope = f.scope;
+    moment = f.moment;
+    life = f.life;
+    redirect = redirect_told f.kind;
+    challenge = challenge_told f.kind;
+  };
+  terms = option_map (terms_by f.client f.owner) f.code_scope;
+  spent = f.spent;
+  ended = f.ended;
+}

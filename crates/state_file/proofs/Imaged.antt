@@ -1,0 +1,64 @@
+-- A server as an image, and a server made of one.
+use Rattle.std.proofs.Common.{◌≡◌, ℕ, List, [], ◌∷◌, ◌++◌, map, refl, sym, ap, ◌∙◌, subst}
+use Rattle.clients.specs.RegistryRecord.{RegistryRecord}
+use Rattle.consent.specs.Consents.{FitsConsents, kept_consents}
+use Rattle.consent.specs.History.{Event}
+use Rattle.consent.specs.declared.kept_consent.KeptConsent.{KeptConsent}
+use Rattle.endpoints.specs.Bounded.{AllRight}
+use Rattle.endpoints.specs.Hosts.{HostRun}
+use Rattle.endpoints.specs.Restoring.{AreOf}
+use Rattle.endpoints.specs.Server.{FitsServer}
+use Rattle.hook_host.specs.Versions.{layout_of}
+use Rattle.hook_host.specs.declared.host.HookHost.{Ghosts as Hosting}
+use Rattle.image_codec.specs.Facts.{HookFact, ImageFact, record_fact}
+use Rattle.image_codec.specs.Kept.{kept_told}
+use Rattle.image_codec.specs.KeptLaws.{all_same}
+use Rattle.token_store.specs.Fits.{FitsHistory, FitsStore}
+use Rattle.token_store.specs.Image.{image_of}
+use Rattle.token_store.specs.Kept.{Kept}
+use Rattle.token_store.specs.declared.image.KeptRecord.{KeptRecord}
+use Rattle.state_file.specs.Resuming.{Fits, Installs, IsMadeOf}
+use Rattle.state_file.specs.Standing.{IsImageOf}
+use Rattle.state_file.specs.declared.restored.Restored.{Restored}
+
+module _ {H : Type 0} (hosting : Hosting H) where
+  -- one hook more
+  pub installs_more : (old mid new : H) (hooks : List HookFact) (hook : HookFact) → Installs hosting old hooks mid →
+      hosting.installs mid hook.name (layout_of hook.version) hook.code new → Installs hosting old (hooks ++ hook ∷ []) new
+  installs_more old mid new [] hook before one = (new, subst (λ (h : H). hosting.installs h hook.name (layout_of hook.version) hook.code new) before one, refl)
+  installs_more old mid new (h ∷ hooks) hook before one = (before.0, before.1, installs_more before.0 mid new hooks hook before.2 one)
+
+  -- a server made of what an image says fits each history that the image is one of
+  pub made_of : (restored : Restored H) (image : ImageFact) (records : List KeptRecord) (host first : H) (rules : RegistryRecord) →
+      map record_fact records ≡ image.records → restored.moment ≡ image.greatest → restored.hooks ≡ image.hooks → Installs hosting first image.hooks host →
+      ((first : H) (history : List Event) → AreOf records image.consents history image.greatest → HostRun hosting.installs hosting.removes first history host → AllRight rules [] history →
+      FitsServer hosting.installs hosting.removes restored.server rules first history image.greatest) → IsMadeOf hosting image rules first restored
+  made_of restored image records host first rules told moment hooks installed fits history is right replays =
+      let kept : map kept_told image.records ≡ image_of records = ap (map kept_told) (sym told) ∙ all_same records in
+      let of : AreOf records image.consents history image.greatest = record {
+        kept = subst (λ (ks : List Kept). FitsHistory ks history image.greatest) kept is.records;
+        consented = is.consents;
+      } in
+      let run : HostRun hosting.installs hosting.removes first history host =
+      replays host (subst (λ (hs : List HookFact). Installs hosting first hs host) is.hooks installed) in (
+        subst (λ (m : ℕ). FitsServer hosting.installs hosting.removes restored.server rules first history m) (sym moment) (fits first history of run right),
+        hooks ∙ is.hooks,
+      )
+
+  -- and a server that fits a history has an image that is one of it
+  pub is_image : (restored : Restored H) (image : ImageFact) (records : List KeptRecord) (consents : List KeptConsent) →
+      map record_fact records ≡ image.records → consents ≡ image.consents → image.greatest ≡ restored.moment → image.hooks ≡ restored.hooks →
+      ((history : List Event) → FitsStore restored.server.store history restored.server.greatest → FitsHistory (image_of records) history restored.server.greatest) →
+      ((history : List Event) → FitsConsents restored.server.consents history → FitsConsents (kept_consents consents) history) →
+      (rules : RegistryRecord) (first : H) (history : List Event) → Fits hosting restored rules first history → IsImageOf image history
+  is_image restored image records consents told given greatest hooks lists gives rules first history fits =
+      let server = fits.0 in
+      let there : FitsHistory (image_of records) history restored.server.greatest =
+      lists history (subst (λ (m : ℕ). FitsStore restored.server.store history m) (sym server.greatest_is) server.store) in
+      let moment : restored.server.greatest ≡ image.greatest = server.greatest_is ∙ sym greatest in
+      let kept : image_of records ≡ map kept_told image.records = sym (all_same records) ∙ ap (map kept_told) told in
+      record {
+        records = subst (λ (ks : List Kept). FitsHistory ks history image.greatest) kept (subst (λ (m : ℕ). FitsHistory (image_of records) history m) moment there);
+        consents = subst (λ (cs : List KeptConsent). FitsConsents (kept_consents cs) history) given (gives history server.consents);
+        hooks = hooks ∙ fits.1;
+      }

@@ -1,0 +1,99 @@
+-- A chain of hooks that is made again of what is left of them.
+use Rattle.std.proofs.Common.{◌≡◌, ℕ, List, [], ◌∷◌, ◌++◌, Bool, true, false, refl, sym, ap, ◌∙◌, subst, append_assoc, append-nil}
+use Rattle.std.specs.Str.{bytes_eq}
+use Rattle.consent.specs.History.{Event, Change}
+use Rattle.consent.specs.History.Change.{Consented, CodeGiven, Issued, Spent, FamilyEnded, HookSet, HookGone}
+use Rattle.change_codec.specs.Keeping.{IsFrontOf}
+use Rattle.encoding.proofs.Reading.{one_program}
+use Rattle.endpoints.specs.Hosts.{HostStep, HostRun}
+use Rattle.hook_chain.specs.Chains.{Named, IsAcceptedCode, IsInstalled, IsRemoved, without_name}
+use Rattle.hook_chain.specs.contracts.chain.ChainHookHost.TheImpl as chain
+use Rattle.hook_host.specs.Versions.{layout_of}
+use Rattle.image_codec.specs.Facts.{HookFact}
+use Rattle.state_file.specs.Hooks.{hooks_after, hooks_of, hooks_with, without_hook}
+use Rattle.state_file.specs.Resuming.{Installs, Replays}
+use Rattle.verifier.specs.Verdicts.{Checked}
+
+-- the chain has just these hooks
+abbrev Has : List Named → List HookFact → Type 0
+Has [] [] = Unit {0}
+Has [] (h ∷ hs) = ⊥
+Has (n ∷ ns) [] = ⊥
+Has (n ∷ ns) (h ∷ hs) = (n.name ≡ h.name) × IsAcceptedCode (layout_of h.version) h.code n.hook × Has ns hs
+
+has_push : (ns : List Named) (hs : List HookFact) (n : Named) (h : HookFact) → Has ns hs → n.name ≡ h.name → IsAcceptedCode (layout_of h.version) h.code n.hook → Has (ns ++ n ∷ []) (hs ++ h ∷ [])
+has_push [] [] n h has name accepted = (name, accepted, tt)
+has_push [] (g ∷ hs) n h has name accepted = absurd has
+has_push (m ∷ ns) [] n h has name accepted = absurd has
+has_push (m ∷ ns) (g ∷ hs) n h has name accepted = (has.0, has.1, has_push ns hs n h has.2 name accepted)
+
+has_passed : (name : List ℕ) (n : Named) (ns : List Named) (h : HookFact) (hs : List HookFact) (b : Bool) → bytes_eq name n.name ≡ b → bytes_eq name h.name ≡ b →
+    Has (n ∷ ns) (h ∷ hs) → Has (without_name name ns) (without_hook name hs) → Has (without_name name (n ∷ ns)) (without_hook name (h ∷ hs))
+has_passed name n ns h hs true e f has rest = rw (e, f) rest
+has_passed name n ns h hs false e f has rest = rw (e, f) (has.0, has.1, rest)
+
+has_without : (name : List ℕ) (ns : List Named) (hs : List HookFact) → Has ns hs → Has (without_name name ns) (without_hook name hs)
+has_without name [] [] has = tt
+has_without name [] (h ∷ hs) has = absurd has
+has_without name (n ∷ ns) [] has = absurd has
+has_without name (n ∷ ns) (h ∷ hs) has =
+    has_passed name n ns h hs (bytes_eq name n.name) refl (ap (bytes_eq name) (sym has.0)) has (has_without name ns hs has.2)
+
+-- what is installed is behind them
+installed_has : (old new : List Named) (hooks : List HookFact) (name : List ℕ) (version : ℕ) (code : List ℕ) → IsInstalled old name (layout_of version) code new → Has old hooks →
+    Has new (hooks ++ record { name = name; version = version; code = code } ∷ [])
+installed_has old new hooks name version code step has =
+    subst (λ (ns : List Named). Has ns (hooks ++ record { name = name; version = version; code = code } ∷ [])) (sym step.last)
+    (has_push old hooks (record { name = name; hook = step.hook }) (record { name = name; version = version; code = code }) has refl step.accepted)
+
+step_has : (old new : List Named) (change : Change) (hooks : List HookFact) → HostStep IsInstalled IsRemoved old change new → Has old hooks → Has new (hooks_with hooks change)
+step_has old new (HookSet name version code) hooks step has = installed_has old new hooks name version code step has
+step_has old new (HookGone name) hooks step has = subst (λ (ns : List Named). Has ns (without_hook name hooks)) (sym step.left) (has_without name old hooks has)
+step_has old new (Consented owner client mask) hooks step has = subst (λ (ns : List Named). Has ns hooks) (sym step) has
+step_has old new (CodeGiven family client owner scope redirect challenge digest) hooks step has = subst (λ (ns : List Named). Has ns hooks) (sym step) has
+step_has old new (Issued family client owner kind digest scope life) hooks step has = subst (λ (ns : List Named). Has ns hooks) (sym step) has
+step_has old new (Spent digest) hooks step has = subst (λ (ns : List Named). Has ns hooks) (sym step) has
+step_has old new (FamilyEnded family) hooks step has = subst (λ (ns : List Named). Has ns hooks) (sym step) has
+
+-- a chain that came through a history has what is left of its hooks
+run_has : (first now : List Named) (hooks : List HookFact) (history : List Event) → HostRun IsInstalled IsRemoved first history now → Has first hooks → Has now (hooks_after hooks history)
+run_has first now hooks [] run has = subst (λ (ns : List Named). Has ns hooks) (sym run) has
+run_has first now hooks (e ∷ later) run has = run_has run.0 now (hooks_with hooks e.change) later run.2 (step_has first run.0 e.change hooks run.1 has)
+
+-- and so has one on which they are installed
+installs_has : (old new : List Named) (before hooks : List HookFact) → Installs chain.ghosts old hooks new → Has old before → Has new (before ++ hooks)
+installs_has old new before [] installs has =
+    subst (λ (hs : List HookFact). Has new hs) (sym (append-nil before)) (subst (λ (ns : List Named). Has ns before) (sym installs) has)
+installs_has old new before (h ∷ hooks) installs has =
+    subst (λ (hs : List HookFact). Has new hs) (append_assoc before (h ∷ []) hooks)
+    (installs_has installs.0 new (before ++ h ∷ []) hooks installs.2 (installed_has old installs.0 before h.name h.version h.code installs.1 has))
+
+same_named : (a b : Named) → a.name ≡ b.name → a.hook ≡ b.hook → a ≡ b
+same_named a b name hook = λ i. record { name = name i; hook = hook i }
+
+same_checked : (a b : Checked) → a.program ≡ b.program → a.layout ≡ b.layout → a ≡ b
+same_checked a b program layout = λ i. record { program = program i; layout = layout i }
+
+-- no two chains have just these hooks
+has_one : (a b : List Named) (hooks : List HookFact) → Has a hooks → Has b hooks → a ≡ b
+has_one [] [] [] has other = refl
+has_one [] (n ∷ b) [] has other = absurd other
+has_one (m ∷ a) b [] has other = absurd has
+has_one [] b (h ∷ hooks) has other = absurd has
+has_one (m ∷ a) [] (h ∷ hooks) has other = absurd other
+has_one (m ∷ a) (n ∷ b) (h ∷ hooks) has other =
+    let program = one_program h.code m.hook.program n.hook.program has.1.spelled other.1.spelled in
+    let here : m ≡ n = same_named m n (has.0 ∙ sym other.0) (same_checked m.hook n.hook program (has.1.layout_is ∙ sym other.1.layout_is)) in
+    let rest : a ≡ b = has_one a b hooks has.2 other.2 in
+    λ i. here i ∷ rest i
+
+front_run : (first now : List Named) (front more : List Event) → HostRun IsInstalled IsRemoved first (front ++ more) now → (mid : List Named) × HostRun IsInstalled IsRemoved first front mid
+front_run first now [] more run = (first, refl)
+front_run first now (e ∷ front) more run = let rest = front_run run.0 now front more run.2 in (rest.0, (run.0, run.1, rest.1))
+
+-- a chain that came through a history comes of what is left of its hooks, wherever the history is broken off
+pub replays : (history : List Event) (host : List Named) → HostRun IsInstalled IsRemoved [] history host → (front : List Event) → IsFrontOf front history → Replays chain.ghosts [] front
+replays history host run front is other installs =
+    let mid = front_run [] host front is.0 (subst (λ (h : List Event). HostRun IsInstalled IsRemoved [] h host) is.1 run) in
+    let same : mid.0 ≡ other = has_one mid.0 other (hooks_of front) (run_has [] mid.0 [] front mid.1 tt) (installs_has [] other [] (hooks_of front) installs tt) in
+    subst (λ (h : List Named). HostRun IsInstalled IsRemoved [] front h) same mid.1

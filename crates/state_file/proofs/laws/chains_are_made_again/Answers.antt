@@ -1,0 +1,5 @@
+use Rattle.state_file.proofs.Replaying.{replays}
+use Rattle.state_file.proofs.laws.chains_are_made_again.Goals as goal
+
+pub returns : goal.returns
+returns c = λ history chain run front is. replays history chain run front is

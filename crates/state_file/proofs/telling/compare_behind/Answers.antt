@@ -1,0 +1,19 @@
+use Rattle.std.proofs.Common.{◌≡◌, Some, sym}
+use Rattle.batch_file.specs.Frames.{lists}
+use Rattle.image_codec.specs.Facts.{rules_fact}
+use Rattle.state_file.specs.Telling.{last_rules}
+use Rattle.state_file.proofs.Tells.{tell_in}
+use Rattle.state_file.proofs.telling.compare_behind.Goals as goal
+
+pub returns-clause-taken : goal.returns-clause-taken
+returns-clause-taken c =
+    let batches = lists c.args.batches.now in
+    let is : last_rules batches ≡ Some c.in-Some.batch.now = sym c.in-Some.ensures in
+    (c.begin_with_rules.ensures.0 c.if-not-begin_with_rules.false, λ told tells. c.in_ok-told.ensures.wide told (tell_in batches c.in-Some.batch.now told is tells))
+
+pub returns-clause-told : goal.returns-clause-told
+returns-clause-told c =
+    let batches = lists c.args.batches.now in
+    let is : last_rules batches ≡ Some c.in-Some.batch.now = sym c.in-Some.ensures in
+    let told = c.in_ok-told.ensures.told in
+    (λ yes. (c.in-Some.batch.now, is, told.0 yes), λ tells. told.1 (tell_in batches c.in-Some.batch.now (rules_fact c.args.now.now) is tells))

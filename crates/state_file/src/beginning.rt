@@ -1,0 +1,71 @@
+//! From where the changes of a state file lead on.
+
+ghost use Rattle.std.specs.Prelude.{◌≡◌, ◌∷◌, IfOk, IfErr, IfSome, IfNone};
+ghost use Rattle.batch_file.specs.Frames.{lists};
+ghost use Rattle.state_file.specs.Resuming.{Begins, HaveNoImage, RefusesImage, begins_image};
+
+use crate::fault::StateFault;
+use crate::restored::Restored;
+use clients::Registry;
+use hook_host::HookHost;
+use image_codec::decode;
+use std::alloc::Global;
+
+/// A server from which the changes of a state file lead on.
+#[derive(Drop)]
+pub(crate) struct Beginning<'b, H> {
+    pub(crate) restored: Restored<H>,
+    /// The batches behind it.
+    pub(crate) later: &'b [Vec<u8>],
+    /// How long the image is of which it was made, if it was.
+    pub(crate) image: usize,
+}
+
+/// The first batch, where that is an image, and those behind it.
+fn image_first(batches: &[Vec<u8>]) -> Option<(&[u8], &[Vec<u8>])>
+    ensures there { IfSome result (λ parts. lists batches.now ≡ parts.0.now ∷ lists parts.1.now) }
+    ensures none { IfNone result (HaveNoImage (lists batches.now)) }
+{
+    match batches {
+        [first, later @ ..] => {
+            if is_image(first) {
+                return Some((first.as_slice(), later));
+            }
+            None
+        }
+        [] => None,
+    }
+}
+
+/// Whether a batch is an image.
+fn is_image(batch: &[u8]) -> bool
+    ensures { result ≡ begins_image batch.now }
+{
+    matches!(batch, [2, ..])
+}
+
+/// Makes a server of the first batch, where that is an image, and else one to which nothing has happened.
+pub(crate) fn begin<'b, H: HookHost>(
+    alloc: Global,
+    registry: Registry,
+    host: H,
+    batches: &'b [Vec<u8>],
+) -> Result<Beginning<'b, H>, StateFault>
+    ensures begins { IfOk result (λ begun. Begins H.HookHost registry host (lists batches.now) (lists begun.later.now) begun.restored) }
+    ensures refused { IfErr result (RefusesImage (lists batches.now)) }
+{
+    let Some((first, later)) = image_first(batches) else {
+        return Ok(Beginning {
+            restored: Restored::new(alloc, registry, host),
+            later: batches,
+            image: 0,
+        });
+    };
+    let image = decode(alloc, first)?;
+    let restored = Restored::of_image(alloc, registry, host, &image)?;
+    Ok(Beginning {
+        restored,
+        later,
+        image: first.len(),
+    })
+}
