@@ -19,11 +19,12 @@ use Rattle.event_loop.specs.Scenes.{Promises, promises}
 use Rattle.event_loop.specs.declared.clocks.Clocks.{Ghosts as Clocks}
 use Rattle.event_loop.specs.declared.fault.LoopFault.{LoopFault}
 use Rattle.event_loop.specs.declared.journal.Journal.{Ghosts as Journal}
-use Rattle.hook_chain.specs.Chains.{Named}
+use Rattle.endpoints.specs.Hosts.{HostRun}
+use Rattle.hook_chain.specs.Chains.{Named, IsInstalled, IsRemoved}
 use Rattle.hook_chain.specs.contracts.chain.ChainHookHost.TheImpl as chain
 use Rattle.image_codec.specs.Facts.{HookFact}
 use Rattle.state_file.specs.Hooks.{with_hooks}
-use Rattle.state_file.specs.Resuming.{AnswersFor, OfEach, RefusesResume, RefusesSome, ServesOn}
+use Rattle.state_file.specs.Resuming.{AnswersFor, HaveNoImage, RefusesResume, RefusesSome, ServesOn, WasRight}
 use Rattle.state_file.specs.Standing.{StandsFor}
 use Rattle.state_file.specs.Telling.{rules_of}
 use Rattle.state_file.specs.declared.fault.StateFault.{StateFault}
@@ -57,6 +58,13 @@ starting_of starts (Some path) handed = starts.on_state handed
 abbrev pub keeping_of : {K : Type 0} → Keeper K → Crashes K
 keeping_of keeper = crashes keeper.stands_for keeper.may_leave keeper.moment keeper.left_since
 
+-- Of each history that the bytes stand for and that was right. Where the bytes begin with an image, that a chain of hooks
+-- came through the history is asked for too: a server's did.
+abbrev pub OfEachRun : List ℕ → (List Event → Type 0) → Type 0
+OfEachRun left claim =
+    (history : List Event) → StandsFor left history → WasRight left history →
+    HaveNoImage (recovered left) ⊎ ((host : List Named) × HostRun IsInstalled IsRemoved [] history host) → claim history
+
 -- what a crash left stands for a history with these hooks, or without them
 abbrev pub StandsWithOrWithout : List Event → List Event → List ℕ → Type 0
 StandsWithOrWithout history with left = StandsFor left history ⊎ StandsFor left with
@@ -66,10 +74,10 @@ StandsWithOrWithout history with left = StandsFor left history ⊎ StandsFor lef
 pub record ComesOfState {R : Type 0} (keeping : Crashes (BatchFile (DiskFile R))) (rules : RegistryRecord) (hooks : List HookFact) (started : Started (DiskFile R) (List Named)) : Type 0 where
   pub opened : Opened R
   pub bytes_are : opened.bytes.items ≡ content opened.device.log.calls
-  pub serves : OfEach opened.bytes.items (λ history. ServesOn chain.ghosts started rules [] (with_hooks started.moment history hooks))
-  pub held : OfEach opened.bytes.items (λ history. Holds keeping started.keeper (with_hooks started.moment history hooks))
+  pub serves : OfEachRun opened.bytes.items (λ history. ServesOn chain.ghosts started rules [] (with_hooks started.moment history hooks))
+  pub held : OfEachRun opened.bytes.items (λ history. Holds keeping started.keeper (with_hooks started.moment history hooks))
   -- the keeper's file is the one that was opened
-  pub meanwhile : OfEach opened.bytes.items (λ history. LeavesOnly (λ d. length d.log.calls) (λ d. LeftSince d.log.calls) opened.device started.keeper.device (StandsWithOrWithout history (with_hooks started.moment history hooks)))
+  pub meanwhile : OfEachRun opened.bytes.items (λ history. LeavesOnly (λ d. length d.log.calls) (λ d. LeftSince d.log.calls) opened.device started.keeper.device (StandsWithOrWithout history (with_hooks started.moment history hooks)))
 
 -- it served connections from there, and kept what happened in that file
 pub record HasResumed {N C J R : Type 0} (p : Promises N C J (BatchFile (DiskFile R)) (List Named)) (handed : Handed) (fault : LoopFault) : Type 0 where
