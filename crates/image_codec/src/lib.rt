@@ -26,8 +26,8 @@ mod image;
 mod laws;
 
 pub use change_codec::{ChangeFault, DecodeFault, EncodeFault};
+pub use consent::KeptConsent;
 pub use decoding::{decode, decode_rules};
 pub use encoding::{encode, encode_rules};
-pub use consent::KeptConsent;
 pub use image::{ClientRules, Image, KeptHook, Rules};
 pub use laws::{bytes_spell_one_image, bytes_tell_one_rules, facts_say_what_is_kept};
