@@ -1,6 +1,6 @@
 //! The consents that are kept.
 
-ghost use Rattle.std.specs.Prelude.{◌≡◌, ◌≢◌, ◌≤◌, ◌+◌, ℕ, List, [], true, false, Some, IsOk, IsErrOf, OnOk, OnErr};
+ghost use Rattle.std.specs.Prelude.{◌≡◌, ◌≢◌, ◌≤◌, ◌+◌, ℕ, List, [], true, false, length, Some, IsOk, IsErrOf, OnOk, OnErr};
 ghost use Rattle.consent.specs.History.{Event, consented_scope, has_consent_room, with_change};
 ghost use Rattle.consent.specs.History.Change.{Consented};
 ghost use Rattle.consent.specs.FaultTexts.{consent_fault_text};
@@ -81,6 +81,13 @@ impl Consents {
         mask == 0
             || self.masks.contains_key(&Parties { owner, client })
             || self.masks.len() < CONSENT_LIMIT
+    }
+
+    /// How many consents are kept.
+    pub fn count(&self) -> usize
+        ensures { result ≡ length self.now.masks }
+    {
+        self.masks.len()
     }
 
     /// Makes room for so many further consents. It changes no answer, also where memory is refused.
