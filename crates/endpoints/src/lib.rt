@@ -14,6 +14,7 @@ mod redo;
 mod revoke;
 mod ruling;
 mod server;
+mod tally;
 mod widening;
 
 pub use consent::Moment;
@@ -22,4 +23,5 @@ pub use reading::Reading;
 pub use redo::RedoFault;
 pub use ruling::{Checked, Ruling};
 pub use server::Server;
+pub use tally::{Asked, Replied, Tally, Wanted};
 pub use widening::wider_rules_keep_what_is_right;
