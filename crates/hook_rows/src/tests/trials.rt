@@ -216,15 +216,21 @@ fn ask_words<'w>(words: [&'w str; 6]) -> AskWords<'w> {
     }
 }
 
+/// Whether the outcome is the code of these digits.
+fn is_code(outcome: &Outcome<'_>, digits: &str) -> bool {
+    match outcome {
+        Ok(HookAnswer::Code(hex)) => hex.as_str() == digits,
+        _ => false,
+    }
+}
+
 #[test]
 fn records_of_asks(rt: HostRuntime) {
     let words = ask_words(["1", "1000", "1", "1", "3", "300"]);
     for (layout, record) in [(Layout::V1, A), (Layout::V2, SHORT_LIVED)] {
-        let ask = HookCommand::Ask { layout, words };
-        match outcome(rt.alloc(), ask, None) {
-            Ok(HookAnswer::Code(hex)) => assert_eq!(&rt; hex.as_str(), record),
-            _ => assert!(&rt; false, "{record}"),
-        }
+        let told = outcome(rt.alloc(), HookCommand::Ask { layout, words }, None);
+        assert!(&rt; is_code(&told, record), "{record}");
+
         let allowed = Ending::Done("r0 1\nsteps 2\nallowed 3 300\n");
         assert_ends(&rt, record, run_on(ALLOW, record), allowed);
     }
