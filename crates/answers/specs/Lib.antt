@@ -1,4 +1,5 @@
 pub mod Outcomes
+pub mod Wants
 pub mod Halts
 pub mod Requesters
 pub mod Texts

@@ -14,7 +14,7 @@ use Rattle.messages.specs.Reply.{Reply, Body as body, plain, sent_back}
 use Rattle.messages.specs.Written.{error_text}
 use Rattle.answers.specs.Outcomes.{status_of}
 use Rattle.answers.specs.declared.answer.Answer.{Answer}
-use Rattle.answers.specs.declared.answer.Answer.TheVariants.{Done, Failure, Unavailable, NotFound, NotAllowed, Access, Both, Consented, CodeSent, TurnedBack, Active, Inactive, HookDone, HookRefused, Hooks}
+use Rattle.answers.specs.declared.answer.Answer.TheVariants.{Done, Failure, Denied, Unavailable, NotFound, NotAllowed, Access, Both, Consented, CodeSent, TurnedBack, Active, Inactive, HookDone, HookRefused, Hooks}
 
 -- the reply with an access token
 abbrev pub access_reply : RegistryRecord → List ℕ → ℕ → ℕ → Reply
@@ -37,7 +37,8 @@ id_of rules number = option_map_or (λ c. c.id) (client_at number rules.clients)
 abbrev pub reply_of : RegistryRecord → List (List ℕ) → Answer → Reply
 reply_of rules names Done = plain 200 body.Empty
 reply_of rules names (Failure error) = plain (status_of error) (body.Failure error)
-reply_of rules names Unavailable = plain 503 body.Empty
+reply_of rules names (Denied error) = plain (status_of error) (body.Failure error)
+reply_of rules names (Unavailable want) = plain 503 body.Empty
 reply_of rules names NotFound = plain 404 body.Empty
 reply_of rules names NotAllowed = plain 405 body.Empty
 reply_of rules names (Access draw scope life) = access_reply rules draw scope life

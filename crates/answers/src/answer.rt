@@ -1,5 +1,6 @@
 //! Replies as values, before they are written.
 
+use crate::want::Want;
 use consent::{ClientNo, OwnerNo, TokenKind};
 use hook_host::HookFault;
 use messages::{Draws, ErrorName};
@@ -11,8 +12,10 @@ pub enum Answer<'a> {
     Done,
     /// RFC 6749, section 5.2.
     Failure(ErrorName),
-    /// 503: memory, room or a fresh draw is wanting.
-    Unavailable,
+    /// The same, where a hook denied the grant.
+    Denied(ErrorName),
+    /// 503: that is wanting.
+    Unavailable(Want),
     /// 404: no endpoint has the path.
     NotFound,
     /// 405: the endpoint has another method.

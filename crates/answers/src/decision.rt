@@ -2,7 +2,9 @@
 ghost use Rattle.std.specs.Prelude.{◌≡◌};
 
 use crate::answer::Answer;
+use crate::want::Want;
 use consent::Changes;
+use messages::ErrorName;
 
 /// What is answered, and what happens with it.
 #[derive(Clone, Copy)]
@@ -12,12 +14,21 @@ pub struct Decision<'a> {
 }
 
 impl<'a> Decision<'a> {
-    /// 503, with which nothing happens.
-    pub fn unavailable() -> Decision<'a>
-        ensures { result ≡ record { answer = Answer.Unavailable; changes = Changes.Nothing } }
+    /// 503 for what is wanting, with which nothing happens.
+    pub fn unavailable(want: Want) -> Decision<'a>
+        ensures { result ≡ record { answer = Answer.Unavailable want; changes = Changes.Nothing } }
     {
         Decision {
-            answer: Answer::Unavailable,
+            answer: Answer::Unavailable(want),
+            changes: Changes::Nothing,
+        }
+    }
+    /// The error of a grant that a hook denied, with which nothing happens.
+    pub fn denied(error: ErrorName) -> Decision<'a>
+        ensures { result ≡ record { answer = Answer.Denied error; changes = Changes.Nothing } }
+    {
+        Decision {
+            answer: Answer::Denied(error),
             changes: Changes::Nothing,
         }
     }

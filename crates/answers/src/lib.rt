@@ -7,6 +7,7 @@ mod decision;
 mod halt;
 mod texts;
 mod view;
+mod want;
 mod writing;
 
 pub use answer::Answer;
@@ -15,4 +16,5 @@ pub use decision::Decision;
 pub use halt::{Halt, status_of};
 pub use texts::digest_told;
 pub use view::{KnownClient, View};
+pub use want::Want;
 pub use writing::write;

@@ -4,7 +4,10 @@ ghost use Rattle.consent.specs.History.{Event, consented_scope, grant_at};
 ghost use Rattle.token_store.specs.Found.{owner_number};
 ghost use Rattle.answers.specs.Found.{IsFound, is_free};
 ghost use Rattle.answers.specs.Scene.{Finds, Shows};
+ghost use Rattle.answers.specs.Wants.{want_of};
+ghost use Rattle.token_store.specs.Fits.{refusal};
 
+use crate::want::{Want, want_of};
 use clients::{Client, ClientNo, Registry};
 use consent::{Consents, Moment, OwnerNo};
 use messages::Draws;
@@ -35,6 +38,14 @@ impl<'a> View<'a> {
         ensures { (history : List Event) → Shows self.now history → result ≡ is_free history self.now.moment digests.now }
     {
         self.store.refusal(digests, self.moment).is_none()
+    }
+
+    /// What is wanting where codes or tokens of these digests may not be given.
+    pub fn want(&self, digests: &[[u8; 32]]) -> Want
+        ensures { (history : List Event) → Shows self.now history →
+            result ≡ want_of (refusal history self.now.moment digests.now) }
+    {
+        want_of(self.store.refusal(digests, self.moment))
     }
 
     /// The scope that the owner, if there is one, consents to the client's having: one bit for each name.

@@ -162,7 +162,8 @@ pub fn write<H: HookHost>(
     match *answer {
         Answer::Done => Ok(Response::bare(StatusCode::OK)),
         Answer::Failure(error) => failure(alloc, status_of(error), error),
-        Answer::Unavailable => Ok(Response::bare(StatusCode::SERVICE_UNAVAILABLE)),
+        Answer::Denied(error) => failure(alloc, status_of(error), error),
+        Answer::Unavailable(_) => Ok(Response::bare(StatusCode::SERVICE_UNAVAILABLE)),
         Answer::NotFound => Ok(Response::bare(StatusCode::NOT_FOUND)),
         Answer::NotAllowed => Ok(Response::bare(StatusCode::METHOD_NOT_ALLOWED)),
         Answer::Access { draw, scope, life } => access(alloc, rules, &draw, scope, life),

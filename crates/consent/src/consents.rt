@@ -86,6 +86,13 @@ impl Consents {
             || self.masks.len() < CONSENT_LIMIT
     }
 
+    /// How many consents are kept.
+    pub fn count(&self) -> usize
+        ensures { result ≡ length self.now.masks }
+    {
+        self.masks.len()
+    }
+
     /// Makes room for so many further consents. It changes no answer, also where memory is refused.
     pub fn reserve(&mut self, count: usize) -> Result<(), AllocError>
         ensures same { (history : List Event) → FitsConsents self.old history → FitsConsents self.new history }

@@ -1,3 +1,4 @@
 pub mod Listening
 pub mod Begun
 pub mod Started
+pub mod ReportTexts

@@ -14,9 +14,9 @@ use Rattle.daemon.specs.declared.means.Means.{Means}
 use Rattle.daemon.specs.declared.patience.Patience.{Patience}
 use Rattle.daemon.specs.Begun.{Beginning, IsAt, new_beginning, resumed_beginning}
 
--- the limits of a loop that is so patient
+-- the limits of a loop that is so patient, and reports so often
 abbrev pub limits_of : Patience → Limits
-limits_of patience = record { idle = patience.silence; crowded = patience.full }
+limits_of patience = record { idle = patience.silence; crowded = patience.full; report = patience.report }
 
 -- the tools that a server has, by what it was handed and an edge
 abbrev pub tools_of : {N C J K H : Type 0} → Means N C J K → SeenEdge H → Tools N C J K H

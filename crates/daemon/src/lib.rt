@@ -9,6 +9,7 @@ mod machine_clock;
 mod machine_clocks;
 mod means;
 mod patience;
+mod report_line;
 mod sockets;
 mod until_stopped;
 

@@ -1,9 +1,10 @@
-//! Faults noted in lines.
+//! Faults and reports, in lines.
 
-use event_loop::{ConnectionFault, Journal};
+use crate::report_line::ReportLine;
+use event_loop::{ConnectionFault, Journal, Notice};
 use std::io::Write;
 
-/// Where each fault is noted in a line. One that can't be written is lost.
+/// Where each fault is noted in a line, and each report. One that can't be written is lost.
 #[derive(Drop)]
 pub struct LineJournal<'e, E>(pub &'e mut E);
 
@@ -11,7 +12,16 @@ impl<'e, E: Write> Journal for LineJournal<'e, E> {
     // It is not told whether a line was written.
     ghost notes = { λ _ _ _. Unit {0} };
 
+    ghost reports = { λ _ _ _. Unit {0} };
+
     fn note(&mut self, fault: ConnectionFault) {
         let _ = writeln!(self.0, "oauthd: connection ended: {fault}");
+    }
+
+    fn report(&mut self, notice: &Notice) {
+        let _ = match notice {
+            Notice::Reported(report) => writeln!(self.0, "{}", ReportLine(*report)),
+            Notice::StoreFull => writeln!(self.0, "oauthd: store full"),
+        };
     }
 }

@@ -9,6 +9,7 @@ pub mod HookPaths
 pub mod HookAsking
 pub mod Ruling
 pub mod Paths
+pub mod Tallies
 pub mod Replies
 pub mod Bounded
 pub mod BoundedLaws

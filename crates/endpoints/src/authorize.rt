@@ -114,7 +114,7 @@ fn give_code<'p>(view: &View<'_>, params: &'p Params, facts: &CodeFacts<'p>) -> 
     let draw = view.draws.first;
     let digest = digest_of(&draw);
     if !view.is_free(&[digest]) {
-        return Decision::unavailable();
+        return Decision::unavailable(view.want(&[digest]));
     }
     Decision {
         answer: Answer::CodeSent {

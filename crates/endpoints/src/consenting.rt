@@ -7,7 +7,7 @@ ghost use Rattle.answers.specs.Told.{Decides};
 ghost use Rattle.endpoints.specs.ConsentPath.{consent_points, give_consent};
 ghost use Rattle.endpoints.specs.Deciding.{InEach, consent_by};
 
-use answers::{Answer, Decision, Halt, View, form, named_client, owner, scope};
+use answers::{Answer, Decision, Halt, View, Want, form, named_client, owner, scope};
 use consent::{Change, Changes, ClientNo, OwnerNo};
 use messages::{ErrorName, Request};
 use params::Params;
@@ -64,7 +64,7 @@ pub(crate) fn consent<'c>(
         Err(halt) => return Err(halt),
     };
     if !view.consents.has_room(owner, client, mask) {
-        return Ok(Decision::unavailable());
+        return Ok(Decision::unavailable(Want::ConsentRoom));
     }
     Ok(Decision {
         answer: Answer::Consented { mask },

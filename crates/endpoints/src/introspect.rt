@@ -7,7 +7,7 @@ ghost use Rattle.endpoints.specs.Deciding.{InEach};
 ghost use Rattle.endpoints.specs.Introspect.{introspect};
 
 use crate::revoke::{live_token, presented_by};
-use answers::{Answer, Decision, Halt, View};
+use answers::{Answer, Decision, Halt, View, Want};
 use consent::{Changes, Kind};
 use messages::Request;
 use std::alloc::Global;
@@ -43,7 +43,7 @@ pub(crate) fn introspect<'c>(
         return Ok(inactive());
     };
     let Some(_client) = view.rules.client_numbered(token.client) else {
-        return Ok(Decision::unavailable());
+        return Ok(Decision::unavailable(Want::Client));
     };
     let Kind::Token(kind) = token.kind else {
         return Ok(inactive());

@@ -15,6 +15,7 @@ mod restoring;
 mod revoke;
 mod ruling;
 mod server;
+mod tally;
 mod widening;
 
 pub use consent::Moment;
@@ -24,4 +25,5 @@ pub use redo::{RedoFault, layout_of};
 pub use restoring::RestoreFault;
 pub use ruling::{Checked, Ruling};
 pub use server::Server;
+pub use tally::{Asked, Replied, Tally, Wanted};
 pub use widening::wider_rules_keep_what_is_right;

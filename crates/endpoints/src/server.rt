@@ -33,7 +33,8 @@ use crate::redo::{RedoFault, alone, check_hook, history_refusal};
 use crate::restoring::RestoreFault;
 use crate::revoke::revoke;
 use crate::ruling::{Checked, Ruling};
-use answers::{Answer, Decision, Halt, View, status_of, write};
+use crate::tally::{Cause, Tally};
+use answers::{Answer, Decision, Halt, View, Want, status_of, write};
 use change_codec::Batch;
 use clients::Registry;
 use consent::{Change, Changes, Consents, KeptConsent, Moment};
@@ -54,6 +55,8 @@ pub struct Server<H> {
     greatest: Moment,
     // What has happened and was not kept yet, where that is noted.
     unkept: Option<Batch>,
+    // How many requests were answered, which no answer depends on. What a server is seen as leaves it out.
+    tally: Tally,
     alloc: Global,
 }
 
@@ -67,6 +70,7 @@ impl<H: Drop> Drop for Server<H> {
             consents: _consents,
             greatest: _,
             unkept: _unkept,
+            tally: _,
             alloc: _,
         } = self;
     }
@@ -109,6 +113,7 @@ impl<H: HookHost> Server<H> {
             consents: Consents::new(alloc),
             greatest: Moment::new(0),
             unkept: None,
+            tally: Tally::NONE,
             alloc,
         }
     }
@@ -138,6 +143,7 @@ impl<H: HookHost> Server<H> {
             consents,
             greatest: moment,
             unkept: None,
+            tally: Tally::NONE,
             alloc,
         })
     }
@@ -282,12 +288,14 @@ impl<H: HookHost> Server<H> {
         self.store.apply(changes, self.greatest);
     }
 
-    // Answers a request at its endpoint, and makes what comes of it. Where memory is refused, nothing is made.
+    // Answers a request at its endpoint, and makes what comes of it. Where memory is refused, nothing is made. The cause of
+    // the reply is told, where there is one.
     fn answer_at(
         &mut self,
         endpoint: Endpoint,
         request: &Request<'_>,
         draws: &Draws,
+        cause: &mut Option<Cause>,
     ) -> Result<Response, AllocError>
         ensures replies { Answers H.HookHost self.old
             (record { endpoint = endpoint; asked = asked_of request.now; draws = draws.now }) result self.new }
@@ -301,6 +309,7 @@ impl<H: HookHost> Server<H> {
             Ok(ruling) => ruling,
             Err(halt) => return halted(self.alloc, halt),
         };
+        *cause = Cause::of(&decision.answer);
         let reply = write(self.alloc, &self.rules, &self.host, &decision.answer)?;
         let now = self.moment();
         self.reserve(now, &decision.changes)?;
@@ -308,9 +317,14 @@ impl<H: HookHost> Server<H> {
         Ok(reply)
     }
 
-    /// Answers a request at the greatest moment so far: the reply of the first point of its endpoint's list that holds, or
-    /// the 503 of refused memory, with which nothing happens. What no endpoint answers (404, 405) takes no memory.
-    pub fn step(&mut self, request: &Request<'_>, moment: Moment, draws: &Draws) -> Response
+    // Answers a request, and tells the cause of the reply, where there is one.
+    fn answer(
+        &mut self,
+        request: &Request<'_>,
+        moment: Moment,
+        draws: &Draws,
+        cause: &mut Option<Cause>,
+    ) -> Response
         ensures replies { Steps H.HookHost self.old
             (record { asked = asked_of request.now; moment = moment; draws = draws.now }) result self.new }
         ensures short { length request.now.target.now ≤ state_limit → IsShort result }
@@ -323,11 +337,66 @@ impl<H: HookHost> Server<H> {
         if request.method != endpoint.method() {
             return Response::bare(StatusCode::METHOD_NOT_ALLOWED);
         }
-        let Ok(reply) = self.answer_at(endpoint, request, draws) else {
+        let Ok(reply) = self.answer_at(endpoint, request, draws, cause) else {
+            *cause = Some(Cause::Wants(Want::Memory));
             return Response::bare(StatusCode::SERVICE_UNAVAILABLE);
         };
         reply
     }
+
+    /// Answers a request at the greatest moment so far: the reply of the first point of its endpoint's list that holds, or
+    /// the 503 of refused memory, with which nothing happens. What no endpoint answers (404, 405) takes no memory. It is
+    /// counted.
+    pub fn step(&mut self, request: &Request<'_>, moment: Moment, draws: &Draws) -> Response
+        ensures replies { Steps H.HookHost self.old
+            (record { asked = asked_of request.now; moment = moment; draws = draws.now }) result self.new }
+        ensures short { length request.now.target.now ≤ state_limit → IsShort result }
+    {
+        let mut cause = None;
+        let reply = self.answer(request, moment, draws, &mut cause);
+        self.tally
+            .count(Endpoint::at(request.path()), reply.status(), cause);
+        reply
+    }
+}
+
+impl<H: HookHost> Server<H> {
+    /// How many requests were answered, and how.
+    pub fn tally(&self) -> &Tally {
+        &self.tally
+    }
+
+    /// How many codes and tokens it has in memory.
+    pub fn record_count(&self) -> usize
+        ensures { result ≡ length self.now.store.kept }
+    {
+        self.store.kept()
+    }
+
+    /// How many consents it keeps.
+    pub fn consent_count(&self) -> usize
+        ensures { result ≡ length self.now.consents.masks }
+    {
+        self.consents.count()
+    }
+
+    /// How many hooks its host has.
+    pub fn hook_count(&self) -> usize
+        ensures { result ≡ length (H.names self.now.host) }
+    {
+        hook_count(&self.host)
+    }
+}
+
+// How many hooks a host has.
+fn hook_count<H: HookHost>(host: &H) -> usize
+    ensures { result ≡ length (H.names host.now) }
+{
+    let mut count = 0;
+    while let Some(_name) = host.name_at(count) {
+        count += 1;
+    }
+    count
 }
 
 impl<H: HookHost> Server<H> {

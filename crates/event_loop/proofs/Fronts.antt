@@ -18,7 +18,7 @@ use Rattle.event_loop.specs.Reading.{Reads}
 use Rattle.event_loop.specs.Writing as writing
 use Rattle.event_loop.specs.Writing.{Writes}
 use Rattle.event_loop.specs.Closing.{Closes, leaves}
-use Rattle.event_loop.specs.Served.{Step, Served, Shuts, waits, hears_of_listener, hears_of, hears_of_none, comes, tries_again, reads, writes, closes, keeps, begins, goes, stops, shuts}
+use Rattle.event_loop.specs.Served.{Step, Served, Shuts, waits, hears_of_listener, hears_of, hears_of_none, comes, tries_again, reads, writes, closes, reports, keeps, begins, goes, stops, shuts, reports_last}
 use Rattle.event_loop.specs.Durable.{Onward, stays, onward, IsHeld, StandsBetween, IsDurable, IsDurableToEnd}
 use Rattle.event_loop.specs.Ends.{Fails, no_wait, no_time, not_kept, no_more}
 use Rattle.event_loop.proofs.Answering.{served_answered}
@@ -95,6 +95,7 @@ module _ {N C J K H : Type 0} (p : Promises N C J K H) (rules : RegistryRecord) 
   step_moves s s' (reads j place s'' here readable unread may reading) = reads_moves j place s s'' reading
   step_moves s s' (writes j place s'' here writable unwritten kept may writing) = writes_moves j place s s'' writing
   step_moves s s' (closes j place s'' here taken cause closing) = closes_moves j place s s'' closing
+  step_moves s s' (reports notice told journal due done) = goes_on refl (grows_not _ _ refl)
   step_moves s s' (keeps keeper e unkept on undone kept) =
       keeps_all unkept kept (kept_last s.course.world on.world on.happens) (kept_history s.course.world on.world on.happens)
 
@@ -238,6 +239,7 @@ module _ {N C J K H : Type 0} (p : Promises N C J K H) (rules : RegistryRecord) 
     shuts_keeper : (s s' : Scene N C J K H) → Shuts p rules host s s' → s'.keeper ≡ s.keeper
     shuts_keeper s s' stops = refl
     shuts_keeper s s' (shuts {s = before} k place shut here taken closing) = closes_keeper k place before s' closing ∙ shuts_keeper s before shut
+    shuts_keeper s s' (reports_last {s = before} report journal shut wanted tells done) = shuts_keeper s before shut
 
     -- and so it is up to the end
     pub durable_to_end : (s last failed end : Scene N C J K H) (fault : LoopFault) → Served p rules host first s → Onward p rules host s last → Fails p last fault failed → Shuts p rules host failed end →

@@ -45,6 +45,7 @@ scene_of service tools found past = record {
   queue = service.queue;
   times = service.times;
   noted = service.noted;
+  told = service.told;
   deeds = past.deeds;
 }
 

@@ -9,6 +9,7 @@ pub mod Coming
 pub mod Reading
 pub mod Writing
 pub mod Closing
+pub mod Reporting
 pub mod Served
 pub mod Durable
 pub mod Answered

@@ -12,6 +12,8 @@ use Rattle.event_loop.specs.declared.clocks.Times.{Times}
 use Rattle.event_loop.specs.declared.fault.ConnectionFault.{ConnectionFault}
 use Rattle.event_loop.specs.declared.limits.Limits.{Limits}
 use Rattle.event_loop.specs.declared.place.Place.{Place}
+use Rattle.event_loop.specs.declared.report.LastTold.{LastTold}
+use Rattle.event_loop.specs.declared.report.Notice.{Notice}
 use Rattle.event_loop.specs.declared.queue.Queue.{Queue}
 use Rattle.event_loop.specs.declared.sockets.Ready.{Ready}
 use Rattle.event_loop.specs.Deeds.{Deed}
@@ -22,6 +24,7 @@ pub record Promises (N C J K H : Type 0) : Type 1 where
   pub does : N → Deed → N → Type 0
   pub tells : C → Option Times → C → Type 0
   pub notes : J → ConnectionFault → J → Type 0
+  pub reports : J → Notice → J → Type 0
   pub keeping : Crashes K
   pub hosting : Hosting H
 
@@ -30,13 +33,15 @@ promises sockets clocks journal keeper hosting = record {
   does = sockets.does;
   tells = clocks.tells;
   notes = journal.notes;
+  reports = journal.reports;
   keeping = crashes keeper.stands_for keeper.may_leave keeper.moment keeper.left_since;
   hosting = hosting;
 }
 
 -- What the loop works with: sockets, clocks, a journal, a keeper, and an edge with its draws, on its course. What it knows:
 -- its limits, its places, what the last wait found and was not looked at yet, who waits to be accepted, what the clocks
--- told last, and when a fault was noted last. What was done so far, the last deed first.
+-- told last, and when a fault was noted last, and the journal was told last what the server does. What was done so far, the
+-- last deed first.
 pub record Scene (N C J K H : Type 0) : Type 0 where
   pub sockets : N
   pub clocks : C
@@ -49,6 +54,7 @@ pub record Scene (N C J K H : Type 0) : Type 0 where
   pub queue : Queue
   pub times : Times
   pub noted : Option ℕ
+  pub told : LastTold
   pub deeds : List Deed
 
 -- what was kept last, if anything is kept, is all that happened

@@ -1,5 +1,5 @@
 -- All that the loop does, step by step.
-use Rattle.std.specs.Prelude.{◌≡◌, ◌≢◌, ◌⊎◌, ◌<◌, ◌≤◌, ℕ, Bool, true, ◌||◌, List, [], ◌∷◌, Option, Some, None, slice_get, slice_set, length}
+use Rattle.std.specs.Prelude.{◌≡◌, ◌≢◌, ◌⊎◌, ◌<◌, ◌≤◌, ℕ, Bool, true, ◌||◌, List, [], ◌∷◌, Option, Some, None, IsSome, slice_get, slice_set, length}
 use Rattle.clients.specs.RegistryRecord.{RegistryRecord}
 use Rattle.event_loop.specs.declared.clocks.Times.{Times}
 use Rattle.event_loop.specs.declared.place.Place.{Place}
@@ -19,6 +19,11 @@ use Rattle.event_loop.specs.Coming.{Comes, told_queue}
 use Rattle.event_loop.specs.Reading.{Reads}
 use Rattle.event_loop.specs.Writing.{Writes}
 use Rattle.event_loop.specs.Closing.{AreWithin, Cause, Closes}
+use Rattle.event_loop.specs.Reporting.{IsDue, Tells}
+use Rattle.event_loop.specs.declared.report.LastTold.{LastTold}
+use Rattle.event_loop.specs.declared.report.Notice.{Notice}
+use Rattle.event_loop.specs.declared.report.Notice.TheVariants.{Reported}
+use Rattle.event_loop.specs.declared.report.Report.{Report}
 
 -- nothing is to be done now: at no place, and nobody is to be accepted
 pub record IsIdle {N C J K H : Type 0} (s : Scene N C J K H) : Type 0 where
@@ -64,8 +69,8 @@ abbrev pub told_place : Place → Bool → Bool → Bool → Place
 told_place place readable writable hung =
     record place { readable = place.readable || readable; writable = place.writable || writable; hung = place.hung || hung }
 
--- One step: a wait with a look at the clocks behind it, a look at what the wait found, something done for connections, or
--- what is unkept is kept. Between two waits a place is read at most once, and written to at most once, and it is kept at
+-- One step: a wait with a look at the clocks behind it, a look at what the wait found, something done for connections,
+-- the journal is told what is due, or what is unkept is kept. Between two waits a place is read at most once, and written to at most once, and it is kept at
 -- most once. Nothing is written while something is unkept.
 pub data Step {N C J K H : Type 0} (p : Promises N C J K H) (rules : RegistryRecord) (host : H) (s : Scene N C J K H) : Scene N C J K H → Type 0 where
   waits : (limit : Option ℕ) (room : ℕ) (found : List Ready) (n : N) (times : Times) (c : C) → MayWait s limit room →
@@ -84,6 +89,9 @@ pub data Step {N C J K H : Type 0} (p : Promises N C J K H) (rules : RegistryRec
   writes : (k : ℕ) (place : Place) (s' : Scene N C J K H) → slice_get s.places k ≡ Some place → place.writable ≡ true → ¬ (IsDone (Writing k) s.deeds) → IsAllKept s.course.world →
       MayWrite place (known s.course k) → Writes p rules host k place s s' → Step p rules host s s'
   closes : (k : ℕ) (place : Place) (s' : Scene N C J K H) → slice_get s.places k ≡ Some place → IsTaken place.stage → Cause s k place → Closes p rules host k place s s' → Step p rules host s s'
+  -- the journal alone is another
+  reports : (notice : Notice) (told : LastTold) (journal : J) → IsDue p s notice told → p.reports s.journal notice journal →
+      Step p rules host s (record s { journal = journal; told = told })
   keeps : (keeper : K) (e : SeenEdge H) (unkept : IsUnkept s.course.world) (on : GoesOn p.hosting e rules host s.course.schedule s.course.world Kept) → ¬ (IsDone Keeping s.deeds) →
       Keeps p.keeping unkept.kept s.course.world.history s.keeper keeper →
       Step p rules host s (record s { keeper = keeper; course = led s.course e Kept on.world; deeds = deed.Kept ∷ s.deeds })
@@ -94,6 +102,7 @@ pub record IsFirst {N C J K H : Type 0} (p : Promises N C J K H) (rules : Regist
   pub free : AllFree s.places
   pub found : s.found ≡ []
   pub noted : s.noted ≡ None
+  pub told : s.told ≡ record { report = s.times.steady; full = None }
   pub queue : s.queue ≡ Empty
   pub deeds : s.deeds ≡ []
   pub reached : IsReached p.hosting rules host s.course
@@ -103,8 +112,10 @@ pub data Served {N C J K H : Type 0} (p : Promises N C J K H) (rules : RegistryR
   begins : IsFirst p rules host first → Served p rules host first first
   goes : {s s' : Scene N C J K H} → Served p rules host first s → Step p rules host s s' → Served p rules host first s'
 
--- Connections that are left are closed and forgotten, one after another.
+-- Connections that are left are closed and forgotten, one after another. Where reports are wanted, there is one more.
 pub data Shuts {N C J K H : Type 0} (p : Promises N C J K H) (rules : RegistryRecord) (host : H) (first : Scene N C J K H) : Scene N C J K H → Type 0 where
   stops : Shuts p rules host first first
   shuts : {s s' : Scene N C J K H} (k : ℕ) (place : Place) → Shuts p rules host first s → slice_get s.places k ≡ Some place → IsTaken place.stage → Closes p rules host k place s s' →
       Shuts p rules host first s'
+  reports_last : {s : Scene N C J K H} (report : Report) (journal : J) → Shuts p rules host first s → IsSome s.limits.report → Tells p s report → p.reports s.journal (Reported report) journal →
+      Shuts p rules host first (record s { journal = journal })

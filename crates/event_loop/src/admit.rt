@@ -61,6 +61,7 @@ impl Service {
                         hung: false,
                         since: self.times.steady,
                     };
+                    self.accepted = self.accepted.saturating_add(1);
                 }
                 Err(fault) => {
                     tools.sockets.close(k);

@@ -56,14 +56,17 @@ impl Service {
         if let Queue::Barred(_) = self.queue {
             return Some(SECOND);
         }
+        if let Some(_every) = self.limits.report {
+            return Some(SECOND);
+        }
         if self.is_empty() {
             return None;
         }
         Some(SECOND)
     }
 
-    /// Waits once and looks at the clocks, notes what was found, reads each place, keeps what changed, writes to each, and
-    /// then closes and accepts.
+    /// Waits once and looks at the clocks, notes what was found, reads each place, keeps what changed, writes to each, tells
+    /// the journal what is due, and then closes and accepts.
     pub(crate) fn round<N: Sockets, C: Clocks, J: Journal, K: Keeper, H: HookHost>(
         &mut self,
         tools: &mut Tools<N, C, J, K, H>,
@@ -87,6 +90,7 @@ impl Service {
             return Err(fault);
         }
         self.write_all(tools);
+        self.tell(tools);
         self.tidy(tools);
         self.make_room(tools);
         self.admit_all(tools);

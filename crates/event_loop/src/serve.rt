@@ -32,7 +32,7 @@ impl Service {
 }
 
 /// Serves up to 64 connections at once, until a wait fails, the clocks tell nothing or changes can't be kept, and says which.
-/// Then each connection that is left is closed and forgotten.
+/// Then each connection that is left is closed and forgotten, and where reports are wanted, there is a last one.
 pub fn serve_all<N: Sockets, C: Clocks, J: Journal, K: Keeper, H: HookHost>(
     tools: &mut Tools<N, C, J, K, H>,
     limits: Limits,
@@ -45,5 +45,6 @@ pub fn serve_all<N: Sockets, C: Clocks, J: Journal, K: Keeper, H: HookHost>(
     let mut service = Service::new(limits, times);
     let fault = service.rounds(tools);
     service.leave_all(tools);
+    service.tell_last(tools);
     fault
 }

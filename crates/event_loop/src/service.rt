@@ -8,6 +8,7 @@ use crate::clocks::Times;
 use crate::limits::{Limits, PLACES, READ_LIMIT};
 use crate::place::{FREE_PLACE, Place};
 use crate::queue::Queue;
+use crate::report::LastTold;
 
 /// What the loop knows.
 #[derive(Drop)]
@@ -23,6 +24,14 @@ pub struct Service {
     pub(crate) queue: Queue,
     // In which second a fault was noted last.
     pub(crate) noted: Option<u64>,
+    // When it began, in steady seconds.
+    pub(crate) began: u64,
+    // How many connections came.
+    pub(crate) accepted: u64,
+    // For how many requests the store was full, as was looked at last.
+    pub(crate) full: u64,
+    // When the journal was told last of what the server does.
+    pub(crate) told: LastTold,
 }
 
 impl Service {
@@ -35,6 +44,7 @@ impl Service {
         ensures due { IsDueNowhere result }
         ensures queue { result.queue ≡ Empty }
         ensures noted { result.noted ≡ None }
+        ensures told { result.told ≡ record { report = times.steady; full = None } }
     {
         Service {
             places: [FREE_PLACE; 64],
@@ -44,6 +54,13 @@ impl Service {
             times,
             queue: Queue::Empty,
             noted: None,
+            began: times.steady,
+            accepted: 0,
+            full: 0,
+            told: LastTold {
+                report: times.steady,
+                full: None,
+            },
         }
     }
 

@@ -212,6 +212,13 @@ impl<H: HookHost> Edge<H> {
         }
     }
 
+    /// The server.
+    pub fn server(&self) -> &Server<H>
+        ensures { result.now ≡ self.now.server }
+    {
+        &self.server
+    }
+
     /// Whether the connection was answered the 400 of a faulty head, also after its stream has ended.
     pub fn closing(&self, c: u32) -> bool
         ensures { InEach H.HookHost self.now (λ world. result ≡ is_closing (connection_at world.connections c)) }

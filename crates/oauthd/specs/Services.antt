@@ -59,9 +59,9 @@ abbrev pub hooks_of : Service → List HookSaid
 hooks_of (Serve given) = []
 hooks_of (Start given) = given.options.hooks
 
--- the seconds for which its server is patient: 60 and 5 where they are left out
+-- the seconds for which its server is patient, 60 and 5 where they are left out, and those from report to report
 abbrev pub patience_of : Said → Patience
-patience_of said = record { silence = unwrap_or said.silence 60; full = unwrap_or said.full 5 }
+patience_of said = record { silence = unwrap_or said.silence 60; full = unwrap_or said.full 5; report = said.report }
 
 -- the path of the registry's file
 abbrev pub config_of : Service → List ℕ

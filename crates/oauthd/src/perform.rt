@@ -155,6 +155,7 @@ fn serve_as<
     let patience = Patience {
         silence: given.options.silence(),
         full: given.options.full(),
+        report: given.options.report(),
     };
     let fault = match given.options.state() {
         None => start(rt, given.address, registry, chain, patience, out, err)?,

@@ -11,7 +11,7 @@ use Rattle.start_words.specs.declared.fault.WordFault.{WordFault}
 use Rattle.start_words.specs.declared.fault.WordFault.TheVariants.{Unknown, NoValue, BadValue, Twice}
 use Rattle.start_words.specs.declared.option.HookFile.{HookFile}
 use Rattle.start_words.specs.declared.option.OptionName.{OptionName}
-use Rattle.start_words.specs.declared.option.OptionName.TheVariants.{Silence, Full, State, Hook}
+use Rattle.start_words.specs.declared.option.OptionName.TheVariants.{Silence, Full, Report, State, Hook}
 use Rattle.start_words.specs.Numbers.{number_of}
 
 -- a hook's name, the layout of the record that it reads, and the path of its file
@@ -23,16 +23,17 @@ pub record HookSaid : Type 0 where
 abbrev pub hook_said : HookFile → HookSaid
 hook_said file = record { name = file.name.now; layout = file.layout; path = file.path.now }
 
--- what has been said: seconds of silence, and where all places are taken, the path of the state's file, and the hooks in their
--- order
+-- what has been said: seconds of silence, and where all places are taken, and from report to report, the path of the state's
+-- file, and the hooks in their order
 pub record Said : Type 0 where
   pub silence : Option ℕ
   pub full : Option ℕ
+  pub report : Option ℕ
   pub state : Option (List ℕ)
   pub hooks : List HookSaid
 
 abbrev pub nothing_said : Said
-nothing_said = record { silence = None; full = None; state = None; hooks = [] }
+nothing_said = record { silence = None; full = None; report = None; state = None; hooks = [] }
 
 -- why words are refused: for what is wrong with one of them, or as bad words
 pub data Refused : Type 0 where
@@ -52,9 +53,10 @@ abbrev pub named : List ℕ → Option OptionName
 named word =
     if bytes_eq word (codes "--silence") then Some Silence
     else (if bytes_eq word (codes "--full") then Some Full
+    else (if bytes_eq word (codes "--report") then Some Report
     else (if bytes_eq word (codes "--state") then Some State
     else (if bytes_eq word (codes "--hook") then Some (Hook V1)
-    else (if bytes_eq word (codes "--hook2") then Some (Hook V2) else None))))
+    else (if bytes_eq word (codes "--hook2") then Some (Hook V2) else None)))))
 
 -- a number that is not 0
 abbrev pub not_0 : Option ℕ → Option ℕ
@@ -92,6 +94,9 @@ with_value said Silence value = do
 with_value said Full value = do
   seconds ← once said.full (number_of value)
   Ok (record said { full = seconds })
+with_value said Report value = do
+  seconds ← once said.report (above_0 value)
+  Ok (record said { report = seconds })
 with_value said State value = do
   path ← once said.state (path_in value)
   Ok (record said { state = path })

@@ -26,6 +26,8 @@ pub enum OptionName {
     Silence,
     /// `--full SECONDS`.
     Full,
+    /// `--report SECONDS`.
+    Report,
     /// `--state FILE`.
     State,
     /// `--hook NAME=FILE`, and `--hook2 NAME=FILE` for a hook that reads records of version 2.
@@ -39,6 +41,7 @@ pub fn named(word: &str) -> Option<OptionName>
     match word {
         "--silence" => Some(OptionName::Silence),
         "--full" => Some(OptionName::Full),
+        "--report" => Some(OptionName::Report),
         "--state" => Some(OptionName::State),
         "--hook" => Some(OptionName::Hook(Layout::V1)),
         "--hook2" => Some(OptionName::Hook(Layout::V2)),

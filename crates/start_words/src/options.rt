@@ -16,6 +16,7 @@ use std::marker::Model;
 pub struct Options<'w> {
     silence: Option<u32>,
     full: Option<u32>,
+    report: Option<u32>,
     state: Option<&'w str>,
     hooks: Vec<HookFile<'w>>,
 }
@@ -27,7 +28,7 @@ impl<'w> Model for Options<'w> {
 
     ghost Value = { Said };
 
-    ghost view = { λ o. record { silence = o.silence; full = o.full; state = option_copied o.state; hooks = map hook_said o.hooks.items } };
+    ghost view = { λ o. record { silence = o.silence; full = o.full; report = o.report; state = option_copied o.state; hooks = map hook_said o.hooks.items } };
 }
 
 /// The first word, where it counts by its place, and those behind it.
@@ -78,6 +79,7 @@ impl<'w> Options<'w> {
         Options {
             silence: None,
             full: None,
+            report: None,
             state: None,
             hooks: Vec::new(alloc),
         }
@@ -96,6 +98,13 @@ impl<'w> Options<'w> {
         ensures { result ≡ unwrap_or self.now.full 5 }
     {
         self.full.unwrap_or(5)
+    }
+
+    /// Each how many seconds a report is written, where one is.
+    pub fn report(&self) -> Option<u32>
+        ensures { result ≡ self.now.report }
+    {
+        self.report
     }
 
     /// The path of the file in which the server keeps its state, where there is one.
@@ -134,6 +143,7 @@ impl<'w> Options<'w> {
                 blame,
             )?,
             OptionName::Full => self.full = once(self.full, number_of(value)).map_err(blame)?,
+            OptionName::Report => self.report = once(self.report, above_0(value)).map_err(blame)?,
             OptionName::State => self.state = once(self.state, path_in(value)).map_err(blame)?,
             OptionName::Hook(layout) => {
                 let hook = hook_in(layout, value)

@@ -122,4 +122,9 @@ impl<D: Device> Keeper for StateKeeper<D> {
     fn keep(&mut self, batch: &Batch) -> Result<(), KeepFault> {
         self.keep_all(batch)
     }
+
+    // With the closed latch behind the last frame.
+    fn size(&self) -> Option<u64> {
+        Some((self.file.end as u64).saturating_add(1))
+    }
 }

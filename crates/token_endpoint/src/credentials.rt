@@ -22,7 +22,7 @@ fn issue_own<'c>(view: &View<'_>, client: ClientNo, scope: u64, life: u32) -> De
     let token = access_token(view, scope, life);
     let first = token.digest;
     if !view.is_free(&[first]) {
-        return Decision::unavailable();
+        return Decision::unavailable(view.want(&[first]));
     }
     Decision {
         answer: Answer::Access {
@@ -40,7 +40,7 @@ fn granted<'c>(view: &View<'_>, client: ClientNo, left: Narrowed) -> Result<Deci
     ensures short { IfOk result (λ decision. IsShortAnswer decision.answer) }
 {
     match left {
-        Narrowed::Denied => Err(Halt::Refuse(ErrorName::UnauthorizedClient)),
+        Narrowed::Denied => Ok(Decision::denied(ErrorName::UnauthorizedClient)),
         Narrowed::EmptyScope => Err(Halt::Refuse(ErrorName::InvalidScope)),
         Narrowed::Allowed { scope, life } => Ok(issue_own(view, client, scope, life)),
     }

@@ -46,12 +46,22 @@ fn own_code<'a>(view: &View<'a>, client: ClientNo, digest: &[u8; 32]) -> Option<
     Some(found)
 }
 
-// The host refuses, and the code is spent.
+// The host leaves nothing, and the code is spent.
 fn spending<'c>(error: ErrorName, digest: &[u8; 32]) -> Decision<'c>
     ensures { result ≡ record { answer = Answer.Failure error; changes = Changes.One (Change.Spent digest.now) } }
 {
     Decision {
         answer: Answer::Failure(error),
+        changes: Changes::One(Change::Spent { digest: *digest }),
+    }
+}
+
+// The host denies the grant, and the code is spent.
+fn denying<'c>(error: ErrorName, digest: &[u8; 32]) -> Decision<'c>
+    ensures { result ≡ record { answer = Answer.Denied error; changes = Changes.One (Change.Spent digest.now) } }
+{
+    Decision {
+        answer: Answer::Denied(error),
         changes: Changes::One(Change::Spent { digest: *digest }),
     }
 }
@@ -69,7 +79,7 @@ fn exchanged<'c>(
     ensures short { IsShortAnswer result.answer }
 {
     match left {
-        Narrowed::Denied => spending(ErrorName::InvalidGrant, digest),
+        Narrowed::Denied => denying(ErrorName::InvalidGrant, digest),
         Narrowed::EmptyScope => spending(ErrorName::InvalidScope, digest),
         Narrowed::Allowed { scope, life } => {
             if known.client.has_grant(GrantType::RefreshToken) {

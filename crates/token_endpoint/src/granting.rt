@@ -93,7 +93,7 @@ pub(crate) fn access_for<'c>(
     let token = access_token(view, scope, life);
     let first = token.digest;
     if !view.is_free(&[first]) {
-        return Decision::unavailable();
+        return Decision::unavailable(view.want(&[first]));
     }
     let of = *digest;
     Decision {
@@ -124,7 +124,7 @@ pub(crate) fn both_for<'c>(
     let first = token.digest;
     let second = other.digest;
     if !view.is_free(&[first, second]) {
-        return Decision::unavailable();
+        return Decision::unavailable(view.want(&[first, second]));
     }
     let of = *digest;
     let access = Change::Issued { of, token };

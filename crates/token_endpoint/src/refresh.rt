@@ -48,7 +48,7 @@ fn refreshed<'c>(
     ensures short { IfOk result (λ decision. IsShortAnswer decision.answer) }
 {
     match left {
-        Narrowed::Denied => Err(Halt::Refuse(ErrorName::InvalidGrant)),
+        Narrowed::Denied => Ok(Decision::denied(ErrorName::InvalidGrant)),
         Narrowed::EmptyScope => Err(Halt::Refuse(ErrorName::InvalidScope)),
         Narrowed::Allowed { scope, life } => {
             Ok(both_for(view, digest, token, scope, life, token.scope))

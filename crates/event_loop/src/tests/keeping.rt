@@ -147,7 +147,7 @@ fn outcome_of(alloc: Global, most: usize) -> Result<Outcome, ConfigFault> {
         edge: noting_edge(alloc)?,
         clocks: Ticking { steady: 0 },
         generator: ChaCha20Rng::from_seed([0; 32]),
-        journal: Count { faults: 0 },
+        journal: Count::new(),
         keeper: Patient {
             alloc,
             most,
@@ -158,6 +158,7 @@ fn outcome_of(alloc: Global, most: usize) -> Result<Outcome, ConfigFault> {
     let limits = Limits {
         idle: u64::MAX,
         crowded: u64::MAX,
+        report: None,
     };
     let fault = serve_all(&mut tools, limits);
     Ok(Outcome {

@@ -5,8 +5,8 @@ ghost use Rattle.std.specs.Prelude.{◌<◌};
 
 use super::new_edge;
 use crate::{
-    Accepted, Clocks, ConnectionFault, Journal, Limits, LoopFault, Ready, Received, Sent, Sockets,
-    Times, Tools, serve_all,
+    Accepted, Clocks, ConnectionFault, Journal, Limits, LoopFault, Notice, Ready, Received, Report,
+    Sent, Sockets, Times, Tools, serve_all,
 };
 use change_codec::NoKeeper;
 use clients::ConfigFault;
@@ -298,6 +298,18 @@ impl Clocks for Ticking {
 #[derive(Drop)]
 pub(super) struct Count {
     pub(super) faults: u32,
+    pub(super) reports: u64,
+    pub(super) last: Option<Report>,
+}
+
+impl Count {
+    pub(super) fn new() -> Count {
+        Count {
+            faults: 0,
+            reports: 0,
+            last: None,
+        }
+    }
 }
 
 impl Journal for Count {
@@ -305,38 +317,58 @@ impl Journal for Count {
 
     ghost notes = { λ _ _ _. ⊤ };
 
+    ghost reports = { λ _ _ _. ⊤ };
+
     fn note(&mut self, _fault: ConnectionFault) {
         self.faults = self.faults.saturating_add(1);
     }
+
+    fn report(&mut self, notice: &Notice) {
+        if let Notice::Reported(report) = notice {
+            self.reports = self.reports.saturating_add(1);
+            self.last = Some(*report);
+        }
+    }
 }
 
-/// So many connections come; the sockets, and how it ended.
-fn serves(
-    alloc: Global,
-    seed: u64,
-    to_come: u32,
-    failures: u64,
-) -> Result<(Fake, LoopFault), ConfigFault> {
+/// The sockets, the journal and the seconds that went by, and how it ended.
+#[derive(Drop)]
+struct Run {
+    sockets: Fake,
+    journal: Count,
+    seconds: u64,
+    fault: LoopFault,
+}
+
+/// So many connections come.
+fn serves(alloc: Global, seed: u64, to_come: u32, failures: u64) -> Result<Run, ConfigFault> {
     let mut tools = Tools {
         sockets: Fake::new(seed, to_come, failures),
         edge: new_edge(alloc)?,
         clocks: Ticking { steady: 0 },
         generator: ChaCha20Rng::from_seed([0; 32]),
-        journal: Count { faults: 0 },
+        journal: Count::new(),
         keeper: NoKeeper,
     };
     let limits = Limits {
         idle: u64::MAX,
         crowded: u64::MAX,
+        report: Some(5),
     };
     let fault = serve_all(&mut tools, limits);
-    Ok((tools.sockets, fault))
+    Ok(Run {
+        sockets: tools.sockets,
+        journal: tools.journal,
+        // The first look began it.
+        seconds: tools.clocks.steady.wrapping_sub(1),
+        fault,
+    })
 }
 
 #[test]
 fn all_requests_are_answered_through_short_reads_and_writes(rt: HostRuntime) -> Result<(), Fail> {
     for seed in 1..3u64 {
-        let Ok((sockets, fault)) = serves(rt.alloc(), seed, 80, 0) else {
+        let Ok(Run { sockets, fault, .. }) = serves(rt.alloc(), seed, 80, 0) else {
             return Err(Fail::from("no registry"));
         };
         assert_eq!(rt; fault, LoopFault::Wait);
@@ -349,7 +381,7 @@ fn all_requests_are_answered_through_short_reads_and_writes(rt: HostRuntime) -> 
 #[test]
 fn a_failure_ends_its_connection_alone(rt: HostRuntime) -> Result<(), Fail> {
     for seed in 1..3u64 {
-        let Ok((sockets, fault)) = serves(rt.alloc(), seed, 80, 50) else {
+        let Ok(Run { sockets, fault, .. }) = serves(rt.alloc(), seed, 80, 50) else {
             return Err(Fail::from("no registry"));
         };
         assert_eq!(rt; fault, LoopFault::Wait);
@@ -361,5 +393,33 @@ fn a_failure_ends_its_connection_alone(rt: HostRuntime) -> Result<(), Fail> {
             "seed {seed}"
         );
     }
+    Ok(())
+}
+
+#[test]
+fn reports_come_in_time_and_at_the_end(rt: HostRuntime) -> Result<(), Fail> {
+    let Ok(
+        Run {
+            sockets,
+            journal,
+            seconds,
+            ..
+        },
+    ) = serves(rt.alloc(), 1, 80, 0)
+    else {
+        return Err(Fail::from("no registry"));
+    };
+    assert_eq!(rt; journal.reports, (seconds / 5).saturating_add(1));
+    let Some(last) = journal.last else {
+        return Err(Fail::from("no report"));
+    };
+    assert_eq!(rt; [last.moment.get(), last.seconds], [1000, seconds]);
+    assert_eq!(rt; (last.open, last.accepted), (0, 80));
+    assert_eq!(rt; sockets.served, 80);
+    let (asked, replied) = (last.tally.asked, last.tally.replied);
+    assert!(rt; asked.nowhere > 80);
+    assert_eq!(rt; replied.not_found, asked.nowhere);
+    assert_eq!(rt; [last.records, last.consents, last.hooks], [0, 0, 0]);
+    assert!(rt; last.state.is_none());
     Ok(())
 }

@@ -142,3 +142,66 @@ fn a_piece_that_is_given_again(rt: HostRuntime) -> Result<(), Fail> {
     assert_eq!(rt; happen(&mut edge, &refused), Err(EdgeFault::DrawsShort));
     assert_again(&rt, &mut edge, "1 1000 00/00 GET /a\n1 = 404")
 }
+
+/// Grants that a hook denies, another method, and a path of no endpoint.
+const DENIALS: &str = r#"1 1299 00/00 POST /hooks?name=h2 | $OPERATOR | 0x$DENY
+1 = 200 {"name":"h2"}
+1 1299 06/07 POST /token | $APP | grant_type=refresh_token&refresh_token=$K5
+1 = 400 {"error":"invalid_grant"}
+1 1299 08/00 POST /token | $BOT | grant_type=client_credentials
+1 = 400 {"error":"unauthorized_client"}
+1 1299 08/00 POST /token | $APP | grant_type=client_credentials
+1 = 400 {"error":"unauthorized_client"}
+1 1299 00/00 GET /token
+1 = 405
+1 1299 00/00 GET /
+1 = 404
+"#;
+
+/// What is answered is counted, each 503 for want of memory too.
+#[test]
+fn answers_are_counted(rt: HostRuntime) -> Result<(), Fail> {
+    let alloc = rt.alloc();
+    let rules = again(|| registry(alloc))?;
+    let mut edge = edge(alloc, rules);
+    for rows in [GROWTHS, DENIALS] {
+        let rows = again(|| written_out(alloc, rows))?;
+        assert_again(&rt, &mut edge, rows.as_str())?;
+    }
+    let server = edge.server();
+    let (asked, replied, wanted) = (
+        server.tally().asked,
+        server.tally().replied,
+        server.tally().wanted,
+    );
+    let statuses = [
+        replied.ok,
+        replied.found,
+        replied.bad_request,
+        replied.not_found,
+        replied.not_allowed,
+    ];
+    assert_eq!(rt; statuses, [6, 1, 4, 1, 1]);
+    assert_eq!(rt; replied.unavailable, wanted.memory.saturating_add(1));
+    assert_eq!(rt;
+        [wanted.fresh_draw, wanted.store_room, wanted.consent_room],
+        [1, 0, 0]
+    );
+    assert_eq!(rt; server.tally().denied, 2);
+    if wanted.memory == 0 {
+        let paths = [
+            asked.authorize,
+            asked.consent,
+            asked.token,
+            asked.introspect,
+            asked.hook_installation,
+        ];
+        assert_eq!(rt; paths, [1, 1, 7, 1, 3]);
+    }
+    assert_eq!(rt; asked.nowhere, 1);
+    assert_eq!(rt;
+        [server.record_count(), server.consent_count(), server.hook_count()],
+        [5, 1, 2]
+    );
+    Ok(())
+}

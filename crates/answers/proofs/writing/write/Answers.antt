@@ -18,6 +18,9 @@ returns-in-Done-clause-short g c = λ _. written_short (plain 200 Empty) c.bare.
 pub returns-in-Failure-clause-short : goal.returns-in-Failure-clause-short
 returns-in-Failure-clause-short g c = λ _. if_short c.failure.result (plain (status_of c.in-Failure.error) (Failure c.in-Failure.error)) (failure_small c.in-Failure.error) (search rules)
 
+pub returns-in-Denied-clause-short : goal.returns-in-Denied-clause-short
+returns-in-Denied-clause-short g c = λ _. if_short c.failure-in-Denied.result (plain (status_of c.in-Denied.error) (Failure c.in-Denied.error)) (failure_small c.in-Denied.error) (search rules)
+
 pub returns-in-Unavailable-clause-short : goal.returns-in-Unavailable-clause-short
 returns-in-Unavailable-clause-short g c = λ _. written_short (plain 503 Empty) c.bare-in-Unavailable.result (record { status = refl; short = tt }) c.bare-in-Unavailable.ensures
 

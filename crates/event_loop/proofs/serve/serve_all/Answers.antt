@@ -22,7 +22,7 @@ returns g c = λ rules host schedule world reached.
     let past : Past = record { deeds = []; schedule = schedule; world = world } in
     let first : Scene g.row.N.Denot g.row.C.Denot g.row.J.Denot g.row.K.Denot g.row.H.Denot = scene_of c.new-service.result (record c.args.tools.now { clocks = c.read.new.self }) [] past in
     let is_first : IsFirst p rules host first =
-    record { size = c.new-service.ensures.size; free = c.new-service.ensures.free; found = refl; noted = c.new-service.ensures.noted; queue = c.new-service.ensures.queue; deeds = refl; reached = reached } in
+    record { size = c.new-service.ensures.size; free = c.new-service.ensures.free; found = refl; noted = c.new-service.ensures.noted; told = c.new-service.ensures.told ∙ sym (ap (λ (t : Times). record { report = t.steady; full = None }) c.new-service.ensures.times); queue = c.new-service.ensures.queue; deeds = refl; reached = reached } in
     let nobody : (limit : ℕ) → AreWithin limit c.new-service.result.times c.new-service.result.places = λ limit k place here taken. absurd (subst IsTaken (c.new-service.ensures.free k place here) taken) in
     let ready : IsReady c.new-service.result past = record {
       settled = λ k less. rested_settled k c.new-service.result past (λ none place here. free_rests place _ (c.new-service.ensures.free k place here)) (c.new-service.ensures.due k less);
@@ -33,6 +33,7 @@ returns g c = λ rules host schedule world reached.
     let failed = scene_of c.rounds-fault.new.self c.rounds-fault.new.tools wrong.found wrong.next in
     let last_reached = (served_answered p rules host first wrong.last wrong.served).reached in
     let shut = c.leave_all.ensures.shut rules host failed wrong.found wrong.next stops (fails_reached p rules host wrong.last failed _ wrong.fails last_reached) in
+    let told = c.tell_last.ensures rules host failed wrong.found shut.next shut.shuts shut.reached in
     inl (record {
       first = first;
       is_first = is_first;
@@ -47,9 +48,9 @@ returns g c = λ rules host schedule world reached.
       durable = λ held. served_durable p rules host g.met.K.Keeper.only_now first held;
       failed = failed;
       fails = wrong.fails;
-      end = scene_of c.leave_all.new.self c.leave_all.new.tools wrong.found shut.next;
-      shuts = shut.shuts;
-      durable_then = λ held s served on. durable_to_end p rules host g.met.K.Keeper.only_now first held s wrong.last failed _ _ served on wrong.fails shut.shuts;
+      end = scene_of c.leave_all.new.self c.tell_last.new.tools wrong.found told.next;
+      shuts = told.shuts;
+      durable_then = λ held s served on. durable_to_end p rules host g.met.K.Keeper.only_now first held s wrong.last failed _ _ served on wrong.fails told.shuts;
       free = c.leave_all.ensures.free;
       tools_are_then = record { sockets = refl; clocks = refl; journal = refl; keeper = refl; edge = refl; generator = refl };
     })

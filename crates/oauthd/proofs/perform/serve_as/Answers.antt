@@ -51,7 +51,7 @@ returns-clause-fault g c =
             codes = map fact_of c.in_ok-chain.field-0.codes.items;
             coded = coded;
             cause = c.match-state.fault;
-            started = anew _ _ _ _ none (rw w.fault-is (rw (c.silence.ensures, c.full.ensures) at w.in_ok-fault-in-None.ensures.serves));
+            started = anew _ _ _ _ none (rw w.fault-is (rw (c.silence.ensures, c.full.ensures, c.report.ensures) at w.in_ok-fault-in-None.ensures.serves));
             fault_is = refl;
           })
       | in-Some+in_ok-server-in-Some+in_ok-fault-in-Some w ↦
@@ -69,7 +69,7 @@ returns-clause-fault g c =
             started = on_state _ _ _ _ _ named (record {
               started = w.in_ok-server-in-Some.field-0;
               comes = comes_of _ c.in_ok-registry.registry w.in_ok-server-in-Some.field-0 w.deref-in-Some.result.now c.in_ok-chain.field-0.codes.items same w.in_ok-server-in-Some.ensures.started;
-              gone_on = rw w.fault-is (rw (c.silence.ensures, c.full.ensures) at w.in_ok-fault-in-Some.ensures.serves);
+              gone_on = rw w.fault-is (rw (c.silence.ensures, c.full.ensures, c.report.ensures) at w.in_ok-fault-in-Some.ensures.serves);
             });
             fault_is = refl;
           })

@@ -67,7 +67,7 @@ returns-clause-goes g c = λ rules host first past h ready.
     let told = c.hear_all.ensures rules host first since waited (λ k less. (ready.settled k less).rested) in
     let read = c.read_all.ensures rules host first [] since (λ task is. is) told.1 told.0 in
     let written = kept_then p rules host first [] since c.read_all.new.self c.write_all.new.self c.read_all.new.tools c.keep_all.new.tools c.write_all.new.tools read c.in_default-keep_all.ensures.kept c.write_all.ensures in
-    let on = to_then p [] [] [] _ _ _ _ _ _ (c.tidy.ensures.leads []) (c.make_room.ensures.leads []) rules host first written.next written.served written.below in
+    let on = to_then p [] [] [] _ _ _ _ _ _ (c.tell.ensures []) (to_then p [] [] [] _ _ _ _ _ _ (c.tidy.ensures.leads []) (c.make_room.ensures.leads [])) rules host first written.next written.served written.below in
     let admitted = c.admit_all.ensures.leads [] rules host first on.next on.served on.settled in
     record {
       next = admitted.goes.next;

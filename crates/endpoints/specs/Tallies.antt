@@ -1,0 +1,67 @@
+-- How requests are counted.
+use Rattle.std.specs.Prelude.{ℕ, ◌+◌, ◌-◌, ◌^◌, ◌==◌, min, if◌then◌else◌, Option, Some, None}
+use Rattle.answers.specs.declared.answer.Answer.{Answer}
+use Rattle.answers.specs.declared.answer.Answer.TheVariants as answer
+use Rattle.answers.specs.declared.want.Want.{Want}
+use Rattle.answers.specs.declared.want.Want.TheVariants.{Memory, StoreRoom, FreshDraw, ConsentRoom, Client}
+use Rattle.endpoints.specs.declared.endpoint.Endpoint.{Endpoint}
+use Rattle.endpoints.specs.declared.endpoint.Endpoint.TheVariants.{Authorize, GiveConsent, IssueToken, RevokeToken, Introspect, InstallHook, RemoveHook, ListHooks}
+use Rattle.endpoints.specs.declared.tally.Asked.{Asked}
+use Rattle.endpoints.specs.declared.tally.Replied.{Replied}
+use Rattle.endpoints.specs.declared.tally.Wanted.{Wanted}
+use Rattle.endpoints.specs.declared.tally.Tally.{Tally}
+use Rattle.endpoints.specs.declared.tally.Cause.{Cause}
+use Rattle.endpoints.specs.declared.tally.Cause.TheVariants.{Wants, Denied}
+
+-- a count, which stops at the greatest number
+abbrev pub one_more : ℕ → ℕ
+one_more count = min (count + 1) (2 ^ 64 - 1)
+
+-- what an answer tells of why it is given
+abbrev pub cause_of : Answer → Option Cause
+cause_of (answer.Unavailable want) = Some (Wants want)
+cause_of (answer.Denied error) = Some Denied
+cause_of other = None
+
+-- one more request at the endpoint, or at a path of none
+abbrev pub asked_at : Asked → Option Endpoint → Asked
+asked_at asked (Some Authorize) = record asked { authorize = one_more asked.authorize }
+asked_at asked (Some GiveConsent) = record asked { consent = one_more asked.consent }
+asked_at asked (Some IssueToken) = record asked { token = one_more asked.token }
+asked_at asked (Some RevokeToken) = record asked { revoke = one_more asked.revoke }
+asked_at asked (Some Introspect) = record asked { introspect = one_more asked.introspect }
+asked_at asked (Some InstallHook) = record asked { hook_installation = one_more asked.hook_installation }
+asked_at asked (Some RemoveHook) = record asked { hook_removal = one_more asked.hook_removal }
+asked_at asked (Some ListHooks) = record asked { hook_list = one_more asked.hook_list }
+asked_at asked None = record asked { nowhere = one_more asked.nowhere }
+
+-- one more reply of the status
+abbrev pub replied : Replied → ℕ → Replied
+replied r status =
+    if status == 200 then record r { ok = one_more r.ok }
+    else (if status == 302 then record r { found = one_more r.found }
+    else (if status == 400 then record r { bad_request = one_more r.bad_request }
+    else (if status == 401 then record r { unauthorized = one_more r.unauthorized }
+    else (if status == 403 then record r { forbidden = one_more r.forbidden }
+    else (if status == 404 then record r { not_found = one_more r.not_found }
+    else (if status == 405 then record r { not_allowed = one_more r.not_allowed }
+    else (if status == 503 then record r { unavailable = one_more r.unavailable } else r)))))))
+
+-- one more 503, for that
+abbrev pub wanted : Wanted → Want → Wanted
+wanted w Memory = record w { memory = one_more w.memory }
+wanted w StoreRoom = record w { store_room = one_more w.store_room }
+wanted w FreshDraw = record w { fresh_draw = one_more w.fresh_draw }
+wanted w ConsentRoom = record w { consent_room = one_more w.consent_room }
+wanted w Client = record w { client = one_more w.client }
+
+-- with the cause, if there is one
+abbrev pub with_cause : Tally → Option Cause → Tally
+with_cause tally (Some (Wants want)) = record tally { wanted = wanted tally.wanted want }
+with_cause tally (Some Denied) = record tally { denied = one_more tally.denied }
+with_cause tally None = tally
+
+-- one more request was answered
+abbrev pub counted : Tally → Option Endpoint → ℕ → Option Cause → Tally
+counted tally endpoint status cause =
+    with_cause (record tally { asked = asked_at tally.asked endpoint; replied = replied tally.replied status }) cause

@@ -1,0 +1,197 @@
+//! How many requests were answered, and how.
+ghost use Rattle.std.specs.Prelude.{◌≡◌};
+ghost use Rattle.endpoints.specs.Tallies.{asked_at, cause_of, counted, one_more, replied, wanted};
+
+use crate::endpoint::Endpoint;
+use answers::{Answer, Want};
+use http::StatusCode;
+
+/// How many requests there were at each endpoint.
+#[derive(Clone, Copy)]
+pub struct Asked {
+    pub authorize: u64,
+    pub consent: u64,
+    pub token: u64,
+    pub revoke: u64,
+    pub introspect: u64,
+    pub hook_installation: u64,
+    pub hook_removal: u64,
+    pub hook_list: u64,
+    /// At paths of no endpoint.
+    pub nowhere: u64,
+}
+
+/// How many replies there were of each status.
+#[derive(Clone, Copy)]
+pub struct Replied {
+    pub ok: u64,
+    pub found: u64,
+    pub bad_request: u64,
+    pub unauthorized: u64,
+    pub forbidden: u64,
+    pub not_found: u64,
+    pub not_allowed: u64,
+    pub unavailable: u64,
+}
+
+/// How many replies were 503, by what was wanting.
+#[derive(Clone, Copy)]
+pub struct Wanted {
+    pub memory: u64,
+    pub store_room: u64,
+    pub fresh_draw: u64,
+    pub consent_room: u64,
+    pub client: u64,
+}
+
+/// How many requests were answered, and how. Each count stops at the greatest number.
+#[derive(Clone, Copy)]
+pub struct Tally {
+    pub asked: Asked,
+    pub replied: Replied,
+    pub wanted: Wanted,
+    /// How many grants a hook denied.
+    pub denied: u64,
+}
+
+/// Why a reply is what it is, where its status doesn't tell.
+#[derive(Clone, Copy)]
+pub(crate) enum Cause {
+    /// That is wanting.
+    Wants(Want),
+    /// A hook denied the grant.
+    Denied,
+}
+
+impl Cause {
+    /// The cause that an answer tells of, if it does.
+    pub(crate) fn of(answer: &Answer<'_>) -> Option<Cause>
+        ensures { result ≡ cause_of answer.now }
+    {
+        match answer {
+            Answer::Unavailable(want) => Some(Cause::Wants(*want)),
+            Answer::Denied(_) => Some(Cause::Denied),
+            _ => None,
+        }
+    }
+}
+
+fn one_more(count: u64) -> u64
+    ensures { result ≡ one_more count }
+{
+    count.saturating_add(1)
+}
+
+impl Asked {
+    // With one more at the endpoint, or at none.
+    fn at(self, endpoint: Option<Endpoint>) -> Asked
+        ensures { result ≡ asked_at self endpoint }
+    {
+        let mut asked = self;
+        match endpoint {
+            Some(Endpoint::Authorize) => asked.authorize = one_more(asked.authorize),
+            Some(Endpoint::GiveConsent) => asked.consent = one_more(asked.consent),
+            Some(Endpoint::IssueToken) => asked.token = one_more(asked.token),
+            Some(Endpoint::RevokeToken) => asked.revoke = one_more(asked.revoke),
+            Some(Endpoint::Introspect) => asked.introspect = one_more(asked.introspect),
+            Some(Endpoint::InstallHook) => {
+                asked.hook_installation = one_more(asked.hook_installation)
+            }
+            Some(Endpoint::RemoveHook) => asked.hook_removal = one_more(asked.hook_removal),
+            Some(Endpoint::ListHooks) => asked.hook_list = one_more(asked.hook_list),
+            None => asked.nowhere = one_more(asked.nowhere),
+        }
+        asked
+    }
+}
+
+impl Replied {
+    // With one more of the status.
+    fn with(self, status: StatusCode) -> Replied
+        ensures { result ≡ replied self status }
+    {
+        let mut replied = self;
+        match status.as_u16() {
+            200 => replied.ok = one_more(replied.ok),
+            302 => replied.found = one_more(replied.found),
+            400 => replied.bad_request = one_more(replied.bad_request),
+            401 => replied.unauthorized = one_more(replied.unauthorized),
+            403 => replied.forbidden = one_more(replied.forbidden),
+            404 => replied.not_found = one_more(replied.not_found),
+            405 => replied.not_allowed = one_more(replied.not_allowed),
+            503 => replied.unavailable = one_more(replied.unavailable),
+            _ => {}
+        }
+        replied
+    }
+}
+
+impl Wanted {
+    // With one more where that was wanting.
+    fn with(self, want: Want) -> Wanted
+        ensures { result ≡ wanted self want }
+    {
+        let mut wanted = self;
+        match want {
+            Want::Memory => wanted.memory = one_more(wanted.memory),
+            Want::StoreRoom => wanted.store_room = one_more(wanted.store_room),
+            Want::FreshDraw => wanted.fresh_draw = one_more(wanted.fresh_draw),
+            Want::ConsentRoom => wanted.consent_room = one_more(wanted.consent_room),
+            Want::Client => wanted.client = one_more(wanted.client),
+        }
+        wanted
+    }
+}
+
+impl Tally {
+    /// Nothing was answered yet.
+    pub(crate) const NONE: Tally = Tally {
+        asked: Asked {
+            authorize: 0,
+            consent: 0,
+            token: 0,
+            revoke: 0,
+            introspect: 0,
+            hook_installation: 0,
+            hook_removal: 0,
+            hook_list: 0,
+            nowhere: 0,
+        },
+        replied: Replied {
+            ok: 0,
+            found: 0,
+            bad_request: 0,
+            unauthorized: 0,
+            forbidden: 0,
+            not_found: 0,
+            not_allowed: 0,
+            unavailable: 0,
+        },
+        wanted: Wanted {
+            memory: 0,
+            store_room: 0,
+            fresh_draw: 0,
+            consent_room: 0,
+            client: 0,
+        },
+        denied: 0,
+    };
+
+    /// One more request was answered at the endpoint, or at none, with the status, for the cause.
+    pub(crate) fn count(
+        &mut self,
+        endpoint: Option<Endpoint>,
+        status: StatusCode,
+        cause: Option<Cause>,
+    )
+        ensures { self.new ≡ counted self.old endpoint status cause }
+    {
+        self.asked = self.asked.at(endpoint);
+        self.replied = self.replied.with(status);
+        match cause {
+            Some(Cause::Wants(want)) => self.wanted = self.wanted.with(want),
+            Some(Cause::Denied) => self.denied = one_more(self.denied),
+            None => {}
+        }
+    }
+}

@@ -1,0 +1,10 @@
+use Rattle.event_loop.specs.Scenes.{promises}
+use Rattle.event_loop.proofs.Leading.{nowhere, to_then}
+use Rattle.event_loop.proofs.service.Service.tell.Goals as goal
+
+pub returns-in_default : goal.returns-in_default
+returns-in_default g c = λ found. nowhere (promises g.N.Sockets g.C.Clocks g.J.Journal g.K.Keeper g.H.HookHost) found _ _
+
+pub returns : goal.returns
+returns g c = λ found.
+    to_then (promises g.N.Sockets g.C.Clocks g.J.Journal g.K.Keeper g.H.HookHost) found found found _ _ _ _ _ _ (c.tell_full.ensures.leads found) (c.tell_report.ensures found)

@@ -1,0 +1,27 @@
+-- What the journal is told of the server, and when.
+use Rattle.std.specs.Prelude.{◌≡◌, ◌≤◌, ◌-◌, ℕ, Bool, true, nat_le, Option, Some, None, length}
+use Rattle.event_loop.specs.declared.report.LastTold.{LastTold}
+use Rattle.event_loop.specs.declared.report.Notice.{Notice}
+use Rattle.event_loop.specs.declared.report.Notice.TheVariants.{Reported, StoreFull}
+use Rattle.event_loop.specs.declared.report.Report.{Report}
+use Rattle.event_loop.specs.Scenes.{Promises, Scene}
+
+-- a report tells the moment, and how much the server keeps
+pub record Tells {N C J K H : Type 0} (p : Promises N C J K H) (s : Scene N C J K H) (report : Report) : Type 0 where
+  pub moment : report.moment ≡ s.times.moment
+  pub records : report.records ≡ length s.course.edge.server.store.kept
+  pub consents : report.consents ≡ length s.course.edge.server.consents.masks
+  pub hooks : report.hooks ≡ length (p.hosting.names s.course.edge.server.host)
+
+-- that was never, or so many seconds ago
+abbrev pub is_long_ago : Option ℕ → ℕ → ℕ → Bool
+is_long_ago None now seconds = true
+is_long_ago (Some last) now seconds = nat_le seconds (now - last)
+
+-- Where reports are wanted: of what the server does, once so many seconds have passed since the last one, and of a full store
+-- at most once a minute.
+pub data IsDue {N C J K H : Type 0} (p : Promises N C J K H) (s : Scene N C J K H) : Notice → LastTold → Type 0 where
+  reported : (every : ℕ) (report : Report) → s.limits.report ≡ Some every → every ≤ s.times.steady - s.told.report → Tells p s report →
+      IsDue p s (Reported report) (record s.told { report = s.times.steady })
+  full : (every : ℕ) → s.limits.report ≡ Some every → is_long_ago s.told.full s.times.steady 60 ≡ true →
+      IsDue p s StoreFull (record s.told { full = Some s.times.steady })

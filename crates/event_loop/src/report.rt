@@ -1,0 +1,45 @@
+//! What is told of a server while it runs.
+
+use consent::Moment;
+use endpoints::Tally;
+
+/// What a server has done so far, and what it keeps.
+#[derive(Clone, Copy)]
+pub struct Report {
+    /// The moment that it is.
+    pub moment: Moment,
+    /// For how many seconds it has served.
+    pub seconds: u64,
+    /// How many connections are there.
+    pub open: u32,
+    /// How many came.
+    pub accepted: u64,
+    /// How many requests were answered, and how.
+    pub tally: Tally,
+    /// How many codes and tokens it has in memory.
+    pub records: usize,
+    /// How many consents it keeps.
+    pub consents: usize,
+    /// How many hooks it has.
+    pub hooks: usize,
+    /// How many bytes the file of its state has, where there is one.
+    pub state: Option<u64>,
+}
+
+/// What the journal is told of a server that goes on.
+#[derive(Clone, Copy)]
+pub enum Notice {
+    /// What it has done so far, and what it keeps.
+    Reported(Report),
+    /// A code or a token was wanted, and no more may be unexpired.
+    StoreFull,
+}
+
+/// When the journal was told last, in steady seconds.
+#[derive(Clone, Copy)]
+pub struct LastTold {
+    /// What the server has done: when it began, where that was not told yet.
+    pub(crate) report: u64,
+    /// That the store was full.
+    pub(crate) full: Option<u64>,
+}

@@ -1,0 +1,126 @@
+//! Telling what the server does.
+ghost use Rattle.std.specs.Prelude.{◌≡◌, List, Some, IfSome, IsSome};
+ghost use Rattle.event_loop.specs.declared.sockets.Ready.{Ready};
+ghost use Rattle.event_loop.specs.Goes.{LeadsShut, LeadsTo, Past, scene_of};
+ghost use Rattle.event_loop.specs.Reporting.{Tells, is_long_ago};
+ghost use Rattle.event_loop.specs.Scenes.{promises};
+
+use crate::clocks::Clocks;
+use crate::journal::Journal;
+use crate::limits::{MINUTE, PLACES};
+use crate::report::{Notice, Report};
+use crate::service::Service;
+use crate::sockets::Sockets;
+use crate::tools::Tools;
+use change_codec::Keeper;
+use hook_host::HookHost;
+
+// Whether that was never, or so many seconds ago.
+fn is_long_ago(last: Option<u64>, now: u64, seconds: u64) -> bool
+    ensures { result ≡ is_long_ago last now seconds }
+{
+    match last {
+        Some(last) => now.saturating_sub(last) >= seconds,
+        None => true,
+    }
+}
+
+impl Service {
+    // How many connections are there.
+    fn open_count(&self) -> u32 {
+        let mut count: u32 = 0;
+        for k in 0..PLACES {
+            if self.place_at(k).stage.is_taken() {
+                count = count.saturating_add(1);
+            }
+        }
+        count
+    }
+
+    // What there is to report.
+    fn report_now<N: Sockets, C: Clocks, J: Journal, K: Keeper, H: HookHost>(
+        &self,
+        tools: &Tools<N, C, J, K, H>,
+    ) -> Report
+        ensures { (found : List Ready) (past : Past) → Tells (promises N.Sockets C.Clocks J.Journal K.Keeper H.HookHost) (scene_of self.now tools.now found past) result }
+    {
+        let server = tools.edge.server();
+        Report {
+            moment: self.times.moment,
+            seconds: self.times.steady.saturating_sub(self.began),
+            open: self.open_count(),
+            accepted: self.accepted,
+            tally: *server.tally(),
+            records: server.record_count(),
+            consents: server.consent_count(),
+            hooks: server.hook_count(),
+            state: tools.keeper.size(),
+        }
+    }
+
+    // Where reports are wanted, the journal is told that the store was full, unless it was within a minute.
+    fn tell_full<N: Sockets, C: Clocks, J: Journal, K: Keeper, H: HookHost>(
+        &mut self,
+        tools: &mut Tools<N, C, J, K, H>,
+    )
+        requires wanted { IsSome self.old.limits.report }
+        ensures leads { (found : List Ready) → LeadsTo (promises N.Sockets C.Clocks J.Journal K.Keeper H.HookHost) found self.old tools.old found self.new tools.new }
+        ensures limits { self.new.limits ≡ self.old.limits }
+    {
+        let full = tools.edge.server().tally().wanted.store_room;
+        if full == self.full {
+            return;
+        }
+        self.full = full;
+        if !is_long_ago(self.told.full, self.times.steady, MINUTE) {
+            return;
+        }
+        tools.journal.report(&Notice::StoreFull);
+        self.told.full = Some(self.times.steady);
+    }
+
+    // And what there is to report, unless so many seconds have not passed.
+    fn tell_report<N: Sockets, C: Clocks, J: Journal, K: Keeper, H: HookHost>(
+        &mut self,
+        tools: &mut Tools<N, C, J, K, H>,
+        every: u64,
+    )
+        requires wanted { self.old.limits.report ≡ Some every }
+        ensures { (found : List Ready) → LeadsTo (promises N.Sockets C.Clocks J.Journal K.Keeper H.HookHost) found self.old tools.old found self.new tools.new }
+    {
+        if self.times.steady.saturating_sub(self.told.report) < every {
+            return;
+        }
+        let report = self.report_now(tools);
+        tools.journal.report(&Notice::Reported(report));
+        self.told.report = self.times.steady;
+    }
+
+    /// Where reports are wanted, the journal is told what is due.
+    pub(crate) fn tell<N: Sockets, C: Clocks, J: Journal, K: Keeper, H: HookHost>(
+        &mut self,
+        tools: &mut Tools<N, C, J, K, H>,
+    )
+        ensures { (found : List Ready) → LeadsTo (promises N.Sockets C.Clocks J.Journal K.Keeper H.HookHost) found self.old tools.old found self.new tools.new }
+    {
+        let Some(every) = self.limits.report else {
+            return;
+        };
+        self.tell_full(tools);
+        self.tell_report(tools, every);
+    }
+
+    /// Where reports are wanted, there is a last one.
+    pub(crate) fn tell_last<N: Sockets, C: Clocks, J: Journal, K: Keeper, H: HookHost>(
+        &self,
+        tools: &mut Tools<N, C, J, K, H>,
+    )
+        ensures { LeadsShut (promises N.Sockets C.Clocks J.Journal K.Keeper H.HookHost) self.now tools.old self.now tools.new }
+    {
+        let Some(_every) = self.limits.report else {
+            return;
+        };
+        let report = self.report_now(tools);
+        tools.journal.report(&Notice::Reported(report));
+    }
+}
