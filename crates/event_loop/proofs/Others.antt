@@ -8,7 +8,7 @@ use Rattle.clients.specs.RegistryRecord.{RegistryRecord}
 use Rattle.messages.specs.declared.request.Draws.{Draws}
 use Rattle.http_edge.specs.Answers.{Mark}
 use Rattle.http_edge.specs.Schedule.{World, Connection, Comes, Passes, Opens, Ends, Takes, TakesNothing, Forgets, connection_at, with_connection, without_connection, fresh}
-use Rattle.serving.proofs.Connections.{found_number}
+use Rattle.http_edge.proofs.Connections.{found_number}
 
 -- a number that is one is no other
 pub no_other : (n c d : ℕ) → (n == c) ≡ true → d ≢ c → (n == d) ≡ false

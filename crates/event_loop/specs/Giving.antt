@@ -9,12 +9,9 @@ use Rattle.http_edge.specs.Reached.{PieceGoesOn, is_closing}
 use Rattle.http_edge.specs.Refusals.{IsPieceRefusal}
 use Rattle.http_edge.specs.declared.fault.EdgeFault.{EdgeFault}
 use Rattle.http_edge.specs.declared.fault.EdgeFault.TheVariants.{TooManyRequests, DrawsShort}
-use Rattle.serving.specs.Chance.{next_draws, moved}
+use Rattle.http_edge.specs.Chance.{next_draws, moved}
+use Rattle.http_edge.specs.Pieces.{draws_limit}
 use Rattle.event_loop.specs.Courses.{Course, known, led}
-
--- so many draws may a piece have
-abbrev pub draws_limit : ℕ
-draws_limit = 64
 
 -- where a piece completes too many requests, it is given in cuts of so many bytes
 abbrev pub cut_limit : ℕ

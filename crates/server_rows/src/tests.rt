@@ -24,6 +24,7 @@ mod order;
 mod owner_grants;
 mod parameters;
 mod registries;
+mod served_streams;
 mod store;
 mod streams;
 mod tokens;

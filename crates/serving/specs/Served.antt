@@ -8,7 +8,7 @@ use Rattle.http_edge.specs.Lanes.{lane_at}
 use Rattle.http_edge.specs.Edges.{SeenEdge, output_of}
 use Rattle.http_edge.specs.Refusals.{IsOpeningRefusal, IsPieceRefusal, IsEndingRefusal}
 use Rattle.http_edge.specs.Reached.{Reached, Leads, PieceLeads, is_closing}
-use Rattle.serving.specs.Chance.{next_draws, moved}
+use Rattle.http_edge.specs.Chance.{next_draws, moved}
 use Rattle.serving.specs.Streams.{Doing, Received, ReadFailed, Sent, WriteFailed}
 use Rattle.http_edge.specs.declared.fault.EdgeFault.{EdgeFault}
 use Rattle.http_edge.specs.declared.fault.EdgeFault.TheVariants.{DrawsShort}
@@ -26,10 +26,6 @@ piece_limit = 512
 -- so many pieces are read of one connection at most
 abbrev pub read_limit : ℕ
 read_limit = 1048576
-
--- so many draws are a piece's, of 16 words each
-abbrev pub draws_limit : ℕ
-draws_limit = 64
 
 -- what a connection is served with
 pub record Scene (H S C : Type 0) : Type 0 where
@@ -54,11 +50,6 @@ MayWrite (Reading n) = ⊤
 MayWrite Ended = ⊤
 MayWrite stage = ⊥
 
--- it holds of the connections, wherever the edge was reached
-abbrev pub WhereReached : {H : Type 0} → Hosting H → SeenEdge H → (List Connection → Type 0) → Type 0
-WhereReached hosting edge P =
-    (rules : RegistryRecord) (first : _) (schedule : List Happening) (world : World) → Reached hosting edge rules first schedule world → P world.connections
-
 -- the connection had the 400 of a faulty head, or not
 abbrev pub ClosingIs : {H : Type 0} → Hosting H → SeenEdge H → ℕ → Bool → Type 0
 ClosingIs hosting edge c closing = WhereReached hosting edge (λ connections. closing ≡ is_closing (connection_at connections c))
@@ -67,20 +58,6 @@ ClosingIs hosting edge c closing = WhereReached hosting edge (λ connections. cl
 pub record IsAttentive {H : Type 0} (hosting : Hosting H) (edge : SeenEdge H) (c : ℕ) : Type 0 where
   pub written : output_of edge c ≡ []
   pub stays : ClosingIs hosting edge c false
-
--- A piece was given to the edge with the next draws of a generator, or refused. The generator stands right behind them.
-pub record PieceGiven {H : Type 0} (hosting : Hosting H) (old new : SeenEdge H) (c : ℕ) (piece : List ℕ) (moment : ℕ) (g g' : ChaCha) : Type 0 where
-  pub count : ℕ
-  pub few : count ≤ draws_limit
-  pub leads : PieceLeads hosting old new c piece moment (next_draws g count)
-  pub after : g' ≡ moved g (16 * count)
-
-pub record PieceRefused {H : Type 0} (hosting : Hosting H) (edge : SeenEdge H) (c : ℕ) (piece : List ℕ) (g g' : ChaCha) (fault : EdgeFault) : Type 0 where
-  pub count : ℕ
-  pub few : count ≤ draws_limit
-  pub enough : fault ≡ DrawsShort → count ≡ draws_limit
-  pub refused : WhereReached hosting edge (λ connections. IsPieceRefusal fault connections c piece (next_draws g count))
-  pub after : g' ≡ moved g (16 * count)
 
 -- fronts of the output are written, one after another, and just as much is taken
 pub data Writes {H S : Type 0} (hosting : Hosting H) (does : S → Doing → S → Type 0) (c : ℕ) (first : SeenEdge H) (start : S) : SeenEdge H → S → Type 0 where
