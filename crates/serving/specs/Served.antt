@@ -66,12 +66,14 @@ pub data Writes {H S : Type 0} (hosting : Hosting H) (does : S → Doing → S �
       does s (Sent (take n (output_of e c))) s' → Leads hosting e e' (Taken c n) → Writes hosting does c first start e' s'
 
 -- all of it
-pub record IsWritten {H S : Type 0} (hosting : Hosting H) (does : S → Doing → S → Type 0) (c : ℕ) (e : SeenEdge H) (s : S) (e' : SeenEdge H) (s' : S) : Type 0 where
+pub record IsWritten {H S : Type 0} (hosting : Hosting H) (does : S → Doing → S →
+    Type 0) (c : ℕ) (e : SeenEdge H) (s : S) (e' : SeenEdge H) (s' : S) : Type 0 where
   pub writes : Writes hosting does c e s e' s'
   pub all : output_of e' c ≡ []
 
 -- not all of it, and then a write fails or takes no byte
-pub record WriteFails {H S : Type 0} (hosting : Hosting H) (does : S → Doing → S → Type 0) (c : ℕ) (e : SeenEdge H) (s : S) (e' : SeenEdge H) (s' : S) : Type 0 where
+pub record WriteFails {H S : Type 0} (hosting : Hosting H) (does : S → Doing → S →
+    Type 0) (c : ℕ) (e : SeenEdge H) (s : S) (e' : SeenEdge H) (s' : S) : Type 0 where
   pub before : S
   pub writes : Writes hosting does c e s e' before
   pub some_left : 0 < length (output_of e' c)
@@ -81,17 +83,21 @@ abbrev pub at : {H S C : Type 0} → SeenEdge H → S → C → ChaCha → Scene
 at edge stream clock g = record { edge = edge; stream = stream; clock = clock; generator = g }
 
 -- What may be done at a stage, and the stage that comes of it. Each piece that was read takes 64 draws of 16 words.
-pub data Step {H S C : Type 0} (hosting : Hosting H) (does : S → Doing → S → Type 0) (tells : C → Option ℕ → C → Type 0) (c : ℕ) : Stage → Scene H S C → Stage → Scene H S C → Type 0 where
+pub data Step {H S C : Type 0} (hosting : Hosting H) (does : S → Doing → S → Type 0) (tells : C → Option ℕ → C → Type 0) (c : ℕ) : Stage → Scene H S C →
+    Stage → Scene H S C → Type 0 where
   opens : {e e' : SeenEdge H} {s : S} {k : C} {g : ChaCha} → Leads hosting e e' (Opened c) →
       Step hosting does tells c Coming (at e s k g) (Reading 0) (at e' s k g)
   denies : {e : SeenEdge H} {s : S} {k : C} {g : ChaCha} (fault : EdgeFault) → WhereReached hosting e (λ connections. IsOpeningRefusal fault connections c) →
       Step hosting does tells c Coming (at e s k g) (Left (Some (Fault.Refused fault))) (at e s k g)
   -- a piece was read, and given at the moment that the clock told
   hears : {e e' : SeenEdge H} {s s' : S} {k k' : C} {g behind g' : ChaCha} (n : ℕ) (piece : List ℕ) (moment : ℕ) → n < read_limit → IsAttentive hosting e c →
-      0 < length piece → length piece ≤ piece_limit → does s (Received piece) s' → tells k (Some moment) k' → PieceGiven hosting e e' c piece moment g behind → g' ≡ moved g 1024 →
+      0 < length piece → length piece ≤ piece_limit → does s (Received piece) s' → tells k (Some moment) k' →
+          PieceGiven hosting e e' c piece moment g behind → g' ≡ moved g 1024 →
       Step hosting does tells c (Reading n) (at e s k g) (Reading (n + 1)) (at e' s' k' g')
-  refuses : {e : SeenEdge H} {s s' : S} {k k' : C} {g behind g' : ChaCha} (n : ℕ) (piece : List ℕ) (moment : ℕ) (fault : EdgeFault) → n < read_limit → IsAttentive hosting e c →
-      0 < length piece → length piece ≤ piece_limit → does s (Received piece) s' → tells k (Some moment) k' → PieceRefused hosting e c piece g behind fault → g' ≡ moved g 1024 →
+  refuses : {e : SeenEdge H} {s s' : S} {k k' : C} {g behind g' : ChaCha} (n : ℕ) (piece : List ℕ) (moment : ℕ) (fault : EdgeFault) → n < read_limit →
+      IsAttentive hosting e c →
+      0 < length piece → length piece ≤ piece_limit → does s (Received piece) s' → tells k (Some moment) k' → PieceRefused hosting e c piece g behind fault →
+          g' ≡ moved g 1024 →
       Step hosting does tells c (Reading n) (at e s k g) (Served (Some (Fault.Refused fault))) (at e s' k' g')
   loses_time : {e : SeenEdge H} {s s' : S} {k k' : C} {g g' : ChaCha} (n : ℕ) (piece : List ℕ) → n < read_limit → IsAttentive hosting e c →
       0 < length piece → length piece ≤ piece_limit → does s (Received piece) s' → tells k None k' → g' ≡ moved g 1024 →
@@ -107,7 +113,8 @@ pub data Step {H S C : Type 0} (hosting : Hosting H) (does : S → Doing → S �
       Step hosting does tells c (Reading n) (at e s k g) (Served None) (at e s k g)
   ends : {e e' : SeenEdge H} {s : S} {k : C} {g : ChaCha} → Leads hosting e e' (HasEnded c) →
       Step hosting does tells c Finished (at e s k g) Ended (at e' s k g)
-  ends_nothing : {e : SeenEdge H} {s : S} {k : C} {g : ChaCha} (fault : EdgeFault) → WhereReached hosting e (λ connections. IsEndingRefusal fault connections c) →
+  ends_nothing : {e : SeenEdge H} {s : S} {k : C} {g : ChaCha} (fault : EdgeFault) →
+      WhereReached hosting e (λ connections. IsEndingRefusal fault connections c) →
       Step hosting does tells c Finished (at e s k g) (Served (Some (Fault.Refused fault))) (at e s k g)
   is_over : {e : SeenEdge H} {s : S} {k : C} {g : ChaCha} → output_of e c ≡ [] →
       Step hosting does tells c Ended (at e s k g) (Served None) (at e s k g)
@@ -119,9 +126,11 @@ pub data Step {H S C : Type 0} (hosting : Hosting H) (does : S → Doing → S �
       Step hosting does tells c (Served fault) (at e s k g) (Left fault) (at e' s k g)
 
 -- step by step
-pub data Runs {H S C : Type 0} (hosting : Hosting H) (does : S → Doing → S → Type 0) (tells : C → Option ℕ → C → Type 0) (c : ℕ) (first_stage : Stage) (first : Scene H S C) : Stage → Scene H S C → Type 0 where
+pub data Runs {H S C : Type 0} (hosting : Hosting H) (does : S → Doing → S → Type 0) (tells : C → Option ℕ → C →
+    Type 0) (c : ℕ) (first_stage : Stage) (first : Scene H S C) : Stage → Scene H S C → Type 0 where
   begins : Runs hosting does tells c first_stage first first_stage first
-  goes : {stage stage' : Stage} {old new : Scene H S C} → Runs hosting does tells c first_stage first stage old → Step hosting does tells c stage old stage' new →
+  goes : {stage stage' : Stage} {old new : Scene H S C} → Runs hosting does tells c first_stage first stage old →
+      Step hosting does tells c stage old stage' new →
       Runs hosting does tells c first_stage first stage' new
 
 -- whatever led to the one stage and scene, steps lead on to the other
