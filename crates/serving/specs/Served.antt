@@ -8,7 +8,8 @@ use Rattle.http_edge.specs.Lanes.{lane_at}
 use Rattle.http_edge.specs.Edges.{SeenEdge, output_of}
 use Rattle.http_edge.specs.Refusals.{IsOpeningRefusal, IsPieceRefusal, IsEndingRefusal}
 use Rattle.http_edge.specs.Reached.{Reached, Leads, PieceLeads, is_closing}
-use Rattle.http_edge.specs.Chance.{next_draws, moved}
+use Rattle.http_edge.specs.Chance.{moved}
+use Rattle.http_edge.specs.Pieces.{WhereReached, PieceGiven, PieceRefused}
 use Rattle.serving.specs.Streams.{Doing, Received, ReadFailed, Sent, WriteFailed}
 use Rattle.http_edge.specs.declared.fault.EdgeFault.{EdgeFault}
 use Rattle.http_edge.specs.declared.fault.EdgeFault.TheVariants.{DrawsShort}
