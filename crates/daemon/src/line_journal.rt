@@ -1,6 +1,6 @@
 //! Faults and reports, in lines.
 
-use crate::report_line::report_line;
+use crate::report_line::report_text;
 use event_loop::{ConnectionFault, Journal, Notice};
 use std::alloc::Global;
 use std::io::Write;
@@ -27,7 +27,7 @@ impl<'e, E: Write> Journal for LineJournal<'e, E> {
             let _ = writeln!(self.lines, "oauthd: store full");
             return;
         };
-        let Ok(mut line) = report_line(self.alloc, report) else {
+        let Ok(mut line) = report_text(self.alloc, report) else {
             return;
         };
         if line.push(b'\n').is_ok() {

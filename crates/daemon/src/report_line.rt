@@ -139,7 +139,7 @@ impl Line {
 }
 
 /// A report as a line of JSON, without its end.
-pub fn report_line(alloc: Global, report: &Report) -> Result<Vec<u8>, AllocError>
+pub fn report_text(alloc: Global, report: &Report) -> Result<Vec<u8>, AllocError>
     ensures { IfOk result (λ text. text.items ≡ print (report_tokens report.now)) }
 {
     let mut line = Line::new(alloc)?;

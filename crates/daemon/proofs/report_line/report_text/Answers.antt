@@ -3,7 +3,7 @@ use Rattle.json.specs.Token.{Token, begin_object, end_object}
 use Rattle.json.specs.Print.{print}
 use Rattle.daemon.specs.ReportTokens.{asked_tokens, connections_tokens, count_tokens, kept_tokens, replied_tokens, state_tokens, wanted_tokens}
 use Rattle.daemon.proofs.Joining.{joined}
-use Rattle.daemon.proofs.report_line.report_line.Goals as goal
+use Rattle.daemon.proofs.report_line.report_text.Goals as goal
 
 pub returns : goal.returns
 returns c =
