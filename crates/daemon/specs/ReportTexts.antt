@@ -42,8 +42,7 @@ wanted_text wanted =
     codes "{" ++ member (codes "memory") wanted.memory
     ++ codes "," ++ member (codes "store_full") wanted.store_room
     ++ codes "," ++ member (codes "drawn_twice") wanted.fresh_draw
-    ++ codes "," ++ member (codes "consents_full") wanted.consent_room
-    ++ codes "," ++ member (codes "no_client") wanted.client ++ codes "}"
+    ++ codes "," ++ member (codes "consents_full") wanted.consent_room ++ codes "}"
 
 -- how many requests were answered, and how
 abbrev pub tally_text : Tally → List ℕ

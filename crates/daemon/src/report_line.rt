@@ -93,11 +93,7 @@ impl Display for WantedText {
         let store_room = Member::new("store_full", wanted.store_room);
         let fresh_draw = Member::new("drawn_twice", wanted.fresh_draw);
         let consent_room = Member::new("consents_full", wanted.consent_room);
-        let client = Member::new("no_client", wanted.client);
-        write!(
-            f,
-            "{{{memory},{store_room},{fresh_draw},{consent_room},{client}}}"
-        )
+        write!(f, "{{{memory},{store_room},{fresh_draw},{consent_room}}}")
     }
 }
 
