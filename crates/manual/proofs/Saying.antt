@@ -1,5 +1,5 @@
 -- One of two texts that is there.
-use Rattle.std.proofs.Common.{◌≡◌, ◌≢◌, ◌++◌, ◌+◌, ℕ, List, Option, Some, None, All, arith, ap, length, length-append, sym, ◌∙◌, subst}
+use Rattle.std.proofs.Common.{◌≡◌, ◌≢◌, ◌++◌, ◌+◌, ℕ, List, Option, Some, None, arith, ap, length, length-append, sym, ◌∙◌, subst}
 use Rattle.std.proofs.Math.ListN.{get_or-append}
 use Rattle.std.proofs.lemmas.List.{get_or-append-add, map-append}
 use Rattle.std.proofs.lemmas.List.Elements.{All-append}

@@ -11,7 +11,7 @@ use Rattle.consent.specs.History.Change.{Consented, CodeGiven, Issued, Spent, Fa
 use Rattle.consent.specs.HistoryLaws.{grant_at-given}
 use Rattle.consent.specs.declared.grant.Kind.TheVariants.{Token}
 use Rattle.consent.specs.declared.grant.TokenKind.{TokenKind}
-use Rattle.endpoints.specs.Bounded.{IsBounded, IsAllowed, IsConsentedAt, IsOwn, MayHave, life_limit}
+use Rattle.endpoints.specs.Bounded.{IsBounded, IsAllowed, IsConsentedAt, IsOwn, life_limit}
 use Rattle.promises.specs.Grants.{KeepsScope, IsSince}
 use Rattle.promises.proofs.Spending.{live_is, ended_stays}
 
