@@ -10,6 +10,7 @@ use crate::commands::help::explained;
 use crate::commands::registry::told_registry;
 use crate::commands::replay::replayed;
 use crate::fault::PerformFault;
+use crate::named_file::{NamedFile, bytes_in};
 use crate::options::{to_ask, to_trace, with_option};
 use hook_commands::HookCommand;
 use insn::layout::Layout;
@@ -122,17 +123,21 @@ impl<'w> Command<'w> {
         }
     }
 
-    /// What the command answers. `file` is what stands in its file, and `None` where that cannot be read.
-    pub fn answer(self, alloc: Global, file: Option<&[u8]>) -> Result<Answer, PerformFault<'w>>
+    /// What the command answers. `file` is its file, and `None` where that cannot be read.
+    pub fn answer(
+        self,
+        alloc: Global,
+        file: Option<&NamedFile>,
+    ) -> Result<Answer, PerformFault<'w>>
         ensures { IsAnsweredBy self.entry (option_copied file.entry) result }
     {
         match self {
-            Command::Hook(command) => match command.answer(alloc, file) {
+            Command::Hook(command) => match command.answer(alloc, bytes_in(file)) {
                 Ok(answer) => Ok(Answer::Hook(answer)),
                 Err(fault) => Err(PerformFault::HookCommand(fault)),
             },
             Command::Registry { path } => told_registry(alloc, path, file),
-            Command::Replay { path } => replayed(alloc, path, file),
+            Command::Replay { path } => replayed(alloc, path, bytes_in(file)),
             Command::Help(_) => Ok(Answer::Page(PAGE)),
             Command::Explain { name } => explained(name),
             Command::Version => Ok(Answer::Page(VERSION)),
