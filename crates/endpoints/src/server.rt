@@ -257,8 +257,8 @@ impl<H: HookHost> Server<H> {
         }
     }
 
-    // The greatest moment that a request was handed.
-    fn moment(&self) -> Moment
+    /// The greatest moment that a request was handed.
+    pub fn moment(&self) -> Moment
         ensures { result ≡ self.now.greatest }
     {
         self.greatest

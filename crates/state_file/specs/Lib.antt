@@ -6,4 +6,5 @@ pub mod Comparing
 pub mod Hooks
 pub mod Resuming
 pub mod FaultTexts
+pub mod Knowing
 pub mod Renewing
