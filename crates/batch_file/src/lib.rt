@@ -9,5 +9,5 @@ pub mod appending;
 pub mod call_log;
 pub mod device;
 pub mod disk_file;
-mod framing;
+pub mod framing;
 pub mod in_memory;
