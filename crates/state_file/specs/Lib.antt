@@ -7,3 +7,4 @@ pub mod Hooks
 pub mod Resuming
 pub mod FaultTexts
 pub mod Renewing
+pub mod Accounts
