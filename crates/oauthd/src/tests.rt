@@ -12,6 +12,7 @@ use crate::call::Call;
 use crate::fault::{PerformFault, Status};
 use crate::named_file::{NamedFile, Readers};
 use crate::perform::{perform_command, told};
+use consent::Moment;
 use std::alloc::{AllocError, Global};
 use std::io::{Cursor, Write};
 use std::process::Abort;
@@ -24,6 +25,9 @@ const ALLOW: &str = "b7000000010000009500000000000000";
 /// seconds.
 const A: &str =
     "0100000001000000e80300000000000001000000000000000100000000000000030000000000000003000000000000002c010000000000000300000000000000";
+
+/// When the commands are carried out.
+const NOW: Option<Moment> = None;
 
 /// The most bytes that a command writes here.
 const ROOM: usize = 4096;
@@ -124,7 +128,7 @@ fn perform<W: Write, E: Write>(
     err: &mut E,
 ) -> u8 {
     let status = match Call::from_words(alloc, words) {
-        Ok(Call::Command(command)) => perform_command(alloc, command, file, out, err),
+        Ok(Call::Command(command)) => perform_command(alloc, command, file, NOW, out, err),
         Ok(Call::Service(_service)) => told(PerformFault::BadArguments, err),
         Err(fault) => told(fault, err),
     };
