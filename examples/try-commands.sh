@@ -113,6 +113,11 @@ ends 'a number by place that is none' 2 '' 'oauthd: bad arguments\n' start 127.0
 ends 'a hook that is not there' 2 '' 'oauthd: cannot read nowhere\n' start 127.0.0.1:0 "$registry" --hook a=nowhere
 ends 'a hook that is refused' 2 '' 'oauthd: hook b: Verify JumpBack(0)\n' start 127.0.0.1:0 "$registry" --hook a=hook.hex --hook b=back.hex
 ends 'two hooks of one name' 2 '' 'oauthd: hook a: NameTaken\n' start 127.0.0.1:0 "$registry" --hook a=hook.hex --hook2 a=hook.hex
+install -m 640 "$registry" own.json
+said='access_life 300\nrefresh_life 86400\nowners 2\nclients 2\nscopes read write admin\n'
+ends 'a registry' 0 "$said" '' registry own.json
+chmod 644 own.json
+ends 'a registry that everybody may read' 0 "${said}warning: everybody may read the file\n" '' registry own.json
 if [ -w /dev/full ]; then
     "$program" list hook.hex >/dev/full 2>given.err
     given=$?

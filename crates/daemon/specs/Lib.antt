@@ -1,4 +1,4 @@
 pub mod Listening
 pub mod Begun
 pub mod Started
-pub mod ReportTexts
+pub mod ReportTokens

@@ -19,5 +19,6 @@ pub use line_journal::LineJournal;
 pub use machine_clocks::MachineClocks;
 pub use means::{Ending, Means, go_on_with, serve_with};
 pub use patience::Patience;
+pub use report_line::report_text;
 pub use sockets::MachineSockets;
 pub use until_stopped::{go_on, start};

@@ -1,12 +1,16 @@
 //! Faults and reports, in lines.
 
-use crate::report_line::ReportLine;
+use crate::report_line::report_text;
 use event_loop::{ConnectionFault, Journal, Notice};
+use std::alloc::Global;
 use std::io::Write;
 
-/// Where each fault is noted in a line, and each report. One that can't be written is lost.
+/// Where each fault is noted in a line, and each report. One that can't be written, or for which there is no memory, is lost.
 #[derive(Drop)]
-pub struct LineJournal<'e, E>(pub &'e mut E);
+pub struct LineJournal<'e, E> {
+    pub alloc: Global,
+    pub lines: &'e mut E,
+}
 
 impl<'e, E: Write> Journal for LineJournal<'e, E> {
     // It is not told whether a line was written.
@@ -15,13 +19,19 @@ impl<'e, E: Write> Journal for LineJournal<'e, E> {
     ghost reports = { λ _ _ _. Unit {0} };
 
     fn note(&mut self, fault: ConnectionFault) {
-        let _ = writeln!(self.0, "oauthd: connection ended: {fault}");
+        let _ = writeln!(self.lines, "oauthd: connection ended: {fault}");
     }
 
     fn report(&mut self, notice: &Notice) {
-        let _ = match notice {
-            Notice::Reported(report) => writeln!(self.0, "{}", ReportLine(*report)),
-            Notice::StoreFull => writeln!(self.0, "oauthd: store full"),
+        let Notice::Reported(report) = notice else {
+            let _ = writeln!(self.lines, "oauthd: store full");
+            return;
         };
+        let Ok(mut line) = report_text(self.alloc, report) else {
+            return;
+        };
+        if line.push(b'\n').is_ok() {
+            let _ = self.lines.write_all(&line);
+        }
     }
 }

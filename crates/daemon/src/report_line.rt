@@ -1,193 +1,156 @@
 //! Reports as lines of JSON.
+ghost use Rattle.std.specs.Prelude.{◌≡◌, [], ◌∷◌, ◌++◌, IfOk, OnOk, decimal};
+ghost use Rattle.json.specs.Token.{begin_object, end_object, key, number};
+ghost use Rattle.json.specs.Print.{print};
+ghost use Rattle.daemon.specs.ReportTokens.{asked_tokens, connections_tokens, kept_tokens, replied_tokens, report_tokens, state_tokens, wanted_tokens};
 
-ghost use Rattle.std.specs.Prelude.{◌≡◌, Some};
-ghost use Rattle.daemon.specs.ReportTexts.{asked_text, connections_text, kept_text, member, replied_text, report_text, state_text, tally_text, times_text, wanted_text};
-
-use endpoints::{Asked, Replied, Tally, Wanted};
+use endpoints::{Asked, Replied, Wanted};
 use event_loop::Report;
-use std::fmt::{self, Display, Formatter, Write};
+use json::Writer;
+use std::alloc::{AllocError, Global};
 
-/// A name and its number.
-#[derive(Clone, Copy)]
-struct Member<'n> {
-    name: &'n str,
-    number: u64,
+// Room for a report whose numbers have ten digits.
+const ROOM: usize = 1024;
+
+// What has been written of a line.
+#[derive(Drop)]
+struct Line {
+    json: Writer,
+    ghost alone: { json.before ≡ [] },
 }
 
-impl<'n> Member<'n> {
-    fn new(name: &'n str, number: u64) -> Member<'n>
-        ensures { result ≡ record { name = name; number = number } }
+impl Line {
+    // A line without members.
+    fn new(alloc: Global) -> Result<Line, AllocError>
+        ensures { IfOk result (λ line. line.json.tokens ≡ begin_object ∷ []) }
     {
-        Member { name, number }
+        let mut json = Writer::new(Vec::with_capacity(alloc, ROOM)?);
+        json.begin_object()?;
+        Ok(Line { json })
+    }
+
+    // One more member, a number.
+    fn number(&mut self, name: &str, value: u64) -> Result<(), AllocError>
+        ensures { OnOk result (self.new.json.tokens ≡ self.old.json.tokens ++ key name.now ∷ number (decimal value) ∷ []) }
+    {
+        self.json.key(name)?;
+        self.json.u64(value)
+    }
+
+    // One more member begins, an object.
+    fn begin(&mut self, name: &str) -> Result<(), AllocError>
+        ensures { OnOk result (self.new.json.tokens ≡ self.old.json.tokens ++ key name.now ∷ begin_object ∷ []) }
+    {
+        self.json.key(name)?;
+        self.json.begin_object()
+    }
+
+    // That object ends.
+    fn end(&mut self) -> Result<(), AllocError>
+        ensures { OnOk result (self.new.json.tokens ≡ self.old.json.tokens ++ end_object ∷ []) }
+    {
+        self.json.end_object()
+    }
+
+    // The line's text, without its end.
+    fn finish(self) -> Result<Vec<u8>, AllocError>
+        ensures { IfOk result (λ text. text.items ≡ print (self.json.tokens ++ end_object ∷ [])) }
+    {
+        let mut json = self.json;
+        json.end_object()?;
+        Ok(json.into_inner())
     }
 }
 
-impl<'n> Display for Member<'n> {
-    ghost output = { λ text. Some (member text.name.now text.number) };
-
-    fn fmt<W: Write>(&self, f: &mut Formatter<W>) -> fmt::Result {
-        let (name, number) = (self.name, self.number);
-        write!(f, "\"{name}\":{number}")
+impl Line {
+    // How many connections there are, and came.
+    fn connections(&mut self, report: &Report) -> Result<(), AllocError>
+        ensures { OnOk result (self.new.json.tokens ≡ self.old.json.tokens ++ connections_tokens report.now) }
+    {
+        self.begin("connections")?;
+        self.number("open", report.open as u64)?;
+        self.number("accepted", report.accepted)?;
+        self.end()
     }
-}
 
-/// How many requests there were, by their endpoints.
-#[derive(Clone, Copy)]
-struct AskedText(Asked);
-
-impl Display for AskedText {
-    ghost output = { λ text. Some (asked_text text.0) };
-
-    fn fmt<W: Write>(&self, f: &mut Formatter<W>) -> fmt::Result {
-        let asked = self.0;
-        let authorize = Member::new("authorize", asked.authorize);
-        let consent = Member::new("consent", asked.consent);
-        let token = Member::new("token", asked.token);
-        let revoke = Member::new("revoke", asked.revoke);
-        let introspect = Member::new("introspect", asked.introspect);
-        let hook_installation = Member::new("hooks", asked.hook_installation);
-        let hook_removal = Member::new("hooks_remove", asked.hook_removal);
-        let hook_list = Member::new("hooks_list", asked.hook_list);
-        let nowhere = Member::new("nowhere", asked.nowhere);
-        write!(
-            f,
-            "{{{authorize},{consent},{token},{revoke},{introspect},{hook_installation},{hook_removal},{hook_list},{nowhere}}}"
-        )
+    // How many requests there were, by their endpoints.
+    fn asked(&mut self, asked: &Asked) -> Result<(), AllocError>
+        ensures { OnOk result (self.new.json.tokens ≡ self.old.json.tokens ++ asked_tokens asked.now) }
+    {
+        self.begin("requests")?;
+        self.number("authorize", asked.authorize)?;
+        self.number("consent", asked.consent)?;
+        self.number("token", asked.token)?;
+        self.number("revoke", asked.revoke)?;
+        self.number("introspect", asked.introspect)?;
+        self.number("hooks", asked.hook_installation)?;
+        self.number("hooks_remove", asked.hook_removal)?;
+        self.number("hooks_list", asked.hook_list)?;
+        self.number("nowhere", asked.nowhere)?;
+        self.end()
     }
-}
 
-/// How many replies, by their statuses.
-#[derive(Clone, Copy)]
-struct RepliedText(Replied);
-
-impl Display for RepliedText {
-    ghost output = { λ text. Some (replied_text text.0) };
-
-    fn fmt<W: Write>(&self, f: &mut Formatter<W>) -> fmt::Result {
-        let replied = self.0;
-        let ok = Member::new("200", replied.ok);
-        let found = Member::new("302", replied.found);
-        let bad_request = Member::new("400", replied.bad_request);
-        let unauthorized = Member::new("401", replied.unauthorized);
-        let forbidden = Member::new("403", replied.forbidden);
-        let not_found = Member::new("404", replied.not_found);
-        let not_allowed = Member::new("405", replied.not_allowed);
-        let unavailable = Member::new("503", replied.unavailable);
-        write!(
-            f,
-            "{{{ok},{found},{bad_request},{unauthorized},{forbidden},{not_found},{not_allowed},{unavailable}}}"
-        )
+    // How many replies, by their statuses.
+    fn replied(&mut self, replied: &Replied) -> Result<(), AllocError>
+        ensures { OnOk result (self.new.json.tokens ≡ self.old.json.tokens ++ replied_tokens replied.now) }
+    {
+        self.begin("replies")?;
+        self.number("200", replied.ok)?;
+        self.number("302", replied.found)?;
+        self.number("400", replied.bad_request)?;
+        self.number("401", replied.unauthorized)?;
+        self.number("403", replied.forbidden)?;
+        self.number("404", replied.not_found)?;
+        self.number("405", replied.not_allowed)?;
+        self.number("503", replied.unavailable)?;
+        self.end()
     }
-}
 
-/// How many 503s, by what was wanting.
-#[derive(Clone, Copy)]
-struct WantedText(Wanted);
-
-impl Display for WantedText {
-    ghost output = { λ text. Some (wanted_text text.0) };
-
-    fn fmt<W: Write>(&self, f: &mut Formatter<W>) -> fmt::Result {
-        let wanted = self.0;
-        let memory = Member::new("memory", wanted.memory);
-        let store_room = Member::new("store_full", wanted.store_room);
-        let fresh_draw = Member::new("drawn_twice", wanted.fresh_draw);
-        let consent_room = Member::new("consents_full", wanted.consent_room);
-        let client = Member::new("no_client", wanted.client);
-        write!(
-            f,
-            "{{{memory},{store_room},{fresh_draw},{consent_room},{client}}}"
-        )
+    // How many 503s, by what was wanting.
+    fn wanted(&mut self, wanted: &Wanted) -> Result<(), AllocError>
+        ensures { OnOk result (self.new.json.tokens ≡ self.old.json.tokens ++ wanted_tokens wanted.now) }
+    {
+        self.begin("unavailable")?;
+        self.number("memory", wanted.memory)?;
+        self.number("store_full", wanted.store_room)?;
+        self.number("drawn_twice", wanted.fresh_draw)?;
+        self.number("consents_full", wanted.consent_room)?;
+        self.end()
     }
-}
 
-/// How many requests were answered, and how.
-#[derive(Clone, Copy)]
-struct TallyText(Tally);
-
-impl Display for TallyText {
-    ghost output = { λ text. Some (tally_text text.0) };
-
-    fn fmt<W: Write>(&self, f: &mut Formatter<W>) -> fmt::Result {
-        let (asked, replied) = (AskedText(self.0.asked), RepliedText(self.0.replied));
-        let wanted = WantedText(self.0.wanted);
-        let denied = Member::new("denied_by_hooks", self.0.denied);
-        write!(
-            f,
-            "\"requests\":{asked},\"replies\":{replied},\"unavailable\":{wanted},{denied}"
-        )
+    // How much is kept.
+    fn kept(&mut self, report: &Report) -> Result<(), AllocError>
+        ensures { OnOk result (self.new.json.tokens ≡ self.old.json.tokens ++ kept_tokens report.now) }
+    {
+        self.number("records", report.records as u64)?;
+        self.number("consents", report.consents as u64)?;
+        self.number("hooks", report.hooks as u64)
     }
-}
 
-/// When it is, and for how long the server has served.
-#[derive(Clone, Copy)]
-struct TimesText(Report);
-
-impl Display for TimesText {
-    ghost output = { λ text. Some (times_text text.0) };
-
-    fn fmt<W: Write>(&self, f: &mut Formatter<W>) -> fmt::Result {
-        let moment = Member::new("moment", self.0.moment.get());
-        let seconds = Member::new("seconds", self.0.seconds);
-        write!(f, "{moment},{seconds}")
-    }
-}
-
-/// How many connections there are, and came.
-#[derive(Clone, Copy)]
-struct ConnectionsText(Report);
-
-impl Display for ConnectionsText {
-    ghost output = { λ text. Some (connections_text text.0) };
-
-    fn fmt<W: Write>(&self, f: &mut Formatter<W>) -> fmt::Result {
-        let open = Member::new("open", u64::from(self.0.open));
-        let accepted = Member::new("accepted", self.0.accepted);
-        write!(f, "\"connections\":{{{open},{accepted}}}")
-    }
-}
-
-/// How many bytes the file of the state has, where there is one.
-#[derive(Clone, Copy)]
-struct StateText(Option<u64>);
-
-impl Display for StateText {
-    ghost output = { λ text. Some (state_text text.0) };
-
-    fn fmt<W: Write>(&self, f: &mut Formatter<W>) -> fmt::Result {
-        match self.0 {
-            Some(bytes) => write!(f, ",{}", Member::new("state_bytes", bytes)),
+    // How many bytes the file of the state has, where there is one.
+    fn state(&mut self, bytes: Option<u64>) -> Result<(), AllocError>
+        ensures { OnOk result (self.new.json.tokens ≡ self.old.json.tokens ++ state_tokens bytes) }
+    {
+        match bytes {
+            Some(bytes) => self.number("state_bytes", bytes),
             None => Ok(()),
         }
     }
 }
 
-/// How much is kept.
-#[derive(Clone, Copy)]
-struct KeptText(Report);
-
-impl Display for KeptText {
-    ghost output = { λ text. Some (kept_text text.0) };
-
-    fn fmt<W: Write>(&self, f: &mut Formatter<W>) -> fmt::Result {
-        let records = Member::new("records", self.0.records as u64);
-        let consents = Member::new("consents", self.0.consents as u64);
-        let hooks = Member::new("hooks", self.0.hooks as u64);
-        let state = StateText(self.0.state);
-        write!(f, "{records},{consents},{hooks}{state}")
-    }
-}
-
-/// A report, as a line of JSON without its end.
-#[derive(Clone, Copy)]
-pub struct ReportLine(pub Report);
-
-impl Display for ReportLine {
-    ghost output = { λ line. Some (report_text line.0) };
-
-    fn fmt<W: Write>(&self, f: &mut Formatter<W>) -> fmt::Result {
-        let (times, connections) = (TimesText(self.0), ConnectionsText(self.0));
-        let (tally, kept) = (TallyText(self.0.tally), KeptText(self.0));
-        write!(f, "{{{times},{connections},{tally},{kept}}}")
-    }
+/// A report as a line of JSON, without its end.
+pub fn report_text(alloc: Global, report: &Report) -> Result<Vec<u8>, AllocError>
+    ensures { IfOk result (λ text. text.items ≡ print (report_tokens report.now)) }
+{
+    let mut line = Line::new(alloc)?;
+    line.number("moment", report.moment.get())?;
+    line.number("seconds", report.seconds)?;
+    line.connections(report)?;
+    line.asked(&report.tally.asked)?;
+    line.replied(&report.tally.replied)?;
+    line.wanted(&report.tally.wanted)?;
+    line.number("denied_by_hooks", report.tally.denied)?;
+    line.kept(report)?;
+    line.state(report.state)?;
+    line.finish()
 }

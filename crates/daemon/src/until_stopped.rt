@@ -76,7 +76,10 @@ pub fn start<'r, 'e, R: Net + Clock + RandomSource + AllocGlobal, W: Write, E: W
     let means = Means {
         sockets,
         clocks: MachineClocks(rt),
-        journal: LineJournal(err),
+        journal: LineJournal {
+            alloc: rt.alloc(),
+            lines: err,
+        },
         keeper: NoKeeper,
         generator,
         patience,
@@ -116,7 +119,10 @@ pub fn go_on<
     let means = Means {
         sockets,
         clocks: MachineClocks(rt),
-        journal: LineJournal(err),
+        journal: LineJournal {
+            alloc: rt.alloc(),
+            lines: err,
+        },
         keeper,
         generator,
         patience,

@@ -25,7 +25,8 @@ use Rattle.event_loop.specs.Served.{Step, Served, waits, hears_of_listener, hear
 use Rattle.event_loop.specs.Answered.{Exchange, IsAnswered, read_at, written_at}
 use Rattle.event_loop.proofs.Putting.{set_cases}
 use Rattle.event_loop.proofs.Kept.{kept_connections}
-use Rattle.event_loop.proofs.Others.{no_other, is_itself, opens_other, ends_other, takes_other, forgets_other}
+use Rattle.http_edge.proofs.Connections.{no_other}
+use Rattle.event_loop.proofs.Others.{is_itself, opens_other, ends_other, takes_other, forgets_other}
 use Rattle.event_loop.proofs.Telling.{Talk, talk_opened, talk_lost, talk_given, talk_ended, talk_written, closing_taken, gives_reached, gives_other}
 
 -- one that is served is there

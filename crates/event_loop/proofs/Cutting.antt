@@ -10,8 +10,8 @@ use Rattle.http_edge.specs.Edges.{SeenEdge}
 use Rattle.http_edge.specs.Reached.{Reached, is_closing}
 use Rattle.http_edge.specs.declared.fault.EdgeFault.{EdgeFault}
 use Rattle.http_edge.specs.declared.fault.EdgeFault.TheVariants.{TooManyRequests}
-use Rattle.serving.specs.Chance.{next_draws}
-use Rattle.serving.specs.Served.{PieceGiven, PieceRefused}
+use Rattle.http_edge.specs.Chance.{next_draws}
+use Rattle.http_edge.specs.Pieces.{PieceGiven, PieceRefused}
 use Rattle.event_loop.specs.Courses.{Course}
 use Rattle.event_loop.specs.Giving.{Gives, IsRefused, GivesAll, GivesSome, nothing, gives, tries, cut_limit}
 

@@ -1,43 +1,16 @@
 -- Other connections.
-use Rattle.std.proofs.Common.{◌≡◌, ◌≢◌, ◌⊎◌, inl, inr, ℕ, List, [], ◌∷◌, ◌++◌, Bool, true, false, not, cond, Some, refl, sym, ap, ◌∙◌}
+use Rattle.std.proofs.Common.{◌≡◌, ◌≢◌, ◌⊎◌, inl, inr, ℕ, List, Bool, true, refl, ap}
 use Rattle.std.specs.Prelude.{◌==◌}
-use Rattle.std.proofs.lemmas.Bool.{eqb-true, eq-eqb}
-use Rattle.std.proofs.lemmas.Bool.Decides.{eqb_tells}
+use Rattle.std.proofs.lemmas.Bool.{eq-eqb}
 use Rattle.hook_host.specs.declared.host.HookHost.{Ghosts as Hosting}
 use Rattle.clients.specs.RegistryRecord.{RegistryRecord}
 use Rattle.messages.specs.declared.request.Draws.{Draws}
 use Rattle.http_edge.specs.Answers.{Mark}
 use Rattle.http_edge.specs.Schedule.{World, Connection, Comes, Passes, Opens, Ends, Takes, TakesNothing, Forgets, connection_at, with_connection, without_connection, fresh}
-use Rattle.serving.proofs.Connections.{found_number}
-
--- a number that is one is no other
-pub no_other : (n c d : ℕ) → (n == c) ≡ true → d ≢ c → (n == d) ≡ false
-no_other n c d is other = elim (eqb_tells n d) [ inl p ↦ absurd (other (sym p.1 ∙ eqb-true n c is)) | inr p ↦ p.0 ]
+use Rattle.http_edge.proofs.Connections.{added_other, found_number, put_other, without_other}
 
 pub is_itself : (c : ℕ) → (c == c) ≡ true
 is_itself c = eq-eqb c c refl
-
-put_other : (ks : List Connection) (c d : ℕ) (new : Connection) → (new.number == c) ≡ true → d ≢ c → connection_at (with_connection c new ks) d ≡ connection_at ks d
-put_other [] c d new is other = refl
-put_other (x ∷ xs) c d new is other = by (x.number == c) refl (put_other xs c d new is other)
-  where
-    by : (b : Bool) → (x.number == c) ≡ b → connection_at (with_connection c new xs) d ≡ connection_at xs d →
-        connection_at (cond b (new ∷ xs) (x ∷ with_connection c new xs)) d ≡ connection_at (x ∷ xs) d
-    by true t rest = rw (no_other new.number c d is other, no_other x.number c d t other) refl
-    by false t rest = ap (λ o. cond (x.number == d) (Some x) o) rest
-
-added_other : (ks : List Connection) (c d : ℕ) → d ≢ c → connection_at (ks ++ fresh c ∷ []) d ≡ connection_at ks d
-added_other [] c d other = rw (no_other c c d (is_itself c) other) refl
-added_other (x ∷ xs) c d other = ap (λ o. cond (x.number == d) (Some x) o) (added_other xs c d other)
-
-without_other : (ks : List Connection) (c d : ℕ) → d ≢ c → connection_at (without_connection c ks) d ≡ connection_at ks d
-without_other [] c d other = refl
-without_other (x ∷ xs) c d other = by (x.number == c) refl (without_other xs c d other)
-  where
-    by : (b : Bool) → (x.number == c) ≡ b → connection_at (without_connection c xs) d ≡ connection_at xs d →
-        connection_at (cond (not b) (x ∷ without_connection c xs) (without_connection c xs)) d ≡ connection_at (x ∷ xs) d
-    by true t rest = rw (no_other x.number c d t other) rest
-    by false t rest = ap (λ o. cond (x.number == d) (Some x) o) rest
 
 -- what an event at one connection is to another
 

@@ -40,7 +40,10 @@ freed_queue Asked = Empty
 freed_queue Waits = Told
 
 -- A connection is closed and forgotten, its fault is noted, and its place is free.
-pub data Closes {N C J K H : Type 0} (p : Promises N C J K H) (rules : RegistryRecord) (host : H) (k : ℕ) (place : Place) (s : Scene N C J K H) : Scene N C J K H → Type 0 where
-  leaves : (n : N) (e : SeenEdge H) (on : GoesOn p.hosting e rules host s.course.schedule s.course.world (Forgotten k)) (last : Option ℕ) (journal : J) → p.does s.sockets (deed.Closed k) n →
+pub data Closes {N C J K H : Type 0} (p : Promises N C J K H) (rules : RegistryRecord) (host : H) (k : ℕ) (place : Place)
+    (s : Scene N C J K H) : Scene N C J K H → Type 0 where
+  leaves : (n : N) (e : SeenEdge H) (on : GoesOn p.hosting e rules host s.course.schedule s.course.world (Forgotten k)) (last : Option ℕ) (journal : J) →
+      p.does s.sockets (deed.Closed k) n →
       NotesEnd p.notes place.stage s.times.steady s.noted s.journal last journal →
-      Closes p rules host k place s (record s { sockets = n; deeds = deed.Closed k ∷ s.deeds; course = led s.course e (Forgotten k) on.world; noted = last; journal = journal; places = slice_set s.places k (record place { stage = Free }); queue = freed_queue s.queue })
+      Closes p rules host k place s (record s { sockets = n; deeds = deed.Closed k ∷ s.deeds; course = led s.course e (Forgotten k) on.world; noted = last;
+          journal = journal; places = slice_set s.places k (record place { stage = Free }); queue = freed_queue s.queue })

@@ -17,7 +17,8 @@ IsHeld p s = (kept : List Event) → s.course.world.kept ≡ Some kept → Holds
 
 -- What a crash left stands for what was kept last at a scene from the one on, up to the other. That has all that was kept
 -- at the one, and nothing that has not happened at the other.
-pub record StandsBetween {N C J K H : Type 0} (p : Promises N C J K H) (rules : RegistryRecord) (host : H) (s : Scene N C J K H) (before : List Event) (s' : Scene N C J K H) (c : List ℕ) : Type 0 where
+pub record StandsBetween {N C J K H : Type 0} (p : Promises N C J K H) (rules : RegistryRecord) (host : H) (s : Scene N C J K H) (before : List Event)
+    (s' : Scene N C J K H) (c : List ℕ) : Type 0 where
   pub at : Scene N C J K H
   pub since : Onward p rules host s at
   pub until : Onward p rules host at s'
@@ -31,7 +32,8 @@ pub record StandsBetween {N C J K H : Type 0} (p : Promises N C J K H) (rules : 
 -- crash from then on leaves all before it, and never a part of what is kept at once.
 abbrev pub IsDurable : {N C J K H : Type 0} → Promises N C J K H → RegistryRecord → H → Scene N C J K H → Scene N C J K H → Type 0
 IsDurable p rules host s s' =
-    (kept : List Event) → s.course.world.kept ≡ Some kept → (c : List ℕ) → p.keeping.left_since s'.keeper (p.keeping.moment s.keeper) c → StandsBetween p rules host s kept s' c
+    (kept : List Event) → s.course.world.kept ≡ Some kept → (c : List ℕ) → p.keeping.left_since s'.keeper (p.keeping.moment s.keeper) c →
+        StandsBetween p rules host s kept s' c
 
 -- So it is up to the end, behind the last scene that steps lead to; but where keeping failed there, what is left may stand
 -- for all that had happened.

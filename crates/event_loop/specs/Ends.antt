@@ -35,15 +35,18 @@ rounds_limit = 18446744073709551615
 pub data Fails {N C J K H : Type 0} (p : Promises N C J K H) (s : Scene N C J K H) : LoopFault → Scene N C J K H → Type 0 where
   no_wait : (limit : Option ℕ) (room : ℕ) (n : N) → MayWait s limit room → p.does s.sockets (deed.WaitFailed limit room) n →
       Fails p s Wait (record s { sockets = n; deeds = deed.WaitFailed limit room ∷ s.deeds })
-  no_time : (limit : Option ℕ) (room : ℕ) (found : List Ready) (n : N) (c : C) → MayWait s limit room → p.does s.sockets (deed.Waited limit room found) n → p.tells s.clocks None c →
+  no_time : (limit : Option ℕ) (room : ℕ) (found : List Ready) (n : N) (c : C) → MayWait s limit room → p.does s.sockets (deed.Waited limit room found) n →
+      p.tells s.clocks None c →
       Fails p s Clock (record s { sockets = n; clocks = c; deeds = deed.Waited limit room found ∷ s.deeds; found = found })
-  not_kept : (keeper : K) (unkept : IsUnkept s.course.world) → ¬ (IsDone Keeping s.deeds) → KeepsNot p.keeping unkept.kept s.course.world.history s.keeper keeper → Fails p s Keep (record s { keeper = keeper })
+  not_kept : (keeper : K) (unkept : IsUnkept s.course.world) → ¬ (IsDone Keeping s.deeds) →
+      KeepsNot p.keeping unkept.kept s.course.world.history s.keeper keeper → Fails p s Keep (record s { keeper = keeper })
   no_more : rounds_limit ≤ deed.waits s.deeds → Fails p s Rounds s
 
 -- The clocks told the first times, and steps led on, whose every scene is answered, until something failed; then nothing
 -- was done but that each connection that was left was closed and forgotten, and all places are free. Where the keeper held
 -- at first what was kept, all that was kept is durable.
-pub record HasServed {N C J K H : Type 0} (p : Promises N C J K H) (rules : RegistryRecord) (host : H) (limits : Limits) (tools : Tools N C J K H) (schedule : List Happening) (world : World) (fault : LoopFault) (tools' : Tools N C J K H) : Type 0 where
+pub record HasServed {N C J K H : Type 0} (p : Promises N C J K H) (rules : RegistryRecord) (host : H) (limits : Limits) (tools : Tools N C J K H)
+    (schedule : List Happening) (world : World) (fault : LoopFault) (tools' : Tools N C J K H) : Type 0 where
   pub first : Scene N C J K H
   pub is_first : IsFirst p rules host first
   pub limits_are : first.limits ≡ limits

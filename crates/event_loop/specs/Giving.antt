@@ -9,12 +9,9 @@ use Rattle.http_edge.specs.Reached.{PieceGoesOn, is_closing}
 use Rattle.http_edge.specs.Refusals.{IsPieceRefusal}
 use Rattle.http_edge.specs.declared.fault.EdgeFault.{EdgeFault}
 use Rattle.http_edge.specs.declared.fault.EdgeFault.TheVariants.{TooManyRequests, DrawsShort}
-use Rattle.serving.specs.Chance.{next_draws, moved}
+use Rattle.http_edge.specs.Chance.{next_draws, moved}
+use Rattle.http_edge.specs.Pieces.{draws_limit}
 use Rattle.event_loop.specs.Courses.{Course, known, led}
-
--- so many draws may a piece have
-abbrev pub draws_limit : ℕ
-draws_limit = 64
 
 -- where a piece completes too many requests, it is given in cuts of so many bytes
 abbrev pub cut_limit : ℕ
@@ -46,11 +43,13 @@ pub data Gives {H : Type 0} (hosting : Hosting H) (rules : RegistryRecord) (host
       (g : IsGiven hosting rules host k moment piece course) →
       Gives hosting rules host k moment first (bytes ++ piece)
       (record (led course g.edge (Came k piece moment (next_draws course.generator g.count) g.on.marks g.on.closes) g.on.on.world) { generator = g.generator })
-  tries : {bytes : List ℕ} {course : Course H} (piece : List ℕ) → Gives hosting rules host k moment first bytes course → (r : IsRefused k piece TooManyRequests course) →
+  tries : {bytes : List ℕ} {course : Course H} (piece : List ℕ) → Gives hosting rules host k moment first bytes course →
+      (r : IsRefused k piece TooManyRequests course) →
       Gives hosting rules host k moment first bytes (record course { generator = r.generator })
 
 -- All bytes were given, or the rest comes behind the 400 of a faulty head.
-pub record IsHeard {H : Type 0} (hosting : Hosting H) (rules : RegistryRecord) (host : H) (k moment : ℕ) (bytes : List ℕ) (course course' : Course H) : Type 0 where
+pub record IsHeard {H : Type 0} (hosting : Hosting H) (rules : RegistryRecord) (host : H) (k moment : ℕ) (bytes : List ℕ)
+    (course course' : Course H) : Type 0 where
   pub given : List ℕ
   pub rest : List ℕ
   pub all : bytes ≡ given ++ rest
@@ -58,7 +57,8 @@ pub record IsHeard {H : Type 0} (hosting : Hosting H) (rules : RegistryRecord) (
   pub over : (rest ≡ []) ⊎ (is_closing (known course' k) ≡ true)
 
 -- A front of them was given, and then a piece was refused that is no longer cut.
-pub record IsUnheard {H : Type 0} (hosting : Hosting H) (rules : RegistryRecord) (host : H) (k moment : ℕ) (bytes : List ℕ) (fault : EdgeFault) (course course' : Course H) : Type 0 where
+pub record IsUnheard {H : Type 0} (hosting : Hosting H) (rules : RegistryRecord) (host : H) (k moment : ℕ) (bytes : List ℕ) (fault : EdgeFault)
+    (course course' : Course H) : Type 0 where
   pub given : List ℕ
   pub piece : List ℕ
   pub rest : List ℕ
@@ -70,13 +70,15 @@ pub record IsUnheard {H : Type 0} (hosting : Hosting H) (rules : RegistryRecord)
   pub is_after : course' ≡ record before { generator = refused.generator }
 
 -- wherever the edge was reached, all bytes were given
-pub record GivesAll {H : Type 0} (hosting : Hosting H) (rules : RegistryRecord) (host : H) (k moment : ℕ) (bytes : List ℕ) (course : Course H) (edge : SeenEdge H) (generator : ChaCha) : Type 0 where
+pub record GivesAll {H : Type 0} (hosting : Hosting H) (rules : RegistryRecord) (host : H) (k moment : ℕ) (bytes : List ℕ) (course : Course H)
+    (edge : SeenEdge H) (generator : ChaCha) : Type 0 where
   pub schedule : List Happening
   pub world : World
   pub heard : IsHeard hosting rules host k moment bytes course (record { edge = edge; generator = generator; schedule = schedule; world = world })
 
 -- wherever the edge was reached, a front of them
-pub record GivesSome {H : Type 0} (hosting : Hosting H) (rules : RegistryRecord) (host : H) (k moment : ℕ) (bytes : List ℕ) (fault : EdgeFault) (course : Course H) (edge : SeenEdge H) (generator : ChaCha) : Type 0 where
+pub record GivesSome {H : Type 0} (hosting : Hosting H) (rules : RegistryRecord) (host : H) (k moment : ℕ) (bytes : List ℕ) (fault : EdgeFault)
+    (course : Course H) (edge : SeenEdge H) (generator : ChaCha) : Type 0 where
   pub schedule : List Happening
   pub world : World
   pub unheard : IsUnheard hosting rules host k moment bytes fault course (record { edge = edge; generator = generator; schedule = schedule; world = world })

@@ -112,7 +112,8 @@ IsReadyFor (Writing k) world = IsAllKept world
 IsReadyFor task world = ⊤
 
 -- steps lead on, which touch one place alone, and do one task alone; what was ready for it stays ready
-pub record GoesAt {N C J K H : Type 0} (p : Promises N C J K H) (rules : RegistryRecord) (host : H) (first : Scene N C J K H) (found : List Ready) (k : ℕ) (task : Task) (service : Service) (past : Past) (service' : Service) (tools' : Tools N C J K H) : Type 0 where
+pub record GoesAt {N C J K H : Type 0} (p : Promises N C J K H) (rules : RegistryRecord) (host : H) (first : Scene N C J K H) (found : List Ready)
+    (k : ℕ) (task : Task) (service : Service) (past : Past) (service' : Service) (tools' : Tools N C J K H) : Type 0 where
   pub next : Past
   pub served : Served p rules host first (scene_of service' tools' found next)
   pub done : DoneAfter past.deeds next.deeds
@@ -131,15 +132,19 @@ pub record IsStill (k : ℕ) (service : Service) (world : World) (service' : Ser
   pub rests : IsKnownAt k service world P
 
 -- a task is done at one place, or nothing changed, since it is not to be done
-pub record ActsAt {N C J K H : Type 0} (p : Promises N C J K H) (rules : RegistryRecord) (host : H) (first : Scene N C J K H) (found : List Ready) (k : ℕ) (task : Task) (P : Place → Option Connection → Type 0) (service : Service) (past : Past) (service' : Service) (tools' : Tools N C J K H) : Type 0 where
+pub record ActsAt {N C J K H : Type 0} (p : Promises N C J K H) (rules : RegistryRecord) (host : H) (first : Scene N C J K H) (found : List Ready)
+    (k : ℕ) (task : Task) (P : Place → Option Connection → Type 0) (service : Service) (past : Past) (service' : Service)
+    (tools' : Tools N C J K H) : Type 0 where
   pub goes : GoesAt p rules host first found k task service past service' tools'
   pub due : service'.due ≡ service.due
   pub acts : IsStill k service past.world service' goes.next.world P ⊎ IsDone task goes.next.deeds
 
 -- so it is where it was not done since the last wait, and may be done
-abbrev pub LeadsToActs : {N C J K H : Type 0} → Promises N C J K H → ℕ → Task → (Place → Option Connection → Type 0) → Service → Tools N C J K H → Service → Tools N C J K H → Type 0
+abbrev pub LeadsToActs : {N C J K H : Type 0} → Promises N C J K H → ℕ → Task → (Place → Option Connection → Type 0) → Service → Tools N C J K H → Service →
+    Tools N C J K H → Type 0
 LeadsToActs {N} {C} {J} {K} {H} p k task P service tools service' tools' =
-    (rules : RegistryRecord) (host : H) (first : Scene N C J K H) (found : List Ready) (past : Past) → ¬ (IsDone task past.deeds) → IsReadyFor task past.world → Served p rules host first (scene_of service tools found past) →
+    (rules : RegistryRecord) (host : H) (first : Scene N C J K H) (found : List Ready) (past : Past) → ¬ (IsDone task past.deeds) →
+        IsReadyFor task past.world → Served p rules host first (scene_of service tools found past) →
     ActsAt p rules host first found k task P service past service' tools'
 
 -- a read or a write is to be done
@@ -168,30 +173,36 @@ pub record IsSettledAt (k : ℕ) (service : Service) (past : Past) : Type 0 wher
   pub active : slice_get service.due k ≡ Some true → 0 < done_since past.deeds
 
 -- steps lead on, which touch one place alone, and it is settled
-pub record SettlesAt {N C J K H : Type 0} (p : Promises N C J K H) (rules : RegistryRecord) (host : H) (first : Scene N C J K H) (found : List Ready) (k : ℕ) (service : Service) (past : Past) (service' : Service) (tools' : Tools N C J K H) : Type 0 where
+pub record SettlesAt {N C J K H : Type 0} (p : Promises N C J K H) (rules : RegistryRecord) (host : H) (first : Scene N C J K H) (found : List Ready)
+    (k : ℕ) (service : Service) (past : Past) (service' : Service) (tools' : Tools N C J K H) : Type 0 where
   pub goes : GoesAt p rules host first found k (Writing k) service past service' tools'
   pub settled : IsSettledAt k service' goes.next
 
 -- it is closed where it is over, and else it is noted whether something is due there
-pub record TidiesAt {N C J K H : Type 0} (p : Promises N C J K H) (rules : RegistryRecord) (host : H) (first : Scene N C J K H) (found : List Ready) (k : ℕ) (service : Service) (past : Past) (service' : Service) (tools' : Tools N C J K H) : Type 0 where
+pub record TidiesAt {N C J K H : Type 0} (p : Promises N C J K H) (rules : RegistryRecord) (host : H) (first : Scene N C J K H) (found : List Ready)
+    (k : ℕ) (service : Service) (past : Past) (service' : Service) (tools' : Tools N C J K H) : Type 0 where
   pub goes : GoesAt p rules host first found k (Writing k) service past service' tools'
   pub rested : IsRestedAt k service' goes.next.world
-  pub turned : IsKnownAt k service past.world IsUnread ⊎ (IsDone (Reading k) past.deeds ⊎ IsDone (Writing k) past.deeds) → IsKnownAt k service past.world IsUnwritten ⊎ IsDone (Writing k) past.deeds →
+  pub turned : IsKnownAt k service past.world IsUnread ⊎ (IsDone (Reading k) past.deeds ⊎ IsDone (Writing k) past.deeds) →
+      IsKnownAt k service past.world IsUnwritten ⊎ IsDone (Writing k) past.deeds →
       IsKnownAt k service' goes.next.world (λ place connection. HadTurn k place connection goes.next.deeds)
   pub left : slice_get service'.due k ≡ Some true → IsLeftAt k service past.world
 
 abbrev pub LeadsToTidy : {N C J K H : Type 0} → Promises N C J K H → ℕ → Service → Tools N C J K H → Service → Tools N C J K H → Type 0
 LeadsToTidy {N} {C} {J} {K} {H} p k service tools service' tools' =
-    (rules : RegistryRecord) (host : H) (first : Scene N C J K H) (found : List Ready) (past : Past) → Served p rules host first (scene_of service tools found past) →
+    (rules : RegistryRecord) (host : H) (first : Scene N C J K H) (found : List Ready) (past : Past) →
+        Served p rules host first (scene_of service tools found past) →
     TidiesAt p rules host first found k service past service' tools'
 
 abbrev pub LeadsToRest : {N C J K H : Type 0} → Promises N C J K H → ℕ → Service → Tools N C J K H → Service → Tools N C J K H → Type 0
 LeadsToRest {N} {C} {J} {K} {H} p k service tools service' tools' =
-    (rules : RegistryRecord) (host : H) (first : Scene N C J K H) (found : List Ready) (past : Past) → IsHeardAt k service past → ¬ (IsDone (Writing k) past.deeds) → IsAllKept past.world → Served p rules host first (scene_of service tools found past) →
+    (rules : RegistryRecord) (host : H) (first : Scene N C J K H) (found : List Ready) (past : Past) → IsHeardAt k service past →
+        ¬ (IsDone (Writing k) past.deeds) → IsAllKept past.world → Served p rules host first (scene_of service tools found past) →
     SettlesAt p rules host first found k service past service' tools'
 
 -- a connection is closed, wherever the edge was reached
-pub record GoesAway {N C J K H : Type 0} (p : Promises N C J K H) (rules : RegistryRecord) (host : H) (found : List Ready) (k : ℕ) (place : Place) (service : Service) (tools : Tools N C J K H) (past : Past) (service' : Service) (tools' : Tools N C J K H) : Type 0 where
+pub record GoesAway {N C J K H : Type 0} (p : Promises N C J K H) (rules : RegistryRecord) (host : H) (found : List Ready) (k : ℕ) (place : Place)
+    (service : Service) (tools : Tools N C J K H) (past : Past) (service' : Service) (tools' : Tools N C J K H) : Type 0 where
   pub next : Past
   pub closes : Closes p rules host k place (scene_of service tools found past) (scene_of service' tools' found next)
 
@@ -209,7 +220,8 @@ abbrev pub IsSettled : Service → Past → Type 0
 IsSettled service past = (k : ℕ) → k < 64 → IsSettledAt k service past
 
 -- steps lead on, and all places are settled
-pub record GoesTo {N C J K H : Type 0} (p : Promises N C J K H) (rules : RegistryRecord) (host : H) (first : Scene N C J K H) (found : List Ready) (past : Past) (service' : Service) (tools' : Tools N C J K H) : Type 0 where
+pub record GoesTo {N C J K H : Type 0} (p : Promises N C J K H) (rules : RegistryRecord) (host : H) (first : Scene N C J K H) (found : List Ready)
+    (past : Past) (service' : Service) (tools' : Tools N C J K H) : Type 0 where
   pub next : Past
   pub served : Served p rules host first (scene_of service' tools' found next)
   pub settled : IsSettled service' next
@@ -217,27 +229,32 @@ pub record GoesTo {N C J K H : Type 0} (p : Promises N C J K H) (rules : Registr
 
 abbrev pub LeadsTo : {N C J K H : Type 0} → Promises N C J K H → List Ready → Service → Tools N C J K H → List Ready → Service → Tools N C J K H → Type 0
 LeadsTo {N} {C} {J} {K} {H} p found service tools found' service' tools' =
-    (rules : RegistryRecord) (host : H) (first : Scene N C J K H) (past : Past) → Served p rules host first (scene_of service tools found past) → IsSettled service past →
+    (rules : RegistryRecord) (host : H) (first : Scene N C J K H) (past : Past) → Served p rules host first (scene_of service tools found past) →
+        IsSettled service past →
     GoesTo p rules host first found' past service' tools'
 
 -- so they do, and where it is so then, it was tried to accept since the last wait
-pub record Accepts {N C J K H : Type 0} (p : Promises N C J K H) (rules : RegistryRecord) (host : H) (first : Scene N C J K H) (found : List Ready) (P : Type 0) (past : Past) (service' : Service) (tools' : Tools N C J K H) : Type 0 where
+pub record Accepts {N C J K H : Type 0} (p : Promises N C J K H) (rules : RegistryRecord) (host : H) (first : Scene N C J K H) (found : List Ready)
+    (P : Type 0) (past : Past) (service' : Service) (tools' : Tools N C J K H) : Type 0 where
   pub goes : GoesTo p rules host first found past service' tools'
   pub tried : P → IsDone Accepting goes.next.deeds
 
 abbrev pub LeadsToAccepts : {N C J K H : Type 0} → Promises N C J K H → List Ready → Type 0 → Service → Tools N C J K H → Service → Tools N C J K H → Type 0
 LeadsToAccepts {N} {C} {J} {K} {H} p found P service tools service' tools' =
-    (rules : RegistryRecord) (host : H) (first : Scene N C J K H) (past : Past) → Served p rules host first (scene_of service tools found past) → IsSettled service past →
+    (rules : RegistryRecord) (host : H) (first : Scene N C J K H) (past : Past) → Served p rules host first (scene_of service tools found past) →
+        IsSettled service past →
     Accepts p rules host first found P past service' tools'
 
 -- what was found ready is noted at its place
 abbrev pub LeadsToHearing : {N C J K H : Type 0} → Promises N C J K H → List Ready → Service → Tools N C J K H → List Ready → Service → Type 0
 LeadsToHearing {N} {C} {J} {K} {H} p found service tools found' service' =
-    (rules : RegistryRecord) (host : H) (first : Scene N C J K H) (past : Past) → Served p rules host first (scene_of service tools found past) → IsRested service past.world →
+    (rules : RegistryRecord) (host : H) (first : Scene N C J K H) (past : Past) → Served p rules host first (scene_of service tools found past) →
+        IsRested service past.world →
     Served p rules host first (scene_of service' tools found' past) × IsRested service' past.world
 
 -- each place below i was read, where it may be; those from i on were not, none was written to, and nothing was kept
-pub record GoesReading {N C J K H : Type 0} (p : Promises N C J K H) (rules : RegistryRecord) (host : H) (first : Scene N C J K H) (found : List Ready) (i : ℕ) (past : Past) (service' : Service) (tools' : Tools N C J K H) : Type 0 where
+pub record GoesReading {N C J K H : Type 0} (p : Promises N C J K H) (rules : RegistryRecord) (host : H) (first : Scene N C J K H) (found : List Ready)
+    (i : ℕ) (past : Past) (service' : Service) (tools' : Tools N C J K H) : Type 0 where
   pub next : Past
   pub served : Served p rules host first (scene_of service' tools' found next)
   pub rested : IsRested service' next.world
@@ -249,11 +266,13 @@ pub record GoesReading {N C J K H : Type 0} (p : Promises N C J K H) (rules : Re
 
 abbrev pub LeadsReading : {N C J K H : Type 0} → Promises N C J K H → ℕ → Service → Tools N C J K H → Service → Tools N C J K H → Type 0
 LeadsReading {N} {C} {J} {K} {H} p i service tools service' tools' =
-    (rules : RegistryRecord) (host : H) (first : Scene N C J K H) (found : List Ready) (past : Past) → ((task : Task) → ¬ (IsDone task past.deeds)) → IsRested service past.world →
+    (rules : RegistryRecord) (host : H) (first : Scene N C J K H) (found : List Ready) (past : Past) → ((task : Task) → ¬ (IsDone task past.deeds)) →
+        IsRested service past.world →
     Served p rules host first (scene_of service tools found past) → GoesReading p rules host first found i past service' tools'
 
 -- nothing is unkept, and all else is as it was
-pub record GoesKept {N C J K H : Type 0} (p : Promises N C J K H) (rules : RegistryRecord) (host : H) (first : Scene N C J K H) (found : List Ready) (service : Service) (past : Past) (tools' : Tools N C J K H) : Type 0 where
+pub record GoesKept {N C J K H : Type 0} (p : Promises N C J K H) (rules : RegistryRecord) (host : H) (first : Scene N C J K H) (found : List Ready)
+    (service : Service) (past : Past) (tools' : Tools N C J K H) : Type 0 where
   pub next : Past
   pub served : Served p rules host first (scene_of service tools' found next)
   pub kept : IsAllKept next.world
@@ -263,17 +282,20 @@ pub record GoesKept {N C J K H : Type 0} (p : Promises N C J K H) (rules : Regis
 
 abbrev pub LeadsToKept : {N C J K H : Type 0} → Promises N C J K H → Tools N C J K H → Tools N C J K H → Type 0
 LeadsToKept {N} {C} {J} {K} {H} p tools tools' =
-    (rules : RegistryRecord) (host : H) (first : Scene N C J K H) (found : List Ready) (service : Service) (past : Past) → ¬ (IsDone Keeping past.deeds) → Served p rules host first (scene_of service tools found past) →
+    (rules : RegistryRecord) (host : H) (first : Scene N C J K H) (found : List Ready) (service : Service) (past : Past) → ¬ (IsDone Keeping past.deeds) →
+        Served p rules host first (scene_of service tools found past) →
     GoesKept p rules host first found service past tools'
 
 -- or keeping failed
 abbrev pub LeadsToLoss : {N C J K H : Type 0} → Promises N C J K H → Tools N C J K H → LoopFault → Tools N C J K H → Type 0
 LeadsToLoss {N} {C} {J} {K} {H} p tools fault tools' =
-    (rules : RegistryRecord) (host : H) (first : Scene N C J K H) (found : List Ready) (service : Service) (past : Past) → ¬ (IsDone Keeping past.deeds) → Served p rules host first (scene_of service tools found past) →
+    (rules : RegistryRecord) (host : H) (first : Scene N C J K H) (found : List Ready) (service : Service) (past : Past) → ¬ (IsDone Keeping past.deeds) →
+        Served p rules host first (scene_of service tools found past) →
     Fails p (scene_of service tools found past) fault (scene_of service tools' found past)
 
 -- each place below i is settled; those from i on were heard, and not written to; and nothing is unkept
-pub record GoesWriting {N C J K H : Type 0} (p : Promises N C J K H) (rules : RegistryRecord) (host : H) (first : Scene N C J K H) (found : List Ready) (i : ℕ) (past : Past) (service' : Service) (tools' : Tools N C J K H) : Type 0 where
+pub record GoesWriting {N C J K H : Type 0} (p : Promises N C J K H) (rules : RegistryRecord) (host : H) (first : Scene N C J K H) (found : List Ready)
+    (i : ℕ) (past : Past) (service' : Service) (tools' : Tools N C J K H) : Type 0 where
   pub next : Past
   pub served : Served p rules host first (scene_of service' tools' found next)
   pub below : (j : ℕ) → j < i → IsSettledAt j service' next
@@ -285,8 +307,10 @@ pub record GoesWriting {N C J K H : Type 0} (p : Promises N C J K H) (rules : Re
 
 abbrev pub LeadsWriting : {N C J K H : Type 0} → Promises N C J K H → ℕ → Service → Tools N C J K H → Service → Tools N C J K H → Type 0
 LeadsWriting {N} {C} {J} {K} {H} p i service tools service' tools' =
-    (rules : RegistryRecord) (host : H) (first : Scene N C J K H) (found : List Ready) (past : Past) → IsRested service past.world → ((j : ℕ) → j < 64 → IsHeardAt j service past) →
-    ((j : ℕ) → ¬ (IsDone (Writing j) past.deeds)) → IsAllKept past.world → Served p rules host first (scene_of service tools found past) → GoesWriting p rules host first found i past service' tools'
+    (rules : RegistryRecord) (host : H) (first : Scene N C J K H) (found : List Ready) (past : Past) → IsRested service past.world →
+        ((j : ℕ) → j < 64 → IsHeardAt j service past) →
+    ((j : ℕ) → ¬ (IsDone (Writing j) past.deeds)) → IsAllKept past.world → Served p rules host first (scene_of service tools found past) →
+        GoesWriting p rules host first found i past service' tools'
 
 -- where an accept failed and was not tried again, it failed in this second
 abbrev pub IsTried : Service → Type 0
@@ -305,7 +329,8 @@ pub record IsReady (service : Service) (past : Past) : Type 0 where
   pub quick : IsQuick service
 
 -- steps lead through so many waits
-pub record GoesRound {N C J K H : Type 0} (p : Promises N C J K H) (rules : RegistryRecord) (host : H) (first : Scene N C J K H) (count : ℕ) (past : Past) (service' : Service) (tools' : Tools N C J K H) : Type 0 where
+pub record GoesRound {N C J K H : Type 0} (p : Promises N C J K H) (rules : RegistryRecord) (host : H) (first : Scene N C J K H) (count : ℕ)
+    (past : Past) (service' : Service) (tools' : Tools N C J K H) : Type 0 where
   pub next : Past
   pub served : Served p rules host first (scene_of service' tools' [] next)
   pub ready : IsReady service' next
@@ -313,11 +338,13 @@ pub record GoesRound {N C J K H : Type 0} (p : Promises N C J K H) (rules : Regi
 
 abbrev pub LeadsRound : {N C J K H : Type 0} → Promises N C J K H → ℕ → Service → Tools N C J K H → Service → Tools N C J K H → Type 0
 LeadsRound {N} {C} {J} {K} {H} p count service tools service' tools' =
-    (rules : RegistryRecord) (host : H) (first : Scene N C J K H) (past : Past) → Served p rules host first (scene_of service tools [] past) → IsReady service past →
+    (rules : RegistryRecord) (host : H) (first : Scene N C J K H) (past : Past) → Served p rules host first (scene_of service tools [] past) →
+        IsReady service past →
     GoesRound p rules host first count past service' tools'
 
 -- steps lead to a scene where something fails
-pub record GoesWrong {N C J K H : Type 0} (p : Promises N C J K H) (rules : RegistryRecord) (host : H) (first : Scene N C J K H) (fault : LoopFault) (service' : Service) (tools' : Tools N C J K H) : Type 0 where
+pub record GoesWrong {N C J K H : Type 0} (p : Promises N C J K H) (rules : RegistryRecord) (host : H) (first : Scene N C J K H) (fault : LoopFault)
+    (service' : Service) (tools' : Tools N C J K H) : Type 0 where
   pub last : Scene N C J K H
   pub served : Served p rules host first last
   pub found : List Ready
@@ -326,16 +353,19 @@ pub record GoesWrong {N C J K H : Type 0} (p : Promises N C J K H) (rules : Regi
 
 abbrev pub LeadsWrong : {N C J K H : Type 0} → Promises N C J K H → LoopFault → Service → Tools N C J K H → Service → Tools N C J K H → Type 0
 LeadsWrong {N} {C} {J} {K} {H} p fault service tools service' tools' =
-    (rules : RegistryRecord) (host : H) (first : Scene N C J K H) (past : Past) → Served p rules host first (scene_of service tools [] past) → IsReady service past →
+    (rules : RegistryRecord) (host : H) (first : Scene N C J K H) (past : Past) → Served p rules host first (scene_of service tools [] past) →
+        IsReady service past →
     GoesWrong p rules host first fault service' tools'
 
 -- connections that are left are closed
-pub record GoesShut {N C J K H : Type 0} (p : Promises N C J K H) (rules : RegistryRecord) (host : H) (first : Scene N C J K H) (found : List Ready) (service' : Service) (tools' : Tools N C J K H) : Type 0 where
+pub record GoesShut {N C J K H : Type 0} (p : Promises N C J K H) (rules : RegistryRecord) (host : H) (first : Scene N C J K H) (found : List Ready)
+    (service' : Service) (tools' : Tools N C J K H) : Type 0 where
   pub next : Past
   pub shuts : Shuts p rules host first (scene_of service' tools' found next)
   pub reached : Reached p.hosting tools'.edge rules host next.schedule next.world
 
 abbrev pub LeadsShut : {N C J K H : Type 0} → Promises N C J K H → Service → Tools N C J K H → Service → Tools N C J K H → Type 0
 LeadsShut {N} {C} {J} {K} {H} p service tools service' tools' =
-    (rules : RegistryRecord) (host : H) (first : Scene N C J K H) (found : List Ready) (past : Past) → Shuts p rules host first (scene_of service tools found past) →
+    (rules : RegistryRecord) (host : H) (first : Scene N C J K H) (found : List Ready) (past : Past) →
+        Shuts p rules host first (scene_of service tools found past) →
     Reached p.hosting tools.edge rules host past.schedule past.world → GoesShut p rules host first found service' tools'

@@ -1,5 +1,5 @@
 -- What the journal is told of the server, and when.
-use Rattle.std.specs.Prelude.{◌≡◌, ◌≤◌, ◌-◌, ℕ, Bool, true, nat_le, Option, Some, None, length}
+use Rattle.std.specs.Prelude.{◌≡◌, ◌≤◌, ◌-◌, ℕ, Bool, true, nat_le, Option, Some, None, IsSome, length}
 use Rattle.event_loop.specs.declared.report.LastTold.{LastTold}
 use Rattle.event_loop.specs.declared.report.Notice.{Notice}
 use Rattle.event_loop.specs.declared.report.Notice.TheVariants.{Reported, StoreFull}
@@ -23,5 +23,5 @@ is_long_ago (Some last) now seconds = nat_le seconds (now - last)
 pub data IsDue {N C J K H : Type 0} (p : Promises N C J K H) (s : Scene N C J K H) : Notice → LastTold → Type 0 where
   reported : (every : ℕ) (report : Report) → s.limits.report ≡ Some every → every ≤ s.times.steady - s.told.report → Tells p s report →
       IsDue p s (Reported report) (record s.told { report = s.times.steady })
-  full : (every : ℕ) → s.limits.report ≡ Some every → is_long_ago s.told.full s.times.steady 60 ≡ true →
+  full : IsSome s.limits.report → is_long_ago s.told.full s.times.steady 60 ≡ true →
       IsDue p s StoreFull (record s.told { full = Some s.times.steady })

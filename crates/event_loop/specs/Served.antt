@@ -77,22 +77,27 @@ pub data Step {N C J K H : Type 0} (p : Promises N C J K H) (rules : RegistryRec
       p.does s.sockets (deed.Waited limit room found) n → p.tells s.clocks (Some times) c →
       Step p rules host s (record s { sockets = n; clocks = c; deeds = deed.Waited limit room found ∷ s.deeds; found = found; times = times })
   hears_of_listener : (more : List Ready) → s.found ≡ ready.Listener ∷ more → Step p rules host s (record s { found = more; queue = told_queue s.queue })
-  hears_of : (k : ℕ) (readable writable hung : Bool) (more : List Ready) (place place' : Place) → s.found ≡ ready.Connection k readable writable hung ∷ more → slice_get s.places k ≡ Some place →
+  hears_of : (k : ℕ) (readable writable hung : Bool) (more : List Ready) (place place' : Place) → s.found ≡ ready.Connection k readable writable hung ∷
+      more → slice_get s.places k ≡ Some place →
       place' ≡ told_place place readable writable hung → Step p rules host s (record s { found = more; places = slice_set s.places k place' })
-  hears_of_none : (k : ℕ) (readable writable hung : Bool) (more : List Ready) → s.found ≡ ready.Connection k readable writable hung ∷ more → slice_get s.places k ≡ None →
+  hears_of_none : (k : ℕ) (readable writable hung : Bool) (more : List Ready) → s.found ≡ ready.Connection k readable writable hung ∷ more →
+      slice_get s.places k ≡ None →
       Step p rules host s (record s { found = more })
   comes : (s' : Scene N C J K H) → s.queue ≡ Told → Comes p rules host s s' → Step p rules host s s'
   -- in another second than an accept failed in, it is tried again
   tries_again : (since : ℕ) → s.queue ≡ Barred since → since ≢ s.times.steady → Step p rules host s (record s { queue = Told })
   reads : (k : ℕ) (place : Place) (s' : Scene N C J K H) → slice_get s.places k ≡ Some place → place.readable ≡ true → ¬ (IsDone (Reading k) s.deeds) →
       MayRead place (known s.course k) → Reads p rules host k place s s' → Step p rules host s s'
-  writes : (k : ℕ) (place : Place) (s' : Scene N C J K H) → slice_get s.places k ≡ Some place → place.writable ≡ true → ¬ (IsDone (Writing k) s.deeds) → IsAllKept s.course.world →
+  writes : (k : ℕ) (place : Place) (s' : Scene N C J K H) → slice_get s.places k ≡ Some place → place.writable ≡ true → ¬ (IsDone (Writing k) s.deeds) →
+      IsAllKept s.course.world →
       MayWrite place (known s.course k) → Writes p rules host k place s s' → Step p rules host s s'
-  closes : (k : ℕ) (place : Place) (s' : Scene N C J K H) → slice_get s.places k ≡ Some place → IsTaken place.stage → Cause s k place → Closes p rules host k place s s' → Step p rules host s s'
+  closes : (k : ℕ) (place : Place) (s' : Scene N C J K H) → slice_get s.places k ≡ Some place → IsTaken place.stage → Cause s k place →
+      Closes p rules host k place s s' → Step p rules host s s'
   -- the journal alone is another
   reports : (notice : Notice) (told : LastTold) (journal : J) → IsDue p s notice told → p.reports s.journal notice journal →
       Step p rules host s (record s { journal = journal; told = told })
-  keeps : (keeper : K) (e : SeenEdge H) (unkept : IsUnkept s.course.world) (on : GoesOn p.hosting e rules host s.course.schedule s.course.world Kept) → ¬ (IsDone Keeping s.deeds) →
+  keeps : (keeper : K) (e : SeenEdge H) (unkept : IsUnkept s.course.world) (on : GoesOn p.hosting e rules host s.course.schedule s.course.world Kept) →
+      ¬ (IsDone Keeping s.deeds) →
       Keeps p.keeping unkept.kept s.course.world.history s.keeper keeper →
       Step p rules host s (record s { keeper = keeper; course = led s.course e Kept on.world; deeds = deed.Kept ∷ s.deeds })
 
@@ -115,7 +120,9 @@ pub data Served {N C J K H : Type 0} (p : Promises N C J K H) (rules : RegistryR
 -- Connections that are left are closed and forgotten, one after another. Where reports are wanted, there is one more.
 pub data Shuts {N C J K H : Type 0} (p : Promises N C J K H) (rules : RegistryRecord) (host : H) (first : Scene N C J K H) : Scene N C J K H → Type 0 where
   stops : Shuts p rules host first first
-  shuts : {s s' : Scene N C J K H} (k : ℕ) (place : Place) → Shuts p rules host first s → slice_get s.places k ≡ Some place → IsTaken place.stage → Closes p rules host k place s s' →
+  shuts : {s s' : Scene N C J K H} (k : ℕ) (place : Place) → Shuts p rules host first s → slice_get s.places k ≡ Some place → IsTaken place.stage →
+      Closes p rules host k place s s' →
       Shuts p rules host first s'
-  reports_last : {s : Scene N C J K H} (report : Report) (journal : J) → Shuts p rules host first s → IsSome s.limits.report → Tells p s report → p.reports s.journal (Reported report) journal →
+  reports_last : {s : Scene N C J K H} (report : Report) (journal : J) → Shuts p rules host first s → IsSome s.limits.report → Tells p s report →
+      p.reports s.journal (Reported report) journal →
       Shuts p rules host first (record s { journal = journal })

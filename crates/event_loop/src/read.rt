@@ -17,10 +17,9 @@ use crate::tools::Tools;
 use change_codec::Keeper;
 use consent::Moment;
 use hook_host::HookHost;
-use http_edge::{Edge, EdgeFault, Event};
+use http_edge::{Edge, EdgeFault, Event, give};
 use messages::Draws;
 use rand_chacha::ChaCha20Rng;
-use serving::give;
 
 /// Whether a connection may be read.
 pub(crate) fn may_read<H: HookHost>(edge: &Edge<H>, place: Place, k: u32) -> bool

@@ -46,6 +46,7 @@ impl Service {
         ensures noted { result.noted ≡ None }
         ensures told { result.told ≡ record { report = times.steady; full = None } }
     {
+        let steady = times.steady;
         Service {
             places: [FREE_PLACE; 64],
             due: [false; 64],
@@ -54,13 +55,10 @@ impl Service {
             times,
             queue: Queue::Empty,
             noted: None,
-            began: times.steady,
+            began: steady,
             accepted: 0,
             full: 0,
-            told: LastTold {
-                report: times.steady,
-                full: None,
-            },
+            told: LastTold::nothing(steady),
         }
     }
 

@@ -1,8 +1,7 @@
-//! Connections over sockets without a system, and over streams in memory.
+//! Connections over sockets without a system.
 
 mod keeping;
 mod readiness;
-mod streams;
 
 use clients::{ConfigFault, Registry};
 use endpoints::Server;

@@ -18,7 +18,7 @@ use Rattle.headline.specs.declared.call.EdgeCall.{EdgeCall}
 use Rattle.headline.specs.declared.call.Upshot.{Upshot}
 use Rattle.headline.specs.Calls.{taken_after}
 use Rattle.headline.specs.Headline.{IsSafeHook, IsMade}
-use Rattle.headline.proofs.Connections.{shown}
+use Rattle.http_edge.proofs.Connections.{shown}
 use Rattle.headline.proofs.Leading.{Progress, lead_schedule, lead_upshots}
 
 -- a hook of a chain is safe

@@ -1,4 +1,3 @@
-pub mod Connections
 pub mod Talking
 pub mod Leading
 pub mod Chaining

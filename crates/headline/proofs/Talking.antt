@@ -17,7 +17,7 @@ use Rattle.http_edge.specs.Schedule.{World, Connection, Comes, Passes, Opens, En
 use Rattle.http_edge.specs.Lanes.{SeenLane, ShowsConnections}
 use Rattle.http_edge.specs.declared.lane.Phase.{Phase}
 use Rattle.http_edge.specs.declared.lane.Phase.TheVariants as phase
-use Rattle.headline.proofs.Connections.{by_number, same_connection, found_number, found_put, found_fresh, found_gone, shown, put_other, added_other, without_other}
+use Rattle.http_edge.proofs.Connections.{by_number, same_connection, found_number, found_put, found_fresh, found_gone, shown, put_other, added_other, without_other}
 
 -- requests that were answered one after another have outcomes
 pub have_outcomes : {H : Type 0} (hosting : Hosting H) (rules : RegistryRecord) (first : H) (m : ℕ) (history : List Event) (messages : List Message)

@@ -6,3 +6,5 @@ pub mod Phases
 pub mod Refusing
 pub mod Going
 pub mod RefusingWorlds
+pub mod Connections
+pub mod Words

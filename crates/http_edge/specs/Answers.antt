@@ -23,7 +23,8 @@ abbrev pub says : {H : Type 0} → Hosting H → H → Mark → HostSays
 says hosting host mark = record { answer = hosting.answer host; names = hosting.names host; fault = mark.fault }
 
 -- the request has this outcome at the history, by what a host says that comes of the first one by that history
-pub record IsAnswered {H : Type 0} (hosting : Hosting H) (rules : RegistryRecord) (first : H) (m : ℕ) (history : List Event) (asked : Asked) (draws : Draws) (mark : Mark) (outcome' : Outcome) : Type 0 where
+pub record IsAnswered {H : Type 0} (hosting : Hosting H) (rules : RegistryRecord) (first : H) (m : ℕ) (history : List Event) (asked : Asked)
+    (draws : Draws) (mark : Mark) (outcome' : Outcome) : Type 0 where
   pub host : H
   pub comes : HostRun hosting.installs hosting.removes first history host
   pub fault : IsHostFault hosting.refuses_install hosting.refuses_remove host (hook_change asked) mark.fault

@@ -29,7 +29,8 @@ pub record HasMessages (bytes : List ℕ) (count : ℕ) : Type 0 where
 
 -- the messages have outcomes, whose replies were written behind the output, the server fits what they changed, and just
 -- that is noted
-pub record IsServed {H : Type 0} (hosting : Hosting H) (server server' : Seen H) (output output' : List ℕ) (rules : RegistryRecord) (first : H) (history : List Event) (m : ℕ) (messages : List Message) (draws : List Draws) : Type 0 where
+pub record IsServed {H : Type 0} (hosting : Hosting H) (server server' : Seen H) (output output' : List ℕ) (rules : RegistryRecord) (first : H)
+    (history : List Event) (m : ℕ) (messages : List Message) (draws : List Draws) : Type 0 where
   pub marks : List Mark
   pub outcomes : List Outcome
   pub answered : AreAnswered hosting rules first m history (map asked_of_message messages) draws marks outcomes
@@ -54,7 +55,8 @@ pub record IsRead (bytes kept : List ℕ) (messages : List Message) (draws : Lis
   pub must_tell : MustTell rest → closes ≡ true
 
 -- the messages of the bytes were answered, and after them a faulty head
-pub record IsHeard {H : Type 0} (hosting : Hosting H) (server server' : Seen H) (bytes kept output output' : List ℕ) (moment : ℕ) (draws : List Draws) (closes : Bool) : Type 0 where
+pub record IsHeard {H : Type 0} (hosting : Hosting H) (server server' : Seen H) (bytes kept output output' : List ℕ) (moment : ℕ) (draws : List Draws)
+    (closes : Bool) : Type 0 where
   pub messages : List Message
   pub read : IsRead bytes kept messages draws closes
   pub middle : List ℕ
@@ -64,12 +66,15 @@ pub record IsHeard {H : Type 0} (hosting : Hosting H) (server server' : Seen H) 
 -- why bytes are refused
 abbrev pub IsHearingRefusal : EdgeFault → List ℕ → List Draws → Type 0
 IsHearingRefusal TooManyRequests bytes draws = (messages : List Message) × (rest : List ℕ) × Messages bytes messages rest × (request_limit < length messages)
-IsHearingRefusal DrawsShort bytes draws = (messages : List Message) × (rest : List ℕ) × Messages bytes messages rest × (length messages ≤ request_limit) × (length draws < length messages)
-IsHearingRefusal Memory bytes draws = (messages : List Message) × (rest : List ℕ) × Messages bytes messages rest × (length messages ≤ request_limit) × (length messages ≤ length draws)
+IsHearingRefusal DrawsShort bytes draws = (messages : List Message) × (rest : List ℕ) × Messages bytes messages rest × (length messages ≤ request_limit) ×
+    (length draws < length messages)
+IsHearingRefusal Memory bytes draws = (messages : List Message) × (rest : List ℕ) × Messages bytes messages rest × (length messages ≤ request_limit) ×
+    (length messages ≤ length draws)
 IsHearingRefusal fault bytes draws = ⊥
 
 -- a piece was heard on a lane
-pub record LaneHeard {H : Type 0} (hosting : Hosting H) (server server' : Seen H) (lane lane' : SeenLane) (piece : List ℕ) (moment : ℕ) (draws : List Draws) : Type 0 where
+pub record LaneHeard {H : Type 0} (hosting : Hosting H) (server server' : Seen H) (lane lane' : SeenLane) (piece : List ℕ) (moment : ℕ)
+    (draws : List Draws) : Type 0 where
   pub closes : Bool
   pub number_is : lane'.number ≡ lane.number
   pub phase_is : lane'.phase ≡ (if closes then Closing else Open)

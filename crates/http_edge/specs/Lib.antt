@@ -8,4 +8,6 @@ pub mod Edges
 pub mod Reached
 pub mod Events
 pub mod Refusals
+pub mod Chance
+pub mod Pieces
 pub mod FaultTexts

@@ -17,7 +17,8 @@ use Rattle.http_edge.specs.declared.lane.Phase.TheVariants.{Open}
 -- from the first one by that history, what it has noted leads to it from the one that was kept last, and the edge keeps of
 -- each connection what is known of it. Every token of that history keeps to its client's allowance, its owner's consent and
 -- its life.
-pub record Reached {H : Type 0} (hosting : Hosting H) (edge : SeenEdge H) (rules : RegistryRecord) (first : H) (schedule : List Happening) (world : World) : Type 0 where
+pub record Reached {H : Type 0} (hosting : Hosting H) (edge : SeenEdge H) (rules : RegistryRecord) (first : H) (schedule : List Happening)
+    (world : World) : Type 0 where
   pub run : Run hosting rules first start schedule world
   pub server : FitsServer hosting.installs hosting.removes edge.server rules first world.history world.greatest
   pub notes : Notes edge.server world.kept world.history
@@ -43,7 +44,8 @@ InEach hosting edge fact =
     (rules : RegistryRecord) (first : _) (schedule : List Happening) (world : World) → Reached hosting edge rules first schedule world → fact world
 
 -- one event more leads on from the world before
-pub record GoesOn {H : Type 0} (hosting : Hosting H) (edge : SeenEdge H) (rules : RegistryRecord) (first : H) (schedule : List Happening) (old : World) (e : Happening) : Type 0 where
+pub record GoesOn {H : Type 0} (hosting : Hosting H) (edge : SeenEdge H) (rules : RegistryRecord) (first : H) (schedule : List Happening) (old : World)
+    (e : Happening) : Type 0 where
   pub world : World
   pub happens : Happens hosting rules first old e world
   pub reached : Reached hosting edge rules first (schedule ++ e ∷ []) world
@@ -55,7 +57,8 @@ Leads hosting old new e =
     GoesOn hosting new rules first schedule world e
 
 -- a piece with some marks leads on
-pub record PieceGoesOn {H : Type 0} (hosting : Hosting H) (edge : SeenEdge H) (rules : RegistryRecord) (first : H) (schedule : List Happening) (old : World) (c : ℕ) (piece : List ℕ) (moment : ℕ) (draws : List Draws) : Type 0 where
+pub record PieceGoesOn {H : Type 0} (hosting : Hosting H) (edge : SeenEdge H) (rules : RegistryRecord) (first : H) (schedule : List Happening)
+    (old : World) (c : ℕ) (piece : List ℕ) (moment : ℕ) (draws : List Draws) : Type 0 where
   pub marks : List Mark
   pub closes : Bool
   pub on : GoesOn hosting edge rules first schedule old (Came c piece moment draws marks closes)

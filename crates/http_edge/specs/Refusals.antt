@@ -31,7 +31,8 @@ pub record Completes (connections : List Connection) (c : ℕ) (piece : List ℕ
 abbrev pub IsPieceRefusal : EdgeFault → List Connection → ℕ → List ℕ → List Draws → Type 0
 IsPieceRefusal NotOpen connections c piece draws = ¬ (MaySend (connection_at connections c))
 IsPieceRefusal PieceTooLong connections c piece draws = MaySend (connection_at connections c) × (piece_limit < length piece)
-IsPieceRefusal TooManyRequests connections c piece draws = (messages : List Message) × Completes connections c piece messages × (request_limit < length messages)
+IsPieceRefusal TooManyRequests connections c piece draws = (messages : List Message) × Completes connections c piece messages ×
+    (request_limit < length messages)
 IsPieceRefusal DrawsShort connections c piece draws =
     (messages : List Message) × Completes connections c piece messages × (length messages ≤ request_limit) × (length draws < length messages)
 IsPieceRefusal Memory connections c piece draws =

@@ -115,7 +115,8 @@ heard k piece messages outcomes closes = record {
 }
 
 -- bytes came on an open connection: the messages that they complete are those of its whole stream, and are answered
-pub record Comes {H : Type 0} (hosting : Hosting H) (rules : RegistryRecord) (first : H) (old new : World) (c : ℕ) (piece : List ℕ) (moment : ℕ) (draws : List Draws) (marks : List Mark) (closes : Bool) : Type 0 where
+pub record Comes {H : Type 0} (hosting : Hosting H) (rules : RegistryRecord) (first : H) (old new : World) (c : ℕ) (piece : List ℕ) (moment : ℕ)
+    (draws : List Draws) (marks : List Mark) (closes : Bool) : Type 0 where
   pub before : Connection
   pub here : connection_at old.connections c ≡ Some before
   pub is_open : before.phase ≡ Open

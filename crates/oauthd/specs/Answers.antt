@@ -2,6 +2,8 @@
 use Rattle.std.specs.Prelude.{ℕ, Option, Result, Ok, Err}
 use Rattle.hook_commands.specs.Answers.{IsAnsweredBy as IsHookAnsweredBy}
 use Rattle.hook_commands.specs.File.{File}
+use Rattle.oauthd.specs.NamedFiles.{bytes_in}
+use Rattle.oauthd.specs.declared.named_file.NamedFile.{NamedFile}
 use Rattle.hook_commands.specs.declared.command.HookCommand.{HookCommand}
 use Rattle.manual.specs.declared.page.TheConstants.{PAGE, VERSION}
 use Rattle.oauthd.specs.declared.command.Command.{Command}
@@ -22,12 +24,12 @@ IsAnsweredOfHook command file (Ok answer) = ⊥
 IsAnsweredOfHook command file (Err (faults.HookCommand fault)) = IsHookAnsweredBy command file (Err fault)
 IsAnsweredOfHook command file (Err fault) = ⊥
 
--- what a command answers, where this stands in its file; a state file is looked at at some moment
-abbrev pub IsAnsweredBy : Command → File → Result Answer PerformFault → Type 0
-IsAnsweredBy (commands.Hook command) file outcome = IsAnsweredOfHook command file outcome
+-- what a command answers, where this is its file; a state file is looked at at some moment
+abbrev pub IsAnsweredBy : Command → Option NamedFile → Result Answer PerformFault → Type 0
+IsAnsweredBy (commands.Hook command) file outcome = IsAnsweredOfHook command (bytes_in file) outcome
 IsAnsweredBy (commands.Registry path) file outcome = IsRegistryTold path.now file outcome
-IsAnsweredBy (commands.State path) file outcome = (now : Option ℕ) × IsStateTold path.now file now outcome
-IsAnsweredBy (commands.Replay path) file outcome = IsReplayedAs path.now file outcome
+IsAnsweredBy (commands.State path) file outcome = (now : Option ℕ) × IsStateTold path.now (bytes_in file) now outcome
+IsAnsweredBy (commands.Replay path) file outcome = IsReplayedAs path.now (bytes_in file) outcome
 IsAnsweredBy (commands.Help word) file outcome = IsPage PAGE.now outcome
 IsAnsweredBy (commands.Explain name) file outcome = IsExplained name.now outcome
 IsAnsweredBy commands.Version file outcome = IsPage VERSION.now outcome

@@ -16,7 +16,7 @@ use Rattle.oauthd.specs.Words.{Words}
 
 -- a call ends on the file that it names and, where it serves, on those of its hooks
 abbrev pub EndsCall : {W E : Type 0} → Startings → (W → Option (List ℕ)) → (E → Option (List ℕ)) → Call → ServiceFiles → Status → W → W → E → E → Type 0
-EndsCall starts of_out of_err (Command command) files status out out' err err' = EndsCommand of_out of_err command files.registry status out out' err err'
+EndsCall starts of_out of_err (Command command) files status out out' err err' = EndsCommand of_out of_err command files.named status out out' err err'
 EndsCall starts of_out of_err (Service service) files status out out' err err' = EndsService starts of_out of_err service files status out out' err err'
 
 -- words call for something, which ends on some files, those of the hooks that it names among them

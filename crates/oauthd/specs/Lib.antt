@@ -5,6 +5,7 @@ pub mod Endings
 pub mod Faults
 pub mod Help
 pub mod Listening
+pub mod NamedFiles
 pub mod Performed
 pub mod Printed
 pub mod Registries

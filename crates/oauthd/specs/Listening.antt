@@ -1,16 +1,18 @@
 -- How a service serves, or why it doesn't, or no longer.
-use Rattle.std.specs.Prelude.{◌≡◌, ◌⊎◌, ℕ, List, [], map, Option, option_map, IsSome}
+use Rattle.std.specs.Prelude.{◌≡◌, ◌⊎◌, ℕ, List, [], map, Option, IsSome}
 use Rattle.std.specs.Io.KnownBytes.{Appends}
 use Rattle.clients.specs.RegistryRecord.{RegistryRecord}
 use Rattle.daemon.specs.Listening.{Announces}
 use Rattle.daemon.specs.declared.fault.ListenFault.{ListenFault}
 use Rattle.event_loop.specs.declared.fault.LoopFault.{LoopFault}
+use Rattle.oauthd.specs.NamedFiles.{bytes_in}
 use Rattle.oauthd.specs.declared.call_files.CallFiles.{CallFiles}
 use Rattle.oauthd.specs.declared.fault.PerformFault.{PerformFault}
 use Rattle.oauthd.specs.declared.fault.PerformFault.TheVariants.{Stopped}
 use Rattle.oauthd.specs.declared.fault.Status.{Status}
 use Rattle.oauthd.specs.declared.fault.Status.TheVariants.{Done}
 use Rattle.oauthd.specs.declared.hook_files.HookRead.{HookRead}
+use Rattle.oauthd.specs.declared.named_file.NamedFile.{NamedFile}
 use Rattle.oauthd.specs.declared.service.ServeWords.{ServeWords}
 use Rattle.start_words.specs.declared.words.StartWords.{StartWords}
 use Rattle.oauthd.specs.declared.service.Service.{Service}
@@ -26,18 +28,17 @@ use Rattle.oauthd.specs.Services.{config_of, patience_of}
 use Rattle.oauthd.specs.Startings.{RefusesState, Startings, handed, starting_of}
 use Rattle.oauthd.specs.Statuses.{status_of}
 
--- what stands in a service's files: the registry's, and those of its hooks
+-- the file that a call is about, a service's registry, and what stands in those of its hooks
 pub record ServiceFiles : Type 0 where
-  pub registry : File
+  pub named : Option NamedFile
   pub hooks : List HookInFile
 
--- what stands in the registry's file, and in those that were read of hooks
-abbrev pub files_of : File → List HookRead → ServiceFiles
-files_of registry hooks = record { registry = registry; hooks = map in_file hooks }
-
--- what stands in the files that a call names
 abbrev pub files_in : CallFiles → ServiceFiles
-files_in files = files_of (option_map (λ v. v.items) files.named) files.hooks.items
+files_in files = record { named = files.named; hooks = map in_file files.hooks.items }
+
+-- what stands in the registry's file
+abbrev pub registry_bytes : ServiceFiles → File
+registry_bytes files = bytes_in files.named
 
 -- a service's file holds a registry, and it was printed where its server listens
 pub record HasListened (file : File) (old new : Option (List ℕ)) : Type 0 where
@@ -47,7 +48,7 @@ pub record HasListened (file : File) (old new : Option (List ℕ)) : Type 0 wher
 
 -- `serve` served its connections
 pub record HasServed (service : Service) (files : ServiceFiles) (old new : Option (List ℕ)) : Type 0 where
-  pub listened : HasListened files.registry old new
+  pub listened : HasListened (registry_bytes files) old new
   pub given : ServeWords
   pub service_is : service ≡ Serve given
 
@@ -61,7 +62,7 @@ pub record IsDeaf (file : File) (fault : PerformFault) : Type 0 where
 -- the hooks of `start` are not all taken, and this is the first one's fault
 pub record LacksHook (service : Service) (files : ServiceFiles) (fault : PerformFault) : Type 0 where
   pub registry : RegistryRecord
-  pub held : HoldsRegistry files.registry registry
+  pub held : HoldsRegistry (registry_bytes files) registry
   pub given : StartWords
   pub service_is : service ≡ Start given
   pub refused : RefusesHooks [] files.hooks fault
@@ -69,7 +70,7 @@ pub record LacksHook (service : Service) (files : ServiceFiles) (fault : Perform
 -- `start` has all its hooks, and no server is started on the file that it names for its state, for this fault
 pub record LacksState (service : Service) (files : ServiceFiles) (fault : PerformFault) : Type 0 where
   pub registry : RegistryRecord
-  pub held : HoldsRegistry files.registry registry
+  pub held : HoldsRegistry (registry_bytes files) registry
   pub given : StartWords
   pub service_is : service ≡ Start given
   pub hooks : List Named
@@ -83,7 +84,7 @@ pub record LacksState (service : Service) (files : ServiceFiles) (fault : Perfor
 -- socket
 abbrev pub ServesNothing : Service → ServiceFiles → PerformFault → Type 0
 ServesNothing service files fault =
-    HoldsNoRegistry (config_of service) files.registry fault ⊎ LacksHook service files fault ⊎ LacksState service files fault ⊎ IsDeaf files.registry fault
+    HoldsNoRegistry (config_of service) (registry_bytes files) fault ⊎ LacksHook service files fault ⊎ LacksState service files fault ⊎ IsDeaf (registry_bytes files) fault
 
 -- a service keeps its state in a file that is named: of that a torn end is told, where it is cut off
 pub record NamesState (service : Service) : Type 0 where
@@ -103,7 +104,7 @@ pub record TellsNoService (service : Service) (files : ServiceFiles) (status : S
 -- `start` had all its hooks, and its server, on the file of its state where one is named, served connections until it could not
 -- go on, for this fault
 pub record HasStopped (starts : Startings) (service : Service) (files : ServiceFiles) (fault : PerformFault) (old new : Option (List ℕ)) : Type 0 where
-  pub listened : HasListened files.registry old new
+  pub listened : HasListened (registry_bytes files) old new
   pub given : StartWords
   pub service_is : service ≡ Start given
   pub hooks : List Named

@@ -6,19 +6,19 @@ use Rattle.oauthd.specs.declared.command.Command.{Command}
 use Rattle.oauthd.specs.declared.fault.PerformFault.{PerformFault}
 use Rattle.oauthd.specs.declared.fault.Status.{Status}
 use Rattle.oauthd.specs.Answers.{IsAnsweredBy}
-use Rattle.hook_commands.specs.File.{File}
+use Rattle.oauthd.specs.declared.named_file.NamedFile.{NamedFile}
 use Rattle.oauthd.specs.Printed.{answer_text, told_text}
 use Rattle.oauthd.specs.Statuses.{status_of, status_of_answer}
 
 -- what a command answers is printed, and it is done, or a program is refused
-pub record PrintsAnswer (command : Command) (file : File) (status : Status) (old new : Option (List ℕ)) : Type 0 where
+pub record PrintsAnswer (command : Command) (file : Option NamedFile) (status : Status) (old new : Option (List ℕ)) : Type 0 where
   pub answer : Answer
   pub answered : IsAnsweredBy command file (Ok answer)
   pub done : status ≡ status_of_answer answer
   pub printed : Appends old new (answer_text answer)
 
 -- why a command has no answer is told, and the status is that of the fault
-pub record TellsFault (command : Command) (file : File) (status : Status) (old new : Option (List ℕ)) : Type 0 where
+pub record TellsFault (command : Command) (file : Option NamedFile) (status : Status) (old new : Option (List ℕ)) : Type 0 where
   pub fault : PerformFault
   pub answered : IsAnsweredBy command file (Err fault)
   pub ended : status ≡ status_of fault
@@ -26,7 +26,7 @@ pub record TellsFault (command : Command) (file : File) (status : Status) (old n
 
 -- A command ends, with what it prints and what it tells, each seen as the bytes so far: it is done, and tells nothing; or it
 -- tells a fault, and prints nothing.
-abbrev pub EndsCommand : {W E : Type 0} → (W → Option (List ℕ)) → (E → Option (List ℕ)) → Command → File → Status → W → W → E → E → Type 0
+abbrev pub EndsCommand : {W E : Type 0} → (W → Option (List ℕ)) → (E → Option (List ℕ)) → Command → Option NamedFile → Status → W → W → E → E → Type 0
 EndsCommand of_out of_err command file status out out' err err' =
     ((err' ≡ err) × PrintsAnswer command file status (of_out out) (of_out out'))
     ⊎ ((out' ≡ out) × TellsFault command file status (of_err err) (of_err err'))

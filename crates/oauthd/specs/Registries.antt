@@ -1,5 +1,5 @@
 -- What `registry` answers to a file.
-use Rattle.std.specs.Prelude.{◌≡◌, ◌≢◌, ◌^◌, ◌-◌, ⊤, ℕ, List, [], ◌++◌, length, codes, nat_lt, if◌then◌else◌, Some, None, IsSomeAnd, Result, Ok, Err}
+use Rattle.std.specs.Prelude.{◌≡◌, ◌≢◌, ◌^◌, ◌-◌, ⊤, ℕ, List, [], ◌++◌, length, codes, nat_lt, if◌then◌else◌, Option, Some, None, IsSomeAnd, Result, Ok, Err}
 use Rattle.std.specs.Fmt.{decimal}
 use Rattle.std.specs.String.{string_bytes}
 use Rattle.params.specs.Scope.{scope_text}
@@ -12,7 +12,9 @@ use Rattle.oauthd.specs.declared.answer.Answer.{Answer}
 use Rattle.oauthd.specs.declared.answer.Answer.TheVariants as answers
 use Rattle.oauthd.specs.declared.fault.PerformFault.{PerformFault}
 use Rattle.oauthd.specs.declared.fault.PerformFault.TheVariants as faults
-use Rattle.hook_commands.specs.File.{File}
+use Rattle.oauthd.specs.declared.named_file.NamedFile.{NamedFile}
+use Rattle.oauthd.specs.declared.named_file.Readers.{Readers}
+use Rattle.oauthd.specs.declared.named_file.Readers.TheVariants.{Chosen, Everybody}
 
 -- what in a registry may be a mistake, a line each
 abbrev pub warnings_text : RegistryRecord → List ℕ
@@ -40,9 +42,14 @@ scopes_text rules = codes "scopes " ++ scope_text rules.scopes (2 ^ 64 - 1) ++ c
 abbrev pub registry_text : RegistryRecord → List ℕ
 registry_text rules = lives_text rules ++ counts_text rules ++ scopes_text rules
 
--- what a registry says, and what in its text and in it may be a mistake
-abbrev pub whole_text : List ℕ → RegistryRecord → List ℕ
-whole_text json rules = registry_text rules ++ warnings_in json ++ warnings_text rules
+-- that everybody may read the keys and secrets in it, or their digests
+abbrev pub readers_text : Readers → List ℕ
+readers_text Chosen = []
+readers_text Everybody = codes "warning: everybody may read the file\n"
+
+-- what a registry says, and what in its text, in it and in who may read it may be a mistake
+abbrev pub whole_text : NamedFile → RegistryRecord → List ℕ
+whole_text file rules = registry_text rules ++ warnings_in file.bytes.items ++ warnings_text rules ++ readers_text file.readers
 
 -- the first fault of text that is no registry, and where it lies, unless that is the text as a whole
 abbrev pub IsFaultTold : List ℕ → PerformFault → Type 0
@@ -50,14 +57,14 @@ IsFaultTold json (faults.ConfigAt fault spot) = (fault ≢ config.Memory) × (re
 IsFaultTold json (faults.Config fault) = (fault ≢ config.Memory) × (registry_in json ≡ Err fault) × (spot_in json ≡ None)
 IsFaultTold json fault = ⊥
 
--- the text tells of the registry that JSON text stands for
-abbrev pub IsRegistryText : List ℕ → List ℕ → Type 0
-IsRegistryText text json = (rules : RegistryRecord) × (registry_in json ≡ Ok rules) × (text ≡ whole_text json rules)
+-- the text tells of the registry that a file's text stands for
+abbrev pub IsRegistryText : List ℕ → NamedFile → Type 0
+IsRegistryText text file = (rules : RegistryRecord) × (registry_in file.bytes.items ≡ Ok rules) × (text ≡ whole_text file rules)
 
 -- what `registry` answers to the file of a path
-abbrev pub IsRegistryTold : List ℕ → File → Result Answer PerformFault → Type 0
+abbrev pub IsRegistryTold : List ℕ → Option NamedFile → Result Answer PerformFault → Type 0
 IsRegistryTold path file (Ok (answers.Listing text)) = IsSomeAnd file (IsRegistryText (string_bytes text))
 IsRegistryTold path file (Ok answer) = ⊥
 IsRegistryTold path file (Err (faults.CannotRead named)) = (file ≡ None) × (named.now ≡ path)
 IsRegistryTold path file (Err faults.OutOfMemory) = ⊤
-IsRegistryTold path file (Err fault) = IsSomeAnd file (λ json. IsFaultTold json fault)
+IsRegistryTold path file (Err fault) = IsSomeAnd file (λ found. IsFaultTold found.bytes.items fault)

@@ -9,15 +9,15 @@ ghost use Rattle.oauthd.specs.declared.fault.PerformFault.TheVariants.{OutOfMemo
 use crate::call::Call;
 use crate::fault::PerformFault;
 use crate::hook_files::{HookRead, read_hooks};
-use crate::named_file::file_at;
+use crate::named_file::{NamedFile, file_at};
 use std::rt::Files;
 
-/// What stands in the files that a call names.
+/// The files that a call names.
 #[derive(Drop)]
 pub struct CallFiles<'w> {
-    /// In the file that it is about: `None` where it names none, or that cannot be read.
-    pub named: Option<Vec<u8>>,
-    /// In those of its hooks.
+    /// The file that it is about: `None` where it names none, or that cannot be read.
+    pub named: Option<NamedFile>,
+    /// What stands in those of its hooks.
     pub hooks: Vec<HookRead<'w>>,
 }
 

@@ -11,6 +11,7 @@ use crate::commands::registry::told_registry;
 use crate::commands::replay::replayed;
 use crate::commands::state::told_state;
 use crate::fault::PerformFault;
+use crate::named_file::{NamedFile, bytes_in};
 use crate::options::{to_ask, to_trace, with_option};
 use consent::Moment;
 use hook_commands::HookCommand;
@@ -128,24 +129,24 @@ impl<'w> Command<'w> {
         }
     }
 
-    /// What the command answers. `file` is what stands in its file, and `None` where that cannot be read; `now` is the moment,
-    /// where it is known.
+    /// What the command answers. `file` is its file, and `None` where that cannot be read; `now` is the
+    /// moment, where it is known.
     pub fn answer(
         self,
         alloc: Global,
-        file: Option<&[u8]>,
+        file: Option<&NamedFile>,
         now: Option<Moment>,
     ) -> Result<Answer, PerformFault<'w>>
         ensures { IsAnsweredBy self.entry (option_copied file.entry) result }
     {
         match self {
-            Command::Hook(command) => match command.answer(alloc, file) {
+            Command::Hook(command) => match command.answer(alloc, bytes_in(file)) {
                 Ok(answer) => Ok(Answer::Hook(answer)),
                 Err(fault) => Err(PerformFault::HookCommand(fault)),
             },
             Command::Registry { path } => told_registry(alloc, path, file),
-            Command::State { path } => told_state(alloc, path, file, now),
-            Command::Replay { path } => replayed(alloc, path, file),
+            Command::State { path } => told_state(alloc, path, bytes_in(file), now),
+            Command::Replay { path } => replayed(alloc, path, bytes_in(file)),
             Command::Help(_) => Ok(Answer::Page(PAGE)),
             Command::Explain { name } => explained(name),
             Command::Version => Ok(Answer::Page(VERSION)),

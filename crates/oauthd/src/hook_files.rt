@@ -8,7 +8,7 @@ ghost use Rattle.oauthd.specs.Hooks.{AreFactsOf, fact_of, HoldsCode, in_file, Is
 ghost use Rattle.oauthd.specs.declared.fault.PerformFault.TheVariants.{OutOfMemory};
 
 use crate::fault::PerformFault;
-use crate::named_file::file_at;
+use crate::named_file::bytes_at;
 use hook_chain::Chain;
 use hook_commands::bytes_of_hex;
 use hook_host::{HookFault, HookHost};
@@ -37,7 +37,7 @@ pub fn read_hooks<'w>(
 {
     let mut all = Vec::new(rt.alloc());
     for hook in hooks {
-        let bytes = file_at(rt, Some(hook.path))?;
+        let bytes = bytes_at(rt, hook.path)?;
         let Ok(()) = all.push(HookRead { hook: *hook, bytes }) else {
             return Err(PerformFault::OutOfMemory);
         };

@@ -13,10 +13,11 @@ ghost use Rattle.oauthd.specs.Statuses.{status_of};
 use crate::call::Call;
 use crate::call_files::{CallFiles, read_files};
 use crate::command::Command;
-use crate::commands::config_file::registry_in;
+use crate::commands::config_file::registry_of;
 use crate::fault::{PerformFault, Status};
 use crate::hook_files::{HooksTaken, take_hooks};
 use crate::moment::moment_now;
+use crate::named_file::NamedFile;
 use crate::service::Service;
 use crate::state::start_at;
 use batch_file::disk_file::DiskFile;
@@ -42,12 +43,12 @@ pub enum Unwritten {
     Fault,
 }
 
-/// Carries out a command that answers. `file` is what stands in the file that it names, and `None` where that cannot be
-/// read; `now` is the moment, where it is known. The answer goes to `out`, once all of it is known; a fault goes to `err` as one line.
+/// Carries out a command that answers. `file` is the file that it names, and `None` where that cannot be read; `now` is the
+/// moment, where it is known. The answer goes to `out`, once all of it is known; a fault goes to `err` as one line.
 pub fn carry_out<W: Write, E: Write>(
     alloc: Global,
     command: Command<'_>,
-    file: Option<&[u8]>,
+    file: Option<&NamedFile>,
     now: Option<Moment>,
     out: &mut W,
     err: &mut E,
@@ -68,7 +69,7 @@ pub fn carry_out<W: Write, E: Write>(
 pub fn perform_command<W: Write, E: Write>(
     alloc: Global,
     command: Command<'_>,
-    file: Option<&[u8]>,
+    file: Option<&NamedFile>,
     now: Option<Moment>,
     out: &mut W,
     err: &mut E,
@@ -126,7 +127,7 @@ pub fn told<E: Write>(fault: PerformFault<'_>, err: &mut E) -> Status
     }
 }
 
-/// Serves, until that is over, or can't go on.
+/// Serves, until that is over, or can't go on. Of the registry's text nothing stays in memory.
 fn serve_as<
     'r,
     'e,
@@ -137,17 +138,18 @@ fn serve_as<
 >(
     rt: &'r R,
     service: &Service<'w>,
-    files: &CallFiles<'w>,
+    files: CallFiles<'w>,
     out: &mut W,
     err: &mut E,
 ) -> Result<(), PerformFault<'w>>
-    ensures done { OnOk result (HasServed service.now (files_in files.now) (W.contents out.old) (W.contents out.new)) }
+    ensures done { OnOk result (HasServed service.now (files_in files) (W.contents out.old) (W.contents out.new)) }
     ensures fault { IfErr result (λ fault.
         FailsService (startings ⟦<MachineClocks<'r, R> as Clocks>⟧
         ⟦<LineJournal<'e, E> as Journal>⟧ ⟦<StateKeeper<DiskFile<'r, R>> as Keeper>⟧)
-        W.contents service.now (files_in files.now) fault out.old out.new err.old err.new) }
+        W.contents service.now (files_in files) fault out.old out.new err.old err.new) }
 {
-    let registry = registry_in(rt.alloc(), service.config(), files.named.as_deref())?;
+    let CallFiles { named, hooks } = files;
+    let registry = registry_of(rt.alloc(), service.config(), named)?;
     let given = match service {
         Service::Start(given) => given,
         Service::Serve(given) => {
@@ -155,7 +157,7 @@ fn serve_as<
             return Ok(());
         }
     };
-    let HooksTaken { chain, codes } = take_hooks(rt.alloc(), &files.hooks)?;
+    let HooksTaken { chain, codes } = take_hooks(rt.alloc(), &hooks)?;
     let patience = Patience {
         silence: given.options.silence(),
         full: given.options.full(),
@@ -182,12 +184,12 @@ pub fn perform_service<
     R: Files<File = File> + Net + Clock + RandomSource + AllocGlobal,
     W: Write,
     E: Write + 'e,
->(rt: &'r R, service: &Service<'_>, files: &CallFiles<'_>, out: &mut W, err: &mut E) -> Status
+>(rt: &'r R, service: &Service<'_>, files: CallFiles<'_>, out: &mut W, err: &mut E) -> Status
     // Bad use may be that of a fault that could not be told.
     ensures { (result ≡ Status.BadUse)
         ⊎ EndsService (startings ⟦<MachineClocks<'r, R> as Clocks>⟧
         ⟦<LineJournal<'e, E> as Journal>⟧ ⟦<StateKeeper<DiskFile<'r, R>> as Keeper>⟧)
-        W.contents E.contents service.now (files_in files.now) result out.old out.new err.old err.new }
+        W.contents E.contents service.now (files_in files) result out.old out.new err.old err.new }
 {
     match serve_as(rt, service, files, out, err) {
         Ok(()) => Status::Done,
@@ -202,16 +204,16 @@ fn perform_call<
     R: Files<File = File> + Net + Clock + RandomSource + AllocGlobal,
     W: Write,
     E: Write + 'e,
->(rt: &'r R, call: &Call<'_>, files: &CallFiles<'_>, out: &mut W, err: &mut E) -> Status
+>(rt: &'r R, call: &Call<'_>, files: CallFiles<'_>, out: &mut W, err: &mut E) -> Status
     // Bad use may be that of a write that failed.
     ensures { (result ≡ Status.BadUse)
         ⊎ EndsCall (startings ⟦<MachineClocks<'r, R> as Clocks>⟧
         ⟦<LineJournal<'e, E> as Journal>⟧ ⟦<StateKeeper<DiskFile<'r, R>> as Keeper>⟧)
-        W.contents E.contents call.now (files_in files.now) result out.old out.new err.old err.new }
+        W.contents E.contents call.now (files_in files) result out.old out.new err.old err.new }
 {
     match call {
         Call::Command(command) => {
-            let file = files.named.as_deref();
+            let file = files.named.as_ref();
             perform_command(rt.alloc(), *command, file, moment_now(rt), out, err)
         }
         Call::Service(service) => perform_service(rt, service, files, out, err),
@@ -238,7 +240,7 @@ pub fn perform<
         Err(fault) => return told(fault, err),
     };
     match read_files(rt, &call) {
-        Ok(files) => perform_call(rt, &call, &files, out, err),
+        Ok(files) => perform_call(rt, &call, files, out, err),
         Err(fault) => told(fault, err),
     }
 }

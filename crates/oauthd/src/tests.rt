@@ -10,6 +10,7 @@ mod words;
 
 use crate::call::Call;
 use crate::fault::{PerformFault, Status};
+use crate::named_file::{NamedFile, Readers};
 use crate::perform::{perform_command, told};
 use consent::Moment;
 use std::alloc::{AllocError, Global};
@@ -108,11 +109,21 @@ fn words_of(alloc: Global, texts: &[&str]) -> Result<Vec<String>, AllocError> {
     Ok(words)
 }
 
-/// Carries out the command that words name, with this in its file, and gives the exit status.
+/// A file of these bytes, which chosen ones may read, if there is one.
+fn file_of(alloc: Global, bytes: Option<&[u8]>) -> Result<Option<NamedFile>, AllocError> {
+    let Some(bytes) = bytes else {
+        return Ok(None);
+    };
+    let bytes = Vec::from_slice(alloc, bytes)?;
+    let readers = Readers::Chosen;
+    Ok(Some(NamedFile { bytes, readers }))
+}
+
+/// Carries out the command that words name, on its file, and gives the exit status.
 fn perform<W: Write, E: Write>(
     alloc: Global,
     words: &[String],
-    file: Option<&[u8]>,
+    file: Option<&NamedFile>,
     out: &mut W,
     err: &mut E,
 ) -> u8 {
@@ -124,11 +135,12 @@ fn perform<W: Write, E: Write>(
     status.code()
 }
 
-/// Carries out the command of some words. Only the words and the command itself take memory.
+/// Carries out the command of some words. Only the words, the file and the command itself take memory.
 fn performed(alloc: Global, texts: &[&str], file: Option<&[u8]>) -> Result<Ended, AllocError> {
     let words = words_of(alloc, texts)?;
+    let file = file_of(alloc, file)?;
     let (mut out, mut err) = (blank_page(), blank_page());
-    let status = perform(alloc, &words, file, &mut out, &mut err);
+    let status = perform(alloc, &words, file.as_ref(), &mut out, &mut err);
     Ok(Ended { status, out, err })
 }
 

@@ -15,7 +15,7 @@ use Rattle.serving.specs.Streams.{Doing, Received, ReadFailed, Sent, Carries, no
 use Rattle.serving.specs.Served.{Scene, Stage, Coming, Reading, Finished, Ended, Served, Left, MayWrite, IsAttentive, Writes, WriteFails, Step, Runs, none, more, begins, goes, opens, denies, hears, refuses, loses_time, breaks, finishes, stops, closes, ends, ends_nothing, is_over, writes, fails_to_write, forgets}
 use Rattle.serving.specs.Answered.{Exchange, MayLose, IsServed, IsDenied, Answers}
 use Rattle.serving.specs.declared.fault.ServeFault.{ServeFault}
-use Rattle.serving.proofs.Connections.{same_connection, found_put, found_fresh, shown}
+use Rattle.http_edge.proofs.Connections.{same_connection, found_put, found_fresh, shown}
 
 module _ {H S : Type 0} (hosting : Hosting H) (does : S → Doing → S → Type 0) (c : ℕ) (rules : RegistryRecord) (first : H) (schedule : List Happening) (s0 : S) where
   -- an exchange at this edge and stream, with nothing lost

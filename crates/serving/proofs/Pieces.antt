@@ -2,7 +2,7 @@
 use Rattle.std.proofs.Common.{◌≡◌, ℕ, ◌+◌, ◌%◌, ◌^◌, ◌<◌, ◌≤◌, List, length, take, drop, ap, ◌∙◌, arith}
 use Rattle.std.proofs.lemmas.List.{length-take, length-drop}
 use Rattle.rand_chacha.specs.ChaCha.{ChaCha}
-use Rattle.serving.specs.Chance.{moved}
+use Rattle.http_edge.specs.Chance.{moved}
 
 pub piece_comes : (n : ℕ) (xs : List ℕ) → 0 < n → n ≤ length xs → 0 < length (take n xs)
 piece_comes n xs some within = grind (arith, length-take)

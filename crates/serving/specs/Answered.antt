@@ -16,7 +16,8 @@ use Rattle.serving.specs.declared.fault.ServeFault.TheVariants as Fault
 -- What came and went on a stream, and how the connection stands then. The bytes that came are the connection's, but for
 -- those that were lost. Its requests are the messages in them. What was written is a front of all its output: of the
 -- replies to its requests, as the schedule has them.
-pub record Exchange {H S : Type 0} (hosting : Hosting H) (does : S → Doing → S → Type 0) (c : ℕ) (rules : RegistryRecord) (first : H) (schedule : List Happening) (old : S) (edge : SeenEdge H) (new : S) (lost : List ℕ) : Type 0 where
+pub record Exchange {H S : Type 0} (hosting : Hosting H) (does : S → Doing → S →
+    Type 0) (c : ℕ) (rules : RegistryRecord) (first : H) (schedule : List Happening) (old : S) (edge : SeenEdge H) (new : S) (lost : List ℕ) : Type 0 where
   pub heard : List ℕ
   pub written : List ℕ
   pub carries : Carries does old heard written new
@@ -37,7 +38,8 @@ MayLose (Some Fault.Clock) lost = length lost ≤ piece_limit
 MayLose fault lost = lost ≡ []
 
 -- a connection was opened, served up to this fault or to its end, and forgotten; at its end all its output is written
-pub record IsServed {H S : Type 0} (hosting : Hosting H) (does : S → Doing → S → Type 0) (c : ℕ) (rules : RegistryRecord) (first : H) (schedule : List Happening) (old : S) (fault : Option ServeFault) (edge : SeenEdge H) (new : S) : Type 0 where
+pub record IsServed {H S : Type 0} (hosting : Hosting H) (does : S → Doing → S →
+    Type 0) (c : ℕ) (rules : RegistryRecord) (first : H) (schedule : List Happening) (old : S) (fault : Option ServeFault) (edge : SeenEdge H) (new : S) : Type 0 where
   pub before : SeenEdge H
   pub lost : List ℕ
   pub may_lose : MayLose fault lost
@@ -46,7 +48,8 @@ pub record IsServed {H S : Type 0} (hosting : Hosting H) (does : S → Doing →
   pub forgotten : GoesOn hosting edge rules first (schedule ++ exchange.events) exchange.world (Forgotten c)
 
 -- it could not be opened, and nothing was done
-pub record IsDenied {H S : Type 0} (c : ℕ) (connections : List Connection) (old : SeenEdge H) (stream : S) (fault : Option ServeFault) (new : SeenEdge H) (stream' : S) : Type 0 where
+pub record IsDenied {H S : Type 0} (c : ℕ) (connections : List Connection) (old : SeenEdge H) (stream : S) (fault : Option ServeFault)
+    (new : SeenEdge H) (stream' : S) : Type 0 where
   pub cause : EdgeFault
   pub is_fault : fault ≡ Some (Fault.Refused cause)
   pub is_refusal : IsOpeningRefusal cause connections c

@@ -1,4 +1,3 @@
-pub mod Chance
 pub mod Streams
 pub mod FaultTexts
 pub mod Served

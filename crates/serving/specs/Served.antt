@@ -8,7 +8,8 @@ use Rattle.http_edge.specs.Lanes.{lane_at}
 use Rattle.http_edge.specs.Edges.{SeenEdge, output_of}
 use Rattle.http_edge.specs.Refusals.{IsOpeningRefusal, IsPieceRefusal, IsEndingRefusal}
 use Rattle.http_edge.specs.Reached.{Reached, Leads, PieceLeads, is_closing}
-use Rattle.serving.specs.Chance.{next_draws, moved}
+use Rattle.http_edge.specs.Chance.{moved}
+use Rattle.http_edge.specs.Pieces.{WhereReached, PieceGiven, PieceRefused}
 use Rattle.serving.specs.Streams.{Doing, Received, ReadFailed, Sent, WriteFailed}
 use Rattle.http_edge.specs.declared.fault.EdgeFault.{EdgeFault}
 use Rattle.http_edge.specs.declared.fault.EdgeFault.TheVariants.{DrawsShort}
@@ -26,10 +27,6 @@ piece_limit = 512
 -- so many pieces are read of one connection at most
 abbrev pub read_limit : ℕ
 read_limit = 1048576
-
--- so many draws are a piece's, of 16 words each
-abbrev pub draws_limit : ℕ
-draws_limit = 64
 
 -- what a connection is served with
 pub record Scene (H S C : Type 0) : Type 0 where
@@ -54,11 +51,6 @@ MayWrite (Reading n) = ⊤
 MayWrite Ended = ⊤
 MayWrite stage = ⊥
 
--- it holds of the connections, wherever the edge was reached
-abbrev pub WhereReached : {H : Type 0} → Hosting H → SeenEdge H → (List Connection → Type 0) → Type 0
-WhereReached hosting edge P =
-    (rules : RegistryRecord) (first : _) (schedule : List Happening) (world : World) → Reached hosting edge rules first schedule world → P world.connections
-
 -- the connection had the 400 of a faulty head, or not
 abbrev pub ClosingIs : {H : Type 0} → Hosting H → SeenEdge H → ℕ → Bool → Type 0
 ClosingIs hosting edge c closing = WhereReached hosting edge (λ connections. closing ≡ is_closing (connection_at connections c))
@@ -68,20 +60,6 @@ pub record IsAttentive {H : Type 0} (hosting : Hosting H) (edge : SeenEdge H) (c
   pub written : output_of edge c ≡ []
   pub stays : ClosingIs hosting edge c false
 
--- A piece was given to the edge with the next draws of a generator, or refused. The generator stands right behind them.
-pub record PieceGiven {H : Type 0} (hosting : Hosting H) (old new : SeenEdge H) (c : ℕ) (piece : List ℕ) (moment : ℕ) (g g' : ChaCha) : Type 0 where
-  pub count : ℕ
-  pub few : count ≤ draws_limit
-  pub leads : PieceLeads hosting old new c piece moment (next_draws g count)
-  pub after : g' ≡ moved g (16 * count)
-
-pub record PieceRefused {H : Type 0} (hosting : Hosting H) (edge : SeenEdge H) (c : ℕ) (piece : List ℕ) (g g' : ChaCha) (fault : EdgeFault) : Type 0 where
-  pub count : ℕ
-  pub few : count ≤ draws_limit
-  pub enough : fault ≡ DrawsShort → count ≡ draws_limit
-  pub refused : WhereReached hosting edge (λ connections. IsPieceRefusal fault connections c piece (next_draws g count))
-  pub after : g' ≡ moved g (16 * count)
-
 -- fronts of the output are written, one after another, and just as much is taken
 pub data Writes {H S : Type 0} (hosting : Hosting H) (does : S → Doing → S → Type 0) (c : ℕ) (first : SeenEdge H) (start : S) : SeenEdge H → S → Type 0 where
   none : Writes hosting does c first start first start
@@ -89,12 +67,14 @@ pub data Writes {H S : Type 0} (hosting : Hosting H) (does : S → Doing → S �
       does s (Sent (take n (output_of e c))) s' → Leads hosting e e' (Taken c n) → Writes hosting does c first start e' s'
 
 -- all of it
-pub record IsWritten {H S : Type 0} (hosting : Hosting H) (does : S → Doing → S → Type 0) (c : ℕ) (e : SeenEdge H) (s : S) (e' : SeenEdge H) (s' : S) : Type 0 where
+pub record IsWritten {H S : Type 0} (hosting : Hosting H) (does : S → Doing → S →
+    Type 0) (c : ℕ) (e : SeenEdge H) (s : S) (e' : SeenEdge H) (s' : S) : Type 0 where
   pub writes : Writes hosting does c e s e' s'
   pub all : output_of e' c ≡ []
 
 -- not all of it, and then a write fails or takes no byte
-pub record WriteFails {H S : Type 0} (hosting : Hosting H) (does : S → Doing → S → Type 0) (c : ℕ) (e : SeenEdge H) (s : S) (e' : SeenEdge H) (s' : S) : Type 0 where
+pub record WriteFails {H S : Type 0} (hosting : Hosting H) (does : S → Doing → S →
+    Type 0) (c : ℕ) (e : SeenEdge H) (s : S) (e' : SeenEdge H) (s' : S) : Type 0 where
   pub before : S
   pub writes : Writes hosting does c e s e' before
   pub some_left : 0 < length (output_of e' c)
@@ -104,17 +84,21 @@ abbrev pub at : {H S C : Type 0} → SeenEdge H → S → C → ChaCha → Scene
 at edge stream clock g = record { edge = edge; stream = stream; clock = clock; generator = g }
 
 -- What may be done at a stage, and the stage that comes of it. Each piece that was read takes 64 draws of 16 words.
-pub data Step {H S C : Type 0} (hosting : Hosting H) (does : S → Doing → S → Type 0) (tells : C → Option ℕ → C → Type 0) (c : ℕ) : Stage → Scene H S C → Stage → Scene H S C → Type 0 where
+pub data Step {H S C : Type 0} (hosting : Hosting H) (does : S → Doing → S → Type 0) (tells : C → Option ℕ → C → Type 0) (c : ℕ) : Stage → Scene H S C →
+    Stage → Scene H S C → Type 0 where
   opens : {e e' : SeenEdge H} {s : S} {k : C} {g : ChaCha} → Leads hosting e e' (Opened c) →
       Step hosting does tells c Coming (at e s k g) (Reading 0) (at e' s k g)
   denies : {e : SeenEdge H} {s : S} {k : C} {g : ChaCha} (fault : EdgeFault) → WhereReached hosting e (λ connections. IsOpeningRefusal fault connections c) →
       Step hosting does tells c Coming (at e s k g) (Left (Some (Fault.Refused fault))) (at e s k g)
   -- a piece was read, and given at the moment that the clock told
   hears : {e e' : SeenEdge H} {s s' : S} {k k' : C} {g behind g' : ChaCha} (n : ℕ) (piece : List ℕ) (moment : ℕ) → n < read_limit → IsAttentive hosting e c →
-      0 < length piece → length piece ≤ piece_limit → does s (Received piece) s' → tells k (Some moment) k' → PieceGiven hosting e e' c piece moment g behind → g' ≡ moved g 1024 →
+      0 < length piece → length piece ≤ piece_limit → does s (Received piece) s' → tells k (Some moment) k' →
+          PieceGiven hosting e e' c piece moment g behind → g' ≡ moved g 1024 →
       Step hosting does tells c (Reading n) (at e s k g) (Reading (n + 1)) (at e' s' k' g')
-  refuses : {e : SeenEdge H} {s s' : S} {k k' : C} {g behind g' : ChaCha} (n : ℕ) (piece : List ℕ) (moment : ℕ) (fault : EdgeFault) → n < read_limit → IsAttentive hosting e c →
-      0 < length piece → length piece ≤ piece_limit → does s (Received piece) s' → tells k (Some moment) k' → PieceRefused hosting e c piece g behind fault → g' ≡ moved g 1024 →
+  refuses : {e : SeenEdge H} {s s' : S} {k k' : C} {g behind g' : ChaCha} (n : ℕ) (piece : List ℕ) (moment : ℕ) (fault : EdgeFault) → n < read_limit →
+      IsAttentive hosting e c →
+      0 < length piece → length piece ≤ piece_limit → does s (Received piece) s' → tells k (Some moment) k' → PieceRefused hosting e c piece g behind fault →
+          g' ≡ moved g 1024 →
       Step hosting does tells c (Reading n) (at e s k g) (Served (Some (Fault.Refused fault))) (at e s' k' g')
   loses_time : {e : SeenEdge H} {s s' : S} {k k' : C} {g g' : ChaCha} (n : ℕ) (piece : List ℕ) → n < read_limit → IsAttentive hosting e c →
       0 < length piece → length piece ≤ piece_limit → does s (Received piece) s' → tells k None k' → g' ≡ moved g 1024 →
@@ -130,7 +114,8 @@ pub data Step {H S C : Type 0} (hosting : Hosting H) (does : S → Doing → S �
       Step hosting does tells c (Reading n) (at e s k g) (Served None) (at e s k g)
   ends : {e e' : SeenEdge H} {s : S} {k : C} {g : ChaCha} → Leads hosting e e' (HasEnded c) →
       Step hosting does tells c Finished (at e s k g) Ended (at e' s k g)
-  ends_nothing : {e : SeenEdge H} {s : S} {k : C} {g : ChaCha} (fault : EdgeFault) → WhereReached hosting e (λ connections. IsEndingRefusal fault connections c) →
+  ends_nothing : {e : SeenEdge H} {s : S} {k : C} {g : ChaCha} (fault : EdgeFault) →
+      WhereReached hosting e (λ connections. IsEndingRefusal fault connections c) →
       Step hosting does tells c Finished (at e s k g) (Served (Some (Fault.Refused fault))) (at e s k g)
   is_over : {e : SeenEdge H} {s : S} {k : C} {g : ChaCha} → output_of e c ≡ [] →
       Step hosting does tells c Ended (at e s k g) (Served None) (at e s k g)
@@ -142,9 +127,11 @@ pub data Step {H S C : Type 0} (hosting : Hosting H) (does : S → Doing → S �
       Step hosting does tells c (Served fault) (at e s k g) (Left fault) (at e' s k g)
 
 -- step by step
-pub data Runs {H S C : Type 0} (hosting : Hosting H) (does : S → Doing → S → Type 0) (tells : C → Option ℕ → C → Type 0) (c : ℕ) (first_stage : Stage) (first : Scene H S C) : Stage → Scene H S C → Type 0 where
+pub data Runs {H S C : Type 0} (hosting : Hosting H) (does : S → Doing → S → Type 0) (tells : C → Option ℕ → C →
+    Type 0) (c : ℕ) (first_stage : Stage) (first : Scene H S C) : Stage → Scene H S C → Type 0 where
   begins : Runs hosting does tells c first_stage first first_stage first
-  goes : {stage stage' : Stage} {old new : Scene H S C} → Runs hosting does tells c first_stage first stage old → Step hosting does tells c stage old stage' new →
+  goes : {stage stage' : Stage} {old new : Scene H S C} → Runs hosting does tells c first_stage first stage old →
+      Step hosting does tells c stage old stage' new →
       Runs hosting does tells c first_stage first stage' new
 
 -- whatever led to the one stage and scene, steps lead on to the other

@@ -30,7 +30,9 @@ does_by remaining contents old WriteFailed new = Keeps (contents old) (contents 
 -- one write after another.
 pub data Carries {S : Type 0} (does : S → Doing → S → Type 0) (first : S) : (heard written : List ℕ) → S → Type 0 where
   nothing : Carries does first [] [] first
-  receives : {heard written : List ℕ} {s s' : S} (bytes : List ℕ) → Carries does first heard written s → does s (Received bytes) s' → Carries does first (heard ++ bytes) written s'
-  sends : {heard written : List ℕ} {s s' : S} (bytes : List ℕ) → Carries does first heard written s → does s (Sent bytes) s' → Carries does first heard (written ++ bytes) s'
+  receives : {heard written : List ℕ} {s s' : S} (bytes : List ℕ) → Carries does first heard written s → does s (Received bytes) s' →
+      Carries does first (heard ++ bytes) written s'
+  sends : {heard written : List ℕ} {s s' : S} (bytes : List ℕ) → Carries does first heard written s → does s (Sent bytes) s' →
+      Carries does first heard (written ++ bytes) s'
   fails_to_receive : {heard written : List ℕ} {s s' : S} → Carries does first heard written s → does s ReadFailed s' → Carries does first heard written s'
   fails_to_send : {heard written : List ℕ} {s s' : S} → Carries does first heard written s → does s WriteFailed s' → Carries does first heard written s'

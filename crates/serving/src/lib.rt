@@ -3,16 +3,12 @@
 //! It knows streams, clocks and generators of draws by what they do, and no socket.
 #![tactic(auto)]
 
-mod chance;
 mod clock;
 mod fault;
-mod piece;
 mod serve;
 mod stream;
 
-pub use chance::draw;
 pub use clock::Clock;
 pub use fault::ServeFault;
-pub use piece::give;
 pub use serve::serve_one;
 pub use stream::Stream;

@@ -9,10 +9,9 @@ ghost use Rattle.serving.specs.declared.fault.ServeFault.TheVariants.{Write};
 
 use crate::clock::Clock;
 use crate::fault::ServeFault;
-use crate::piece::give;
 use crate::stream::Stream;
 use hook_host::HookHost;
-use http_edge::{Edge, Event};
+use http_edge::{Edge, Event, give};
 use rand_chacha::ChaCha20Rng;
 
 /// So many bytes has a piece at most.

@@ -56,7 +56,8 @@ opened_at Kept = []
 opened_at (Resumed history greatest) = []
 
 -- lines were run: their events lead to the edge, and these connections were opened
-pub record RunTo {H : Type 0} (hosting : Hosting H) (rules : RegistryRecord) (first : H) (lines : List (List ℕ)) (edge : SeenEdge H) (opened : List ℕ) : Type 0 where
+pub record RunTo {H : Type 0} (hosting : Hosting H) (rules : RegistryRecord) (first : H) (lines : List (List ℕ)) (edge : SeenEdge H)
+    (opened : List ℕ) : Type 0 where
   pub schedule : List Happening
   pub stand_for : StandFor lines schedule
   pub world : World

@@ -1,26 +1,27 @@
 //! Files in which a registry stands.
 
 ghost use Rattle.std.specs.Prelude.{IfOk, IfErr};
-ghost use Rattle.std.specs.Option.{option_copied};
 ghost use Rattle.oauthd.specs.Config.{HoldsNoRegistry, HoldsRegistry};
+ghost use Rattle.oauthd.specs.NamedFiles.{bytes_in};
 
 use crate::fault::PerformFault;
+use crate::named_file::NamedFile;
 use clients::Registry;
 use std::alloc::Global;
 
-/// The registry in a file. First the file has to be read, and then to hold one.
-pub fn registry_in<'w>(
+/// The registry in a file, whose bytes are let go of then. First the file has to be read, and then to hold one.
+pub fn registry_of<'w>(
     alloc: Global,
     path: &'w str,
-    file: Option<&[u8]>,
+    file: Option<NamedFile>,
 ) -> Result<Registry, PerformFault<'w>>
-    ensures found { IfOk result (HoldsRegistry (option_copied file.entry)) }
-    ensures none { IfErr result (HoldsNoRegistry path.now (option_copied file.entry)) }
+    ensures found { IfOk result (HoldsRegistry (bytes_in file)) }
+    ensures none { IfErr result (HoldsNoRegistry path.now (bytes_in file)) }
 {
-    let Some(json) = file else {
+    let Some(file) = file else {
         return Err(PerformFault::CannotRead(path));
     };
-    match Registry::read(alloc, json) {
+    match Registry::read(alloc, &file.bytes) {
         Ok(registry) => Ok(registry),
         Err(fault) => Err(PerformFault::from(fault)),
     }

@@ -4,10 +4,11 @@ ghost use Rattle.std.specs.Prelude.{◌≡◌, ◌≢◌, ◌++◌, Err, Some, I
 ghost use Rattle.std.specs.Option.{option_copied};
 ghost use Rattle.clients.specs.Registry.{registry_in};
 ghost use Rattle.clients.specs.declared.fault.ConfigFault.TheVariants as config;
-ghost use Rattle.oauthd.specs.Registries.{IsFaultTold, IsRegistryTold, number_line, lives_text, counts_text, scopes_text, registry_text, warnings_text, whole_text};
+ghost use Rattle.oauthd.specs.Registries.{IsFaultTold, IsRegistryTold, number_line, lives_text, counts_text, scopes_text, registry_text, readers_text, warnings_text, whole_text};
 
 use crate::answer::Answer;
 use crate::fault::PerformFault;
+use crate::named_file::{NamedFile, Readers};
 use clients::{ConfigFault, Registry};
 use registry_warnings::warnings;
 use std::alloc::{AllocError, Global};
@@ -109,15 +110,30 @@ fn warnings_text(registry: &Registry) -> (&'static str, &'static str)
     (key, lives)
 }
 
-/// What a registry says, and what in it and in its text may be a mistake.
-fn whole_text(alloc: Global, json: &[u8], registry: &Registry) -> Result<String, AllocError>
-    ensures { IfOk result (λ text. string_bytes text ≡ whole_text json.now registry.now) }
+/// That everybody may read the keys and secrets in a file, or their digests.
+fn readers_text(readers: Readers) -> &'static str
+    ensures { result.now ≡ readers_text readers }
+{
+    match readers {
+        Readers::Chosen => "",
+        Readers::Everybody => "warning: everybody may read the file\n",
+    }
+}
+
+/// What a registry says, and what in it, in its text and in who may read that may be a mistake.
+fn whole_text(
+    alloc: Global,
+    file: &NamedFile,
+    registry: &Registry,
+) -> Result<String, AllocError>
+    ensures { IfOk result (λ text. string_bytes text ≡ whole_text file.now registry.now) }
 {
     let mut text = registry_text(alloc, registry)?;
-    text.push_str(&warnings(alloc, json)?)?;
+    text.push_str(&warnings(alloc, &file.bytes)?)?;
     let (key, lives) = warnings_text(registry);
     text.push_str(key)?;
     text.push_str(lives)?;
+    text.push_str(readers_text(file.readers))?;
     Ok(text)
 }
 
@@ -141,16 +157,16 @@ fn located(
 pub fn told_registry<'w>(
     alloc: Global,
     path: &'w str,
-    file: Option<&[u8]>,
+    file: Option<&NamedFile>,
 ) -> Result<Answer, PerformFault<'w>>
     ensures { IsRegistryTold path.now (option_copied file.entry) result }
 {
-    let Some(json) = file else {
+    let Some(file) = file else {
         return Err(PerformFault::CannotRead(path));
     };
-    match Registry::read(alloc, json) {
-        Ok(registry) => Ok(Answer::Listing(whole_text(alloc, json, &registry)?)),
+    match Registry::read(alloc, &file.bytes) {
+        Ok(registry) => Ok(Answer::Listing(whole_text(alloc, file, &registry)?)),
         Err(ConfigFault::Memory) => Err(PerformFault::OutOfMemory),
-        Err(fault) => Err(located(alloc, json, fault)?),
+        Err(fault) => Err(located(alloc, &file.bytes, fault)?),
     }
 }

@@ -43,10 +43,7 @@ fn files_read<'w>(
     call: &Call<'w>,
     file: Option<&[u8]>,
 ) -> Result<CallFiles<'w>, AllocError> {
-    let named = match file {
-        Some(bytes) => Some(Vec::from_slice(alloc, bytes)?),
-        None => None,
-    };
+    let named = file_of(alloc, file)?;
     let hooks = hooks_read(alloc, call)?;
     Ok(CallFiles { named, hooks })
 }
@@ -62,7 +59,7 @@ pub fn serve_by<
         Err(fault) => return told(fault, err).code(),
     };
     let status = match (&call, files_read(rt.alloc(), &call, file)) {
-        (Call::Service(service), Ok(files)) => perform_service(rt, service, &files, out, err),
+        (Call::Service(service), Ok(files)) => perform_service(rt, service, files, out, err),
         (Call::Service(_), Err(_)) => told(PerformFault::OutOfMemory, err),
         (Call::Command(_), _) => told(PerformFault::BadArguments, err),
     };

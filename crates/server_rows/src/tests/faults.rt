@@ -323,7 +323,7 @@ const ROWS: &str =
 fn a_transcript_and_its_answer(rt: HostRuntime) -> Result<(), Fail> {
     let alloc = rt.alloc();
     let text = again(|| transcript_of(alloc, REGISTRY, ROWS, Cut::Nowhere))?;
-    let text = again(|| written_out(alloc, text.as_str()))?;
+    let text = written_again(alloc, text.as_str())?;
     let found = again(|| replayed(alloc, Chain::new(alloc), text.as_str()))?;
     let answer =
         "connection 1 45\nHTTP/1.1 404 Not Found\r\nContent-Length: 0\r\n\r\n\nconnection 0 0\n\n";

@@ -68,7 +68,7 @@ fn host_of(alloc: Global, answer: Narrowed) -> Answering {
 /// Asserts that a server whose host has the answer answers rows behind a code as they say.
 fn assert_hosted<R: Abort + AllocGlobal>(rt: &R, answer: Narrowed, rows: &str) -> Result<(), Fail> {
     let alloc = rt.alloc();
-    let rows = again(|| behind(alloc, CODE_GIVEN, rows))?;
+    let rows = behind_again(alloc, CODE_GIVEN, rows)?;
     let rows = rows.as_str();
     if let Ok((found, wanted)) = answers(
         alloc,

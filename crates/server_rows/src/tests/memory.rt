@@ -17,6 +17,14 @@ fn registry(alloc: Global) -> Result<Registry, ConfigFault> {
     Registry::read(alloc, json.as_bytes())
 }
 
+/// It again, where memory was refused.
+fn registry_again(alloc: Global) -> Result<Registry, ConfigFault> {
+    match registry(alloc) {
+        Ok(rules) => Ok(rules),
+        Err(_) => registry(alloc),
+    }
+}
+
 /// An edge over a server without hooks.
 fn edge(alloc: Global, rules: Registry) -> Edge<Chain> {
     Edge::new(alloc, Server::new(alloc, rules, Chain::new(alloc)))
@@ -125,8 +133,8 @@ const GROWTHS: &str = r#"open 1
 #[test]
 fn refused_memory(rt: HostRuntime) -> Result<(), Fail> {
     let alloc = rt.alloc();
-    let rules = again(|| registry(alloc))?;
-    let rows = again(|| written_out(alloc, GROWTHS))?;
+    let rules = registry_again(alloc)?;
+    let rows = written_again(alloc, GROWTHS)?;
     assert_again(&rt, &mut edge(alloc, rules), rows.as_str())
 }
 
@@ -134,7 +142,7 @@ fn refused_memory(rt: HostRuntime) -> Result<(), Fail> {
 #[test]
 fn a_piece_that_is_given_again(rt: HostRuntime) -> Result<(), Fail> {
     let alloc = rt.alloc();
-    let rules = again(|| registry(alloc))?;
+    let rules = registry_again(alloc)?;
     let mut edge = edge(alloc, rules);
     assert_again(&rt, &mut edge, "open 1")?;
     let refused = again(|| coming(alloc, "bytes 1 1000 - $GET"))?;
@@ -162,10 +170,10 @@ const DENIALS: &str = r#"1 1299 00/00 POST /hooks?name=h2 | $OPERATOR | 0x$DENY
 #[test]
 fn answers_are_counted(rt: HostRuntime) -> Result<(), Fail> {
     let alloc = rt.alloc();
-    let rules = again(|| registry(alloc))?;
+    let rules = registry_again(alloc)?;
     let mut edge = edge(alloc, rules);
     for rows in [GROWTHS, DENIALS] {
-        let rows = again(|| written_out(alloc, rows))?;
+        let rows = written_again(alloc, rows)?;
         assert_again(&rt, &mut edge, rows.as_str())?;
     }
     let server = edge.server();

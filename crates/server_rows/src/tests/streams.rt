@@ -22,7 +22,7 @@ const WHOLE_REPLIES: &str =
 #[test]
 fn whole_replies(rt: HostRuntime) -> Result<(), Fail> {
     let alloc = rt.alloc();
-    let rows = again(|| written_out(alloc, WHOLE))?;
+    let rows = written_again(alloc, WHOLE)?;
     let text = again(|| transcript_of(alloc, REGISTRY, rows.as_str(), Cut::Nowhere))?;
     if let Ok(found) = replayed(alloc, Chain::new(alloc), text.as_str())
         && output_of_first(found.as_slice()) == WHOLE_REPLIES
@@ -103,7 +103,7 @@ const EXCHANGE: &str =
 #[test]
 fn requests_in_two_pieces(rt: HostRuntime) -> Result<(), Fail> {
     let alloc = rt.alloc();
-    let rows = again(|| behind(alloc, CODE_GIVEN, EXCHANGE))?;
+    let rows = behind_again(alloc, CODE_GIVEN, EXCHANGE)?;
     for place in 1..264 {
         assert_answers(&rt, REGISTRY, rows.as_str(), Cut::At(place))?;
     }
@@ -113,9 +113,9 @@ fn requests_in_two_pieces(rt: HostRuntime) -> Result<(), Fail> {
 #[test]
 fn requests_byte_by_byte(rt: HostRuntime) -> Result<(), Fail> {
     let alloc = rt.alloc();
-    let rows = again(|| behind(alloc, CODE_GIVEN, EXCHANGE))?;
+    let rows = behind_again(alloc, CODE_GIVEN, EXCHANGE)?;
     assert_answers(&rt, REGISTRY, rows.as_str(), Cut::Everywhere)?;
-    let rows = again(|| behind(alloc, OPENED, CONSENT))?;
+    let rows = behind_again(alloc, OPENED, CONSENT)?;
     assert_answers(&rt, REGISTRY, rows.as_str(), Cut::Everywhere)
 }
 
@@ -136,7 +136,7 @@ fn with_end(alloc: Global, given: &str, front: &str) -> Result<String, AllocErro
 #[test]
 fn fronts_of_a_request(rt: HostRuntime) -> Result<(), Fail> {
     let alloc = rt.alloc();
-    let given = again(|| written_out(alloc, CODE_GIVEN))?;
+    let given = written_again(alloc, CODE_GIVEN)?;
     let whole = again(|| exchange(alloc))?;
     assert_eq!(rt; whole.len(), 2 * 264);
     for length in 1..264 {

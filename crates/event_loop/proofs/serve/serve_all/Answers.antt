@@ -1,4 +1,4 @@
-use Rattle.std.proofs.Common.{[], Some, inl, inr, refl, sym, subst, ◌∙◌, ℕ, ◌≡◌}
+use Rattle.std.proofs.Common.{[], None, Some, ap, inl, inr, refl, sym, subst, ◌∙◌, ℕ, ◌≡◌}
 use Rattle.event_loop.specs.declared.clocks.Times.{Times}
 use Rattle.event_loop.specs.declared.queue.Queue.TheVariants.{Told, Empty, Barred}
 use Rattle.event_loop.specs.Places.{IsTaken}

@@ -7,7 +7,7 @@ use Rattle.oauthd.proofs.perform.serve_as.Goals as goal
 
 pub returns-in-Serve-clause-done : goal.returns-in-Serve-clause-done
 returns-in-Serve-clause-done g c = record {
-  listened = record { registry = c.in_ok-registry.registry; held = subst (λ f. HoldsRegistry f c.in_ok-registry.registry) c.as_deref.ensures.value c.in_ok-registry.ensures.found; announced = c.in_ok-serve-in-Serve.ensures };
+  listened = record { registry = c.in_ok-registry.registry; held = c.in_ok-registry.ensures.found; announced = c.in_ok-serve-in-Serve.ensures };
   given = c.in-Serve.given;
   service_is = c.in-Serve.is;
 }
@@ -22,7 +22,7 @@ returns-in_err-server-in-Some-clause-fault g c =
       refl,
       inr (inr (inl (record {
         registry = c.in_ok-registry.registry;
-        held = subst (λ f. HoldsRegistry f c.in_ok-registry.registry) c.as_deref.ensures.value c.in_ok-registry.ensures.found;
+        held = c.in_ok-registry.ensures.found;
         given = c.in-Start.given;
         service_is = c.in-Start.is;
         hooks = c.in_ok-chain.field-0.chain;
@@ -36,7 +36,7 @@ returns-in_err-server-in-Some-clause-fault g c =
 
 pub returns-clause-fault : goal.returns-clause-fault
 returns-clause-fault g c =
-    let held = subst (λ f. HoldsRegistry f c.in_ok-registry.registry) c.as_deref.ensures.value c.in_ok-registry.ensures.found in
+    let held = c.in_ok-registry.ensures.found in
     let taken = subst (λ hooks. TakesHooks [] (map in_file hooks) c.in_ok-chain.field-0.chain) c.deref.ensures.value c.in_ok-chain.ensures.taken in
     let coded = subst (λ hooks. AreFactsOf (map in_file hooks) (map fact_of c.in_ok-chain.field-0.codes.items)) c.deref.ensures.value c.in_ok-chain.ensures.coded in
     elim c.match-state.branch [

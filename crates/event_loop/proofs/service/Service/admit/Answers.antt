@@ -26,7 +26,7 @@ returns-in-Ok-clause-leads g c = λ found rules host first past h settled.
     let here : connection_at on.world.connections k ≡ Some (fresh k) = opened_here past.world on.world k on.happens in
     let rests : IsAtRest place (connection_at on.world.connections k) = subst (λ o. IsAtRest place o) (sym here) (fresh_rests c.args.self.now.times.steady (fresh k) refl refl) in
     let next : Past = record { deeds = deed.Came k ∷ past.deeds; schedule = past.schedule ++ Opened k ∷ []; world = on.world } in
-    let service : Service = record c.args.self.now { places = slice_set c.args.self.now.places k place } in
+    let service : Service = record c.args.self.now { places = slice_set c.args.self.now.places k place; accepted = c.saturating_add-self.result } in
     record {
       goes = record {
         next = next;

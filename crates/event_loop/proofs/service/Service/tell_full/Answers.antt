@@ -1,4 +1,4 @@
-use Rattle.std.proofs.Common.{◌≡◌, Some, refl}
+use Rattle.std.proofs.Common.{refl, sym, ◌∙◌}
 use Rattle.event_loop.specs.Reporting.{full}
 use Rattle.event_loop.specs.Served.{goes, reports}
 use Rattle.event_loop.specs.Scenes.{promises}
@@ -7,12 +7,21 @@ use Rattle.event_loop.proofs.Leading.{nowhere}
 use Rattle.event_loop.proofs.Resting.{settled_then}
 use Rattle.event_loop.proofs.service.Service.tell_full.Goals as goal
 
-pub returns-then-eq-clause-leads : goal.returns-then-eq-clause-leads
-returns-then-eq-clause-leads g c = λ found. nowhere (promises g.N.Sockets g.C.Clocks g.J.Journal g.K.Keeper g.H.HookHost) found _ _
+pub returns-then-full-self-clause-leads : goal.returns-then-full-self-clause-leads
+returns-then-full-self-clause-leads g c = λ found. nowhere (promises g.N.Sockets g.C.Clocks g.J.Journal g.K.Keeper g.H.HookHost) found _ _
 
 pub returns-then-not-is_long_ago-clause-leads : goal.returns-then-not-is_long_ago-clause-leads
-returns-then-not-is_long_ago-clause-leads g c = λ found rules host first past h settled. record { next = past; served = h; settled = settled; done = none_more past.deeds }
+returns-then-not-is_long_ago-clause-leads g c = λ found rules host first past h settled. record {
+  next = past;
+  served = h;
+  settled = settled_then c.args.self.now past _ past refl refl refl (none_more past.deeds) settled;
+  done = none_more past.deeds;
+}
 
 pub returns-clause-leads : goal.returns-clause-leads
-returns-clause-leads g c = λ found rules host first past h settled.
-    record { next = past; served = goes h (reports _ _ c.report.new.self (full _ _ c.if-not-is_long_ago.false) c.report.ensures); settled = settled; done = none_more past.deeds }
+returns-clause-leads g c = λ found rules host first past h settled. record {
+  next = past;
+  served = goes h (reports _ _ c.report.new.self (full c.requires.wanted (sym c.is_long_ago.ensures ∙ c.if-not-is_long_ago.false)) c.report.ensures);
+  settled = settled_then c.args.self.now past _ past refl refl refl (none_more past.deeds) settled;
+  done = none_more past.deeds;
+}

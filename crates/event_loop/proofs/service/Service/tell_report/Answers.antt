@@ -1,13 +1,14 @@
-use Rattle.std.proofs.Common.{◌≤◌, ◌-◌, arith}
+use Rattle.std.proofs.Common.{◌≤◌, ◌-◌, arith, refl}
 use Rattle.event_loop.specs.Reporting.{reported}
 use Rattle.event_loop.specs.Served.{goes, reports}
 use Rattle.event_loop.specs.Scenes.{promises}
 use Rattle.event_loop.proofs.Doing.{none_more}
 use Rattle.event_loop.proofs.Leading.{nowhere}
+use Rattle.event_loop.proofs.Resting.{settled_then}
 use Rattle.event_loop.proofs.service.Service.tell_report.Goals as goal
 
-pub returns-then-lt : goal.returns-then-lt
-returns-then-lt g c = λ found. nowhere (promises g.N.Sockets g.C.Clocks g.J.Journal g.K.Keeper g.H.HookHost) found _ _
+pub returns-then-saturating_sub-every : goal.returns-then-saturating_sub-every
+returns-then-saturating_sub-every g c = λ found. nowhere (promises g.N.Sockets g.C.Clocks g.J.Journal g.K.Keeper g.H.HookHost) found _ _
 
 pub returns : goal.returns
 returns g c = λ found rules host first past h settled.
@@ -15,6 +16,6 @@ returns g c = λ found rules host first past h settled.
     record {
       next = past;
       served = goes h (reports _ _ c.report.new.self (reported c.args.every c.report_now-report.result c.requires.wanted due (c.report_now-report.ensures found past)) c.report.ensures);
-      settled = settled;
+      settled = settled_then c.args.self.now past _ past refl refl refl (none_more past.deeds) settled;
       done = none_more past.deeds;
     }

@@ -1,5 +1,5 @@
 use Rattle.std.proofs.Common.{length, ◌-◌, ◌≤◌}
-use Rattle.serving.proofs.piece.seeming_requests.Given as goal
+use Rattle.http_edge.proofs.piece.seeming_requests.Given as goal
 
 abbrev pub invariant-loop-last : goal.invariant-loop-last
 invariant-loop-last l = record { past : 3 ≤ l.last; few : l.lines ≤ l.last }

@@ -1,8 +1,8 @@
 use Rattle.std.proofs.Common.{rules, ◌≡◌, ◌+◌, ◌*◌, ◌<◌, length, take, [], ◌∷◌, ◌++◌, ap, sym, ◌∙◌, add-one, arith}
 use Rattle.std.proofs.lemmas.List.{take_more_set}
-use Rattle.serving.specs.Chance.{draws_from, next_draws, moved}
-use Rattle.serving.proofs.Words.{moved_on, draws_moved}
-use Rattle.serving.proofs.chance.draw_on.Goals as goal
+use Rattle.http_edge.specs.Chance.{draws_from, next_draws, moved}
+use Rattle.http_edge.proofs.Words.{moved_on, draws_moved}
+use Rattle.http_edge.proofs.chance.draw_on.Goals as goal
 
 pub loop-i-init : goal.loop-i-init
 loop-i-init c = record { size = search rules; place = λ g e. e; value = λ g f e. f }

@@ -1,7 +1,7 @@
 //! Draws by a generator (RFC 8439, section 2.4).
 ghost use Rattle.std.specs.Prelude.{◌≡◌, ◌≤◌, ◌*◌, take};
 ghost use Rattle.rand_chacha.specs.ChaCha.{ChaCha};
-ghost use Rattle.serving.specs.Chance.{draws_from, next_draws, moved};
+ghost use Rattle.http_edge.specs.Chance.{draws_from, next_draws, moved};
 
 use messages::Draws;
 use rand_chacha::ChaCha20Rng;

@@ -4,7 +4,7 @@ use Rattle.std.proofs.Math.Nat.{mod-add-mod, mod-eq_of_lt}
 use Rattle.std.specs.Int.{w32, to_le_bytes}
 use Rattle.rand_core.specs.Steps.{word_bytes, fill_via_u32}
 use Rattle.rand_chacha.specs.ChaCha.{ChaCha, word_at, next_word}
-use Rattle.serving.specs.Chance.{next_word_at, bytes_from, draws_from, moved}
+use Rattle.http_edge.specs.Chance.{next_word_at, bytes_from, draws_from, moved}
 
 -- one move after another
 pub moved_on : (g : ChaCha) (m n : ℕ) → moved (moved g m) n ≡ moved g (m + n)

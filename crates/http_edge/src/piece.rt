@@ -3,13 +3,15 @@ ghost use Rattle.std.specs.Prelude.{◌≡◌, ◌≤◌, OnOk, OnErr, IfErr};
 ghost use Rattle.rand_chacha.specs.ChaCha.{ChaCha};
 ghost use Rattle.http_edge.specs.Reached.{PieceLeads};
 ghost use Rattle.http_edge.specs.Refusals.{IsPieceRefusal};
-ghost use Rattle.serving.specs.Chance.{draws_from, moved};
-ghost use Rattle.serving.specs.Served.{WhereReached, PieceGiven, PieceRefused};
+ghost use Rattle.http_edge.specs.Chance.{draws_from, moved};
+ghost use Rattle.http_edge.specs.Pieces.{WhereReached, PieceGiven, PieceRefused};
 
 use crate::chance::{DRAWS_OF_PIECE, draw, draw_on};
+use crate::edge::Edge;
+use crate::event::Event;
+use crate::fault::EdgeFault;
 use consent::Moment;
 use hook_host::HookHost;
-use http_edge::{Edge, EdgeFault, Event};
 use messages::Draws;
 use rand_chacha::ChaCha20Rng;
 

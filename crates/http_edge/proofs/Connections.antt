@@ -74,7 +74,7 @@ shown lanes ks c k s e = go (lane_at lanes c) refl
 
 -- OTHERS
 
-no_other : (n c d : ℕ) → (n == c) ≡ true → d ≢ c → (n == d) ≡ false
+pub no_other : (n c d : ℕ) → (n == c) ≡ true → d ≢ c → (n == d) ≡ false
 no_other n c d is other = elim (eqb_tells n d) [ inl p ↦ absurd (other (sym p.1 ∙ eqb-true n c is)) | inr p ↦ p.0 ]
 
 pub put_other : (ks : List Connection) (c d : ℕ) (new : Connection) → (new.number == c) ≡ true → d ≢ c → connection_at (with_connection c new ks) d ≡ connection_at ks d

@@ -1,7 +1,7 @@
 use Rattle.std.proofs.Common.{◌≡◌, ◌*◌, take, length}
 use Rattle.rand_chacha.specs.ChaCha.{ChaCha}
-use Rattle.serving.specs.Chance.{next_draws, moved}
-use Rattle.serving.proofs.chance.draw_on.Given as goal
+use Rattle.http_edge.specs.Chance.{next_draws, moved}
+use Rattle.http_edge.proofs.chance.draw_on.Given as goal
 
 abbrev pub invariant-loop-i : goal.invariant-loop-i
 invariant-loop-i l = record {

@@ -1,17 +1,27 @@
 //! One connection served over a stream or by a clock that fails, and what the next connection is answered then.
 
-use super::new_edge;
-use clients::ConfigFault;
+use clients::{ConfigFault, Registry};
 use consent::Moment;
+use endpoints::Server;
 use hook_chain::Chain;
-use http_edge::Edge;
+use http_edge::{Edge, draw};
 use rand_chacha::ChaCha20Rng;
 use rand_core::SeedableRng;
-use serving::{Clock, ServeFault, draw, serve_one};
+use serving::{Clock, ServeFault, serve_one};
 use std::alloc::{AllocError, Global};
 use std::io::{self, ErrorKind, Read, Write};
 use std::process::Abort;
 use std::test::Fail;
+
+/// A client that may ask for tokens.
+const REGISTRY: &str =
+    r#"{"access_life":300,"refresh_life":86400,"operator":"op-key","owners":["ann-key"],"scopes":["read"],"clients":[{"id":"bot","secret":"b0t","redirects":[],"scope":"read","grants":["client_credentials"]}]}"#;
+
+/// An edge without connections, whose host has no hooks.
+fn new_edge(alloc: Global) -> Result<Edge<Chain>, ConfigFault> {
+    let registry = Registry::read(alloc, REGISTRY.as_bytes())?;
+    Ok(Edge::new(alloc, Server::new(alloc, registry, Chain::new(alloc))))
+}
 
 /// A client asks for a token.
 const REQUEST: &str =

@@ -1,6 +1,6 @@
 use Rattle.std.proofs.Common.{arith}
-use Rattle.serving.proofs.Words.{drawn}
-use Rattle.serving.proofs.chance.draw.Goals as goal
+use Rattle.http_edge.proofs.Words.{drawn}
+use Rattle.http_edge.proofs.chance.draw.Goals as goal
 
 pub returns-clause-value : goal.returns-clause-value
 returns-clause-value c =
