@@ -5,6 +5,7 @@ mod hook_rows;
 mod registries;
 mod services;
 mod sockets;
+mod state_files;
 mod transcripts;
 mod words;
 
@@ -26,8 +27,8 @@ const ALLOW: &str = "b7000000010000009500000000000000";
 const A: &str =
     "0100000001000000e80300000000000001000000000000000100000000000000030000000000000003000000000000002c010000000000000300000000000000";
 
-/// When the commands are carried out.
-const NOW: Option<Moment> = None;
+/// When the commands are carried out, in seconds.
+const NOW: u64 = 1060;
 
 /// The most bytes that a command writes here.
 const ROOM: usize = 4096;
@@ -128,7 +129,14 @@ fn perform<W: Write, E: Write>(
     err: &mut E,
 ) -> u8 {
     let status = match Call::from_words(alloc, words) {
-        Ok(Call::Command(command)) => perform_command(alloc, command, file, NOW, out, err),
+        Ok(Call::Command(command)) => perform_command(
+            alloc,
+            command,
+            file,
+            Some(Moment::new(NOW)),
+            out,
+            err,
+        ),
         Ok(Call::Service(_service)) => told(PerformFault::BadArguments, err),
         Err(fault) => told(fault, err),
     };

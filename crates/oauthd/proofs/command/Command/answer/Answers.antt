@@ -4,4 +4,4 @@ pub returns-in-Explain : goal.returns-in-Explain
 returns-in-Explain c = rw c.in-Explain.is c.explained.ensures
 
 pub returns-in-State : goal.returns-in-State
-returns-in-State c = rw c.in-State.is (c.args.now, c.told_state.ensures)
+returns-in-State c = rw c.in-State.is ?
