@@ -5,7 +5,7 @@ use Rattle.std.specs.Prelude.{ℕ, List, [], ◌∷◌, ◌++◌, codes}
 unfoldable pub command_words : List (List ℕ)
 command_words =
     codes "run" ∷ codes "ask" ∷ codes "ask2" ∷ codes "asm" ∷ codes "list" ∷ codes "check" ∷ codes "check2" ∷
-    codes "start" ∷ codes "serve" ∷ codes "registry" ∷ codes "replay" ∷ codes "help" ∷ []
+    codes "start" ∷ codes "serve" ∷ codes "registry" ∷ codes "state" ∷ codes "replay" ∷ codes "help" ∷ []
 
 -- those of the faults that a command has however its files are
 unfoldable pub use_words : List (List ℕ)
