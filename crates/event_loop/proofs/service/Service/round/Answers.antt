@@ -1,5 +1,6 @@
-use Rattle.std.proofs.Common.{add-one, ◌≤◌, ◌∷◌, take, arith, length, ◌≡◌, subst, sym, ◌∙◌, []}
+use Rattle.std.proofs.Common.{add-one, ap, ◌≤◌, ◌∷◌, take, arith, length, ◌≡◌, subst, sym, ◌∙◌, []}
 use Rattle.event_loop.specs.declared.limits.Limits.{Limits}
+use Rattle.event_loop.specs.declared.service.Service.{Service}
 use Rattle.event_loop.specs.Closing.{AreWithin}
 use Rattle.event_loop.specs.Deeds as deed
 use Rattle.event_loop.specs.Deeds.{Accepting, IsDone}
@@ -17,7 +18,8 @@ returns-in_default-wait-clause-wrong g c = λ rules host first past begun was_re
     let put = c.in_default.ensures.put rules host first [] past begun in
     let h = put.0 in
     let ready = ready_still c.args.self.now past c.put_image.new.self c.in_default.ensures.same was_ready in
-    let size : length c.put_image.new.self.places ≡ 64 = search rules in
+    let before : length c.args.self.now.places ≡ 64 = search rules in
+    let size : length c.put_image.new.self.places ≡ 64 = ap (λ (s : Service). length s.places) c.in_default.ensures.same ∙ before in
     let room : 65 ≤ length c.wait.new.found = search (rules, arith, c.requires.room) in
     record {
       last = scene_of c.put_image.new.self c.put_image.new.tools [] past;
@@ -33,7 +35,8 @@ returns-in_default-read-clause-wrong g c = λ rules host first past begun was_re
     let h = put.0 in
     let ready = ready_still c.args.self.now past c.put_image.new.self c.in_default.ensures.same was_ready in
     let heard = take c.in-Some.count c.wait.new.found in
-    let size : length c.put_image.new.self.places ≡ 64 = search rules in
+    let before : length c.args.self.now.places ≡ 64 = search rules in
+    let size : length c.put_image.new.self.places ≡ 64 = ap (λ (s : Service). length s.places) c.in_default.ensures.same ∙ before in
     let room : 65 ≤ length c.wait.new.found = search (rules, arith, c.requires.room) in
     let may = may_wait (promises g.N.Sockets g.C.Clocks g.J.Journal (keeping g.K.Keeper g.K.ImageKeeper) g.H.HookHost) c.put_image.new.self c.put_image.new.tools past c.wait_limit-limit.result (length c.wait.new.found) size ready c.wait_limit-limit.ensures room put.1 in
     record {
@@ -50,7 +53,8 @@ returns-in-Err-keep_all-clause-wrong g c = λ rules host first past begun was_re
     let h = put.0 in
     let ready = ready_still c.args.self.now past c.put_image.new.self c.in_default.ensures.same was_ready in
     let heard = take c.in-Some.count c.wait.new.found in
-    let size : length c.put_image.new.self.places ≡ 64 = search rules in
+    let before : length c.args.self.now.places ≡ 64 = search rules in
+    let size : length c.put_image.new.self.places ≡ 64 = ap (λ (s : Service). length s.places) c.in_default.ensures.same ∙ before in
     let room : 65 ≤ length c.wait.new.found = search (rules, arith, c.requires.room) in
     let may = may_wait (promises g.N.Sockets g.C.Clocks g.J.Journal (keeping g.K.Keeper g.K.ImageKeeper) g.H.HookHost) c.put_image.new.self c.put_image.new.tools past c.wait_limit-limit.result (length c.wait.new.found) size ready c.wait_limit-limit.ensures room put.1 in
     let waited = goes h (waits c.wait_limit-limit.result (length c.wait.new.found) heard c.wait.new.self c.in-Some-read.times c.read.new.self may c.in-Some.ensures.done c.in-Some-read.ensures) in
@@ -72,7 +76,8 @@ returns-clause-goes g c = λ rules host first past begun was_ready.
     let ready = ready_still c.args.self.now past c.put_image.new.self c.in_default.ensures.same was_ready in
     let p = promises g.N.Sockets g.C.Clocks g.J.Journal (keeping g.K.Keeper g.K.ImageKeeper) g.H.HookHost in
     let heard = take c.in-Some.count c.wait.new.found in
-    let size : length c.put_image.new.self.places ≡ 64 = search rules in
+    let before : length c.args.self.now.places ≡ 64 = search rules in
+    let size : length c.put_image.new.self.places ≡ 64 = ap (λ (s : Service). length s.places) c.in_default.ensures.same ∙ before in
     let room : 65 ≤ length c.wait.new.found = search (rules, arith, c.requires.room) in
     let may = may_wait (promises g.N.Sockets g.C.Clocks g.J.Journal (keeping g.K.Keeper g.K.ImageKeeper) g.H.HookHost) c.put_image.new.self c.put_image.new.tools past c.wait_limit-limit.result (length c.wait.new.found) size ready c.wait_limit-limit.ensures room put.1 in
     let waited = goes h (waits c.wait_limit-limit.result (length c.wait.new.found) heard c.wait.new.self c.in-Some-read.times c.read.new.self may c.in-Some.ensures.done c.in-Some-read.ensures) in
