@@ -1,5 +1,5 @@
 """Hands a server state files of all kinds: cut at every byte, changed in places, drawn at random, on a full disk, in a
-folder that may not be written, and paths that are no files. It is started on each, or says in one line why not.
+folder that may not be written, and paths that are no files. It is started on each, or says in one line why not. Those that are taken are listed first.
 
 Words: PROGRAM REGISTRY [DRAWS]. Ends by itself, with 0 where all is as wanted. SEED=n draws as before."""
 
@@ -14,6 +14,9 @@ import sys
 import tempfile
 
 from crashes import APP, Client, Gone, Server, consents
+
+# The line that tells what a start cuts off.
+CUT = "oauthd: state: cut "
 
 # What may follow `oauthd: State` where the bytes of a file are wrong.
 OF_BYTES = {"NoRules", "Spelling", "ScopeMoved", "OwnerMoved", "ClientMoved", "ClientNarrowed", "LifeNarrowed", "Follows", "Image", "Hook"}
@@ -39,7 +42,19 @@ class Trials:
         except subprocess.TimeoutExpired:
             process.kill()
             status = process.wait()
-        return process, "", status, process.stderr.read()
+        lines = process.stderr.read().splitlines(keepends=True)
+        return process, "", status, "".join(line for line in lines if not line.startswith(CUT))
+
+    def listed(self, what, path, content):
+        """A file of these bytes is listed, a line of JSON for each thing, and the last one for the file; nothing is written."""
+        done = subprocess.run([self.program, "state", path], capture_output=True, text=True)
+        lines = [json.loads(line) for line in done.stdout.splitlines()]
+        if done.returncode or done.stderr or not lines or lines[-1]["kind"] != "file" or lines[-1]["bytes"] != len(content):
+            self.wrong(what, f"not listed: status {done.returncode}, {done.stderr!r}, {done.stdout[-200:]!r}")
+        with open(path, "rb") as now:
+            if now.read() != content:
+                self.wrong(what, "changed by being listed")
+        return lines
 
     def ends(self, process):
         process.send_signal(signal.SIGKILL)
@@ -51,6 +66,7 @@ class Trials:
     def taken(self, what, content):
         """A file of these bytes is taken."""
         path = self.file_of(content)
+        self.listed(what, path, content)
         process, line, status, told = self.start(path)
         if not line:
             self.wrong(what, f"not taken: status {status}, {told!r}")
@@ -84,8 +100,8 @@ class Trials:
         return path
 
 
-def worked_on(program, registry, room):
-    """The bytes of a state file after some grants, refreshes, revocations and consents."""
+def worked_on(trials, program, registry, room):
+    """The bytes of a state file after some grants, refreshes, revocations and consents. It is listed while it is in use."""
     server = Server(program, registry, f"{room}/state")
     server.start()
     client = Client(server, 1)
@@ -95,9 +111,13 @@ def worked_on(program, registry, room):
     for _ in range(3):
         client.refresh()
     client.revoke()
-    server.kill()
     with open(f"{room}/state", "rb") as written:
-        return written.read()
+        content = written.read()
+    kinds = [thing["kind"] for thing in trials.listed("a file in use", f"{room}/state", content)]
+    if any(kinds.count(kind) == 0 for kind in ["consent", "family", "code", "access", "refresh"]):
+        trials.wrong("a file in use", f"lines of {kinds}")
+    server.kill()
+    return content
 
 
 def drawn_change(chance, content):
@@ -207,7 +227,7 @@ def main():
             json.dump(dict(json.load(text), access_life=300, refresh_life=3600), own)
         os.chmod(registry, 0o644)
         trials = Trials(program, registry, room)
-        content = worked_on(program, registry, room)
+        content = worked_on(trials, program, registry, room)
         tries_bytes(trials, random.Random(seed), content, draws)
         tries_paths(trials)
         tries_a_full_disk(trials)

@@ -118,6 +118,17 @@ said='access_life 300\nrefresh_life 86400\nowners 2\nclients 2\nscopes read writ
 ends 'a registry' 0 "$said" '' registry own.json
 chmod 644 own.json
 ends 'a registry that everybody may read' 0 "${said}warning: everybody may read the file\n" '' registry own.json
+# state files: none, one of nobody's, and bytes of an unfinished write; the age is that of a moment that is told
+ends 'a state file that is not there' 2 '' 'oauthd: cannot read nowhere\n' state nowhere
+printf '\1\0\0\0\1\7' >other.state
+ends 'a state file of another program' 2 '' 'oauthd: State NoRules in batch 1\n' state other.state
+printf '\0abc' >torn.state
+rows=$((rows + 1))
+if ! "$program" state torn.state | grep -qE '^\{"kind":"file","bytes":4,"batches":0,"torn":3,"last":0,"age":[0-9]+\}$'; then
+    differing=$((differing + 1))
+    echo 'differs: a torn state file'
+    "$program" state torn.state
+fi
 if [ -w /dev/full ]; then
     "$program" list hook.hex >/dev/full 2>given.err
     given=$?

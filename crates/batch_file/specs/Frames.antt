@@ -34,6 +34,11 @@ batches_in (suc n) (latch ∷ bytes) =
 unfoldable pub recovered : List ℕ → List (List ℕ)
 recovered file = batches_in (length file) file
 
+-- how many bytes of a write that was not finished these are, which stand behind the last frame: a closed latch is none of them
+abbrev pub torn_size : List ℕ → ℕ
+torn_size (zero ∷ bytes) = length bytes
+torn_size bytes = length bytes
+
 -- the bytes are whole frames of these batches, whatever follows them
 abbrev pub AreFrames : List ℕ → List (List ℕ) → Type 0
 AreFrames bytes batches = (rest : List ℕ) → recovered (bytes ++ rest) ≡ batches ++ recovered rest

@@ -4,7 +4,7 @@
 //! disk before anything is written behind it.
 
 ghost use Rattle.std.specs.Prelude.{◌≡◌, ◌<◌, ◌≤◌, ◌^◌, ◌+◌, ◌++◌, [], ◌∷◌, ℕ, length, take, drop, IfOk, IfSome, IfNone};
-ghost use Rattle.batch_file.specs.Frames.{body, frame, recovered, AreFrames, lists};
+ghost use Rattle.batch_file.specs.Frames.{body, frame, recovered, torn_size, AreFrames, lists};
 
 use std::alloc::{AllocError, Global};
 
@@ -18,7 +18,7 @@ pub struct Batches {
 }
 
 /// The batches that a file's bytes stand for, and where the last of them ends.
-pub(crate) fn read_batches(alloc: Global, bytes: &[u8]) -> Result<Batches, AllocError>
+pub fn read_batches(alloc: Global, bytes: &[u8]) -> Result<Batches, AllocError>
     ensures batches { IfOk result (λ found. lists found.batches.items ≡ recovered bytes.now) }
     ensures within { IfOk result (λ found. found.end ≤ length bytes.now) }
     ensures frames { IfOk result (λ found. AreFrames (take found.end bytes.now) (recovered bytes.now)) }
@@ -31,6 +31,18 @@ pub(crate) fn read_batches(alloc: Global, bytes: &[u8]) -> Result<Batches, Alloc
         end += 5 + batch.len();
     }
     Ok(Batches { batches, end })
+}
+
+/// How many bytes of a write that was not finished stand behind the last frame, which ends there. A closed latch is none of
+/// them.
+pub fn torn_behind(bytes: &[u8], end: usize) -> usize
+    requires within { end ≤ length bytes.now }
+    ensures { result ≡ torn_size (drop end bytes.now) }
+{
+    match &bytes[end..] {
+        [0, torn @ ..] => torn.len(),
+        torn => torn.len(),
+    }
 }
 
 /// The batch of the frame at the front, if its latch is open and all of it is there.

@@ -9,7 +9,7 @@ pub mod appending;
 pub mod call_log;
 pub mod device;
 pub mod disk_file;
-mod framing;
+pub mod framing;
 pub mod in_memory;
 
 pub use framing::file_of;

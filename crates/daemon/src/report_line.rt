@@ -68,7 +68,7 @@ impl Line {
         ensures { OnOk result (self.new.json.tokens ≡ self.old.json.tokens ++ connections_tokens report.now) }
     {
         self.begin("connections")?;
-        self.number("open", u64::from(report.open))?;
+        self.number("open", report.open as u64)?;
         self.number("accepted", report.accepted)?;
         self.end()
     }

@@ -31,6 +31,8 @@ oauthd serve ADDR CONFIG SEEDHEX COUNT
     oauthd serve 127.0.0.1:8080 registry.json 0707070707070707070707070707070707070707070707070707070707070707 1
 oauthd registry FILE       says what the registry of a file has, or where its first fault is
     oauthd registry registry.json
+oauthd state FILE          lists what the file of a server's state stands for, a line of JSON each
+    oauthd state /var/lib/oauthd/state
 oauthd replay FILE         prints what the server of a transcript sends to each connection
     oauthd replay transcript.txt
 oauthd help NAME           says what a command or a fault means

@@ -1,3 +1,4 @@
+mod Failing
 mod Asking
 mod Lists
 mod Naming

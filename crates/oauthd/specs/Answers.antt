@@ -1,5 +1,5 @@
 -- What the commands answer.
-use Rattle.std.specs.Prelude.{Option, Result, Ok, Err}
+use Rattle.std.specs.Prelude.{ℕ, Option, Result, Ok, Err}
 use Rattle.hook_commands.specs.Answers.{IsAnsweredBy as IsHookAnsweredBy}
 use Rattle.hook_commands.specs.File.{File}
 use Rattle.oauthd.specs.NamedFiles.{bytes_in}
@@ -14,6 +14,7 @@ use Rattle.oauthd.specs.declared.fault.PerformFault.{PerformFault}
 use Rattle.oauthd.specs.declared.fault.PerformFault.TheVariants as faults
 use Rattle.oauthd.specs.Help.{IsExplained, IsPage}
 use Rattle.oauthd.specs.Registries.{IsRegistryTold}
+use Rattle.oauthd.specs.States.{IsStateTold}
 use Rattle.oauthd.specs.Transcripts.{IsReplayedAs}
 
 -- what a command about a hook answers: as crate hook_commands has it
@@ -23,10 +24,11 @@ IsAnsweredOfHook command file (Ok answer) = ⊥
 IsAnsweredOfHook command file (Err (faults.HookCommand fault)) = IsHookAnsweredBy command file (Err fault)
 IsAnsweredOfHook command file (Err fault) = ⊥
 
--- what a command answers, where this is its file
+-- what a command answers, where this is its file; a state file is looked at at some moment
 abbrev pub IsAnsweredBy : Command → Option NamedFile → Result Answer PerformFault → Type 0
 IsAnsweredBy (commands.Hook command) file outcome = IsAnsweredOfHook command (bytes_in file) outcome
 IsAnsweredBy (commands.Registry path) file outcome = IsRegistryTold path.now file outcome
+IsAnsweredBy (commands.State path) file outcome = (now : Option ℕ) × IsStateTold path.now (bytes_in file) now outcome
 IsAnsweredBy (commands.Replay path) file outcome = IsReplayedAs path.now (bytes_in file) outcome
 IsAnsweredBy (commands.Help word) file outcome = IsPage PAGE.now outcome
 IsAnsweredBy (commands.Explain name) file outcome = IsExplained name.now outcome

@@ -11,6 +11,7 @@ pub mod Printed
 pub mod Registries
 pub mod Services
 pub mod Startings
+pub mod States
 pub mod Statuses
 pub mod Transcripts
 pub mod Words

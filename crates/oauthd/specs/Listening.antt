@@ -86,12 +86,20 @@ abbrev pub ServesNothing : Service → ServiceFiles → PerformFault → Type 0
 ServesNothing service files fault =
     HoldsNoRegistry (config_of service) (registry_bytes files) fault ⊎ LacksHook service files fault ⊎ LacksState service files fault ⊎ IsDeaf (registry_bytes files) fault
 
--- why a service serves nothing is told, and the status is that of the fault
+-- a service keeps its state in a file that is named: of that a torn end is told, where it is cut off
+pub record NamesState (service : Service) : Type 0 where
+  pub given : StartWords
+  pub service_is : service ≡ Start given
+  pub named : IsSome given.options.state
+
+-- why a service serves nothing is told, behind what was told of its state's file, and the status is that of the fault
 pub record TellsNoService (service : Service) (files : ServiceFiles) (status : Status) (old new : Option (List ℕ)) : Type 0 where
   pub fault : PerformFault
   pub cause : ServesNothing service files fault
   pub ended : status ≡ status_of fault
-  pub told : Appends old new (told_text fault)
+  pub lines : Option (List ℕ)
+  pub unlined : (lines ≡ old) ⊎ NamesState service
+  pub told : Appends lines new (told_text fault)
 
 -- `start` had all its hooks, and its server, on the file of its state where one is named, served connections until it could not
 -- go on, for this fault
@@ -107,11 +115,11 @@ pub record HasStopped (starts : Startings) (service : Service) (files : ServiceF
   pub started : starting_of starts given.options.state (handed listened.registry hooks codes (patience_of given.options)) cause
   pub fault_is : fault ≡ Stopped cause
 
--- A service ends with a fault, with what it prints seen as the bytes so far: it serves nothing, and has told nothing, or it
--- stopped.
+-- A service ends with a fault, with what it prints seen as the bytes so far: it serves nothing, and has told nothing, but of its
+-- state's file, or it stopped.
 abbrev pub FailsService : {W E : Type 0} → Startings → (W → Option (List ℕ)) → Service → ServiceFiles → PerformFault → W → W → E → E → Type 0
 FailsService starts of_out service files fault out out' err err' =
-    ((err' ≡ err) × ServesNothing service files fault) ⊎ HasStopped starts service files fault (of_out out) (of_out out')
+    (((err' ≡ err) ⊎ NamesState service) × ServesNothing service files fault) ⊎ HasStopped starts service files fault (of_out out) (of_out out')
 
 -- so it did, which is told behind the lines of connections that ended, and the status is that of the fault
 pub record TellsStop (starts : Startings) (service : Service) (files : ServiceFiles) (status : Status) (old new told_then : Option (List ℕ)) : Type 0 where

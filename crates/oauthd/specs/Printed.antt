@@ -16,12 +16,13 @@ use Rattle.state_file.specs.FaultTexts.{state_fault_text}
 use Rattle.oauthd.specs.declared.answer.Answer.{Answer}
 use Rattle.oauthd.specs.declared.answer.Answer.TheVariants as answers
 use Rattle.oauthd.specs.declared.fault.PerformFault.{PerformFault}
-use Rattle.oauthd.specs.declared.fault.PerformFault.TheVariants.{BadArguments, BadWord, HookCommand, CannotRead, Config, ConfigAt, Hook, BadLine, Event, Unopened, State, CannotListen, NoSeed, Stopped, OutOfMemory, CannotWrite}
+use Rattle.oauthd.specs.declared.fault.PerformFault.TheVariants.{BadArguments, BadWord, HookCommand, CannotRead, Config, ConfigAt, Hook, BadLine, Event, Unopened, State, StateAt, CannotListen, NoSeed, Stopped, OutOfMemory, CannotWrite}
 
 -- the whole text that an answer is printed as
 abbrev pub answer_text : Answer → List ℕ
 answer_text (answers.Hook answer) = hook_answer_text answer
 answer_text (answers.Listing text) = string_bytes text
+answer_text (answers.Lines text) = text.items
 answer_text (answers.Replayed output) = output.items
 answer_text (answers.Page text) = text.now
 
@@ -42,11 +43,16 @@ fault_text (BadLine line) = codes "line " ++ decimal line ++ codes ": bad line"
 fault_text (Event line fault) = codes "line " ++ decimal line ++ codes ": " ++ edge_fault_text fault
 fault_text (Unopened fault) = codes "State " ++ open_fault_text fault
 fault_text (State fault) = codes "State " ++ state_fault_text fault
+fault_text (StateAt number fault) = codes "State " ++ state_fault_text fault ++ codes " in batch " ++ decimal number
 fault_text CannotListen = codes "cannot listen"
 fault_text NoSeed = codes "no random bytes"
 fault_text (Stopped fault) = codes "stopped: " ++ stop_text fault
 fault_text OutOfMemory = codes "out of memory"
 fault_text CannotWrite = codes "cannot write"
+
+-- the line that tells how many bytes of an unfinished write are cut off a state file
+abbrev pub cut_text : ℕ → List ℕ
+cut_text torn = codes "oauthd: state: cut " ++ decimal torn ++ codes " bytes of an unfinished write\n"
 
 -- the whole line that tells a fault
 abbrev pub told_text : PerformFault → List ℕ

@@ -6,7 +6,7 @@ use Rattle.hook_commands.specs.declared.answer.HookAnswer.TheVariants as hook_an
 use Rattle.hook_commands.specs.declared.fault.HookCommandFault.{HookCommandFault}
 use Rattle.hook_commands.specs.declared.fault.HookCommandFault.TheVariants as hook
 use Rattle.oauthd.specs.declared.fault.PerformFault.{PerformFault}
-use Rattle.oauthd.specs.declared.fault.PerformFault.TheVariants.{BadArguments, BadWord, HookCommand, CannotRead, Config, ConfigAt, Hook, BadLine, Event, Unopened, State, CannotListen, NoSeed, Stopped, OutOfMemory, CannotWrite}
+use Rattle.oauthd.specs.declared.fault.PerformFault.TheVariants.{BadArguments, BadWord, HookCommand, CannotRead, Config, ConfigAt, Hook, BadLine, Event, Unopened, State, StateAt, CannotListen, NoSeed, Stopped, OutOfMemory, CannotWrite}
 use Rattle.oauthd.specs.declared.answer.Answer.{Answer}
 use Rattle.oauthd.specs.declared.answer.Answer.TheVariants as answers
 use Rattle.oauthd.specs.declared.fault.Status.{Status}
@@ -44,6 +44,7 @@ status_of (BadLine line) = BadUse
 status_of (Event line fault) = Refused
 status_of (Unopened fault) = BadUse
 status_of (State fault) = BadUse
+status_of (StateAt number fault) = BadUse
 status_of CannotListen = BadUse
 status_of NoSeed = BadUse
 status_of (Stopped fault) = BadUse

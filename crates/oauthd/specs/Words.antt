@@ -37,6 +37,7 @@ hook_words_of (hook.Ask V2 words) = codes "ask2" ∷ ask_words words
 abbrev pub words_of : Command → List (List ℕ)
 words_of (commands.Hook command) = hook_words_of command
 words_of (commands.Registry path) = codes "registry" ∷ path.now ∷ []
+words_of (commands.State path) = codes "state" ∷ path.now ∷ []
 words_of (commands.Replay path) = codes "replay" ∷ path.now ∷ []
 words_of (commands.Help Help) = codes "help" ∷ []
 words_of (commands.Help Long) = codes "--help" ∷ []
@@ -65,6 +66,7 @@ IsOptional command = ⊥
 abbrev pub file_named_by : Command → Option (List ℕ)
 file_named_by (commands.Hook command) = file_of_hook_command command
 file_named_by (commands.Registry path) = Some path.now
+file_named_by (commands.State path) = Some path.now
 file_named_by (commands.Replay path) = Some path.now
 file_named_by (commands.Help word) = None
 file_named_by (commands.Explain name) = None

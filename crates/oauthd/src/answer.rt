@@ -16,6 +16,8 @@ pub enum Answer {
     Hook(HookAnswer),
     /// What a registry says.
     Listing(String),
+    /// What a state file stands for.
+    Lines(Vec<u8>),
     /// What the server of a transcript sent to each connection.
     Replayed(Vec<u8>),
     /// A text of the program's own.
@@ -40,6 +42,7 @@ impl Answer {
         match self {
             Answer::Hook(answer) => write!(to, "{answer}")?,
             Answer::Listing(text) => to.write_all(text.as_bytes())?,
+            Answer::Lines(text) => to.write_all(text)?,
             Answer::Replayed(bytes) => to.write_all(bytes)?,
             Answer::Page(text) => to.write_all(text.as_bytes())?,
         }

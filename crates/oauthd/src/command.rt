@@ -9,9 +9,11 @@ use crate::answer::Answer;
 use crate::commands::help::explained;
 use crate::commands::registry::told_registry;
 use crate::commands::replay::replayed;
+use crate::commands::state::told_state;
 use crate::fault::PerformFault;
 use crate::named_file::{NamedFile, bytes_in};
 use crate::options::{to_ask, to_trace, with_option};
+use consent::Moment;
 use hook_commands::HookCommand;
 use insn::layout::Layout;
 use manual::{PAGE, VERSION};
@@ -35,6 +37,8 @@ pub enum Command<'w> {
     Hook(HookCommand<'w>),
     /// `registry FILE`: what the registry in a file says.
     Registry { path: &'w str },
+    /// `state FILE`: what the state file stands for.
+    State { path: &'w str },
     /// `replay FILE`: what the server of the transcript in a file sends to each connection.
     Replay { path: &'w str },
     /// `help`, `--help` and `-h`: the commands.
@@ -76,6 +80,7 @@ fn with_word<'w>(name: &str, word: &'w str) -> Option<Command<'w>>
             path: word,
         })),
         "registry" => Some(Command::Registry { path: word }),
+        "state" => Some(Command::State { path: word }),
         "replay" => Some(Command::Replay { path: word }),
         "help" => Some(Command::Explain { name: word }),
         _ => None,
@@ -118,16 +123,19 @@ impl<'w> Command<'w> {
         match self {
             Command::Hook(command) => command.file(),
             Command::Registry { path } => Some(path),
+            Command::State { path } => Some(path),
             Command::Replay { path } => Some(path),
             Command::Help(_) | Command::Explain { .. } | Command::Version => None,
         }
     }
 
-    /// What the command answers. `file` is its file, and `None` where that cannot be read.
+    /// What the command answers. `file` is its file, and `None` where that cannot be read; `now` is the moment, where it is
+    /// known.
     pub fn answer(
         self,
         alloc: Global,
         file: Option<&NamedFile>,
+        now: Option<Moment>,
     ) -> Result<Answer, PerformFault<'w>>
         ensures { IsAnsweredBy self.entry (option_copied file.entry) result }
     {
@@ -137,6 +145,7 @@ impl<'w> Command<'w> {
                 Err(fault) => Err(PerformFault::HookCommand(fault)),
             },
             Command::Registry { path } => told_registry(alloc, path, file),
+            Command::State { path } => told_state(alloc, path, bytes_in(file), now),
             Command::Replay { path } => replayed(alloc, path, bytes_in(file)),
             Command::Help(_) => Ok(Answer::Page(PAGE)),
             Command::Explain { name } => explained(name),

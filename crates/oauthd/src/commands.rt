@@ -4,3 +4,4 @@ pub mod config_file;
 pub mod help;
 pub mod registry;
 pub mod replay;
+pub mod state;

@@ -2,7 +2,7 @@
 
 ghost use Rattle.std.specs.Prelude.{◌≡◌, Some};
 ghost use Rattle.oauthd.specs.Statuses.{code_of, status_of, status_of_hook_command};
-ghost use Rattle.oauthd.specs.Faults.{of_configuring, of_listening, of_opening, of_replaying, of_state};
+ghost use Rattle.oauthd.specs.Faults.{of_account, of_configuring, of_listening, of_opening, of_replaying, of_state};
 ghost use Rattle.oauthd.specs.Printed.{fault_text, stop_text};
 ghost use Rattle.oauthd.specs.declared.fault.PerformFault.TheVariants.{OutOfMemory};
 
@@ -14,7 +14,7 @@ use hook_commands::HookCommandFault;
 use hook_host::HookFault;
 use http_edge::EdgeFault;
 use start_words::WordFault;
-use state_file::StateFault;
+use state_file::{AccountFault, StateFault};
 use std::alloc::AllocError;
 use std::fmt::{self, Display, Formatter};
 use transcript::ReplayFault;
@@ -66,6 +66,8 @@ pub enum PerformFault<'w> {
     Unopened(OpenFault),
     /// No server is started on what stands in the file of its state.
     State(StateFault),
+    /// It is not told what a state file stands for, for what is wrong with the batch of this number.
+    StateAt(usize, StateFault),
     /// There is no socket at the address.
     CannotListen,
     /// The system gives no random bytes.
@@ -112,6 +114,7 @@ impl<'w> PerformFault<'w> {
             | PerformFault::BadLine(_)
             | PerformFault::Unopened(_)
             | PerformFault::State(_)
+            | PerformFault::StateAt(_, _)
             | PerformFault::CannotListen
             | PerformFault::NoSeed
             | PerformFault::Stopped(_)
@@ -137,6 +140,7 @@ impl<'w> Display for PerformFault<'w> {
             PerformFault::Event(line, fault) => write!(f, "line {line}: {fault}"),
             PerformFault::Unopened(fault) => write!(f, "State {fault}"),
             PerformFault::State(fault) => write!(f, "State {fault}"),
+            PerformFault::StateAt(number, fault) => { write!(f, "State {fault} in batch {number}") }
             PerformFault::CannotListen => write!(f, "cannot listen"),
             PerformFault::NoSeed => write!(f, "no random bytes"),
             PerformFault::Stopped(fault) => write!(f, "stopped: {}", Stop(*fault)),
@@ -203,6 +207,17 @@ impl<'w> From<StateFault> for PerformFault<'w> {
         match fault {
             StateFault::Memory => PerformFault::OutOfMemory,
             fault => PerformFault::State(fault),
+        }
+    }
+}
+
+impl<'w> From<AccountFault> for PerformFault<'w> {
+    ghost from_gives = { λ fault f. f ≡ of_account fault };
+
+    fn from(fault: AccountFault) -> PerformFault<'w> {
+        match fault {
+            AccountFault::Memory => PerformFault::OutOfMemory,
+            AccountFault::Batch(number, fault) => PerformFault::StateAt(number, fault),
         }
     }
 }

@@ -12,6 +12,7 @@ mod command;
 mod commands;
 mod fault;
 mod hook_files;
+mod moment;
 mod named_file;
 mod options;
 mod perform;

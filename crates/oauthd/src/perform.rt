@@ -17,11 +17,13 @@ use crate::command::Command;
 use crate::commands::config_file::registry_of;
 use crate::fault::{PerformFault, Status};
 use crate::hook_files::{HooksTaken, take_hooks};
+use crate::moment::moment_now;
 use crate::named_file::NamedFile;
 use crate::service::Service;
 use crate::state::start_at;
 use batch_file::disk_file::DiskFile;
 use change_codec::Keeper;
+use consent::Moment;
 use daemon::{LineJournal, MachineClocks, Patience, go_on, serve, start};
 use event_loop::{Clocks, Journal};
 use image_keeper::ImageKeeper;
@@ -43,18 +45,20 @@ pub enum Unwritten {
     Fault,
 }
 
-/// Carries out a command that answers. `file` is the file that it names, and `None` where that cannot be read. The answer goes to `out`, once all of it is known; a fault goes to `err` as one line.
+/// Carries out a command that answers. `file` is the file that it names, and `None` where that cannot be read; `now` is the
+/// moment, where it is known. The answer goes to `out`, once all of it is known; a fault goes to `err` as one line.
 pub fn carry_out<W: Write, E: Write>(
     alloc: Global,
     command: Command<'_>,
     file: Option<&NamedFile>,
+    now: Option<Moment>,
     out: &mut W,
     err: &mut E,
 ) -> Result<Status, Unwritten>
     ensures { IfOk result (λ status.
         EndsCommand W.contents E.contents command.entry (option_copied file.entry) status out.old out.new err.old err.new) }
 {
-    match command.answer(alloc, file) {
+    match command.answer(alloc, file, now) {
         Ok(answer) => match answer.write_to(out) {
             Ok(()) => Ok(answer.status()),
             Err(_) => Err(Unwritten::Answer),
@@ -68,6 +72,7 @@ pub fn perform_command<W: Write, E: Write>(
     alloc: Global,
     command: Command<'_>,
     file: Option<&NamedFile>,
+    now: Option<Moment>,
     out: &mut W,
     err: &mut E,
 ) -> Status
@@ -75,7 +80,7 @@ pub fn perform_command<W: Write, E: Write>(
     ensures { (result ≡ Status.BadUse)
         ⊎ EndsCommand W.contents E.contents command.entry (option_copied file.entry) result out.old out.new err.old err.new }
 {
-    match carry_out(alloc, command, file, out, err) {
+    match carry_out(alloc, command, file, now, out, err) {
         Ok(status) => status,
         Err(unwritten) => failed(unwritten, err),
     }
@@ -95,7 +100,7 @@ pub fn failed<E: Write>(unwritten: Unwritten, err: &mut E) -> Status
 }
 
 /// Writes a text, to where it is to go.
-fn write_text<W: Write, D: Display + Drop>(to: &mut W, text: D) -> io::Result<()>
+pub fn write_text<W: Write, D: Display + Drop>(to: &mut W, text: D) -> io::Result<()>
     ensures { OnOk result (IfSome (D.output text) (Appends (W.contents to.old) (W.contents to.new))) }
 {
     write!(to, "{text}")?;
@@ -167,7 +172,7 @@ fn serve_as<
                 server,
                 keeper,
                 moment: _,
-            } = start_at(rt, path, registry, &codes)?;
+            } = start_at(rt, path, registry, &codes, err)?;
             go_on(rt, given.address, server, keeper, patience, out, err)?
         }
     };
@@ -210,7 +215,8 @@ fn perform_call<
 {
     match call {
         Call::Command(command) => {
-            perform_command(rt.alloc(), *command, files.named.as_ref(), out, err)
+            let file = files.named.as_ref();
+            perform_command(rt.alloc(), *command, file, moment_now(rt), out, err)
         }
         Call::Service(service) => perform_service(rt, service, files, out, err),
     }

@@ -5,6 +5,7 @@ mod hook_rows;
 mod registries;
 mod services;
 mod sockets;
+mod state_files;
 mod transcripts;
 mod words;
 
@@ -12,6 +13,7 @@ use crate::call::Call;
 use crate::fault::{PerformFault, Status};
 use crate::named_file::{NamedFile, Readers};
 use crate::perform::{perform_command, told};
+use consent::Moment;
 use std::alloc::{AllocError, Global};
 use std::io::{Cursor, Write};
 use std::process::Abort;
@@ -24,6 +26,9 @@ const ALLOW: &str = "b7000000010000009500000000000000";
 /// seconds.
 const A: &str =
     "0100000001000000e80300000000000001000000000000000100000000000000030000000000000003000000000000002c010000000000000300000000000000";
+
+/// When the commands are carried out, in seconds.
+const NOW: u64 = 1060;
 
 /// The most bytes that a command writes here.
 const ROOM: usize = 4096;
@@ -124,7 +129,14 @@ fn perform<W: Write, E: Write>(
     err: &mut E,
 ) -> u8 {
     let status = match Call::from_words(alloc, words) {
-        Ok(Call::Command(command)) => perform_command(alloc, command, file, out, err),
+        Ok(Call::Command(command)) => perform_command(
+            alloc,
+            command,
+            file,
+            Some(Moment::new(NOW)),
+            out,
+            err,
+        ),
         Ok(Call::Service(_service)) => told(PerformFault::BadArguments, err),
         Err(fault) => told(fault, err),
     };

@@ -1,3 +1,4 @@
+pub mod Accounted
 pub mod Begun
 pub mod Compared
 pub mod Imaged

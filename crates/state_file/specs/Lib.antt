@@ -8,3 +8,4 @@ pub mod Resuming
 pub mod FaultTexts
 pub mod Knowing
 pub mod Renewing
+pub mod Accounts

@@ -6,9 +6,11 @@
 //! right.
 #![tactic(auto)]
 
+mod account;
 mod beginning;
 mod comparing;
 mod fault;
+mod file_rules;
 mod hooks;
 mod imaging;
 mod keeper;
@@ -21,6 +23,7 @@ mod rules;
 mod starting;
 mod telling;
 
+pub use account::{Account, AccountFault, account_of};
 pub use fault::StateFault;
 pub use hooks::{SetHook, SetHooks};
 pub use keeper::StateKeeper;

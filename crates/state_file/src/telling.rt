@@ -30,7 +30,7 @@ pub(crate) struct Spelled {
 }
 
 /// Whether a batch tells rules.
-fn tells_rules(batch: &[u8]) -> bool
+pub(crate) fn tells_rules(batch: &[u8]) -> bool
     ensures { IsTrue result ↔ rules_in batch.now ≡ Some batch.now }
 {
     match batch {
@@ -51,7 +51,7 @@ fn begin_with_rules(batches: &[Vec<u8>]) -> bool
 }
 
 /// The last batch that tells rules.
-fn last_rules(batches: &[Vec<u8>]) -> Option<&[u8]>
+pub(crate) fn last_rules(batches: &[Vec<u8>]) -> Option<&[u8]>
     ensures { option_copied result ≡ last_rules (lists batches.now) }
 {
     let mut last = None;
@@ -64,7 +64,7 @@ fn last_rules(batches: &[Vec<u8>]) -> Option<&[u8]>
 }
 
 /// The rules that a batch tells.
-fn told_rules(alloc: Global, batch: &[u8]) -> Result<Rules<'_>, StateFault>
+pub(crate) fn told_rules(alloc: Global, batch: &[u8]) -> Result<Rules<'_>, StateFault>
     ensures told { IfOk result (λ rules. TellsIn batch.now (rules_fact rules)) }
     ensures one { IfOk result (λ rules. (others : RulesFact) → TellsIn batch.now others → others ≡ rules_fact rules) }
     ensures fit { IfOk result (λ rules. RulesFit (rules_fact rules)) }

@@ -3,7 +3,7 @@
 use crate::topic::Topic;
 
 /// What each command does.
-pub const COMMANDS: [Topic; 12] = [
+pub const COMMANDS: [Topic; 13] = [
     Topic {
         name: "run",
         text: "\
@@ -87,6 +87,14 @@ serve ADDR CONFIG SEEDHEX COUNT: listens at ADDR, prints listening ADDR, serves 
 registry FILE: reads the registry in FILE as start does, and serves nothing. Where it is refused, the fault is told with where it stands: Config BadRedirect at clients[17].redirects[0] is the first redirect URI of the 18th client, since items are counted from 0. Else it prints the lives of tokens in seconds, how many owners and clients there are, the names of all scopes, and, behind warning:, what may be a mistake: a member whose name means nothing there, one that stands twice in its object, an owner with the operator's key, access tokens that live longer than refresh tokens, and a file that everybody on the machine may read.
 
   oauthd registry registry.json
+",
+    },
+    Topic {
+        name: "state",
+        text: "\
+state FILE: prints what the file of a server's state stands for: a line of JSON for each consent, for each family of codes and tokens, for each code and token that is unexpired, and for each hook, and one for the file. Of a digest there are the first 8 hex digits, so no line has a secret. The last line has how many bytes and whole batches the file has, how many bytes of an unfinished write stand behind them (torn), the moment of the last change in Unix seconds (last), and how many seconds ago that was (age). The file is read alone: nothing is written and no lock is wanted, so a running server's file can be listed. No registry is wanted either: the file has the names. What is wrong with a file is told with the number of its batch, counted from 1; oauthd help State has the names.
+
+  oauthd state /var/lib/oauthd/state
 ",
     },
     Topic {

@@ -73,6 +73,7 @@ hook NAME: FAULT: start was to install this hook, and it is refused; no connecti
         name: "State",
         text: "\
 State FAULT: start was to keep its state in the file of --state, and can't; no connection was taken, and all that the file has kept stays there.
+State FAULT in batch N: state was to list the file, and its N-th batch is wrong; nothing was printed.
 
   InUse                  another server holds the lock on FILE.lock; stop that one first
   Open: WHY              the system refused to open or to make the file, its lock or its folder: not found, permission denied, not a directory, is a directory, read-only filesystem, no storage space, quota exceeded, other error

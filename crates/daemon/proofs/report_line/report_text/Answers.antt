@@ -1,4 +1,4 @@
-use Rattle.std.proofs.Common.{◌≡◌, ◌∷◌, ◌++◌, [], List, codes, IfOk, subst}
+use Rattle.std.proofs.Common.{◌≡◌, ◌∷◌, ◌++◌, [], List, codes, IfOk, subst, sym}
 use Rattle.json.specs.Token.{Token, begin_object, end_object}
 use Rattle.json.specs.Print.{print}
 use Rattle.daemon.specs.ReportTokens.{asked_tokens, connections_tokens, count_tokens, kept_tokens, replied_tokens, state_tokens, wanted_tokens}
@@ -9,7 +9,9 @@ pub returns : goal.returns
 returns c =
     let report = c.args.report.now in
     let begun : List Token = begin_object ∷ [] in
-    let moment = joined [] _ _ begun (count_tokens (codes "moment") report.moment) c.in_ok-line.ensures c.in_ok-number.ensures in
+    let told : report.moment ≡ c.get.result = sym c.get.ensures.value in
+    let first : c.number.new.self.json.tokens ≡ c.in_ok-line.line.json.tokens ++ count_tokens (codes "moment") report.moment = rw told c.in_ok-number.ensures in
+    let moment = joined [] _ _ begun _ c.in_ok-line.ensures first in
     let seconds = joined [] _ _ _ (count_tokens (codes "seconds") report.seconds) moment c.in_ok-number-2.ensures in
     let connections = joined [] _ _ _ (connections_tokens report) seconds c.in_ok-connections.ensures in
     let asked = joined [] _ _ _ (asked_tokens report.tally.asked) connections c.in_ok-asked.ensures in

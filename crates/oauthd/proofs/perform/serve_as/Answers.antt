@@ -19,7 +19,7 @@ returns-in_err-server-in-Some-clause-fault g c =
     let named : IsSome c.in-Start.given.options.state = search rules in
     let same : c.deref-in-Some.result.now ≡ c.in_ok-chain.field-0.codes.items = search rules in
     rw is (inl (
-      refl,
+      inr (record { given = c.in-Start.given; service_is = c.in-Start.is; named = named }),
       inr (inr (inl (record {
         registry = c.in_ok-registry.registry;
         held = c.in_ok-registry.ensures.found;

@@ -1,0 +1,86 @@
+//! All lines of a state file.
+
+ghost use Rattle.std.specs.Prelude.{◌≡◌, ◌++◌, [], ◌∷◌, IfOk, OnOk, flat_map, map};
+ghost use Rattle.image_codec.specs.Facts.{hook_fact, image_fact, record_fact, rules_fact};
+ghost use Rattle.state_listing.specs.Lines.{consent_line, family_line, firsts, hook_line, listing_text, token_line};
+
+use crate::facts::FileFacts;
+use crate::rows::{push_consent, push_family, push_file, push_hook, push_token};
+use consent::KeptConsent;
+use image_codec::{Image, KeptHook, Rules};
+use std::alloc::{AllocError, Global};
+use std::collections::BTreeSet;
+use token_store::KeptRecord;
+
+// A line for each consent.
+fn push_consents(
+    alloc: Global,
+    lines: &mut Vec<u8>,
+    rules: &Rules<'_>,
+    consents: &[KeptConsent],
+) -> Result<(), AllocError>
+    ensures { OnOk result (lines.new.items ≡ lines.old.items ++ flat_map (consent_line (rules_fact rules.now)) consents.now) }
+{
+    for consent in consents {
+        push_consent(alloc, lines, rules, consent)?;
+    }
+    Ok(())
+}
+
+// A line for each family.
+fn push_families(
+    alloc: Global,
+    lines: &mut Vec<u8>,
+    rules: &Rules<'_>,
+    records: &[KeptRecord<'_>],
+) -> Result<(), AllocError>
+    ensures { OnOk result (lines.new.items ≡ lines.old.items
+        ++ flat_map (family_line (rules_fact rules.now)) (firsts [] (map record_fact records.now))) }
+{
+    let mut families = BTreeSet::new(alloc);
+    for kept in records {
+        if families.insert(kept.family)? {
+            push_family(alloc, lines, rules, kept)?;
+        }
+    }
+    Ok(())
+}
+
+// A line for each code and token.
+fn push_tokens(
+    alloc: Global,
+    lines: &mut Vec<u8>,
+    rules: &Rules<'_>,
+    records: &[KeptRecord<'_>],
+) -> Result<(), AllocError>
+    ensures { OnOk result (lines.new.items ≡ lines.old.items
+        ++ flat_map (token_line (rules_fact rules.now)) (map record_fact records.now)) }
+{
+    for kept in records {
+        push_token(alloc, lines, rules, kept)?;
+    }
+    Ok(())
+}
+
+// A line for each hook.
+fn push_hooks(alloc: Global, lines: &mut Vec<u8>, hooks: &[KeptHook<'_>]) -> Result<(), AllocError>
+    ensures { OnOk result (lines.new.items ≡ lines.old.items ++ flat_map hook_line (map hook_fact hooks.now)) }
+{
+    for hook in hooks {
+        push_hook(alloc, lines, hook)?;
+    }
+    Ok(())
+}
+
+/// A line for each consent, family, code or token, and hook of the image of a file, and one for the file.
+pub fn listing(alloc: Global, image: &Image<'_>, file: &FileFacts) -> Result<Vec<u8>, AllocError>
+    ensures { IfOk result (λ text. text.items ≡ listing_text (image_fact image.now) file.now) }
+{
+    let mut lines = Vec::new(alloc);
+    push_consents(alloc, &mut lines, &image.rules, image.consents.as_slice())?;
+    push_families(alloc, &mut lines, &image.rules, image.records.as_slice())?;
+    push_tokens(alloc, &mut lines, &image.rules, image.records.as_slice())?;
+    push_hooks(alloc, &mut lines, image.hooks.as_slice())?;
+    push_file(alloc, &mut lines, image.greatest, file)?;
+    Ok(lines)
+}
