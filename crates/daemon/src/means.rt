@@ -2,18 +2,19 @@
 
 ghost use Rattle.event_loop.specs.Ends.{Ends};
 ghost use Rattle.event_loop.specs.Scenes.{promises};
+ghost use Rattle.image_keeper.specs.Keeping.{keeping};
 ghost use Rattle.daemon.specs.Begun.{new_beginning};
 ghost use Rattle.daemon.specs.Started.{Serves, ServesFrom, limits_of, tools_of};
 
 use crate::by_count::new_edge;
 use crate::patience::Patience;
-use change_codec::Keeper;
 use clients::Registry;
 use endpoints::Server;
 use event_loop::{Clocks, Journal, LoopFault, Sockets, Tools, serve_all};
 use hook_chain::Chain;
 use hook_host::HookHost;
 use http_edge::Edge;
+use image_keeper::ImageKeeper;
 use rand_chacha::ChaCha20Rng;
 use std::alloc::Global;
 
@@ -39,11 +40,11 @@ pub struct Ending<N, C, J, K, H> {
 }
 
 /// Serves up to 64 connections at once, by an edge and with what it is handed, until it can't go on.
-fn serve_by<N: Sockets, C: Clocks, J: Journal, K: Keeper>(
+fn serve_by<N: Sockets, C: Clocks, J: Journal, K: ImageKeeper>(
     edge: Edge<Chain>,
     means: Means<N, C, J, K>,
 ) -> Ending<N, C, J, K, Chain>
-    ensures { Ends (promises N.Sockets C.Clocks J.Journal K.Keeper ⟦<Chain as HookHost>⟧)
+    ensures { Ends (promises N.Sockets C.Clocks J.Journal (keeping K.Keeper K.ImageKeeper.own) ⟦<Chain as HookHost>⟧)
         (limits_of means.patience) (tools_of means edge) result.fault result.tools }
 {
     let limits = means.patience.limits();
@@ -61,25 +62,25 @@ fn serve_by<N: Sockets, C: Clocks, J: Journal, K: Keeper>(
 
 /// Serves up to 64 connections at once, with what it is handed and by a new edge over a registry and hooks, until it can't
 /// go on.
-pub fn serve_with<N: Sockets, C: Clocks, J: Journal, K: Keeper>(
+pub fn serve_with<N: Sockets, C: Clocks, J: Journal, K: ImageKeeper>(
     alloc: Global,
     registry: Registry,
     hooks: Chain,
     means: Means<N, C, J, K>,
 ) -> Ending<N, C, J, K, Chain>
-    ensures { Serves (promises N.Sockets C.Clocks J.Journal K.Keeper ⟦<Chain as HookHost>⟧) (new_beginning registry hooks) means result }
+    ensures { Serves (promises N.Sockets C.Clocks J.Journal (keeping K.Keeper K.ImageKeeper.own) ⟦<Chain as HookHost>⟧) (new_beginning registry hooks) means result }
 {
     serve_by(new_edge(alloc, registry, hooks), means)
 }
 
 /// Serves up to 64 connections at once, with what it is handed and by an edge over a server that was made before, until it
 /// can't go on. What happens is kept, from the history on from which the server notes it.
-pub fn go_on_with<N: Sockets, C: Clocks, J: Journal, K: Keeper>(
+pub fn go_on_with<N: Sockets, C: Clocks, J: Journal, K: ImageKeeper>(
     alloc: Global,
     server: Server<Chain>,
     means: Means<N, C, J, K>,
 ) -> Ending<N, C, J, K, Chain>
-    ensures { ServesFrom (promises N.Sockets C.Clocks J.Journal K.Keeper ⟦<Chain as HookHost>⟧) server means result }
+    ensures { ServesFrom (promises N.Sockets C.Clocks J.Journal (keeping K.Keeper K.ImageKeeper.own) ⟦<Chain as HookHost>⟧) server means result }
 {
     serve_by(Edge::new(alloc, server), means)
 }

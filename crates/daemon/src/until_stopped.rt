@@ -2,6 +2,7 @@
 
 ghost use Rattle.std.specs.Prelude.{◌≡◌, ◌≢◌, OnOk, OnErr, IfOk, IfErr};
 ghost use Rattle.event_loop.specs.Scenes.{promises};
+ghost use Rattle.image_keeper.specs.Keeping.{keeping};
 ghost use Rattle.daemon.specs.Listening.{Announces};
 ghost use Rattle.daemon.specs.Started.{HasGoneOn, HasStarted};
 ghost use Rattle.daemon.specs.declared.fault.ListenFault.TheVariants.{Unwritten};
@@ -19,6 +20,7 @@ use endpoints::Server;
 use event_loop::{Clocks, Journal, LoopFault, Sockets};
 use hook_chain::Chain;
 use hook_host::HookHost;
+use image_keeper::ImageKeeper;
 use rand_chacha::ChaCha20Rng;
 use rand_core::SeedableRng;
 use std::io::Write;
@@ -67,7 +69,7 @@ pub fn start<'r, 'e, R: Net + Clock + RandomSource + AllocGlobal, W: Write, E: W
     err: &'e mut E,
 ) -> Result<LoopFault, ListenFault>
     ensures done { OnOk result (Announces (W.contents out.old) (W.contents out.new)) }
-    ensures serves { IfOk result (HasStarted (promises ⟦<MachineSockets as Sockets>⟧ ⟦<MachineClocks<'r, R> as Clocks>⟧ ⟦<LineJournal<'e, E> as Journal>⟧ ⟦<NoKeeper as Keeper>⟧ ⟦<Chain as HookHost>⟧) registry hooks patience) }
+    ensures serves { IfOk result (HasStarted (promises ⟦<MachineSockets as Sockets>⟧ ⟦<MachineClocks<'r, R> as Clocks>⟧ ⟦<LineJournal<'e, E> as Journal>⟧ (keeping ⟦<NoKeeper as Keeper>⟧ ⟦<NoKeeper as ImageKeeper>⟧.own) ⟦<Chain as HookHost>⟧) registry hooks patience) }
     ensures silent { IfErr result (λ fault. fault ≢ Unwritten → out.new ≡ out.old) }
     ensures quiet { OnErr result (err.new ≡ err.old) }
 {
@@ -96,7 +98,7 @@ pub fn go_on<
     'r,
     'e,
     R: Net + Clock + RandomSource + AllocGlobal,
-    K: Keeper + Drop,
+    K: ImageKeeper + Drop,
     W: Write,
     E: Write,
 >(
@@ -110,7 +112,7 @@ pub fn go_on<
 ) -> Result<LoopFault, ListenFault>
     ensures done { OnOk result (Announces (W.contents out.old) (W.contents out.new)) }
     ensures serves { IfOk result (HasGoneOn (promises ⟦<MachineSockets as Sockets>⟧ ⟦<MachineClocks<'r, R> as Clocks>⟧
-        ⟦<LineJournal<'e, E> as Journal>⟧ K.Keeper ⟦<Chain as HookHost>⟧) server keeper patience) }
+        ⟦<LineJournal<'e, E> as Journal>⟧ (keeping K.Keeper K.ImageKeeper.own) ⟦<Chain as HookHost>⟧) server keeper patience) }
     ensures silent { IfErr result (λ fault. fault ≢ Unwritten → out.new ≡ out.old) }
     ensures quiet { OnErr result (err.new ≡ err.old) }
 {

@@ -21,7 +21,7 @@ use Rattle.event_loop.specs.Reading.{Reads, read_place}
 use Rattle.event_loop.specs.Writing as writing
 use Rattle.event_loop.specs.Writing.{Writes}
 use Rattle.event_loop.specs.Closing.{Closes, leaves}
-use Rattle.event_loop.specs.Served.{Step, Served, waits, hears_of_listener, hears_of, hears_of_none, comes, tries_again, reads, writes, closes, reports, keeps, begins, goes}
+use Rattle.event_loop.specs.Served.{Step, Served, waits, hears_of_listener, hears_of, hears_of_none, comes, tries_again, reads, writes, closes, reports, keeps, puts_image, no_image, begins, goes}
 use Rattle.event_loop.specs.Answered.{Exchange, IsAnswered, read_at, written_at}
 use Rattle.event_loop.proofs.Putting.{set_cases}
 use Rattle.event_loop.proofs.Kept.{kept_connections}
@@ -234,6 +234,8 @@ module _ {N C J K H : Type 0} where
     step_answered s' (writes j place s'' here writable unwritten kept may writing) = writes_answered j place s'' here (served_taken place.stage may.served) writing
     step_answered s' (closes j place s'' here taken cause closing) = closes_answered j place s'' closing
     step_answered s' (reports notice told journal due done) = idles _ refl refl (λ k. refl) (λ k. refl)
+    step_answered s' (puts_image keeper all kept) = idles _ refl refl (λ k. refl) (λ k. refl)
+    step_answered s' no_image = idles _ refl refl (λ k. refl) (λ k. refl)
     step_answered s' (keeps keeper e unkept on undone kept) = record {
       reached = on.reached;
       exchanges = λ k place here taken.

@@ -11,16 +11,16 @@ use Rattle.event_loop.specs.declared.place.Place.{Place}
 use Rattle.change_codec.specs.Keeping.{Crashes, IsFrontOf, Holds, Keeps, KeepsNot, LeavesEither}
 use Rattle.event_loop.specs.Courses.{Course}
 use Rattle.event_loop.specs.Giving.{Gives, nothing, gives, tries}
-use Rattle.event_loop.specs.Scenes.{Promises, Scene, IsUnkept}
+use Rattle.event_loop.specs.Scenes.{Promises, Scene, IsAllKept, IsUnkept}
 use Rattle.event_loop.specs.Coming.{Comes, opens, denies, finds_nobody, fails, asks}
 use Rattle.event_loop.specs.Reading as reading
 use Rattle.event_loop.specs.Reading.{Reads}
 use Rattle.event_loop.specs.Writing as writing
 use Rattle.event_loop.specs.Writing.{Writes}
 use Rattle.event_loop.specs.Closing.{Closes, leaves}
-use Rattle.event_loop.specs.Served.{Step, Served, Shuts, waits, hears_of_listener, hears_of, hears_of_none, comes, tries_again, reads, writes, closes, reports, keeps, begins, goes, stops, shuts, reports_last}
+use Rattle.event_loop.specs.Served.{Step, Served, Shuts, waits, hears_of_listener, hears_of, hears_of_none, comes, tries_again, reads, writes, closes, reports, keeps, puts_image, no_image, begins, goes, stops, shuts, reports_last}
 use Rattle.event_loop.specs.Durable.{Onward, stays, onward, IsHeld, StandsBetween, IsDurable, IsDurableToEnd}
-use Rattle.event_loop.specs.Ends.{Fails, no_wait, no_time, not_kept, no_more}
+use Rattle.event_loop.specs.Ends.{Fails, no_wait, no_time, not_kept, not_imaged, no_more}
 use Rattle.event_loop.proofs.Answering.{served_answered}
 use Rattle.event_loop.proofs.Kept.{same_front, front_then, reached_front, kept_history, kept_last}
 
@@ -51,11 +51,12 @@ takes_grows : (old new : World) (c n : ℕ) → Takes old new c n ⊎ TakesNothi
 takes_grows old new c n (inl takes) = record { kept = takes.still.kept; front = same_front _ _ takes.still.history }
 takes_grows old new c n (inr absent) = grows_not old new absent.same
 
--- the keeper is as it was, and the history grows; or what is unkept is kept
+-- the keeper is as it was, and the history grows; or what is unkept is kept; or all is kept, and is in another way
 data Moves {N C J K H : Type 0} (p : Promises N C J K H) (s s' : Scene N C J K H) : Type 0 where
   goes_on : s'.keeper ≡ s.keeper → Grows s.course.world s'.course.world → Moves p s s'
   keeps_all : (unkept : IsUnkept s.course.world) → Keeps p.keeping unkept.kept s.course.world.history s.keeper s'.keeper → s'.course.world.kept ≡ Some s.course.world.history →
       s'.course.world.history ≡ s.course.world.history → Moves p s s'
+  keeps_still : IsAllKept s.course.world → Keeps p.keeping s.course.world.history s.course.world.history s.keeper s'.keeper → s'.course.world ≡ s.course.world → Moves p s s'
 
 module _ {N C J K H : Type 0} (p : Promises N C J K H) (rules : RegistryRecord) (host : H) where
   comes_moves : (s s' : Scene N C J K H) → Comes p rules host s s' → Moves p s s'
@@ -96,6 +97,8 @@ module _ {N C J K H : Type 0} (p : Promises N C J K H) (rules : RegistryRecord) 
   step_moves s s' (writes j place s'' here writable unwritten kept may writing) = writes_moves j place s s'' writing
   step_moves s s' (closes j place s'' here taken cause closing) = closes_moves j place s s'' closing
   step_moves s s' (reports notice told journal due done) = goes_on refl (grows_not _ _ refl)
+  step_moves s s' (puts_image keeper all kept) = keeps_still all kept refl
+  step_moves s s' no_image = goes_on refl (grows_not _ _ refl)
   step_moves s s' (keeps keeper e unkept on undone kept) =
       keeps_all unkept kept (kept_last s.course.world on.world on.happens) (kept_history s.course.world on.world on.happens)
 
@@ -109,6 +112,11 @@ module _ {N C J K H : Type 0} (p : Promises N C J K H) (rules : RegistryRecord) 
       let same : Some s.course.world.history ≡ Some now = sym last ∙ is in
       let e : s.course.world.history ≡ now = cc in
       subst (p.keeping.stands_for c) e (kept.holds (held unkept.kept unkept.here) c left)
+
+  moves_held s s' (keeps_still all kept same) held = λ now is c left.
+      let before : s.course.world.kept ≡ Some now = ap (λ (w : World). w.kept) (sym same) ∙ is in
+      let e : now ≡ s.course.world.history = all now before in
+      subst (p.keeping.stands_for c) (sym e) (kept.holds (subst (λ (h : List Event). Holds p.keeping s.keeper h) e (held now before)) c left)
 
   served_held : (first s : Scene N C J K H) → IsHeld p first → Served p rules host first s → IsHeld p s
   served_held first s held (begins is) = held
@@ -188,6 +196,29 @@ module _ {N C J K H : Type 0} (p : Promises N C J K H) (rules : RegistryRecord) 
         held = moves_held s' s'' (keeps_all unkept kept last history) l.held;
       }
 
+  lasts_on first s before s' s'' l step (keeps_still all kept same) =
+      let e : l.kept ≡ s'.course.world.history = all l.kept l.here in
+      let held : Holds p.keeping s'.keeper s'.course.world.history = subst (λ (h : List Event). Holds p.keeping s'.keeper h) e (l.held l.kept l.here) in
+      let here : s'.course.world.kept ≡ Some s'.course.world.history = l.here ∙ ap Some e in
+      let meanwhile = kept.meanwhile held in
+      let grows : IsFrontOf s'.course.world.history s''.course.world.history = same_front _ _ (ap (λ (w : World). w.history) same) in
+      record {
+        served = goes l.served step;
+        on = onward l.on step;
+        later = omega (arith, l.later, meanwhile.later);
+        durable = λ c left. elim (meanwhile.earlier (p.keeping.moment s.keeper) c l.later left) [
+          | inl then ↦ between_on s before s' s'' c step grows (l.durable c then)
+          | inr now ↦ elim now [
+            | inl old ↦ between_on s before s' s'' c step grows (kept_between first s before s' l s'.course.world.history here c old)
+            | inr new ↦ between_on s before s' s'' c step grows (kept_between first s before s' l s'.course.world.history here c new)
+          ]
+        ];
+        kept = l.kept;
+        here = ap (λ (w : World). w.kept) same ∙ l.here;
+        from = l.from;
+        held = moves_held s' s'' (keeps_still all kept same) l.held;
+      }
+
   module _ (only_now : (keeper : K) (c : List ℕ) → p.keeping.left_since keeper (p.keeping.moment keeper) c → p.keeping.may_leave keeper c) (first : Scene N C J K H) (at_first : IsHeld p first) where
     lasts : (s : Scene N C J K H) (before : List Event) (s' : Scene N C J K H) → s.course.world.kept ≡ Some before → Served p rules host first s → Onward p rules host s s' → Lasts first s before s'
     lasts s before s' is served stays =
@@ -228,6 +259,20 @@ module _ {N C J K H : Type 0} (p : Promises N C J K H) (rules : RegistryRecord) 
           | inl then ↦ inl (l.durable c then)
           | inr now ↦ elim now [
             | inl old ↦ inl (kept_between first s kept last l unkept.kept unkept.here c old)
+            | inr new ↦ inr new
+          ]
+        ]
+
+    fails_durable s last failed fault served on (not_imaged keeper all lost) = λ kept is c left.
+        let l = lasts s kept last is served on in
+        let e : l.kept ≡ last.course.world.history = all l.kept l.here in
+        let held : Holds p.keeping last.keeper last.course.world.history = subst (λ (h : List Event). Holds p.keeping last.keeper h) e (l.held l.kept l.here) in
+        let here : last.course.world.kept ≡ Some last.course.world.history = l.here ∙ ap Some e in
+        let meanwhile = lost.meanwhile held in
+        elim (meanwhile.earlier (p.keeping.moment s.keeper) c l.later left) [
+          | inl then ↦ inl (l.durable c then)
+          | inr now ↦ elim now [
+            | inl old ↦ inl (kept_between first s kept last l last.course.world.history here c old)
             | inr new ↦ inr new
           ]
         ]

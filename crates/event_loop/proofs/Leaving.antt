@@ -1,5 +1,5 @@
 -- A connection is closed in the course of the loop.
-use Rattle.std.proofs.Common.{◌≡◌, ◌≢◌, ◌⊎◌, inl, inr, ◌<◌, ◌≤◌, ℕ, List, Option, Some, [], length, refl, ap, arith}
+use Rattle.std.proofs.Common.{◌≡◌, ◌≢◌, ◌⊎◌, inl, inr, ◌<◌, ◌≤◌, ℕ, List, Option, Some, [], length, refl, sym, ap, subst, arith}
 use Rattle.std.proofs.lemmas.Option.{slice_get_within}
 use Rattle.std.specs.Prelude.{slice_get, slice_set}
 use Rattle.clients.specs.RegistryRecord.{RegistryRecord}
@@ -18,13 +18,13 @@ use Rattle.event_loop.specs.Scenes.{Promises, Scene}
 use Rattle.event_loop.specs.Closing.{Cause}
 use Rattle.event_loop.specs.Served as served
 use Rattle.event_loop.specs.Served.{IsIdle, IsPatient, MayWait, goes, closes}
-use Rattle.event_loop.specs.Ends.{Fails, no_wait, no_time, not_kept, no_more}
+use Rattle.event_loop.specs.Ends.{Fails, no_wait, no_time, not_kept, not_imaged, no_more}
 use Rattle.event_loop.specs.Goes as limited
-use Rattle.event_loop.specs.Goes.{Past, IsBusy, IsLimit, IsReady, LeadsAway, LeadsTo, IsSettled, MayRest, scene_of}
-use Rattle.event_loop.proofs.Doing.{closes_done, closes_some, done_some}
+use Rattle.event_loop.specs.Goes.{Past, IsBusy, IsLimit, IsReady, IsShort, LeadsAway, LeadsTo, IsSettled, MayRest, scene_of}
+use Rattle.event_loop.proofs.Doing.{closes_done, closes_some, done_some, none_more}
 use Rattle.event_loop.proofs.Answering.{served_answered}
 use Rattle.event_loop.proofs.Leading.{closes_other}
-use Rattle.event_loop.proofs.Resting.{put_others, put_settled, free_rests, all_settled}
+use Rattle.event_loop.proofs.Resting.{put_others, put_settled, free_rests, all_settled, settled_then}
 
 is_idle : {N C J K H : Type 0} (service : Service) (tools : Tools N C J K H) (past : Past) → length service.places ≡ 64 → IsSettled service past → MayRest service → IsIdle (scene_of service tools [] past)
 is_idle service tools past size settled rest = record { places = λ k place here. (settled k (below k place here)).rested (rest.due k (below k place here)) place here; queue = rest.queue }
@@ -54,6 +54,7 @@ module _ {N C J K H : Type 0} (p : Promises N C J K H) where
   fails_reached rules host s s' fault (no_wait limit room n may done) reached = reached
   fails_reached rules host s s' fault (no_time limit room found n c may done told) reached = reached
   fails_reached rules host s s' fault (not_kept keeper unkept undone lost) reached = reached
+  fails_reached rules host s s' fault (not_imaged keeper all lost) reached = reached
   fails_reached rules host s s' fault (no_more many) reached = reached
 
 -- where something is noted to be due, something was done
@@ -68,15 +69,26 @@ is_patient service tools past limit size ready (limited.rests rest) = served.res
 is_patient service tools past limit size ready (limited.sleeps rest free unbarred) = served.sleeps (is_idle service tools past size ready.settled rest) free unbarred
 
 -- it may wait
-pub may_wait : {N C J K H : Type 0} (service : Service) (tools : Tools N C J K H) (past : Past) (limit : Option ℕ) (room : ℕ) → length service.places ≡ 64 → IsReady service past → IsLimit service limit → 65 ≤ room →
-    MayWait (scene_of service tools [] past) limit room
-may_wait service tools past limit room size ready is_limit roomy = record {
+pub may_wait : {N C J K H : Type 0} (p : Promises N C J K H) (service : Service) (tools : Tools N C J K H) (past : Past) (limit : Option ℕ) (room : ℕ) → length service.places ≡ 64 → IsReady service past → IsLimit service limit → 65 ≤ room → IsShort p service tools past.world →
+    MayWait p (scene_of service tools [] past) limit room
+may_wait p service tools past limit room size ready is_limit roomy short = record {
   patient = is_patient service tools past limit size ready is_limit;
   fair = record { places = λ k place here. (let within = slice_get_within service.places k place here in (ready.settled k (omega (arith, size, within))).turned place here); queue = ready.queue };
   prompt = record { idle = ready.quick.idle; crowded = ready.quick.crowded; tried = ready.quick.tried };
   heard = refl;
   roomy = roomy;
+  short = short;
 }
+
+-- where an image was put, or was refused, all is as ready
+pub ready_still : (service : Service) (past : Past) (service' : Service) → service' ≡ record service { refused = service'.refused } → IsReady service past → IsReady service' past
+ready_still service past service' same ready =
+    let still : Service = record service { refused = service'.refused } in
+    subst (λ (s : Service). IsReady s past) (sym same) (record {
+      settled = settled_then service past still past refl refl refl (none_more past.deeds) ready.settled;
+      queue = ready.queue;
+      quick = record { idle = ready.quick.idle; crowded = ready.quick.crowded; tried = ready.quick.tried };
+    })
 
 -- nobody is to be accepted, or it was tried
 pub told_or_not : {P : Type 0} (queue : Queue) → (queue ≡ Told → P) → (queue ≢ Told) ⊎ P

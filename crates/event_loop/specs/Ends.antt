@@ -13,7 +13,7 @@ use Rattle.event_loop.specs.Deeds.{Keeping, IsDone}
 use Rattle.change_codec.specs.Keeping.{KeepsNot}
 use Rattle.event_loop.specs.Durable.{Onward, IsHeld, IsDurable, IsDurableToEnd}
 use Rattle.event_loop.specs.Places.{AllFree}
-use Rattle.event_loop.specs.Scenes.{Promises, Scene, IsUnkept}
+use Rattle.event_loop.specs.Scenes.{Promises, Scene, IsAllKept, IsUnkept}
 use Rattle.event_loop.specs.Answered.{IsAnswered}
 use Rattle.event_loop.specs.Served.{IsFirst, MayWait, Served, Shuts}
 
@@ -31,15 +31,17 @@ abbrev pub rounds_limit : ℕ
 rounds_limit = 18446744073709551615
 
 -- why it goes on no more: a wait failed; behind a wait the clocks told nothing, and what it found was not looked at; what is
--- unkept could not be kept; or so many rounds were made as can be counted
+-- unkept could not be kept; an image could not be written; or so many rounds were made as can be counted
 pub data Fails {N C J K H : Type 0} (p : Promises N C J K H) (s : Scene N C J K H) : LoopFault → Scene N C J K H → Type 0 where
-  no_wait : (limit : Option ℕ) (room : ℕ) (n : N) → MayWait s limit room → p.does s.sockets (deed.WaitFailed limit room) n →
+  no_wait : (limit : Option ℕ) (room : ℕ) (n : N) → MayWait p s limit room → p.does s.sockets (deed.WaitFailed limit room) n →
       Fails p s Wait (record s { sockets = n; deeds = deed.WaitFailed limit room ∷ s.deeds })
-  no_time : (limit : Option ℕ) (room : ℕ) (found : List Ready) (n : N) (c : C) → MayWait s limit room → p.does s.sockets (deed.Waited limit room found) n →
+  no_time : (limit : Option ℕ) (room : ℕ) (found : List Ready) (n : N) (c : C) → MayWait p s limit room → p.does s.sockets (deed.Waited limit room found) n →
       p.tells s.clocks None c →
       Fails p s Clock (record s { sockets = n; clocks = c; deeds = deed.Waited limit room found ∷ s.deeds; found = found })
   not_kept : (keeper : K) (unkept : IsUnkept s.course.world) → ¬ (IsDone Keeping s.deeds) →
       KeepsNot p.keeping unkept.kept s.course.world.history s.keeper keeper → Fails p s Keep (record s { keeper = keeper })
+  not_imaged : (keeper : K) → IsAllKept s.course.world → KeepsNot p.keeping s.course.world.history s.course.world.history s.keeper keeper →
+      Fails p s Keep (record s { keeper = keeper })
   no_more : rounds_limit ≤ deed.waits s.deeds → Fails p s Rounds s
 
 -- The clocks told the first times, and steps led on, whose every scene is answered, until something failed; then nothing

@@ -46,6 +46,7 @@ scene_of service tools found past = record {
   times = service.times;
   noted = service.noted;
   told = service.told;
+  refused = service.refused;
   deeds = past.deeds;
 }
 
@@ -292,6 +293,24 @@ LeadsToLoss {N} {C} {J} {K} {H} p tools fault tools' =
     (rules : RegistryRecord) (host : H) (first : Scene N C J K H) (found : List Ready) (service : Service) (past : Past) → ¬ (IsDone Keeping past.deeds) →
         Served p rules host first (scene_of service tools found past) →
     Fails p (scene_of service tools found past) fault (scene_of service tools' found past)
+
+-- where nothing is unkept, no more is kept than may be beside an image, or an image was refused in this second
+abbrev pub IsShort : {N C J K H : Type 0} → Promises N C J K H → Service → Tools N C J K H → World → Type 0
+IsShort p service tools world = IsAllKept world → p.is_long tools.keeper → service.refused ≡ Some service.times.steady
+
+-- wherever steps lead to, they lead on, and it is so
+abbrev pub LeadsToShort : {N C J K H : Type 0} → Promises N C J K H → Service → Tools N C J K H → Service → Tools N C J K H → Type 0
+LeadsToShort {N} {C} {J} {K} {H} p service tools service' tools' =
+    (rules : RegistryRecord) (host : H) (first : Scene N C J K H) (found : List Ready) (past : Past) →
+    Served p rules host first (scene_of service tools found past) →
+    Served p rules host first (scene_of service' tools' found past) × IsShort p service' tools' past.world
+
+-- or the image could not be written
+abbrev pub LeadsToNoImage : {N C J K H : Type 0} → Promises N C J K H → Service → Tools N C J K H → LoopFault → Service → Tools N C J K H → Type 0
+LeadsToNoImage {N} {C} {J} {K} {H} p service tools fault service' tools' =
+    (rules : RegistryRecord) (host : H) (first : Scene N C J K H) (found : List Ready) (past : Past) →
+    Served p rules host first (scene_of service tools found past) →
+    Fails p (scene_of service tools found past) fault (scene_of service' tools' found past)
 
 -- each place below i is settled; those from i on were heard, and not written to; and nothing is unkept
 pub record GoesWriting {N C J K H : Type 0} (p : Promises N C J K H) (rules : RegistryRecord) (host : H) (first : Scene N C J K H) (found : List Ready)

@@ -6,8 +6,8 @@ use Rattle.http_edge.specs.Schedule.{World}
 use Rattle.event_loop.specs.declared.sockets.Sockets.{Ghosts as Sockets}
 use Rattle.event_loop.specs.declared.clocks.Clocks.{Ghosts as Clocks}
 use Rattle.event_loop.specs.declared.journal.Journal.{Ghosts as Journal}
-use Rattle.change_codec.specs.declared.keeper.Keeper.{Ghosts as Keeper}
-use Rattle.change_codec.specs.Keeping.{Crashes, crashes}
+use Rattle.change_codec.specs.Keeping.{Crashes}
+use Rattle.image_keeper.specs.Keeping.{Keeping}
 use Rattle.event_loop.specs.declared.clocks.Times.{Times}
 use Rattle.event_loop.specs.declared.fault.ConnectionFault.{ConnectionFault}
 use Rattle.event_loop.specs.declared.limits.Limits.{Limits}
@@ -26,22 +26,25 @@ pub record Promises (N C J K H : Type 0) : Type 1 where
   pub notes : J → ConnectionFault → J → Type 0
   pub reports : J → Notice → J → Type 0
   pub keeping : Crashes K
+  -- the keeper keeps more than it may beside an image
+  pub is_long : K → Type 0
   pub hosting : Hosting H
 
-abbrev pub promises : {N C J K H : Type 0} → Sockets N → Clocks C → Journal J → Keeper K → Hosting H → Promises N C J K H
-promises sockets clocks journal keeper hosting = record {
+abbrev pub promises : {N C J K H : Type 0} → Sockets N → Clocks C → Journal J → Keeping K → Hosting H → Promises N C J K H
+promises sockets clocks journal keeping hosting = record {
   does = sockets.does;
   tells = clocks.tells;
   notes = journal.notes;
   reports = journal.reports;
-  keeping = crashes keeper.stands_for keeper.may_leave keeper.moment keeper.left_since;
+  keeping = keeping.crashes;
+  is_long = keeping.is_long;
   hosting = hosting;
 }
 
 -- What the loop works with: sockets, clocks, a journal, a keeper, and an edge with its draws, on its course. What it knows:
 -- its limits, its places, what the last wait found and was not looked at yet, who waits to be accepted, what the clocks
--- told last, and when a fault was noted last, and the journal was told last what the server does. What was done so far, the
--- last deed first.
+-- told last, when a fault was noted last, and the journal was told last what the server does, and in which second an image
+-- was refused last. What was done so far, the last deed first.
 pub record Scene (N C J K H : Type 0) : Type 0 where
   pub sockets : N
   pub clocks : C
@@ -55,6 +58,7 @@ pub record Scene (N C J K H : Type 0) : Type 0 where
   pub times : Times
   pub noted : Option ℕ
   pub told : LastTold
+  pub refused : Option ℕ
   pub deeds : List Deed
 
 -- what was kept last, if anything is kept, is all that happened

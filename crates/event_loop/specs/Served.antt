@@ -56,13 +56,15 @@ pub data IsPatient {N C J K H : Type 0} (s : Scene N C J K H) : Option ℕ → T
   rests : IsIdle s → IsPatient s (Some 1000)
   sleeps : IsIdle s → AllFree s.places → ((since : ℕ) → s.queue ≢ Barred since) → IsPatient s None
 
--- It may wait so long now, with room for so much: all that the last wait found was looked at.
-pub record MayWait {N C J K H : Type 0} (s : Scene N C J K H) (limit : Option ℕ) (room : ℕ) : Type 0 where
+-- It may wait so long now, with room for so much: all that the last wait found was looked at, and where nothing is unkept, no
+-- more is kept than may be beside an image, or an image was refused in this second.
+pub record MayWait {N C J K H : Type 0} (p : Promises N C J K H) (s : Scene N C J K H) (limit : Option ℕ) (room : ℕ) : Type 0 where
   pub patient : IsPatient s limit
   pub fair : IsFair s
   pub prompt : IsPrompt s
   pub heard : s.found ≡ []
   pub roomy : ready_limit ≤ room
+  pub short : IsAllKept s.course.world → p.is_long s.keeper → s.refused ≡ Some s.times.steady
 
 -- the place, when its connection was found ready
 abbrev pub told_place : Place → Bool → Bool → Bool → Place
@@ -70,10 +72,11 @@ told_place place readable writable hung =
     record place { readable = place.readable || readable; writable = place.writable || writable; hung = place.hung || hung }
 
 -- One step: a wait with a look at the clocks behind it, a look at what the wait found, something done for connections,
--- the journal is told what is due, or what is unkept is kept. Between two waits a place is read at most once, and written to at most once, and it is kept at
--- most once. Nothing is written while something is unkept.
+-- the journal is told what is due, what is unkept is kept, or an image is put in the place of what is kept. Between two waits
+-- a place is read at most once, and written to at most once, and it is kept at most once. Nothing is written, and no image is
+-- put, while something is unkept.
 pub data Step {N C J K H : Type 0} (p : Promises N C J K H) (rules : RegistryRecord) (host : H) (s : Scene N C J K H) : Scene N C J K H → Type 0 where
-  waits : (limit : Option ℕ) (room : ℕ) (found : List Ready) (n : N) (times : Times) (c : C) → MayWait s limit room →
+  waits : (limit : Option ℕ) (room : ℕ) (found : List Ready) (n : N) (times : Times) (c : C) → MayWait p s limit room →
       p.does s.sockets (deed.Waited limit room found) n → p.tells s.clocks (Some times) c →
       Step p rules host s (record s { sockets = n; clocks = c; deeds = deed.Waited limit room found ∷ s.deeds; found = found; times = times })
   hears_of_listener : (more : List Ready) → s.found ≡ ready.Listener ∷ more → Step p rules host s (record s { found = more; queue = told_queue s.queue })
@@ -100,6 +103,11 @@ pub data Step {N C J K H : Type 0} (p : Promises N C J K H) (rules : RegistryRec
       ¬ (IsDone Keeping s.deeds) →
       Keeps p.keeping unkept.kept s.course.world.history s.keeper keeper →
       Step p rules host s (record s { keeper = keeper; course = led s.course e Kept on.world; deeds = deed.Kept ∷ s.deeds })
+  -- the keeper alone is another, which holds the same
+  puts_image : (keeper : K) → IsAllKept s.course.world → Keeps p.keeping s.course.world.history s.course.world.history s.keeper keeper →
+      Step p rules host s (record s { keeper = keeper })
+  -- an image was refused, and nothing else is other
+  no_image : Step p rules host s (record s { refused = Some s.times.steady })
 
 -- At first no connection is there, none is known to wait, and nothing was done, and the edge is reached.
 pub record IsFirst {N C J K H : Type 0} (p : Promises N C J K H) (rules : RegistryRecord) (host : H) (s : Scene N C J K H) : Type 0 where
@@ -108,6 +116,7 @@ pub record IsFirst {N C J K H : Type 0} (p : Promises N C J K H) (rules : Regist
   pub found : s.found ≡ []
   pub noted : s.noted ≡ None
   pub told : s.told ≡ record { report = s.times.steady; full = None }
+  pub refused : s.refused ≡ None
   pub queue : s.queue ≡ Empty
   pub deeds : s.deeds ≡ []
   pub reached : IsReached p.hosting rules host s.course

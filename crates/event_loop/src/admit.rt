@@ -7,6 +7,7 @@ ghost use Rattle.event_loop.specs.Places.{IsFreeAt, AllTaken};
 ghost use Rattle.event_loop.specs.Closing.{AreWithin};
 ghost use Rattle.event_loop.specs.Goes.{IsTried, LeadsToAccepts};
 ghost use Rattle.event_loop.specs.Scenes.{promises};
+ghost use Rattle.image_keeper.specs.Keeping.{keeping};
 
 use crate::clocks::Clocks;
 use crate::fault::ConnectionFault;
@@ -18,8 +19,8 @@ use crate::queue::Queue;
 use crate::service::Service;
 use crate::sockets::{Accepted, Sockets};
 use crate::tools::Tools;
-use change_codec::Keeper;
 use hook_host::HookHost;
+use image_keeper::ImageKeeper;
 use http_edge::Event;
 
 impl Service {
@@ -37,7 +38,7 @@ impl Service {
     }
 
     // Accepts a connection at a place, if one waits.
-    fn admit<N: Sockets, C: Clocks, J: Journal, K: Keeper, H: HookHost>(
+    fn admit<N: Sockets, C: Clocks, J: Journal, K: ImageKeeper, H: HookHost>(
         &mut self,
         tools: &mut Tools<N, C, J, K, H>,
         k: u32,
@@ -45,7 +46,7 @@ impl Service {
         requires bound { k < 64 }
         requires free { IsFreeAt self.old.places k }
         requires told { self.old.queue ≡ Told }
-        ensures leads { (found : List Ready) → LeadsToAccepts (promises N.Sockets C.Clocks J.Journal K.Keeper H.HookHost) found ⊤ self.old tools.old self.new tools.new }
+        ensures leads { (found : List Ready) → LeadsToAccepts (promises N.Sockets C.Clocks J.Journal (keeping K.Keeper K.ImageKeeper.own) H.HookHost) found ⊤ self.old tools.old self.new tools.new }
         ensures within { (limit : ℕ) → AreWithin limit self.old.times self.old.places → AreWithin limit self.new.times self.new.places }
         ensures waits { self.new.queue ≢ Waits }
         ensures tried { IsTried self.new }
@@ -89,12 +90,12 @@ impl Service {
     }
 
     // Accepts a connection, if one waits. Where all places are taken, the listener is asked whether one waits.
-    fn admit_next<N: Sockets, C: Clocks, J: Journal, K: Keeper, H: HookHost>(
+    fn admit_next<N: Sockets, C: Clocks, J: Journal, K: ImageKeeper, H: HookHost>(
         &mut self,
         tools: &mut Tools<N, C, J, K, H>,
     )
         requires told { self.old.queue ≡ Told }
-        ensures leads { (found : List Ready) → LeadsToAccepts (promises N.Sockets C.Clocks J.Journal K.Keeper H.HookHost) found ⊤ self.old tools.old self.new tools.new }
+        ensures leads { (found : List Ready) → LeadsToAccepts (promises N.Sockets C.Clocks J.Journal (keeping K.Keeper K.ImageKeeper.own) H.HookHost) found ⊤ self.old tools.old self.new tools.new }
         ensures within { (limit : ℕ) → AreWithin limit self.old.times self.old.places → AreWithin limit self.new.times self.new.places }
         ensures waits { self.new.queue ≢ Waits }
         ensures tried { IsTried self.new }
@@ -109,11 +110,11 @@ impl Service {
     }
 
     /// Accepts connections while one may wait.
-    pub(crate) fn admit_all<N: Sockets, C: Clocks, J: Journal, K: Keeper, H: HookHost>(
+    pub(crate) fn admit_all<N: Sockets, C: Clocks, J: Journal, K: ImageKeeper, H: HookHost>(
         &mut self,
         tools: &mut Tools<N, C, J, K, H>,
     )
-        ensures leads { (found : List Ready) → LeadsToAccepts (promises N.Sockets C.Clocks J.Journal K.Keeper H.HookHost) found (self.new.queue ≡ Told) self.old tools.old self.new tools.new }
+        ensures leads { (found : List Ready) → LeadsToAccepts (promises N.Sockets C.Clocks J.Journal (keeping K.Keeper K.ImageKeeper.own) H.HookHost) found (self.new.queue ≡ Told) self.old tools.old self.new tools.new }
         ensures within { (limit : ℕ) → AreWithin limit self.old.times self.old.places → AreWithin limit self.new.times self.new.places }
         ensures waits { self.new.queue ≡ Waits → self.old.queue ≡ Waits }
         ensures tried { IsTried self.old → IsTried self.new }

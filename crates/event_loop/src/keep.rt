@@ -2,6 +2,7 @@
 ghost use Rattle.std.specs.Prelude.{OnOk, IfErr};
 ghost use Rattle.event_loop.specs.Goes.{LeadsToKept, LeadsToLoss};
 ghost use Rattle.event_loop.specs.Scenes.{promises};
+ghost use Rattle.image_keeper.specs.Keeping.{keeping};
 
 use crate::clocks::Clocks;
 use crate::fault::LoopFault;
@@ -10,13 +11,14 @@ use crate::sockets::Sockets;
 use crate::tools::Tools;
 use change_codec::Keeper;
 use hook_host::HookHost;
+use image_keeper::ImageKeeper;
 
 /// What is unkept is kept, all at once.
-pub(crate) fn keep_all<N: Sockets, C: Clocks, J: Journal, K: Keeper, H: HookHost>(
+pub(crate) fn keep_all<N: Sockets, C: Clocks, J: Journal, K: ImageKeeper, H: HookHost>(
     tools: &mut Tools<N, C, J, K, H>,
 ) -> Result<(), LoopFault>
-    ensures kept { OnOk result (LeadsToKept (promises N.Sockets C.Clocks J.Journal K.Keeper H.HookHost) tools.old tools.new) }
-    ensures lost { IfErr result (λ fault. LeadsToLoss (promises N.Sockets C.Clocks J.Journal K.Keeper H.HookHost) tools.old fault tools.new) }
+    ensures kept { OnOk result (LeadsToKept (promises N.Sockets C.Clocks J.Journal (keeping K.Keeper K.ImageKeeper.own) H.HookHost) tools.old tools.new) }
+    ensures lost { IfErr result (λ fault. LeadsToLoss (promises N.Sockets C.Clocks J.Journal (keeping K.Keeper K.ImageKeeper.own) H.HookHost) tools.old fault tools.new) }
 {
     let Some(batch) = tools.edge.unkept() else {
         return Ok(());

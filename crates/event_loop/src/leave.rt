@@ -7,6 +7,7 @@ ghost use Rattle.event_loop.specs.Closing.{AreWithin, freed_queue};
 ghost use Rattle.event_loop.specs.declared.queue.Queue.TheVariants.{Waits};
 ghost use Rattle.event_loop.specs.Goes.{IsLongestAt, IsTried, WhereKnown, LeadsAway, LeadsShut, LeadsTo, LeadsToTidy};
 ghost use Rattle.event_loop.specs.Scenes.{promises};
+ghost use Rattle.image_keeper.specs.Keeping.{keeping};
 
 use crate::clocks::Clocks;
 use crate::journal::Journal;
@@ -19,8 +20,8 @@ use crate::service::Service;
 use crate::sockets::Sockets;
 use crate::tools::Tools;
 use crate::write::may_write;
-use change_codec::Keeper;
 use hook_host::HookHost;
+use image_keeper::ImageKeeper;
 use http_edge::Edge;
 
 // Whether nothing is left to be done for a connection.
@@ -49,14 +50,14 @@ fn is_over<H: HookHost>(edge: &Edge<H>, place: Place, k: u32) -> bool
 
 impl Service {
     // Closes and forgets a connection, and notes its fault.
-    fn leave<N: Sockets, C: Clocks, J: Journal, K: Keeper, H: HookHost>(
+    fn leave<N: Sockets, C: Clocks, J: Journal, K: ImageKeeper, H: HookHost>(
         &mut self,
         tools: &mut Tools<N, C, J, K, H>,
         k: u32,
         place: Place,
     )
         requires bound { k < 64 }
-        ensures away { LeadsAway (promises N.Sockets C.Clocks J.Journal K.Keeper H.HookHost) k place self.old tools.old self.new tools.new }
+        ensures away { LeadsAway (promises N.Sockets C.Clocks J.Journal (keeping K.Keeper K.ImageKeeper.own) H.HookHost) k place self.old tools.old self.new tools.new }
         ensures rest { self.new ≡ record self.old { noted = self.new.noted; places = slice_set self.old.places k (record place { stage = Free }); queue = freed_queue self.old.queue } }
     {
         tools.sockets.close(k);
@@ -73,13 +74,13 @@ impl Service {
     }
 
     /// Closes a connection that is over. For another, it is noted whether something is due.
-    pub(crate) fn settle<N: Sockets, C: Clocks, J: Journal, K: Keeper, H: HookHost>(
+    pub(crate) fn settle<N: Sockets, C: Clocks, J: Journal, K: ImageKeeper, H: HookHost>(
         &mut self,
         tools: &mut Tools<N, C, J, K, H>,
         k: u32,
     )
         requires bound { k < 64 }
-        ensures { LeadsToTidy (promises N.Sockets C.Clocks J.Journal K.Keeper H.HookHost) k self.old tools.old self.new tools.new }
+        ensures { LeadsToTidy (promises N.Sockets C.Clocks J.Journal (keeping K.Keeper K.ImageKeeper.own) H.HookHost) k self.old tools.old self.new tools.new }
     {
         let place = self.place_at(k);
         self.due[k as usize] = false;
@@ -97,13 +98,13 @@ impl Service {
     }
 
     // Closes a connection that took no byte of a reply for too long.
-    fn leave_silent<N: Sockets, C: Clocks, J: Journal, K: Keeper, H: HookHost>(
+    fn leave_silent<N: Sockets, C: Clocks, J: Journal, K: ImageKeeper, H: HookHost>(
         &mut self,
         tools: &mut Tools<N, C, J, K, H>,
         k: u32,
     )
         requires bound { k < 64 }
-        ensures leads { (found : List Ready) → LeadsTo (promises N.Sockets C.Clocks J.Journal K.Keeper H.HookHost) found self.old tools.old found self.new tools.new }
+        ensures leads { (found : List Ready) → LeadsTo (promises N.Sockets C.Clocks J.Journal (keeping K.Keeper K.ImageKeeper.own) H.HookHost) found self.old tools.old found self.new tools.new }
         ensures within { (place : Place) → slice_get self.new.places k ≡ Some place → IsTaken place.stage → self.old.times.steady - place.since ≤ self.old.limits.idle }
         ensures others { (j : ℕ) → j ≢ k → slice_get self.new.places j ≡ slice_get self.old.places j }
         ensures size { length self.new.places ≡ length self.old.places }
@@ -121,11 +122,11 @@ impl Service {
     }
 
     // Closes each of them.
-    fn sweep<N: Sockets, C: Clocks, J: Journal, K: Keeper, H: HookHost>(
+    fn sweep<N: Sockets, C: Clocks, J: Journal, K: ImageKeeper, H: HookHost>(
         &mut self,
         tools: &mut Tools<N, C, J, K, H>,
     )
-        ensures leads { (found : List Ready) → LeadsTo (promises N.Sockets C.Clocks J.Journal K.Keeper H.HookHost) found self.old tools.old found self.new tools.new }
+        ensures leads { (found : List Ready) → LeadsTo (promises N.Sockets C.Clocks J.Journal (keeping K.Keeper K.ImageKeeper.own) H.HookHost) found self.old tools.old found self.new tools.new }
         ensures within { AreWithin self.new.limits.idle self.new.times self.new.places }
     {
         for k in 0..PLACES {
@@ -134,11 +135,11 @@ impl Service {
     }
 
     /// Silent connections are closed, and where an accept failed in another second, it is tried again.
-    pub(crate) fn tidy<N: Sockets, C: Clocks, J: Journal, K: Keeper, H: HookHost>(
+    pub(crate) fn tidy<N: Sockets, C: Clocks, J: Journal, K: ImageKeeper, H: HookHost>(
         &mut self,
         tools: &mut Tools<N, C, J, K, H>,
     )
-        ensures leads { (found : List Ready) → LeadsTo (promises N.Sockets C.Clocks J.Journal K.Keeper H.HookHost) found self.old tools.old found self.new tools.new }
+        ensures leads { (found : List Ready) → LeadsTo (promises N.Sockets C.Clocks J.Journal (keeping K.Keeper K.ImageKeeper.own) H.HookHost) found self.old tools.old found self.new tools.new }
         ensures within { AreWithin self.new.limits.idle self.new.times self.new.places }
         ensures tried { IsTried self.new }
     {
@@ -171,11 +172,11 @@ impl Service {
     }
 
     /// Where all places are taken and another connection waits, the one that was silent longest gives way.
-    pub(crate) fn make_room<N: Sockets, C: Clocks, J: Journal, K: Keeper, H: HookHost>(
+    pub(crate) fn make_room<N: Sockets, C: Clocks, J: Journal, K: ImageKeeper, H: HookHost>(
         &mut self,
         tools: &mut Tools<N, C, J, K, H>,
     )
-        ensures leads { (found : List Ready) → LeadsTo (promises N.Sockets C.Clocks J.Journal K.Keeper H.HookHost) found self.old tools.old found self.new tools.new }
+        ensures leads { (found : List Ready) → LeadsTo (promises N.Sockets C.Clocks J.Journal (keeping K.Keeper K.ImageKeeper.own) H.HookHost) found self.old tools.old found self.new tools.new }
         ensures within { (limit : ℕ) → AreWithin limit self.old.times self.old.places → AreWithin limit self.new.times self.new.places }
         ensures tried { IsTried self.old → IsTried self.new }
         ensures crowded { self.new.queue ≡ Waits → AreWithin self.new.limits.crowded self.new.times self.new.places }
@@ -195,13 +196,13 @@ impl Service {
     }
 
     // Closes the connection at a place, if there is one.
-    fn leave_any<N: Sockets, C: Clocks, J: Journal, K: Keeper, H: HookHost>(
+    fn leave_any<N: Sockets, C: Clocks, J: Journal, K: ImageKeeper, H: HookHost>(
         &mut self,
         tools: &mut Tools<N, C, J, K, H>,
         k: u32,
     )
         requires bound { k < 64 }
-        ensures shut { LeadsShut (promises N.Sockets C.Clocks J.Journal K.Keeper H.HookHost) self.old tools.old self.new tools.new }
+        ensures shut { LeadsShut (promises N.Sockets C.Clocks J.Journal (keeping K.Keeper K.ImageKeeper.own) H.HookHost) self.old tools.old self.new tools.new }
         ensures free { IsFreeAt self.new.places k }
         ensures size { length self.new.places ≡ length self.old.places }
         ensures others { (j : ℕ) → j ≢ k → slice_get self.new.places j ≡ slice_get self.old.places j }
@@ -214,11 +215,11 @@ impl Service {
     }
 
     /// Closes each connection that is left.
-    pub(crate) fn leave_all<N: Sockets, C: Clocks, J: Journal, K: Keeper, H: HookHost>(
+    pub(crate) fn leave_all<N: Sockets, C: Clocks, J: Journal, K: ImageKeeper, H: HookHost>(
         &mut self,
         tools: &mut Tools<N, C, J, K, H>,
     )
-        ensures shut { LeadsShut (promises N.Sockets C.Clocks J.Journal K.Keeper H.HookHost) self.old tools.old self.new tools.new }
+        ensures shut { LeadsShut (promises N.Sockets C.Clocks J.Journal (keeping K.Keeper K.ImageKeeper.own) H.HookHost) self.old tools.old self.new tools.new }
         ensures free { AllFree self.new.places }
     {
         for k in 0..PLACES {

@@ -6,6 +6,7 @@
 mod admit;
 mod clocks;
 mod fault;
+mod image;
 mod journal;
 mod keep;
 mod leave;

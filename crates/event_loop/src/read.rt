@@ -5,6 +5,7 @@ ghost use Rattle.event_loop.specs.Deeds.{Reading};
 ghost use Rattle.event_loop.specs.Places.{MayRead, IsUnread};
 ghost use Rattle.event_loop.specs.Goes.{WhereKnown, LeadsToActs, LeadsToGiving, LeadsToRefusal};
 ghost use Rattle.event_loop.specs.Scenes.{promises};
+ghost use Rattle.image_keeper.specs.Keeping.{keeping};
 
 use crate::clocks::Clocks;
 use crate::fault::ConnectionFault;
@@ -14,9 +15,9 @@ use crate::place::{Place, Stage};
 use crate::service::Service;
 use crate::sockets::{Received, Sockets};
 use crate::tools::Tools;
-use change_codec::Keeper;
 use consent::Moment;
 use hook_host::HookHost;
+use image_keeper::ImageKeeper;
 use http_edge::{Edge, EdgeFault, Event, give};
 use messages::Draws;
 use rand_chacha::ChaCha20Rng;
@@ -91,7 +92,7 @@ fn give_all<H: HookHost>(
 
 impl Service {
     // Reads a connection once, and gives what came to the edge.
-    fn read_once<N: Sockets, C: Clocks, J: Journal, K: Keeper, H: HookHost>(
+    fn read_once<N: Sockets, C: Clocks, J: Journal, K: ImageKeeper, H: HookHost>(
         &mut self,
         tools: &mut Tools<N, C, J, K, H>,
         k: u32,
@@ -101,7 +102,7 @@ impl Service {
         requires here { slice_get self.old.places k ≡ Some place }
         requires readable { place.readable ≡ true }
         requires may { WhereKnown H.HookHost tools.old.edge k (MayRead place) }
-        ensures { LeadsToActs (promises N.Sockets C.Clocks J.Journal K.Keeper H.HookHost) k (Reading k) IsUnread self.old tools.old self.new tools.new }
+        ensures { LeadsToActs (promises N.Sockets C.Clocks J.Journal (keeping K.Keeper K.ImageKeeper.own) H.HookHost) k (Reading k) IsUnread self.old tools.old self.new tools.new }
     {
         let i = k as usize;
         match tools.sockets.read(k, &mut self.buffer) {
@@ -143,13 +144,13 @@ impl Service {
     }
 
     /// Reads a connection once, where it may be read.
-    pub(crate) fn read<N: Sockets, C: Clocks, J: Journal, K: Keeper, H: HookHost>(
+    pub(crate) fn read<N: Sockets, C: Clocks, J: Journal, K: ImageKeeper, H: HookHost>(
         &mut self,
         tools: &mut Tools<N, C, J, K, H>,
         k: u32,
     )
         requires bound { k < 64 }
-        ensures { LeadsToActs (promises N.Sockets C.Clocks J.Journal K.Keeper H.HookHost) k (Reading k) IsUnread self.old tools.old self.new tools.new }
+        ensures { LeadsToActs (promises N.Sockets C.Clocks J.Journal (keeping K.Keeper K.ImageKeeper.own) H.HookHost) k (Reading k) IsUnread self.old tools.old self.new tools.new }
     {
         let place = self.place_at(k);
         if may_read(&tools.edge, place, k) {

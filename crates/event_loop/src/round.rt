@@ -3,6 +3,7 @@ ghost use Rattle.std.specs.Prelude.{◌≡◌, ◌≤◌, length, true, false, O
 ghost use Rattle.event_loop.specs.Places.{AllFree};
 ghost use Rattle.event_loop.specs.Goes.{IsBusy, IsLimit, MayRest, LeadsRound, LeadsWrong};
 ghost use Rattle.event_loop.specs.Scenes.{promises};
+ghost use Rattle.image_keeper.specs.Keeping.{keeping};
 
 use crate::clocks::Clocks;
 use crate::fault::LoopFault;
@@ -13,8 +14,8 @@ use crate::queue::Queue;
 use crate::service::Service;
 use crate::sockets::{Ready, Sockets};
 use crate::tools::Tools;
-use change_codec::Keeper;
 use hook_host::HookHost;
+use image_keeper::ImageKeeper;
 
 // In milliseconds.
 const SECOND: u64 = 1000;
@@ -65,17 +66,20 @@ impl Service {
         Some(SECOND)
     }
 
-    /// Waits once and looks at the clocks, notes what was found, reads each place, keeps what changed, writes to each, tells
-    /// the journal what is due, and then closes and accepts.
-    pub(crate) fn round<N: Sockets, C: Clocks, J: Journal, K: Keeper, H: HookHost>(
+    /// Puts an image in the place of what is kept, where that is long. Then waits once and looks at the clocks, notes what was
+    /// found, reads each place, keeps what changed, writes to each, tells the journal what is due, and then closes and accepts.
+    pub(crate) fn round<N: Sockets, C: Clocks, J: Journal, K: ImageKeeper, H: HookHost>(
         &mut self,
         tools: &mut Tools<N, C, J, K, H>,
         found: &mut [Ready],
     ) -> Result<(), LoopFault>
         requires room { 65 ≤ length found.old }
-        ensures goes { OnOk result (LeadsRound (promises N.Sockets C.Clocks J.Journal K.Keeper H.HookHost) 1 self.old tools.old self.new tools.new) }
-        ensures wrong { IfErr result (λ fault. LeadsWrong (promises N.Sockets C.Clocks J.Journal K.Keeper H.HookHost) fault self.old tools.old self.new tools.new) }
+        ensures goes { OnOk result (LeadsRound (promises N.Sockets C.Clocks J.Journal (keeping K.Keeper K.ImageKeeper.own) H.HookHost) 1 self.old tools.old self.new tools.new) }
+        ensures wrong { IfErr result (λ fault. LeadsWrong (promises N.Sockets C.Clocks J.Journal (keeping K.Keeper K.ImageKeeper.own) H.HookHost) fault self.old tools.old self.new tools.new) }
     {
+        if let Err(fault) = self.put_image(tools) {
+            return Err(fault);
+        }
         let limit = self.wait_limit();
         let Some(count) = tools.sockets.wait(limit, found) else {
             return Err(LoopFault::Wait);

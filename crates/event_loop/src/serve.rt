@@ -2,6 +2,7 @@
 ghost use Rattle.event_loop.specs.Ends.{Ends};
 ghost use Rattle.event_loop.specs.Goes.{LeadsWrong};
 ghost use Rattle.event_loop.specs.Scenes.{promises};
+ghost use Rattle.image_keeper.specs.Keeping.{keeping};
 
 use crate::clocks::Clocks;
 use crate::fault::LoopFault;
@@ -10,16 +11,16 @@ use crate::limits::Limits;
 use crate::service::Service;
 use crate::sockets::{Ready, Sockets};
 use crate::tools::Tools;
-use change_codec::Keeper;
 use hook_host::HookHost;
+use image_keeper::ImageKeeper;
 
 impl Service {
     // Makes round after round.
-    fn rounds<N: Sockets, C: Clocks, J: Journal, K: Keeper, H: HookHost>(
+    fn rounds<N: Sockets, C: Clocks, J: Journal, K: ImageKeeper, H: HookHost>(
         &mut self,
         tools: &mut Tools<N, C, J, K, H>,
     ) -> LoopFault
-        ensures { LeadsWrong (promises N.Sockets C.Clocks J.Journal K.Keeper H.HookHost) result self.old tools.old self.new tools.new }
+        ensures { LeadsWrong (promises N.Sockets C.Clocks J.Journal (keeping K.Keeper K.ImageKeeper.own) H.HookHost) result self.old tools.old self.new tools.new }
     {
         let mut found = [Ready::Listener; 65];
         for _nth in 0..u64::MAX {
@@ -33,11 +34,11 @@ impl Service {
 
 /// Serves up to 64 connections at once, until a wait fails, the clocks tell nothing or changes can't be kept, and says which.
 /// Then each connection that is left is closed and forgotten, and where reports are wanted, there is a last one.
-pub fn serve_all<N: Sockets, C: Clocks, J: Journal, K: Keeper, H: HookHost>(
+pub fn serve_all<N: Sockets, C: Clocks, J: Journal, K: ImageKeeper, H: HookHost>(
     tools: &mut Tools<N, C, J, K, H>,
     limits: Limits,
 ) -> LoopFault
-    ensures { Ends (promises N.Sockets C.Clocks J.Journal K.Keeper H.HookHost) limits tools.old result tools.new }
+    ensures { Ends (promises N.Sockets C.Clocks J.Journal (keeping K.Keeper K.ImageKeeper.own) H.HookHost) limits tools.old result tools.new }
 {
     let Some(times) = tools.clocks.read() else {
         return LoopFault::Clock;

@@ -32,6 +32,8 @@ pub struct Service {
     pub(crate) full: u64,
     // When the journal was told last of what the server does.
     pub(crate) told: LastTold,
+    // In which second an image was refused last.
+    pub(crate) refused: Option<u64>,
 }
 
 impl Service {
@@ -45,6 +47,7 @@ impl Service {
         ensures queue { result.queue ≡ Empty }
         ensures noted { result.noted ≡ None }
         ensures told { result.told ≡ record { report = times.steady; full = None } }
+        ensures refused { result.refused ≡ None }
     {
         let steady = times.steady;
         Service {
@@ -59,6 +62,7 @@ impl Service {
             accepted: 0,
             full: 0,
             told: LastTold::nothing(steady),
+            refused: None,
         }
     }
 

@@ -4,6 +4,7 @@ ghost use Rattle.event_loop.specs.declared.sockets.Ready.{Ready};
 ghost use Rattle.event_loop.specs.Goes.{LeadsShut, LeadsTo, Past, scene_of};
 ghost use Rattle.event_loop.specs.Reporting.{Tells, is_long_ago};
 ghost use Rattle.event_loop.specs.Scenes.{promises};
+ghost use Rattle.image_keeper.specs.Keeping.{keeping};
 
 use crate::clocks::Clocks;
 use crate::journal::Journal;
@@ -14,6 +15,7 @@ use crate::sockets::Sockets;
 use crate::tools::Tools;
 use change_codec::Keeper;
 use hook_host::HookHost;
+use image_keeper::ImageKeeper;
 
 // Whether that was never, or so many seconds ago.
 fn is_long_ago(last: Option<u64>, now: u64, seconds: u64) -> bool
@@ -38,11 +40,11 @@ impl Service {
     }
 
     // What there is to report.
-    fn report_now<N: Sockets, C: Clocks, J: Journal, K: Keeper, H: HookHost>(
+    fn report_now<N: Sockets, C: Clocks, J: Journal, K: ImageKeeper, H: HookHost>(
         &self,
         tools: &Tools<N, C, J, K, H>,
     ) -> Report
-        ensures { (found : List Ready) (past : Past) → Tells (promises N.Sockets C.Clocks J.Journal K.Keeper H.HookHost) (scene_of self.now tools.now found past) result }
+        ensures { (found : List Ready) (past : Past) → Tells (promises N.Sockets C.Clocks J.Journal (keeping K.Keeper K.ImageKeeper.own) H.HookHost) (scene_of self.now tools.now found past) result }
     {
         let server = tools.edge.server();
         Report {
@@ -59,12 +61,12 @@ impl Service {
     }
 
     // Where reports are wanted, the journal is told that the store was full, unless it was within a minute.
-    fn tell_full<N: Sockets, C: Clocks, J: Journal, K: Keeper, H: HookHost>(
+    fn tell_full<N: Sockets, C: Clocks, J: Journal, K: ImageKeeper, H: HookHost>(
         &mut self,
         tools: &mut Tools<N, C, J, K, H>,
     )
         requires wanted { IsSome self.old.limits.report }
-        ensures leads { (found : List Ready) → LeadsTo (promises N.Sockets C.Clocks J.Journal K.Keeper H.HookHost) found self.old tools.old found self.new tools.new }
+        ensures leads { (found : List Ready) → LeadsTo (promises N.Sockets C.Clocks J.Journal (keeping K.Keeper K.ImageKeeper.own) H.HookHost) found self.old tools.old found self.new tools.new }
         ensures limits { self.new.limits ≡ self.old.limits }
     {
         let full = tools.edge.server().tally().wanted.store_room;
@@ -80,13 +82,13 @@ impl Service {
     }
 
     // And what there is to report, unless so many seconds have not passed.
-    fn tell_report<N: Sockets, C: Clocks, J: Journal, K: Keeper, H: HookHost>(
+    fn tell_report<N: Sockets, C: Clocks, J: Journal, K: ImageKeeper, H: HookHost>(
         &mut self,
         tools: &mut Tools<N, C, J, K, H>,
         every: u64,
     )
         requires wanted { self.old.limits.report ≡ Some every }
-        ensures { (found : List Ready) → LeadsTo (promises N.Sockets C.Clocks J.Journal K.Keeper H.HookHost) found self.old tools.old found self.new tools.new }
+        ensures { (found : List Ready) → LeadsTo (promises N.Sockets C.Clocks J.Journal (keeping K.Keeper K.ImageKeeper.own) H.HookHost) found self.old tools.old found self.new tools.new }
     {
         if self.times.steady.saturating_sub(self.told.report) < every {
             return;
@@ -97,11 +99,11 @@ impl Service {
     }
 
     /// Where reports are wanted, the journal is told what is due.
-    pub(crate) fn tell<N: Sockets, C: Clocks, J: Journal, K: Keeper, H: HookHost>(
+    pub(crate) fn tell<N: Sockets, C: Clocks, J: Journal, K: ImageKeeper, H: HookHost>(
         &mut self,
         tools: &mut Tools<N, C, J, K, H>,
     )
-        ensures { (found : List Ready) → LeadsTo (promises N.Sockets C.Clocks J.Journal K.Keeper H.HookHost) found self.old tools.old found self.new tools.new }
+        ensures { (found : List Ready) → LeadsTo (promises N.Sockets C.Clocks J.Journal (keeping K.Keeper K.ImageKeeper.own) H.HookHost) found self.old tools.old found self.new tools.new }
     {
         let Some(every) = self.limits.report else {
             return;
@@ -111,11 +113,11 @@ impl Service {
     }
 
     /// Where reports are wanted, there is a last one.
-    pub(crate) fn tell_last<N: Sockets, C: Clocks, J: Journal, K: Keeper, H: HookHost>(
+    pub(crate) fn tell_last<N: Sockets, C: Clocks, J: Journal, K: ImageKeeper, H: HookHost>(
         &self,
         tools: &mut Tools<N, C, J, K, H>,
     )
-        ensures { LeadsShut (promises N.Sockets C.Clocks J.Journal K.Keeper H.HookHost) self.now tools.old self.now tools.new }
+        ensures { LeadsShut (promises N.Sockets C.Clocks J.Journal (keeping K.Keeper K.ImageKeeper.own) H.HookHost) self.now tools.old self.now tools.new }
     {
         let Some(_every) = self.limits.report else {
             return;

@@ -3,6 +3,7 @@ ghost use Rattle.std.specs.Prelude.{◌<◌, List, [], ◌∷◌};
 ghost use Rattle.event_loop.specs.declared.sockets.Ready.{Ready};
 ghost use Rattle.event_loop.specs.Goes.{LeadsToHearing, LeadsReading, LeadsWriting, LeadsToRest};
 ghost use Rattle.event_loop.specs.Scenes.{promises};
+ghost use Rattle.image_keeper.specs.Keeping.{keeping};
 
 use crate::clocks::Clocks;
 use crate::journal::Journal;
@@ -10,17 +11,17 @@ use crate::limits::PLACES;
 use crate::service::Service;
 use crate::sockets::{Ready, Sockets};
 use crate::tools::Tools;
-use change_codec::Keeper;
 use hook_host::HookHost;
+use image_keeper::ImageKeeper;
 
 impl Service {
     // What was found ready is noted.
-    fn hear<N: Sockets, C: Clocks, J: Journal, K: Keeper, H: HookHost>(
+    fn hear<N: Sockets, C: Clocks, J: Journal, K: ImageKeeper, H: HookHost>(
         &mut self,
         tools: &Tools<N, C, J, K, H>,
         ready: Ready,
     )
-        ensures { (more : List Ready) → LeadsToHearing (promises N.Sockets C.Clocks J.Journal K.Keeper H.HookHost) (ready ∷ more) self.old tools.now more self.new }
+        ensures { (more : List Ready) → LeadsToHearing (promises N.Sockets C.Clocks J.Journal (keeping K.Keeper K.ImageKeeper.own) H.HookHost) (ready ∷ more) self.old tools.now more self.new }
     {
         match ready {
             Ready::Listener => self.queue = self.queue.told(),
@@ -41,12 +42,12 @@ impl Service {
     }
 
     /// All that was found ready is noted.
-    pub(crate) fn hear_all<N: Sockets, C: Clocks, J: Journal, K: Keeper, H: HookHost>(
+    pub(crate) fn hear_all<N: Sockets, C: Clocks, J: Journal, K: ImageKeeper, H: HookHost>(
         &mut self,
         tools: &Tools<N, C, J, K, H>,
         found: &[Ready],
     )
-        ensures { LeadsToHearing (promises N.Sockets C.Clocks J.Journal K.Keeper H.HookHost) found.now self.old tools.now [] self.new }
+        ensures { LeadsToHearing (promises N.Sockets C.Clocks J.Journal (keeping K.Keeper K.ImageKeeper.own) H.HookHost) found.now self.old tools.now [] self.new }
     {
         for index in 0..found.len() {
             self.hear(tools, found[index]);
@@ -54,11 +55,11 @@ impl Service {
     }
 
     /// Each connection where something may be due is read once, where it may be.
-    pub(crate) fn read_all<N: Sockets, C: Clocks, J: Journal, K: Keeper, H: HookHost>(
+    pub(crate) fn read_all<N: Sockets, C: Clocks, J: Journal, K: ImageKeeper, H: HookHost>(
         &mut self,
         tools: &mut Tools<N, C, J, K, H>,
     )
-        ensures { LeadsReading (promises N.Sockets C.Clocks J.Journal K.Keeper H.HookHost) 64 self.old tools.old self.new tools.new }
+        ensures { LeadsReading (promises N.Sockets C.Clocks J.Journal (keeping K.Keeper K.ImageKeeper.own) H.HookHost) 64 self.old tools.old self.new tools.new }
     {
         for k in 0..PLACES {
             if !self.is_due(k) {
@@ -69,24 +70,24 @@ impl Service {
     }
 
     // A connection is written to once, where it may be, and closed where it is over.
-    fn turn<N: Sockets, C: Clocks, J: Journal, K: Keeper, H: HookHost>(
+    fn turn<N: Sockets, C: Clocks, J: Journal, K: ImageKeeper, H: HookHost>(
         &mut self,
         tools: &mut Tools<N, C, J, K, H>,
         k: u32,
     )
         requires bound { k < 64 }
-        ensures { LeadsToRest (promises N.Sockets C.Clocks J.Journal K.Keeper H.HookHost) k self.old tools.old self.new tools.new }
+        ensures { LeadsToRest (promises N.Sockets C.Clocks J.Journal (keeping K.Keeper K.ImageKeeper.own) H.HookHost) k self.old tools.old self.new tools.new }
     {
         self.write(tools, k);
         self.settle(tools, k);
     }
 
     /// Each connection where something may be due is written to once, where it may be, and closed where it is over.
-    pub(crate) fn write_all<N: Sockets, C: Clocks, J: Journal, K: Keeper, H: HookHost>(
+    pub(crate) fn write_all<N: Sockets, C: Clocks, J: Journal, K: ImageKeeper, H: HookHost>(
         &mut self,
         tools: &mut Tools<N, C, J, K, H>,
     )
-        ensures { LeadsWriting (promises N.Sockets C.Clocks J.Journal K.Keeper H.HookHost) 64 self.old tools.old self.new tools.new }
+        ensures { LeadsWriting (promises N.Sockets C.Clocks J.Journal (keeping K.Keeper K.ImageKeeper.own) H.HookHost) 64 self.old tools.old self.new tools.new }
     {
         for k in 0..PLACES {
             if !self.is_due(k) {

@@ -4,6 +4,7 @@ ghost use Rattle.event_loop.specs.Deeds.{Writing};
 ghost use Rattle.event_loop.specs.Places.{MayWrite, IsUnwritten};
 ghost use Rattle.event_loop.specs.Goes.{WhereKnown, LeadsToActs};
 ghost use Rattle.event_loop.specs.Scenes.{promises};
+ghost use Rattle.image_keeper.specs.Keeping.{keeping};
 
 use crate::clocks::Clocks;
 use crate::fault::ConnectionFault;
@@ -12,8 +13,8 @@ use crate::place::{Place, Stage};
 use crate::service::Service;
 use crate::sockets::{Sent, Sockets};
 use crate::tools::Tools;
-use change_codec::Keeper;
 use hook_host::HookHost;
+use image_keeper::ImageKeeper;
 use http_edge::Edge;
 
 /// Whether a connection may be written to.
@@ -36,13 +37,13 @@ pub(crate) fn may_write<H: HookHost>(edge: &Edge<H>, place: Place, k: u32) -> bo
 
 impl Service {
     /// Writes to a connection once, where there is output and the socket may take it.
-    pub(crate) fn write<N: Sockets, C: Clocks, J: Journal, K: Keeper, H: HookHost>(
+    pub(crate) fn write<N: Sockets, C: Clocks, J: Journal, K: ImageKeeper, H: HookHost>(
         &mut self,
         tools: &mut Tools<N, C, J, K, H>,
         k: u32,
     )
         requires bound { k < 64 }
-        ensures { LeadsToActs (promises N.Sockets C.Clocks J.Journal K.Keeper H.HookHost) k (Writing k) IsUnwritten self.old tools.old self.new tools.new }
+        ensures { LeadsToActs (promises N.Sockets C.Clocks J.Journal (keeping K.Keeper K.ImageKeeper.own) H.HookHost) k (Writing k) IsUnwritten self.old tools.old self.new tools.new }
     {
         let i = k as usize;
         let place = self.place_at(k);

@@ -37,11 +37,12 @@ pub trait ImageKeeper: Keeper {
     // It keeps more than it may, beside an image.
     ghost is_long: { Self → Type 0 };
 
-    /// Where it keeps more than it may, an image of the server is put in the place of that. The server has to be one of which
-    /// all is kept.
+    /// Where it keeps more than it may, an image of the server is put in the place of that, and else nothing is done. The
+    /// server has to be one of which all is kept.
     fn put_image<H: HookHost>(&mut self, server: &Server<H>) -> Result<(), ImageFault>
         ensures kept { OnOk result (KeepsImage H.HookHost (crashes Self.stands_for Self.may_leave Self.moment Self.left_since) server.now self.old self.new) }
         ensures short { OnOk result (¬ (is_long self.new)) }
+        ensures left { OnOk result (¬ (is_long self.old) → self.new ≡ self.old) }
         ensures no_memory { IsErrOf result Memory → self.new ≡ self.old }
         ensures too_long { IsErrOf result TooLong → self.new ≡ self.old }
         ensures failed { IsErrOf result Failed → KeepsNoImage H.HookHost (crashes Self.stands_for Self.may_leave Self.moment Self.left_since) server.now self.old self.new };

@@ -3,6 +3,7 @@
 ghost use Rattle.std.specs.Prelude.{◌≡◌, ◌⊎◌, OnOk, IfOk, IfErr, IfSome};
 ghost use Rattle.std.specs.Io.KnownBytes.{Appends};
 ghost use Rattle.std.specs.Option.{option_copied};
+ghost use Rattle.image_keeper.specs.Keeping.{keeping};
 ghost use Rattle.oauthd.specs.Endings.{EndsCall, EndsWords};
 ghost use Rattle.oauthd.specs.Listening.{EndsService, FailsService, files_in, HasServed};
 ghost use Rattle.oauthd.specs.Performed.{EndsCommand};
@@ -25,6 +26,7 @@ use change_codec::Keeper;
 use consent::Moment;
 use daemon::{LineJournal, MachineClocks, Patience, go_on, serve, start};
 use event_loop::{Clocks, Journal};
+use image_keeper::ImageKeeper;
 use state_file::{Started, StateKeeper};
 use std::alloc::Global;
 use std::fmt::Display;
@@ -145,7 +147,7 @@ fn serve_as<
     ensures done { OnOk result (HasServed service.now (files_in files) (W.contents out.old) (W.contents out.new)) }
     ensures fault { IfErr result (λ fault.
         FailsService (startings ⟦<MachineClocks<'r, R> as Clocks>⟧
-        ⟦<LineJournal<'e, E> as Journal>⟧ ⟦<StateKeeper<DiskFile<'r, R>> as Keeper>⟧)
+        ⟦<LineJournal<'e, E> as Journal>⟧ (keeping ⟦<StateKeeper<DiskFile<'r, R>> as Keeper>⟧ ⟦<StateKeeper<DiskFile<'r, R>> as ImageKeeper>⟧.own))
         W.contents service.now (files_in files) fault out.old out.new err.old err.new) }
 {
     let CallFiles { named, hooks } = files;
@@ -188,7 +190,7 @@ pub fn perform_service<
     // Bad use may be that of a fault that could not be told.
     ensures { (result ≡ Status.BadUse)
         ⊎ EndsService (startings ⟦<MachineClocks<'r, R> as Clocks>⟧
-        ⟦<LineJournal<'e, E> as Journal>⟧ ⟦<StateKeeper<DiskFile<'r, R>> as Keeper>⟧)
+        ⟦<LineJournal<'e, E> as Journal>⟧ (keeping ⟦<StateKeeper<DiskFile<'r, R>> as Keeper>⟧ ⟦<StateKeeper<DiskFile<'r, R>> as ImageKeeper>⟧.own))
         W.contents E.contents service.now (files_in files) result out.old out.new err.old err.new }
 {
     match serve_as(rt, service, files, out, err) {
@@ -208,7 +210,7 @@ fn perform_call<
     // Bad use may be that of a write that failed.
     ensures { (result ≡ Status.BadUse)
         ⊎ EndsCall (startings ⟦<MachineClocks<'r, R> as Clocks>⟧
-        ⟦<LineJournal<'e, E> as Journal>⟧ ⟦<StateKeeper<DiskFile<'r, R>> as Keeper>⟧)
+        ⟦<LineJournal<'e, E> as Journal>⟧ (keeping ⟦<StateKeeper<DiskFile<'r, R>> as Keeper>⟧ ⟦<StateKeeper<DiskFile<'r, R>> as ImageKeeper>⟧.own))
         W.contents E.contents call.now (files_in files) result out.old out.new err.old err.new }
 {
     match call {
@@ -232,7 +234,7 @@ pub fn perform<
     // Bad use may be that of a write that failed.
     ensures { (result ≡ Status.BadUse)
         ⊎ EndsWords (startings ⟦<MachineClocks<'r, R> as Clocks>⟧
-        ⟦<LineJournal<'e, E> as Journal>⟧ ⟦<StateKeeper<DiskFile<'r, R>> as Keeper>⟧)
+        ⟦<LineJournal<'e, E> as Journal>⟧ (keeping ⟦<StateKeeper<DiskFile<'r, R>> as Keeper>⟧ ⟦<StateKeeper<DiskFile<'r, R>> as ImageKeeper>⟧.own))
         W.contents E.contents words.now result out.old out.new err.old err.new }
 {
     let call = match Call::from_words(rt.alloc(), words) {

@@ -1,10 +1,10 @@
 //! An image of a server in the place of all that a state file has.
 
-ghost use Rattle.std.specs.Prelude.{◌≡◌, ◌<◌, ◌^◌, true, length, OnOk, IfOk, IfErr, IsErrOf};
+ghost use Rattle.std.specs.Prelude.{◌≡◌, ◌<◌, ◌^◌, true, false, length, OnOk, IfOk, IfErr, IsErrOf};
 ghost use Rattle.image_codec.specs.Facts.{RulesFact};
 ghost use Rattle.image_keeper.specs.Imaging.{KeepsImage, KeepsNoImage};
 ghost use Rattle.image_keeper.specs.declared.keeper.ImageFault.TheVariants.{Memory, TooLong, Failed};
-ghost use Rattle.state_file.specs.Knowing.{IsLongFile, file_crashes};
+ghost use Rattle.state_file.specs.Knowing.{IsLong, IsLongFile, file_crashes};
 ghost use Rattle.state_file.specs.Renewing.{HasTooMuch, IsUnspelled, SpellImage};
 ghost use Rattle.state_file.specs.Telling.{LeavesRules};
 
@@ -49,20 +49,22 @@ fn spelled_image<H: HookHost>(
     Ok(bytes)
 }
 
-impl<D: Device> StateKeeper<D> {
-    // Whether the file is as short as it has to be.
-    fn is_short(&self) -> bool
-        ensures { result ≡ true → ¬ (IsLongFile D.seen self.now) }
-    {
-        self.settled && (self.file.end <= SMALL || self.file.end / 4 <= self.image)
-    }
+// Whether batches that take so many bytes are short, beside an image of so many.
+fn is_short(end: usize, image: usize) -> bool
+    ensures short { result ≡ true → ¬ (IsLong end image) }
+    ensures long { result ≡ false → IsLong end image }
+{
+    end <= SMALL || end / 4 <= image
+}
 
-    // Puts the image of a server in the place of all that the file has. Where it can't be written, the keeper keeps nothing
-    // more.
-    fn renew<H: HookHost>(&mut self, server: &Server<H>) -> Result<(), ImageFault>
+impl<D: Device> StateKeeper<D> {
+    /// Where the file is longer than 1 MB, and than four times its image, the image of a server is put in the place of all
+    /// that it has. Where it can't be written, the keeper keeps nothing more.
+    pub(crate) fn shorten<H: HookHost>(&mut self, server: &Server<H>) -> Result<(), ImageFault>
         ensures kept { OnOk result (KeepsImage H.HookHost (file_crashes D.Device) server.now self.old self.new) }
         ensures told { OnOk result ((rules : RulesFact) → LeavesRules D.seen D.may_leave self.old rules → LeavesRules D.seen D.may_leave self.new rules) }
         ensures short { OnOk result (¬ (IsLongFile D.seen self.new)) }
+        ensures left { OnOk result (¬ (IsLongFile D.seen self.old) → self.new ≡ self.old) }
         ensures no_memory { IsErrOf result Memory → self.new ≡ self.old }
         ensures too_long { IsErrOf result TooLong → self.new ≡ self.old }
         ensures too_much { IsErrOf result TooLong → HasTooMuch H.HookHost server.now (D.seen self.old.device) }
@@ -70,6 +72,9 @@ impl<D: Device> StateKeeper<D> {
     {
         if !self.settled {
             return Err(ImageFault::Failed);
+        }
+        if is_short(self.file.end, self.image) {
+            return Ok(());
         }
         let bytes = spelled_image(self.alloc, server, &self.hooks, self.rules.as_slice())?;
         let file = file_of(self.alloc, bytes.as_slice())?;
@@ -83,22 +88,5 @@ impl<D: Device> StateKeeper<D> {
                 Err(ImageFault::Failed)
             }
         }
-    }
-
-    /// Where the file is longer than 1 MB, and than four times its image, the image of a server is put in the place of all
-    /// that it has. Where it can't be written, the keeper keeps nothing more.
-    pub(crate) fn shorten<H: HookHost>(&mut self, server: &Server<H>) -> Result<(), ImageFault>
-        ensures kept { OnOk result (KeepsImage H.HookHost (file_crashes D.Device) server.now self.old self.new) }
-        ensures told { OnOk result ((rules : RulesFact) → LeavesRules D.seen D.may_leave self.old rules → LeavesRules D.seen D.may_leave self.new rules) }
-        ensures short { OnOk result (¬ (IsLongFile D.seen self.new)) }
-        ensures no_memory { IsErrOf result Memory → self.new ≡ self.old }
-        ensures too_long { IsErrOf result TooLong → self.new ≡ self.old }
-        ensures too_much { IsErrOf result TooLong → HasTooMuch H.HookHost server.now (D.seen self.old.device) }
-        ensures failed { IsErrOf result Failed → KeepsNoImage H.HookHost (file_crashes D.Device) server.now self.old self.new }
-    {
-        if self.is_short() {
-            return Ok(());
-        }
-        self.renew(server)
     }
 }

@@ -5,6 +5,9 @@ use super::readiness::{Count, Ticking};
 use crate::{Accepted, Limits, LoopFault, Ready, Received, Sent, Sockets, Tools, serve_all};
 use change_codec::{Batch, KeepFault, Keeper, decode};
 use clients::ConfigFault;
+use endpoints::Server;
+use hook_host::HookHost;
+use image_keeper::{ImageFault, ImageKeeper};
 use rand_chacha::ChaCha20Rng;
 use rand_core::SeedableRng;
 use std::alloc::Global;
@@ -124,6 +127,14 @@ impl Keeper for Patient<'_> {
     }
 
     ghost only_now = { λ keeper c left. left };
+}
+
+impl ImageKeeper for Patient<'_> {
+    ghost is_long = { λ _. ⊥ };
+
+    fn put_image<H: HookHost>(&mut self, _server: &Server<H>) -> Result<(), ImageFault> {
+        Ok(())
+    }
 }
 
 /// What came of the requests, where so many batches can be kept.

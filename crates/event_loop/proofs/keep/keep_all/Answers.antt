@@ -5,6 +5,7 @@ use Rattle.event_loop.specs.Served.{goes, keeps}
 use Rattle.event_loop.specs.Ends.{not_kept}
 use Rattle.event_loop.specs.Goes.{scene_of}
 use Rattle.event_loop.specs.Scenes.{promises}
+use Rattle.image_keeper.specs.Keeping.{keeping}
 use Rattle.event_loop.proofs.Answering.{served_answered}
 use Rattle.event_loop.proofs.Doing.{none_more, kept_more, not_another}
 use Rattle.event_loop.proofs.Kept.{none_unkept, nothing_unkept, something_unkept, unkept_happened, kept_connections, all_kept_now, not_empty}
@@ -12,7 +13,7 @@ use Rattle.event_loop.proofs.keep.keep_all.Goals as goal
 
 pub returns-in_default-clause-kept : goal.returns-in_default-clause-kept
 returns-in_default-clause-kept g c = λ rules host first found service past undone h.
-    let reached = (served_answered (promises g.N.Sockets g.C.Clocks g.J.Journal g.K.Keeper g.H.HookHost) rules host first _ h).reached in
+    let reached = (served_answered (promises g.N.Sockets g.C.Clocks g.J.Journal (keeping g.K.Keeper g.K.ImageKeeper) g.H.HookHost) rules host first _ h).reached in
     record {
       next = past;
       served = h;
@@ -24,7 +25,7 @@ returns-in_default-clause-kept g c = λ rules host first found service past undo
 
 pub returns-then-is_empty-clause-kept : goal.returns-then-is_empty-clause-kept
 returns-then-is_empty-clause-kept g c = λ rules host first found service past undone h.
-    let reached = (served_answered (promises g.N.Sockets g.C.Clocks g.J.Journal g.K.Keeper g.H.HookHost) rules host first _ h).reached in
+    let reached = (served_answered (promises g.N.Sockets g.C.Clocks g.J.Journal (keeping g.K.Keeper g.K.ImageKeeper) g.H.HookHost) rules host first _ h).reached in
     let batch = c.in-Some.batch.now in
     record {
       next = past;
@@ -37,7 +38,7 @@ returns-then-is_empty-clause-kept g c = λ rules host first found service past u
 
 pub returns-in_default-keep-clause-lost : goal.returns-in_default-keep-clause-lost
 returns-in_default-keep-clause-lost g c = λ rules host first found service past undone h.
-    let reached = (served_answered (promises g.N.Sockets g.C.Clocks g.J.Journal g.K.Keeper g.H.HookHost) rules host first _ h).reached in
+    let reached = (served_answered (promises g.N.Sockets g.C.Clocks g.J.Journal (keeping g.K.Keeper g.K.ImageKeeper) g.H.HookHost) rules host first _ h).reached in
     let facts = c.in-Some.batch.now.facts in
     let some = not_empty _ facts c.is_empty.ensures c.if-is_empty.false in
     let noted = c.in-Some.ensures.unkept rules host past.schedule past.world reached in
@@ -46,7 +47,7 @@ returns-in_default-keep-clause-lost g c = λ rules host first found service past
 
 pub returns-clause-kept : goal.returns-clause-kept
 returns-clause-kept g c = λ rules host first found service past undone h.
-    let reached = (served_answered (promises g.N.Sockets g.C.Clocks g.J.Journal g.K.Keeper g.H.HookHost) rules host first _ h).reached in
+    let reached = (served_answered (promises g.N.Sockets g.C.Clocks g.J.Journal (keeping g.K.Keeper g.K.ImageKeeper) g.H.HookHost) rules host first _ h).reached in
     let facts = c.in-Some.batch.now.facts in
     let some = not_empty _ facts c.is_empty.ensures c.if-is_empty.false in
     let noted = c.in-Some.ensures.unkept rules host past.schedule past.world reached in

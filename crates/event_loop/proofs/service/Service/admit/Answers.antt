@@ -8,6 +8,7 @@ use Rattle.event_loop.specs.Coming.{opens, denies, finds_nobody, fails, fresh_pl
 use Rattle.event_loop.specs.Served.{goes, comes}
 use Rattle.event_loop.specs.Goes.{Past}
 use Rattle.event_loop.specs.Scenes.{promises}
+use Rattle.image_keeper.specs.Keeping.{keeping}
 use Rattle.event_loop.proofs.Doing.{one_more, done_then}
 use Rattle.event_loop.specs.declared.queue.Queue.TheVariants.{Told, Barred, Waits}
 use Rattle.event_loop.proofs.Putting.{put_within}
@@ -19,7 +20,7 @@ use Rattle.event_loop.proofs.service.Service.admit.Goals as goal
 
 pub returns-in-Ok-clause-leads : goal.returns-in-Ok-clause-leads
 returns-in-Ok-clause-leads g c = λ found rules host first past h settled.
-    let reached = (served_answered (promises g.N.Sockets g.C.Clocks g.J.Journal g.K.Keeper g.H.HookHost) rules host first _ h).reached in
+    let reached = (served_answered (promises g.N.Sockets g.C.Clocks g.J.Journal (keeping g.K.Keeper g.K.ImageKeeper) g.H.HookHost) rules host first _ h).reached in
     let k = c.args.k in
     let place = fresh_place c.args.self.now.times.steady in
     let on = c.in-Ok.ensures.done rules host past.schedule past.world reached in
@@ -41,7 +42,7 @@ returns-in-Ok-clause-leads g c = λ found rules host first past h settled.
 
 pub returns-in-Err-clause-leads : goal.returns-in-Err-clause-leads
 returns-in-Err-clause-leads g c = λ found rules host first past h settled.
-    let reached = (served_answered (promises g.N.Sockets g.C.Clocks g.J.Journal g.K.Keeper g.H.HookHost) rules host first _ h).reached in
+    let reached = (served_answered (promises g.N.Sockets g.C.Clocks g.J.Journal (keeping g.K.Keeper g.K.ImageKeeper) g.H.HookHost) rules host first _ h).reached in
     let k = c.args.k in
     rw c.in-Err.ensures.err
     (record {

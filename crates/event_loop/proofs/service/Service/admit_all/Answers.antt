@@ -1,12 +1,13 @@
 use Rattle.std.proofs.Common.{◌∙◌, refl, arith}
 use Rattle.event_loop.specs.Scenes.{promises}
+use Rattle.image_keeper.specs.Keeping.{keeping}
 use Rattle.event_loop.proofs.Leading.{nowhere, accepts_then}
 use Rattle.event_loop.proofs.service.Service.admit_all.Goals as goal
 
 pub loop-nth-init : goal.loop-nth-init
 loop-nth-init g c = record {
   leads = λ found rules host first past h settled. record {
-    goes = nowhere (promises g.N.Sockets g.C.Clocks g.J.Journal g.K.Keeper g.H.HookHost) found _ _ rules host first past h settled;
+    goes = nowhere (promises g.N.Sockets g.C.Clocks g.J.Journal (keeping g.K.Keeper g.K.ImageKeeper) g.H.HookHost) found _ _ rules host first past h settled;
     tried = λ less. absurd (omega (arith, less));
   };
   within = λ limit all. all;
@@ -18,7 +19,7 @@ loop-nth-init g c = record {
 pub loop-nth-preserved : goal.loop-nth-preserved
 loop-nth-preserved g c = record {
   leads = λ found rules host first past h settled.
-      accepts_then (promises g.N.Sockets g.C.Clocks g.J.Journal g.K.Keeper g.H.HookHost) found _ _ _ _ _ _ (c.loop-nth.invariant.leads found) (c.admit_next.ensures.leads found) rules host first past h settled;
+      accepts_then (promises g.N.Sockets g.C.Clocks g.J.Journal (keeping g.K.Keeper g.K.ImageKeeper) g.H.HookHost) found _ _ _ _ _ _ (c.loop-nth.invariant.leads found) (c.admit_next.ensures.leads found) rules host first past h settled;
   within = λ limit all. c.admit_next.ensures.within limit (c.loop-nth.invariant.within limit all);
   waits = λ waits. absurd (c.admit_next.ensures.waits waits);
   tried = λ tried. c.admit_next.ensures.tried;

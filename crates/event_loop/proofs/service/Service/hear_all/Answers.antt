@@ -3,6 +3,7 @@ use Rattle.std.proofs.lemmas.List.{drop_all}
 use Rattle.event_loop.specs.declared.sockets.Ready.{Ready}
 use Rattle.event_loop.specs.Goes.{LeadsToHearing}
 use Rattle.event_loop.specs.Scenes.{promises}
+use Rattle.image_keeper.specs.Keeping.{keeping}
 use Rattle.event_loop.proofs.service.Service.hear_all.Goals as goal
 
 pub loop-index-init : goal.loop-index-init
@@ -13,7 +14,7 @@ loop-index-preserved g c =
     let i = c.loop-index.index in
     let all = c.args.found.now in
     let cons : drop i all ≡ _ ∷ drop (i + 1) all = rw add-one (drop-cons all i _ (omega (arith, c.loop-index-test.true))) in
-    let P : List Ready → Type 0 = λ l. LeadsToHearing (promises g.N.Sockets g.C.Clocks g.J.Journal g.K.Keeper g.H.HookHost) c.args.found.now c.args.self.now c.args.tools.now l c.loop-index.self in
+    let P : List Ready → Type 0 = λ l. LeadsToHearing (promises g.N.Sockets g.C.Clocks g.J.Journal (keeping g.K.Keeper g.K.ImageKeeper) g.H.HookHost) c.args.found.now c.args.self.now c.args.tools.now l c.loop-index.self in
     let before = subst P cons c.loop-index.invariant in
     (λ rules host first past h rested.
     let told = before rules host first past h rested in
@@ -21,5 +22,5 @@ loop-index-preserved g c =
 
 pub returns : goal.returns
 returns g c =
-    let P : List Ready → Type 0 = λ l. LeadsToHearing (promises g.N.Sockets g.C.Clocks g.J.Journal g.K.Keeper g.H.HookHost) c.args.found.now c.args.self.now c.args.tools.now l c.loop-index.self in
+    let P : List Ready → Type 0 = λ l. LeadsToHearing (promises g.N.Sockets g.C.Clocks g.J.Journal (keeping g.K.Keeper g.K.ImageKeeper) g.H.HookHost) c.args.found.now c.args.self.now c.args.tools.now l c.loop-index.self in
     subst P (drop_all c.loop-index.index c.args.found.now c.loop-index-test.false) c.loop-index.invariant

@@ -6,6 +6,7 @@ use Rattle.event_loop.specs.declared.place.Stage.TheVariants.{Free}
 use Rattle.event_loop.specs.declared.service.Service.{Service}
 use Rattle.event_loop.specs.Served.{shuts}
 use Rattle.event_loop.specs.Scenes.{promises}
+use Rattle.image_keeper.specs.Keeping.{keeping}
 use Rattle.event_loop.proofs.Leading.{closes_reached}
 use Rattle.event_loop.proofs.Putting.{same_some, set_other, set_same}
 use Rattle.event_loop.proofs.service.Service.leave_any.Goals as goal
@@ -19,7 +20,7 @@ returns-then-not-is_taken-clause-free g c = λ place here.
 
 pub returns-clause-shut : goal.returns-clause-shut
 returns-clause-shut g c = λ rules host first found past done reached.
-    let p = promises g.N.Sockets g.C.Clocks g.J.Journal g.K.Keeper g.H.HookHost in
+    let p = promises g.N.Sockets g.C.Clocks g.J.Journal (keeping g.K.Keeper g.K.ImageKeeper) g.H.HookHost in
     let away = c.leave.ensures.away rules host found past reached in
     record {
       next = away.next;

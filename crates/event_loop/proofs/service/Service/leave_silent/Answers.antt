@@ -8,21 +8,22 @@ use Rattle.event_loop.proofs.Putting.{same_some, set_same, set_other}
 use Rattle.event_loop.specs.declared.service.Service.{Service}
 use Rattle.event_loop.specs.Closing.{is_silent}
 use Rattle.event_loop.specs.Scenes.{promises}
+use Rattle.image_keeper.specs.Keeping.{keeping}
 use Rattle.event_loop.proofs.Leading.{nowhere}
 use Rattle.event_loop.proofs.Leaving.{leaves_to}
 use Rattle.event_loop.proofs.service.Service.leave_silent.Goals as goal
 
 pub returns-then-not-is_taken-clause-leads : goal.returns-then-not-is_taken-clause-leads
-returns-then-not-is_taken-clause-leads g c = λ found. nowhere (promises g.N.Sockets g.C.Clocks g.J.Journal g.K.Keeper g.H.HookHost) found _ _
+returns-then-not-is_taken-clause-leads g c = λ found. nowhere (promises g.N.Sockets g.C.Clocks g.J.Journal (keeping g.K.Keeper g.K.ImageKeeper) g.H.HookHost) found _ _
 
 pub returns-then-saturating_sub-self-clause-leads : goal.returns-then-saturating_sub-self-clause-leads
-returns-then-saturating_sub-self-clause-leads g c = λ found. nowhere (promises g.N.Sockets g.C.Clocks g.J.Journal g.K.Keeper g.H.HookHost) found _ _
+returns-then-saturating_sub-self-clause-leads g c = λ found. nowhere (promises g.N.Sockets g.C.Clocks g.J.Journal (keeping g.K.Keeper g.K.ImageKeeper) g.H.HookHost) found _ _
 
 pub returns-clause-leads : goal.returns-clause-leads
 returns-clause-leads g c =
     let place = c.place_at-place.result in
     let long : c.args.self.now.limits.idle < c.args.self.now.times.steady - place.since = omega (arith, c.saturating_sub.ensures, c.if-saturating_sub-self.false) in
-    leaves_to (promises g.N.Sockets g.C.Clocks g.J.Journal g.K.Keeper g.H.HookHost) c.args.k place c.args.self.now c.args.tools.now c.leave.new.self c.leave.new.tools c.place_at-place.ensures
+    leaves_to (promises g.N.Sockets g.C.Clocks g.J.Journal (keeping g.K.Keeper g.K.ImageKeeper) g.H.HookHost) c.args.k place c.args.self.now c.args.tools.now c.leave.new.self c.leave.new.tools c.place_at-place.ensures
     (c.is_taken.ensures.taken c.if-not-is_taken.false) (λ found past. is_silent long) c.leave.ensures.away (ap (λ (s : Service). s.places) c.leave.ensures.rest)
     (ap (λ (s : Service). s.due) c.leave.ensures.rest)
 

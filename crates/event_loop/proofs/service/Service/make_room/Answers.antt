@@ -7,6 +7,7 @@ use Rattle.event_loop.specs.declared.place.Stage.TheVariants.{Free}
 use Rattle.event_loop.specs.declared.queue.Queue.TheVariants.{Told, Waits}
 use Rattle.event_loop.specs.Closing.{AreWithin, IsSilentLongest, gives_way, freed_queue}
 use Rattle.event_loop.specs.Scenes.{promises}
+use Rattle.image_keeper.specs.Keeping.{keeping}
 use Rattle.event_loop.proofs.Leaving.{leaves_to}
 use Rattle.event_loop.proofs.Putting.{same_some, put_within}
 use Rattle.event_loop.proofs.service.Service.make_room.Goals as goal
@@ -19,7 +20,7 @@ returns-clause-leads g c =
     let taken : IsTaken place.stage = subst (λ (q : Place). IsTaken q.stage) same longest.taken in
     let is_longest : IsSilentLongest c.args.self.now.places place = subst (λ q. IsSilentLongest c.args.self.now.places q) same longest.longest in
     let long : c.args.self.now.limits.crowded < c.args.self.now.times.steady - place.since = omega (arith, c.saturating_sub.ensures, c.if-saturating_sub-self.false) in
-    leaves_to (promises g.N.Sockets g.C.Clocks g.J.Journal g.K.Keeper g.H.HookHost) c.in-Some.k place c.args.self.now c.args.tools.now c.leave.new.self c.leave.new.tools c.place_at-place.ensures
+    leaves_to (promises g.N.Sockets g.C.Clocks g.J.Journal (keeping g.K.Keeper g.K.ImageKeeper) g.H.HookHost) c.in-Some.k place c.args.self.now c.args.tools.now c.leave.new.self c.leave.new.tools c.place_at-place.ensures
     taken (λ found past. gives_way c.in-Waits.is long is_longest) c.leave.ensures.away (ap (λ (s : Service). s.places) c.leave.ensures.rest) (ap (λ (s : Service). s.due) c.leave.ensures.rest)
 
 pub returns-then-saturating_sub-self-clause-crowded : goal.returns-then-saturating_sub-self-clause-crowded

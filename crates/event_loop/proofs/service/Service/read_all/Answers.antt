@@ -2,6 +2,7 @@ use Rattle.std.proofs.Common.{arith, ◌≡◌, Some, ap, subst, ◌∙◌}
 use Rattle.std.specs.Prelude.{slice_get}
 use Rattle.event_loop.specs.Goes.{IsHeardAt}
 use Rattle.event_loop.specs.Scenes.{promises}
+use Rattle.image_keeper.specs.Keeping.{keeping}
 use Rattle.event_loop.proofs.Doing.{none_more, done_then}
 use Rattle.event_loop.proofs.Leading.{one_below, heard_next, acts_heard, rested_next, rested_heard, reading_other}
 use Rattle.event_loop.proofs.service.Service.read_all.Goals as goal
@@ -28,7 +29,7 @@ loop-k-preserved-then-not-is_due g c = λ rules host first found past undone res
 
 pub loop-k-preserved : goal.loop-k-preserved
 loop-k-preserved g c = λ rules host first found past undone rested h.
-    let p = promises g.N.Sockets g.C.Clocks g.J.Journal g.K.Keeper g.H.HookHost in
+    let p = promises g.N.Sockets g.C.Clocks g.J.Journal (keeping g.K.Keeper g.K.ImageKeeper) g.H.HookHost in
     let k = c.loop-k.k in
     let before = c.loop-k.invariant rules host first found past undone rested h in
     let x = c.read.ensures rules host first found before.next (before.unread k (omega arith)) tt before.served in

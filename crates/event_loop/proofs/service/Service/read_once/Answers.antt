@@ -9,6 +9,7 @@ use Rattle.event_loop.specs.Places.{read_limit}
 use Rattle.event_loop.specs.Reading.{hears, refuses, ends, ends_nothing, finds_nothing, fails, read_place}
 use Rattle.event_loop.specs.Served.{goes, reads}
 use Rattle.event_loop.specs.Scenes.{promises}
+use Rattle.image_keeper.specs.Keeping.{keeping}
 use Rattle.event_loop.proofs.Others.{ends_other}
 use Rattle.event_loop.proofs.Telling.{gives_other}
 use Rattle.event_loop.proofs.Answering.{served_answered}
@@ -19,7 +20,7 @@ use Rattle.event_loop.proofs.service.Service.read_once.Goals as goal
 
 pub returns-in-Ok : goal.returns-in-Ok
 returns-in-Ok g c = λ rules host first found past undone ready h.
-    let reached = (served_answered (promises g.N.Sockets g.C.Clocks g.J.Journal g.K.Keeper g.H.HookHost) rules host first _ h).reached in
+    let reached = (served_answered (promises g.N.Sockets g.C.Clocks g.J.Journal (keeping g.K.Keeper g.K.ImageKeeper) g.H.HookHost) rules host first _ h).reached in
     let count = c.in-Bytes.count in
     let bytes : List ℕ = take count c.read.new.buffer in
     let room : length c.read.new.buffer ≡ read_limit = search rules in
@@ -45,7 +46,7 @@ returns-in-Ok g c = λ rules host first found past undone ready h.
 
 pub returns-in-Err : goal.returns-in-Err
 returns-in-Err g c = λ rules host first found past undone ready h.
-    let reached = (served_answered (promises g.N.Sockets g.C.Clocks g.J.Journal g.K.Keeper g.H.HookHost) rules host first _ h).reached in
+    let reached = (served_answered (promises g.N.Sockets g.C.Clocks g.J.Journal (keeping g.K.Keeper g.K.ImageKeeper) g.H.HookHost) rules host first _ h).reached in
     let count = c.in-Bytes.count in
     let bytes : List ℕ = take count c.read.new.buffer in
     let room : length c.read.new.buffer ≡ read_limit = search rules in
@@ -73,7 +74,7 @@ returns-in-Err g c = λ rules host first found past undone ready h.
 
 pub returns-in-Ok-event : goal.returns-in-Ok-event
 returns-in-Ok-event g c = λ rules host first found past undone ready h.
-    let reached = (served_answered (promises g.N.Sockets g.C.Clocks g.J.Journal g.K.Keeper g.H.HookHost) rules host first _ h).reached in
+    let reached = (served_answered (promises g.N.Sockets g.C.Clocks g.J.Journal (keeping g.K.Keeper g.K.ImageKeeper) g.H.HookHost) rules host first _ h).reached in
     let on = c.in-Ok-event.ensures.done rules host past.schedule past.world reached in
     record {
       goes = record {
@@ -95,7 +96,7 @@ returns-in-Ok-event g c = λ rules host first found past undone ready h.
 
 pub returns-in-Later : goal.returns-in-Later
 returns-in-Later g c = λ rules host first found past undone ready h.
-    let reached = (served_answered (promises g.N.Sockets g.C.Clocks g.J.Journal g.K.Keeper g.H.HookHost) rules host first _ h).reached in
+    let reached = (served_answered (promises g.N.Sockets g.C.Clocks g.J.Journal (keeping g.K.Keeper g.K.ImageKeeper) g.H.HookHost) rules host first _ h).reached in
     record {
       goes = record {
         next = record past { deeds = deed.ReadNothing c.args.k ∷ past.deeds };
@@ -114,7 +115,7 @@ returns-in-Later g c = λ rules host first found past undone ready h.
 
 pub returns-in-Failed : goal.returns-in-Failed
 returns-in-Failed g c = λ rules host first found past undone ready h.
-    let reached = (served_answered (promises g.N.Sockets g.C.Clocks g.J.Journal g.K.Keeper g.H.HookHost) rules host first _ h).reached in
+    let reached = (served_answered (promises g.N.Sockets g.C.Clocks g.J.Journal (keeping g.K.Keeper g.K.ImageKeeper) g.H.HookHost) rules host first _ h).reached in
     record {
       goes = record {
         next = record past { deeds = deed.ReadFailed c.args.k ∷ past.deeds };
@@ -133,7 +134,7 @@ returns-in-Failed g c = λ rules host first found past undone ready h.
 
 pub returns-in-Err-event : goal.returns-in-Err-event
 returns-in-Err-event g c = λ rules host first found past undone ready h.
-    let reached = (served_answered (promises g.N.Sockets g.C.Clocks g.J.Journal g.K.Keeper g.H.HookHost) rules host first _ h).reached in
+    let reached = (served_answered (promises g.N.Sockets g.C.Clocks g.J.Journal (keeping g.K.Keeper g.K.ImageKeeper) g.H.HookHost) rules host first _ h).reached in
     let fault = c.in-Err-event.fault in
     rw c.in-Err-event.ensures.err
     (record {

@@ -1,5 +1,6 @@
-use Rattle.std.proofs.Common.{add-one, ◌≤◌, ◌∷◌, take, arith, length, ◌≡◌, subst, sym, ◌∙◌, []}
+use Rattle.std.proofs.Common.{add-one, ap, ◌≤◌, ◌∷◌, take, arith, length, ◌≡◌, subst, sym, ◌∙◌, []}
 use Rattle.event_loop.specs.declared.limits.Limits.{Limits}
+use Rattle.event_loop.specs.declared.service.Service.{Service}
 use Rattle.event_loop.specs.Closing.{AreWithin}
 use Rattle.event_loop.specs.Deeds as deed
 use Rattle.event_loop.specs.Deeds.{Accepting, IsDone}
@@ -7,42 +8,55 @@ use Rattle.event_loop.specs.Served.{goes, waits}
 use Rattle.event_loop.specs.Ends.{no_wait, no_time}
 use Rattle.event_loop.specs.Goes.{Past, scene_of}
 use Rattle.event_loop.specs.Scenes.{promises}
+use Rattle.image_keeper.specs.Keeping.{keeping}
 use Rattle.event_loop.proofs.Leading.{to_then, kept_then}
-use Rattle.event_loop.proofs.Leaving.{may_wait, told_or_not}
+use Rattle.event_loop.proofs.Leaving.{may_wait, ready_still, told_or_not}
 use Rattle.event_loop.proofs.service.Service.round.Goals as goal
 
-pub returns-in_default-clause-wrong : goal.returns-in_default-clause-wrong
-returns-in_default-clause-wrong g c = λ rules host first past h ready.
-    let size : length c.args.self.now.places ≡ 64 = search rules in
+pub returns-in_default-wait-clause-wrong : goal.returns-in_default-wait-clause-wrong
+returns-in_default-wait-clause-wrong g c = λ rules host first past begun was_ready.
+    let put = c.in_default.ensures.put rules host first [] past begun in
+    let h = put.0 in
+    let ready = ready_still c.args.self.now past c.put_image.new.self c.in_default.ensures.same was_ready in
+    let before : length c.args.self.now.places ≡ 64 = search rules in
+    let size : length c.put_image.new.self.places ≡ 64 = ap (λ (s : Service). length s.places) c.in_default.ensures.same ∙ before in
     let room : 65 ≤ length c.wait.new.found = search (rules, arith, c.requires.room) in
     record {
-      last = scene_of c.args.self.now c.args.tools.now [] past;
+      last = scene_of c.put_image.new.self c.put_image.new.tools [] past;
       served = h;
       found = [];
       next = record past { deeds = deed.WaitFailed c.wait_limit-limit.result (length c.wait.new.found) ∷ past.deeds };
-      fails = no_wait c.wait_limit-limit.result (length c.wait.new.found) c.wait.new.self (may_wait c.args.self.now c.args.tools.now past _ _ size ready c.wait_limit-limit.ensures room) c.in_default.ensures.done;
+      fails = no_wait c.wait_limit-limit.result (length c.wait.new.found) c.wait.new.self (may_wait (promises g.N.Sockets g.C.Clocks g.J.Journal (keeping g.K.Keeper g.K.ImageKeeper) g.H.HookHost) c.put_image.new.self c.put_image.new.tools past _ _ size ready c.wait_limit-limit.ensures room put.1) c.in_default-wait.ensures.done;
     }
 
 pub returns-in_default-read-clause-wrong : goal.returns-in_default-read-clause-wrong
-returns-in_default-read-clause-wrong g c = λ rules host first past h ready.
+returns-in_default-read-clause-wrong g c = λ rules host first past begun was_ready.
+    let put = c.in_default.ensures.put rules host first [] past begun in
+    let h = put.0 in
+    let ready = ready_still c.args.self.now past c.put_image.new.self c.in_default.ensures.same was_ready in
     let heard = take c.in-Some.count c.wait.new.found in
-    let size : length c.args.self.now.places ≡ 64 = search rules in
+    let before : length c.args.self.now.places ≡ 64 = search rules in
+    let size : length c.put_image.new.self.places ≡ 64 = ap (λ (s : Service). length s.places) c.in_default.ensures.same ∙ before in
     let room : 65 ≤ length c.wait.new.found = search (rules, arith, c.requires.room) in
-    let may = may_wait c.args.self.now c.args.tools.now past c.wait_limit-limit.result (length c.wait.new.found) size ready c.wait_limit-limit.ensures room in
+    let may = may_wait (promises g.N.Sockets g.C.Clocks g.J.Journal (keeping g.K.Keeper g.K.ImageKeeper) g.H.HookHost) c.put_image.new.self c.put_image.new.tools past c.wait_limit-limit.result (length c.wait.new.found) size ready c.wait_limit-limit.ensures room put.1 in
     record {
-      last = scene_of c.args.self.now c.args.tools.now [] past;
+      last = scene_of c.put_image.new.self c.put_image.new.tools [] past;
       served = h;
       found = heard;
       next = record past { deeds = deed.Waited c.wait_limit-limit.result (length c.wait.new.found) heard ∷ past.deeds };
       fails = no_time c.wait_limit-limit.result (length c.wait.new.found) heard c.wait.new.self c.read.new.self may c.in-Some.ensures.done c.in_default-read.ensures;
     }
 
-pub returns-in-Err-clause-wrong : goal.returns-in-Err-clause-wrong
-returns-in-Err-clause-wrong g c = λ rules host first past h ready.
+pub returns-in-Err-keep_all-clause-wrong : goal.returns-in-Err-keep_all-clause-wrong
+returns-in-Err-keep_all-clause-wrong g c = λ rules host first past begun was_ready.
+    let put = c.in_default.ensures.put rules host first [] past begun in
+    let h = put.0 in
+    let ready = ready_still c.args.self.now past c.put_image.new.self c.in_default.ensures.same was_ready in
     let heard = take c.in-Some.count c.wait.new.found in
-    let size : length c.args.self.now.places ≡ 64 = search rules in
+    let before : length c.args.self.now.places ≡ 64 = search rules in
+    let size : length c.put_image.new.self.places ≡ 64 = ap (λ (s : Service). length s.places) c.in_default.ensures.same ∙ before in
     let room : 65 ≤ length c.wait.new.found = search (rules, arith, c.requires.room) in
-    let may = may_wait c.args.self.now c.args.tools.now past c.wait_limit-limit.result (length c.wait.new.found) size ready c.wait_limit-limit.ensures room in
+    let may = may_wait (promises g.N.Sockets g.C.Clocks g.J.Journal (keeping g.K.Keeper g.K.ImageKeeper) g.H.HookHost) c.put_image.new.self c.put_image.new.tools past c.wait_limit-limit.result (length c.wait.new.found) size ready c.wait_limit-limit.ensures room put.1 in
     let waited = goes h (waits c.wait_limit-limit.result (length c.wait.new.found) heard c.wait.new.self c.in-Some-read.times c.read.new.self may c.in-Some.ensures.done c.in-Some-read.ensures) in
     let since : Past = record past { deeds = deed.Waited c.wait_limit-limit.result (length c.wait.new.found) heard ∷ past.deeds } in
     let told = c.hear_all.ensures rules host first since waited (λ k less. (ready.settled k less).rested) in
@@ -52,16 +66,20 @@ returns-in-Err-clause-wrong g c = λ rules host first past h ready.
       served = read.served;
       found = [];
       next = read.next;
-      fails = c.in-Err.ensures.lost rules host first [] c.read_all.new.self read.next read.not_kept read.served;
+      fails = c.in-Err-keep_all.ensures.lost rules host first [] c.read_all.new.self read.next read.not_kept read.served;
     }
 
 pub returns-clause-goes : goal.returns-clause-goes
-returns-clause-goes g c = λ rules host first past h ready.
-    let p = promises g.N.Sockets g.C.Clocks g.J.Journal g.K.Keeper g.H.HookHost in
+returns-clause-goes g c = λ rules host first past begun was_ready.
+    let put = c.in_default.ensures.put rules host first [] past begun in
+    let h = put.0 in
+    let ready = ready_still c.args.self.now past c.put_image.new.self c.in_default.ensures.same was_ready in
+    let p = promises g.N.Sockets g.C.Clocks g.J.Journal (keeping g.K.Keeper g.K.ImageKeeper) g.H.HookHost in
     let heard = take c.in-Some.count c.wait.new.found in
-    let size : length c.args.self.now.places ≡ 64 = search rules in
+    let before : length c.args.self.now.places ≡ 64 = search rules in
+    let size : length c.put_image.new.self.places ≡ 64 = ap (λ (s : Service). length s.places) c.in_default.ensures.same ∙ before in
     let room : 65 ≤ length c.wait.new.found = search (rules, arith, c.requires.room) in
-    let may = may_wait c.args.self.now c.args.tools.now past c.wait_limit-limit.result (length c.wait.new.found) size ready c.wait_limit-limit.ensures room in
+    let may = may_wait (promises g.N.Sockets g.C.Clocks g.J.Journal (keeping g.K.Keeper g.K.ImageKeeper) g.H.HookHost) c.put_image.new.self c.put_image.new.tools past c.wait_limit-limit.result (length c.wait.new.found) size ready c.wait_limit-limit.ensures room put.1 in
     let waited = goes h (waits c.wait_limit-limit.result (length c.wait.new.found) heard c.wait.new.self c.in-Some-read.times c.read.new.self may c.in-Some.ensures.done c.in-Some-read.ensures) in
     let since : Past = record past { deeds = deed.Waited c.wait_limit-limit.result (length c.wait.new.found) heard ∷ past.deeds } in
     let told = c.hear_all.ensures rules host first since waited (λ k less. (ready.settled k less).rested) in
@@ -87,3 +105,7 @@ returns-clause-goes g c = λ rules host first past h ready.
       };
       waits_are = admitted.goes.done.waits ∙ on.done.waits ∙ written.done.waits ∙ sym (add-one (deed.waits past.deeds));
     }
+
+pub returns-in-Err-clause-wrong : goal.returns-in-Err-clause-wrong
+returns-in-Err-clause-wrong g c = λ rules host first past h ready.
+    record { last = scene_of c.args.self.now c.args.tools.now [] past; served = h; found = []; next = past; fails = c.in-Err.ensures.failed rules host first [] past h }

@@ -8,6 +8,7 @@ use Rattle.event_loop.specs.Closing as closing
 use Rattle.event_loop.specs.Served.{goes, closes}
 use Rattle.event_loop.specs.Goes.{a_read, a_write}
 use Rattle.event_loop.specs.Scenes.{promises}
+use Rattle.image_keeper.specs.Keeping.{keeping}
 use Rattle.event_loop.proofs.Answering.{served_answered}
 use Rattle.event_loop.proofs.Doing.{closes_done, closes_some, closes_alone}
 use Rattle.event_loop.proofs.Leading.{closes_other, closes_kept}
@@ -17,7 +18,7 @@ use Rattle.event_loop.proofs.service.Service.settle.Goals as goal
 
 pub returns-then-is_over : goal.returns-then-is_over
 returns-then-is_over g c = λ rules host first found past h.
-    let p = promises g.N.Sockets g.C.Clocks g.J.Journal g.K.Keeper g.H.HookHost in
+    let p = promises g.N.Sockets g.C.Clocks g.J.Journal (keeping g.K.Keeper g.K.ImageKeeper) g.H.HookHost in
     let k = c.args.k in
     let reached = (served_answered p rules host first _ h).reached in
     let place = c.place_at-place.result in
@@ -44,7 +45,7 @@ returns-then-is_over g c = λ rules host first found past h.
 
 pub returns-then-may_read : goal.returns-then-may_read
 returns-then-may_read g c = λ rules host first found past h.
-    let p = promises g.N.Sockets g.C.Clocks g.J.Journal g.K.Keeper g.H.HookHost in
+    let p = promises g.N.Sockets g.C.Clocks g.J.Journal (keeping g.K.Keeper g.K.ImageKeeper) g.H.HookHost in
     let reached = (served_answered p rules host first _ h).reached in
     let due = c.args.self.now.due in
     let k = c.args.k in
@@ -55,7 +56,7 @@ returns-then-may_read g c = λ rules host first found past h.
 
 pub returns-then-may_write : goal.returns-then-may_write
 returns-then-may_write g c = λ rules host first found past h.
-    let p = promises g.N.Sockets g.C.Clocks g.J.Journal g.K.Keeper g.H.HookHost in
+    let p = promises g.N.Sockets g.C.Clocks g.J.Journal (keeping g.K.Keeper g.K.ImageKeeper) g.H.HookHost in
     let reached = (served_answered p rules host first _ h).reached in
     let due = c.args.self.now.due in
     let k = c.args.k in
@@ -66,7 +67,7 @@ returns-then-may_write g c = λ rules host first found past h.
 
 pub returns-else-may_write : goal.returns-else-may_write
 returns-else-may_write g c = λ rules host first found past h.
-    let p = promises g.N.Sockets g.C.Clocks g.J.Journal g.K.Keeper g.H.HookHost in
+    let p = promises g.N.Sockets g.C.Clocks g.J.Journal (keeping g.K.Keeper g.K.ImageKeeper) g.H.HookHost in
     let reached = (served_answered p rules host first _ h).reached in
     let due = c.args.self.now.due in
     let k = c.args.k in

@@ -5,12 +5,13 @@ use Rattle.std.proofs.lemmas.Option.{slice_get_within}
 use Rattle.event_loop.specs.declared.clocks.Times.{Times}
 use Rattle.event_loop.specs.declared.limits.Limits.{Limits}
 use Rattle.event_loop.specs.Scenes.{promises}
+use Rattle.image_keeper.specs.Keeping.{keeping}
 use Rattle.event_loop.proofs.Leading.{nowhere, to_then}
 use Rattle.event_loop.proofs.service.Service.sweep.Goals as goal
 
 pub loop-k-init : goal.loop-k-init
 loop-k-init g c = record {
-  leads = λ found. nowhere (promises g.N.Sockets g.C.Clocks g.J.Journal g.K.Keeper g.H.HookHost) found _ _;
+  leads = λ found. nowhere (promises g.N.Sockets g.C.Clocks g.J.Journal (keeping g.K.Keeper g.K.ImageKeeper) g.H.HookHost) found _ _;
   below = λ j place less. absurd (omega (arith, less));
   size = refl;
 }
@@ -21,7 +22,7 @@ loop-k-preserved g c =
     let k = c.loop-k.k in
     record {
       leads = λ found.
-          to_then (promises g.N.Sockets g.C.Clocks g.J.Journal g.K.Keeper g.H.HookHost) found found found c.args.self.now c.loop-k.self c.leave_silent.new.self c.args.tools.now c.loop-k.tools c.leave_silent.new.tools
+          to_then (promises g.N.Sockets g.C.Clocks g.J.Journal (keeping g.K.Keeper g.K.ImageKeeper) g.H.HookHost) found found found c.args.self.now c.loop-k.self c.leave_silent.new.self c.args.tools.now c.loop-k.tools c.leave_silent.new.tools
           (before.leads found) (c.leave_silent.ensures.leads found);
       below = λ j place less here taken.
           let told : c.loop-k.self.times.steady - place.since ≤ c.loop-k.self.limits.idle = elim (eqb_tells j k) [

@@ -2,13 +2,14 @@ use Rattle.std.proofs.Common.{refl, sym, ◌∙◌}
 use Rattle.event_loop.specs.Reporting.{full}
 use Rattle.event_loop.specs.Served.{goes, reports}
 use Rattle.event_loop.specs.Scenes.{promises}
+use Rattle.image_keeper.specs.Keeping.{keeping}
 use Rattle.event_loop.proofs.Doing.{none_more}
 use Rattle.event_loop.proofs.Leading.{nowhere}
 use Rattle.event_loop.proofs.Resting.{settled_then}
 use Rattle.event_loop.proofs.service.Service.tell_full.Goals as goal
 
 pub returns-then-full-self-clause-leads : goal.returns-then-full-self-clause-leads
-returns-then-full-self-clause-leads g c = λ found. nowhere (promises g.N.Sockets g.C.Clocks g.J.Journal g.K.Keeper g.H.HookHost) found _ _
+returns-then-full-self-clause-leads g c = λ found. nowhere (promises g.N.Sockets g.C.Clocks g.J.Journal (keeping g.K.Keeper g.K.ImageKeeper) g.H.HookHost) found _ _
 
 pub returns-then-not-is_long_ago-clause-leads : goal.returns-then-not-is_long_ago-clause-leads
 returns-then-not-is_long_ago-clause-leads g c = λ found rules host first past h settled. record {

@@ -2,13 +2,14 @@ use Rattle.std.proofs.Common.{◌≤◌, ◌-◌, arith, refl}
 use Rattle.event_loop.specs.Reporting.{reported}
 use Rattle.event_loop.specs.Served.{goes, reports}
 use Rattle.event_loop.specs.Scenes.{promises}
+use Rattle.image_keeper.specs.Keeping.{keeping}
 use Rattle.event_loop.proofs.Doing.{none_more}
 use Rattle.event_loop.proofs.Leading.{nowhere}
 use Rattle.event_loop.proofs.Resting.{settled_then}
 use Rattle.event_loop.proofs.service.Service.tell_report.Goals as goal
 
 pub returns-then-saturating_sub-every : goal.returns-then-saturating_sub-every
-returns-then-saturating_sub-every g c = λ found. nowhere (promises g.N.Sockets g.C.Clocks g.J.Journal g.K.Keeper g.H.HookHost) found _ _
+returns-then-saturating_sub-every g c = λ found. nowhere (promises g.N.Sockets g.C.Clocks g.J.Journal (keeping g.K.Keeper g.K.ImageKeeper) g.H.HookHost) found _ _
 
 pub returns : goal.returns
 returns g c = λ found rules host first past h settled.

@@ -8,6 +8,7 @@ use Rattle.event_loop.specs.Places.{IsUnwritten}
 use Rattle.event_loop.specs.Writing.{sends, finds_no_room, fails}
 use Rattle.event_loop.specs.Served.{goes, writes}
 use Rattle.event_loop.specs.Scenes.{promises}
+use Rattle.image_keeper.specs.Keeping.{keeping}
 use Rattle.event_loop.proofs.Others.{takes_other}
 use Rattle.event_loop.proofs.Kept.{takes_kept}
 use Rattle.event_loop.proofs.Answering.{served_answered}
@@ -18,7 +19,7 @@ use Rattle.event_loop.proofs.service.Service.write.Goals as goal
 
 pub returns-in-Bytes : goal.returns-in-Bytes
 returns-in-Bytes g c = λ rules host first found past undone kept h.
-    let reached = (served_answered (promises g.N.Sockets g.C.Clocks g.J.Journal g.K.Keeper g.H.HookHost) rules host first _ h).reached in
+    let reached = (served_answered (promises g.N.Sockets g.C.Clocks g.J.Journal (keeping g.K.Keeper g.K.ImageKeeper) g.H.HookHost) rules host first _ h).reached in
     let place = c.place_at-place.result in
     let out = c.output-output.ensures.output rules host past.schedule past.world reached in
     let may = c.may_write.ensures.may c.if-not-may_write.false rules host past.schedule past.world reached in
@@ -43,7 +44,7 @@ returns-in-Bytes g c = λ rules host first found past undone kept h.
 
 pub returns-in-Later : goal.returns-in-Later
 returns-in-Later g c = λ rules host first found past undone kept h.
-    let reached = (served_answered (promises g.N.Sockets g.C.Clocks g.J.Journal g.K.Keeper g.H.HookHost) rules host first _ h).reached in
+    let reached = (served_answered (promises g.N.Sockets g.C.Clocks g.J.Journal (keeping g.K.Keeper g.K.ImageKeeper) g.H.HookHost) rules host first _ h).reached in
     let place = c.place_at-place.result in
     let may = c.may_write.ensures.may c.if-not-may_write.false rules host past.schedule past.world reached in
     record {
@@ -61,7 +62,7 @@ returns-in-Later g c = λ rules host first found past undone kept h.
 
 pub returns-in-Failed : goal.returns-in-Failed
 returns-in-Failed g c = λ rules host first found past undone kept h.
-    let reached = (served_answered (promises g.N.Sockets g.C.Clocks g.J.Journal g.K.Keeper g.H.HookHost) rules host first _ h).reached in
+    let reached = (served_answered (promises g.N.Sockets g.C.Clocks g.J.Journal (keeping g.K.Keeper g.K.ImageKeeper) g.H.HookHost) rules host first _ h).reached in
     let place = c.place_at-place.result in
     let may = c.may_write.ensures.may c.if-not-may_write.false rules host past.schedule past.world reached in
     record {
@@ -85,7 +86,7 @@ returns-then-not-may_write g c = λ rules host first found past undone kept h. r
     service_is = refl;
     world_is = refl;
     rests = λ place here.
-        let reached = (served_answered (promises g.N.Sockets g.C.Clocks g.J.Journal g.K.Keeper g.H.HookHost) rules host first _ h).reached in
+        let reached = (served_answered (promises g.N.Sockets g.C.Clocks g.J.Journal (keeping g.K.Keeper g.K.ImageKeeper) g.H.HookHost) rules host first _ h).reached in
         let unwritten : IsUnwritten c.place_at-place.result (connection_at past.world.connections c.args.k) = λ writable. c.may_write.ensures.rests c.if-not-may_write.true writable rules host past.schedule past.world reached in
         subst (λ q. IsUnwritten q (connection_at past.world.connections c.args.k)) (same_some c.place_at-place.result place (sym c.place_at-place.ensures ∙ here)) unwritten;
   });

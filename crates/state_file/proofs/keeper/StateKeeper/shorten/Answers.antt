@@ -10,8 +10,9 @@ use Rattle.state_file.specs.Renewing.{HasTooMuch}
 use Rattle.state_file.specs.Telling.{LeavesRules}
 use Rattle.state_file.proofs.Kept.{of_file}
 use Rattle.state_file.proofs.Known.{known_image}
-use Rattle.state_file.proofs.Renewed.{image_tells, keeps_image, keeps_no_image, too_much}
-use Rattle.state_file.proofs.keeper.StateKeeper.renew.Goals as goal
+use Rattle.state_file.specs.Knowing.{IsLong, IsLongFile}
+use Rattle.state_file.proofs.Renewed.{image_tells, keeps_image, keeps_no_image, not_long, too_much}
+use Rattle.state_file.proofs.keeper.StateKeeper.shorten.Goals as goal
 
 pub returns-in_err-bytes-clause-too_much : goal.returns-in_err-bytes-clause-too_much
 returns-in_err-bytes-clause-too_much g c = λ long.
@@ -68,3 +69,18 @@ returns-clause-failed g c _ registry first history m fits =
     subst P c.self.view_is
     (keeps_no_image seen may_leave g.D.Device.moment g.D.Device.left_since c.self.inside.file c.replace.new.self spell.image c.as_slice-3.result.now (c.as_slice-3.ensures.value ∙ spell.spelled) spell.fits
     history (λ stands. spell.is registry first history m fits (known.hooks_are history stands)) c.replace.ensures.any_moment)
+
+pub returns-then-is_short-clause-short : goal.returns-then-is_short-clause-short
+returns-then-is_short-clause-short g c =
+    let settled : IsTrue c.self.inside.settled = search rules in
+    let known = (c.self.invariant settled).1 in
+    let not : IsLongFile g.D.Device.seen c.self.inside.file → ⊥ =
+    subst (λ (n : ℕ). IsLong c.self.inside.file.end n → ⊥) known.image_is (c.is_short.ensures.short c.if-is_short.true) in
+    subst (λ (f : BatchFile g.row.D.Denot). IsLongFile g.D.Device.seen f → ⊥) c.self.view_is not
+
+pub returns-in-Ok-clause-left : goal.returns-in-Ok-clause-left
+returns-in-Ok-clause-left g c = λ short.
+    let settled : IsTrue c.self.inside.settled = search rules in
+    let known = (c.self.invariant settled).1 in
+    let long : IsLongFile g.D.Device.seen c.self.inside.file = subst (λ (n : ℕ). IsLong c.self.inside.file.end n) known.image_is (c.is_short.ensures.long c.if-is_short.false) in
+    absurd (short (subst (λ (f : BatchFile g.row.D.Denot). IsLongFile g.D.Device.seen f) c.self.view_is long))
