@@ -60,9 +60,9 @@ def want(truth, text):
 class Server:
     """A server that runs for one check."""
 
-    def __init__(self, silence=60, full=5, descriptors=None):
+    def __init__(self, silence=60, full=5, descriptors=None, options=()):
         self.errors = tempfile.TemporaryFile()
-        words = [program, "start", "127.0.0.1:0", registry, str(silence), str(full)]
+        words = [program, "start", "127.0.0.1:0", registry, str(silence), str(full), *options]
         limit = None
         if descriptors is not None:
             limit = lambda: resource.setrlimit(resource.RLIMIT_NOFILE, (descriptors, descriptors))
@@ -443,6 +443,52 @@ def many_at_once():
         return f"1,000 replies to 1,000 requests in one write, long ones and short ones; {active.seen()}"
 
 
+# The members of a report, each with its own members where it is an object.
+REPORT = {
+    "moment": None,
+    "seconds": None,
+    "connections": ["open", "accepted"],
+    "requests": [
+        "authorize", "consent", "token", "revoke", "introspect", "hooks", "hooks_remove", "hooks_list", "nowhere",
+    ],
+    "replies": ["200", "302", "400", "401", "403", "404", "405", "503"],
+    "unavailable": ["memory", "store_full", "drawn_twice", "consents_full"],
+    "denied_by_hooks": None,
+    "records": None,
+    "consents": None,
+    "hooks": None,
+}
+
+
+def reports():
+    """Each second a line of JSON says what was done."""
+    with Server(options=["--report", "1"]) as server:
+        connections = [server.connect(), server.connect()]
+        for connection in connections:
+            ask(connection)
+            ask(connection, NO_PATH, NO_PATH_REPLY)
+        connections[1].close()
+        began = time.time()
+        want(server.settle(lambda: any('"introspect":2' in line for line in server.lines())), f"no report: {server.lines()}")
+        time.sleep(1.2)
+        lines = [json.loads(line) for line in server.lines()]
+        for line in lines:
+            shape = {name: list(value) if isinstance(value, dict) else None for name, value in line.items()}
+            want(list(shape.items()) == list(REPORT.items()), f"the members are {shape}")
+        last = lines[-1]
+        want(len(lines) >= 2, f"one line in two seconds: {lines}")
+        want(abs(last["moment"] - began) < 5, f"it is {began}, and the line says {last['moment']}")
+        want(last["connections"] == {"open": 1, "accepted": 2}, f"connections: {last['connections']}")
+        asked = {name: count for name, count in last["requests"].items() if count}
+        want(asked == {"introspect": 2, "nowhere": 2}, f"requests: {asked}")
+        replied = {name: count for name, count in last["replies"].items() if count}
+        want(replied == {"200": 2, "404": 2}, f"replies: {replied}")
+        want(not any(last["unavailable"].values()), f"503s: {last['unavailable']}")
+        kept = (last["denied_by_hooks"], last["records"], last["consents"], last["hooks"])
+        want(kept == (0, 0, 0, 0), f"denied by hooks, records, consents and hooks are {kept}")
+        return f"{len(lines)} lines, the last of which counts 4 requests of 2 connections"
+
+
 CHECKS = {
     "63-idle-and-one-active": sixty_three_idle,
     "64-idle-and-a-65th": a_sixty_fifth,
@@ -455,6 +501,7 @@ CHECKS = {
     "20-descriptors": twenty_descriptors,
     "faulty-head-and-90-KB": faulty_heads,
     "half-closed": half_closed,
+    "reports": reports,
 }
 
 

@@ -15,8 +15,6 @@ pub enum Want {
     FreshDraw,
     /// As many consents are kept as may be.
     ConsentRoom,
-    /// The registry lacks the token's client.
-    Client,
 }
 
 /// What is wanting by why the store refuses codes or tokens: a fresh draw, unless it is full.

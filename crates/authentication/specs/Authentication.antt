@@ -82,6 +82,15 @@ abbrev pub HasSent : Option (List ℕ) → List (List ℕ × List ℕ) → List 
 HasSent None params id secret = (value_of (codes "client_id") params ≡ Some id) × (value_of (codes "client_secret") params ≡ Some secret)
 HasSent (Some header) params id secret = basic_credentials header ≡ Ok (id, secret)
 
+-- this number's client has this identifier and this secret
+abbrev pub AreCredentialsOf : List ClientRecord → ℕ → List ℕ → List ℕ → Type 0
+AreCredentialsOf clients number id secret = (number_of id (ids clients) ≡ Some number) × (is_secret_of number clients secret ≡ true)
+
+-- the request has the identifier and a secret of this number's client
+abbrev pub IsSender : List ClientRecord → Option (List ℕ) → List (List ℕ × List ℕ) → ℕ → Type 0
+IsSender clients header params number =
+    (id : List ℕ) × (secret : List ℕ) × HasSent header params id secret × AreCredentialsOf clients number id secret
+
 -- the Basic header of an identifier and a secret: both form-encoded, a colon between them, in base64
 abbrev pub basic_header : List ℕ → List ℕ → List ℕ
 basic_header id secret = codes "Basic " ++ encode_of standard (byte_serialize id ++ 58 ∷ byte_serialize secret)

@@ -8,13 +8,9 @@ use Rattle.clients.specs.Faults.{◌>>=◌}
 use Rattle.clients.specs.Numbers.{number_of}
 use Rattle.clients.specs.Clients.{ids, has_secret}
 use Rattle.clients.specs.ClientRecord.{ClientRecord}
-use Rattle.authentication.specs.Authentication.{basic_credentials, is_secret_of, identified, authenticated, HasSent}
+use Rattle.authentication.specs.Authentication.{AreCredentialsOf, basic_credentials, is_secret_of, identified, authenticated, IsSender}
 use Rattle.clients.specs.RegistryLaws.{then_ok, option_ok}
 use Rattle.authentication.specs.declared.authentication.AuthFault.TheVariants.{NoClient, BadSecret, TwoMethods}
-
--- this number's client has this identifier and this secret
-abbrev pub AreCredentialsOf : List ClientRecord → ℕ → List ℕ → List ℕ → Type 0
-AreCredentialsOf clients number id secret = (number_of id (ids clients) ≡ Some number) × (is_secret_of number clients secret ≡ true)
 
 identified-from : (clients : List ClientRecord) (named : Option (List ℕ)) (id secret : List ℕ) (number : ℕ)
     → identified clients named id secret ≡ Ok number → AreCredentialsOf clients number id secret
@@ -31,7 +27,7 @@ identified-from clients named id secret number ok =
 
 -- an authenticated client's identifier and secret were sent
 pub authenticated-from : (clients : List ClientRecord) (header : Option (List ℕ)) (params : List (List ℕ × List ℕ)) (number : ℕ)
-    → authenticated clients header params ≡ Ok number → (id : List ℕ) × (secret : List ℕ) × HasSent header params id secret × AreCredentialsOf clients number id secret
+    → authenticated clients header params ≡ Ok number → IsSender clients header params number
 authenticated-from clients None params number ok =
     let id = then_ok (ok_or (value_of (codes "client_id") params) NoClient) _ number ok in
     let secret = then_ok (ok_or (value_of (codes "client_secret") params) NoClient) _ number id.2 in (
@@ -43,7 +39,7 @@ authenticated-from clients None params number ok =
 authenticated-from clients (Some header) params number ok = by (is_some (value_of (codes "client_secret") params)) ok
   where
     by : (beside : Bool) → (if beside then Err TwoMethods else (basic_credentials header >>= (λ sent. identified clients (value_of (codes "client_id") params) sent.0 sent.1))) ≡ Ok number
-        → (id : List ℕ) × (secret : List ℕ) × HasSent (Some header) params id secret × AreCredentialsOf clients number id secret
+        → IsSender clients (Some header) params number
     by true is = cc is
     by false is =
         let sent = then_ok (basic_credentials header) (λ sent. identified clients (value_of (codes "client_id") params) sent.0 sent.1) number is in

@@ -11,7 +11,7 @@ ghost use Rattle.authentication.specs.FaultTexts.{auth_fault_text};
 ghost use Rattle.clients.specs.Faults.{GivesUnless, seen_by};
 ghost use Rattle.clients.specs.Numbers.{number_of};
 ghost use Rattle.clients.specs.Clients.{ids};
-ghost use Rattle.authentication.specs.Authentication.{is_basic, basic_text, around_colon, form_text, basic_credentials, is_secret_of, identified, authenticated, wants_memory};
+ghost use Rattle.authentication.specs.Authentication.{is_basic, basic_text, around_colon, form_text, basic_credentials, is_secret_of, identified, authenticated, wants_memory, IsSender};
 ghost use Rattle.authentication.specs.declared.authentication.AuthFault.TheVariants.{Memory};
 
 use base64::DecodeAllocError;
@@ -272,7 +272,7 @@ fn by_header_or_parameters(
 
 /// The client that a request authenticates, by the value of its Authorization header or, without one, by its parameters
 /// `client_id` and `client_secret` (RFC 6749, section 2.3.1). Beside a header, `client_secret` and the `client_id` of
-/// another client are refused.
+/// another client are refused. Who is authenticated has sent its identifier and a secret of its own.
 pub fn authenticate(
     alloc: Global,
     registry: &Registry,
@@ -282,6 +282,7 @@ pub fn authenticate(
     ensures value { GivesUnless AuthFault.Memory (wants_memory (option_copied header.entry) params.now ≡ true) result
         (authenticated registry.now.clients (option_copied header.entry) params.now) }
     ensures listed { IfOk result (λ number. number ≤ length registry.now.clients) }
+    ensures sent { IfOk result (λ number. IsSender registry.now.clients (option_copied header.entry) params.now number) }
 {
     by_header_or_parameters(alloc, registry, header, params)
 }

@@ -1,13 +1,13 @@
 //! A file of batches: they are added one by one, or all of them are replaced by one.
 
-ghost use Rattle.std.specs.Prelude.{◌≡◌, ◌<◌, ◌≤◌, ◌^◌, ◌++◌, [], ◌∷◌, List, ℕ, length, take, IfOk, OnOk, IsErrOf, Some};
+ghost use Rattle.std.specs.Prelude.{◌≡◌, ◌<◌, ◌≤◌, ◌^◌, ◌+◌, ◌++◌, [], ◌∷◌, List, ℕ, length, take, IfOk, OnOk, IsErrOf, Some};
 ghost use Rattle.batch_file.specs.declared.appending.BatchFault.TheVariants.{Memory};
 ghost use Rattle.batch_file.specs.Crashes.{Cut, HasCause, Holds, LeavesOnly, Only, Torn};
 ghost use Rattle.batch_file.specs.FaultTexts.{batch_fault_text, of_device};
-ghost use Rattle.batch_file.specs.Frames.{lists, recovered, IsAtRest, IsBeforeOrAfter, IsOldOrNew, IsSettled};
+ghost use Rattle.batch_file.specs.Frames.{frame, lists, recovered, IsAtRest, IsBeforeOrAfter, IsOldOrNew, IsSettled};
 
 use crate::device::{Device, DeviceFault};
-use crate::framing::{Batches, body_of, file_of, read_batches};
+use crate::framing::{Batches, body_of, read_batches};
 use std::alloc::{AllocError, Global};
 use std::fmt::{self, Display, Formatter, Write};
 
@@ -98,24 +98,21 @@ impl<D: Device> BatchFile<D> {
         Ok(())
     }
 
-    /// Puts one batch in the place of all. At `Ok` each crash leaves it and nothing else.
-    /// At `Failed` and `Memory`, open the file again.
-    pub fn replace(&mut self, alloc: Global, batch: &[u8]) -> Result<(), BatchFault>
-        requires { IsSettled D.seen D.may_leave self.old }
+    /// Puts one batch in the place of all, by the file that `file_of` makes of it. At `Ok` each crash leaves it and nothing
+    /// else. Where it fails, open the file again.
+    pub fn replace(&mut self, batch: &[u8], file: &[u8]) -> Result<(), DeviceFault>
+        requires settled { IsSettled D.seen D.may_leave self.old }
+        requires short { length batch.now < 2 ^ 32 }
+        requires file { file.now ≡ frame batch.now ++ 0 ∷ [] }
         ensures settled { OnOk result (IsSettled D.seen D.may_leave self.new) }
         ensures alone { OnOk result (recovered (D.seen self.new.device) ≡ batch.now ∷ []) }
+        ensures end { OnOk result (self.new.end ≡ 5 + length batch.now) }
         // A crash at any moment of the call leaves the batches from before it, or the new one alone.
         ensures any_moment { LeavesOnly D.moment D.left_since self.old.device self.new.device
             (IsOldOrNew (recovered (D.seen self.old.device)) batch.now) }
-        ensures failed { IsErrOf result BatchFault.Failed → D.faults self.old.device < D.faults self.new.device }
-        ensures full { IsErrOf result BatchFault.Full → ⊥ }
-        ensures too_long { IsErrOf result BatchFault.TooLong → 2 ^ 32 ≤ length batch.now }
+        ensures failed { IsErrOf result DeviceFault.Failed → D.faults self.old.device < D.faults self.new.device }
     {
-        if batch.len() > MAX_BATCH {
-            return Err(BatchFault::TooLong);
-        }
-        let file = file_of(alloc, batch)?;
-        self.device.replace(&file)?;
+        self.device.replace(file)?;
         self.end = 5 + batch.len();
         Ok(())
     }

@@ -75,7 +75,7 @@ pub(crate) fn body_of(alloc: Global, batch: &[u8]) -> Result<Vec<u8>, AllocError
 }
 
 /// A file of one batch.
-pub(crate) fn file_of(alloc: Global, batch: &[u8]) -> Result<Vec<u8>, AllocError>
+pub fn file_of(alloc: Global, batch: &[u8]) -> Result<Vec<u8>, AllocError>
     requires { length batch.now < 2 ^ 32 }
     ensures { IfOk result (λ out. out.items ≡ frame batch.now ++ 0 ∷ []) }
 {

@@ -11,3 +11,5 @@ pub mod device;
 pub mod disk_file;
 pub mod framing;
 pub mod in_memory;
+
+pub use framing::file_of;

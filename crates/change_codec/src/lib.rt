@@ -33,4 +33,4 @@ pub use decoding::decode;
 pub use encoding::encode;
 pub use fault::{ChangeFault, DecodeFault, EncodeFault};
 pub use keeper::{KeepFault, Keeper, NoKeeper};
-pub use laws::bytes_spell_one_list;
+pub use laws::{bytes_spell_one_list, dated_changes_lead_on};

@@ -113,6 +113,28 @@ module _ {H : Type 0} (hosting : Hosting H) where
     noted = λ kept before. step.noted kept (subst (λ u. AreUnkept u kept history) (sym same) before);
   }
 
+  -- what has expired is let go of, behind a step
+  pub swept_step : (old mid : Seen H) (kept : Held) (outcome : Outcome) (reply : Written) (rules : RegistryRecord) (first : H) (history : List Event) (m : ℕ) →
+      ((history : List Event) → FitsStore mid.store history mid.greatest → FitsStore kept history mid.greatest) →
+      IsStep hosting.installs hosting.removes outcome reply old mid rules first history m →
+      IsStep hosting.installs hosting.removes outcome reply old (record mid { store = kept }) rules first history m
+  swept_step old mid kept outcome reply rules first history m dropped step =
+      let fits = step.fits in
+      let after = with_changes history m outcome.changes in
+      record {
+        reply_is = step.reply_is;
+        fits = record {
+          rules_are = fits.rules_are;
+          greatest_is = fits.greatest_is;
+          store =
+              subst (λ (n : ℕ). FitsStore mid.store after n → FitsStore kept after n) fits.greatest_is (dropped after) fits.store;
+          consents = fits.consents;
+          hosts = fits.hosts;
+          right = fits.right;
+        };
+        noted = step.noted;
+      }
+
   -- what happens at an endpoint is what happens at its path
   pub stepped : (older old new : Seen H) (wanted : RegistryRecord) (first : H) (history : List Event) (endpoint : Endpoint) (asked : Asked) (draws : Draws) (reply : Written) →
       endpoint_at (path_of asked.target) ≡ Some endpoint → bytes_eq asked.method (method_at endpoint) ≡ true →

@@ -1,6 +1,6 @@
 -- What the endpoints do but the token endpoint may come next and is right.
 use Rattle.std.proofs.Common.{◌≡◌, ◌⊎◌, inl, inr, ℕ, List, [], ◌∷◌, true, Option, Some, None, length, refl, ap, ◌∙◌}
-use Rattle.std.specs.Prelude.{◌==◌, not, codes, bytes_eq, option_and_then}
+use Rattle.std.specs.Prelude.{◌==◌, not, codes, bytes_eq, is_some, option_and_then}
 use Rattle.std.specs.Option.{option_map_or}
 use Rattle.std.specs.Result.{result_ok}
 use Rattle.sha2.specs.Sha256.{sha256}
@@ -28,7 +28,7 @@ use Rattle.answers.specs.Requesters.{Parameters, KnownClient, known_client, clie
 use Rattle.answers.specs.Texts.{digest_told, where_passes}
 use Rattle.answers.specs.Tokens.{live_token}
 use Rattle.endpoints.specs.Authorize.{authorize, authorize_known, challenge_sent, code_given, state_of, turned_back}
-use Rattle.endpoints.specs.Bounded.{AllRightAfter, allowed_to}
+use Rattle.endpoints.specs.Bounded.{AllRightAfter, MayHave, allowed_to}
 use Rattle.endpoints.specs.ConsentPath.{give_consent, consent_points, consent_given}
 use Rattle.endpoints.specs.HookPaths.{is_operator, list_hooks}
 use Rattle.endpoints.specs.Introspect.{introspect, introspect_points, told}
@@ -119,8 +119,7 @@ module _ (rules : RegistryRecord) (history : List Event) (m : ℕ) (is : IsHisto
 
   told_fair : (o : Option Grant) → Fair (told rules o)
   told_fair None = still _
-  told_fair (Some token) =
-      need_all Fair still {A = ClientRecord} (client_at token.client rules.clients) unavailable _ (unavailable_all Fair still) (λ client _. still _)
+  told_fair (Some token) = still _
 
   pub introspect_fair : (asked : Asked) → Fair (introspect rules history asked m)
   introspect_fair asked =
@@ -131,7 +130,7 @@ module _ (rules : RegistryRecord) (history : List Event) (m : ℕ) (is : IsHisto
   -- AUTHORIZATION
 
   code_fair : (draw : List ℕ) (params : Parameters) (client owner scope : ℕ) (uri challenge : List ℕ) →
-      is_within scope (allowed_to rules client) ≡ true → is_within scope (consented_scope history owner client) ≡ true →
+      MayHave rules client scope → is_within scope (consented_scope history owner client) ≡ true →
       Fair (code_given history m draw params client owner scope uri challenge)
   code_fair draw params client owner scope uri challenge allowed consented =
       unless_all Fair still history m (sha256 draw ∷ [])
@@ -154,7 +153,8 @@ module _ (rules : RegistryRecord) (history : List Event) (m : ℕ) (is : IsHisto
       need_all Fair still {A = ℕ} (owner_of rules asked) (turned AccessDenied) (by_consent challenge scope) (back AccessDenied) (λ owner _.
       point_all Fair still (not (is_within scope (consented_scope history owner known.number))) (turned AccessDenied) (given challenge scope owner) (λ _. back AccessDenied) (λ consented.
       code_fair draw params known.number owner scope uri challenge
-      (ap (is_within scope) allowed ∙ scope_is_within rules known.client.allowed params scope within) (not_false _ consented))))))))
+      (record { is_client = ap is_some at; within = ap (is_within scope) allowed ∙ scope_is_within rules known.client.allowed params scope within })
+      (not_false _ consented))))))))
     where
       turned : ErrorName → Outcome
       turned error = turned_back uri params error

@@ -10,5 +10,6 @@ pub mod ReadingOn
 pub mod Ruled
 pub mod Shorter
 pub mod Answering
+pub mod Sweeping
 pub mod Besides
 pub mod Redoing

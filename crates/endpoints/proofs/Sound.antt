@@ -3,7 +3,7 @@ use Rattle.std.proofs.Common.{◌≡◌, ◌≤◌, ℕ, List, [], ◌∷◌, �
 use Rattle.std.specs.Prelude.{◌⊎◌, ◌==◌, not, codes, if◌then◌else◌, option_and_then}
 use Rattle.std.proofs.lemmas.Bool.{eq-eqb, false≢true, and_parts}
 use Rattle.clients.specs.RegistryRecord.{RegistryRecord}
-use Rattle.consent.specs.History.{Event, Change, Grant, event_at, grant_by, grant_at, is_code, is_within, code_terms, has_ended, is_spent, has_room, is_taken, with_change}
+use Rattle.consent.specs.History.{Event, Change, Grant, event_at, grant_by, grant_at, is_code, is_within, code_terms, has_ended, is_spent, has_room, is_taken}
 use Rattle.consent.specs.History.Change.{Consented, CodeGiven, Issued, Spent, FamilyEnded, HookSet, HookGone}
 use Rattle.consent.specs.GrowthLaws.{code_terms-keep, has_ended-push_other}
 use Rattle.consent.specs.HistoryLaws.{grant_at-given}
@@ -14,9 +14,12 @@ use Rattle.messages.specs.declared.error.ErrorName.{ErrorName}
 use Rattle.messages.specs.declared.error.ErrorName.TheVariants.{InvalidRequest, InvalidGrant, InvalidScope}
 use Rattle.params.specs.Form.{value_of}
 use Rattle.token_endpoint.specs.Exchange.{ends_family}
-use Rattle.endpoints.specs.Bounded.{IsRight, AllRight, IsOfCode, allowed_to}
+use Rattle.endpoints.specs.Bounded.{IsRight, AllRight, IsOfCode, IsOwn, MayHave, allowed_to}
+use Rattle.endpoints.specs.BoundedLaws.{own-later}
 use Rattle.consent.specs.declared.grant.Kind.{Kind}
 use Rattle.consent.specs.declared.grant.Kind.TheVariants.{Code, Token}
+use Rattle.consent.specs.declared.grant.TokenKind.TheVariants.{Access}
+use Rattle.sha2.specs.Sha256.{sha256}
 use Rattle.consent.specs.CoveredLaws.{is_within-trans}
 use Rattle.answers.specs.Tokens.{is_refresh}
 use Rattle.hook_record.specs.declared.Ask.{Ask}
@@ -59,31 +62,36 @@ all_right-at rules start [] later e all = subst (λ h. IsRight rules h e.change)
 all_right-at rules start (x ∷ before) later e all =
     subst (λ h. IsRight rules h e.change) (append_assoc start (x ∷ []) before) (all_right-at rules (start ++ x ∷ []) before later e all.1)
 
+-- a client that may have a scope may have less
+pub may_have-less : (rules : RegistryRecord) (client scope less : ℕ) → MayHave rules client scope → is_within less scope ≡ true → MayHave rules client less
+may_have-less rules client scope less may within =
+    record { is_client = may.is_client; within = is_within-trans less scope (allowed_to rules client) within may.within }
+
 -- a token keeps to what its client may be allowed, and to its code's scope
 abbrev pub IsRightToken : RegistryRecord → List Event → Grant → Type 0
 IsRightToken rules history g =
-    (is_within g.scope (allowed_to rules g.client) ≡ true)
-    × ((g.owner ≡ 0) ⊎ ((s : ℕ) × (code_terms history g.family ≡ Some (record { client = g.client; owner = g.owner; scope = s })) × (is_within g.scope s ≡ true)))
+    MayHave rules g.client g.scope
+    × (IsOwn history g.family g.owner ⊎ ((s : ℕ) × (code_terms history g.family ≡ Some (record { client = g.client; owner = g.owner; scope = s })) × (is_within g.scope s ≡ true)))
 
 pub same_grant : (x g : Grant) → Some x ≡ Some g → x ≡ g
 same_grant x g e = cc
 
 right_change : (rules : RegistryRecord) (before later : List Event) (e : Event) (moment : ℕ) (c : Change) (g : Grant) →
-    grant_by moment c ≡ Some g → IsRight rules before c → is_code g.kind ≡ false → IsRightToken rules (before ++ e ∷ later) g
-right_change rules before later e moment (Consented owner client mask) g at right token = cc
-right_change rules before later e moment (Spent digest) g at right token = cc
-right_change rules before later e moment (FamilyEnded family) g at right token = cc
-right_change rules before later e moment (HookSet name version code) g at right token = cc
-right_change rules before later e moment (HookGone name) g at right token = cc
-right_change rules before later e moment (CodeGiven family client owner scope redirect challenge digest) g at right token =
+    e.change ≡ c → grant_by moment c ≡ Some g → IsRight rules before c → is_code g.kind ≡ false → IsRightToken rules (before ++ e ∷ later) g
+right_change rules before later e moment (Consented owner client mask) g is at right token = cc
+right_change rules before later e moment (Spent digest) g is at right token = cc
+right_change rules before later e moment (FamilyEnded family) g is at right token = cc
+right_change rules before later e moment (HookSet name version code) g is at right token = cc
+right_change rules before later e moment (HookGone name) g is at right token = cc
+right_change rules before later e moment (CodeGiven family client owner scope redirect challenge digest) g is at right token =
     let same = same_grant _ g at in absurd (false≢true (sym token ∙ sym (ap (λ (x : Grant). is_code x.kind) same)))
-right_change rules before later e moment (Issued family client owner kind digest scope life) g at right token =
+right_change rules before later e moment (Issued family client owner kind digest scope life) g is at right token =
     let same = same_grant _ g at in
     subst (λ (x : Grant). IsRightToken rules (before ++ e ∷ later) x) same (right.0, by_owner right.2)
   where
-    by_owner : ((owner ≡ 0) ⊎ IsOfCode before family client owner scope) →
-        (owner ≡ 0) ⊎ ((s : ℕ) × (code_terms (before ++ e ∷ later) family ≡ Some (record { client = client; owner = owner; scope = s })) × (is_within scope s ≡ true))
-    by_owner (inl none) = inl none
+    by_owner : (IsOwn before family owner ⊎ IsOfCode before family client owner scope) →
+        IsOwn (before ++ e ∷ later) family owner ⊎ ((s : ℕ) × (code_terms (before ++ e ∷ later) family ≡ Some (record { client = client; owner = owner; scope = s })) × (is_within scope s ≡ true))
+    by_owner (inl own) = inl (own-later before later e family client owner kind digest scope life is own)
     by_owner (inr of) = inr (of.0, code_terms-keep before (e ∷ later) family _ of.1, of.2)
 
 pub right_token : (rules : RegistryRecord) (history : List Event) (digest : List ℕ) (m : ℕ) (g : Grant) → AllRight rules [] history →
@@ -92,7 +100,7 @@ right_token rules history digest m g all at token =
     let given = grant_at-given history digest m g at in
     let right = all_right-at rules [] given.before given.later given.event (subst (λ h. AllRight rules [] h) given.whole all) in
     subst (λ h. IsRightToken rules h g) (sym given.whole)
-    (right_change rules given.before given.later given.event given.event.moment given.event.change g given.gives_it right token)
+    (right_change rules given.before given.later given.event given.event.moment given.event.change g refl given.gives_it right token)
 
 pub passes : {A : Type 0} (test : A → Bool) (o : Option A) (x : A) → where_passes test o ≡ Some x → (o ≡ Some x) × (test x ≡ true)
 passes test None x e = absurd (cc)
@@ -134,25 +142,28 @@ rotated_sound rules history m draws digest token scope life right alive within s
     (record {
       quiet = (tt, (tt, (tt, tt)));
       right = (
-        (is_within-trans scope token.scope (allowed_to rules token.client) within right.0, short, first right.1),
+        (may_have-less rules token.client token.scope scope right.0 within, short, first right.1),
         ((right.0, omega arith, second right.1), (tt, tt)),
       );
     })
   where
-    first : (token.owner ≡ 0) ⊎ ((s : ℕ) × (code_terms history token.family ≡ Some (record { client = token.client; owner = token.owner; scope = s })) × (is_within token.scope s ≡ true)) →
-        (token.owner ≡ 0) ⊎ IsOfCode history token.family token.client token.owner scope
-    first (inl none) = inl none
+    first : IsOwn history token.family token.owner ⊎ ((s : ℕ) × (code_terms history token.family ≡ Some (record { client = token.client; owner = token.owner; scope = s })) × (is_within token.scope s ≡ true)) →
+        IsOwn history token.family token.owner ⊎ IsOfCode history token.family token.client token.owner scope
+    first (inl own) = inl own
     first (inr of) = inr (of.0, of.1, is_within-trans scope token.scope of.0 within of.2, alive)
 
-    second : (token.owner ≡ 0) ⊎ ((s : ℕ) × (code_terms history token.family ≡ Some (record { client = token.client; owner = token.owner; scope = s })) × (is_within token.scope s ≡ true)) →
-        (token.owner ≡ 0) ⊎ IsOfCode (with_change history m (access_issued token.family token.client token.owner draws.first scope life)) token.family token.client token.owner token.scope
-    second (inl none) = inl none
+    issued : Event
+    issued = event_at m (access_issued token.family token.client token.owner draws.first scope life)
+
+    second : IsOwn history token.family token.owner ⊎ ((s : ℕ) × (code_terms history token.family ≡ Some (record { client = token.client; owner = token.owner; scope = s })) × (is_within token.scope s ≡ true)) →
+        IsOwn (history ++ issued ∷ []) token.family token.owner ⊎ IsOfCode (history ++ issued ∷ []) token.family token.client token.owner token.scope
+    second (inl own) = inl (own-later history [] issued token.family token.client token.owner Access (sha256 draws.first) scope life refl own)
     second (inr of) =
         inr (
           of.0,
-          code_terms-keep history (event_at m (access_issued token.family token.client token.owner draws.first scope life) ∷ []) token.family _ of.1,
+          code_terms-keep history (issued ∷ []) token.family _ of.1,
           of.2,
-          has_ended-push_other history (event_at m (access_issued token.family token.client token.owner draws.first scope life)) token.family refl ∙ alive,
+          has_ended-push_other history issued token.family refl ∙ alive,
         )
 
 refreshed_sound : (rules : RegistryRecord) (history : List Event) (m : ℕ) (draws : Draws) (digest : List ℕ) (token : Grant) (asked : ℕ) (ask : Ask) (answer : Narrowed) →

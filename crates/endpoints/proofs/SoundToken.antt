@@ -25,7 +25,7 @@ use Rattle.messages.specs.Asked.{Asked}
 use Rattle.answers.specs.Outcomes.{status_of, Outcome, point, need, refuse}
 use Rattle.messages.specs.Reply.{plain}
 use Rattle.messages.specs.Reply.Body.{Failure}
-use Rattle.endpoints.specs.Bounded.{AllRight, allowed_to}
+use Rattle.endpoints.specs.Bounded.{AllRight, MayHave}
 use Rattle.answers.specs.Requesters.{Parameters, KnownClient, scope_within}
 use Rattle.pkce.specs.Proof.{proves}
 use Rattle.answers.specs.Texts.{digest_told}
@@ -47,7 +47,7 @@ module _ (rules : RegistryRecord) (history : List Event) (m : ℕ) where
   error_sound error = still rules history m (plain (status_of error) (Failure error))
 
   code_left : (draws : Draws) (client : ClientRecord) (digest : List ℕ) (code : Grant) (ask : Ask) (answer : Narrowed) →
-      ask.scope ≡ code.scope → ask.life ≡ rules.access_life → is_within code.scope (allowed_to rules code.client) ≡ true →
+      ask.scope ≡ code.scope → ask.life ≡ rules.access_life → MayHave rules code.client code.scope →
       code_terms history code.family ≡ Some (record { client = code.client; owner = code.owner; scope = code.scope }) →
       has_ended history code.family ≡ false →
       (left : Narrowed) → met_with ask answer ≡ left → IsSound rules history m (exchanged rules history m draws client digest code left)
@@ -98,11 +98,11 @@ module _ (rules : RegistryRecord) (history : List Event) (m : ℕ) where
       last : List ℕ → List ℕ → List ℕ → Outcome
       last text uri verifier = need (digest_told text) (refuse InvalidGrant) (λ digest. code_points history m known.number uri verifier digest (next digest))
 
-  credentials_sound : (answer : Ask → Narrowed) (draws : Draws) (params : Parameters) (known : KnownClient) →
+  credentials_sound : (answer : Ask → Narrowed) (draws : Draws) (params : Parameters) (known : KnownClient) → IsHistory history m →
       client_at known.number rules.clients ≡ Some known.client → IsSound rules history m (client_credentials rules history answer m draws params known)
-  credentials_sound answer draws params known at =
+  credentials_sound answer draws params known is at =
       sound_need {A = ℕ} rules history m (scope_within rules known.client.allowed params) (refuse InvalidScope) next (error_sound InvalidScope) (λ scope within.
-      granted_sound rules history m draws known.number known.client scope (credentials_ask rules m known scope) (answer (credentials_ask rules m known scope)) at refl refl
+      granted_sound rules history m draws known.number known.client scope (credentials_ask rules m known scope) (answer (credentials_ask rules m known scope)) is at refl refl
       (scope_is_within rules known.client.allowed params scope within))
     where
       next : ℕ → Outcome
@@ -113,7 +113,7 @@ module _ (rules : RegistryRecord) (history : List Event) (m : ℕ) where
       IsSound rules history m (grant_points grant rules history answer m draws params known)
   grant_sound AuthorizationCode answer draws params known is all at = exchange_sound answer draws params known is all
   grant_sound RefreshToken answer draws params known is all at = refresh_sound rules history answer m draws params known all
-  grant_sound ClientCredentials answer draws params known is all at = credentials_sound answer draws params known at
+  grant_sound ClientCredentials answer draws params known is all at = credentials_sound answer draws params known is at
 
   points_sound : (answer : Ask → Narrowed) (draws : Draws) (params : Parameters) (known : KnownClient) →
       IsHistory history m → AllRight rules [] history → client_at known.number rules.clients ≡ Some known.client →

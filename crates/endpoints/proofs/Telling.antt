@@ -4,8 +4,6 @@ use Rattle.std.specs.Prelude.{◌==◌, not, if◌then◌else◌}
 use Rattle.std.proofs.lemmas.Bool.{eq-eqb, eqb-true, false≢true}
 use Rattle.params.specs.Scope.{scope_text}
 use Rattle.clients.specs.RegistryRecord.{RegistryRecord}
-use Rattle.clients.specs.ClientRecord.{ClientRecord}
-use Rattle.clients.specs.Clients.{client_at}
 use Rattle.clients.specs.Owners.{sub_of}
 use Rattle.consent.specs.History.{Event, Grant, grant_at, has_consent_room, is_code, is_good, live_grant, where_good}
 use Rattle.consent.specs.History.Change.{Consented, FamilyEnded}
@@ -84,21 +82,16 @@ other_refused number g other = by_test (g.client == number) refl
     by_test false is = rw is refl
 
 -- what is told of a live token
-pub active_told : (rules : RegistryRecord) (g : Grant) (client : ClientRecord) (kind : TokenKind) (issued expires : ℕ) →
-    client_at g.client rules.clients ≡ Some client → g.kind ≡ Token kind → issued ≡ g.moment → expires ≡ g.moment + g.life →
+pub active_told : (rules : RegistryRecord) (g : Grant) (kind : TokenKind) (issued expires : ℕ) → g.kind ≡ Token kind → issued ≡ g.moment → expires ≡ g.moment + g.life →
     introspection.told rules (Some g) ≡ only (plain 200 (Active (id_of rules g.client) expires issued (scope_text rules.scopes g.scope) (sub_of g.owner rules.owners) kind))
-active_told rules g client kind issued expires at is_kind is_issued is_expires = rw (at, is_kind, is_issued, is_expires) refl
-
-pub nobody_told : (rules : RegistryRecord) (g : Grant) → client_at g.client rules.clients ≡ None → introspection.told rules (Some g) ≡ unavailable
-nobody_told rules g at = rw at refl
+active_told rules g kind issued expires is_kind is_issued is_expires = rw (is_kind, is_issued, is_expires) refl
 
 no_token : (k : Kind) → ((t : TokenKind) → k ≡ Token t → ⊥) → k ≡ Code
 no_token Code other = refl
 no_token (Token t) other = absurd (other t refl)
 
-pub code_told : (rules : RegistryRecord) (g : Grant) (client : ClientRecord) → client_at g.client rules.clients ≡ Some client →
-    ((t : TokenKind) → g.kind ≡ Token t → ⊥) → introspection.told rules (Some g) ≡ only (plain 200 Inactive)
-code_told rules g client at other = rw (at, no_token g.kind other) refl
+pub code_told : (rules : RegistryRecord) (g : Grant) → ((t : TokenKind) → g.kind ≡ Token t → ⊥) → introspection.told rules (Some g) ≡ only (plain 200 Inactive)
+code_told rules g other = rw (no_token g.kind other) refl
 
 not_false : (b : Bool) → not b ≡ false → b ≡ true
 not_false true h = refl

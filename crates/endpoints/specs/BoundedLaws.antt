@@ -1,13 +1,42 @@
 -- A history of right changes is bounded.
-use Rattle.std.proofs.Common.{◌≡◌, ◌≤◌, ◌⊎◌, inl, inr, ℕ, List, [], ◌∷◌, ◌++◌, true, false, append_assoc, append-nil, sym, ◌∙◌, arith, subst}
-use Rattle.std.specs.Prelude.{count_by}
+use Rattle.std.proofs.Common.{◌≡◌, ◌≤◌, ◌⊎◌, inl, inr, ℕ, List, [], ◌∷◌, ◌++◌, true, false, Option, Some, None, refl, ap, append_assoc, append-nil, sym, ◌∙◌, arith, subst}
+use Rattle.std.specs.Prelude.{◌==◌, count_by, find}
+use Rattle.std.specs.List.{cons_option}
+use Rattle.std.specs.Option.{option_or}
+use Rattle.std.proofs.lemmas.Bool.{eq-eqb}
 use Rattle.clients.specs.RegistryRecord.{RegistryRecord}
-use Rattle.consent.specs.History.{Event, Change, grants, is_code_of, is_within, consented_scope, has_ended, IsHistory}
+use Rattle.consent.specs.History.{Event, Change, Grant, grant_by, grants, opener, is_code_of, is_within, consented_scope, has_ended, IsHistory}
 use Rattle.consent.specs.History.Change.{Consented, CodeGiven, Issued, Spent, FamilyEnded, HookSet, HookGone}
 use Rattle.consent.specs.Covered.{IsCovered, IsConsented}
 use Rattle.consent.specs.CoveredLaws.{is_covered-start, is_covered-push, is_within-trans}
-use Rattle.consent.specs.GrowthLaws.{count_by-append, code_terms-keep}
-use Rattle.endpoints.specs.Bounded.{IsRight, AllRight, IsAllowed, IsConsentedBefore, IsConsentedAt, IsBounded, IsOfCode}
+use Rattle.consent.specs.GrowthLaws.{count_by-append, code_terms-keep, opener-append}
+use Rattle.consent.specs.declared.grant.TokenKind.{TokenKind}
+use Rattle.endpoints.specs.Bounded.{IsRight, AllRight, IsAllowed, IsConsentedBefore, IsConsentedAt, IsBounded, IsOfCode, IsOwn, is_of_code}
+
+-- what opened the family is no code, also where more has happened
+no_code-append : (history more : List Event) (family : ℕ) → is_of_code (opener history family) ≡ false → is_of_code (opener more family) ≡ false →
+    is_of_code (opener (history ++ more) family) ≡ false
+no_code-append history more family old new = ap is_of_code (opener-append history more family) ∙ of_both (opener history family) (opener more family) old new
+  where
+    of_both : (a b : Option Grant) → is_of_code a ≡ false → is_of_code b ≡ false → is_of_code (option_or a b) ≡ false
+    of_both None b x y = y
+    of_both (Some g) b x y = x
+
+-- a token that opens its family is no code
+token_opens : (moment : ℕ) (change : Change) (gs : List Grant) (family client owner : ℕ) (kind : TokenKind) (digest : List ℕ) (scope life : ℕ) →
+    change ≡ Issued family client owner kind digest scope life →
+    is_of_code (find (λ g. g.family == family) (cons_option (grant_by moment change) gs)) ≡ false
+token_opens moment change gs family client owner kind digest scope life is = rw (is, eq-eqb family family refl) refl
+
+-- a client's own token stays one, whatever happens after it
+pub own-later : (before between : List Event) (e : Event) (family client owner : ℕ) (kind : TokenKind) (digest : List ℕ) (scope life : ℕ) →
+    e.change ≡ Issued family client owner kind digest scope life → IsOwn before family owner → IsOwn (before ++ e ∷ between) family owner
+own-later before between e family client owner kind digest scope life is own = record {
+  no_owner = own.no_owner;
+  no_code =
+      no_code-append before (e ∷ between) family own.no_code
+      (token_opens e.moment e.change (grants between) family client owner kind digest scope life is);
+}
 
 module _ (rules : RegistryRecord) where
   -- a right code is one that its owner consents to
@@ -54,7 +83,7 @@ module _ (rules : RegistryRecord) where
   allowed_at : (before : List Event) (change : Change) → IsRight rules before change → IsAllowed rules change
   allowed_at before (Issued family client owner kind digest scope life) right = (right.0, right.1)
   allowed_at before (Consented owner client mask) right = tt
-  allowed_at before (CodeGiven family client owner scope redirect challenge digest) right = tt
+  allowed_at before (CodeGiven family client owner scope redirect challenge digest) right = right.0
   allowed_at before (Spent digest) right = tt
   allowed_at before (FamilyEnded family) right = tt
   allowed_at before (HookSet name version code) right = tt
@@ -63,8 +92,8 @@ module _ (rules : RegistryRecord) where
   consented_at : (before : List Event) (change : Change) → IsCovered before → IsRight rules before change → IsConsentedBefore before change
   consented_at before (Issued family client owner kind digest scope life) covered right = by_owner right.2
     where
-      by_owner : ((owner ≡ 0) ⊎ IsOfCode before family client owner scope) → (owner ≡ 0) ⊎ (is_within scope (consented_scope before owner client) ≡ true)
-      by_owner (inl none) = inl none
+      by_owner : (IsOwn before family owner ⊎ IsOfCode before family client owner scope) → IsOwn before family owner ⊎ (is_within scope (consented_scope before owner client) ≡ true)
+      by_owner (inl own) = inl own
       by_owner (inr of) = inr (is_within-trans scope of.0 (consented_scope before owner client) of.2 (covered family (record { client = client; owner = owner; scope = of.0 }) of.1 of.3))
   consented_at before (Consented owner client mask) covered right = tt
   consented_at before (CodeGiven family client owner scope redirect challenge digest) covered right = tt
@@ -73,22 +102,23 @@ module _ (rules : RegistryRecord) where
   consented_at before (HookSet name version code) covered right = tt
   consented_at before (HookGone name) covered right = tt
 
-  consented_later : (before between : List Event) (e : Event) → IsCovered (before ++ e ∷ between) → (change : Change) → IsRight rules before change →
-      IsConsentedAt (before ++ e ∷ between) change
-  consented_later before between e covered (Issued family client owner kind digest scope life) right = by_owner right.2
+  consented_later : (before between : List Event) (e : Event) → IsCovered (before ++ e ∷ between) → (change : Change) → e.change ≡ change →
+      IsRight rules before change → IsConsentedAt (before ++ e ∷ between) change
+  consented_later before between e covered (Issued family client owner kind digest scope life) is right = by_owner right.2
     where
-      by_owner : ((owner ≡ 0) ⊎ IsOfCode before family client owner scope) →
-          (owner ≡ 0) ⊎ (has_ended (before ++ e ∷ between) family ≡ false → is_within scope (consented_scope (before ++ e ∷ between) owner client) ≡ true)
-      by_owner (inl none) = inl none
+      by_owner : (IsOwn before family owner ⊎ IsOfCode before family client owner scope) →
+          IsOwn (before ++ e ∷ between) family owner
+          ⊎ (has_ended (before ++ e ∷ between) family ≡ false → is_within scope (consented_scope (before ++ e ∷ between) owner client) ≡ true)
+      by_owner (inl own) = inl (own-later before between e family client owner kind digest scope life is own)
       by_owner (inr of) =
           inr (λ alive. is_within-trans scope of.0 (consented_scope (before ++ e ∷ between) owner client) of.2
           (covered family (record { client = client; owner = owner; scope = of.0 }) (code_terms-keep before (e ∷ between) family _ of.1) alive))
-  consented_later before between e covered (Consented owner client mask) right = tt
-  consented_later before between e covered (CodeGiven family client owner scope redirect challenge digest) right = tt
-  consented_later before between e covered (Spent digest) right = tt
-  consented_later before between e covered (FamilyEnded family) right = tt
-  consented_later before between e covered (HookSet name version code) right = tt
-  consented_later before between e covered (HookGone name) right = tt
+  consented_later before between e covered (Consented owner client mask) is right = tt
+  consented_later before between e covered (CodeGiven family client owner scope redirect challenge digest) is right = tt
+  consented_later before between e covered (Spent digest) is right = tt
+  consented_later before between e covered (FamilyEnded family) is right = tt
+  consented_later before between e covered (HookSet name version code) is right = tt
+  consented_later before between e covered (HookGone name) is right = tt
 
   -- each token of a history of right changes keeps to allowance, consent and life
   pub tokens_keep_their_bounds : (history : List Event) (m : ℕ) → IsHistory history m → AllRight rules [] history → IsBounded rules history
@@ -104,5 +134,5 @@ module _ (rules : RegistryRecord) where
         let parts = subst (λ h. AllRight rules [] h) whole all in
         consented_later before between e
         (covered_all (before ++ e ∷ between) (one_code-before (before ++ e ∷ between) later (subst OneCode whole is.one_code)) (all_right-before [] (before ++ e ∷ between) later parts))
-        e.change (all_right-at [] before (between ++ later) e (subst (λ h. AllRight rules [] h) (whole ∙ append_assoc before (e ∷ between) later) all));
+        e.change refl (all_right-at [] before (between ++ later) e (subst (λ h. AllRight rules [] h) (whole ∙ append_assoc before (e ∷ between) later) all));
   }

@@ -3,8 +3,6 @@ use Rattle.std.specs.Prelude.{◌+◌, ℕ, List, codes, Option, Some, None}
 use Rattle.params.specs.Form.{value_of}
 use Rattle.params.specs.Scope.{scope_text}
 use Rattle.clients.specs.RegistryRecord.{RegistryRecord}
-use Rattle.clients.specs.ClientRecord.{ClientRecord}
-use Rattle.clients.specs.Clients.{client_at}
 use Rattle.clients.specs.Owners.{sub_of}
 use Rattle.consent.specs.History.{Event, Grant}
 use Rattle.consent.specs.declared.grant.Kind.{Kind}
@@ -13,21 +11,21 @@ use Rattle.messages.specs.declared.error.ErrorName.TheVariants.{InvalidRequest}
 use Rattle.messages.specs.Asked.{Asked}
 use Rattle.messages.specs.Reply.{Body, plain}
 use Rattle.messages.specs.Reply.Body.{Active, Inactive}
-use Rattle.answers.specs.Outcomes.{Outcome, need, only, refuse, unavailable}
+use Rattle.answers.specs.Outcomes.{Outcome, need, only, refuse}
+use Rattle.answers.specs.Replies.{id_of}
 use Rattle.answers.specs.Requesters.{Parameters, KnownClient, with_authenticated}
 use Rattle.answers.specs.Tokens.{live_token}
 
--- what is told of a live token of the client
-abbrev pub told_of : RegistryRecord → ClientRecord → Grant → Kind → Body
-told_of rules client token Code = Inactive
-told_of rules client token (Token kind) =
-    Active client.id (token.moment + token.life) token.moment (scope_text rules.scopes token.scope) (sub_of token.owner rules.owners) kind
+-- what is told of a live token
+abbrev pub told_of : RegistryRecord → Grant → Kind → Body
+told_of rules token Code = Inactive
+told_of rules token (Token kind) =
+    Active (id_of rules token.client) (token.moment + token.life) token.moment (scope_text rules.scopes token.scope) (sub_of token.owner rules.owners) kind
 
--- 3 and 4, by the live token
+-- 3. by the live token
 abbrev pub told : RegistryRecord → Option Grant → Outcome
 told rules None = only (plain 200 Inactive)
-told rules (Some token) =
-    need (client_at token.client rules.clients) unavailable (λ client. only (plain 200 (told_of rules client token token.kind)))
+told rules (Some token) = only (plain 200 (told_of rules token token.kind))
 
 -- 2. the token; any client may ask of any
 abbrev pub introspect_points : RegistryRecord → List Event → ℕ → Parameters → KnownClient → Outcome

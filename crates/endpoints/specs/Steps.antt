@@ -1,12 +1,13 @@
 -- What one request does to a server, whatever has happened before.
-use Rattle.std.specs.Prelude.{ℕ, List, Bool, Option, max}
+use Rattle.std.specs.Prelude.{◌≡◌, ℕ, List, Bool, Option, length, max}
 use Rattle.hook_host.specs.declared.fault.HookFault.{HookFault}
 use Rattle.hook_host.specs.declared.host.HookHost.{Ghosts as Hosting}
 use Rattle.clients.specs.RegistryRecord.{RegistryRecord}
-use Rattle.consent.specs.History.{Event}
+use Rattle.consent.specs.History.{Event, unexpired_count}
 use Rattle.messages.specs.Asked.{Asked}
 use Rattle.messages.specs.Written.{Written}
 use Rattle.messages.specs.declared.request.Draws.{Draws}
+use Rattle.endpoints.specs.Bounded.{IsBounded}
 use Rattle.endpoints.specs.Hosts.{IsHostFault}
 use Rattle.endpoints.specs.Replies.{outcome, hook_change}
 use Rattle.endpoints.specs.Rulings.{says_with}
@@ -28,3 +29,21 @@ Steps {H = H} hosting server arrival reply server' =
     × IsStep hosting.installs hosting.removes
     (outcome refused rules (says_with hosting server.host fault) history arrival.asked (max m arrival.moment) arrival.draws)
     reply server server' rules first history (max m arrival.moment)
+
+-- so it is of each history that the server fits, and of the moment from which it fits it
+abbrev pub OfEach : {H : Type 0} → Hosting H → Seen H → (RegistryRecord → List Event → ℕ → Type 0) → Type 0
+OfEach {H = H} hosting server fact =
+    (rules : RegistryRecord) (first : H) (history : List Event) (m : ℕ) →
+    FitsServer hosting.installs hosting.removes server rules first history m → fact rules history m
+
+-- each code and token of the history keeps to allowance, consent and life
+abbrev pub KeepsBounds : {H : Type 0} → Hosting H → Seen H → Type 0
+KeepsBounds hosting server = OfEach hosting server (λ rules history m. IsBounded rules history)
+
+-- as many records are kept as the history has unexpired codes and tokens
+abbrev pub IsSwept : {H : Type 0} → Hosting H → Seen H → Type 0
+IsSwept hosting server = OfEach hosting server (λ rules history m. length server.store.kept ≡ unexpired_count history m)
+
+-- a server that fitted some history is swept then
+abbrev pub Sweeps : {H : Type 0} → Hosting H → Seen H → Seen H → Type 0
+Sweeps hosting old new = OfEach hosting old (λ rules history m. IsSwept hosting new)

@@ -3,7 +3,7 @@ use Rattle.std.specs.Prelude.{ℕ, ◌+◌, ◌-◌, ◌^◌, ◌==◌, min, if�
 use Rattle.answers.specs.declared.answer.Answer.{Answer}
 use Rattle.answers.specs.declared.answer.Answer.TheVariants as answer
 use Rattle.answers.specs.declared.want.Want.{Want}
-use Rattle.answers.specs.declared.want.Want.TheVariants.{Memory, StoreRoom, FreshDraw, ConsentRoom, Client}
+use Rattle.answers.specs.declared.want.Want.TheVariants.{Memory, StoreRoom, FreshDraw, ConsentRoom}
 use Rattle.endpoints.specs.declared.endpoint.Endpoint.{Endpoint}
 use Rattle.endpoints.specs.declared.endpoint.Endpoint.TheVariants.{Authorize, GiveConsent, IssueToken, RevokeToken, Introspect, InstallHook, RemoveHook, ListHooks}
 use Rattle.endpoints.specs.declared.tally.Asked.{Asked}
@@ -53,7 +53,6 @@ wanted w Memory = record w { memory = one_more w.memory }
 wanted w StoreRoom = record w { store_room = one_more w.store_room }
 wanted w FreshDraw = record w { fresh_draw = one_more w.fresh_draw }
 wanted w ConsentRoom = record w { consent_room = one_more w.consent_room }
-wanted w Client = record w { client = one_more w.client }
 
 -- with the cause, if there is one
 abbrev pub with_cause : Tally → Option Cause → Tally

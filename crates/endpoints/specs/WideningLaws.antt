@@ -1,6 +1,6 @@
 -- What is right under rules is right under wider ones.
 use Rattle.std.proofs.Common.{◌≡◌, ℕ, List, [], ◌∷◌, ◌++◌, Bool, true, false, Option, None, refl, ap, ◌-◌, zero, suc, arith}
-use Rattle.std.specs.Prelude.{◌==◌, if◌then◌else◌, slice_get}
+use Rattle.std.specs.Prelude.{◌==◌, if◌then◌else◌, is_some, slice_get}
 use Rattle.std.specs.Int.Bits.{and_zero_l}
 use Rattle.std.specs.Option.{option_map_or}
 use Rattle.insn.specs.declared.layout.Layout.{Layout}
@@ -9,7 +9,7 @@ use Rattle.clients.specs.RegistryRecord.{RegistryRecord}
 use Rattle.consent.specs.CoveredLaws.{is_within-trans}
 use Rattle.consent.specs.History.{Event, Change, is_within}
 use Rattle.consent.specs.History.Change.{Consented, CodeGiven, Issued, Spent, FamilyEnded, HookSet, HookGone}
-use Rattle.endpoints.specs.Bounded.{IsRight, AllRight, allowed_to}
+use Rattle.endpoints.specs.Bounded.{IsRight, AllRight, MayHave, allowed_to}
 use Rattle.endpoints.specs.Server.{Seen, FitsServer}
 use Rattle.endpoints.specs.Widening.{AreWider, IsWider}
 
@@ -31,16 +31,34 @@ wider_numbered : (none : Bool) (old new : List ClientRecord) (i : ℕ) → AreWi
 wider_numbered true old new i are = nothing_within 0
 wider_numbered false old new i are = wider_at old new i are
 
+-- a client that is there stays
+there_at : (old new : List ClientRecord) (i : ℕ) → AreWider old new → is_some (slice_get old i) ≡ true → is_some (slice_get new i) ≡ true
+there_at [] new i are is = absurd (cc)
+there_at (c ∷ cs) [] i are is = absurd are
+there_at (c ∷ cs) (d ∷ ds) zero are is = refl
+there_at (c ∷ cs) (d ∷ ds) (suc i) are is = there_at cs ds i are.2 is
+
+there_numbered : (none : Bool) (old new : List ClientRecord) (i : ℕ) → AreWider old new →
+    is_some (if none then None else slice_get old i) ≡ true → is_some (if none then None else slice_get new i) ≡ true
+there_numbered true old new i are is = is
+there_numbered false old new i are is = there_at old new i are is
+
 module _ (old new : RegistryRecord) (wider : IsWider old new) where
   allowed_wider : (scope client : ℕ) → is_within scope (allowed_to old client) ≡ true → is_within scope (allowed_to new client) ≡ true
   allowed_wider scope client within =
       is_within-trans scope (allowed_to old client) (allowed_to new client) within
       (wider_numbered (client == 0) old.clients new.clients (client - 1) wider.clients)
 
+  may_have-wider : (scope client : ℕ) → MayHave old client scope → MayHave new client scope
+  may_have-wider scope client may = record {
+    is_client = there_numbered (client == 0) old.clients new.clients (client - 1) wider.clients may.is_client;
+    within = allowed_wider scope client may.within;
+  }
+
   right_wider : (before : List Event) (change : Change) → IsRight old before change → IsRight new before change
-  right_wider before (CodeGiven family client owner scope redirect challenge digest) right = (allowed_wider scope client right.0, right.1)
+  right_wider before (CodeGiven family client owner scope redirect challenge digest) right = (may_have-wider scope client right.0, right.1)
   right_wider before (Issued family client owner kind digest scope life) right =
-      let longer = wider.lives kind in let within = right.1 in (allowed_wider scope client right.0, omega (arith, within, longer), right.2)
+      let longer = wider.lives kind in let within = right.1 in (may_have-wider scope client right.0, omega (arith, within, longer), right.2)
   right_wider before (Consented owner client mask) right = tt
   right_wider before (Spent digest) right = tt
   right_wider before (FamilyEnded family) right = tt

@@ -7,7 +7,7 @@ ghost use Rattle.endpoints.specs.Deciding.{InEach};
 ghost use Rattle.endpoints.specs.Introspect.{introspect};
 
 use crate::revoke::{live_token, presented_by};
-use answers::{Answer, Decision, Halt, View, Want};
+use answers::{Answer, Decision, Halt, View};
 use consent::{Changes, Kind};
 use messages::Request;
 use std::alloc::Global;
@@ -41,9 +41,6 @@ pub(crate) fn introspect<'c>(
     };
     let Some(token) = live_token(view, &digest) else {
         return Ok(inactive());
-    };
-    let Some(_client) = view.rules.client_numbered(token.client) else {
-        return Ok(Decision::unavailable(Want::Client));
     };
     let Kind::Token(kind) = token.kind else {
         return Ok(inactive());

@@ -7,7 +7,7 @@ ghost use Rattle.messages.specs.Asked.{asked_of};
 ghost use Rattle.answers.specs.Short.{IsShort, IsShortAnswer, state_limit};
 ghost use Rattle.change_codec.specs.Batches.{facts_in};
 ghost use Rattle.endpoints.specs.Making.{HasRooms, IsReady, IsSame, Makes};
-ghost use Rattle.consent.specs.History.{Event};
+ghost use Rattle.consent.specs.History.{Event, unexpired_count};
 ghost use Rattle.endpoints.specs.Redo.{Follows, Redoes, RefusesRedo};
 ghost use Rattle.endpoints.specs.Noting.{with_notes};
 ghost use Rattle.endpoints.specs.Reading.{EndsAt, IsRead, IsShortReading, endpoint_of};
@@ -17,7 +17,7 @@ ghost use Rattle.endpoints.specs.Bounded.{AllRight};
 ghost use Rattle.endpoints.specs.Hosts.{HostRun};
 ghost use Rattle.endpoints.specs.Restoring.{AreOf, RefusesRestore};
 ghost use Rattle.endpoints.specs.Server.{FitsServer, Notes, NowNotes};
-ghost use Rattle.endpoints.specs.Steps.{Steps};
+ghost use Rattle.endpoints.specs.Steps.{KeepsBounds, Steps, Sweeps};
 ghost use Rattle.token_store.specs.Fits.{FitsHistory, FitsStore};
 ghost use Rattle.token_store.specs.Image.{image_of};
 
@@ -257,8 +257,8 @@ impl<H: HookHost> Server<H> {
         }
     }
 
-    // The greatest moment that a request was handed.
-    fn moment(&self) -> Moment
+    /// The greatest moment that a request was handed.
+    pub fn moment(&self) -> Moment
         ensures { result ≡ self.now.greatest }
     {
         self.greatest
@@ -344,16 +344,31 @@ impl<H: HookHost> Server<H> {
         reply
     }
 
+    // Lets go of what has expired, which changes no answer.
+    fn sweep(&mut self)
+        ensures same { self.new ≡ record self.old { store = self.new.store } }
+        ensures fits { (history : List Event) → FitsStore self.old.store history self.old.greatest →
+            FitsStore self.new.store history self.old.greatest }
+        ensures kept { (history : List Event) → FitsStore self.old.store history self.old.greatest →
+            length self.new.store.kept ≡ unexpired_count history self.old.greatest }
+    {
+        let now = self.greatest;
+        self.store.drop_expired(now);
+    }
+
     /// Answers a request at the greatest moment so far: the reply of the first point of its endpoint's list that holds, or
     /// the 503 of refused memory, with which nothing happens. What no endpoint answers (404, 405) takes no memory. It is
-    /// counted.
+    /// counted. Afterwards nothing is kept that has expired, and each code and token keeps to its bounds.
     pub fn step(&mut self, request: &Request<'_>, moment: Moment, draws: &Draws) -> Response
         ensures replies { Steps H.HookHost self.old
             (record { asked = asked_of request.now; moment = moment; draws = draws.now }) result self.new }
+        ensures bounded { KeepsBounds H.HookHost self.new }
+        ensures kept { Sweeps H.HookHost self.old self.new }
         ensures short { length request.now.target.now ≤ state_limit → IsShort result }
     {
         let mut cause = None;
         let reply = self.answer(request, moment, draws, &mut cause);
+        self.sweep();
         self.tally
             .count(Endpoint::at(request.path()), reply.status(), cause);
         reply

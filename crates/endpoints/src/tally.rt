@@ -41,7 +41,6 @@ pub struct Wanted {
     pub store_room: u64,
     pub fresh_draw: u64,
     pub consent_room: u64,
-    pub client: u64,
 }
 
 /// How many requests were answered, and how. Each count stops at the greatest number.
@@ -137,7 +136,6 @@ impl Wanted {
             Want::StoreRoom => wanted.store_room = one_more(wanted.store_room),
             Want::FreshDraw => wanted.fresh_draw = one_more(wanted.fresh_draw),
             Want::ConsentRoom => wanted.consent_room = one_more(wanted.consent_room),
-            Want::Client => wanted.client = one_more(wanted.client),
         }
         wanted
     }
@@ -172,7 +170,6 @@ impl Tally {
             store_room: 0,
             fresh_draw: 0,
             consent_room: 0,
-            client: 0,
         },
         denied: 0,
     };

@@ -1,6 +1,7 @@
 -- What topics say of a name.
-use Rattle.std.specs.Prelude.{◌≡◌, ◌≢◌, ℕ, ◌<◌, All, List, length, get_or, Option, Some, None}
+use Rattle.std.specs.Prelude.{◌≡◌, ◌≢◌, ℕ, ◌<◌, All, List, length, get_or, map, Option, Some, None}
 use Rattle.manual.specs.declared.topic.Topic.{Topic}
+use Rattle.manual.specs.Words.{all_words}
 
 -- a topic stands in a list under a name, and says this
 pub record IsTextOf (topics : List Topic) (name text : List ℕ) : Type 0 where
@@ -16,6 +17,14 @@ abbrev pub Say : List Topic → List ℕ → Option (List ℕ) → Type 0
 Say topics name (Some text) = IsTextOf topics name text
 Say topics name None = All (λ topic. topic.name.now ≢ name) topics
 
--- what the manual says of a name: so by some topics of its own, of which the tests say that each fault is one
+-- the words that the topics explain, in their order
+abbrev pub words_of : List Topic → List (List ℕ)
+words_of topics = map (λ topic. topic.name.now) topics
+
+-- what topics that explain just these words say of a name
+abbrev pub IsSaidBy : List (List ℕ) → List ℕ → Option (List ℕ) → Type 0
+IsSaidBy words name text = (topics : List Topic) × (words_of topics ≡ words) × Say topics name text
+
+-- what the manual says of a name
 abbrev pub IsSaid : List ℕ → Option (List ℕ) → Type 0
-IsSaid name text = (topics : List Topic) × Say topics name text
+IsSaid name text = IsSaidBy all_words name text

@@ -1,7 +1,8 @@
 //! What there is to explain: the commands, and each of their faults.
 
 ghost use Rattle.std.specs.Option.{option_copied};
-ghost use Rattle.manual.specs.Topics.{IsSaid};
+ghost use Rattle.manual.specs.Topics.{IsSaid, IsSaidBy};
+ghost use Rattle.manual.specs.Words.{code_words, command_words, config_words, event_words, text_words, use_words, verdict_words};
 
 mod code_faults;
 mod commands;
@@ -11,7 +12,7 @@ mod text_faults;
 mod use_faults;
 mod verdicts;
 
-use crate::topic::text_named;
+use crate::topic::said_by;
 use code_faults::CODE_FAULTS;
 use commands::COMMANDS;
 use config_faults::CONFIG_FAULTS;
@@ -22,54 +23,54 @@ use verdicts::VERDICTS;
 
 /// What a command does.
 fn command(name: &str) -> Option<&'static str>
-    ensures { IsSaid name.now (option_copied result) }
+    ensures { IsSaidBy command_words name.now (option_copied result) }
 {
-    text_named(&COMMANDS, name)
+    said_by(&COMMANDS, name)
 }
 
 /// What a fault means that a command has however its files are.
 fn use_fault(name: &str) -> Option<&'static str>
-    ensures { IsSaid name.now (option_copied result) }
+    ensures { IsSaidBy use_words name.now (option_copied result) }
 {
-    text_named(&USE_FAULTS, name)
+    said_by(&USE_FAULTS, name)
 }
 
 /// What a fault of the text of a hook means.
 fn text_fault(name: &str) -> Option<&'static str>
-    ensures { IsSaid name.now (option_copied result) }
+    ensures { IsSaidBy text_words name.now (option_copied result) }
 {
-    text_named(&TEXT_FAULTS, name)
+    said_by(&TEXT_FAULTS, name)
 }
 
 /// What a fault of the code of a hook means.
 fn code_fault(name: &str) -> Option<&'static str>
-    ensures { IsSaid name.now (option_copied result) }
+    ensures { IsSaidBy code_words name.now (option_copied result) }
 {
-    text_named(&CODE_FAULTS, name)
+    said_by(&CODE_FAULTS, name)
 }
 
 /// What a verdict on a hook means.
 fn verdict(name: &str) -> Option<&'static str>
-    ensures { IsSaid name.now (option_copied result) }
+    ensures { IsSaidBy verdict_words name.now (option_copied result) }
 {
-    text_named(&VERDICTS, name)
+    said_by(&VERDICTS, name)
 }
 
 /// What a fault of a registry means.
 fn config_fault(name: &str) -> Option<&'static str>
-    ensures { IsSaid name.now (option_copied result) }
+    ensures { IsSaidBy config_words name.now (option_copied result) }
 {
-    text_named(&CONFIG_FAULTS, name)
+    said_by(&CONFIG_FAULTS, name)
 }
 
 /// What a fault of an event means.
 fn event_fault(name: &str) -> Option<&'static str>
-    ensures { IsSaid name.now (option_copied result) }
+    ensures { IsSaidBy event_words name.now (option_copied result) }
 {
-    text_named(&EVENT_FAULTS, name)
+    said_by(&EVENT_FAULTS, name)
 }
 
-/// What the manual says of a name.
+/// What the manual says of a name: it explains just the words of its seven lists.
 pub fn explained(name: &str) -> Option<&'static str>
     ensures { IsSaid name.now (option_copied result) }
 {

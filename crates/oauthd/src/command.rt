@@ -129,8 +129,8 @@ impl<'w> Command<'w> {
         }
     }
 
-    /// What the command answers. `file` is its file, and `None` where that cannot be read; `now` is the
-    /// moment, where it is known.
+    /// What the command answers. `file` is its file, and `None` where that cannot be read; `now` is the moment, where it is
+    /// known.
     pub fn answer(
         self,
         alloc: Global,

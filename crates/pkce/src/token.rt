@@ -1,5 +1,5 @@
 // The text of a code or a token, and its digest.
-ghost use Rattle.std.specs.Prelude.{◌≡◌, IfOk, string_bytes, take};
+ghost use Rattle.std.specs.Prelude.{◌≡◌, IfOk, IfSome, string_bytes, take};
 ghost use Rattle.sha2.specs.Sha256.{sha256};
 ghost use Rattle.pkce.specs.Token.{token_text, token_bytes};
 
@@ -17,7 +17,8 @@ pub fn token_text(alloc: Global, bytes: &[u8; 32]) -> Result<String, AllocError>
 /// The 32 bytes whose one text this is. `None` for any other text, also where only the unused bits of its last
 /// character differ.
 pub fn read_token(text: &str) -> Option<[u8; 32]>
-    ensures { result ≡ token_bytes text.now }
+    ensures value { result ≡ token_bytes text.now }
+    ensures canonical { IfSome result (λ bytes. text.now ≡ token_text bytes) }
 {
     decoded(text.as_bytes())
 }

@@ -1,15 +1,17 @@
 -- Live tokens of a bounded history.
-use Rattle.std.proofs.Common.{◌≡◌, ◌≢◌, ◌≤◌, ◌⊎◌, inl, inr, ℕ, List, [], ◌∷◌, ◌++◌, true, false, Some, None, refl, sym, ap, ◌∙◌, append_assoc, append-nil, subst}
-use Rattle.std.specs.Prelude.{◌==◌, unwrap_or, if◌then◌else◌}
+use Rattle.std.proofs.Common.{◌≡◌, ◌≢◌, ◌≤◌, ◌⊎◌, inl, inr, ℕ, List, [], ◌∷◌, ◌++◌, true, false, Option, Some, None, refl, sym, ap, ◌∙◌, append_assoc, append-nil, subst}
+use Rattle.std.specs.Prelude.{◌==◌, is_some, unwrap_or, if◌then◌else◌}
 use Rattle.std.specs.Option.{option_or}
 use Rattle.std.proofs.lemmas.Bool.{and_from, false≢true, eq-eqb}
+use Rattle.clients.specs.ClientRecord.{ClientRecord}
+use Rattle.clients.specs.Clients.{client_at}
 use Rattle.clients.specs.RegistryRecord.{RegistryRecord}
 use Rattle.consent.specs.History.{Event, Change, event_at, Grant, grant_by, grant_at, is_code, is_within, consented_scope, last_consent, consent_of, has_ended, live_grant}
 use Rattle.consent.specs.History.Change.{Consented, CodeGiven, Issued, Spent, FamilyEnded, HookSet, HookGone}
 use Rattle.consent.specs.HistoryLaws.{grant_at-given}
 use Rattle.consent.specs.declared.grant.Kind.TheVariants.{Token}
 use Rattle.consent.specs.declared.grant.TokenKind.{TokenKind}
-use Rattle.endpoints.specs.Bounded.{IsBounded, IsAllowed, IsConsentedAt, life_limit}
+use Rattle.endpoints.specs.Bounded.{IsBounded, IsAllowed, IsConsentedAt, IsOwn, life_limit}
 use Rattle.promises.specs.Grants.{KeepsScope, IsSince}
 use Rattle.promises.proofs.Spending.{live_is, ended_stays}
 
@@ -31,9 +33,9 @@ change_keeps rules history moment (Issued family client owner kind digest scope 
     subst (λ (x : Grant). has_ended history x.family ≡ false → KeepsScope rules history x × IsShort rules x) (same_grant _ g at)
     (λ lives. (record { allowed = allowed.0; consented = by_owner lives consented }, λ k is. subst (λ x. life ≤ life_limit rules x) (same_kind kind k is) allowed.1)) alive
   where
-    by_owner : has_ended history family ≡ false → ((owner ≡ 0) ⊎ (has_ended history family ≡ false → is_within scope (consented_scope history owner client) ≡ true)) →
-        (owner ≡ 0) ⊎ (is_within scope (consented_scope history owner client) ≡ true)
-    by_owner lives (inl none) = inl none
+    by_owner : has_ended history family ≡ false → (IsOwn history family owner ⊎ (has_ended history family ≡ false → is_within scope (consented_scope history owner client) ≡ true)) →
+        IsOwn history family owner ⊎ (is_within scope (consented_scope history owner client) ≡ true)
+    by_owner lives (inl own) = inl own
     by_owner lives (inr within) = inr (within lives)
 change_keeps rules history moment (CodeGiven family client owner scope redirect challenge digest) g at token allowed consented alive =
     absurd (false≢true (sym token ∙ sym (ap (λ (x : Grant). is_code x.kind) (same_grant _ g at))))
@@ -42,6 +44,37 @@ change_keeps rules history moment (Spent digest) g at token allowed consented al
 change_keeps rules history moment (FamilyEnded family) g at token allowed consented alive = absurd (cc)
 change_keeps rules history moment (HookSet name version code) g at token allowed consented alive = absurd (cc)
 change_keeps rules history moment (HookGone name) g at token allowed consented alive = absurd (cc)
+
+-- a client that is there has a record
+pub there : (rules : RegistryRecord) (number : ℕ) → is_some (client_at number rules.clients) ≡ true →
+    (client : ClientRecord) × (client_at number rules.clients ≡ Some client)
+there rules number is = by_client (client_at number rules.clients) refl is
+  where
+    by_client : (o : Option ClientRecord) → client_at number rules.clients ≡ o → is_some o ≡ true →
+        (client : ClientRecord) × (client_at number rules.clients ≡ Some client)
+    by_client None at none = absurd (cc)
+    by_client (Some client) at some = (client, at)
+
+-- what the change gives is of a client
+given_client : (rules : RegistryRecord) (moment : ℕ) (change : Change) (g : Grant) → grant_by moment change ≡ Some g → IsAllowed rules change →
+    is_some (client_at g.client rules.clients) ≡ true
+given_client rules moment (Issued family client owner kind digest scope life) g at allowed =
+    subst (λ (x : Grant). is_some (client_at x.client rules.clients) ≡ true) (same_grant _ g at) allowed.0.is_client
+given_client rules moment (CodeGiven family client owner scope redirect challenge digest) g at allowed =
+    subst (λ (x : Grant). is_some (client_at x.client rules.clients) ≡ true) (same_grant _ g at) allowed.is_client
+given_client rules moment (Consented owner client mask) g at allowed = absurd (cc)
+given_client rules moment (Spent digest) g at allowed = absurd (cc)
+given_client rules moment (FamilyEnded family) g at allowed = absurd (cc)
+given_client rules moment (HookSet name version code) g at allowed = absurd (cc)
+given_client rules moment (HookGone name) g at allowed = absurd (cc)
+
+-- so is what the history names
+pub of_client : (rules : RegistryRecord) (history : List Event) (digest : List ℕ) (t : ℕ) (g : Grant) → IsBounded rules history →
+    grant_at history digest t ≡ Some g → (client : ClientRecord) × (client_at g.client rules.clients ≡ Some client)
+of_client rules history digest t g bounded at =
+    let given = grant_at-given history digest t g at in
+    there rules g.client
+    (given_client rules given.event.moment given.event.change g given.gives_it (bounded.allowed given.before given.later given.event given.whole))
 
 -- a token that is named in the history keeps, later, to what it may, as long as its family has not ended
 pub named_keeps : (rules : RegistryRecord) (history between later : List Event) (digest : List ℕ) (t : ℕ) (g : Grant) →
@@ -71,8 +104,8 @@ with_owner : (rules : RegistryRecord) (history : List Event) (g : Grant) → Kee
     is_within g.scope (consented_scope history g.owner g.client) ≡ true
 with_owner rules history g keeps some = by_case keeps.consented
   where
-    by_case : ((g.owner ≡ 0) ⊎ (is_within g.scope (consented_scope history g.owner g.client) ≡ true)) → is_within g.scope (consented_scope history g.owner g.client) ≡ true
-    by_case (inl none) = absurd (some none)
+    by_case : (IsOwn history g.family g.owner ⊎ (is_within g.scope (consented_scope history g.owner g.client) ≡ true)) → is_within g.scope (consented_scope history g.owner g.client) ≡ true
+    by_case (inl own) = absurd (some own.no_owner)
     by_case (inr within) = within
 
 -- the last consent is the one that counts

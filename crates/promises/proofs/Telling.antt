@@ -1,7 +1,8 @@
 -- What all replies to requests have in common.
-use Rattle.std.proofs.Common.{◌≡◌, ◌≤◌, ℕ, List, [], ◌∷◌, Bool, true, false, Option, Some, None, cond, refl, arith, length}
+use Rattle.std.proofs.Common.{◌≡◌, ◌≤◌, ℕ, List, [], ◌∷◌, Bool, true, false, Option, Some, None, cond, refl, ap, arith, length}
 use Rattle.std.specs.Prelude.{codes, not, bytes_eq, option_and_then}
 use Rattle.std.specs.Result.{result_ok}
+use Rattle.std.specs.Option.{option_map_or}
 use Rattle.std.proofs.lemmas.Bool.{false≢true}
 use Rattle.sha2.specs.Sha256.{sha256}
 use Rattle.pkce.specs.Proof.{proves}
@@ -50,7 +51,7 @@ use Rattle.endpoints.specs.Introspect.{introspect, introspect_points, told, told
 use Rattle.endpoints.specs.Bounded.{IsBounded, life_limit}
 use Rattle.promises.specs.Occasions.{Occasion, outcome_of, reply_of}
 use Rattle.promises.specs.Grants.{KeepsScope, TellsBounded}
-use Rattle.promises.proofs.Bounding.{live_keeps}
+use Rattle.promises.proofs.Bounding.{live_keeps, there}
 use Rattle.promises.proofs.Walking.{at_point, at_need, at_chosen, at_authenticated, other}
 
 -- the body tells of no active token
@@ -252,8 +253,8 @@ module _ (P : Outcome → Type 0)
 
 module _ (P : Outcome → Type 0) (rules : RegistryRecord) (history : List Event) (m : ℕ)
     (nothing : (reply : Reply) → IsQuiet reply.body → P (only reply))
-    (active : (digest : List ℕ) (g : Grant) (client : ClientRecord) → live_grant history digest m ≡ Some g → is_code g.kind ≡ false →
-    client_at g.client rules.clients ≡ Some client → P (only (plain 200 (told_of rules client g g.kind)))) where
+    (active : (digest : List ℕ) (g : Grant) → live_grant history digest m ≡ Some g → is_code g.kind ≡ false →
+    P (only (plain 200 (told_of rules g g.kind)))) where
   telling : (text : List ℕ) → P (told rules (live_token history m text))
   telling text = by_digest (digest_told text)
     where
@@ -263,9 +264,7 @@ module _ (P : Outcome → Type 0) (rules : RegistryRecord) (history : List Event
 
       by_test : (digest : List ℕ) (g : Grant) (b : Bool) → live_grant history digest m ≡ Some g → not (is_code g.kind) ≡ b →
           P (told rules (cond b (Some g) None))
-      by_test digest g true live is =
-          at_need P {A = ClientRecord} (client_at g.client rules.clients) unavailable _ (nothing (plain 503 Empty) tt) (λ client at.
-          active digest g client live (is_true g.kind is) at)
+      by_test digest g true live is = active digest g live (is_true g.kind is)
       by_test digest g false live is = nothing (plain 200 Inactive) tt
 
       by_grant : (digest : List ℕ) (o : Option Grant) → live_grant history digest m ≡ o → P (told rules (where_passes (λ g. not (is_code g.kind)) o))
@@ -292,14 +291,15 @@ module _ (P : Outcome → Type 0) (rules : RegistryRecord) (history : List Event
 pub nothing_of_503 : (rules : RegistryRecord) (history : List Event) (occasion : Occasion) → (reply_of rules history occasion).status ≡ 503 → (outcome_of rules history occasion).changes ≡ []
 nothing_of_503 rules history occasion =
     at_occasion (λ o. o.reply.status ≡ 503 → o.changes ≡ []) (λ reply _ _. refl) (λ reply changes apart _ is. absurd (apart is)) rules history
-    (λ asked m. at_introspect (λ o. o.reply.status ≡ 503 → o.changes ≡ []) rules history m (λ reply _ _. refl) (λ digest g client live token at _. refl) asked) occasion
+    (λ asked m. at_introspect (λ o. o.reply.status ≡ 503 → o.changes ≡ []) rules history m (λ reply _ _. refl) (λ digest g live token _. refl) asked) occasion
 
 pub active_bounded : (rules : RegistryRecord) (history : List Event) → IsBounded rules history → (occasion : Occasion) → TellsBounded rules history (reply_of rules history occasion).body
 active_bounded rules history bounded occasion =
     at_occasion Tells (λ reply quiet. quiet_tells reply.body quiet) (λ reply changes _ quiet. quiet_tells reply.body quiet) rules history
-    (λ asked m. at_introspect Tells rules history m (λ reply quiet. quiet_tells reply.body quiet) (λ digest g client live token at.
+    (λ asked m. at_introspect Tells rules history m (λ reply quiet. quiet_tells reply.body quiet) (λ digest g live token.
     let keeps = live_keeps rules history digest m g bounded live token in
-    told_tells g client at keeps.0 g.kind (keeps.1)) asked) occasion
+    let client = there rules g.client keeps.0.allowed.is_client in
+    told_tells g client.0 client.1 keeps.0 g.kind (keeps.1)) asked) occasion
   where
     Tells : Outcome → Type 0
     Tells o = TellsBounded rules history o.reply.body
@@ -316,6 +316,8 @@ active_bounded rules history bounded occasion =
     quiet_tells (Hooks names) quiet = tt
 
     told_tells : (g : Grant) (client : ClientRecord) → client_at g.client rules.clients ≡ Some client → KeepsScope rules history g →
-        (k : Kind) → ((kind : TokenKind) → k ≡ Token kind → g.life ≤ life_limit rules kind) → TellsBounded rules history (told_of rules client g k)
+        (k : Kind) → ((kind : TokenKind) → k ≡ Token kind → g.life ≤ life_limit rules kind) → TellsBounded rules history (told_of rules g k)
     told_tells g client at keeps Code short = tt
-    told_tells g client at keeps (Token kind) short = let few = short kind refl in (g, keeps, refl, client, at, refl, refl, omega (arith, few))
+    told_tells g client at keeps (Token kind) short =
+        let few = short kind refl in
+        (g, keeps, refl, client, at, ap (λ (o : Option ClientRecord). option_map_or (λ c. c.id) o []) at, refl, omega (arith, few))

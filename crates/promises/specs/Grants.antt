@@ -10,14 +10,14 @@ use Rattle.consent.specs.History.Change.{Consented}
 use Rattle.hook_host.specs.declared.host.HookHost.{Ghosts as Hosting}
 use Rattle.messages.specs.Reply.{Body}
 use Rattle.messages.specs.Reply.Body.{Active}
-use Rattle.endpoints.specs.Bounded.{allowed_to, life_limit}
+use Rattle.endpoints.specs.Bounded.{IsOwn, MayHave, life_limit}
 use Rattle.endpoints.specs.Server.{Seen, FitsServer}
 use Rattle.promises.specs.Occasions.{Occasion, reply_of}
 
--- the scope is within what the client may have and, where there is an owner, within what the owner consents to now
+-- the scope is within what the client may have and, unless the token is the client's own, within what the owner consents to now
 pub record KeepsScope (rules : RegistryRecord) (history : List Event) (token : Grant) : Type 0 where
-  pub allowed : is_within token.scope (allowed_to rules token.client) ≡ true
-  pub consented : (token.owner ≡ 0) ⊎ (is_within token.scope (consented_scope history token.owner token.client) ≡ true)
+  pub allowed : MayHave rules token.client token.scope
+  pub consented : IsOwn history token.family token.owner ⊎ (is_within token.scope (consented_scope history token.owner token.client) ≡ true)
 
 -- Where a body tells of an active token, it tells the identifier of the token's client, its scope, which keeps to what it
 -- may be, what its owner is called, and a life within the limit of its kind.
@@ -53,6 +53,12 @@ abbrev pub AreOfTheirCodes : List Event → Type 0
 AreOfTheirCodes history =
     (digest : List ℕ) (moment : ℕ) (token : Grant) (terms : Terms) → grant_at history digest moment ≡ Some token →
     code_terms history token.family ≡ Some terms → (terms.client ≡ token.client) × (terms.owner ≡ token.owner)
+
+-- each code and token is of a client of the registry
+abbrev pub AreOfClients : RegistryRecord → List Event → Type 0
+AreOfClients rules history =
+    (digest : List ℕ) (moment : ℕ) (g : Grant) → grant_at history digest moment ≡ Some g →
+    (client : ClientRecord) × (client_at g.client rules.clients ≡ Some client)
 
 -- so it is of the rules and the history of each server
 abbrev pub InEachHistory : {H : Type 0} → Hosting H → (RegistryRecord → List Event → Type 0) → Type 0

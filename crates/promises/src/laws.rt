@@ -3,7 +3,7 @@
 ghost use Rattle.std.specs.Prelude.{◌≡◌, ℕ, List, [], ◌++◌, codes};
 ghost use Rattle.clients.specs.RegistryRecord.{RegistryRecord};
 ghost use Rattle.consent.specs.History.{Event, Grant};
-ghost use Rattle.promises.specs.Grants.{AreOfTheirCodes, InEachHistory, KeepsToConsents, TellsWithin};
+ghost use Rattle.promises.specs.Grants.{AreOfClients, AreOfTheirCodes, InEachHistory, KeepsToConsents, TellsWithin};
 ghost use Rattle.promises.specs.Hooked.{IsNarrowed, without_hooks};
 ghost use Rattle.promises.specs.Occasions.{GoesTo, Occasion, history_after, outcome_of, reply_of};
 ghost use Rattle.promises.specs.Uses.{Exchanges, IsDead, IsUsedUp, Revokes};
@@ -24,6 +24,11 @@ pub fn no_token_is_beyond_a_lowered_consent<H: HookHost>()
 /// What comes of a code is of the client and the owner that the code is of.
 pub fn tokens_have_the_owner_of_their_code<H: HookHost>()
     ensures { InEachHistory H.HookHost (λ rules history. AreOfTheirCodes history) }
+{}
+
+/// Each code and token is of a client of the registry.
+pub fn codes_and_tokens_are_of_clients<H: HookHost>()
+    ensures { InEachHistory H.HookHost AreOfClients }
 {}
 
 /// Nothing happens with a 503.

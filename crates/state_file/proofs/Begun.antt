@@ -9,6 +9,7 @@ use Rattle.endpoints.specs.Bounded.{AllRight}
 use Rattle.hook_host.specs.declared.host.HookHost.{Ghosts as Hosting}
 use Rattle.image_codec.specs.Facts.{ImageFact}
 use Rattle.image_codec.specs.Spelling.{ImageFits, image_spelling}
+use Rattle.state_file.specs.Hooks.{hooks_of}
 use Rattle.state_file.specs.Resuming.{Begins, Fits, HaveNoImage, IsMadeOf, Replays, WasRun}
 use Rattle.state_file.specs.Standing.{AreTold, Begin, BeginWithImage, StandsFor}
 use Rattle.state_file.specs.declared.restored.Restored.{Restored}
@@ -47,7 +48,22 @@ module _ {H : Type 0} (hosting : Hosting H) (rules : RegistryRecord) (first : H)
           let made = begins.of_image of.0 stands.later (of.2.0, sym are ∙ of.2.1) in
           let front = Happened-front stands.base history stands.facts stands.happened in
           let right_there : AllRight rules [] stands.base = right_before rules [] stands.base front.0 (subst (λ (h : List Event). AllRight rules [] h) front.1 right) in
-          (sym made.0, made.1 stands.base of.1 right_there (ran run of.0 of.2.1 front.0 front.1))
+          (sym made.0, made.1.1 stands.base of.1 right_there (ran run of.0 of.2.1 front.0 front.1))
+
+-- so are the hooks
+module _ {H : Type 0} (hosting : Hosting H) (rules : RegistryRecord) (first : H) where
+  pub begun_hooks : (left : List ℕ) (batches later : List (List ℕ)) (restored : Restored H) (history : List Event) → (stands : StandsFor left history) →
+      recovered left ≡ batches → Begins hosting rules first batches later restored → (stands.later ≡ later) × (restored.hooks ≡ hooks_of stands.base)
+  begun_hooks left batches later restored history stands are begins = by stands.begins
+    where
+      by : Begin (recovered left) stands.base stands.later → (stands.later ≡ later) × (restored.hooks ≡ hooks_of stands.base)
+      by (inl none) =
+          let told : AreTold batches stands.facts = subst (λ (bs : List (List ℕ)). AreTold bs stands.facts) (none.1 ∙ are) stands.told in
+          let anew = begins.anew (no_image batches stands.facts told) in
+          (none.1 ∙ are ∙ sym anew.0, anew.1.1 ∙ ap hooks_of (sym none.0))
+      by (inr of) =
+          let made = begins.of_image of.0 stands.later (of.2.0, sym are ∙ of.2.1) in
+          (sym made.0, made.1.0 ∙ of.1.hooks)
 
 -- the first batch is read as the image that it spells
 pub same_image : (batches later behind : List (List ℕ)) (batch : List ℕ) (read image : ImageFact) → batches ≡ batch ∷ later → BeginWithImage batches image behind →

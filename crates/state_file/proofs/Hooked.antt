@@ -1,13 +1,13 @@
 -- The hooks of a history that goes on.
-use Rattle.std.proofs.Common.{◌≡◌, ℕ, List, [], ◌∷◌, ◌++◌, Option, None, Some, refl, subst}
+use Rattle.std.proofs.Common.{◌≡◌, ℕ, List, [], ◌∷◌, ◌++◌, Option, None, Some, refl, sym, ap, ◌∙◌, subst}
 use Rattle.std.specs.Prelude.{option_map}
 use Rattle.consent.specs.History.{Event, Change, Grant, event_at, grant_at, with_change}
 use Rattle.consent.specs.Changes.{issued_with, family_ended}
 use Rattle.consent.specs.declared.change.NewToken.{NewToken}
-use Rattle.change_codec.specs.Happened.{meaning_of}
-use Rattle.change_codec.specs.Spelling.{Fact, Consented, CodeGiven, IssuedAlone, Issued, Spent, FamilyEnded, HookSet, HookGone}
+use Rattle.change_codec.specs.Happened.{Happened, meaning_of}
+use Rattle.change_codec.specs.Spelling.{DatedFact, Fact, Consented, CodeGiven, IssuedAlone, Issued, Spent, FamilyEnded, HookSet, HookGone}
 use Rattle.image_codec.specs.Facts.{HookFact}
-use Rattle.state_file.specs.Hooks.{hooks_by, hooks_with, hooks_after, hooks_of}
+use Rattle.state_file.specs.Hooks.{hooks_behind, hooks_by, hooks_with, hooks_after, hooks_of}
 
 issued_none : (token : NewToken) (g : Option Grant) (change : Change) (hooks : List HookFact) → option_map (issued_with token) g ≡ Some change → hooks ≡ hooks_with hooks change
 issued_none token None change hooks is = absurd cc
@@ -43,3 +43,17 @@ hooks_after-push hooks (x ∷ history) e = hooks_after-push (hooks_with hooks x.
 
 pub hooks_of-with : (history : List Event) (moment : ℕ) (change : Change) → hooks_of (with_change history moment change) ≡ hooks_with (hooks_of history) change
 hooks_of-with history moment change = hooks_after-push [] history (event_at moment change)
+
+-- the hooks of a history that dated changes lead to
+pub hooks_of-happened : (before after : List Event) (facts : List DatedFact) → Happened before facts after → hooks_of after ≡ hooks_behind (hooks_of before) facts
+hooks_of-happened before after [] happened = ap hooks_of happened
+hooks_of-happened before after (d ∷ ds) happened =
+    let next : List Event = with_change before d.moment happened.0 in
+    let one : hooks_of next ≡ hooks_by (hooks_of before) d.fact =
+    hooks_of-with before d.moment happened.0 ∙ sym (hooks_told before d.moment d.fact happened.0 (hooks_of before) happened.1) in
+    hooks_of-happened next after ds happened.3 ∙ ap (λ (hs : List HookFact). hooks_behind hs ds) one
+
+-- some changes, and then others
+pub hooks_behind-append : (hooks : List HookFact) (ds es : List DatedFact) → hooks_behind hooks (ds ++ es) ≡ hooks_behind (hooks_behind hooks ds) es
+hooks_behind-append hooks [] es = refl
+hooks_behind-append hooks (d ∷ ds) es = hooks_behind-append (hooks_by hooks d.fact) ds es

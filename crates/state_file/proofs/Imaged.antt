@@ -7,7 +7,7 @@ use Rattle.consent.specs.declared.kept_consent.KeptConsent.{KeptConsent}
 use Rattle.endpoints.specs.Bounded.{AllRight}
 use Rattle.endpoints.specs.Hosts.{HostRun}
 use Rattle.endpoints.specs.Restoring.{AreOf}
-use Rattle.endpoints.specs.Server.{FitsServer}
+use Rattle.endpoints.specs.Server.{Seen, FitsServer}
 use Rattle.hook_host.specs.Versions.{layout_of}
 use Rattle.hook_host.specs.declared.host.HookHost.{Ghosts as Hosting}
 use Rattle.image_codec.specs.Facts.{HookFact, ImageFact, record_fact}
@@ -17,8 +17,8 @@ use Rattle.token_store.specs.Fits.{FitsHistory, FitsStore}
 use Rattle.token_store.specs.Image.{image_of}
 use Rattle.token_store.specs.Kept.{Kept}
 use Rattle.token_store.specs.declared.image.KeptRecord.{KeptRecord}
-use Rattle.state_file.specs.Resuming.{Fits, Installs, IsMadeOf}
-use Rattle.state_file.specs.Standing.{IsImageOf}
+use Rattle.state_file.specs.Renewing.{IsImageFor}
+use Rattle.state_file.specs.Resuming.{Installs, IsMadeOf}
 use Rattle.state_file.specs.declared.restored.Restored.{Restored}
 
 module _ {H : Type 0} (hosting : Hosting H) where
@@ -33,32 +33,32 @@ module _ {H : Type 0} (hosting : Hosting H) where
       map record_fact records ≡ image.records → restored.moment ≡ image.greatest → restored.hooks ≡ image.hooks → Installs hosting first image.hooks host →
       ((first : H) (history : List Event) → AreOf records image.consents history image.greatest → HostRun hosting.installs hosting.removes first history host → AllRight rules [] history →
       FitsServer hosting.installs hosting.removes restored.server rules first history image.greatest) → IsMadeOf hosting image rules first restored
-  made_of restored image records host first rules told moment hooks installed fits history is right replays =
-      let kept : map kept_told image.records ≡ image_of records = ap (map kept_told) (sym told) ∙ all_same records in
-      let of : AreOf records image.consents history image.greatest = record {
-        kept = subst (λ (ks : List Kept). FitsHistory ks history image.greatest) kept is.records;
-        consented = is.consents;
-      } in
-      let run : HostRun hosting.installs hosting.removes first history host =
-      replays host (subst (λ (hs : List HookFact). Installs hosting first hs host) is.hooks installed) in (
-        subst (λ (m : ℕ). FitsServer hosting.installs hosting.removes restored.server rules first history m) (sym moment) (fits first history of run right),
-        hooks ∙ is.hooks,
-      )
+  made_of restored image records host first rules told moment hooks installed fits = (
+    hooks,
+    λ history is right replays.
+        let kept : map kept_told image.records ≡ image_of records = ap (map kept_told) (sym told) ∙ all_same records in
+        let of : AreOf records image.consents history image.greatest = record {
+          kept = subst (λ (ks : List Kept). FitsHistory ks history image.greatest) kept is.records;
+          consented = is.consents;
+        } in
+        let run : HostRun hosting.installs hosting.removes first history host =
+        replays host (subst (λ (hs : List HookFact). Installs hosting first hs host) is.hooks installed) in (
+          subst (λ (m : ℕ). FitsServer hosting.installs hosting.removes restored.server rules first history m) (sym moment) (fits first history of run right),
+          hooks ∙ is.hooks,
+        ),
+  )
 
   -- and a server that fits a history has an image that is one of it
-  pub is_image : (restored : Restored H) (image : ImageFact) (records : List KeptRecord) (consents : List KeptConsent) →
-      map record_fact records ≡ image.records → consents ≡ image.consents → image.greatest ≡ restored.moment → image.hooks ≡ restored.hooks →
-      ((history : List Event) → FitsStore restored.server.store history restored.server.greatest → FitsHistory (image_of records) history restored.server.greatest) →
-      ((history : List Event) → FitsConsents restored.server.consents history → FitsConsents (kept_consents consents) history) →
-      (rules : RegistryRecord) (first : H) (history : List Event) → Fits hosting restored rules first history → IsImageOf image history
-  is_image restored image records consents told given greatest hooks lists gives rules first history fits =
-      let server = fits.0 in
-      let there : FitsHistory (image_of records) history restored.server.greatest =
-      lists history (subst (λ (m : ℕ). FitsStore restored.server.store history m) (sym server.greatest_is) server.store) in
-      let moment : restored.server.greatest ≡ image.greatest = server.greatest_is ∙ sym greatest in
+  pub is_image : (server : Seen H) (image : ImageFact) (records : List KeptRecord) (consents : List KeptConsent) (hooks : List HookFact) →
+      map record_fact records ≡ image.records → consents ≡ image.consents → image.greatest ≡ server.greatest → image.hooks ≡ hooks →
+      ((history : List Event) → FitsStore server.store history server.greatest → FitsHistory (image_of records) history server.greatest) →
+      ((history : List Event) → FitsConsents server.consents history → FitsConsents (kept_consents consents) history) → IsImageFor hosting server hooks image
+  is_image server image records consents hooks told given greatest are lists gives rules first history m fits set =
+      let there : FitsHistory (image_of records) history server.greatest =
+      lists history (subst (λ (n : ℕ). FitsStore server.store history n) (sym fits.greatest_is) fits.store) in
       let kept : image_of records ≡ map kept_told image.records = sym (all_same records) ∙ ap (map kept_told) told in
       record {
-        records = subst (λ (ks : List Kept). FitsHistory ks history image.greatest) kept (subst (λ (m : ℕ). FitsHistory (image_of records) history m) moment there);
-        consents = subst (λ (cs : List KeptConsent). FitsConsents (kept_consents cs) history) given (gives history server.consents);
-        hooks = hooks ∙ fits.1;
+        records = subst (λ (ks : List Kept). FitsHistory ks history image.greatest) kept (subst (λ (n : ℕ). FitsHistory (image_of records) history n) (sym greatest) there);
+        consents = subst (λ (cs : List KeptConsent). FitsConsents (kept_consents cs) history) given (gives history fits.consents);
+        hooks = are ∙ set;
       }

@@ -6,6 +6,7 @@ pub mod Renewed
 pub mod FromFile
 pub mod Hooked
 pub mod Kept
+pub mod Known
 pub mod Left
 pub mod Listed
 pub mod Redone

@@ -14,10 +14,10 @@ use Rattle.change_codec.specs.Happened.{dated}
 use Rattle.change_codec.specs.HappenedLaws.{Happened-split, Happened-front, meaning_of-told}
 use Rattle.state_file.specs.Standing.{AreTold}
 use Rattle.image_codec.specs.Facts.{HookFact}
-use Rattle.state_file.specs.Hooks.{hooks_by, hooks_of}
-use Rattle.state_file.specs.Resuming.{Fits, Redoes, RedoesBatches}
+use Rattle.state_file.specs.Hooks.{hooks_behind, hooks_by, hooks_of}
+use Rattle.state_file.specs.Resuming.{Fits, FitsOn, Redoes, RedoesBatches}
 use Rattle.state_file.specs.declared.restored.Restored.{Restored}
-use Rattle.state_file.proofs.Hooked.{hooks_told, hooks_of-with}
+use Rattle.state_file.proofs.Hooked.{hooks_behind-append, hooks_told, hooks_of-with}
 
 -- what is right is right as far as it went
 pub right_before : (rules : RegistryRecord) (start before later : List Event) → AllRight rules start (before ++ later) → AllRight rules start before
@@ -35,7 +35,7 @@ told_as batch ds facts is one told = by (subst (λ (b : List ℕ). AreTold (b �
         t.5 ∙ ap (λ (x : List DatedFact). t.0 ++ x) t.4 ∙ append-nil t.0 ∙ same
 
 -- the dated changes of some batches, and of those behind them
-told_split : (batches more : List (List ℕ)) (facts : List DatedFact) → AreTold (batches ++ more) facts →
+pub told_split : (batches more : List (List ℕ)) (facts : List DatedFact) → AreTold (batches ++ more) facts →
     (front back : List DatedFact) × AreTold batches front × AreTold more back × (facts ≡ front ++ back)
 told_split [] more facts told = ([], facts, refl, told, refl)
 told_split ([] ∷ batches) more facts told =
@@ -49,21 +49,26 @@ told_split ((suc n ∷ bytes) ∷ batches) more facts told =
 module _ {H : Type 0} (hosting : Hosting H) where
   -- none
   pub redoes_none : (restored : Restored H) → Redoes hosting restored [] restored
-  redoes_none restored rules first before after fits happened right =
-      subst (λ (h : List Event). Fits hosting restored rules first h) (sym happened) fits
+  redoes_none restored = (refl, λ rules first before after fits happened right. subst (λ (h : List Event). Fits hosting restored rules first h) (sym happened) fits)
 
   -- some, and then others
-  pub redoes_then : (old mid new : Restored H) (facts more : List DatedFact) → Redoes hosting old facts mid → Redoes hosting mid more new → Redoes hosting old (facts ++ more) new
-  redoes_then old mid new facts more one then rules first before after fits happened right =
+  fits_then : (old mid new : Restored H) (facts more : List DatedFact) → FitsOn hosting old facts mid → FitsOn hosting mid more new → FitsOn hosting old (facts ++ more) new
+  fits_then old mid new facts more one then rules first before after fits happened right =
       let parts = Happened-split before after facts more happened in
       let front = Happened-front parts.0 after more parts.2 in
       let right_there : AllRight rules [] parts.0 = right_before rules [] parts.0 front.0 (subst (λ (h : List Event). AllRight rules [] h) front.1 right) in
       then rules first parts.0 after (one rules first before parts.0 fits parts.1 right_there) parts.2 right
 
+  pub redoes_then : (old mid new : Restored H) (facts more : List DatedFact) → Redoes hosting old facts mid → Redoes hosting mid more new → Redoes hosting old (facts ++ more) new
+  redoes_then old mid new facts more one then = (
+    then.0 ∙ ap (λ (hs : List HookFact). hooks_behind hs more) one.0 ∙ sym (hooks_behind-append old.hooks facts more),
+    fits_then old mid new facts more one.1 then.1,
+  )
+
   -- one
-  pub redoes_one : (old new : Restored H) (moment : ℕ) (change : Change) → again.Redoes hosting old.server moment change new.server →
-      new.hooks ≡ hooks_by old.hooks (fact_of change) → new.moment ≡ moment → Redoes hosting old (dated moment change ∷ []) new
-  redoes_one old new moment change redone hooks moment_is rules first before after fits happened right =
+  fits_one : (old new : Restored H) (moment : ℕ) (change : Change) → again.Redoes hosting old.server moment change new.server →
+      new.hooks ≡ hooks_by old.hooks (fact_of change) → new.moment ≡ moment → FitsOn hosting old (dated moment change ∷ []) new
+  fits_one old new moment change redone hooks moment_is rules first before after fits happened right =
       let made = redone rules first before old.moment fits.0 in
       let some : Some made.0 ≡ Some happened.0 = sym made.1 ∙ sym (meaning_of-told before moment change) ∙ happened.1 in
       let same : made.0 ≡ happened.0 = cc in
@@ -75,6 +80,10 @@ module _ {H : Type 0} (hosting : Hosting H) where
       hooks ∙ ap (λ (hs : List HookFact). hooks_by hs (fact_of change)) fits.1 ∙ hooks_told before moment (fact_of change) happened.0 (hooks_of before) happened.1
       ∙ sym (hooks_of-with before moment happened.0) ∙ ap hooks_of (sym happened.3) in
       (subst (λ (m : ℕ). FitsServer hosting.installs hosting.removes new.server rules first after m) (sym moment_is) server, set)
+
+  pub redoes_one : (old new : Restored H) (moment : ℕ) (change : Change) → again.Redoes hosting old.server moment change new.server →
+      new.hooks ≡ hooks_by old.hooks (fact_of change) → new.moment ≡ moment → Redoes hosting old (dated moment change ∷ []) new
+  redoes_one old new moment change redone hooks moment_is = (hooks, fits_one old new moment change redone hooks moment_is)
 
   -- no batch, or one of rules
   pub redoes_no_batch : (restored : Restored H) → RedoesBatches hosting restored [] restored

@@ -121,7 +121,7 @@ module _ {H : Type 0} (hosting : Hosting H) where
       let right : AllRight rules [] after =
       subst (λ (h : List Event). AllRight rules [] h) (sym goes_on) (all_right-push rules [] history (event_at old.moment (happens.HookSet hook.name hook.version hook.code)) fits.0.right tt) in
       let set : named hook.name (hooks_of after) ≡ Some hook = ap (named hook.name) (hooks_of-set old.moment history hook free) ∙ named_new (hooks_of history) hook free in (
-        redone rules first history after fits happened right,
+        redone.1 rules first history after fits happened right,
         All-cons (λ (h : HookFact). named h.name (hooks_of after) ≡ Some h) hook [] set (All-nil (λ (h : HookFact). named h.name (hooks_of after) ≡ Some h)),
         λ kept notes. subst (λ (unkept : Option (List DatedFact)). AreUnkept unkept kept after) (sym noted) (noted_more old.server.unkept kept history after old.moment changes notes happened),
       )

@@ -3,7 +3,7 @@ use Rattle.std.specs.Prelude.{◌≡◌, ◌++◌, ℕ, List, [], ◌∷◌, Opt
 use Rattle.std.specs.Str.{bytes_eq}
 use Rattle.consent.specs.History.{Event, Change, with_change}
 use Rattle.consent.specs.History.{Change as happens}
-use Rattle.change_codec.specs.Spelling.{Fact, HookSet, HookGone}
+use Rattle.change_codec.specs.Spelling.{DatedFact, Fact, HookSet, HookGone}
 use Rattle.image_codec.specs.Facts.{HookFact}
 
 -- the hook of the name
@@ -24,6 +24,11 @@ abbrev pub hooks_by : List HookFact → Fact → List HookFact
 hooks_by hooks (HookSet name version code) = hooks ++ record { name = name; version = version; code = code } ∷ []
 hooks_by hooks (HookGone name) = without_hook name hooks
 hooks_by hooks _ = hooks
+
+-- the hooks that are set behind the dated changes
+abbrev pub hooks_behind : List HookFact → List DatedFact → List HookFact
+hooks_behind hooks [] = hooks
+hooks_behind hooks (d ∷ later) = hooks_behind (hooks_by hooks d.fact) later
 
 -- the hooks that are set after the events, in the order in which they were set
 abbrev pub hooks_after : List HookFact → List Event → List HookFact

@@ -6,5 +6,6 @@ pub mod Comparing
 pub mod Hooks
 pub mod Resuming
 pub mod FaultTexts
+pub mod Knowing
 pub mod Renewing
 pub mod Accounts

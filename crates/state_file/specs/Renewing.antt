@@ -1,31 +1,47 @@
 -- When an image is put in the place of a state file's batches.
-use Rattle.std.specs.Prelude.{◌≡◌, ◌⊎◌, ◌<◌, ◌≤◌, ◌^◌, ◌/◌, ℕ, List, [], ◌∷◌, length}
-use Rattle.batch_file.specs.Frames.{recovered}
-use Rattle.image_codec.specs.Facts.{ImageFact}
-use Rattle.image_codec.specs.Spelling.{ImageCounts, image_spelling}
+use Rattle.std.specs.Prelude.{◌≡◌, ◌⊎◌, ◌≤◌, ◌^◌, ℕ, List, length}
+use Rattle.endpoints.specs.Server.{Seen}
+use Rattle.hook_host.specs.declared.host.HookHost.{Ghosts as Hosting}
+use Rattle.image_codec.specs.Facts.{HookFact, ImageFact}
+use Rattle.image_codec.specs.Spelling.{ImageCounts, ImageFits, image_spelling, rules_spelling}
+use Rattle.image_keeper.specs.Imaging.{OfFitted}
+use Rattle.image_keeper.specs.declared.keeper.ImageFault.{ImageFault}
+use Rattle.image_keeper.specs.declared.keeper.ImageFault.TheVariants.{Memory, TooLong, Failed}
 use Rattle.state_file.specs.declared.fault.StateFault.{StateFault}
-use Rattle.state_file.specs.declared.fault.StateFault.TheVariants.{Memory, Device, TooLong}
+use Rattle.state_file.specs.declared.fault.StateFault.TheVariants as state
+use Rattle.state_file.specs.Hooks.{hooks_of}
+use Rattle.state_file.specs.Standing.{IsImageOf, StandsFor}
 
--- the batches take more than 1 MB, and more than four times as much as their image
-abbrev pub IsLong : ℕ → ℕ → Type 0
-IsLong end image = (2 ^ 20 < end) × (image < end / 4)
+-- memory was refused, or the disk failed
+abbrev pub IsOfDisk : StateFault → Type 0
+IsOfDisk state.Memory = Unit {0}
+IsOfDisk state.Device = Unit {0}
+IsOfDisk _ = ⊥
+
+-- the image is one of each history that the server fits and that sets these hooks
+abbrev pub IsImageFor : {H : Type 0} → Hosting H → Seen H → List HookFact → ImageFact → Type 0
+IsImageFor hosting server hooks image = OfFitted hosting server (λ history. hooks ≡ hooks_of history → IsImageOf image history)
+
+-- the bytes spell such an image, under the rules that these others spell
+pub record SpellImage {H : Type 0} (hosting : Hosting H) (server : Seen H) (hooks : List HookFact) (rules bytes : List ℕ) : Type 0 where
+  pub image : ImageFact
+  pub fits : ImageFits image
+  pub spelled : bytes ≡ image_spelling image
+  pub rules_are : rules ≡ rules_spelling image.rules
+  pub hooks_are : image.hooks ≡ hooks
+  pub is : IsImageFor hosting server hooks image
 
 -- a text or a list of it takes more than four bytes to count, or it is too long to be a batch
 abbrev pub IsTooLarge : ImageFact → Type 0
 IsTooLarge image = (¬ ImageCounts image) ⊎ (2 ^ 32 ≤ length (image_spelling image))
 
--- an image stands alone now, or is too large for that, and nothing was written
-abbrev pub IsRenewal : List ℕ → List ℕ → Type 0
-IsRenewal old new =
-    (image : ImageFact) × ((recovered new ≡ image_spelling image ∷ []) ⊎ (IsTooLarge image × (new ≡ old)))
+-- why no image of the server is spelled: memory was refused, or such an image is too large
+abbrev pub IsUnspelled : {H : Type 0} → Hosting H → Seen H → List HookFact → ImageFault → Type 0
+IsUnspelled hosting server hooks Memory = Unit {0}
+IsUnspelled hosting server hooks TooLong = (image : ImageFact) × IsImageFor hosting server hooks image × IsTooLarge image
+IsUnspelled hosting server hooks Failed = ⊥
 
--- memory was refused, or the disk failed
-abbrev pub IsOfDisk : StateFault → Type 0
-IsOfDisk Memory = Unit {0}
-IsOfDisk Device = Unit {0}
-IsOfDisk _ = ⊥
-
--- why a batch is not put in the place of all
-abbrev pub IsUnreplaced : List ℕ → StateFault → Type 0
-IsUnreplaced batch TooLong = 2 ^ 32 ≤ length batch
-IsUnreplaced batch fault = IsOfDisk fault
+-- an image is too large that is one of each history that the server fits and for which the bytes stand
+abbrev pub HasTooMuch : {H : Type 0} → Hosting H → Seen H → List ℕ → Type 0
+HasTooMuch hosting server left =
+    (image : ImageFact) × OfFitted hosting server (λ history. StandsFor left history → IsImageOf image history) × IsTooLarge image

@@ -1,5 +1,5 @@
 -- What a server does that is started on a state file.
-use Rattle.std.specs.Prelude.{◌≡◌, ◌≢◌, ◌⊎◌, ◌++◌, ℕ, zero, suc, List, [], ◌∷◌, Bool, true, false, None, Some, string_bytes}
+use Rattle.std.specs.Prelude.{◌≡◌, ◌≢◌, ◌⊎◌, ◌++◌, ℕ, List, [], ◌∷◌, false, None, Some, string_bytes}
 use Rattle.batch_file.specs.Frames.{recovered}
 use Rattle.change_codec.specs.Happened.{Happened}
 use Rattle.change_codec.specs.Keeping.{Crashes, Holds, IsFrontOf, LeavesEither}
@@ -13,8 +13,8 @@ use Rattle.hook_host.specs.Versions.{layout_of}
 use Rattle.hook_host.specs.declared.host.HookHost.{Ghosts as Hosting}
 use Rattle.image_codec.specs.Facts.{RulesFact, HookFact, ImageFact}
 use Rattle.state_file.specs.Comparing.{RefuseRules, TakesRules}
-use Rattle.state_file.specs.Hooks.{AreSet, hooks_of, named, with_hooks}
-use Rattle.state_file.specs.Standing.{AreTold, BeginWithImage, IsImageOf, StandsFor}
+use Rattle.state_file.specs.Hooks.{AreSet, hooks_behind, hooks_of, named, with_hooks}
+use Rattle.state_file.specs.Standing.{AreTold, BeginWithImage, IsImageOf, StandsFor, begins_image}
 use Rattle.state_file.specs.Telling.{TellsRules, rules_of}
 use Rattle.state_file.specs.declared.fault.StateFault.{StateFault}
 use Rattle.state_file.specs.declared.fault.StateFault.TheVariants.{Memory, Device, Full, Spelling, Follows, Image, HookDiffers, Hook}
@@ -30,10 +30,14 @@ Fits hosting restored rules first history =
     × (restored.hooks ≡ hooks_of history)
 
 -- Whatever history the old one fits: where the dated changes lead on to one that is right, the new one fits that.
-abbrev pub Redoes : {H : Type 0} → Hosting H → Restored H → List DatedFact → Restored H → Type 0
-Redoes {H = H} hosting old facts new =
+abbrev pub FitsOn : {H : Type 0} → Hosting H → Restored H → List DatedFact → Restored H → Type 0
+FitsOn {H = H} hosting old facts new =
     (rules : RegistryRecord) (first : H) (history after : List Event) → Fits hosting old rules first history →
     Happened history facts after → AllRight rules [] after → Fits hosting new rules first after
+
+-- and its hooks are those that the changes leave
+abbrev pub Redoes : {H : Type 0} → Hosting H → Restored H → List DatedFact → Restored H → Type 0
+Redoes hosting old facts new = (new.hooks ≡ hooks_behind old.hooks facts) × FitsOn hosting old facts new
 
 -- so it is of the dated changes that the batches have
 abbrev pub RedoesBatches : {H : Type 0} → Hosting H → Restored H → List (List ℕ) → Restored H → Type 0
@@ -52,11 +56,6 @@ abbrev pub Replays : {H : Type 0} → Hosting H → H → List Event → Type 0
 Replays {H = H} hosting first history =
     (host : H) → Installs hosting first (hooks_of history) host → HostRun hosting.installs hosting.removes first history host
 
--- an image begins with a byte 2
-abbrev pub begins_image : List ℕ → Bool
-begins_image (suc (suc zero) ∷ fields) = true
-begins_image _ = false
-
 -- the first batch, if there is one, is none
 abbrev pub HaveNoImage : List (List ℕ) → Type 0
 HaveNoImage [] = Unit {0}
@@ -68,11 +67,13 @@ abbrev pub WasRun : {H : Type 0} → Hosting H → H → List ℕ → List Event
 WasRun hosting first left history =
     HaveNoImage (recovered left) ⊎ ((front : List Event) → IsFrontOf front history → Replays hosting first front)
 
--- the server fits each history that the image is one of, where that is right under the rules and was run
+-- the server has the hooks of the image, and fits each history that this is one of, where that is right under the rules and
+-- was run
 abbrev pub IsMadeOf : {H : Type 0} → Hosting H → ImageFact → RegistryRecord → H → Restored H → Type 0
 IsMadeOf hosting image rules first restored =
-    (history : List Event) → IsImageOf image history → AllRight rules [] history → Replays hosting first history →
-    Fits hosting restored rules first history
+    (restored.hooks ≡ image.hooks)
+    × ((history : List Event) → IsImageOf image history → AllRight rules [] history → Replays hosting first history →
+    Fits hosting restored rules first history)
 
 -- the server is made of the first batch, where that is an image, and else anew; the later batches are the others
 pub record Begins {H : Type 0} (hosting : Hosting H) (rules : RegistryRecord) (first : H) (batches later : List (List ℕ)) (restored : Restored H) : Type 0 where

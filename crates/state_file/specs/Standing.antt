@@ -1,5 +1,5 @@
 -- What a state file stands for.
-use Rattle.std.specs.Prelude.{◌≡◌, ◌⊎◌, ◌++◌, ℕ, zero, List, [], ◌∷◌, map}
+use Rattle.std.specs.Prelude.{◌≡◌, ◌⊎◌, ◌++◌, ℕ, zero, suc, List, [], ◌∷◌, Bool, true, false, map}
 use Rattle.batch_file.specs.Frames.{recovered}
 use Rattle.consent.specs.Consents.{FitsConsents, kept_consents}
 use Rattle.consent.specs.History.{Event}
@@ -17,6 +17,11 @@ pub record IsImageOf (image : ImageFact) (history : List Event) : Type 0 where
   pub records : FitsHistory (map kept_told image.records) history image.greatest
   pub consents : FitsConsents (kept_consents image.consents) history
   pub hooks : image.hooks ≡ hooks_of history
+
+-- an image begins with a byte 2
+abbrev pub begins_image : List ℕ → Bool
+begins_image (suc (suc zero) ∷ fields) = true
+begins_image _ = false
 
 -- the first batch is this image, and those are behind it
 abbrev pub BeginWithImage : List (List ℕ) → ImageFact → List (List ℕ) → Type 0

@@ -1,8 +1,10 @@
 //! From where the changes of a state file lead on.
 
-ghost use Rattle.std.specs.Prelude.{◌≡◌, ◌∷◌, IfOk, IfErr, IfSome, IfNone};
+ghost use Rattle.std.specs.Prelude.{◌≡◌, ◌∷◌, true, IfOk, IfErr, IfSome, IfNone};
 ghost use Rattle.batch_file.specs.Frames.{lists};
-ghost use Rattle.state_file.specs.Resuming.{Begins, HaveNoImage, RefusesImage, begins_image};
+ghost use Rattle.state_file.specs.Knowing.{image_size};
+ghost use Rattle.state_file.specs.Resuming.{Begins, HaveNoImage, RefusesImage};
+ghost use Rattle.state_file.specs.Standing.{begins_image};
 
 use crate::fault::StateFault;
 use crate::restored::Restored;
@@ -24,6 +26,7 @@ pub(crate) struct Beginning<'b, H> {
 /// The first batch, where that is an image, and those behind it.
 fn image_first(batches: &[Vec<u8>]) -> Option<(&[u8], &[Vec<u8>])>
     ensures there { IfSome result (λ parts. lists batches.now ≡ parts.0.now ∷ lists parts.1.now) }
+    ensures image { IfSome result (λ parts. begins_image parts.0.now ≡ true) }
     ensures none { IfNone result (HaveNoImage (lists batches.now)) }
 {
     match batches {
@@ -52,6 +55,7 @@ pub(crate) fn begin<'b, H: HookHost>(
     batches: &'b [Vec<u8>],
 ) -> Result<Beginning<'b, H>, StateFault>
     ensures begins { IfOk result (λ begun. Begins H.HookHost registry host (lists batches.now) (lists begun.later.now) begun.restored) }
+    ensures image { IfOk result (λ begun. begun.image ≡ image_size (lists batches.now)) }
     ensures refused { IfErr result (RefusesImage (lists batches.now)) }
 {
     let Some((first, later)) = image_first(batches) else {

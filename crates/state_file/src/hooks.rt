@@ -1,10 +1,11 @@
 //! The hooks that the changes of a state file set.
 
-ghost use Rattle.std.specs.Prelude.{◌≡◌, ◌↔◌, ◌++◌, ◌∷◌, [], IsTrue, IfOk, OnOk, map, option_copied};
-ghost use Rattle.change_codec.specs.Spelling.{fact_of};
+ghost use Rattle.std.specs.Prelude.{◌≡◌, ◌↔◌, ◌++◌, ◌∷◌, [], List, IsTrue, IfOk, OnOk, map, option_copied};
+ghost use Rattle.change_codec.specs.Spelling.{DatedFact, HaveSpelling, dated_facts, fact_of, spelling};
 ghost use Rattle.image_codec.specs.Facts.{hook_fact};
-ghost use Rattle.state_file.specs.Hooks.{hooks_by, named, without_hook};
+ghost use Rattle.state_file.specs.Hooks.{hooks_behind, hooks_by, named, without_hook};
 
+use change_codec::{DatedChange, decode};
 use consent::Change;
 use image_codec::KeptHook;
 use std::alloc::{AllocError, Global};
@@ -118,6 +119,35 @@ impl SetHooks {
             }
             _ => Ok(()),
         }
+    }
+
+    // Those that are set after the changes, one after the other.
+    fn follow_each(&mut self, changes: &[DatedChange<'_>]) -> Result<(), AllocError>
+        ensures { OnOk result (self.new ≡ hooks_behind self.old (dated_facts changes.now)) }
+    {
+        for dated in changes {
+            self.follow(&dated.change)?;
+        }
+        Ok(())
+    }
+
+    /// Those that are set behind the dated changes that a batch spells.
+    pub(crate) fn follow_batch(&mut self, batch: &[u8]) -> Result<(), AllocError>
+        ensures { OnOk result ((facts : List DatedFact) → HaveSpelling facts → batch.now ≡ spelling facts →
+            self.new ≡ hooks_behind self.old facts) }
+    {
+        let Ok(changes) = decode(self.alloc, batch) else {
+            return Err(AllocError);
+        };
+        self.follow_each(&changes)
+    }
+
+    /// The same once more.
+    pub(crate) fn copy(&self) -> Result<SetHooks, AllocError>
+        ensures { IfOk result (λ set. set ≡ self.now) }
+    {
+        let list = self.listed(self.alloc)?;
+        SetHooks::of(self.alloc, list.as_slice())
     }
 
     /// Those that are listed.

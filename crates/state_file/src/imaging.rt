@@ -1,12 +1,10 @@
-//! A server as an image, and a server made of one.
+//! The image of a server, and a server made of one.
 
-ghost use Rattle.std.specs.Prelude.{◌≡◌, ◌∷◌, [], List, IfOk, IfErr, OnOk, map};
-ghost use Rattle.clients.specs.RegistryRecord.{RegistryRecord};
-ghost use Rattle.consent.specs.History.{Event};
+ghost use Rattle.std.specs.Prelude.{◌≡◌, IfOk, IfErr, OnOk, map};
 ghost use Rattle.hook_host.specs.Versions.{layout_of};
 ghost use Rattle.image_codec.specs.Facts.{hook_fact, image_fact, rules_fact};
-ghost use Rattle.state_file.specs.Resuming.{Fits, Installs, IsMadeOf, IsOfImage};
-ghost use Rattle.state_file.specs.Standing.{IsImageOf};
+ghost use Rattle.state_file.specs.Renewing.{IsImageFor};
+ghost use Rattle.state_file.specs.Resuming.{Installs, IsMadeOf, IsOfImage};
 
 use crate::fault::StateFault;
 use crate::hooks::SetHooks;
@@ -74,26 +72,27 @@ impl<H: HookHost> Restored<H> {
             hooks,
         })
     }
+}
 
-    /// The image of the server, under these rules.
-    pub(crate) fn image<'a>(
-        &'a self,
-        alloc: Global,
-        rules: Rules<'a>,
-    ) -> Result<Image<'a>, AllocError>
-        ensures rules { IfOk result (λ image. (image_fact image).rules ≡ rules_fact rules.entry) }
-        ensures is { IfOk result (λ image. (registry : RegistryRecord) (first : H) (history : List Event) →
-            Fits H.HookHost self.now registry first history → IsImageOf (image_fact image) history) }
-    {
-        let records = self.server.records(alloc)?;
-        let consents = self.server.consents(alloc)?;
-        let hooks = self.hooks.listed(alloc)?;
-        Ok(Image {
-            rules,
-            greatest: self.moment,
-            records,
-            consents,
-            hooks,
-        })
-    }
+/// The image of a server, with these hooks, under these rules.
+pub(crate) fn image_of<'a, H: HookHost>(
+    alloc: Global,
+    server: &'a Server<H>,
+    hooks: &'a SetHooks,
+    rules: Rules<'a>,
+) -> Result<Image<'a>, AllocError>
+    ensures rules { IfOk result (λ image. (image_fact image).rules ≡ rules_fact rules.entry) }
+    ensures hooks { IfOk result (λ image. (image_fact image).hooks ≡ hooks.now) }
+    ensures is { IfOk result (λ image. IsImageFor H.HookHost server.now hooks.now (image_fact image)) }
+{
+    let records = server.records(alloc)?;
+    let consents = server.consents(alloc)?;
+    let hooks = hooks.listed(alloc)?;
+    Ok(Image {
+        rules,
+        greatest: server.moment(),
+        records,
+        consents,
+        hooks,
+    })
 }

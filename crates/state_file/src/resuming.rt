@@ -1,15 +1,16 @@
 //! Starting a server on a state file.
 
-ghost use Rattle.std.specs.Prelude.{◌≡◌, ◌⊎◌, IfOk, IfErr, List};
+ghost use Rattle.std.specs.Prelude.{◌≡◌, IfOk, IfErr, List};
 ghost use Rattle.batch_file.specs.Crashes.{LeavesOnly, Only};
-ghost use Rattle.change_codec.specs.Keeping.{Holds, crashes};
+ghost use Rattle.change_codec.specs.Keeping.{Holds};
 ghost use Rattle.clients.specs.RegistryRecord.{RegistryRecord};
 ghost use Rattle.consent.specs.History.{Event};
 ghost use Rattle.endpoints.specs.Widening.{IsWider};
 ghost use Rattle.batch_file.specs.Frames.{recovered};
+ghost use Rattle.state_file.specs.Knowing.{file_crashes};
 ghost use Rattle.state_file.specs.Resuming.{AnswersFor, RefusesResume};
 ghost use Rattle.state_file.specs.Standing.{StandsFor};
-ghost use Rattle.state_file.specs.Telling.{BeginWithRules, IsOfRules, LeavesRules, TellsRules, rules_of};
+ghost use Rattle.state_file.specs.Telling.{BeginWithRules, LeavesRules, TellsRules, rules_of};
 
 use crate::beginning::{Beginning, begin};
 use crate::fault::StateFault;
@@ -28,10 +29,6 @@ use std::alloc::Global;
 pub struct Resumed<D: Device, H> {
     pub restored: Restored<H>,
     pub keeper: StateKeeper<D>,
-    /// The rules, as the file tells them.
-    pub(crate) rules: Vec<u8>,
-    /// How many bytes the file's image has, if it has one.
-    pub(crate) image: usize,
 }
 
 /// Starts a server on the bytes of a state file, whatever a crash left there: it is made of the file's image, if there is
@@ -49,8 +46,7 @@ pub fn resume<D: Device + Drop, H: HookHost>(
     ensures answers { IfOk result (λ resumed. AnswersFor H.HookHost bytes.now registry host resumed.restored) }
     // All that a crash may leave from then on stands for what the bytes stood for.
     ensures held { IfOk result (λ resumed. (history : List Event) → StandsFor bytes.now history →
-        Holds (crashes StandsFor (λ f c. D.may_leave f.device c ⊎ (c ≡ D.seen f.device)) (λ f. D.moment f.device) (λ f. D.left_since f.device))
-        resumed.keeper history) }
+        Holds (file_crashes D.Device) resumed.keeper history) }
     // So does what a crash meanwhile left.
     ensures any_moment { IfOk result (λ resumed. LeavesOnly D.moment D.left_since device resumed.keeper.device
         (λ left. (history : List Event) → StandsFor bytes.now history → StandsFor left history)) }
@@ -61,7 +57,6 @@ pub fn resume<D: Device + Drop, H: HookHost>(
     ensures told { IfOk result (λ resumed. LeavesRules D.seen D.may_leave resumed.keeper (rules_of registry)) }
     ensures unwritten { IfOk result (λ resumed. TellsRules bytes.now (rules_of registry) →
         recovered (D.seen resumed.keeper.device) ≡ recovered bytes.now) }
-    ensures rules { IfOk result (λ resumed. IsOfRules resumed.rules.items (rules_of registry)) }
     ensures refused { IfErr result (RefusesResume (recovered bytes.now) (rules_of registry)) }
 {
     let found = recover(alloc, &mut device, bytes)?;
@@ -72,6 +67,7 @@ pub fn resume<D: Device + Drop, H: HookHost>(
         image,
     } = begin(alloc, registry, host, &found.batches)?;
     redo_all(alloc, &mut restored, later)?;
+    let hooks = restored.hooks.copy()?;
     let mut file = BatchFile {
         device,
         end: found.end,
@@ -79,8 +75,6 @@ pub fn resume<D: Device + Drop, H: HookHost>(
     tell(alloc, &mut file, &rules)?;
     Ok(Resumed {
         restored,
-        keeper: StateKeeper::new(alloc, file),
-        rules: rules.bytes,
-        image,
+        keeper: StateKeeper::new(alloc, file, rules.bytes, hooks, image),
     })
 }

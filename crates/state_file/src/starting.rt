@@ -3,21 +3,23 @@
 ghost use Rattle.std.specs.Prelude.{◌≡◌, ◌⊎◌, IfOk, IfErr, OnOk, map};
 ghost use Rattle.batch_file.specs.Crashes.{LeavesOnly, Only};
 ghost use Rattle.batch_file.specs.Frames.{recovered};
-ghost use Rattle.change_codec.specs.Keeping.{Holds, crashes};
+ghost use Rattle.change_codec.specs.Keeping.{Holds};
 ghost use Rattle.clients.specs.RegistryRecord.{RegistryRecord};
 ghost use Rattle.endpoints.specs.Server.{NowNotes};
 ghost use Rattle.endpoints.specs.Widening.{IsWider};
 ghost use Rattle.image_codec.specs.Facts.{RulesFact, hook_fact};
+ghost use Rattle.image_keeper.specs.Imaging.{KeepsImage};
 ghost use Rattle.state_file.specs.Hooks.{AreSet, with_hooks};
+ghost use Rattle.state_file.specs.Knowing.{IsLongFile, file_crashes};
+ghost use Rattle.state_file.specs.Renewing.{HasTooMuch, IsOfDisk};
 ghost use Rattle.state_file.specs.Resuming.{AnswersFor, KeepsNoted, OfEach, RefusesResume, RefusesSome, ServesOn};
 ghost use Rattle.state_file.specs.Standing.{StandsFor};
 ghost use Rattle.state_file.specs.Telling.{LeavesRules, TellsRules, rules_of};
 
 use crate::fault::StateFault;
 use crate::keeper::StateKeeper;
-use crate::renewing::resume_renewed;
 use crate::restored::Restored;
-use crate::resuming::Resumed;
+use crate::resuming::{Resumed, resume};
 use batch_file::device::Device;
 use change_codec::KeepFault;
 use clients::Registry;
@@ -25,6 +27,7 @@ use consent::Moment;
 use endpoints::Server;
 use hook_host::HookHost;
 use image_codec::KeptHook;
+use image_keeper::ImageFault;
 use std::alloc::Global;
 
 /// A server that goes on from a state file, and notes what happens; what keeps that; and the moment from which it goes on.
@@ -41,8 +44,7 @@ fn keep_noted<D: Device, H: HookHost>(
     keeper: &mut StateKeeper<D>,
 ) -> Result<(), KeepFault>
     ensures same { NowNotes server.old server.new server.new.unkept }
-    ensures kept { OnOk result (KeepsNoted (crashes StandsFor (λ f c. D.may_leave f.device c ⊎ (c ≡ D.seen f.device))
-        (λ f. D.moment f.device) (λ f. D.left_since f.device)) server.old server.new keeper.old keeper.new) }
+    ensures kept { OnOk result (KeepsNoted (file_crashes D.Device) server.old server.new keeper.old keeper.new) }
     ensures told { OnOk result ((rules : RulesFact) → LeavesRules D.seen D.may_leave keeper.old rules → LeavesRules D.seen D.may_leave keeper.new rules) }
 {
     let Some(batch) = server.unkept() else {
@@ -56,10 +58,28 @@ fn keep_noted<D: Device, H: HookHost>(
     Ok(())
 }
 
+// Makes the file small, where it is long, and the image of the server not too large.
+fn keep_short<D: Device, H: HookHost>(
+    server: &Server<H>,
+    keeper: &mut StateKeeper<D>,
+) -> Result<(), StateFault>
+    ensures kept { OnOk result (KeepsImage H.HookHost (file_crashes D.Device) server.now keeper.old keeper.new) }
+    ensures told { OnOk result ((rules : RulesFact) → LeavesRules D.seen D.may_leave keeper.old rules → LeavesRules D.seen D.may_leave keeper.new rules) }
+    ensures short { OnOk result ((¬ (IsLongFile D.seen keeper.new)) ⊎ HasTooMuch H.HookHost server.now (D.seen keeper.new.device)) }
+    ensures refused { IfErr result IsOfDisk }
+{
+    match keeper.shorten(server) {
+        Ok(()) => Ok(()),
+        Err(ImageFault::TooLong) => Ok(()),
+        Err(ImageFault::Memory) => Err(StateFault::Memory),
+        Err(ImageFault::Failed) => Err(StateFault::Device),
+    }
+}
+
 /// Starts a server on the bytes of a state file, whatever a crash left there, with hooks. It is made of the file's image, if
-/// there is one, and all changes of the whole batches behind that are made again under these rules. A file that is long is
-/// then replaced by the image of the server. A hook is then set, unless it is, at the moment of the last change. All that is
-/// kept when it is done.
+/// there is one, and all changes of the whole batches behind that are made again under these rules. A hook is then set,
+/// unless it is, at the moment of the last change. All that is kept when it is done, and a file that is long is replaced by
+/// the image of the server.
 pub fn start_on<D: Device + Drop, H: HookHost>(
     alloc: Global,
     device: D,
@@ -77,8 +97,7 @@ pub fn start_on<D: Device + Drop, H: HookHost>(
         AreSet (map hook_fact hooks.now) (with_hooks started.moment history (map hook_fact hooks.now)))) }
     // All that a crash may leave from then on stands for the history with these hooks.
     ensures held { IfOk result (λ started. OfEach H.HookHost host bytes.now (λ history.
-        Holds (crashes StandsFor (λ f c. D.may_leave f.device c ⊎ (c ≡ D.seen f.device)) (λ f. D.moment f.device) (λ f. D.left_since f.device))
-        started.keeper (with_hooks started.moment history (map hook_fact hooks.now)))) }
+        Holds (file_crashes D.Device) started.keeper (with_hooks started.moment history (map hook_fact hooks.now)))) }
     // What a crash meanwhile left stands for the history with these hooks, or without them.
     ensures any_moment { IfOk result (λ started. OfEach H.HookHost host bytes.now (λ history. LeavesOnly D.moment D.left_since device started.keeper.device
         (λ left. StandsFor left history ⊎ StandsFor left (with_hooks started.moment history (map hook_fact hooks.now))))) }
@@ -86,17 +105,17 @@ pub fn start_on<D: Device + Drop, H: HookHost>(
     ensures wider { IfOk result (λ _. (old : RegistryRecord) → TellsRules bytes.now (rules_of old) → IsWider old registry) }
     // All that a crash may leave from then on tells the registry's rules.
     ensures told { IfOk result (λ started. LeavesRules D.seen D.may_leave started.keeper (rules_of registry)) }
+    // The file is no longer than it may be, unless an image of the server is too large.
+    ensures short { IfOk result (λ started. (¬ (IsLongFile D.seen started.keeper)) ⊎ HasTooMuch H.HookHost started.server (D.seen started.keeper.device)) }
     ensures refused { IfErr result (λ fault. RefusesResume (recovered bytes.now) (rules_of registry) fault
         ⊎ RefusesSome H.HookHost (AnswersFor H.HookHost bytes.now registry host) (map hook_fact hooks.now) fault) }
 {
-    let mut resumed = resume_renewed(alloc, device, bytes, registry, host)?;
+    let mut resumed = resume(alloc, device, bytes, registry, host)?;
     resumed.restored.server.begin_noting()?;
     resumed.restored.set_hooks(alloc, hooks)?;
     let Resumed {
         restored,
         mut keeper,
-        rules: _rules,
-        image: _,
     } = resumed;
     let Restored {
         mut server,
@@ -104,6 +123,7 @@ pub fn start_on<D: Device + Drop, H: HookHost>(
         hooks: _hooks,
     } = restored;
     keep_noted(&mut server, &mut keeper)?;
+    keep_short(&server, &mut keeper)?;
     Ok(Started {
         server,
         keeper,

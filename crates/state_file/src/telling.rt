@@ -1,6 +1,6 @@
 //! What rules a state file tells, and telling a registry's.
 
-ghost use Rattle.std.specs.Prelude.{◌≡◌, ◌↔◌, Some, true, false, IsTrue, IfOk, IfErr, OnOk, List, is_some, option_copied};
+ghost use Rattle.std.specs.Prelude.{◌++◌, ◌∷◌, [], ◌≡◌, ◌↔◌, Some, true, false, IsTrue, IfOk, IfErr, OnOk, List, is_some, option_copied};
 ghost use Rattle.batch_file.specs.Crashes.{LeavesOnly};
 ghost use Rattle.batch_file.specs.Frames.{IsSettled, lists, recovered};
 ghost use Rattle.consent.specs.History.{Event};
@@ -170,6 +170,8 @@ pub(crate) fn tell<D: Device>(
     requires of_rules { (told : RulesFact) × (rules.now.bytes.items ≡ rules_spelling told) }
     ensures settled { OnOk result (IsSettled D.seen D.may_leave file.new) }
     ensures told { OnOk result (rules.now.told ≡ false → last_rules (recovered (D.seen file.new.device)) ≡ Some rules.now.bytes.items) }
+    ensures added { OnOk result (rules.now.told ≡ false →
+        recovered (D.seen file.new.device) ≡ recovered (D.seen file.old.device) ++ rules.now.bytes.items ∷ []) }
     ensures stands { OnOk result ((history : List Event) → StandsFor (D.seen file.old.device) history → StandsFor (D.seen file.new.device) history) }
     // Where they are told, nothing is written.
     ensures unwritten { OnOk result (rules.now.told ≡ true → file.new ≡ file.old) }

@@ -1,12 +1,11 @@
 use Rattle.std.proofs.Common.{ap, sym, Some, None, ◌∙◌, arith}
-use Rattle.std.specs.Prelude.{option_copied}
 use Rattle.messages.specs.Asked.{asked_of}
 use Rattle.answers.specs.Found.{grant_found}
 use Rattle.answers.specs.Scene.{scene_of}
 use Rattle.answers.specs.Told.{told}
 use Rattle.endpoints.specs.Introspect as introspection
 use Rattle.endpoints.specs.Presented.{live_of}
-use Rattle.endpoints.proofs.Telling.{introspected, active_told, code_told, nobody_told}
+use Rattle.endpoints.proofs.Telling.{introspected, active_told, code_told}
 use Rattle.endpoints.proofs.introspect.introspect.Goals as goal
 
 pub returns-in-Err-clause-decides : goal.returns-in-Err-clause-decides
@@ -24,20 +23,14 @@ returns-in_default-live_token-clause-decides c = λ history names shows.
     ∙ ap Some (sym (introspected c.args.view.now.rules.now history c.args.view.now.moment (asked_of c.args.request.now) c.in-Ok.presented.client _ None c.in-Ok.ensures
     (ap (live_of history c.args.view.now.moment) c.in-Some.is ∙ sym (c.in_default-live_token.ensures history names shows))))
 
-pub returns-in_default-client_numbered-clause-decides : goal.returns-in_default-client_numbered-clause-decides
-returns-in_default-client_numbered-clause-decides c = λ history names shows.
-    let live = ap (live_of history c.args.view.now.moment) c.in-Some.is ∙ sym (c.in-Some-live_token.ensures history names shows) in
-    ap (told (scene_of c.args.view.now history names)) c.unavailable.ensures
-    ∙ ap Some (sym (introspected c.args.view.now.rules.now history c.args.view.now.moment (asked_of c.args.request.now) c.in-Ok.presented.client _ _ c.in-Ok.ensures live ∙ nobody_told c.args.view.now.rules.now (grant_found history c.in-Some.digest c.args.view.now.moment c.in-Some-live_token.token) (sym c.client_numbered.ensures ∙ ap option_copied c.in_default-client_numbered.is)))
-
 pub returns-in_default-kind-clause-decides : goal.returns-in_default-kind-clause-decides
 returns-in_default-kind-clause-decides c = λ history names shows.
     let live = ap (live_of history c.args.view.now.moment) c.in-Some.is ∙ sym (c.in-Some-live_token.ensures history names shows) in
     ap (told (scene_of c.args.view.now history names)) c.inactive-in_default-kind.ensures
-    ∙ ap Some (sym (introspected c.args.view.now.rules.now history c.args.view.now.moment (asked_of c.args.request.now) c.in-Ok.presented.client _ _ c.in-Ok.ensures live ∙ code_told c.args.view.now.rules.now (grant_found history c.in-Some.digest c.args.view.now.moment c.in-Some-live_token.token) _ (sym c.client_numbered.ensures ∙ ap option_copied c.in-Some-client_numbered.is) c.in_default-kind.not-Token))
+    ∙ ap Some (sym (introspected c.args.view.now.rules.now history c.args.view.now.moment (asked_of c.args.request.now) c.in-Ok.presented.client _ _ c.in-Ok.ensures live ∙ code_told c.args.view.now.rules.now (grant_found history c.in-Some.digest c.args.view.now.moment c.in-Some-live_token.token) c.in_default-kind.not-Token))
 
 pub returns-clause-decides : goal.returns-clause-decides
 returns-clause-decides c = λ history names shows.
     let live = ap (live_of history c.args.view.now.moment) c.in-Some.is ∙ sym (c.in-Some-live_token.ensures history names shows) in
     ap Some (sym (introspected c.args.view.now.rules.now history c.args.view.now.moment (asked_of c.args.request.now) c.in-Ok.presented.client _ _ c.in-Ok.ensures live
-    ∙ active_told c.args.view.now.rules.now (grant_found history c.in-Some.digest c.args.view.now.moment c.in-Some-live_token.token) _ c.in-Token.kind c.get-issued.result _ (sym c.client_numbered.ensures ∙ ap option_copied c.in-Some-client_numbered.is) c.in-Token.is c.get-issued.ensures.value (omega (arith, c.get-issued.ensures.value, c.from.ensures))))
+    ∙ active_told c.args.view.now.rules.now (grant_found history c.in-Some.digest c.args.view.now.moment c.in-Some-live_token.token) c.in-Token.kind c.get-issued.result _ c.in-Token.is c.get-issued.ensures.value (omega (arith, c.get-issued.ensures.value, c.from.ensures))))

@@ -5,12 +5,17 @@ use Rattle.batch_file.specs.Frames.{lists, recovered}
 use Rattle.batch_file.specs.declared.appending.BatchFile.{BatchFile}
 use Rattle.consent.specs.History.{Event}
 use Rattle.state_file.specs.Comparing.{TakesRules}
+use Rattle.image_codec.specs.Facts.{HookFact}
+use Rattle.state_file.specs.Hooks.{hooks_behind, hooks_of}
+use Rattle.state_file.specs.Knowing.{image_size}
 use Rattle.state_file.specs.Resuming.{RefusesImage, RefusesResume}
 use Rattle.state_file.specs.Standing.{AreTold, StandsFor}
 use Rattle.state_file.specs.StandingLaws.{StandsFor-same}
-use Rattle.state_file.specs.Telling.{LeavesRules, Tell, TellsRules, rules_of}
-use Rattle.state_file.proofs.Begun.{begun_fits}
+use Rattle.state_file.specs.Telling.{BeginWithRules, LeavesRules, Tell, TellsRules, rules_of}
+use Rattle.state_file.proofs.Begun.{begun_fits, begun_hooks}
 use Rattle.state_file.proofs.Compared.{wider}
+use Rattle.state_file.proofs.Hooked.{hooks_of-happened}
+use Rattle.state_file.proofs.Known.{known_begun}
 use Rattle.state_file.proofs.Left.{leaves_then, leaves_weaker}
 use Rattle.state_file.proofs.Refused.{no_server, no_start, not_redone}
 use Rattle.state_file.proofs.Tells.{StandsOn, leaves_rules, leaves_standing, told_either}
@@ -50,7 +55,7 @@ returns-clause-answers g c history stands right run =
     let are : recovered c.args.bytes.now ≡ lists c.deref-2.result.now = ap recovered c.requires.same ∙ sym c.in_ok-found.ensures.batches ∙ ap lists (sym c.deref-2.ensures.value) in
     let begun = begun_fits hosting registry host c.args.bytes.now (lists c.deref-2.result.now) (lists c.in_ok-restored.field-0.later.now) c.in_ok-restored.field-0.restored history stands are c.in_ok-restored.ensures.begins right run in
     let told : AreTold (lists c.in_ok-restored.field-0.later.now) stands.facts = subst (λ (bs : List (List ℕ)). AreTold bs stands.facts) begun.0 stands.told in
-    c.in_ok-redo_all.ensures.redone stands.facts told registry host stands.base history begun.1 stands.happened right
+    (c.in_ok-redo_all.ensures.redone stands.facts told).1 registry host stands.base history begun.1 stands.happened right
 
 pub returns-clause-held : goal.returns-clause-held
 returns-clause-held g c =
@@ -109,3 +114,29 @@ returns-clause-unwritten g c = λ tells.
     let same = ap (λ (f : BatchFile g.row.D.Denot). recovered (seen f.device)) (c.in_ok-tell.ensures.unwritten told) in
     let P : BatchFile g.row.D.Denot → Type 0 = λ file. recovered (seen file.device) ≡ recovered bytes in
     subst P (sym c.new.ensures) (same ∙ c.in_ok-found.ensures.same ∙ ap recovered (sym c.requires.same))
+
+pub new-requires-clause-known : goal.new-requires-clause-known
+new-requires-clause-known g c =
+    let seen = g.D.Device.seen in
+    let now = rules_of c.args.registry in
+    let mid = c.recover.new.device in
+    let are : lists c.deref.result.now ≡ recovered (seen mid) = ap lists c.deref.ensures.value ∙ c.in_ok-found.ensures.batches ∙ sym c.in_ok-found.ensures.same in
+    let are_too : recovered (seen mid) ≡ lists c.deref-2.result.now = c.in_ok-found.ensures.same ∙ sym c.in_ok-found.ensures.batches ∙ ap lists (sym c.deref-2.ensures.value) in
+    let tells : c.in_ok-rules.rules.told ≡ true → TellsRules (seen mid) now =
+    λ told. subst (λ (batches : List (List ℕ)). Tell batches now) are (c.in_ok-rules.ensures.told.0 told) in
+    let told : TellsRules (seen c.tell.new.file.device) now =
+    told_either c.in_ok-rules.rules.told (seen mid) (seen c.tell.new.file.device) now c.in_ok-rules.rules.bytes.items (c.in_ok-rules.ensures.fit, c.in_ok-rules.ensures.spelled) tells
+    (λ told. ap (λ (f : BatchFile g.row.D.Denot). seen f.device) (c.in_ok-tell.ensures.unwritten told)) c.in_ok-tell.ensures.told in
+    let set : (history : List Event) → StandsFor (seen mid) history → c.in_ok-hooks.hooks ≡ hooks_of history = λ history stands.
+    (let begun = begun_hooks g.H.HookHost c.args.registry c.args.host (seen mid) (lists c.deref-2.result.now) (lists c.in_ok-restored.field-0.later.now) c.in_ok-restored.field-0.restored history stands are_too c.in_ok-restored.ensures.begins in
+    let later : AreTold (lists c.in_ok-restored.field-0.later.now) stands.facts = subst (λ (bs : List (List ℕ)). AreTold bs stands.facts) begun.0 stands.told in
+    c.in_ok-hooks.ensures ∙ (c.in_ok-redo_all.ensures.redone stands.facts later).0 ∙ ap (λ (hs : List HookFact). hooks_behind hs stands.facts) begun.1
+    ∙ sym (hooks_of-happened stands.base history stands.facts stands.happened)) in
+    known_begun (seen mid) (seen c.tell.new.file.device) c.in_ok-rules.rules.bytes.items now c.in_ok-hooks.hooks c.in_ok-restored.field-0.image c.in_ok-rules.rules.told
+    (c.in_ok-rules.ensures.fit, c.in_ok-rules.ensures.spelled) told (λ told. ap (λ (f : BatchFile g.row.D.Denot). recovered (seen f.device)) (c.in_ok-tell.ensures.unwritten told))
+    c.in_ok-tell.ensures.added set (c.in_ok-restored.ensures.image ∙ ap image_size (sym are_too))
+
+pub returns-clause-begun : goal.returns-clause-begun
+returns-clause-begun g c =
+    let are : lists c.deref.result.now ≡ recovered c.args.bytes.now = ap lists c.deref.ensures.value ∙ c.in_ok-found.ensures.batches ∙ ap recovered (sym c.requires.same) in
+    subst BeginWithRules are c.in_ok-rules.ensures.taken.0

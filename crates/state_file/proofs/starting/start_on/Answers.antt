@@ -30,7 +30,7 @@ returns-clause-serves g c history stands was run =
     let done = is_done g.H.HookHost (of_file g.D.Device.seen g.D.Device.may_leave g.D.Device.moment g.D.Device.left_since) c.in_ok-resumed.resumed.restored c.begin_noting.new.self c.set_hooks.new.self
     c.keep_noted.new.server c.in_ok-resumed.resumed.keeper c.keep_noted.new.keeper c.args.registry c.args.host history (map hook_fact c.args.hooks.now)
     (c.in_ok-resumed.ensures.answers history stands right run) c.in_ok-begin_noting.ensures.noting c.in_ok-set_hooks.ensures.set c.in_ok-set_hooks.ensures.moment
-    c.keep_noted.ensures.same c.in_ok-keep_noted.ensures.kept (c.in_ok-resumed.ensures.held history stands right run) in
+    c.keep_noted.ensures.same c.in_ok-keep_noted.ensures.kept (c.in_ok-resumed.ensures.held history stands) in
     record { fits = done.fits; notes = done.notes }
 
 pub returns-clause-hooks : goal.returns-clause-hooks
@@ -39,7 +39,7 @@ returns-clause-hooks g c history stands was run =
     let done = is_done g.H.HookHost (of_file g.D.Device.seen g.D.Device.may_leave g.D.Device.moment g.D.Device.left_since) c.in_ok-resumed.resumed.restored c.begin_noting.new.self c.set_hooks.new.self
     c.keep_noted.new.server c.in_ok-resumed.resumed.keeper c.keep_noted.new.keeper c.args.registry c.args.host history (map hook_fact c.args.hooks.now)
     (c.in_ok-resumed.ensures.answers history stands right run) c.in_ok-begin_noting.ensures.noting c.in_ok-set_hooks.ensures.set c.in_ok-set_hooks.ensures.moment
-    c.keep_noted.ensures.same c.in_ok-keep_noted.ensures.kept (c.in_ok-resumed.ensures.held history stands right run) in
+    c.keep_noted.ensures.same c.in_ok-keep_noted.ensures.kept (c.in_ok-resumed.ensures.held history stands) in
     done.set
 
 pub returns-clause-held : goal.returns-clause-held
@@ -48,8 +48,9 @@ returns-clause-held g c history stands was run =
     let done = is_done g.H.HookHost (of_file g.D.Device.seen g.D.Device.may_leave g.D.Device.moment g.D.Device.left_since) c.in_ok-resumed.resumed.restored c.begin_noting.new.self c.set_hooks.new.self
     c.keep_noted.new.server c.in_ok-resumed.resumed.keeper c.keep_noted.new.keeper c.args.registry c.args.host history (map hook_fact c.args.hooks.now)
     (c.in_ok-resumed.ensures.answers history stands right run) c.in_ok-begin_noting.ensures.noting c.in_ok-set_hooks.ensures.set c.in_ok-set_hooks.ensures.moment
-    c.keep_noted.ensures.same c.in_ok-keep_noted.ensures.kept (c.in_ok-resumed.ensures.held history stands right run) in
-    done.holds
+    c.keep_noted.ensures.same c.in_ok-keep_noted.ensures.kept (c.in_ok-resumed.ensures.held history stands) in
+    let now : List Event = with_hooks c.set_hooks.new.self.moment history (map hook_fact c.args.hooks.now) in
+    (c.in_ok-keep_short.ensures.kept c.args.registry c.args.host now c.set_hooks.new.self.moment done.fits).holds done.holds
 
 pub returns-clause-any_moment : goal.returns-clause-any_moment
 returns-clause-any_moment g c history stands was run =
@@ -60,15 +61,25 @@ returns-clause-any_moment g c history stands was run =
     let done = is_done g.H.HookHost (of_file g.D.Device.seen g.D.Device.may_leave g.D.Device.moment g.D.Device.left_since) c.in_ok-resumed.resumed.restored c.begin_noting.new.self c.set_hooks.new.self
     c.keep_noted.new.server c.in_ok-resumed.resumed.keeper c.keep_noted.new.keeper c.args.registry c.args.host history (map hook_fact c.args.hooks.now)
     (c.in_ok-resumed.ensures.answers history stands right run) c.in_ok-begin_noting.ensures.noting c.in_ok-set_hooks.ensures.set c.in_ok-set_hooks.ensures.moment
-    c.keep_noted.ensures.same c.in_ok-keep_noted.ensures.kept (c.in_ok-resumed.ensures.held history stands right run) in
+    c.keep_noted.ensures.same c.in_ok-keep_noted.ensures.kept (c.in_ok-resumed.ensures.held history stands) in
     let now : List Event = with_hooks c.set_hooks.new.self.moment history (map hook_fact c.args.hooks.now) in
     let Either : List ℕ → Type 0 = λ left. StandsFor left history ⊎ StandsFor left now in
     let old = c.args.device in
-    let mid = c.in_ok-resumed.resumed.keeper.device in
-    let new = c.keep_noted.new.keeper.device in
-    leaves_then moment left_since old mid new Either
-    (leaves_weaker moment left_since old mid (λ left. StandsFor left history) Either (λ left on. inl on) (c.in_ok-resumed.ensures.any_moment history stands right run))
-    (leaves_of_file seen g.D.Device.may_leave moment left_since c.in_ok-resumed.resumed.keeper c.keep_noted.new.keeper history now done.meanwhile)
+    let mid = c.in_ok-resumed.resumed.keeper in
+    let then = c.keep_noted.new.keeper in
+    let new = c.keep_short.new.keeper in
+    let short = c.in_ok-keep_short.ensures.kept c.args.registry c.args.host now c.set_hooks.new.self.moment done.fits in
+    leaves_then moment left_since old then.device new.device Either
+    (leaves_then moment left_since old mid.device then.device Either
+    (leaves_weaker moment left_since old mid.device (λ left. (h : List Event) → StandsFor c.args.bytes.now h → StandsFor left h) Either (λ left on. inl (on history stands)) c.in_ok-resumed.ensures.any_moment)
+    (leaves_of_file seen g.D.Device.may_leave moment left_since mid then history now done.meanwhile))
+    (leaves_weaker moment left_since then.device new.device (λ left. StandsFor left now ⊎ StandsFor left now) Either (λ left either. one left either)
+    (leaves_of_file seen g.D.Device.may_leave moment left_since then new now now (short.meanwhile done.holds)))
+  where
+    one : (left : List ℕ) → StandsFor left (with_hooks c.set_hooks.new.self.moment history (map hook_fact c.args.hooks.now)) ⊎ StandsFor left (with_hooks c.set_hooks.new.self.moment history (map hook_fact c.args.hooks.now)) →
+        StandsFor left history ⊎ StandsFor left (with_hooks c.set_hooks.new.self.moment history (map hook_fact c.args.hooks.now))
+    one left (inl stands) = inr stands
+    one left (inr stands) = inr stands
 
 pub returns-clause-told : goal.returns-clause-told
-returns-clause-told g c = c.in_ok-keep_noted.ensures.told (rules_of c.args.registry) c.in_ok-resumed.ensures.told
+returns-clause-told g c = c.in_ok-keep_short.ensures.told (rules_of c.args.registry) (c.in_ok-keep_noted.ensures.told (rules_of c.args.registry) c.in_ok-resumed.ensures.told)

@@ -1,42 +1,70 @@
-use Rattle.std.proofs.Common.{◌≡◌, ◌++◌, ◌∙◌, inl, inr, ℕ, List, [], ◌∷◌, length, Err, refl, sym, ap, arith}
-use Rattle.change_codec.specs.FieldLaws.{ok_is}
-use Rattle.change_codec.specs.declared.fault.EncodeFault.{EncodeFault}
-use Rattle.image_codec.specs.Facts.{image_fact, rules_fact}
-use Rattle.image_codec.specs.Spelling.{image_spelling}
-use Rattle.state_file.proofs.Renewed.{image_tells, keeps_image}
+use Rattle.std.proofs.Common.{rules, ◌≡◌, ◌∙◌, ℕ, List, [], ◌∷◌, Err, length, sym, ap, subst, arith}
+use Rattle.std.specs.Prelude.{IsTrue}
+use Rattle.batch_file.specs.Frames.{recovered}
+use Rattle.batch_file.specs.declared.appending.BatchFile.{BatchFile}
+use Rattle.change_codec.specs.Keeping.{Keeps, KeepsNot}
+use Rattle.image_codec.specs.Facts.{RulesFact}
+use Rattle.image_codec.specs.Spelling.{image_spelling, rules_spelling}
+use Rattle.image_keeper.specs.declared.keeper.ImageFault.TheVariants.{TooLong}
+use Rattle.state_file.specs.Renewing.{HasTooMuch}
+use Rattle.state_file.specs.Telling.{LeavesRules}
+use Rattle.state_file.proofs.Kept.{of_file}
+use Rattle.state_file.proofs.Known.{known_image}
+use Rattle.state_file.proofs.Renewed.{image_tells, keeps_image, keeps_no_image, too_much}
 use Rattle.state_file.proofs.keeper.StateKeeper.renew.Goals as goal
 
-pub returns-in-Err-TooLong-clause-renewed : goal.returns-in-Err-TooLong-clause-renewed
-returns-in-Err-TooLong-clause-renewed g c = (image_fact c.in_ok-image.image, inr (inl (c.in-Err-TooLong.ensures.too_long.0 (ap (λ (fault : EncodeFault). Err fault) c.in-Err-TooLong.field-0-is)), refl))
+pub returns-in_err-bytes-clause-too_much : goal.returns-in_err-bytes-clause-too_much
+returns-in_err-bytes-clause-too_much g c = λ long.
+    let settled : IsTrue c.self.inside.settled = search rules in
+    let known = (c.self.invariant settled).1 in
+    let is : c.from_residual.result ≡ Err c.in_err-bytes.field-0.0 = search rules in
+    let both : Err c.in_err-bytes.field-0.0 ≡ Err TooLong = sym is ∙ long in
+    let fault : c.in_err-bytes.field-0.0 ≡ TooLong = cc in
+    subst (λ (f : BatchFile g.row.D.Denot). HasTooMuch g.H.HookHost c.args.server.now (g.D.Device.seen f.device)) c.self.view_is
+    (too_much g.H.HookHost c.args.server.now c.self.inside.hooks (g.D.Device.seen c.self.inside.file.device) c.in_err-bytes.field-0.0 c.in_err-bytes.ensures.refused fault known.hooks_are)
 
-pub returns-then-len-clause-renewed : goal.returns-then-len-clause-renewed
-returns-then-len-clause-renewed g c =
-    let image = image_fact c.in_ok-image.image in
-    let spelled : c.encode.new.out.items ≡ image_spelling image = c.in-Ok-encode.ensures.written ∙ ap (λ (xs : List ℕ). xs ++ image_spelling image) c.new-bytes.ensures.items in
-    (image, inr (inr (let all = ap length spelled in let n = c.len.ensures in let long = c.if-len.true in omega (arith, all, n, long)), refl))
+pub invariant_of-self : goal.invariant_of-self
+invariant_of-self g c = λ settled.
+    let spell = c.in_ok-bytes.ensures.is in
+    let are : recovered (g.D.Device.seen c.replace.new.self.device) ≡ image_spelling spell.image ∷ [] =
+    c.in-Ok.ensures.alone ∙ ap (λ (b : List ℕ). b ∷ []) (c.as_slice-3.ensures.value ∙ spell.spelled) in
+    let told : c.self.inside.rules.items ≡ rules_spelling spell.image.rules = sym c.as_slice.ensures.value ∙ spell.rules_are in
+    let size : c.len-self-inside.result ≡ length (image_spelling spell.image) = (let n = c.len-self-inside.ensures in let all = ap length spell.spelled in omega (arith, n, all)) in
+    (c.in-Ok.ensures.settled, known_image (g.D.Device.seen c.replace.new.self.device) c.self.inside.rules.items spell.image c.self.inside.hooks c.len-self-inside.result are spell.fits told spell.hooks_are size)
 
-pub returns-clause-kept : goal.returns-clause-kept
-returns-clause-kept g c registry first history fits =
-    let image = image_fact c.in_ok-image.image in
-    let is : c.as_slice.result.now ≡ image_spelling image =
-    c.as_slice.ensures.value ∙ c.in-Ok-encode.ensures.written ∙ ap (λ (xs : List ℕ). xs ++ image_spelling image) c.new-bytes.ensures.items in
-    let replaced = c.in_ok-replace.ensures in
-    keeps_image g.D.Device.seen g.D.Device.may_leave g.D.Device.moment g.D.Device.left_since c.args.self.now c.replace.new.self image c.as_slice.result.now is c.in-Ok-encode.ensures.fits
-    replaced.settled replaced.alone history (c.in_ok-image.ensures.is registry first history fits) replaced.any_moment
+pub returns-in-Ok-clause-kept : goal.returns-in-Ok-clause-kept
+returns-in-Ok-clause-kept g c registry first history m fits =
+    let settled : IsTrue c.self.inside.settled = search rules in
+    let known = (c.self.invariant settled).1 in
+    let spell = c.in_ok-bytes.ensures.is in
+    let seen = g.D.Device.seen in
+    let may_leave = g.D.Device.may_leave in
+    let P : BatchFile g.row.D.Denot → Type 0 = λ old. Keeps (of_file seen may_leave g.D.Device.moment g.D.Device.left_since) history history old c.replace.new.self in
+    subst P c.self.view_is
+    (keeps_image seen may_leave g.D.Device.moment g.D.Device.left_since c.self.inside.file c.replace.new.self spell.image c.as_slice-3.result.now (c.as_slice-3.ensures.value ∙ spell.spelled) spell.fits
+    c.in-Ok.ensures.settled c.in-Ok.ensures.alone history (λ stands. spell.is registry first history m fits (known.hooks_are history stands)) c.in-Ok.ensures.any_moment)
 
-pub returns-clause-told : goal.returns-clause-told
-returns-clause-told g c told of leaves =
-    let image = image_fact c.in_ok-image.image in
-    let is : c.as_slice.result.now ≡ image_spelling image =
-    c.as_slice.ensures.value ∙ c.in-Ok-encode.ensures.written ∙ ap (λ (xs : List ℕ). xs ++ image_spelling image) c.new-bytes.ensures.items in
-    let replaced = c.in_ok-replace.ensures in
-    let same : image.rules ≡ told = c.in_ok-image.ensures.rules ∙ sym (ok_is told (rules_fact c.in-Ok.rules) (c.in-Ok.ensures.again told of.0 of.1)) in
-    image_tells g.D.Device.seen g.D.Device.may_leave g.D.Device.moment g.D.Device.left_since c.args.self.now c.replace.new.self image c.as_slice.result.now is c.in-Ok-encode.ensures.fits
-    replaced.settled replaced.alone told same
+pub returns-in-Ok-clause-told : goal.returns-in-Ok-clause-told
+returns-in-Ok-clause-told g c =
+    let settled : IsTrue c.self.inside.settled = search rules in
+    let known = (c.self.invariant settled).1 in
+    let spell = c.in_ok-bytes.ensures.is in
+    let seen = g.D.Device.seen in
+    let may_leave = g.D.Device.may_leave in
+    let told : c.self.inside.rules.items ≡ rules_spelling spell.image.rules = sym c.as_slice.ensures.value ∙ spell.rules_are in
+    let P : BatchFile g.row.D.Denot → Type 0 = λ old. (rules : RulesFact) → LeavesRules seen may_leave old rules → LeavesRules seen may_leave c.replace.new.self rules in
+    subst P c.self.view_is
+    (image_tells seen may_leave g.D.Device.moment g.D.Device.left_since c.self.inside.file c.replace.new.self spell.image c.as_slice-3.result.now c.self.inside.rules.items
+    (c.as_slice-3.ensures.value ∙ spell.spelled) spell.fits c.in-Ok.ensures.settled c.in-Ok.ensures.alone told known.rules_are)
 
-pub returns-clause-renewed : goal.returns-clause-renewed
-returns-clause-renewed g c =
-    let image = image_fact c.in_ok-image.image in
-    let is : c.as_slice.result.now ≡ image_spelling image =
-    c.as_slice.ensures.value ∙ c.in-Ok-encode.ensures.written ∙ ap (λ (xs : List ℕ). xs ++ image_spelling image) c.new-bytes.ensures.items in
-    (image, inl (c.in_ok-replace.ensures.alone ∙ ap (λ (b : List ℕ). b ∷ []) is))
+pub returns-clause-failed : goal.returns-clause-failed
+returns-clause-failed g c _ registry first history m fits =
+    let settled : IsTrue c.self.inside.settled = search rules in
+    let known = (c.self.invariant settled).1 in
+    let spell = c.in_ok-bytes.ensures.is in
+    let seen = g.D.Device.seen in
+    let may_leave = g.D.Device.may_leave in
+    let P : BatchFile g.row.D.Denot → Type 0 = λ old. KeepsNot (of_file seen may_leave g.D.Device.moment g.D.Device.left_since) history history old c.replace.new.self in
+    subst P c.self.view_is
+    (keeps_no_image seen may_leave g.D.Device.moment g.D.Device.left_since c.self.inside.file c.replace.new.self spell.image c.as_slice-3.result.now (c.as_slice-3.ensures.value ∙ spell.spelled) spell.fits
+    history (λ stands. spell.is registry first history m fits (known.hooks_are history stands)) c.replace.ensures.any_moment)

@@ -1,0 +1,36 @@
+-- What a keeper knows of its file.
+use Rattle.std.specs.Prelude.{◌≡◌, ◌⊎◌, ◌<◌, ◌^◌, ◌/◌, ℕ, List, [], ◌∷◌, length, if◌then◌else◌}
+use Rattle.batch_file.specs.Frames.{recovered}
+use Rattle.batch_file.specs.declared.appending.BatchFile.{BatchFile}
+use Rattle.batch_file.specs.declared.device.Device.{Ghosts as Device}
+use Rattle.change_codec.specs.Keeping.{Crashes, crashes}
+use Rattle.consent.specs.History.{Event}
+use Rattle.image_codec.specs.Facts.{HookFact, RulesFact}
+use Rattle.image_codec.specs.Spelling.{rules_spelling}
+use Rattle.state_file.specs.Hooks.{hooks_of}
+use Rattle.state_file.specs.Standing.{StandsFor, begins_image}
+use Rattle.state_file.specs.Telling.{TellsRules}
+
+-- what crashes leave of a file of batches on the device
+abbrev pub file_crashes : {D : Type 0} → Device D → Crashes (BatchFile D)
+file_crashes device =
+    crashes StandsFor (λ f c. device.may_leave f.device c ⊎ (c ≡ device.seen f.device)) (λ f. device.moment f.device) (λ f. device.left_since f.device)
+
+-- how many bytes the image has that the batches begin with, if they do
+abbrev pub image_size : List (List ℕ) → ℕ
+image_size [] = 0
+image_size (batch ∷ later) = if begins_image batch then length batch else 0
+
+-- the batches take more than 1 MB, and more than four times as much as their image
+abbrev pub IsLong : ℕ → ℕ → Type 0
+IsLong end image = (2 ^ 20 < end) × (image < end / 4)
+
+-- so it is of the batches of the file
+abbrev pub IsLongFile : {D : Type 0} → (D → List ℕ) → BatchFile D → Type 0
+IsLongFile seen file = IsLong file.end (image_size (recovered (seen file.device)))
+
+-- These bytes spell the rules that are told last, these hooks are set, and the image has so many bytes.
+pub record IsKnown (left rules : List ℕ) (hooks : List HookFact) (image : ℕ) : Type 0 where
+  pub rules_are : (told : RulesFact) → TellsRules left told → rules ≡ rules_spelling told
+  pub hooks_are : (history : List Event) → StandsFor left history → hooks ≡ hooks_of history
+  pub image_is : image ≡ image_size (recovered left)
