@@ -60,13 +60,11 @@ fn fault_in(number: usize, fault: StateFault) -> AccountFault
 
 /// The number of the last batch that tells rules, or of the first batch.
 fn rules_number(batches: &[Vec<u8>]) -> usize {
-    let mut number = 1;
-    for i in 0..batches.len() {
-        if tells_rules(&batches[i]) {
-            number = i + 1;
-        }
+    let mut number = batches.len();
+    while number > 1 && !tells_rules(&batches[number - 1]) {
+        number -= 1;
     }
-    number
+    number.max(1)
 }
 
 /// Makes the changes of the batches again, before which so many others stand.
@@ -149,15 +147,12 @@ impl<H: HookHost> Account<H> {
         let Ok(rules) = decode_rules(alloc, self.rules.as_slice()) else {
             return Err(AllocError);
         };
-        let records = self.restored.server.records(alloc)?;
-        let consents = self.restored.server.consents(alloc)?;
-        let hooks = self.restored.hooks.listed(alloc)?;
         Ok(Image {
             rules,
             greatest: self.restored.moment,
-            records,
-            consents,
-            hooks,
+            records: self.restored.server.records(alloc)?,
+            consents: self.restored.server.consents(alloc)?,
+            hooks: self.restored.hooks.listed(alloc)?,
         })
     }
 }
