@@ -1,9 +1,11 @@
 -- What comes of a server that is started.
 use Rattle.std.specs.Prelude.{◌≡◌, ◌⊎◌, ℕ, List, Some}
 use Rattle.clients.specs.RegistryRecord.{RegistryRecord}
+use Rattle.change_codec.specs.declared.keeper.Keeper.{Ghosts as Keeper}
 use Rattle.consent.specs.History.{Event}
 use Rattle.endpoints.specs.Server.{Seen, FitsServer, Notes}
 use Rattle.http_edge.specs.Edges.{SeenEdge}
+use Rattle.image_keeper.specs.Keeping.{Keeping, keeping}
 use Rattle.event_loop.specs.declared.fault.LoopFault.{LoopFault}
 use Rattle.event_loop.specs.declared.limits.Limits.{Limits}
 use Rattle.event_loop.specs.declared.tools.Tools.{Tools}
@@ -13,6 +15,10 @@ use Rattle.daemon.specs.declared.means.Ending.{Ending}
 use Rattle.daemon.specs.declared.means.Means.{Means}
 use Rattle.daemon.specs.declared.patience.Patience.{Patience}
 use Rattle.daemon.specs.Begun.{Beginning, IsAt, new_beginning, resumed_beginning}
+
+-- what a keeper promises, which may put an image in the place of what it keeps once that is long
+abbrev pub keeping_by : {K : Type 0} → Keeper K → (K → Type 0) → Keeping K
+keeping_by keeper is_long = keeping keeper (record { is_long = is_long })
 
 -- the limits of a loop that is so patient, and reports so often
 abbrev pub limits_of : Patience → Limits

@@ -60,11 +60,13 @@ fn fault_in(number: usize, fault: StateFault) -> AccountFault
 
 /// The number of the last batch that tells rules, or of the first batch.
 fn rules_number(batches: &[Vec<u8>]) -> usize {
-    let mut number = batches.len();
-    while number > 1 && !tells_rules(&batches[number - 1]) {
-        number -= 1;
+    let mut number = 1;
+    for i in 0..batches.len() {
+        if tells_rules(&batches[i]) {
+            number = i + 1;
+        }
     }
-    number.max(1)
+    number
 }
 
 /// Makes the changes of the batches again, before which so many others stand.
@@ -78,11 +80,9 @@ fn redo_each<H: HookHost>(
     ensures redone { OnOk result (RedoesBatches H.HookHost restored.old (lists batches.now) restored.new) }
     ensures refused { IfErr result RefusesAccount }
 {
-    let mut number = before;
     for i in 0..batches.len() {
-        number = number.saturating_add(1);
         if let Err(fault) = redo_all(alloc, restored, &batches[i..i + 1]) {
-            return Err(fault_in(number, fault));
+            return Err(fault_in(before.saturating_add(i + 1), fault));
         }
     }
     Ok(())
@@ -147,12 +147,15 @@ impl<H: HookHost> Account<H> {
         let Ok(rules) = decode_rules(alloc, self.rules.as_slice()) else {
             return Err(AllocError);
         };
+        let records = self.restored.server.records(alloc)?;
+        let consents = self.restored.server.consents(alloc)?;
+        let hooks = self.restored.hooks.listed(alloc)?;
         Ok(Image {
             rules,
             greatest: self.restored.moment,
-            records: self.restored.server.records(alloc)?,
-            consents: self.restored.server.consents(alloc)?,
-            hooks: self.restored.hooks.listed(alloc)?,
+            records,
+            consents,
+            hooks,
         })
     }
 }

@@ -53,7 +53,7 @@ fn write_owners(json: &mut Writer, alloc: Global, owners: u32) -> Result<(), All
 }
 
 /// Writes a client, which may be given nothing.
-fn write_client(json: &mut Writer, name: &str, scope: &str) -> Result<(), AllocError> {
+fn write_client<'x>(json: &mut Writer, name: &'x str, scope: &'x str) -> Result<(), AllocError> {
     json.begin_object()?;
     for (member, text) in [("id", name), ("secret", "-"), ("scope", scope)] {
         json.key(member)?;
@@ -152,8 +152,6 @@ pub(crate) fn file_rules(alloc: Global, batches: &[Vec<u8>]) -> Result<FileRules
     if !rules.told && !batches.is_empty() {
         return Err(StateFault::NoRules);
     }
-    Ok(FileRules {
-        registry,
-        bytes: rules.bytes,
-    })
+    let bytes = rules.bytes;
+    Ok(FileRules { registry, bytes })
 }
