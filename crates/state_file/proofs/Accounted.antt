@@ -84,7 +84,7 @@ module _ {H : Type 0} (hosting : Hosting H) where
   answers_for registry first batches later begun restored begins redone left are history stands right run =
       let from = begun_fits hosting registry first left batches later begun history stands are begins right run in
       let told : AreTold later stands.facts = subst (λ (bs : List (List ℕ)). AreTold bs stands.facts) from.0 stands.told in
-      redone stands.facts told registry first stands.base history from.1 stands.happened right
+      (redone stands.facts told).1 registry first stands.base history from.1 stands.happened right
 
   -- a server that fits a history has an image that is one of it
   pub imaged : (restored : Restored H) (image : ImageFact) (records : List KeptRecord) (consents : List KeptConsent) →
