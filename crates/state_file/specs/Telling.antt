@@ -55,6 +55,10 @@ TellsRules left rules = Tell (recovered left) rules
 abbrev pub LeavesRules : {D : Type 0} → (D → List ℕ) → (D → List ℕ → Type 0) → BatchFile D → RulesFact → Type 0
 LeavesRules seen may_leave file rules = (c : List ℕ) → may_leave file.device c ⊎ (c ≡ seen file.device) → TellsRules c rules
 
+-- what rules the one file tells, the other does
+abbrev pub KeepRules : {D : Type 0} → (D → List ℕ) → (D → List ℕ → Type 0) → BatchFile D → BatchFile D → Type 0
+KeepRules seen may_leave old new = (rules : RulesFact) → LeavesRules seen may_leave old rules → LeavesRules seen may_leave new rules
+
 -- the first batch, if there is one, tells rules
 abbrev pub BeginWithRules : List (List ℕ) → Type 0
 BeginWithRules [] = Unit {0}

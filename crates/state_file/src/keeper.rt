@@ -37,16 +37,16 @@ impl<D: Device> Model for StateKeeper<D> {
     ghost view = { λ keeper. keeper.file };
 
     ghost invariant = { λ keeper. IsTrue keeper.settled →
-        IsSettled D.seen D.may_leave keeper.file × IsKnown (D.seen keeper.file.device) keeper.rules.items keeper.hooks keeper.image };
+        IsSettled D.seen D.may_leave keeper.file
+        × IsKnown (D.seen keeper.file.device) keeper.rules.items keeper.hooks keeper.image };
 }
 
 impl<D: Device> StateKeeper<D> {
     ghost use Rattle.std.specs.Prelude.{◌≡◌, OnOk, OnErr};
     ghost use Rattle.batch_file.specs.Frames.{IsSettled};
-    ghost use Rattle.image_codec.specs.Facts.{RulesFact};
     ghost use Rattle.change_codec.specs.Keeping.{KeepsEach, KeepsNone};
     ghost use Rattle.state_file.specs.Knowing.{IsKnown, file_crashes};
-    ghost use Rattle.state_file.specs.Telling.{LeavesRules};
+    ghost use Rattle.state_file.specs.Telling.{KeepRules};
 
     /// One over a file of which all is on the disk, and of which this is known.
     pub(crate) fn new(
@@ -75,7 +75,7 @@ impl<D: Device> StateKeeper<D> {
         ensures kept { OnOk result (KeepsEach (file_crashes D.Device) batch.now.facts self.old self.new) }
         ensures lost { OnErr result (KeepsNone (file_crashes D.Device) batch.now.facts self.old self.new) }
         // The rules that are told stay.
-        ensures told { OnOk result ((rules : RulesFact) → LeavesRules D.seen D.may_leave self.old rules → LeavesRules D.seen D.may_leave self.new rules) }
+        ensures told { OnOk result (KeepRules D.seen D.may_leave self.old self.new) }
     {
         if !self.settled {
             return Err(KeepFault::Failed);

@@ -1,12 +1,11 @@
 //! An image of a server in the place of all that a state file has.
 
 ghost use Rattle.std.specs.Prelude.{◌≡◌, ◌<◌, ◌^◌, true, false, length, OnOk, IfOk, IfErr, IsErrOf};
-ghost use Rattle.image_codec.specs.Facts.{RulesFact};
 ghost use Rattle.image_keeper.specs.Imaging.{KeepsImage, KeepsNoImage};
 ghost use Rattle.image_keeper.specs.declared.keeper.ImageFault.TheVariants.{Memory, TooLong, Failed};
 ghost use Rattle.state_file.specs.Knowing.{IsLong, IsLongFile, file_crashes};
 ghost use Rattle.state_file.specs.Renewing.{HasTooMuch, IsUnspelled, SpellImage};
-ghost use Rattle.state_file.specs.Telling.{LeavesRules};
+ghost use Rattle.state_file.specs.Telling.{KeepRules};
 
 use crate::hooks::SetHooks;
 use crate::imaging::image_of;
@@ -62,13 +61,14 @@ impl<D: Device> StateKeeper<D> {
     /// that it has. Where it can't be written, the keeper keeps nothing more.
     pub(crate) fn shorten<H: HookHost>(&mut self, server: &Server<H>) -> Result<(), ImageFault>
         ensures kept { OnOk result (KeepsImage H.HookHost (file_crashes D.Device) server.now self.old self.new) }
-        ensures told { OnOk result ((rules : RulesFact) → LeavesRules D.seen D.may_leave self.old rules → LeavesRules D.seen D.may_leave self.new rules) }
+        ensures told { OnOk result (KeepRules D.seen D.may_leave self.old self.new) }
         ensures short { OnOk result (¬ (IsLongFile D.seen self.new)) }
         ensures left { OnOk result (¬ (IsLongFile D.seen self.old) → self.new ≡ self.old) }
         ensures no_memory { IsErrOf result Memory → self.new ≡ self.old }
         ensures too_long { IsErrOf result TooLong → self.new ≡ self.old }
         ensures too_much { IsErrOf result TooLong → HasTooMuch H.HookHost server.now (D.seen self.old.device) }
-        ensures failed { IsErrOf result Failed → KeepsNoImage H.HookHost (file_crashes D.Device) server.now self.old self.new }
+        ensures failed { IsErrOf result Failed →
+            KeepsNoImage H.HookHost (file_crashes D.Device) server.now self.old self.new }
     {
         if !self.settled {
             return Err(ImageFault::Failed);

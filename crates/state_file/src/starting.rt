@@ -7,14 +7,14 @@ ghost use Rattle.change_codec.specs.Keeping.{Holds};
 ghost use Rattle.clients.specs.RegistryRecord.{RegistryRecord};
 ghost use Rattle.endpoints.specs.Server.{NowNotes};
 ghost use Rattle.endpoints.specs.Widening.{IsWider};
-ghost use Rattle.image_codec.specs.Facts.{RulesFact, hook_fact};
+ghost use Rattle.image_codec.specs.Facts.{hook_fact};
 ghost use Rattle.image_keeper.specs.Imaging.{KeepsImage};
 ghost use Rattle.state_file.specs.Hooks.{AreSet, with_hooks};
 ghost use Rattle.state_file.specs.Knowing.{IsLongFile, file_crashes};
 ghost use Rattle.state_file.specs.Renewing.{HasTooMuch, IsOfDisk};
 ghost use Rattle.state_file.specs.Resuming.{AnswersFor, KeepsNoted, OfEach, RefusesResume, RefusesSome, ServesOn};
 ghost use Rattle.state_file.specs.Standing.{StandsFor};
-ghost use Rattle.state_file.specs.Telling.{LeavesRules, TellsRules, rules_of};
+ghost use Rattle.state_file.specs.Telling.{KeepRules, LeavesRules, TellsRules, rules_of};
 
 use crate::fault::StateFault;
 use crate::keeper::StateKeeper;
@@ -45,7 +45,7 @@ fn keep_noted<D: Device, H: HookHost>(
 ) -> Result<(), KeepFault>
     ensures same { NowNotes server.old server.new server.new.unkept }
     ensures kept { OnOk result (KeepsNoted (file_crashes D.Device) server.old server.new keeper.old keeper.new) }
-    ensures told { OnOk result ((rules : RulesFact) → LeavesRules D.seen D.may_leave keeper.old rules → LeavesRules D.seen D.may_leave keeper.new rules) }
+    ensures told { OnOk result (KeepRules D.seen D.may_leave keeper.old keeper.new) }
 {
     let Some(batch) = server.unkept() else {
         return Ok(());
@@ -64,8 +64,9 @@ fn keep_short<D: Device, H: HookHost>(
     keeper: &mut StateKeeper<D>,
 ) -> Result<(), StateFault>
     ensures kept { OnOk result (KeepsImage H.HookHost (file_crashes D.Device) server.now keeper.old keeper.new) }
-    ensures told { OnOk result ((rules : RulesFact) → LeavesRules D.seen D.may_leave keeper.old rules → LeavesRules D.seen D.may_leave keeper.new rules) }
-    ensures short { OnOk result ((¬ (IsLongFile D.seen keeper.new)) ⊎ HasTooMuch H.HookHost server.now (D.seen keeper.new.device)) }
+    ensures told { OnOk result (KeepRules D.seen D.may_leave keeper.old keeper.new) }
+    ensures short { OnOk result ((¬ (IsLongFile D.seen keeper.new))
+        ⊎ HasTooMuch H.HookHost server.now (D.seen keeper.new.device)) }
     ensures refused { IfErr result IsOfDisk }
 {
     match keeper.shorten(server) {
@@ -106,7 +107,8 @@ pub fn start_on<D: Device + Drop, H: HookHost>(
     // All that a crash may leave from then on tells the registry's rules.
     ensures told { IfOk result (λ started. LeavesRules D.seen D.may_leave started.keeper (rules_of registry)) }
     // The file is no longer than it may be, unless an image of the server is too large.
-    ensures short { IfOk result (λ started. (¬ (IsLongFile D.seen started.keeper)) ⊎ HasTooMuch H.HookHost started.server (D.seen started.keeper.device)) }
+    ensures short { IfOk result (λ started. (¬ (IsLongFile D.seen started.keeper))
+        ⊎ HasTooMuch H.HookHost started.server (D.seen started.keeper.device)) }
     ensures refused { IfErr result (λ fault. RefusesResume (recovered bytes.now) (rules_of registry) fault
         ⊎ RefusesSome H.HookHost (AnswersFor H.HookHost bytes.now registry host) (map hook_fact hooks.now) fault) }
 {
