@@ -142,11 +142,11 @@ fn serve_as<
     out: &mut W,
     err: &mut E,
 ) -> Result<(), PerformFault<'w>>
-    ensures done { OnOk result (HasServed service.now (files_in files) (W.contents out.old) (W.contents out.new)) }
+    ensures done { OnOk result (HasServed service.now (files_in files.entry) (W.contents out.old) (W.contents out.new)) }
     ensures fault { IfErr result (λ fault.
         FailsService (startings ⟦<MachineClocks<'r, R> as Clocks>⟧
         ⟦<LineJournal<'e, E> as Journal>⟧ ⟦<StateKeeper<DiskFile<'r, R>> as Keeper>⟧)
-        W.contents service.now (files_in files) fault out.old out.new err.old err.new) }
+        W.contents service.now (files_in files.entry) fault out.old out.new err.old err.new) }
 {
     let CallFiles { named, hooks } = files;
     let registry = registry_of(rt.alloc(), service.config(), named)?;
@@ -189,7 +189,7 @@ pub fn perform_service<
     ensures { (result ≡ Status.BadUse)
         ⊎ EndsService (startings ⟦<MachineClocks<'r, R> as Clocks>⟧
         ⟦<LineJournal<'e, E> as Journal>⟧ ⟦<StateKeeper<DiskFile<'r, R>> as Keeper>⟧)
-        W.contents E.contents service.now (files_in files) result out.old out.new err.old err.new }
+        W.contents E.contents service.now (files_in files.entry) result out.old out.new err.old err.new }
 {
     match serve_as(rt, service, files, out, err) {
         Ok(()) => Status::Done,
@@ -209,7 +209,7 @@ fn perform_call<
     ensures { (result ≡ Status.BadUse)
         ⊎ EndsCall (startings ⟦<MachineClocks<'r, R> as Clocks>⟧
         ⟦<LineJournal<'e, E> as Journal>⟧ ⟦<StateKeeper<DiskFile<'r, R>> as Keeper>⟧)
-        W.contents E.contents call.now (files_in files) result out.old out.new err.old err.new }
+        W.contents E.contents call.now (files_in files.entry) result out.old out.new err.old err.new }
 {
     match call {
         Call::Command(command) => {
