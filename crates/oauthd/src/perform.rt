@@ -36,8 +36,8 @@ use std::net::Net;
 use std::random::RandomSource;
 use std::rt::{Clock, Files};
 
-/// What keeps a server's changes in a file of the system.
-type FileKeeper<'r, R> = StateKeeper<DiskFile<'r, R>>;
+/// What keeps a server's changes on the disk.
+type OnDisk<'r, R> = StateKeeper<DiskFile<'r, R>>;
 
 /// What could not be written to the end.
 #[derive(Clone, Copy, Debug, PartialEq, Eq)]
@@ -150,7 +150,7 @@ fn serve_as<
     ensures done { OnOk result (HasServed service.now (files_in files.entry) (W.contents out.old) (W.contents out.new)) }
     ensures fault { IfErr result (λ fault.
         FailsService (startings ⟦<MachineClocks<'r, R> as Clocks>⟧
-        ⟦<LineJournal<'e, E> as Journal>⟧ (keeping_by ⟦<FileKeeper<'r, R> as Keeper>⟧ ⟦<FileKeeper<'r, R> as ImageKeeper>⟧.is_long))
+        ⟦<LineJournal<'e, E> as Journal>⟧ (keeping_by ⟦<OnDisk<'r, R> as Keeper>⟧ ⟦<OnDisk<'r, R> as ImageKeeper>⟧.is_long))
         W.contents service.now (files_in files.entry) fault out.old out.new err.old err.new) }
 {
     let CallFiles { named, hooks } = files;
@@ -193,7 +193,7 @@ pub fn perform_service<
     // Bad use may be that of a fault that could not be told.
     ensures { (result ≡ Status.BadUse)
         ⊎ EndsService (startings ⟦<MachineClocks<'r, R> as Clocks>⟧
-        ⟦<LineJournal<'e, E> as Journal>⟧ (keeping_by ⟦<FileKeeper<'r, R> as Keeper>⟧ ⟦<FileKeeper<'r, R> as ImageKeeper>⟧.is_long))
+        ⟦<LineJournal<'e, E> as Journal>⟧ (keeping_by ⟦<OnDisk<'r, R> as Keeper>⟧ ⟦<OnDisk<'r, R> as ImageKeeper>⟧.is_long))
         W.contents E.contents service.now (files_in files.entry) result out.old out.new err.old err.new }
 {
     match serve_as(rt, service, files, out, err) {
@@ -213,7 +213,7 @@ fn perform_call<
     // Bad use may be that of a write that failed.
     ensures { (result ≡ Status.BadUse)
         ⊎ EndsCall (startings ⟦<MachineClocks<'r, R> as Clocks>⟧
-        ⟦<LineJournal<'e, E> as Journal>⟧ (keeping_by ⟦<FileKeeper<'r, R> as Keeper>⟧ ⟦<FileKeeper<'r, R> as ImageKeeper>⟧.is_long))
+        ⟦<LineJournal<'e, E> as Journal>⟧ (keeping_by ⟦<OnDisk<'r, R> as Keeper>⟧ ⟦<OnDisk<'r, R> as ImageKeeper>⟧.is_long))
         W.contents E.contents call.now (files_in files.entry) result out.old out.new err.old err.new }
 {
     match call {
@@ -237,7 +237,7 @@ pub fn perform<
     // Bad use may be that of a write that failed.
     ensures { (result ≡ Status.BadUse)
         ⊎ EndsWords (startings ⟦<MachineClocks<'r, R> as Clocks>⟧
-        ⟦<LineJournal<'e, E> as Journal>⟧ (keeping_by ⟦<FileKeeper<'r, R> as Keeper>⟧ ⟦<FileKeeper<'r, R> as ImageKeeper>⟧.is_long))
+        ⟦<LineJournal<'e, E> as Journal>⟧ (keeping_by ⟦<OnDisk<'r, R> as Keeper>⟧ ⟦<OnDisk<'r, R> as ImageKeeper>⟧.is_long))
         W.contents E.contents words.now result out.old out.new err.old err.new }
 {
     let call = match Call::from_words(rt.alloc(), words) {
