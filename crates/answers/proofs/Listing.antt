@@ -7,7 +7,7 @@ use Rattle.std.proofs.lemmas.Option.{slice_get_cases, slice_get_within, get_or_f
 use Rattle.hook_host.specs.Names.{AreHookNames}
 use Rattle.messages.specs.Reply.{plain}
 use Rattle.messages.specs.Reply.Body.{Hooks}
-use Rattle.messages.specs.Small.{IsSmall}
+use Rattle.messages.specs.Small.{IsSmallReply}
 use native.Mathlib.Numerals.{unary_clauses}
 
 pub map_push : (items : List (Bor (List ℕ))) (name : Bor (List ℕ)) →
@@ -30,7 +30,7 @@ all_named names now n is none =
     is ∙ take_all n names past
 
 -- a host's names are few and short
-pub names_small : (names : List (List ℕ)) → AreHookNames names → IsSmall (plain 200 (Hooks names))
+pub names_small : (names : List (List ℕ)) → AreHookNames names → IsSmallReply (plain 200 (Hooks names))
 names_small names are = record {
   status = refl;
   short = (are.few, λ i x at. (let name = are.each i x at in omega (arith, name.short)));

@@ -5,18 +5,18 @@ use Rattle.messages.specs.declared.error.ErrorName.{ErrorName}
 use Rattle.messages.specs.declared.error.ErrorName.TheVariants.{InvalidRequest, InvalidClient, InvalidGrant, InvalidScope, UnauthorizedClient, UnsupportedGrantType, UnsupportedResponseType, AccessDenied}
 use Rattle.messages.specs.Reply.{Reply, plain, sent_back}
 use Rattle.messages.specs.Reply.Body.{Failure}
-use Rattle.messages.specs.Written.{Written, written, error_text}
-use Rattle.messages.specs.Small.{IsSmall, is_reply_status}
+use Rattle.messages.specs.Written.{Written, in_writing, error_text}
+use Rattle.messages.specs.Small.{IsSmallReply, is_reply_status}
 use Rattle.messages.specs.SmallLaws.{small_bytes, small_sent_back}
 use Rattle.answers.specs.Outcomes.{status_of}
-use Rattle.answers.specs.Short.{IsShort, IsShortReturn}
+use Rattle.answers.specs.Short.{IsShortReply, IsShortReturn}
 
 -- a reply that is written of a small one
-pub written_short : (reply : Reply) (text : Written) → IsSmall reply → text ≡ written reply → IsShort text
+pub written_short : (reply : Reply) (text : Written) → IsSmallReply reply → text ≡ in_writing reply → IsShortReply text
 written_short reply text small is = record { short = rw is (small_bytes reply small) }
 
 -- a reply, as it is made
-pub if_short : {E : Type 0} (made : Result Written E) (reply : Reply) → IsSmall reply → IfOk made (λ text. text ≡ written reply) → IfOk made IsShort
+pub if_short : {E : Type 0} (made : Result Written E) (reply : Reply) → IsSmallReply reply → IfOk made (λ text. text ≡ in_writing reply) → IfOk made IsShortReply
 if_short (Ok text) reply small is = written_short reply text small is
 if_short (Err e) reply small is = tt
 
@@ -30,7 +30,7 @@ failure_status UnsupportedGrantType = refl
 failure_status UnsupportedResponseType = refl
 failure_status AccessDenied = refl
 
-pub failure_small : (error : ErrorName) → IsSmall (plain (status_of error) (Failure error))
+pub failure_small : (error : ErrorName) → IsSmallReply (plain (status_of error) (Failure error))
 failure_small error = record { status = failure_status error; short = tt }
 
 error_short : (error : ErrorName) → length (error_text error) ≤ 40
@@ -44,9 +44,9 @@ error_short UnsupportedResponseType = omega arith
 error_short AccessDenied = omega arith
 
 -- the user agent is sent back with an error
-pub turned_small : (uri : List ℕ) (error : ErrorName) (state : Option (List ℕ)) → IsShortReturn uri state → IsSmall (sent_back uri (codes "error") (error_text error) state)
+pub turned_small : (uri : List ℕ) (error : ErrorName) (state : Option (List ℕ)) → IsShortReturn uri state → IsSmallReply (sent_back uri (codes "error") (error_text error) state)
 turned_small uri error state short = let text = error_short error in small_sent_back uri (codes "error") (error_text error) state short.short_uri (omega (arith, text)) short.short_state
 
 -- or with a code
-pub sent_small : (uri text : List ℕ) (state : Option (List ℕ)) → length text ≤ 64 → IsShortReturn uri state → IsSmall (sent_back uri (codes "code") text state)
+pub sent_small : (uri text : List ℕ) (state : Option (List ℕ)) → length text ≤ 64 → IsShortReturn uri state → IsSmallReply (sent_back uri (codes "code") text state)
 sent_small uri text state few short = small_sent_back uri (codes "code") text state short.short_uri (omega (arith, few)) short.short_state

@@ -15,7 +15,7 @@ use Rattle.answers.specs.Requesters.{KnownClient, known_client, with_client}
 use Rattle.answers.specs.Texts.{where_passes}
 
 -- its changes may come next
-pub record Follows (history : List Event) (m : ℕ) (o : Outcome) : Type 0 where
+pub record ChangesFollow (history : List Event) (m : ℕ) (o : Outcome) : Type 0 where
   pub all : AllFollow history m o.changes
 
 -- what passes a test is there
@@ -28,29 +28,29 @@ there {A = A} test (Some y) x e = by_test (test y) e
     by_test false h = absurd (cc)
 
 pub by_need : {A : Type 0} (history : List Event) (m : ℕ) (o : Option A) (without : Outcome) (later : A → Outcome) →
-    Follows history m without → ((x : A) → o ≡ Some x → Follows history m (later x)) → Follows history m (need o without later)
+    ChangesFollow history m without → ((x : A) → o ≡ Some x → ChangesFollow history m (later x)) → ChangesFollow history m (need o without later)
 by_need history m None without later a z = a
 by_need history m (Some x) without later a z = z x refl
 
 module _ (history : List Event) (m : ℕ) where
-  pub still : (reply : Reply) → Follows history m (only reply)
+  pub still : (reply : Reply) → ChangesFollow history m (only reply)
   still reply = record { all = tt }
 
-  pub error : (name : ErrorName) → Follows history m (refuse name)
+  pub error : (name : ErrorName) → ChangesFollow history m (refuse name)
   error name = still (plain (status_of name) (Failure name))
 
-  pub by_point : (b : Bool) (here later : Outcome) → Follows history m here → (b ≡ false → Follows history m later) → Follows history m (point b here later)
+  pub by_point : (b : Bool) (here later : Outcome) → ChangesFollow history m here → (b ≡ false → ChangesFollow history m later) → ChangesFollow history m (point b here later)
   by_point true here later a z = a
   by_point false here later a z = z refl
 
-  pub unless_taken : (digests : List (List ℕ)) (given : Outcome) → (is_taken history m digests ≡ false → Follows history m given) →
-      Follows history m (point (not (has_room history m digests)) unavailable (point (is_taken history m digests) unavailable given))
+  pub unless_taken : (digests : List (List ℕ)) (given : Outcome) → (is_taken history m digests ≡ false → ChangesFollow history m given) →
+      ChangesFollow history m (point (not (has_room history m digests)) unavailable (point (is_taken history m digests) unavailable given))
   unless_taken digests given free =
       by_point (not (has_room history m digests)) unavailable (point (is_taken history m digests) unavailable given) (still (plain 503 Empty))
       (λ _. by_point (is_taken history m digests) unavailable given (still (plain 503 Empty)) free)
 
-  pub client_follows : (rules : RegistryRecord) (r : Result ℕ AuthFault) (next : KnownClient → Outcome) → ((known : KnownClient) → Follows history m (next known)) →
-      Follows history m (with_client rules r next)
+  pub client_follows : (rules : RegistryRecord) (r : Result ℕ AuthFault) (next : KnownClient → Outcome) → ((known : KnownClient) → ChangesFollow history m (next known)) →
+      ChangesFollow history m (with_client rules r next)
   client_follows rules (Ok number) next each = by_need {A = KnownClient} history m (known_client rules number) unavailable next (still (plain 503 Empty)) (λ known _. each known)
   client_follows rules (Err auth.TwoMethods) next each = error InvalidRequest
   client_follows rules (Err auth.NoClient) next each = error InvalidClient

@@ -10,6 +10,6 @@ Halts (Refuse error) points = points ≡ refuse error
 Halts NoMemory points = Unit {0}
 
 -- the points lead on to `next`, or halt
-abbrev pub Leads : {A : Type 0} → Result A Halt → Outcome → (A → Outcome) → Type 0
-Leads (Ok x) points next = points ≡ next x
-Leads (Err halt) points next = Halts halt points
+abbrev pub LeadsOrHalts : {A : Type 0} → Result A Halt → Outcome → (A → Outcome) → Type 0
+LeadsOrHalts (Ok x) points next = points ≡ next x
+LeadsOrHalts (Err halt) points next = Halts halt points

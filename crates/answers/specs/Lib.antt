@@ -5,7 +5,7 @@ pub mod Requesters
 pub mod Texts
 pub mod Tokens
 pub mod Replies
-pub mod Scene
+pub mod Setting
 pub mod Short
 pub mod Told
 pub mod Found

@@ -1,12 +1,12 @@
 -- Who asks, for which client, and for which scope.
 use Rattle.std.specs.Prelude.{ℕ, List, Option, Some, None, Result, Ok, Err, option_map, option_and_then, codes, if◌then◌else◌}
 use Rattle.std.specs.Result.{result_ok}
-use Rattle.params.specs.Form.{read_params, value_of}
+use Rattle.params.specs.Form.{read_params, value_sent}
 use Rattle.params.specs.Scope.{scope_mask}
 use Rattle.clients.specs.RegistryRecord.{RegistryRecord}
 use Rattle.clients.specs.ClientRecord.{ClientRecord}
 use Rattle.clients.specs.Clients.{ids, client_at}
-use Rattle.clients.specs.Numbers.{number_of}
+use Rattle.clients.specs.Numbers.{number_among}
 use Rattle.clients.specs.Owners.{owner_with}
 use Rattle.authentication.specs.Authentication.{authenticated}
 use Rattle.authentication.specs.declared.authentication.AuthFault.{AuthFault}
@@ -45,7 +45,7 @@ known_client rules number =
 abbrev pub client_named : RegistryRecord → Parameters → Option KnownClient
 client_named rules params =
     option_and_then (known_client rules)
-    (option_and_then (λ id. number_of id (ids rules.clients)) (value_of (codes "client_id") params))
+    (option_and_then (λ id. number_among id (ids rules.clients)) (value_sent (codes "client_id") params))
 
 -- the client that was authenticated, or why none was (section 5.2)
 abbrev pub with_client : RegistryRecord → Result ℕ AuthFault → (KnownClient → Outcome) → Outcome
@@ -68,8 +68,8 @@ with_authenticated rules asked next =
 -- OWNERS
 
 -- the owner of the key that was sent
-abbrev pub owner_of : RegistryRecord → Asked → Option ℕ
-owner_of rules asked = option_and_then (λ key. owner_with key rules.owners) asked.owner_key
+abbrev pub owner_of_key : RegistryRecord → Asked → Option ℕ
+owner_of_key rules asked = option_and_then (λ key. owner_with key rules.owners) asked.owner_key
 
 -- SCOPES (RFC 6749, section 3.3)
 
@@ -80,7 +80,7 @@ mask_or mask names (Some text) = scope_mask names text
 
 -- the scope that the parameters ask for, or this one where they ask for none
 abbrev pub scope_asked : RegistryRecord → ℕ → Parameters → Option ℕ
-scope_asked rules otherwise params = mask_or otherwise rules.scopes (value_of (codes "scope") params)
+scope_asked rules otherwise params = mask_or otherwise rules.scopes (value_sent (codes "scope") params)
 
 -- the scope that is asked for, which is within the limit; the limit itself where none is asked for
 abbrev pub scope_within : RegistryRecord → ℕ → Parameters → Option ℕ

@@ -10,7 +10,7 @@ use Rattle.answers.specs.declared.answer.Answer.{Answer}
 use Rattle.answers.specs.declared.answer.Answer.TheVariants.{CodeSent, TurnedBack, HookDone}
 
 -- its bytes are few
-pub record IsShort (reply : Written) : Type 0 where
+pub record IsShortReply (reply : Written) : Type 0 where
   pub short : length (reply_bytes reply) < reply_limit
 
 -- so many bytes has a state at most that is sent back

@@ -1,11 +1,11 @@
 -- What a decision comes to.
 use Rattle.std.specs.Prelude.{◌≡◌, ℕ, List, Option, Some, option_map, Result, Ok, Err}
 use Rattle.consent.specs.History.{Event, Grant}
-use Rattle.consent.specs.Changes.{changes_of, listed}
+use Rattle.consent.specs.Changes.{changes_of, as_list}
 use Rattle.answers.specs.Outcomes.{Outcome}
 use Rattle.answers.specs.Halts.{Halts}
 use Rattle.answers.specs.Replies.{reply_of}
-use Rattle.answers.specs.Scene.{Scene, Shows, scene_of}
+use Rattle.answers.specs.Setting.{Setting, Shows, setting_of}
 use Rattle.answers.specs.Found.{IsFound, grant_found}
 use Rattle.token_store.specs.declared.found.Found.{Found}
 use Rattle.answers.specs.declared.view.View.{View}
@@ -13,25 +13,25 @@ use Rattle.answers.specs.declared.decision.Decision.{Decision}
 use Rattle.answers.specs.declared.halt.Halt.{Halt}
 
 -- the outcome that the decision is: none, where one of its changes means nothing
-abbrev pub told : Scene → Decision → Option Outcome
-told s d =
+abbrev pub outcome_told : Setting → Decision → Option Outcome
+outcome_told s d =
     option_map (λ changes. record { reply = reply_of s.rules s.names d.answer; changes = changes })
-    (changes_of s.history s.moment (listed d.changes))
+    (changes_of s.history s.moment (as_list d.changes))
 
 -- the points come to the decision, or halt
-abbrev pub Decides : Scene → Result Decision Halt → Outcome → Type 0
-Decides s (Ok d) points = told s d ≡ Some points
+abbrev pub Decides : Setting → Result Decision Halt → Outcome → Type 0
+Decides s (Ok d) points = outcome_told s d ≡ Some points
 Decides s (Err halt) points = Halts halt points
 
 -- whatever history the view shows, and whatever the names of the hooks, its points come to the decision, or halt
-abbrev pub DecidesBy : View → Result Decision Halt → (Scene → Outcome) → Type 0
+abbrev pub DecidesBy : View → Result Decision Halt → (Setting → Outcome) → Type 0
 DecidesBy view result points =
     (history : List Event) (names : List (List ℕ)) → Shows view history →
-    Decides (scene_of view history names) result (points (scene_of view history names))
+    Decides (setting_of view history names) result (points (setting_of view history names))
 
 -- and so do those of the code or token that was found under the digest
-abbrev pub DecidesOf : View → List ℕ → Found → Result Decision Halt → (Scene → Grant → Outcome) → Type 0
+abbrev pub DecidesOf : View → List ℕ → Found → Result Decision Halt → (Setting → Grant → Outcome) → Type 0
 DecidesOf view digest found result points =
     (history : List Event) (names : List (List ℕ)) → Shows view history → IsFound history digest view.moment found →
-    Decides (scene_of view history names) result
-    (points (scene_of view history names) (grant_found history digest view.moment found))
+    Decides (setting_of view history names) result
+    (points (setting_of view history names) (grant_found history digest view.moment found))

@@ -1,11 +1,11 @@
 //! The points that read only the request and the registry.
 ghost use Rattle.std.specs.Prelude.{◌≡◌, option_map};
 ghost use Rattle.messages.specs.Asked.{asked_of};
-ghost use Rattle.answers.specs.Halts.{Leads};
+ghost use Rattle.answers.specs.Halts.{LeadsOrHalts};
 ghost use Rattle.answers.specs.Outcomes.{Outcome};
 ghost use Rattle.answers.specs.Requesters as asked;
-ghost use Rattle.answers.specs.Requesters.{Parameters, with_form, with_credentials, client_named, owner_of, scope_asked, scope_within};
-ghost use Rattle.answers.specs.Scene.{known_of};
+ghost use Rattle.answers.specs.Requesters.{Parameters, with_form, with_credentials, client_named, owner_of_key, scope_asked, scope_within};
+ghost use Rattle.answers.specs.Setting.{known_of};
 
 use crate::halt::Halt;
 use crate::view::KnownClient;
@@ -23,7 +23,7 @@ fn bad_request() -> Halt
 
 /// The parameters of the body, which is a form.
 pub fn form(alloc: Global, request: &Request<'_>) -> Result<Params, Halt>
-    ensures { (next : Parameters → Outcome) → Leads result (with_form (asked_of request.entry.now) next) next }
+    ensures { (next : Parameters → Outcome) → LeadsOrHalts result (with_form (asked_of request.entry.now) next) next }
 {
     if !request.is_form() {
         return Err(bad_request());
@@ -42,7 +42,7 @@ pub fn authenticated_client<'r>(
     request: &Request<'_>,
     params: &Params,
 ) -> Result<KnownClient<'r>, Halt>
-    ensures { (next : asked.KnownClient → Outcome) → Leads result
+    ensures { (next : asked.KnownClient → Outcome) → LeadsOrHalts result
         (with_credentials rules.now (asked_of request.entry.now) params.now next) (λ known. next (known_of known)) }
 {
     match authenticate(alloc, rules, request.authorization, params) {
@@ -70,7 +70,7 @@ pub fn named_client<'r>(rules: &'r Registry, params: &Params) -> Option<KnownCli
 
 /// The owner of the key that was sent.
 pub fn owner(rules: &Registry, request: &Request<'_>) -> Option<OwnerNo>
-    ensures { result ≡ owner_of rules.now (asked_of request.entry.now) }
+    ensures { result ≡ owner_of_key rules.now (asked_of request.entry.now) }
 {
     let key = request.owner_key?;
     rules.owner_no(key)

@@ -7,12 +7,12 @@ ghost use Rattle.token_store.specs.Found.{owner_number};
 ghost use Rattle.hook_host.specs.Names.{AreHookNames};
 ghost use Rattle.messages.specs.Reply.{plain, sent_back};
 ghost use Rattle.messages.specs.Reply.Body.{Consent, HookRefused, Hooks};
-ghost use Rattle.messages.specs.Written.{error_text, written};
+ghost use Rattle.messages.specs.Written.{error_text, in_writing};
 ghost use Rattle.pkce.specs.Token.{token_text};
 ghost use Rattle.hook_host.specs.Faults.{hook_fault_text};
 ghost use Rattle.params.specs.Scope.{scope_text};
 ghost use Rattle.answers.specs.Replies.{access_reply, both_reply, id_of, live_body, reply_of};
-ghost use Rattle.answers.specs.Short.{IsShort, IsShortAnswer, IsShortLive, IsShortReturn};
+ghost use Rattle.answers.specs.Short.{IsShortReply, IsShortAnswer, IsShortLive, IsShortReturn};
 
 use crate::answer::Answer;
 use crate::halt::status_of;
@@ -34,8 +34,8 @@ fn access(
     scope: u64,
     life: u32,
 ) -> Result<Response, AllocError>
-    ensures value { IfOk result (λ reply. reply ≡ written (access_reply rules.now draw.now scope life)) }
-    ensures short { IfOk result IsShort }
+    ensures value { IfOk result (λ reply. reply ≡ in_writing (access_reply rules.now draw.now scope life)) }
+    ensures short { IfOk result IsShortReply }
 {
     let token = token_text(alloc, draw)?;
     let scope = rules.catalogue().scope_text(alloc, scope)?;
@@ -49,8 +49,8 @@ fn both(
     scope: u64,
     life: u32,
 ) -> Result<Response, AllocError>
-    ensures value { IfOk result (λ reply. reply ≡ written (both_reply rules.now draws.now scope life)) }
-    ensures short { IfOk result IsShort }
+    ensures value { IfOk result (λ reply. reply ≡ in_writing (both_reply rules.now draws.now scope life)) }
+    ensures short { IfOk result IsShortReply }
 {
     let token = token_text(alloc, &draws.first)?;
     let refresh = token_text(alloc, &draws.second)?;
@@ -59,16 +59,16 @@ fn both(
 }
 
 fn consented(alloc: Global, rules: &Registry, mask: u64) -> Result<Response, AllocError>
-    ensures value { IfOk result (λ reply. reply ≡ written (plain 200 (Consent (scope_text rules.now.scopes mask)))) }
-    ensures short { IfOk result IsShort }
+    ensures value { IfOk result (λ reply. reply ≡ in_writing (plain 200 (Consent (scope_text rules.now.scopes mask)))) }
+    ensures short { IfOk result IsShortReply }
 {
     let scope = rules.catalogue().scope_text(alloc, mask)?;
     consent(alloc, &scope)
 }
 
 fn fault(alloc: Global, fault: HookFault) -> Result<Response, AllocError>
-    ensures value { IfOk result (λ reply. reply ≡ written (plain 400 (HookRefused (hook_fault_text fault)))) }
-    ensures short { IfOk result IsShort }
+    ensures value { IfOk result (λ reply. reply ≡ in_writing (plain 400 (HookRefused (hook_fault_text fault)))) }
+    ensures short { IfOk result IsShortReply }
 {
     let detail = format!(in alloc; "{fault}")?;
     hook_refused(alloc, &detail)
@@ -94,8 +94,8 @@ fn sub_of(rules: &Registry, owner: Option<OwnerNo>) -> Option<&str>
 }
 
 fn live(alloc: Global, token: ActiveToken<'_>) -> Result<Response, AllocError>
-    ensures value { IfOk result (λ reply. reply ≡ written (plain 200 (live_body token.entry))) }
-    ensures short { IsShortLive token.entry → IfOk result IsShort }
+    ensures value { IfOk result (λ reply. reply ≡ in_writing (plain 200 (live_body token.entry))) }
+    ensures short { IsShortLive token.entry → IfOk result IsShortReply }
 {
     active(alloc, token)
 }
@@ -113,8 +113,8 @@ fn hook_names<H: HookHost>(alloc: Global, host: &H) -> Result<Vec<&str>, AllocEr
 }
 
 fn all_hooks<H: HookHost>(alloc: Global, host: &H) -> Result<Response, AllocError>
-    ensures value { IfOk result (λ reply. reply ≡ written (plain 200 (Hooks (H.names host.now)))) }
-    ensures short { IfOk result IsShort }
+    ensures value { IfOk result (λ reply. reply ≡ in_writing (plain 200 (Hooks (H.names host.now)))) }
+    ensures short { IfOk result IsShortReply }
 {
     let names = hook_names(alloc, host)?;
     hooks(alloc, &names)
@@ -128,8 +128,8 @@ fn sent(
     state: Option<&str>,
 ) -> Result<Response, AllocError>
     ensures value { IfOk result (λ reply. reply
-        ≡ written (sent_back uri.now (codes "code") (token_text draw.now) (option_copied state.entry))) }
-    ensures short { IsShortReturn uri.now (option_copied state.entry) → IfOk result IsShort }
+        ≡ in_writing (sent_back uri.now (codes "code") (token_text draw.now) (option_copied state.entry))) }
+    ensures short { IsShortReturn uri.now (option_copied state.entry) → IfOk result IsShortReply }
 {
     let text = token_text(alloc, draw)?;
     redirect(alloc, uri, "code", &text, state)
@@ -143,8 +143,8 @@ fn turned(
     state: Option<&str>,
 ) -> Result<Response, AllocError>
     ensures value { IfOk result (λ reply. reply
-        ≡ written (sent_back uri.now (codes "error") (error_text error) (option_copied state.entry))) }
-    ensures short { IsShortReturn uri.now (option_copied state.entry) → IfOk result IsShort }
+        ≡ in_writing (sent_back uri.now (codes "error") (error_text error) (option_copied state.entry))) }
+    ensures short { IsShortReturn uri.now (option_copied state.entry) → IfOk result IsShortReply }
 {
     redirect(alloc, uri, "error", error.text(), state)
 }
@@ -156,8 +156,8 @@ pub fn write<H: HookHost>(
     host: &H,
     answer: &Answer<'_>,
 ) -> Result<Response, AllocError>
-    ensures value { IfOk result (λ reply. reply ≡ written (reply_of rules.now (H.names host.now) answer.entry.now)) }
-    ensures short { IsShortAnswer answer.entry.now → IfOk result IsShort }
+    ensures value { IfOk result (λ reply. reply ≡ in_writing (reply_of rules.now (H.names host.now) answer.entry.now)) }
+    ensures short { IsShortAnswer answer.entry.now → IfOk result IsShortReply }
 {
     match *answer {
         Answer::Done => Ok(Response::bare(StatusCode::OK)),

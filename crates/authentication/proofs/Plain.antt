@@ -11,7 +11,7 @@ use Rattle.std.proofs.lemmas.Str.{IsUtf8-from_ascii, utf8_lossy-IsUtf8}
 use Rattle.std.proofs.lemmas.Str.Ascii.{IsAscii-from_all}
 use Rattle.form_urlencoded.specs.Form.{IsPlain}
 use Rattle.form_urlencoded.proofs.FormLemmas.{decode_plain}
-use Rattle.params.specs.Form.{text_of, has_replacement}
+use Rattle.params.specs.Form.{lossy_text, has_replacement}
 use Rattle.clients.specs.Faults.{◌>>=◌, GivesUnless}
 use Rattle.authentication.specs.Authentication.{form_text}
 use Rattle.authentication.specs.declared.authentication.AuthFault.{AuthFault}
@@ -42,7 +42,7 @@ no_replacement (b ∷ text) ascii =
 pub itself : (text : List ℕ) → list_all plain_byte text ≡ true → form_text text ≡ Ok text
 itself text is =
     let ascii = each (λ b. b < 128) plain-small text is in
-    let same : text_of text ≡ text = ap utf8_lossy (decode_plain text (each IsPlain plain-itself text is)) ∙ utf8_lossy-IsUtf8 text (IsUtf8-from_ascii text (IsAscii-from_all text ascii)) in
+    let same : lossy_text text ≡ text = ap utf8_lossy (decode_plain text (each IsPlain plain-itself text is)) ∙ utf8_lossy-IsUtf8 text (IsUtf8-from_ascii text (IsAscii-from_all text ascii)) in
     ap (λ t. if has_replacement t then Err BadHeader else Ok t) same ∙ ap (λ b. if b then Err BadHeader else Ok text) (no_replacement text ascii)
 
 pub told : {E : Type 0} (Q : E → Type 0) (r : Result (Bor (List ℕ)) E) (o : Option (Bor (List ℕ))) (bytes : List ℕ) → o ≡ result_ok r

@@ -8,10 +8,10 @@ use Rattle.std.specs.Char.{to_ascii_lowercase}
 use Rattle.base64.specs.Engines.{standard}
 use Rattle.base64.specs.GeneralPurpose.{decode_of, encode_of}
 use Rattle.form_urlencoded.specs.Form.{byte_serialize}
-use Rattle.params.specs.Form.{text_of, has_replacement, value_of}
+use Rattle.params.specs.Form.{lossy_text, has_replacement, value_sent}
 use Rattle.clients.specs.Faults.{◌>>=◌}
 use Rattle.clients.specs.Texts.{is_key}
-use Rattle.clients.specs.Numbers.{number_of}
+use Rattle.clients.specs.Numbers.{number_among}
 use Rattle.clients.specs.Clients.{ids, client_at, has_secret}
 use Rattle.clients.specs.ClientRecord.{ClientRecord}
 use Rattle.authentication.specs.declared.authentication.AuthFault.{AuthFault}
@@ -32,7 +32,7 @@ basic_text header =
 
 -- the text that was form-encoded (RFC 6749, appendix B), unless it contains U+FFFD
 abbrev pub form_text : List ℕ → Result (List ℕ) AuthFault
-form_text bytes = if has_replacement (text_of bytes) then Err BadHeader else Ok (text_of bytes)
+form_text bytes = if has_replacement (lossy_text bytes) then Err BadHeader else Ok (lossy_text bytes)
 
 -- the bytes on the two sides of the first colon
 abbrev pub around_colon : List ℕ → Result (List ℕ × List ℕ) AuthFault
@@ -56,35 +56,35 @@ is_secret_of number clients secret = option_map_or (has_secret secret) (client_a
 -- the client of an identifier and a secret, unless another client is named beside them
 abbrev pub identified : List ClientRecord → Option (List ℕ) → List ℕ → List ℕ → Result ℕ AuthFault
 identified clients named id secret = do
-  number ← ok_or (number_of id (ids clients)) NoClient
+  number ← ok_or (number_among id (ids clients)) NoClient
   if option_map_or (λ other. not (bytes_eq other id)) named false then Err TwoMethods
       else (if is_secret_of number clients secret then Ok number else Err BadSecret)
 
 -- the client that a request authenticates, by its Authorization header or, without one, its parameters
 abbrev pub authenticated : List ClientRecord → Option (List ℕ) → List (List ℕ × List ℕ) → Result ℕ AuthFault
 authenticated clients None params = do
-  id ← ok_or (value_of (codes "client_id") params) NoClient
-  secret ← ok_or (value_of (codes "client_secret") params) NoClient
+  id ← ok_or (value_sent (codes "client_id") params) NoClient
+  secret ← ok_or (value_sent (codes "client_secret") params) NoClient
   identified clients None id secret
 authenticated clients (Some header) params =
-    if is_some (value_of (codes "client_secret") params) then Err TwoMethods
+    if is_some (value_sent (codes "client_secret") params) then Err TwoMethods
     else (do
       sent ← basic_credentials header
-      identified clients (value_of (codes "client_id") params) sent.0 sent.1)
+      identified clients (value_sent (codes "client_id") params) sent.0 sent.1)
 
 -- memory may be wanted: a Basic header is read, which has no secret beside it
 abbrev pub wants_memory : Option (List ℕ) → List (List ℕ × List ℕ) → Bool
 wants_memory None params = false
-wants_memory (Some header) params = not (is_some (value_of (codes "client_secret") params)) && is_basic header
+wants_memory (Some header) params = not (is_some (value_sent (codes "client_secret") params)) && is_basic header
 
 -- the request has this identifier and this secret, in a Basic header or, without one, as parameters
 abbrev pub HasSent : Option (List ℕ) → List (List ℕ × List ℕ) → List ℕ → List ℕ → Type 0
-HasSent None params id secret = (value_of (codes "client_id") params ≡ Some id) × (value_of (codes "client_secret") params ≡ Some secret)
+HasSent None params id secret = (value_sent (codes "client_id") params ≡ Some id) × (value_sent (codes "client_secret") params ≡ Some secret)
 HasSent (Some header) params id secret = basic_credentials header ≡ Ok (id, secret)
 
 -- this number's client has this identifier and this secret
 abbrev pub AreCredentialsOf : List ClientRecord → ℕ → List ℕ → List ℕ → Type 0
-AreCredentialsOf clients number id secret = (number_of id (ids clients) ≡ Some number) × (is_secret_of number clients secret ≡ true)
+AreCredentialsOf clients number id secret = (number_among id (ids clients) ≡ Some number) × (is_secret_of number clients secret ≡ true)
 
 -- the request has the identifier and a secret of this number's client
 abbrev pub IsSender : List ClientRecord → Option (List ℕ) → List (List ℕ × List ℕ) → ℕ → Type 0
@@ -100,5 +100,5 @@ abbrev pub HeadersAuthenticate : List ClientRecord → Type 0
 HeadersAuthenticate clients =
     (number : ℕ) (client : ClientRecord) (secret : List ℕ) (params : List (List ℕ × List ℕ)) → client_at number clients ≡ Some client
     → is_key secret ≡ true → has_secret secret client ≡ true
-    → value_of (codes "client_id") params ≡ None → value_of (codes "client_secret") params ≡ None
+    → value_sent (codes "client_id") params ≡ None → value_sent (codes "client_secret") params ≡ None
     → authenticated clients (Some (basic_header client.id secret)) params ≡ Ok number

@@ -20,10 +20,10 @@ use Rattle.base64.specs.GeneralPurpose.{decode_of, encode_of}
 use Rattle.base64.proofs.EngineFacts.{decode_of-encode_of}
 use Rattle.form_urlencoded.specs.Form.{byte_serialize}
 use Rattle.form_urlencoded.proofs.FormLemmas.{IsSerializedByte, All-byte_serialize, IsAscii-byte_serialize, decode-byte_serialize}
-use Rattle.params.specs.Form.{text_of, has_replacement, value_of, any_twice}
+use Rattle.params.specs.Form.{lossy_text, has_replacement, value_sent, any_twice}
 use Rattle.clients.specs.Faults.{◌>>=◌}
 use Rattle.clients.specs.Texts.{is_visible, is_key, is_identifier_byte, is_identifier}
-use Rattle.clients.specs.Numbers.{number_of}
+use Rattle.clients.specs.Numbers.{number_among}
 use Rattle.clients.specs.Clients.{ids, has_secret}
 use Rattle.clients.specs.ClientRecord.{ClientRecord}
 use Rattle.clients.specs.RegistryRecord.{RegistryRecord}
@@ -63,7 +63,7 @@ no_replacement (b ∷ text) ascii =
 form_text-back : (text : List ℕ) → All (λ b. b < 128) text → form_text (byte_serialize text) ≡ Ok text
 form_text-back text ascii =
     let decoded = decode-byte_serialize text (All-weaker (λ b. b < 128) (λ b. b < 256) (λ b small. omega (arith, small)) text ascii) in
-    let same : text_of (byte_serialize text) ≡ text = ap utf8_lossy decoded ∙ utf8_lossy-IsUtf8 text (IsUtf8-from_ascii text (IsAscii-from_all text ascii)) in
+    let same : lossy_text (byte_serialize text) ≡ text = ap utf8_lossy decoded ∙ utf8_lossy-IsUtf8 text (IsUtf8-from_ascii text (IsAscii-from_all text ascii)) in
     ap (λ t. if has_replacement t then Err BadHeader else Ok t) same ∙ ap (λ b. if b then Err BadHeader else Ok text) (no_replacement text ascii)
 
 -- a form encoding has no colon
@@ -137,13 +137,13 @@ pub headers_authenticate : (rules : RegistryRecord) → IsRegistry rules → Hea
 headers_authenticate rules is number client secret params at is_key right no_id no_secret =
     let one = client-of rules number client is at in
     let sent = credentials-back client.id secret (identifier-ascii client.id one.is_client.id) (key-ascii secret is_key) in
-    let known : number_of client.id (ids rules.clients) ≡ Some number = number_where (number == 0) refl at in
+    let known : number_among client.id (ids rules.clients) ≡ Some number = number_where (number == 0) refl at in
     let among : is_secret_of number rules.clients secret ≡ true = ap (λ (o : Option ClientRecord). option_map_or (has_secret secret) o false) at ∙ right in
-    by (value_of (codes "client_secret") params) (value_of (codes "client_id") params) (basic_credentials (basic_header client.id secret)) no_secret no_id sent
-    (found (number_of client.id (ids rules.clients)) known among)
+    by (value_sent (codes "client_secret") params) (value_sent (codes "client_id") params) (basic_credentials (basic_header client.id secret)) no_secret no_id sent
+    (found (number_among client.id (ids rules.clients)) known among)
   where
     number_where : (none : Bool) → (number == 0) ≡ none → (if none then None else slice_get rules.clients (number - 1)) ≡ Some client
-        → number_of client.id (ids rules.clients) ≡ Some number
+        → number_among client.id (ids rules.clients) ≡ Some number
     number_where true e at = cc at
     number_where false e at = (numbered rules.clients (number - 1) 1 client is.distinct at).1 ∙ ap Some (grind (arith, nat_tests))
 

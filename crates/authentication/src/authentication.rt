@@ -9,7 +9,7 @@ ghost use Rattle.base64.specs.Engines.{standard};
 ghost use Rattle.base64.specs.GeneralPurpose.{decode_of};
 ghost use Rattle.authentication.specs.FaultTexts.{auth_fault_text};
 ghost use Rattle.clients.specs.Faults.{GivesUnless, seen_by};
-ghost use Rattle.clients.specs.Numbers.{number_of};
+ghost use Rattle.clients.specs.Numbers.{number_among};
 ghost use Rattle.clients.specs.Clients.{ids};
 ghost use Rattle.authentication.specs.Authentication.{is_basic, basic_text, around_colon, form_text, basic_credentials, is_secret_of, identified, authenticated, wants_memory, IsSender};
 ghost use Rattle.authentication.specs.declared.authentication.AuthFault.TheVariants.{Memory};
@@ -193,7 +193,7 @@ fn with_secret(registry: &Registry, number: ClientNo, secret: &str) -> Result<Cl
 
 // The number of the client with this identifier.
 fn known(registry: &Registry, id: &str) -> Result<ClientNo, AuthFault>
-    ensures { result ≡ ok_or (number_of id.now (ids registry.now.clients)) AuthFault.NoClient }
+    ensures { result ≡ ok_or (number_among id.now (ids registry.now.clients)) AuthFault.NoClient }
 {
     registry.client_no(id).ok_or(AuthFault::NoClient)
 }

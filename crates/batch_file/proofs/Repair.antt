@@ -1,7 +1,7 @@
 -- What a crash leaves while the end of a file is repaired.
 use Rattle.std.proofs.Common.{◌≡◌, ℕ, ◌+◌, ◌-◌, ◌≤◌, List, [], ◌∷◌, ◌++◌, length, take, drop, sym, ◌∙◌, ap, arith, length-drop, length-take, take-append-drop}
 use Rattle.std.proofs.lemmas.List.{append-nil, take_all, drop_all, take-take, drop-take}
-use Rattle.batch_file.specs.Crashes.{Holds, Torn, Cut}
+use Rattle.batch_file.specs.Crashes.{IsWrittenAt, Torn, Cut}
 use Rattle.batch_file.specs.Frames.{recovered, AreFrames}
 use Rattle.batch_file.proofs.Reading.{brief}
 
@@ -33,7 +33,7 @@ module _ (file : List ℕ) (end : ℕ) (within : end ≤ length file) (are : Are
       ∙ ap (λ (l : List (List ℕ)). recovered file ++ l) (brief (drop end c) (omega (arith, length-drop end c, size, torn.no_longer)))
       ∙ append-nil (recovered file)
 
-  pub written_end : (c : List ℕ) → Holds (take end file) end (0 ∷ []) c → c ≡ take end file ++ 0 ∷ []
+  pub written_end : (c : List ℕ) → IsWrittenAt (take end file) end (0 ∷ []) c → c ≡ take end file ++ 0 ∷ []
   written_end c holds =
       holds
       ∙ ap (λ (l : List ℕ). l ++ (0 ∷ []) ++ drop (end + 1) (take end file)) (take_all end (take end file) (omega (arith, size)))

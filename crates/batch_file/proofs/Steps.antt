@@ -1,7 +1,7 @@
 -- The steps of the calls of a file of batches, from one content of the file to the next.
 use Rattle.std.proofs.Common.{◌≡◌, inl, inr, ⊎_elim, ℕ, ◌+◌, ◌^◌, ◌<◌, ◌≤◌, List, [], ◌∷◌, ◌++◌, length, take, drop, sym, ◌∙◌, ap, subst, arith}
 use Rattle.std.proofs.lemmas.List.{append-nil, take_all, take-take, take-append-drop, drop-take}
-use Rattle.batch_file.specs.Crashes.{Holds, Torn, Cut, Swapped}
+use Rattle.batch_file.specs.Crashes.{IsWrittenAt, Torn, Cut, Swapped}
 use Rattle.batch_file.specs.Frames.{body, frame, recovered, AreFrames, IsAtRest, IsBeforeOrAfter, IsOldOrNew}
 use Rattle.batch_file.proofs.Reading.{AreFrames-append}
 use Rattle.batch_file.proofs.Tearing.{rests, length_front, torn_behind, written_behind, torn_latch, written_latch, goes_on, alone}
@@ -14,21 +14,21 @@ pub stage : (file text c : List ℕ) (end : ℕ) → IsAtRest end file → Torn 
 stage file text c end rest torn =
     torn_behind (take end file) (recovered file) rest.frames end (length_front end file rest.size) (length text) c (subst (λ f. Torn (end + 1) (length text) f c) rest.closed torn)
 
-staged_is : (file batch text staged : List ℕ) (end : ℕ) → IsAtRest end file → text ≡ body batch ++ 0 ∷ [] → Holds file (end + 1) text staged → staged ≡ take end file ++ 0 ∷ (body batch ++ 0 ∷ [])
+staged_is : (file batch text staged : List ℕ) (end : ℕ) → IsAtRest end file → text ≡ body batch ++ 0 ∷ [] → IsWrittenAt file (end + 1) text staged → staged ≡ take end file ++ 0 ∷ (body batch ++ 0 ∷ [])
 staged_is file batch text staged end rest is holds =
-    written_behind (take end file) (recovered file) rest.frames end (length_front end file rest.size) text staged (subst (λ f. Holds f (end + 1) text staged) rest.closed holds)
+    written_behind (take end file) (recovered file) rest.frames end (length_front end file rest.size) text staged (subst (λ f. IsWrittenAt f (end + 1) text staged) rest.closed holds)
     ∙ ap (λ (l : List ℕ). take end file ++ 0 ∷ l) is
 
 -- its latch is being opened
-pub opens : (file batch text staged c : List ℕ) (end : ℕ) → IsAtRest end file → length batch < 2 ^ 32 → text ≡ body batch ++ 0 ∷ [] → Holds file (end + 1) text staged → Torn end 1 staged c → IsBeforeOrAfter (recovered file) batch c
+pub opens : (file batch text staged c : List ℕ) (end : ℕ) → IsAtRest end file → length batch < 2 ^ 32 → text ≡ body batch ++ 0 ∷ [] → IsWrittenAt file (end + 1) text staged → Torn end 1 staged c → IsBeforeOrAfter (recovered file) batch c
 opens file batch text staged c end rest small is holds torn =
     torn_latch (take end file) (recovered file) rest.frames end (length_front end file rest.size) batch c small (subst (λ f. Torn end 1 f c) (staged_is file batch text staged end rest is holds) torn)
 
 -- and is open
-pub opened : (file batch text staged last : List ℕ) (end : ℕ) → IsAtRest end file → length batch < 2 ^ 32 → text ≡ body batch ++ 0 ∷ [] → Holds file (end + 1) text staged → Holds staged end (1 ∷ []) last → IsAtRest (end + (5 + length batch)) last × (recovered last ≡ recovered file ++ batch ∷ [])
+pub opened : (file batch text staged last : List ℕ) (end : ℕ) → IsAtRest end file → length batch < 2 ^ 32 → text ≡ body batch ++ 0 ∷ [] → IsWrittenAt file (end + 1) text staged → IsWrittenAt staged end (1 ∷ []) last → IsAtRest (end + (5 + length batch)) last × (recovered last ≡ recovered file ++ batch ∷ [])
 opened file batch text staged last end rest small is holds holds_latch =
     let size = length_front end file rest.size in
-    let now = written_latch (take end file) (recovered file) rest.frames end size (body batch ++ 0 ∷ []) last (subst (λ f. Holds f end (1 ∷ []) last) (staged_is file batch text staged end rest is holds) holds_latch) in
+    let now = written_latch (take end file) (recovered file) rest.frames end size (body batch ++ 0 ∷ []) last (subst (λ f. IsWrittenAt f end (1 ∷ []) last) (staged_is file batch text staged end rest is holds) holds_latch) in
     goes_on (take end file) (recovered file) rest.frames end size batch last small now
 
 -- A REPLACEMENT
@@ -47,9 +47,9 @@ module _ (bytes file : List ℕ) (end : ℕ) (same : bytes ≡ file) (within : e
   shuts short c is torn =
       torn_end bytes end within are nothing c (subst (λ f. Torn end 1 f c) (is ∙ ap (λ (f : List ℕ). take end f) (sym same)) torn) ∙ ap recovered same
 
-  pub shut : (short last : List ℕ) → short ≡ take end file → Holds short end (0 ∷ []) last → IsAtRest end last × (recovered last ≡ recovered file)
+  pub shut : (short last : List ℕ) → short ≡ take end file → IsWrittenAt short end (0 ∷ []) last → IsAtRest end last × (recovered last ≡ recovered file)
   shut short last is holds =
-      let now = written_end bytes end within are nothing last (subst (λ f. Holds f end (0 ∷ []) last) (is ∙ ap (λ (f : List ℕ). take end f) (sym same)) holds) in
+      let now = written_end bytes end within are nothing last (subst (λ f. IsWrittenAt f end (0 ∷ []) last) (is ∙ ap (λ (f : List ℕ). take end f) (sym same)) holds) in
       let both = rests (take end bytes) (recovered bytes) end last are (length-cut bytes end within are nothing) now in
       (both.0, both.1 ∙ ap recovered same)
 

@@ -2,7 +2,7 @@
 use Rattle.std.proofs.Common.{◌≡◌, ◌≢◌, inl, inr, ℕ, ◌+◌, ◌^◌, ◌<◌, List, [], ◌∷◌, ◌++◌, length, get_or, take, drop, refl, sym, ◌∙◌, ap, arith, append_assoc, length-append, length-take, take-append-drop}
 use Rattle.std.proofs.lemmas.Bool.{cases_eq}
 use Rattle.std.proofs.lemmas.List.{take_at, drop_at, drop_more, take_all, drop_all, append-nil}
-use Rattle.batch_file.specs.Crashes.{Holds, Torn}
+use Rattle.batch_file.specs.Crashes.{IsWrittenAt, Torn}
 use Rattle.batch_file.specs.Frames.{body, frame, recovered, AreFrames, IsAtRest, IsBeforeOrAfter}
 use Rattle.batch_file.proofs.Reading.{closed, frame_is, AreFrames-append}
 
@@ -38,7 +38,7 @@ module _ (front : List ℕ) (batches : List (List ℕ)) (are : AreFrames front b
       sym (take-append-drop (end + 1) c) ∙ ap (λ (l : List ℕ). l ++ drop (end + 1) c) start ∙ append_assoc front (0 ∷ []) (drop (end + 1) c) in
       ap recovered whole ∙ quiet 0 (drop (end + 1) c) (omega arith)
 
-  pub written_behind : (text c : List ℕ) → Holds (front ++ 0 ∷ []) (end + 1) text c → c ≡ front ++ 0 ∷ text
+  pub written_behind : (text c : List ℕ) → IsWrittenAt (front ++ 0 ∷ []) (end + 1) text c → c ≡ front ++ 0 ∷ text
   written_behind text c holds =
       holds
       ∙ ap (λ (l : List ℕ). l ++ text ++ drop (end + 1 + length text) (front ++ 0 ∷ [])) (take_all _ _ (omega (arith, length-at_rest)))
@@ -76,7 +76,7 @@ module _ (front : List ℕ) (batches : List (List ℕ)) (are : AreFrames front b
         | inr shut ↦ inl (ap recovered whole ∙ quiet latch text shut)
       ]
 
-  pub written_latch : (text c : List ℕ) → Holds (front ++ 0 ∷ text) end (1 ∷ []) c → c ≡ front ++ 1 ∷ text
+  pub written_latch : (text c : List ℕ) → IsWrittenAt (front ++ 0 ∷ text) end (1 ∷ []) c → c ≡ front ++ 1 ∷ text
   written_latch text c holds =
       holds
       ∙ ap (λ (l : List ℕ). l ++ (1 ∷ []) ++ drop (end + 1) (front ++ 0 ∷ text)) (start_of text)

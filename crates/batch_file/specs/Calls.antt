@@ -56,12 +56,12 @@ content [] = []
 content (e ∷ before) = if e.is_ok then after_call e.call (content before) else content before
 
 -- what a call that a crash cuts short may make of a file
-abbrev pub Step : Call → List ℕ → List ℕ → Type 0
-Step (Opened bytes) old new = new ≡ bytes
-Step (Wrote at bytes) old new = Torn at (length bytes) old new
-Step (CutTo len) old new = Cut len old new
-Step Synced old new = new ≡ old
-Step (Replaced bytes) old new = Swapped bytes old new
+abbrev pub CallStep : Call → List ℕ → List ℕ → Type 0
+CallStep (Opened bytes) old new = new ≡ bytes
+CallStep (Wrote at bytes) old new = Torn at (length bytes) old new
+CallStep (CutTo len) old new = Cut len old new
+CallStep Synced old new = new ≡ old
+CallStep (Replaced bytes) old new = Swapped bytes old new
 
 -- after a sync or a replacement that succeeded, nothing but what a read would return
 abbrev pub IsKeptBy : Bool → Call → List ℕ → List ℕ → Type 0
@@ -79,7 +79,7 @@ abbrev pub MayLeave : List Logged → List ℕ → Type 0
 MayLeave [] c = ⊥
 MayLeave (e ∷ []) c = IsOpenedWith e.call c
 MayLeave (e ∷ f ∷ before) c =
-    ((d : List ℕ) × MayLeave (f ∷ before) d × Step e.call d c) × IsKeptBy e.is_ok e.call (content (f ∷ before)) c
+    ((d : List ℕ) × MayLeave (f ∷ before) d × CallStep e.call d c) × IsKeptBy e.is_ok e.call (content (f ∷ before)) c
 
 -- what a crash since that many calls had been made might have left
 abbrev pub LeftSince : List Logged → ℕ → List ℕ → Type 0

@@ -4,8 +4,8 @@ use Rattle.batch_file.specs.declared.device.DeviceFault.{DeviceFault}
 use Rattle.batch_file.specs.declared.device.DeviceFault.TheVariants.{Failed}
 
 -- new is old with these bytes at this offset
-abbrev pub Holds : List ℕ → ℕ → List ℕ → List ℕ → Type 0
-Holds old at bytes new = new ≡ take at old ++ bytes ++ drop (at + length bytes) old
+abbrev pub IsWrittenAt : List ℕ → ℕ → List ℕ → List ℕ → Type 0
+IsWrittenAt old at bytes new = new ≡ take at old ++ bytes ++ drop (at + length bytes) old
 
 -- after a write of n bytes that a crash cuts short: any bytes in the range and past the old end, the same elsewhere
 pub record Torn (at n : ℕ) (old new : List ℕ) : Type 0 where
@@ -24,8 +24,8 @@ abbrev pub Swapped : List ℕ → List ℕ → List ℕ → Type 0
 Swapped next old new = (new ≡ old) ⊎ (new ≡ next)
 
 -- each new outcome of a crash is an old outcome after a step
-abbrev pub Follows : (List ℕ → List ℕ → Type 0) → (List ℕ → Type 0) → (List ℕ → Type 0) → Type 0
-Follows step old new = (c : List ℕ) → new c → (d : List ℕ) × old d × step d c
+abbrev pub ComesOfStep : (List ℕ → List ℕ → Type 0) → (List ℕ → Type 0) → (List ℕ → Type 0) → Type 0
+ComesOfStep step old new = (c : List ℕ) → new c → (d : List ℕ) × old d × step d c
 
 -- a crash leaves this and nothing else
 abbrev pub Only : List ℕ → (List ℕ → Type 0) → Type 0

@@ -50,7 +50,7 @@ pub record IsAtRest (end : ℕ) (file : List ℕ) : Type 0 where
   pub frames : AreFrames (take end file) (recovered file)
 
 -- and all of it is on the disk
-pub record IsSettled {D : Type 0} (seen : D → List ℕ) (may_leave : D → List ℕ → Type 0) (file : BatchFile D) : Type 0 where
+pub record IsOnDisk {D : Type 0} (seen : D → List ℕ) (may_leave : D → List ℕ → Type 0) (file : BatchFile D) : Type 0 where
   pub at_rest : IsAtRest file.end (seen file.device)
   pub durable : Only (seen file.device) (may_leave file.device)
 

@@ -2,9 +2,9 @@
 
 ghost use Rattle.std.specs.Prelude.{◌≡◌, ◌<◌, ◌≤◌, ◌^◌, ◌+◌, ◌++◌, [], ◌∷◌, List, ℕ, length, take, IfOk, OnOk, IsErrOf, Some};
 ghost use Rattle.batch_file.specs.declared.appending.BatchFault.TheVariants.{Memory};
-ghost use Rattle.batch_file.specs.Crashes.{Cut, HasCause, Holds, LeavesOnly, Only, Torn};
+ghost use Rattle.batch_file.specs.Crashes.{Cut, HasCause, IsWrittenAt, LeavesOnly, Only, Torn};
 ghost use Rattle.batch_file.specs.FaultTexts.{batch_fault_text, of_device};
-ghost use Rattle.batch_file.specs.Frames.{frame, lists, recovered, IsAtRest, IsBeforeOrAfter, IsOldOrNew, IsSettled};
+ghost use Rattle.batch_file.specs.Frames.{frame, lists, recovered, IsAtRest, IsBeforeOrAfter, IsOldOrNew, IsOnDisk};
 
 use crate::device::{Device, DeviceFault};
 use crate::framing::{Batches, body_of, read_batches};
@@ -75,8 +75,8 @@ impl<D: Device> BatchFile<D> {
     /// Adds a batch. At `Ok` it is acknowledged: from then on each crash leaves a file that has it.
     /// At `Failed` and `Memory`, open the file again.
     pub fn append(&mut self, alloc: Global, batch: &[u8]) -> Result<(), BatchFault>
-        requires { IsSettled D.seen D.may_leave self.old }
-        ensures settled { OnOk result (IsSettled D.seen D.may_leave self.new) }
+        requires { IsOnDisk D.seen D.may_leave self.old }
+        ensures settled { OnOk result (IsOnDisk D.seen D.may_leave self.new) }
         ensures added { OnOk result (recovered (D.seen self.new.device) ≡ recovered (D.seen self.old.device) ++ batch.now ∷ []) }
         // A crash at any moment of the call leaves the batches from before it, with the new one or without.
         ensures any_moment { LeavesOnly D.moment D.left_since self.old.device self.new.device
@@ -101,10 +101,10 @@ impl<D: Device> BatchFile<D> {
     /// Puts one batch in the place of all, by the file that `file_of` makes of it. At `Ok` each crash leaves it and nothing
     /// else. Where it fails, open the file again.
     pub fn replace(&mut self, batch: &[u8], file: &[u8]) -> Result<(), DeviceFault>
-        requires settled { IsSettled D.seen D.may_leave self.old }
+        requires settled { IsOnDisk D.seen D.may_leave self.old }
         requires short { length batch.now < 2 ^ 32 }
         requires file { file.now ≡ frame batch.now ++ 0 ∷ [] }
-        ensures settled { OnOk result (IsSettled D.seen D.may_leave self.new) }
+        ensures settled { OnOk result (IsOnDisk D.seen D.may_leave self.new) }
         ensures alone { OnOk result (recovered (D.seen self.new.device) ≡ batch.now ∷ []) }
         ensures end { OnOk result (self.new.end ≡ 5 + length batch.now) }
         // A crash at any moment of the call leaves the batches from before it, or the new one alone.
@@ -148,7 +148,7 @@ pub fn recover<D: Device>(
 fn write_down<D: Device>(device: &mut D, at: usize, bytes: &[u8]) -> Result<(), DeviceFault>
     requires within { at ≤ length (D.seen device.old) }
     requires durable { Only (D.seen device.old) (D.may_leave device.old) }
-    ensures written { OnOk result (Holds (D.seen device.old) at bytes.now (D.seen device.new)) }
+    ensures written { OnOk result (IsWrittenAt (D.seen device.old) at bytes.now (D.seen device.new)) }
     ensures durable { OnOk result (Only (D.seen device.new) (D.may_leave device.new)) }
     ensures any_moment { LeavesOnly D.moment D.left_since device.old device.new
         (Torn at (length bytes.now) (D.seen device.old)) }

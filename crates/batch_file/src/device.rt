@@ -2,7 +2,7 @@
 
 ghost use Rattle.std.specs.Prelude.{◌≡◌, ◌≤◌, List, ℕ, length, take, OnOk, Some};
 ghost use Rattle.batch_file.specs.declared.device.DeviceFault.TheVariants.{Memory};
-ghost use Rattle.batch_file.specs.Crashes.{Cut, Elapses, Follows, HasCause, Holds, Only, Swapped, Torn};
+ghost use Rattle.batch_file.specs.Crashes.{Cut, Elapses, ComesOfStep, HasCause, IsWrittenAt, Only, Swapped, Torn};
 ghost use Rattle.batch_file.specs.FaultTexts.{device_fault_text};
 
 use std::alloc::{AllocError, AllocFailed};
@@ -64,8 +64,8 @@ pub trait Device {
     /// Writes over what is there, and past the end. Until a sync, a crash may leave any bytes in the range.
     fn write_at(&mut self, at: usize, bytes: &[u8]) -> Result<(), DeviceFault>
         requires { at ≤ length (seen self.old) }
-        ensures written { OnOk result (Holds (seen self.old) at bytes.now (seen self.new)) }
-        ensures crash { Follows (Torn at (length bytes.now)) (may_leave self.old) (may_leave self.new) }
+        ensures written { OnOk result (IsWrittenAt (seen self.old) at bytes.now (seen self.new)) }
+        ensures crash { ComesOfStep (Torn at (length bytes.now)) (may_leave self.old) (may_leave self.new) }
         ensures time { Elapses (moment self.old) (moment self.new) (left_since self.old) (left_since self.new) (may_leave self.new) }
         ensures cause { HasCause (faults self.old) (faults self.new) result };
 
@@ -73,7 +73,7 @@ pub trait Device {
     fn cut(&mut self, len: usize) -> Result<(), DeviceFault>
         requires { len ≤ length (seen self.old) }
         ensures cut { OnOk result (seen self.new ≡ take len (seen self.old)) }
-        ensures crash { Follows (Cut len) (may_leave self.old) (may_leave self.new) }
+        ensures crash { ComesOfStep (Cut len) (may_leave self.old) (may_leave self.new) }
         ensures time { Elapses (moment self.old) (moment self.new) (left_since self.old) (left_since self.new) (may_leave self.new) }
         ensures cause { HasCause (faults self.old) (faults self.new) result };
 
@@ -89,7 +89,7 @@ pub trait Device {
     fn replace(&mut self, bytes: &[u8]) -> Result<(), DeviceFault>
         ensures replaced { OnOk result (seen self.new ≡ bytes.now) }
         ensures durable { OnOk result (Only bytes.now (may_leave self.new)) }
-        ensures crash { Follows (Swapped bytes.now) (may_leave self.old) (may_leave self.new) }
+        ensures crash { ComesOfStep (Swapped bytes.now) (may_leave self.old) (may_leave self.new) }
         ensures time { Elapses (moment self.old) (moment self.new) (left_since self.old) (left_since self.new) (may_leave self.new) }
         ensures cause { HasCause (faults self.old) (faults self.new) result };
 

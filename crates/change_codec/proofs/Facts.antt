@@ -5,25 +5,25 @@ use Rattle.std.proofs.lemmas.Bool.{eqb-true}
 use Rattle.consent.specs.declared.change.NewToken.{NewToken}
 use Rattle.change_codec.specs.declared.fault.ChangeFault.{ChangeFault}
 use Rattle.change_codec.specs.Spelling.{Code, Fact, Consented, CodeGiven, IssuedAlone, Issued, Spent, FamilyEnded, HookSet, HookGone, short, wide, counted, token_spelling, code_spelling, fact_spelling, IsDigest, IsText, FactFits}
-use Rattle.change_codec.specs.Reading.{◌>>=◌, number_at, part_at, party_at, counted_at, text_at, token_at, code_at, consented_at, code_given_at, issued_alone_at, issued_at, spent_at, family_ended_at, hook_set_at, hook_gone_at, fact_at}
-use Rattle.change_codec.specs.FieldLaws.{IsBytes, IsBytes-rest, bind_ok, ok_is, Takes, Takes-then, wide_takes, wide_again, party_takes, party_again, part_takes, part_again, counted_takes, counted_again, text_takes, text_again}
+use Rattle.change_codec.specs.Reading.{◌>>=◌, big_endian_at, part_at, party_at, counted_at, text_at, token_at, code_at, consented_at, code_given_at, issued_alone_at, issued_at, spent_at, family_ended_at, hook_set_at, hook_gone_at, fact_at}
+use Rattle.change_codec.specs.FieldLaws.{IsBytes, IsBytes-rest, bind_ok, ok_is, TakesFront, Takes-then, wide_takes, wide_again, party_takes, party_again, part_takes, part_again, counted_takes, counted_again, text_takes, text_again}
 use Rattle.change_codec.proofs.Fields.{token_takes, token_again, code_takes, code_again}
 
 -- ---- what is read is spelled so
 
 -- behind the byte of a variant
 abbrev FactTakes : ℕ → List ℕ → Fact × List ℕ → Type 0
-FactTakes variant bytes x = Takes (variant ∷ bytes) (fact_spelling x.0) x.1 × FactFits x.0
+FactTakes variant bytes x = TakesFront (variant ∷ bytes) (fact_spelling x.0) x.1 × FactFits x.0
 
-behind : (variant : ℕ) (bytes fields rest : List ℕ) → Takes bytes fields rest → Takes (variant ∷ bytes) (variant ∷ fields) rest
+behind : (variant : ℕ) (bytes fields rest : List ℕ) → TakesFront bytes fields rest → TakesFront (variant ∷ bytes) (variant ∷ fields) rest
 behind variant bytes fields rest t = record { parts = ap (λ (w : List ℕ). variant ∷ w) t.parts; rest_fits = t.rest_fits }
 
 consented_takes : (bytes : List ℕ) (x : Fact × List ℕ) → IsBytes bytes → consented_at bytes ≡ Ok x → FactTakes 1 bytes x
 unfolding consented_at
 consented_takes bytes x fits e =
-    let a = bind_ok (party_at bytes) (λ owner. party_at owner.1 >>= λ client. number_at w64 client.1 >>= λ mask. Ok (Consented owner.0 client.0 mask.0, mask.1)) x e in
-    let b = bind_ok (party_at a.0.1) (λ client. number_at w64 client.1 >>= λ mask. Ok (Consented a.0.0 client.0 mask.0, mask.1)) x a.2 in
-    let c = bind_ok (number_at w64 b.0.1) (λ mask. Ok (Consented a.0.0 b.0.0 mask.0, mask.1)) x b.2 in
+    let a = bind_ok (party_at bytes) (λ owner. party_at owner.1 >>= λ client. big_endian_at w64 client.1 >>= λ mask. Ok (Consented owner.0 client.0 mask.0, mask.1)) x e in
+    let b = bind_ok (party_at a.0.1) (λ client. big_endian_at w64 client.1 >>= λ mask. Ok (Consented a.0.0 client.0 mask.0, mask.1)) x a.2 in
+    let c = bind_ok (big_endian_at w64 b.0.1) (λ mask. Ok (Consented a.0.0 b.0.0 mask.0, mask.1)) x b.2 in
     let ta = party_takes bytes a.0 fits a.1 in
     let tb = party_takes a.0.1 b.0 ta.0.rest_fits b.1 in
     let tc = wide_takes b.0.1 c.0 tb.0.rest_fits c.1 in
@@ -78,8 +78,8 @@ family_ended_takes bytes x fits e =
 hook_set_takes : (bytes : List ℕ) (x : Fact × List ℕ) → IsBytes bytes → hook_set_at bytes ≡ Ok x → FactTakes 7 bytes x
 unfolding hook_set_at
 hook_set_takes bytes x fits e =
-    let a = bind_ok (text_at bytes) (λ name. number_at w64 name.1 >>= λ version. counted_at version.1 >>= λ code. Ok (HookSet name.0 version.0 code.0, code.1)) x e in
-    let b = bind_ok (number_at w64 a.0.1) (λ version. counted_at version.1 >>= λ code. Ok (HookSet a.0.0 version.0 code.0, code.1)) x a.2 in
+    let a = bind_ok (text_at bytes) (λ name. big_endian_at w64 name.1 >>= λ version. counted_at version.1 >>= λ code. Ok (HookSet name.0 version.0 code.0, code.1)) x e in
+    let b = bind_ok (big_endian_at w64 a.0.1) (λ version. counted_at version.1 >>= λ code. Ok (HookSet a.0.0 version.0 code.0, code.1)) x a.2 in
     let c = bind_ok (counted_at b.0.1) (λ code. Ok (HookSet a.0.0 b.0.0 code.0, code.1)) x b.2 in
     let ta = text_takes bytes a.0 fits a.1 in
     let tb = wide_takes a.0.1 b.0 ta.0.rest_fits b.1 in
@@ -104,7 +104,7 @@ tagged byte variant bytes x p q e this other = by (eqb byte variant) refl e
     by true is e = subst (λ (n : ℕ). FactTakes n bytes x) (sym (eqb-true _ _ is)) (this e)
     by false is e = other e
 
-pub fact_takes : (bytes : List ℕ) (x : Fact × List ℕ) → IsBytes bytes → fact_at bytes ≡ Ok x → Takes bytes (fact_spelling x.0) x.1 × FactFits x.0
+pub fact_takes : (bytes : List ℕ) (x : Fact × List ℕ) → IsBytes bytes → fact_at bytes ≡ Ok x → TakesFront bytes (fact_spelling x.0) x.1 × FactFits x.0
 unfolding fact_at
 fact_takes [] x fits e = absurd cc
 fact_takes (n ∷ bytes) x fits e =

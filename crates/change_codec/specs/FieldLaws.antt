@@ -8,8 +8,8 @@ use Rattle.std.proofs.lemmas.Nat.{be_bytes_4, be_bytes_8, from_be_bytes-to_be_by
 use Rattle.std.proofs.lemmas.Str.{IsUtf8-from_is_utf8, is_utf8-from_IsUtf8}
 use Rattle.change_codec.specs.declared.fault.ChangeFault.{ChangeFault}
 use Rattle.change_codec.specs.declared.fault.ChangeFault.TheVariants.{Short, Number, Moment, NotText}
-use Rattle.change_codec.specs.Spelling.{short, wide, counted, IsShort, IsWide, IsParty, IsMoment, IsText}
-use Rattle.change_codec.specs.Reading.{◌>>=◌, number_at, part_at, party_at, moment_at, counted_at, text_at}
+use Rattle.change_codec.specs.Spelling.{short, wide, counted, FitsFourBytes, FitsEightBytes, IsParty, IsMoment, IsText}
+use Rattle.change_codec.specs.Reading.{◌>>=◌, big_endian_at, part_at, party_at, moment_at, counted_at, text_at}
 
 -- ---- bytes, and tests that did not fail
 
@@ -51,11 +51,11 @@ pub ok_is : {A : Type 0} (x y : A) → done x ≡ done y → x ≡ y
 ok_is x y e = cc
 
 -- what a reader took from the front
-pub record Takes (bytes text rest : List ℕ) : Type 0 where
+pub record TakesFront (bytes text rest : List ℕ) : Type 0 where
   pub parts : bytes ≡ text ++ rest
   pub rest_fits : IsBytes rest
 
-pub Takes-then : (a x b y c : List ℕ) → Takes a x b → Takes b y c → Takes a (x ++ y) c
+pub Takes-then : (a x b y c : List ℕ) → TakesFront a x b → TakesFront b y c → TakesFront a (x ++ y) c
 Takes-then a x b y c p q = record { parts = p.parts ∙ ap (λ (t : List ℕ). x ++ t) q.parts ∙ sym (append_assoc x y c); rest_fits = q.rest_fits }
 
 -- ---- numbers
@@ -82,7 +82,7 @@ number64 = record {
   below = λ bytes fits. omega (arith, fits 0, fits 1, fits 2, fits 3, fits 4, fits 5, fits 6, fits 7);
 }
 
-number_takes : (w : Width) (limit : ℕ) (law : IsNumber w limit) (bytes : List ℕ) (n : ℕ) (rest : List ℕ) → IsBytes bytes → number_at w bytes ≡ Ok (n, rest) → Takes bytes (to_be_bytes w n) rest × (n < limit)
+number_takes : (w : Width) (limit : ℕ) (law : IsNumber w limit) (bytes : List ℕ) (n : ℕ) (rest : List ℕ) → IsBytes bytes → big_endian_at w bytes ≡ Ok (n, rest) → TakesFront bytes (to_be_bytes w n) rest × (n < limit)
 number_takes w limit law bytes n rest fits e =
     let g = guard_ok (ltb (length bytes) (byte_len w)) Short (from_be_bytes w (take (byte_len w) bytes), drop (byte_len w) bytes) (n, rest) e in
     let long : byte_len w ≤ length bytes = ltb-false _ _ g.0 in
@@ -91,31 +91,31 @@ number_takes w limit law bytes n rest fits e =
     let front : to_be_bytes w n ≡ take (byte_len w) bytes = rw (← n-is) (law.back (take (byte_len w) bytes) (omega (arith, length-take (byte_len w) bytes)) (IsBytes-take (byte_len w) bytes fits)) in
     (record { parts = rw (front, ← rest-is) (sym (take-append-drop (byte_len w) bytes)); rest_fits = rw (← rest-is) (IsBytes-drop (byte_len w) bytes fits) }, rw (← n-is) (law.below (take (byte_len w) bytes) (IsBytes-take (byte_len w) bytes fits)))
 
-number_again : (w : Width) (limit : ℕ) (law : IsNumber w limit) (n : ℕ) (rest : List ℕ) → n < limit → number_at w (to_be_bytes w n ++ rest) ≡ Ok (n, rest)
+number_again : (w : Width) (limit : ℕ) (law : IsNumber w limit) (n : ℕ) (rest : List ℕ) → n < limit → big_endian_at w (to_be_bytes w n ++ rest) ≡ Ok (n, rest)
 number_again w limit law n rest lt =
     let len = law.len n in
     let long : ltb (length (to_be_bytes w n ++ rest)) (byte_len w) ≡ false = le-ltb _ _ (omega (arith, length-append (to_be_bytes w n) rest)) in
     rw (long, take_at (to_be_bytes w n) rest (byte_len w) len, drop_at (to_be_bytes w n) rest (byte_len w) len, law.again n lt) refl
 
-pub short_takes : (bytes : List ℕ) (x : ℕ × List ℕ) → IsBytes bytes → number_at w32 bytes ≡ Ok x → Takes bytes (short x.0) x.1 × IsShort x.0
+pub short_takes : (bytes : List ℕ) (x : ℕ × List ℕ) → IsBytes bytes → big_endian_at w32 bytes ≡ Ok x → TakesFront bytes (short x.0) x.1 × FitsFourBytes x.0
 short_takes bytes x fits e = number_takes w32 (2 ^ 32) number32 bytes x.0 x.1 fits e
 
-pub short_again : (n : ℕ) (rest : List ℕ) → IsShort n → number_at w32 (short n ++ rest) ≡ Ok (n, rest)
+pub short_again : (n : ℕ) (rest : List ℕ) → FitsFourBytes n → big_endian_at w32 (short n ++ rest) ≡ Ok (n, rest)
 short_again n rest lt = number_again w32 (2 ^ 32) number32 n rest lt
 
-pub wide_takes : (bytes : List ℕ) (x : ℕ × List ℕ) → IsBytes bytes → number_at w64 bytes ≡ Ok x → Takes bytes (wide x.0) x.1 × IsWide x.0
+pub wide_takes : (bytes : List ℕ) (x : ℕ × List ℕ) → IsBytes bytes → big_endian_at w64 bytes ≡ Ok x → TakesFront bytes (wide x.0) x.1 × FitsEightBytes x.0
 wide_takes bytes x fits e = number_takes w64 (2 ^ 64) number64 bytes x.0 x.1 fits e
 
-pub wide_again : (n : ℕ) (rest : List ℕ) → IsWide n → number_at w64 (wide n ++ rest) ≡ Ok (n, rest)
+pub wide_again : (n : ℕ) (rest : List ℕ) → FitsEightBytes n → big_endian_at w64 (wide n ++ rest) ≡ Ok (n, rest)
 wide_again n rest lt = number_again w64 (2 ^ 64) number64 n rest lt
 
-pub party_takes : (bytes : List ℕ) (x : ℕ × List ℕ) → IsBytes bytes → party_at bytes ≡ Ok x → Takes bytes (short x.0) x.1 × IsParty x.0
+pub party_takes : (bytes : List ℕ) (x : ℕ × List ℕ) → IsBytes bytes → party_at bytes ≡ Ok x → TakesFront bytes (short x.0) x.1 × IsParty x.0
 unfolding party_at
 party_takes bytes x fits e =
-    let a = bind_ok (number_at w32 bytes) (λ n. cond (ltb 0 n.0) (Ok n) (Err Number)) x e in
+    let a = bind_ok (big_endian_at w32 bytes) (λ n. cond (ltb 0 n.0) (Ok n) (Err Number)) x e in
     let g = passed (ltb 0 a.0.0) Number (Ok a.0) x a.2 in
     let t = short_takes bytes a.0 fits a.1 in
-    subst (λ (y : ℕ × List ℕ). Takes bytes (short y.0) y.1 × IsParty y.0) (ok_is a.0 x g.1) (t.0, (ltb-true _ _ g.0, t.1))
+    subst (λ (y : ℕ × List ℕ). TakesFront bytes (short y.0) y.1 × IsParty y.0) (ok_is a.0 x g.1) (t.0, (ltb-true _ _ g.0, t.1))
 
 pub party_again : (n : ℕ) (rest : List ℕ) → IsParty n → party_at (short n ++ rest) ≡ Ok (n, rest)
 unfolding party_at
@@ -123,30 +123,30 @@ party_again n rest fits =
     let some : ltb 0 n ≡ true = lt-ltb _ _ fits.0 in
     rw (short_again n rest fits.1, some) refl
 
-pub moment_takes : (bytes : List ℕ) (x : ℕ × List ℕ) → IsBytes bytes → moment_at bytes ≡ Ok x → Takes bytes (wide x.0) x.1 × IsMoment x.0
+pub moment_takes : (bytes : List ℕ) (x : ℕ × List ℕ) → IsBytes bytes → moment_at bytes ≡ Ok x → TakesFront bytes (wide x.0) x.1 × IsMoment x.0
 unfolding moment_at
 moment_takes bytes x fits e =
-    let a = bind_ok (number_at w64 bytes) (λ n. cond (ltb n.0 (2 ^ 63)) (Ok n) (Err Moment)) x e in
+    let a = bind_ok (big_endian_at w64 bytes) (λ n. cond (ltb n.0 (2 ^ 63)) (Ok n) (Err Moment)) x e in
     let g = passed (ltb a.0.0 (2 ^ 63)) Moment (Ok a.0) x a.2 in
     let t = wide_takes bytes a.0 fits a.1 in
-    subst (λ (y : ℕ × List ℕ). Takes bytes (wide y.0) y.1 × IsMoment y.0) (ok_is a.0 x g.1) (t.0, ltb-true _ _ g.0)
+    subst (λ (y : ℕ × List ℕ). TakesFront bytes (wide y.0) y.1 × IsMoment y.0) (ok_is a.0 x g.1) (t.0, ltb-true _ _ g.0)
 
 pub moment_again : (n : ℕ) (rest : List ℕ) → IsMoment n → moment_at (wide n ++ rest) ≡ Ok (n, rest)
 unfolding moment_at
 moment_again n rest lt =
     let below : ltb n (2 ^ 63) ≡ true = lt-ltb _ _ lt in
-    let fits : IsWide n = omega arith in
+    let fits : FitsEightBytes n = omega arith in
     rw (wide_again n rest fits, below) refl
 
 -- ---- bytes of a known number, and bytes behind their number
 
-pub part_takes : (n : ℕ) (bytes : List ℕ) (x : List ℕ × List ℕ) → IsBytes bytes → part_at n bytes ≡ Ok x → Takes bytes x.0 x.1 × (length x.0 ≡ n)
+pub part_takes : (n : ℕ) (bytes : List ℕ) (x : List ℕ × List ℕ) → IsBytes bytes → part_at n bytes ≡ Ok x → TakesFront bytes x.0 x.1 × (length x.0 ≡ n)
 unfolding part_at
 part_takes n bytes x fits e =
     let g = guard_ok (ltb (length bytes) n) Short (take n bytes, drop n bytes) x e in
     let long : n ≤ length bytes = ltb-false _ _ g.0 in
     let len : length (take n bytes) ≡ n = omega (arith, length-take n bytes) in
-    subst (λ (y : List ℕ × List ℕ). Takes bytes y.0 y.1 × (length y.0 ≡ n)) g.1 (record { parts = sym (take-append-drop n bytes); rest_fits = IsBytes-drop n bytes fits }, len)
+    subst (λ (y : List ℕ × List ℕ). TakesFront bytes y.0 y.1 × (length y.0 ≡ n)) g.1 (record { parts = sym (take-append-drop n bytes); rest_fits = IsBytes-drop n bytes fits }, len)
 
 pub part_again : (part rest : List ℕ) (n : ℕ) → length part ≡ n → part_at n (part ++ rest) ≡ Ok (part, rest)
 unfolding part_at
@@ -154,26 +154,26 @@ part_again part rest n len =
     let long : ltb (length (part ++ rest)) n ≡ false = le-ltb _ _ (omega (arith, length-append part rest)) in
     rw (long, take_at part rest n len, drop_at part rest n len) refl
 
-pub counted_takes : (bytes : List ℕ) (x : List ℕ × List ℕ) → IsBytes bytes → counted_at bytes ≡ Ok x → Takes bytes (counted x.0) x.1 × IsShort (length x.0)
+pub counted_takes : (bytes : List ℕ) (x : List ℕ × List ℕ) → IsBytes bytes → counted_at bytes ≡ Ok x → TakesFront bytes (counted x.0) x.1 × FitsFourBytes (length x.0)
 unfolding counted_at
 counted_takes bytes x fits e =
-    let a = bind_ok (number_at w32 bytes) (λ n. part_at n.0 n.1) x e in
+    let a = bind_ok (big_endian_at w32 bytes) (λ n. part_at n.0 n.1) x e in
     let t0 = short_takes bytes a.0 fits a.1 in
     let t1 = part_takes a.0.0 a.0.1 x t0.0.rest_fits a.2 in
     let both = Takes-then bytes (short a.0.0) a.0.1 x.0 x.1 t0.0 t1.0 in
-    (subst (λ (k : ℕ). Takes bytes (short k ++ x.0) x.1) (sym t1.1) both, omega (arith, t0.1, t1.1))
+    (subst (λ (k : ℕ). TakesFront bytes (short k ++ x.0) x.1) (sym t1.1) both, omega (arith, t0.1, t1.1))
 
-pub counted_again : (part rest : List ℕ) → IsShort (length part) → counted_at (counted part ++ rest) ≡ Ok (part, rest)
+pub counted_again : (part rest : List ℕ) → FitsFourBytes (length part) → counted_at (counted part ++ rest) ≡ Ok (part, rest)
 unfolding counted_at
 counted_again part rest lt = rw (short_again (length part) (part ++ rest) lt) (part_again part rest (length part) refl)
 
-pub text_takes : (bytes : List ℕ) (x : List ℕ × List ℕ) → IsBytes bytes → text_at bytes ≡ Ok x → Takes bytes (counted x.0) x.1 × IsText x.0
+pub text_takes : (bytes : List ℕ) (x : List ℕ × List ℕ) → IsBytes bytes → text_at bytes ≡ Ok x → TakesFront bytes (counted x.0) x.1 × IsText x.0
 unfolding text_at
 text_takes bytes x fits e =
     let a = bind_ok (counted_at bytes) (λ part. cond (is_utf8 part.0) (Ok part) (Err NotText)) x e in
     let g = passed (is_utf8 a.0.0) NotText (Ok a.0) x a.2 in
     let t = counted_takes bytes a.0 fits a.1 in
-    subst (λ (y : List ℕ × List ℕ). Takes bytes (counted y.0) y.1 × IsText y.0) (ok_is a.0 x g.1) (t.0, (IsUtf8-from_is_utf8 a.0.0 g.0, t.1))
+    subst (λ (y : List ℕ × List ℕ). TakesFront bytes (counted y.0) y.1 × IsText y.0) (ok_is a.0 x g.1) (t.0, (IsUtf8-from_is_utf8 a.0.0 g.0, t.1))
 
 pub text_again : (text rest : List ℕ) → IsText text → text_at (counted text ++ rest) ≡ Ok (text, rest)
 unfolding text_at

@@ -3,7 +3,7 @@ use Rattle.std.specs.Prelude.{◌≡◌, ℕ, List, [], ◌∷◌, length, map, 
 use Rattle.consent.specs.History as history
 use Rattle.consent.specs.History.{Event, grant_at, with_change, CanFollow}
 use Rattle.consent.specs.History.{Change as told}
-use Rattle.consent.specs.Changes.{token_issued, issued_with, family_ended, listed}
+use Rattle.consent.specs.Changes.{token_issued, issued_with, family_ended, as_list}
 use Rattle.consent.specs.declared.change.Change.{Change}
 use Rattle.consent.specs.declared.change.Changes.{Changes}
 use Rattle.change_codec.specs.Spelling.{Fact, Consented, CodeGiven, IssuedAlone, Issued, Spent, FamilyEnded, HookSet, HookGone, DatedFact, fact_of}
@@ -36,4 +36,4 @@ dated moment change = record { moment = moment; fact = fact_of change }
 
 -- the changes of a server at the moment, in their order
 abbrev pub all_dated : ℕ → Changes → List DatedFact
-all_dated moment changes = map (dated moment) (listed changes)
+all_dated moment changes = map (dated moment) (as_list changes)

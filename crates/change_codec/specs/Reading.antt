@@ -17,18 +17,18 @@ abbrev pub ◌>>=◌ : {A B : Type 0} → Result A ChangeFault → (A → Result
 (Err e) >>= f = Err e
 
 -- what a function returned, seen by view, is what reading gives, unless memory ran out
-abbrev pub Fails : {Y : Type 0} → DecodeFault → Result Y ChangeFault → Type 0
-Fails errors.Memory read = Unit {0}
-Fails (errors.Bytes fault) read = read ≡ Err fault
+abbrev pub FailsReading : {Y : Type 0} → DecodeFault → Result Y ChangeFault → Type 0
+FailsReading errors.Memory read = Unit {0}
+FailsReading (errors.Bytes fault) read = read ≡ Err fault
 
-abbrev pub Gives : {X Y : Type 0} → (X → Y) → Result X DecodeFault → Result Y ChangeFault → Type 0
-Gives view (Ok x) read = read ≡ Ok (view x)
-Gives view (Err e) read = Fails e read
+abbrev pub GivesReading : {X Y : Type 0} → (X → Y) → Result X DecodeFault → Result Y ChangeFault → Type 0
+GivesReading view (Ok x) read = read ≡ Ok (view x)
+GivesReading view (Err e) read = FailsReading e read
 
 -- FIELDS: a value and the bytes behind it
 
-abbrev pub number_at : Width → List ℕ → Result (ℕ × List ℕ) ChangeFault
-number_at w bytes =
+abbrev pub big_endian_at : Width → List ℕ → Result (ℕ × List ℕ) ChangeFault
+big_endian_at w bytes =
     if nat_lt (length bytes) (byte_len w) then Err faults.Short
     else Ok (from_be_bytes w (take (byte_len w) bytes), drop (byte_len w) bytes)
 
@@ -38,17 +38,17 @@ part_at n bytes = if nat_lt (length bytes) n then Err faults.Short else Ok (take
 -- the number of a client or an owner
 unfoldable pub party_at : List ℕ → Result (ℕ × List ℕ) ChangeFault
 party_at bytes = do
-  n ← number_at w32 bytes
+  n ← big_endian_at w32 bytes
   if nat_lt 0 n.0 then Ok n else Err faults.Number
 
 unfoldable pub moment_at : List ℕ → Result (ℕ × List ℕ) ChangeFault
 moment_at bytes = do
-  n ← number_at w64 bytes
+  n ← big_endian_at w64 bytes
   if nat_lt n.0 (2 ^ 63) then Ok n else Err faults.Moment
 
 unfoldable pub counted_at : List ℕ → Result (List ℕ × List ℕ) ChangeFault
 counted_at bytes = do
-  n ← number_at w32 bytes
+  n ← big_endian_at w32 bytes
   part_at n.0 n.1
 
 unfoldable pub text_at : List ℕ → Result (List ℕ × List ℕ) ChangeFault
@@ -56,25 +56,25 @@ text_at bytes = do
   part ← counted_at bytes
   if is_utf8 part.0 then Ok part else Err faults.NotText
 
-unfoldable pub kind_at : List ℕ → Result (TokenKind × List ℕ) ChangeFault
-kind_at [] = Err faults.Short
-kind_at (zero ∷ rest) = Ok (Access, rest)
-kind_at (suc zero ∷ rest) = Ok (Refresh, rest)
-kind_at (suc (suc b) ∷ rest) = Err faults.Kind
+unfoldable pub token_kind_at : List ℕ → Result (TokenKind × List ℕ) ChangeFault
+token_kind_at [] = Err faults.Short
+token_kind_at (zero ∷ rest) = Ok (Access, rest)
+token_kind_at (suc zero ∷ rest) = Ok (Refresh, rest)
+token_kind_at (suc (suc b) ∷ rest) = Err faults.Kind
 
 unfoldable pub token_at : List ℕ → Result (NewToken × List ℕ) ChangeFault
 token_at bytes = do
-  kind ← kind_at bytes
+  kind ← token_kind_at bytes
   digest ← part_at 32 kind.1
-  scope ← number_at w64 digest.1
-  life ← number_at w32 scope.1
+  scope ← big_endian_at w64 digest.1
+  life ← big_endian_at w32 scope.1
   Ok (record { kind = kind.0; digest = digest.0; scope = scope.0; life = life.0 }, life.1)
 
 unfoldable pub code_at : List ℕ → Result (Code × List ℕ) ChangeFault
 code_at bytes = do
   client ← party_at bytes
   owner ← party_at client.1
-  scope ← number_at w64 owner.1
+  scope ← big_endian_at w64 owner.1
   redirect ← text_at scope.1
   challenge ← text_at redirect.1
   Ok (
@@ -88,7 +88,7 @@ unfoldable pub consented_at : List ℕ → Result (Fact × List ℕ) ChangeFault
 consented_at bytes = do
   owner ← party_at bytes
   client ← party_at owner.1
-  mask ← number_at w64 client.1
+  mask ← big_endian_at w64 client.1
   Ok (Consented owner.0 client.0 mask.0, mask.1)
 
 unfoldable pub code_given_at : List ℕ → Result (Fact × List ℕ) ChangeFault
@@ -122,7 +122,7 @@ family_ended_at bytes = do
 unfoldable pub hook_set_at : List ℕ → Result (Fact × List ℕ) ChangeFault
 hook_set_at bytes = do
   name ← text_at bytes
-  version ← number_at w64 name.1
+  version ← big_endian_at w64 name.1
   code ← counted_at version.1
   Ok (HookSet name.0 version.0 code.0, code.1)
 
@@ -162,13 +162,13 @@ each_dated_at (suc n) bytes = do
   Ok (first.0 ∷ later.0, later.1)
 
 -- how many, and the dated changes, and nothing behind them
-unfoldable pub whole_at : List ℕ → Result (List DatedFact) ChangeFault
-whole_at bytes = do
-  count ← number_at w32 bytes
+unfoldable pub whole_batch_at : List ℕ → Result (List DatedFact) ChangeFault
+whole_batch_at bytes = do
+  count ← big_endian_at w32 bytes
   dated ← each_dated_at count.0 count.1
   if length dated.1 == 0 then Ok dated.0 else Err faults.Behind
 
 -- the dated changes that all of the bytes spell, or the first fault
 unfoldable pub reading : List ℕ → Result (List DatedFact) ChangeFault
 reading [] = Err faults.Short
-reading (version ∷ bytes) = if version == 1 then whole_at bytes else Err faults.Version
+reading (version ∷ bytes) = if version == 1 then whole_batch_at bytes else Err faults.Version

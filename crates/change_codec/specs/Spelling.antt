@@ -101,20 +101,20 @@ abbrev pub dated_spelling : DatedFact → List ℕ
 dated_spelling d = wide d.moment ++ fact_spelling d.fact
 
 -- the version of the layout, how many there are, and the dated changes
-abbrev pub spelling : List DatedFact → List ℕ
-spelling ds = 1 ∷ (short (length ds) ++ flat_map dated_spelling ds)
+abbrev pub batch_spelling : List DatedFact → List ℕ
+batch_spelling ds = 1 ∷ (short (length ds) ++ flat_map dated_spelling ds)
 
 -- WHAT HAS A SPELLING
 
-abbrev pub IsWide : ℕ → Type 0
-IsWide n = n < 2 ^ 64
+abbrev pub FitsEightBytes : ℕ → Type 0
+FitsEightBytes n = n < 2 ^ 64
 
-abbrev pub IsShort : ℕ → Type 0
-IsShort n = n < 2 ^ 32
+abbrev pub FitsFourBytes : ℕ → Type 0
+FitsFourBytes n = n < 2 ^ 32
 
 -- a client or an owner has a number from 1 on
 abbrev pub IsParty : ℕ → Type 0
-IsParty n = (1 ≤ n) × IsShort n
+IsParty n = (1 ≤ n) × FitsFourBytes n
 
 abbrev pub IsMoment : ℕ → Type 0
 IsMoment n = n < 2 ^ 63
@@ -123,23 +123,23 @@ abbrev pub IsDigest : List ℕ → Type 0
 IsDigest bytes = length bytes ≡ 32
 
 abbrev pub IsText : List ℕ → Type 0
-IsText bytes = IsUtf8 bytes × IsShort (length bytes)
+IsText bytes = IsUtf8 bytes × FitsFourBytes (length bytes)
 
 abbrev pub TokenFits : NewToken → Type 0
-TokenFits token = IsDigest token.digest × IsWide token.scope × IsShort token.life
+TokenFits token = IsDigest token.digest × FitsEightBytes token.scope × FitsFourBytes token.life
 
 abbrev pub CodeFits : Code → Type 0
 CodeFits code =
-    IsParty code.client × IsParty code.owner × IsWide code.scope × IsText code.redirect × IsText code.challenge
+    IsParty code.client × IsParty code.owner × FitsEightBytes code.scope × IsText code.redirect × IsText code.challenge
 
 abbrev pub FactFits : Fact → Type 0
-FactFits (Consented owner client mask) = IsParty owner × IsParty client × IsWide mask
+FactFits (Consented owner client mask) = IsParty owner × IsParty client × FitsEightBytes mask
 FactFits (CodeGiven code digest) = CodeFits code × IsDigest digest
 FactFits (IssuedAlone client token) = IsParty client × TokenFits token
 FactFits (Issued of token) = IsDigest of × TokenFits token
 FactFits (Spent digest) = IsDigest digest
 FactFits (FamilyEnded of) = IsDigest of
-FactFits (HookSet name version code) = IsText name × IsWide version × IsShort (length code)
+FactFits (HookSet name version code) = IsText name × FitsEightBytes version × FitsFourBytes (length code)
 FactFits (HookGone name) = IsText name
 
 abbrev pub DatedFits : DatedFact → Type 0
@@ -147,15 +147,15 @@ DatedFits d = IsMoment d.moment × FactFits d.fact
 
 -- each of them fits, and they can be counted
 abbrev pub HaveSpelling : List DatedFact → Type 0
-HaveSpelling ds = IsShort (length ds) × AllByRecursion DatedFits ds
+HaveSpelling ds = FitsFourBytes (length ds) × AllByRecursion DatedFits ds
 
 -- the length of each text and of a hook's code can be written in four bytes
 abbrev pub CanCountIn : Fact → Type 0
-CanCountIn (CodeGiven code digest) = IsShort (length code.redirect) × IsShort (length code.challenge)
-CanCountIn (HookSet name version code) = IsShort (length name) × IsShort (length code)
-CanCountIn (HookGone name) = IsShort (length name)
+CanCountIn (CodeGiven code digest) = FitsFourBytes (length code.redirect) × FitsFourBytes (length code.challenge)
+CanCountIn (HookSet name version code) = FitsFourBytes (length name) × FitsFourBytes (length code)
+CanCountIn (HookGone name) = FitsFourBytes (length name)
 CanCountIn _ = Unit {0}
 
 -- and how many changes there are, too
 abbrev pub CanCount : List DatedFact → Type 0
-CanCount ds = IsShort (length ds) × AllByRecursion (λ d. CanCountIn d.fact) ds
+CanCount ds = FitsFourBytes (length ds) × AllByRecursion (λ d. CanCountIn d.fact) ds

@@ -2,8 +2,8 @@
 
 ghost use Rattle.std.specs.Prelude.{◌≡◌, ◌<◌, ◌≤◌, ◌^◌, List, IfOk, Ok};
 ghost use Rattle.std.specs.Int.{w32, w64};
-ghost use Rattle.change_codec.specs.Spelling.{DatedFact, HaveSpelling, code_of, dated_fact, dated_facts, fact_of, spelling};
-ghost use Rattle.change_codec.specs.Reading.{Gives, code_at, code_given_at, consented_at, counted_at, dated_at, each_dated_at, fact_at, family_ended_at, hook_gone_at, hook_set_at, issued_alone_at, issued_at, kind_at, moment_at, number_at, part_at, party_at, reading, spent_at, text_at, token_at, whole_at};
+ghost use Rattle.change_codec.specs.Spelling.{DatedFact, HaveSpelling, code_of, dated_fact, dated_facts, fact_of, batch_spelling};
+ghost use Rattle.change_codec.specs.Reading.{GivesReading, code_at, code_given_at, consented_at, counted_at, dated_at, each_dated_at, fact_at, family_ended_at, hook_gone_at, hook_set_at, issued_alone_at, issued_at, token_kind_at, moment_at, big_endian_at, part_at, party_at, reading, spent_at, text_at, token_at, whole_batch_at};
 
 use crate::dated::DatedChange;
 use crate::fault::{ChangeFault, DecodeFault};
@@ -11,9 +11,9 @@ use crate::field::{counted_of, digest_of, moment_of, party_of, short_of, text_of
 use consent::{Change, ClientNo, CodeFacts, Moment, NewToken, OwnerNo, TokenKind};
 use std::alloc::Global;
 
-#[tactic(auto, unfolding(crate::specs::Reading::kind_at))]
+#[tactic(auto, unfolding(crate::specs::Reading::token_kind_at))]
 fn kind_of(bytes: &[u8]) -> Result<(TokenKind, &[u8]), DecodeFault>
-    ensures { Gives (λ x. (x.0, x.1.now)) result (kind_at bytes.now) }
+    ensures { GivesReading (λ x. (x.0, x.1.now)) result (token_kind_at bytes.now) }
 {
     match bytes {
         [] => Err(DecodeFault::Bytes(ChangeFault::Short)),
@@ -25,7 +25,7 @@ fn kind_of(bytes: &[u8]) -> Result<(TokenKind, &[u8]), DecodeFault>
 
 #[tactic(auto, unfolding(crate::specs::Reading::token_at))]
 fn token_of(bytes: &[u8]) -> Result<(NewToken, &[u8]), DecodeFault>
-    ensures { Gives (λ x. (x.0, x.1.now)) result (token_at bytes.now) }
+    ensures { GivesReading (λ x. (x.0, x.1.now)) result (token_at bytes.now) }
 {
     let (kind, rest) = kind_of(bytes)?;
     let (digest, rest) = digest_of(rest)?;
@@ -42,7 +42,7 @@ fn token_of(bytes: &[u8]) -> Result<(NewToken, &[u8]), DecodeFault>
 
 #[tactic(auto, unfolding(crate::specs::Reading::code_at))]
 fn code_facts_of(bytes: &[u8]) -> Result<(CodeFacts, &[u8]), DecodeFault>
-    ensures { Gives (λ x. (code_of x.0, x.1.now)) result (code_at bytes.now) }
+    ensures { GivesReading (λ x. (code_of x.0, x.1.now)) result (code_at bytes.now) }
 {
     let (client, rest) = party_of(bytes)?;
     let (owner, rest) = party_of(rest)?;
@@ -61,7 +61,7 @@ fn code_facts_of(bytes: &[u8]) -> Result<(CodeFacts, &[u8]), DecodeFault>
 
 #[tactic(auto, unfolding(crate::specs::Reading::consented_at))]
 fn consented_of(bytes: &[u8]) -> Result<(Change, &[u8]), DecodeFault>
-    ensures { Gives (λ x. (fact_of x.0, x.1.now)) result (consented_at bytes.now) }
+    ensures { GivesReading (λ x. (fact_of x.0, x.1.now)) result (consented_at bytes.now) }
 {
     let (owner, rest) = party_of(bytes)?;
     let (client, rest) = party_of(rest)?;
@@ -76,7 +76,7 @@ fn consented_of(bytes: &[u8]) -> Result<(Change, &[u8]), DecodeFault>
 
 #[tactic(auto, unfolding(crate::specs::Reading::code_given_at))]
 fn code_given_of(bytes: &[u8]) -> Result<(Change, &[u8]), DecodeFault>
-    ensures { Gives (λ x. (fact_of x.0, x.1.now)) result (code_given_at bytes.now) }
+    ensures { GivesReading (λ x. (fact_of x.0, x.1.now)) result (code_given_at bytes.now) }
 {
     match code_facts_of(bytes) {
         Ok((facts, rest)) => {
@@ -89,7 +89,7 @@ fn code_given_of(bytes: &[u8]) -> Result<(Change, &[u8]), DecodeFault>
 
 #[tactic(auto, unfolding(crate::specs::Reading::issued_alone_at))]
 fn issued_alone_of(bytes: &[u8]) -> Result<(Change, &[u8]), DecodeFault>
-    ensures { Gives (λ x. (fact_of x.0, x.1.now)) result (issued_alone_at bytes.now) }
+    ensures { GivesReading (λ x. (fact_of x.0, x.1.now)) result (issued_alone_at bytes.now) }
 {
     let (client, rest) = party_of(bytes)?;
     let (token, rest) = token_of(rest)?;
@@ -99,7 +99,7 @@ fn issued_alone_of(bytes: &[u8]) -> Result<(Change, &[u8]), DecodeFault>
 
 #[tactic(auto, unfolding(crate::specs::Reading::issued_at))]
 fn issued_of(bytes: &[u8]) -> Result<(Change, &[u8]), DecodeFault>
-    ensures { Gives (λ x. (fact_of x.0, x.1.now)) result (issued_at bytes.now) }
+    ensures { GivesReading (λ x. (fact_of x.0, x.1.now)) result (issued_at bytes.now) }
 {
     let (of, rest) = digest_of(bytes)?;
     let (token, rest) = token_of(rest)?;
@@ -108,7 +108,7 @@ fn issued_of(bytes: &[u8]) -> Result<(Change, &[u8]), DecodeFault>
 
 #[tactic(auto, unfolding(crate::specs::Reading::spent_at))]
 fn spent_of(bytes: &[u8]) -> Result<(Change, &[u8]), DecodeFault>
-    ensures { Gives (λ x. (fact_of x.0, x.1.now)) result (spent_at bytes.now) }
+    ensures { GivesReading (λ x. (fact_of x.0, x.1.now)) result (spent_at bytes.now) }
 {
     let (digest, rest) = digest_of(bytes)?;
     Ok((Change::Spent { digest }, rest))
@@ -116,7 +116,7 @@ fn spent_of(bytes: &[u8]) -> Result<(Change, &[u8]), DecodeFault>
 
 #[tactic(auto, unfolding(crate::specs::Reading::family_ended_at))]
 fn family_ended_of(bytes: &[u8]) -> Result<(Change, &[u8]), DecodeFault>
-    ensures { Gives (λ x. (fact_of x.0, x.1.now)) result (family_ended_at bytes.now) }
+    ensures { GivesReading (λ x. (fact_of x.0, x.1.now)) result (family_ended_at bytes.now) }
 {
     let (of, rest) = digest_of(bytes)?;
     Ok((Change::FamilyEnded { of }, rest))
@@ -124,7 +124,7 @@ fn family_ended_of(bytes: &[u8]) -> Result<(Change, &[u8]), DecodeFault>
 
 #[tactic(auto, unfolding(crate::specs::Reading::hook_set_at))]
 fn hook_set_of(bytes: &[u8]) -> Result<(Change, &[u8]), DecodeFault>
-    ensures { Gives (λ x. (fact_of x.0, x.1.now)) result (hook_set_at bytes.now) }
+    ensures { GivesReading (λ x. (fact_of x.0, x.1.now)) result (hook_set_at bytes.now) }
 {
     let (name, rest) = text_of(bytes)?;
     let (version, rest) = wide_of(rest)?;
@@ -139,7 +139,7 @@ fn hook_set_of(bytes: &[u8]) -> Result<(Change, &[u8]), DecodeFault>
 
 #[tactic(auto, unfolding(crate::specs::Reading::hook_gone_at))]
 fn hook_gone_of(bytes: &[u8]) -> Result<(Change, &[u8]), DecodeFault>
-    ensures { Gives (λ x. (fact_of x.0, x.1.now)) result (hook_gone_at bytes.now) }
+    ensures { GivesReading (λ x. (fact_of x.0, x.1.now)) result (hook_gone_at bytes.now) }
 {
     let (name, rest) = text_of(bytes)?;
     Ok((Change::HookGone { name }, rest))
@@ -147,7 +147,7 @@ fn hook_gone_of(bytes: &[u8]) -> Result<(Change, &[u8]), DecodeFault>
 
 #[tactic(auto, unfolding(crate::specs::Reading::fact_at))]
 fn change_of(bytes: &[u8]) -> Result<(Change, &[u8]), DecodeFault>
-    ensures { Gives (λ x. (fact_of x.0, x.1.now)) result (fact_at bytes.now) }
+    ensures { GivesReading (λ x. (fact_of x.0, x.1.now)) result (fact_at bytes.now) }
 {
     match bytes {
         [] => Err(DecodeFault::Bytes(ChangeFault::Short)),
@@ -165,7 +165,7 @@ fn change_of(bytes: &[u8]) -> Result<(Change, &[u8]), DecodeFault>
 
 #[tactic(auto, unfolding(crate::specs::Reading::dated_at))]
 fn dated_of(bytes: &[u8]) -> Result<(DatedChange, &[u8]), DecodeFault>
-    ensures { Gives (λ x. (dated_fact x.0, x.1.now)) result (dated_at bytes.now) }
+    ensures { GivesReading (λ x. (dated_fact x.0, x.1.now)) result (dated_at bytes.now) }
 {
     let (moment, rest) = moment_of(bytes)?;
     let moment = Moment::new(moment);
@@ -180,7 +180,7 @@ fn each_dated_of(
     count: u32,
     bytes: &[u8],
 ) -> Result<(Vec<DatedChange>, &[u8]), DecodeFault>
-    ensures { Gives (λ x. (dated_facts x.0.items, x.1.now)) result (each_dated_at count bytes.now) }
+    ensures { GivesReading (λ x. (dated_facts x.0.items, x.1.now)) result (each_dated_at count bytes.now) }
 {
     let mut changes = Vec::new(alloc);
     let mut rest = bytes;
@@ -196,9 +196,9 @@ fn each_dated_of(
     Ok((changes, rest))
 }
 
-#[tactic(auto, unfolding(crate::specs::Reading::whole_at))]
+#[tactic(auto, unfolding(crate::specs::Reading::whole_batch_at))]
 fn whole_of(alloc: Global, bytes: &[u8]) -> Result<Vec<DatedChange>, DecodeFault>
-    ensures { Gives (λ v. dated_facts v.items) result (whole_at bytes.now) }
+    ensures { GivesReading (λ v. dated_facts v.items) result (whole_batch_at bytes.now) }
 {
     let (count, rest) = short_of(bytes)?;
     let (changes, rest) = each_dated_of(alloc, count, rest)?;
@@ -210,7 +210,7 @@ fn whole_of(alloc: Global, bytes: &[u8]) -> Result<Vec<DatedChange>, DecodeFault
 
 #[tactic(auto, unfolding(crate::specs::Reading::reading))]
 fn read_all(alloc: Global, bytes: &[u8]) -> Result<Vec<DatedChange>, DecodeFault>
-    ensures { Gives (λ v. dated_facts v.items) result (reading bytes.now) }
+    ensures { GivesReading (λ v. dated_facts v.items) result (reading bytes.now) }
 {
     match bytes {
         [] => Err(DecodeFault::Bytes(ChangeFault::Short)),
@@ -222,13 +222,13 @@ fn read_all(alloc: Global, bytes: &[u8]) -> Result<Vec<DatedChange>, DecodeFault
 /// The dated changes that all of the bytes spell. Their texts and their code lie in the bytes.
 pub fn decode(alloc: Global, bytes: &[u8]) -> Result<Vec<DatedChange>, DecodeFault>
     // What is read is spelled so.
-    ensures spelled { IfOk result (λ v. bytes.now ≡ spelling (dated_facts v.items)) }
+    ensures spelled { IfOk result (λ v. bytes.now ≡ batch_spelling (dated_facts v.items)) }
     ensures fits { IfOk result (λ v. HaveSpelling (dated_facts v.items)) }
     // What is spelled so is read, unless memory runs out.
-    ensures again { (ds : List DatedFact) → HaveSpelling ds → bytes.now ≡ spelling ds
-        → Gives (λ v. dated_facts v.items) result (Ok ds) }
+    ensures again { (ds : List DatedFact) → HaveSpelling ds → bytes.now ≡ batch_spelling ds
+        → GivesReading (λ v. dated_facts v.items) result (Ok ds) }
     // Which fault it is.
-    ensures exact { Gives (λ v. dated_facts v.items) result (reading bytes.now) }
+    ensures exact { GivesReading (λ v. dated_facts v.items) result (reading bytes.now) }
 {
     read_all(alloc, bytes)
 }

@@ -2,7 +2,7 @@
 
 ghost use Rattle.std.specs.Prelude.{◌≡◌, ◌↔◌, ◌++◌, ◌∷◌, length, IsTrue, IsErrOf, OnOk};
 ghost use Rattle.change_codec.specs.declared.fault.EncodeFault.TheVariants.{TooLong};
-ghost use Rattle.change_codec.specs.Spelling.{CanCount, CanCountIn, CodeFits, CodeGiven, Consented, DatedFits, FactFits, HaveSpelling, HookGone, HookSet, Issued, IssuedAlone, IsDigest, IsMoment, IsParty, IsShort, IsText, IsWide, TokenFits, code_of, code_spelling, counted, dated_fact, dated_facts, dated_spelling, fact_of, fact_spelling, kind_byte, short, spelling, token_spelling, wide};
+ghost use Rattle.change_codec.specs.Spelling.{CanCount, CanCountIn, CodeFits, CodeGiven, Consented, DatedFits, FactFits, HaveSpelling, HookGone, HookSet, Issued, IssuedAlone, IsDigest, IsMoment, IsParty, FitsFourBytes, IsText, FitsEightBytes, TokenFits, code_of, code_spelling, counted, dated_fact, dated_facts, dated_spelling, fact_of, fact_spelling, kind_byte, short, batch_spelling, token_spelling, wide};
 
 use crate::dated::DatedChange;
 use crate::fault::EncodeFault;
@@ -65,8 +65,8 @@ fn put_token(out: &mut Vec<u8>, token: &NewToken) -> Result<(), AllocError>
 }
 
 fn put_code(out: &mut Vec<u8>, facts: &CodeFacts) -> Result<(), AllocError>
-    requires redirect { IsShort (length facts.now.redirect.now) }
-    requires challenge { IsShort (length facts.now.challenge.now) }
+    requires redirect { FitsFourBytes (length facts.now.redirect.now) }
+    requires challenge { FitsFourBytes (length facts.now.challenge.now) }
     ensures written { OnOk result (out.new.items ≡ out.old.items ++ code_spelling (code_of facts.now)) }
     ensures fits { OnOk result (CodeFits (code_of facts.now)) }
 {
@@ -95,8 +95,8 @@ fn put_consented(
 }
 
 fn put_code_given(out: &mut Vec<u8>, facts: &CodeFacts, digest: &[u8; 32]) -> Result<(), AllocError>
-    requires redirect { IsShort (length facts.now.redirect.now) }
-    requires challenge { IsShort (length facts.now.challenge.now) }
+    requires redirect { FitsFourBytes (length facts.now.redirect.now) }
+    requires challenge { FitsFourBytes (length facts.now.challenge.now) }
     ensures written { OnOk result (out.new.items
         ≡ out.old.items ++ fact_spelling (CodeGiven (code_of facts.now) digest.now)) }
     ensures fits { OnOk result (FactFits (CodeGiven (code_of facts.now) digest.now)) }
@@ -138,8 +138,8 @@ fn put_one_digest(out: &mut Vec<u8>, variant: u8, digest: &[u8; 32]) -> Result<(
 }
 
 fn put_hook_set(out: &mut Vec<u8>, name: &str, version: u64, code: &[u8]) -> Result<(), AllocError>
-    requires name { IsShort (length name.now) }
-    requires code { IsShort (length code.now) }
+    requires name { FitsFourBytes (length name.now) }
+    requires code { FitsFourBytes (length code.now) }
     ensures written { OnOk result (out.new.items
         ≡ out.old.items ++ fact_spelling (HookSet name.now version code.now)) }
     ensures fits { OnOk result (FactFits (HookSet name.now version code.now)) }
@@ -152,7 +152,7 @@ fn put_hook_set(out: &mut Vec<u8>, name: &str, version: u64, code: &[u8]) -> Res
 }
 
 fn put_hook_gone(out: &mut Vec<u8>, name: &str) -> Result<(), AllocError>
-    requires { IsShort (length name.now) }
+    requires { FitsFourBytes (length name.now) }
     ensures written { OnOk result (out.new.items ≡ out.old.items ++ fact_spelling (HookGone name.now)) }
     ensures fits { OnOk result (FactFits (HookGone name.now)) }
 {
@@ -198,7 +198,7 @@ fn put_dated(out: &mut Vec<u8>, dated: &DatedChange) -> Result<(), AllocError>
 
 fn put_all(out: &mut Vec<u8>, changes: &[DatedChange]) -> Result<(), AllocError>
     requires { CanCount (dated_facts changes.now) }
-    ensures written { OnOk result (out.new.items ≡ out.old.items ++ spelling (dated_facts changes.now)) }
+    ensures written { OnOk result (out.new.items ≡ out.old.items ++ batch_spelling (dated_facts changes.now)) }
     ensures fits { OnOk result (HaveSpelling (dated_facts changes.now)) }
 {
     out.push(1)?;
@@ -212,7 +212,7 @@ fn put_all(out: &mut Vec<u8>, changes: &[DatedChange]) -> Result<(), AllocError>
 /// Writes the one spelling of the dated changes behind what `out` holds. `TooLong` leaves `out` as it was; where
 /// memory is refused, a part of the spelling may stand there.
 pub fn encode(out: &mut Vec<u8>, changes: &[DatedChange]) -> Result<(), EncodeFault>
-    ensures written { OnOk result (out.new.items ≡ out.old.items ++ spelling (dated_facts changes.now)) }
+    ensures written { OnOk result (out.new.items ≡ out.old.items ++ batch_spelling (dated_facts changes.now)) }
     // What is written can be read again.
     ensures fits { OnOk result (HaveSpelling (dated_facts changes.now)) }
     ensures too_long { IsErrOf result TooLong ↔ ¬ (CanCount (dated_facts changes.now)) }

@@ -4,8 +4,8 @@
 
 ghost use Rattle.std.specs.Prelude.{◌≡◌, ◌<◌, ◌≤◌, ◌^◌, ◌↔◌, ◌++◌, length, IsTrue, IfOk, OnOk};
 ghost use Rattle.std.specs.Int.{w32, w64};
-ghost use Rattle.change_codec.specs.Spelling.{IsDigest, IsMoment, IsParty, IsShort, IsText, IsWide, counted, short, wide};
-ghost use Rattle.change_codec.specs.Reading.{Gives, counted_at, moment_at, number_at, part_at, party_at, text_at};
+ghost use Rattle.change_codec.specs.Spelling.{IsDigest, IsMoment, IsParty, FitsFourBytes, IsText, FitsEightBytes, counted, short, wide};
+ghost use Rattle.change_codec.specs.Reading.{GivesReading, counted_at, moment_at, big_endian_at, part_at, party_at, text_at};
 
 use crate::fault::{ChangeFault, DecodeFault};
 use consent::{ClientNo, Moment, OwnerNo};
@@ -13,7 +13,7 @@ use std::alloc::AllocError;
 
 /// The number in the first four bytes, the high one first, and the bytes behind it.
 pub fn short_of(bytes: &[u8]) -> Result<(u32, &[u8]), DecodeFault>
-    ensures { Gives (λ x. (x.0, x.1.now)) result (number_at w32 bytes.now) }
+    ensures { GivesReading (λ x. (x.0, x.1.now)) result (big_endian_at w32 bytes.now) }
 {
     if bytes.len() < 4 {
         return Err(DecodeFault::Bytes(ChangeFault::Short));
@@ -25,7 +25,7 @@ pub fn short_of(bytes: &[u8]) -> Result<(u32, &[u8]), DecodeFault>
 
 /// The number in the first eight bytes, the high one first, and the bytes behind it.
 pub fn wide_of(bytes: &[u8]) -> Result<(u64, &[u8]), DecodeFault>
-    ensures { Gives (λ x. (x.0, x.1.now)) result (number_at w64 bytes.now) }
+    ensures { GivesReading (λ x. (x.0, x.1.now)) result (big_endian_at w64 bytes.now) }
 {
     if bytes.len() < 8 {
         return Err(DecodeFault::Bytes(ChangeFault::Short));
@@ -40,7 +40,7 @@ pub fn wide_of(bytes: &[u8]) -> Result<(u64, &[u8]), DecodeFault>
 /// The number of a client or an owner, from 1 on, in the first four bytes, and the bytes behind it.
 #[tactic(auto, unfolding(crate::specs::Reading::party_at))]
 pub fn party_of(bytes: &[u8]) -> Result<(u32, &[u8]), DecodeFault>
-    ensures read { Gives (λ x. (x.0, x.1.now)) result (party_at bytes.now) }
+    ensures read { GivesReading (λ x. (x.0, x.1.now)) result (party_at bytes.now) }
     ensures from_1 { IfOk result (λ x. 1 ≤ x.0) }
 {
     let (number, rest) = short_of(bytes)?;
@@ -53,7 +53,7 @@ pub fn party_of(bytes: &[u8]) -> Result<(u32, &[u8]), DecodeFault>
 /// The seconds up to a moment, in the first eight bytes, and the bytes behind them.
 #[tactic(auto, unfolding(crate::specs::Reading::moment_at))]
 pub fn moment_of(bytes: &[u8]) -> Result<(u64, &[u8]), DecodeFault>
-    ensures read { Gives (λ x. (x.0, x.1.now)) result (moment_at bytes.now) }
+    ensures read { GivesReading (λ x. (x.0, x.1.now)) result (moment_at bytes.now) }
     ensures in_range { IfOk result (λ x. x.0 < 2 ^ 63) }
 {
     let (seconds, rest) = wide_of(bytes)?;
@@ -66,7 +66,7 @@ pub fn moment_of(bytes: &[u8]) -> Result<(u64, &[u8]), DecodeFault>
 /// The bytes behind their length, which is in the first four, and the bytes behind them.
 #[tactic(auto, unfolding(crate::specs::Reading::part_at, crate::specs::Reading::counted_at))]
 pub fn counted_of(bytes: &[u8]) -> Result<(&[u8], &[u8]), DecodeFault>
-    ensures { Gives (λ x. (x.0.now, x.1.now)) result (counted_at bytes.now) }
+    ensures { GivesReading (λ x. (x.0.now, x.1.now)) result (counted_at bytes.now) }
 {
     let (len, rest) = short_of(bytes)?;
     let len = len as usize;
@@ -80,7 +80,7 @@ pub fn counted_of(bytes: &[u8]) -> Result<(&[u8], &[u8]), DecodeFault>
 /// The text behind its length in bytes, which is in the first four, and the bytes behind it.
 #[tactic(auto, using(crate::proofs::Texts::utf8_where, crate::proofs::Texts::not_utf8), unfolding(crate::specs::Reading::text_at))]
 pub fn text_of(bytes: &[u8]) -> Result<(&str, &[u8]), DecodeFault>
-    ensures { Gives (λ x. (x.0.now, x.1.now)) result (text_at bytes.now) }
+    ensures { GivesReading (λ x. (x.0.now, x.1.now)) result (text_at bytes.now) }
 {
     let (part, rest) = counted_of(bytes)?;
     match str::from_utf8(part) {
@@ -92,7 +92,7 @@ pub fn text_of(bytes: &[u8]) -> Result<(&str, &[u8]), DecodeFault>
 /// The first 32 bytes, and the bytes behind them.
 #[tactic(auto, unfolding(crate::specs::Reading::part_at))]
 pub fn digest_of(bytes: &[u8]) -> Result<([u8; 32], &[u8]), DecodeFault>
-    ensures { Gives (λ x. (x.0, x.1.now)) result (part_at 32 bytes.now) }
+    ensures { GivesReading (λ x. (x.0, x.1.now)) result (part_at 32 bytes.now) }
 {
     if bytes.len() < 32 {
         return Err(DecodeFault::Bytes(ChangeFault::Short));
@@ -105,7 +105,7 @@ pub fn digest_of(bytes: &[u8]) -> Result<([u8; 32], &[u8]), DecodeFault>
 
 /// Whether how many bytes there are can be written in four bytes.
 pub fn is_short(bytes: &[u8]) -> bool
-    ensures { IsTrue result ↔ IsShort (length bytes.now) }
+    ensures { IsTrue result ↔ FitsFourBytes (length bytes.now) }
 {
     bytes.len() < 1 << 32
 }
@@ -113,7 +113,7 @@ pub fn is_short(bytes: &[u8]) -> bool
 /// Writes a number in eight bytes, the high one first.
 pub fn put_wide(out: &mut Vec<u8>, value: u64) -> Result<(), AllocError>
     ensures written { OnOk result (out.new.items ≡ out.old.items ++ wide value) }
-    ensures fits { IsWide value }
+    ensures fits { FitsEightBytes value }
 {
     out.extend_from_slice(&value.to_be_bytes())?;
     Ok(())
@@ -122,7 +122,7 @@ pub fn put_wide(out: &mut Vec<u8>, value: u64) -> Result<(), AllocError>
 /// Writes a number in four bytes, the high one first.
 pub fn put_short(out: &mut Vec<u8>, number: u32) -> Result<(), AllocError>
     ensures written { OnOk result (out.new.items ≡ out.old.items ++ short number) }
-    ensures fits { IsShort number }
+    ensures fits { FitsFourBytes number }
 {
     out.extend_from_slice(&number.to_be_bytes())?;
     Ok(())
@@ -166,7 +166,7 @@ pub fn put_digest(out: &mut Vec<u8>, digest: &[u8; 32]) -> Result<(), AllocError
 
 /// Writes how many bytes there are, in four bytes, and the bytes.
 pub fn put_counted(out: &mut Vec<u8>, bytes: &[u8]) -> Result<(), AllocError>
-    requires { IsShort (length bytes.now) }
+    requires { FitsFourBytes (length bytes.now) }
     ensures { OnOk result (out.new.items ≡ out.old.items ++ counted bytes.now) }
 {
     put_short(out, bytes.len() as u32)?;
@@ -176,7 +176,7 @@ pub fn put_counted(out: &mut Vec<u8>, bytes: &[u8]) -> Result<(), AllocError>
 
 /// Writes how many bytes a text has, in four bytes, and the text.
 pub fn put_text(out: &mut Vec<u8>, text: &str) -> Result<(), AllocError>
-    requires { IsShort (length text.now) }
+    requires { FitsFourBytes (length text.now) }
     ensures written { OnOk result (out.new.items ≡ out.old.items ++ counted text.now) }
     ensures fits { IsText text.now }
 {

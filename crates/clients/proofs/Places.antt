@@ -8,7 +8,7 @@ use Rattle.std.proofs.lemmas.Slice.Eq.{bytes_eq-Decides}
 use Rattle.std.proofs.lemmas.Map.Text.{btree_map_updates_text}
 use Rattle.std.specs.Str.{IsUtf8}
 use Rattle.std.proofs.lemmas.Str.{IsUtf8-string_bytes}
-use Rattle.clients.specs.Numbers.{number_of, IsIndex}
+use Rattle.clients.specs.Numbers.{number_among, IsIndex}
 
 -- where the last one does not pass, the place is as before
 place_before : {X : Type 0} (p : X → Bool) (i : ℕ) (xs : List X) (x : X) → p x ≡ false
@@ -31,15 +31,15 @@ place_last p i (y ∷ ys) x passes none = by (p y) refl (place_last p (i + 1) ys
         rw e (later h ∙ ap Some (omega arith))
 
 -- a new text has the next number, and the others keep theirs
-pub number_of-push : (texts : List (List ℕ)) (new text : List ℕ) → number_of new texts ≡ None
-    → number_of text (texts ++ new ∷ []) ≡ cond (bytes_eq new text) (Some (length texts + 1)) (number_of text texts)
+pub number_of-push : (texts : List (List ℕ)) (new text : List ℕ) → number_among new texts ≡ None
+    → number_among text (texts ++ new ∷ []) ≡ cond (bytes_eq new text) (Some (length texts + 1)) (number_among text texts)
 number_of-push texts new text none = by (bytes_eq new text) refl
   where
     by : (b : Bool) → bytes_eq new text ≡ b
-        → number_of text (texts ++ new ∷ []) ≡ cond (bytes_eq new text) (Some (length texts + 1)) (number_of text texts)
+        → number_among text (texts ++ new ∷ []) ≡ cond (bytes_eq new text) (Some (length texts + 1)) (number_among text texts)
     by true e =
         let same : new ≡ text = (bytes_eq-Decides new text).0 e in
-        let absent : number_of text texts ≡ None = rw (sym same) none in
+        let absent : number_among text texts ≡ None = rw (sym same) none in
         let passes : bytes_eq text new ≡ true = (bytes_eq-Decides text new).1 (sym same) in
         rw e (place_last (bytes_eq text) 1 texts new passes absent ∙ ap Some (omega arith))
     by false e =
@@ -55,7 +55,7 @@ number_of-push texts new text none = by (bytes_eq new text) refl
 
 -- an index with the next number of a new text is an index of the texts with it
 pub IsIndex-push : (old new : BTreeMap (String Global) ℕ) (texts : List (List ℕ)) (key : String Global)
-    → IsIndex old texts → number_of (string_bytes key) texts ≡ None
+    → IsIndex old texts → number_among (string_bytes key) texts ≡ None
     → Updates string_cmp old new key (Some (length texts + 1))
     → IsIndex new (texts ++ string_bytes key ∷ [])
 IsIndex-push old new texts key index absent updates = λ text.
@@ -77,8 +77,8 @@ place_within p i (y ∷ ys) = by (p y) refl (place_within p (i + 1) ys)
         weaker (Some n) h = (omega (arith, h.0), omega (arith, h.1))
 
 -- a number is from 1 to the count
-pub number_of-listed : (text : List ℕ) (texts : List (List ℕ)) → IfSome (number_of text texts) (λ n. (1 ≤ n) × (n ≤ length texts))
-number_of-listed text texts = weaker (number_of text texts) (place_within (bytes_eq text) 1 texts)
+pub number_of-listed : (text : List ℕ) (texts : List (List ℕ)) → IfSome (number_among text texts) (λ n. (1 ≤ n) × (n ≤ length texts))
+number_of-listed text texts = weaker (number_among text texts) (place_within (bytes_eq text) 1 texts)
   where
     weaker : (o : Option ℕ) → IfSome o (λ n. (1 ≤ n) × (n < 1 + length texts)) → IfSome o (λ n. (1 ≤ n) × (n ≤ length texts))
     weaker None h = tt
@@ -86,7 +86,7 @@ number_of-listed text texts = weaker (number_of text texts) (place_within (bytes
 
 -- bytes that are no text have no number among strings
 pub number_of-none : (bytes : List ℕ) (strings : List (String Global)) → ¬ IsUtf8 bytes
-    → number_of bytes (map string_bytes strings) ≡ None
+    → number_among bytes (map string_bytes strings) ≡ None
 number_of-none bytes strings not = apart 1 strings
   where
     other : (s : String Global) (b : Bool) → bytes_eq bytes (string_bytes s) ≡ b → bytes_eq bytes (string_bytes s) ≡ false

@@ -35,8 +35,8 @@ has_grant RefreshToken grants = grants.refresh_token
 has_grant ClientCredentials grants = grants.client_credentials
 
 -- a string that is the name of a grant type
-abbrev pub grant_of : Data → Result GrantType ConfigFault
-grant_of value = do
+abbrev pub grant_type_of : Data → Result GrantType ConfigFault
+grant_type_of value = do
   name ← text_of value
   ok_or (grant_named name) BadShape
 
@@ -44,5 +44,5 @@ grant_of value = do
 abbrev pub grants_after : Grants → Items → Result Grants ConfigFault
 grants_after grants no_items = Ok grants
 grants_after grants (item d ds) = do
-  grant ← grant_of d
+  grant ← grant_type_of d
   grants_after (with_grant grant grants) ds

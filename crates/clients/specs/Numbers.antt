@@ -8,13 +8,13 @@ use Rattle.clients.specs.declared.fault.ConfigFault.{ConfigFault}
 use Rattle.clients.specs.declared.fault.ConfigFault.TheVariants.{Twice}
 
 -- the number of a text among these: its place, counted from 1
-abbrev pub number_of : List ℕ → List (List ℕ) → Option ℕ
-number_of text texts = position_from (bytes_eq text) 1 texts
+abbrev pub number_among : List ℕ → List (List ℕ) → Option ℕ
+number_among text texts = position_from (bytes_eq text) 1 texts
 
 -- the text, if it is none of these
 abbrev pub new_among : List (List ℕ) → List ℕ → Result (List ℕ) ConfigFault
-new_among texts text = if is_some (number_of text texts) then Err Twice else Ok text
+new_among texts text = if is_some (number_among text texts) then Err Twice else Ok text
 
 -- the map has the number of each text among these, and no other
 abbrev pub IsIndex : BTreeMap (String Global) ℕ → List (List ℕ) → Type 0
-IsIndex numbers texts = (text : List ℕ) → get_by_text numbers text ≡ number_of text texts
+IsIndex numbers texts = (text : List ℕ) → get_by_text numbers text ≡ number_among text texts

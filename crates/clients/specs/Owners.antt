@@ -6,7 +6,7 @@ use Rattle.serde_json.specs.Find.{get}
 use Rattle.clients.specs.Faults.{◌>>=◌}
 use Rattle.clients.specs.Texts.{key_of}
 use Rattle.clients.specs.Keys.{key_digest}
-use Rattle.clients.specs.Numbers.{number_of, new_among}
+use Rattle.clients.specs.Numbers.{number_among, new_among}
 use Rattle.clients.specs.OwnerRecord.{OwnerRecord}
 use Rattle.clients.specs.declared.fault.ConfigFault.{ConfigFault}
 
@@ -16,7 +16,7 @@ keys owners = map (λ o. o.key) owners
 
 -- the number of the owner whose key this is: the one with its digest
 abbrev pub owner_with : List ℕ → List OwnerRecord → Option ℕ
-owner_with key owners = number_of (sha256 key) (keys owners)
+owner_with key owners = number_among (sha256 key) (keys owners)
 
 -- what the owner of a number is called
 abbrev pub sub_of : ℕ → List OwnerRecord → Option (List ℕ)

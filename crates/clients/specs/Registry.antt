@@ -11,7 +11,7 @@ use Rattle.clients.specs.Faults.{◌>>=◌}
 use Rattle.clients.specs.Json.{member_of, life_of, items_within}
 use Rattle.clients.specs.Keys.{key_digest}
 use Rattle.clients.specs.OwnerRecord.{OwnerRecord}
-use Rattle.clients.specs.Numbers.{number_of}
+use Rattle.clients.specs.Numbers.{number_among}
 use Rattle.clients.specs.Owners.{keys, owners_after}
 use Rattle.clients.specs.Scopes.{scopes_after}
 use Rattle.clients.specs.Clients.{clients_after}
@@ -70,7 +70,7 @@ is_operator_key key rules = bytes_eq (sha256 key) rules.operator
 
 -- an owner has the operator's key
 abbrev pub has_operator_among_owners : RegistryRecord → Bool
-has_operator_among_owners rules = is_some (number_of rules.operator (keys rules.owners))
+has_operator_among_owners rules = is_some (number_among rules.operator (keys rules.owners))
 
 -- what comes before all that takes memory is right
 abbrev pub AreLivesAndOperatorRight : Data → Type 0

@@ -25,7 +25,7 @@ use Rattle.clients.specs.Keys.{key_digest}
 use Rattle.clients.specs.Owners.{key_if_any, sub_member}
 use Rattle.clients.specs.Redirect.{is_redirect, is_written, redirect_of, redirects_after}
 use Rattle.clients.specs.Scopes.{with_name, scopes_after}
-use Rattle.clients.specs.Numbers.{number_of}
+use Rattle.clients.specs.Numbers.{number_among}
 use Rattle.clients.specs.Clients.{ids, id_member, one_or_two, secrets_of, secret_member, redirects_member, scope_member, grants_member, client_of, clients_after, client_at}
 use Rattle.clients.specs.ClientRecord.{ClientRecord}
 use Rattle.clients.specs.RegistryRecord.{RegistryRecord}
@@ -88,14 +88,14 @@ redirects-read redirects (item d ds) all are ok =
     (list_all-append is_redirect redirects (redirect.0 ∷ []) ∙ and_from _ _ are (and_from _ _ is refl)) redirect.2
 
 pub id-read : (clients : List ClientRecord) (value : Data) (id : List ℕ) → id_member clients value ≡ Ok id
-    → (is_identifier id ≡ true) × (number_of id (ids clients) ≡ None)
+    → (is_identifier id ≡ true) × (number_among id (ids clients) ≡ None)
 id-read clients value id ok =
     let member = then_ok (member_of (codes "id") value) _ id ok in
     let known = then_ok (identifier_of member.0) _ id member.2 in
     let text = then_ok (text_of member.0) _ known.0 known.1 in
     let is = test_ok (is_identifier text.0) text.0 known.0 OutOfRange text.2 in
-    let new = test_fails (is_some (number_of known.0 (ids clients))) known.0 id Twice known.2 in
-    (ap is_identifier (sym (is.1 ∙ new.1)) ∙ is.0, ap (λ t. number_of t (ids clients)) (sym new.1) ∙ absent (number_of known.0 (ids clients)) new.0)
+    let new = test_fails (is_some (number_among known.0 (ids clients))) known.0 id Twice known.2 in
+    (ap is_identifier (sym (is.1 ∙ new.1)) ∙ is.0, ap (λ t. number_among t (ids clients)) (sym new.1) ∙ absent (number_among known.0 (ids clients)) new.0)
   where
     absent : (o : Option ℕ) → is_some o ≡ false → o ≡ None
     absent None e = refl
@@ -156,7 +156,7 @@ allowed-read scopes value allowed ok =
 
 -- what is read as a client is one, and its identifier is new
 pub client-read : (scopes : List (List ℕ)) (clients : List ClientRecord) (value : Data) (client : ClientRecord) → client_of scopes clients value ≡ Ok client
-    → IsClientOf scopes client × (number_of client.id (ids clients) ≡ None)
+    → IsClientOf scopes client × (number_among client.id (ids clients) ≡ None)
 client-read scopes clients value client ok =
     let id = then_ok (id_member clients value) _ client ok in
     let secrets = then_ok (secret_member value) _ client id.2 in
@@ -165,7 +165,7 @@ client-read scopes clients value client ok =
     let grants = then_ok (grants_member value) _ client allowed.2 in
     let known = id-read clients value id.0 id.1 in
     let same : record { id = id.0; secrets = secrets.0; redirects = redirects.0; allowed = allowed.0; grants = grants.0 } ≡ client = cc grants.2 in
-    subst (λ (c : ClientRecord). IsClientOf scopes c × (number_of c.id (ids clients) ≡ None)) same (
+    subst (λ (c : ClientRecord). IsClientOf scopes c × (number_among c.id (ids clients) ≡ None)) same (
       record {
         is_client = record { id = known.0; secrets = secret-read value secrets.0 secrets.1; redirects = redirects_member-read value redirects.0 redirects.1 };
         allowed = allowed-read scopes value allowed.0 allowed.1;

@@ -10,7 +10,7 @@ use Rattle.clients.specs.Faults.{◌>>=◌}
 use Rattle.clients.specs.Json.{member_of, text_of, list_of, items_within}
 use Rattle.clients.specs.Redirect.{redirect_of}
 use Rattle.clients.specs.Scopes.{with_name}
-use Rattle.clients.specs.Grants.{grant_of}
+use Rattle.clients.specs.Grants.{grant_type_of}
 use Rattle.clients.specs.OwnerRecord.{OwnerRecord}
 use Rattle.clients.specs.Owners.{owner_of}
 use Rattle.clients.specs.ClientRecord.{ClientRecord}
@@ -49,7 +49,7 @@ redirect_at_fault count (item d ds) = either (redirect_of d) (λ redirect. redir
 
 abbrev pub grant_at_fault : ℕ → Items → ℕ
 grant_at_fault count no_items = count
-grant_at_fault count (item d ds) = either (grant_of d) (λ grant. grant_at_fault (suc count) ds) count
+grant_at_fault count (item d ds) = either (grant_type_of d) (λ grant. grant_at_fault (suc count) ds) count
 
 -- the item at fault of a member that is a list of so many; none, where the member is no such list
 abbrev pub item_at : (Items → ℕ) → Result Items ConfigFault → Option ℕ

@@ -7,7 +7,7 @@ ghost use Rattle.serde_json.specs.View.{view, items_view};
 ghost use Rattle.clients.specs.Faults.{GivesUnless, seen_by};
 ghost use Rattle.clients.specs.Limits.{client_limit, identifier_limit, redirect_limit};
 ghost use Rattle.clients.specs.Grants.{has_grant};
-ghost use Rattle.clients.specs.Numbers.{number_of};
+ghost use Rattle.clients.specs.Numbers.{number_among};
 ghost use Rattle.clients.specs.Clients.{ids, has_secret, has_redirect, id_member, secret_member, redirects_member, scope_member, grants_member, client_at, client_of, clients_after};
 ghost use Rattle.clients.specs.Spots.{item_at, redirect_at_fault, grant_at_fault, redirects_in, grants_in, client_spot, clients_spot};
 
@@ -129,7 +129,7 @@ impl Clients {
 
     // The number of the client with this identifier.
     pub(crate) fn number(&self, id: &str) -> Option<ClientNo>
-        ensures value { result ≡ number_of id.now (ids self.now) }
+        ensures value { result ≡ number_among id.now (ids self.now) }
         ensures listed { IfSome result (λ number. number ≤ length self.now) }
     {
         self.numbering.number(id.as_bytes()).map(ClientNo::new)
@@ -159,7 +159,7 @@ impl Clients {
 
     // Takes a further client.
     fn push(&mut self, alloc: Global, client: Client) -> Result<(), AllocError>
-        requires new { number_of client.id (ids self.old) ≡ None }
+        requires new { number_among client.id (ids self.old) ≡ None }
         requires room { length self.old < client_limit }
         ensures ok { OnOk result (self.new ≡ self.old ++ client ∷ []) }
         ensures err { OnErr result (self.new ≡ self.old) }

@@ -2,7 +2,7 @@
 
 ghost use Rattle.std.specs.Prelude.{◌≡◌};
 ghost use Rattle.serde_json.specs.View.{view, items_view};
-ghost use Rattle.clients.specs.Grants.{grant_named, no_grants, with_grant, has_grant, grant_of, grants_after};
+ghost use Rattle.clients.specs.Grants.{grant_named, no_grants, with_grant, has_grant, grant_type_of, grants_after};
 ghost use Rattle.clients.specs.Spots.{grant_at_fault};
 
 use crate::fault::ConfigFault;
@@ -85,7 +85,7 @@ impl Grants {
 }
 
 fn grant(value: &Value) -> Result<GrantType, ConfigFault>
-    ensures { result ≡ grant_of (view value.now) }
+    ensures { result ≡ grant_type_of (view value.now) }
 {
     GrantType::named(text(value)?).ok_or(ConfigFault::BadShape)
 }

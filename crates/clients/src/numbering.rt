@@ -1,7 +1,7 @@
 //! Distinct texts and their numbers, from 1: the identifiers of clients.
 
 ghost use Rattle.std.specs.Prelude.{◌≡◌, ◌<◌, ◌≤◌, [], ◌∷◌, ◌++◌, length, None, IfSome, OnOk, OnErr};
-ghost use Rattle.clients.specs.Numbers.{number_of};
+ghost use Rattle.clients.specs.Numbers.{number_among};
 
 use std::alloc::{AllocError, Global};
 use std::collections::BTreeMap;
@@ -38,7 +38,7 @@ impl Numbering {
 
     // The number of this text.
     pub(crate) fn number(&self, text: &[u8]) -> Option<u32>
-        ensures value { result ≡ number_of text.now self.now }
+        ensures value { result ≡ number_among text.now self.now }
         ensures listed { IfSome result (λ number. (1 ≤ number) × (number ≤ length self.now)) }
     {
         let numbers = &self.numbers;
@@ -50,7 +50,7 @@ impl Numbering {
 
     // Takes a further text.
     pub(crate) fn push(&mut self, alloc: Global, text: &str) -> Result<(), AllocError>
-        requires new { number_of text.now self.old ≡ None }
+        requires new { number_among text.now self.old ≡ None }
         requires room { length self.old < 65536 }
         ensures ok { OnOk result (self.new ≡ self.old ++ text.now ∷ []) }
         ensures err { OnErr result (self.new ≡ self.old) }

@@ -5,7 +5,7 @@ ghost use Rattle.serde_json.specs.View.{view, items_view};
 ghost use Rattle.clients.specs.Limits.{owner_limit, key_limit};
 ghost use Rattle.clients.specs.Faults.{GivesUnless, seen_by};
 ghost use Rattle.clients.specs.Keys.{key_digest};
-ghost use Rattle.clients.specs.Numbers.{number_of};
+ghost use Rattle.clients.specs.Numbers.{number_among};
 ghost use Rattle.clients.specs.Owners.{keys, owner_with, sub_of, key_in, new_key, sub_member, owner_of, owners_after};
 ghost use Rattle.clients.specs.Spots.{owner_at_fault};
 
@@ -87,7 +87,7 @@ impl Owners {
     // The number of the owner with this digest of a key. The digest is compared with that of each owner, whichever is
     // the right one.
     fn number(&self, digest: &[u8; 32]) -> Option<OwnerNo>
-        ensures value { result ≡ number_of digest.now (keys self.now) }
+        ensures value { result ≡ number_among digest.now (keys self.now) }
         ensures listed { IfSome result (λ number. number ≤ length self.now) }
     {
         let mut found = None;
@@ -111,7 +111,7 @@ impl Owners {
 
     // Whether this is the digest of an owner's key.
     pub(crate) fn have_key(&self, digest: &[u8; 32]) -> bool
-        ensures { result ≡ is_some (number_of digest.now (keys self.now)) }
+        ensures { result ≡ is_some (number_among digest.now (keys self.now)) }
     {
         self.number(digest).is_some()
     }

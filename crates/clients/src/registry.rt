@@ -3,7 +3,7 @@
 ghost use Rattle.std.specs.Prelude.{◌≡◌, ◌<◌, ◌≤◌, [], true, length, Some, IfOk, OnOk, IfSome, option_copied, IsUtf8};
 ghost use Rattle.serde_json.specs.View.{view, items_view};
 ghost use Rattle.clients.specs.Faults.{GivesUnless, seen_by};
-ghost use Rattle.clients.specs.Numbers.{number_of};
+ghost use Rattle.clients.specs.Numbers.{number_among};
 ghost use Rattle.clients.specs.Limits.{key_limit, owner_limit, client_limit};
 ghost use Rattle.clients.specs.Owners.{owner_with, sub_of};
 ghost use Rattle.clients.specs.Clients.{ids, client_at};
@@ -123,7 +123,7 @@ impl Registry {
 
     /// The number of the client with this identifier.
     pub fn client_no(&self, id: &str) -> Option<ClientNo>
-        ensures value { result ≡ number_of id.now (ids self.now.clients) }
+        ensures value { result ≡ number_among id.now (ids self.now.clients) }
         ensures listed { IfSome result (λ number. number ≤ length self.now.clients) }
     {
         self.clients.number(id)

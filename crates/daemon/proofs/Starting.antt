@@ -2,7 +2,7 @@
 use Rattle.std.proofs.Common.{◌≡◌}
 use Rattle.http_edge.specs.Edges.{SeenEdge}
 use Rattle.event_loop.specs.Scenes.{Promises}
-use Rattle.event_loop.specs.Ends.{Ends}
+use Rattle.event_loop.specs.Ends.{RunEnds}
 use Rattle.daemon.specs.declared.means.Ending.{Ending}
 use Rattle.daemon.specs.declared.means.Means.{Means}
 use Rattle.daemon.specs.Begun.{Beginning, IsAt}
@@ -10,7 +10,7 @@ use Rattle.daemon.specs.Started.{Serves, limits_of, tools_of}
 
 -- from its beginning on, by an edge that is there
 pub serves_from : {N C J K H : Type 0} (p : Promises N C J K H) (beginning : Beginning H) (means : Means N C J K) (edge : SeenEdge H) (ending : Ending N C J K H)
-    → IsAt p.hosting beginning edge → Ends p (limits_of means.patience) (tools_of means edge) ending.fault ending.tools → Serves p beginning means ending
+    → IsAt p.hosting beginning edge → RunEnds p (limits_of means.patience) (tools_of means edge) ending.fault ending.tools → Serves p beginning means ending
 serves_from p beginning means edge ending begun ends = record {
   edge = edge;
   begun = begun;

@@ -5,7 +5,7 @@ use Rattle.consent.specs.History.{Event}
 use Rattle.hook_host.specs.declared.host.HookHost.{Ghosts as Hosting}
 use Rattle.http_edge.specs.Edges.{SeenEdge}
 use Rattle.http_edge.specs.Reached.{Reached}
-use Rattle.http_edge.specs.Schedule.{World, Happening, Resumed, start, resumed}
+use Rattle.http_edge.specs.Schedule.{World, Happening, Resumed, first_world, resumed}
 
 -- a server's rules, its host at first, what has led to its beginning, and the world then
 pub record Beginning (H : Type 0) : Type 0 where
@@ -16,7 +16,7 @@ pub record Beginning (H : Type 0) : Type 0 where
 
 -- nothing has happened yet
 abbrev pub new_beginning : {H : Type 0} → RegistryRecord → H → Beginning H
-new_beginning rules host = record { rules = rules; host = host; schedule = []; world = start }
+new_beginning rules host = record { rules = rules; host = host; schedule = []; world = first_world }
 
 -- the server goes on from a history, which was kept, up to its greatest moment
 abbrev pub resumed_beginning : {H : Type 0} → RegistryRecord → H → List Event → ℕ → Beginning H
@@ -27,5 +27,5 @@ abbrev pub IsAt : {H : Type 0} → Hosting H → Beginning H → SeenEdge H → 
 IsAt hosting beginning edge = Reached hosting edge beginning.rules beginning.host beginning.schedule beginning.world
 
 -- an edge is new, over a server with these rules, whose host is at its first
-abbrev pub IsBegun : {H : Type 0} → Hosting H → RegistryRecord → H → SeenEdge H → Type 0
-IsBegun hosting rules first edge = IsAt hosting (new_beginning rules first) edge
+abbrev pub IsNewEdge : {H : Type 0} → Hosting H → RegistryRecord → H → SeenEdge H → Type 0
+IsNewEdge hosting rules first edge = IsAt hosting (new_beginning rules first) edge

@@ -3,7 +3,7 @@ use Rattle.std.specs.Prelude.{◌≡◌, ◌⊎◌, ℕ, List, Some}
 use Rattle.clients.specs.RegistryRecord.{RegistryRecord}
 use Rattle.change_codec.specs.declared.keeper.Keeper.{Ghosts as Keeper}
 use Rattle.consent.specs.History.{Event}
-use Rattle.endpoints.specs.Server.{Seen, FitsServer, Notes}
+use Rattle.endpoints.specs.Server.{SeenServer, FitsServer, Notes}
 use Rattle.http_edge.specs.Edges.{SeenEdge}
 use Rattle.image_keeper.specs.Keeping.{Keeping, keeping}
 use Rattle.event_loop.specs.declared.fault.LoopFault.{LoopFault}
@@ -38,7 +38,7 @@ pub record Serves {N C J K H : Type 0} (p : Promises N C J K H) (beginning : Beg
       (tools_of means edge) beginning.schedule beginning.world ending.fault ending.tools ⊎ ServesNothing p (tools_of means edge) ending.fault ending.tools
 
 -- from whatever history on a server has noted what happens, it served from there
-abbrev pub ServesFrom : {N C J K H : Type 0} → Promises N C J K H → Seen H → Means N C J K → Ending N C J K H → Type 0
+abbrev pub ServesFrom : {N C J K H : Type 0} → Promises N C J K H → SeenServer H → Means N C J K → Ending N C J K H → Type 0
 ServesFrom p server means ending =
     (rules : RegistryRecord) (host : _) (history : List Event) (m : ℕ) → FitsServer p.hosting.installs p.hosting.removes server rules host history m →
         Notes server (Some history) history →
@@ -53,7 +53,7 @@ pub record HasStarted {N C J K H : Type 0} (p : Promises N C J K H) (rules : Reg
   pub serves : Serves p (new_beginning rules host) means ending
 
 -- a server that was made before did so, with this keeper, and with some sockets, clocks, journal and draws
-pub record HasGoneOn {N C J K H : Type 0} (p : Promises N C J K H) (server : Seen H) (keeper : K) (patience : Patience) (fault : LoopFault) : Type 0 where
+pub record HasGoneOn {N C J K H : Type 0} (p : Promises N C J K H) (server : SeenServer H) (keeper : K) (patience : Patience) (fault : LoopFault) : Type 0 where
   pub means : Means N C J K
   pub keeper_is : means.keeper ≡ keeper
   pub patience_is : means.patience ≡ patience

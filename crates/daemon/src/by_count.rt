@@ -5,7 +5,7 @@ ghost use Rattle.clients.specs.RegistryRecord.{RegistryRecord};
 ghost use Rattle.http_edge.specs.Schedule.{Happening, World};
 ghost use Rattle.http_edge.specs.Reached.{Reached};
 ghost use Rattle.serving.specs.Served.{LeadsOn};
-ghost use Rattle.daemon.specs.Begun.{IsBegun};
+ghost use Rattle.daemon.specs.Begun.{IsNewEdge};
 ghost use Rattle.daemon.specs.Listening.{Announces};
 
 use crate::fault::ListenFault;
@@ -29,7 +29,7 @@ pub const NUMBER: u32 = 1;
 
 /// A new server over a registry, with these hooks and without connections.
 pub fn new_edge(alloc: Global, registry: Registry, hooks: Chain) -> Edge<Chain>
-    ensures { IsBegun ⟦<Chain as HookHost>⟧ registry hooks result }
+    ensures { IsNewEdge ⟦<Chain as HookHost>⟧ registry hooks result }
 {
     let server = Server::new(alloc, registry, hooks);
     Edge::new(alloc, server)

@@ -1,6 +1,6 @@
 //! A server over any sockets, clocks, journal and keeper.
 
-ghost use Rattle.event_loop.specs.Ends.{Ends};
+ghost use Rattle.event_loop.specs.Ends.{RunEnds};
 ghost use Rattle.event_loop.specs.Scenes.{promises};
 ghost use Rattle.image_keeper.specs.Keeping.{keeping};
 ghost use Rattle.daemon.specs.Begun.{new_beginning};
@@ -44,7 +44,7 @@ fn serve_by<N: Sockets, C: Clocks, J: Journal, K: ImageKeeper>(
     edge: Edge<Chain>,
     means: Means<N, C, J, K>,
 ) -> Ending<N, C, J, K, Chain>
-    ensures { Ends (promises N.Sockets C.Clocks J.Journal (keeping K.Keeper K.ImageKeeper.own) ⟦<Chain as HookHost>⟧)
+    ensures { RunEnds (promises N.Sockets C.Clocks J.Journal (keeping K.Keeper K.ImageKeeper.own) ⟦<Chain as HookHost>⟧)
         (limits_of means.patience) (tools_of means edge) result.fault result.tools }
 {
     let limits = means.patience.limits();

@@ -2,7 +2,7 @@
 use Rattle.std.proofs.Common.{◌≡◌, ◌≤◌, ℕ, List, [], ◌++◌, Bool, true, false, max, refl, ap, sym, ◌∙◌, arith, append-nil, subst, Result, Ok, Err, Option, Some, None}
 use Rattle.std.specs.Prelude.{bytes_eq}
 use Rattle.clients.specs.RegistryRecord.{RegistryRecord}
-use Rattle.consent.specs.Changes.{changes_of, listed, AllFollow}
+use Rattle.consent.specs.Changes.{changes_of, as_list, AllFollow}
 use Rattle.consent.specs.History.{Event, Change as happening, with_changes}
 use Rattle.consent.specs.declared.change.Changes.{Changes}
 use Rattle.change_codec.specs.Spelling.{DatedFact}
@@ -12,7 +12,7 @@ use Rattle.hook_host.specs.declared.fault.HookFault.{HookFault}
 use Rattle.hook_host.specs.declared.host.HookHost.{Ghosts as Hosting}
 use Rattle.messages.specs.Asked.{Asked}
 use Rattle.messages.specs.Target.{path_of}
-use Rattle.messages.specs.Written.{Written, written}
+use Rattle.messages.specs.Written.{Written, in_writing}
 use Rattle.messages.specs.declared.request.Draws.{Draws}
 use Rattle.token_store.specs.Kept.{Held}
 use Rattle.token_store.specs.Fits.{FitsStore}
@@ -28,9 +28,9 @@ use Rattle.endpoints.specs.Noting.{with_notes}
 use Rattle.endpoints.specs.Bounded.{AllRightAfter}
 use Rattle.endpoints.specs.Ruling.{CanMakeAll}
 use Rattle.endpoints.specs.Paths.{endpoint_at, method_at}
-use Rattle.endpoints.specs.Replies.{outcome, hook_change}
-use Rattle.endpoints.specs.Rulings.{Answers, Asking, FitsNow, IsRuling, comes_to, says_with, scene_now}
-use Rattle.endpoints.specs.Server.{Seen, FitsServer, AreUnkept, IsNoted, IsStep}
+use Rattle.endpoints.specs.Replies.{request_outcome, hook_change}
+use Rattle.endpoints.specs.Rulings.{AnswersRequest, Asking, FitsNow, IsRuling, comes_to, says_with, setting_now}
+use Rattle.endpoints.specs.Server.{SeenServer, FitsServer, AreUnkept, AreNoted, IsStep}
 use Rattle.endpoints.proofs.Ruled.{told_changes, told_reply}
 
 pub at_moment : (greatest m moment n : ℕ) → n ≡ max greatest moment → greatest ≡ m → (m ≤ n) × (n ≡ max m moment)
@@ -38,7 +38,7 @@ at_moment greatest m moment n is same = (omega (arith, is, same), is ∙ ap (λ 
 
 -- what is noted at the moment is what is changed
 pub notes_on : (unkept : Option (List DatedFact)) (kept : Option (List Event)) (history : List Event) (m : ℕ) (changes : Changes) (next : List happening) →
-    changes_of history m (listed changes) ≡ Some next → AllFollow history m next →
+    changes_of history m (as_list changes) ≡ Some next → AllFollow history m next →
     AreUnkept unkept kept history → AreUnkept (with_notes unkept m changes) kept (with_changes history m next)
 notes_on None None history m changes next meant follow noted = tt
 notes_on None (Some kept) history m changes next meant follow noted = absurd noted
@@ -47,12 +47,12 @@ notes_on (Some facts) (Some kept) history m changes next meant follow noted =
     Happened-joined kept history (with_changes history m next) facts (all_dated m changes) noted (Happened-own history m changes next meant follow)
 
 -- nothing is noted where nothing happens
-still_noted : {H : Type 0} (old new : Seen H) (history : List Event) → new.unkept ≡ old.unkept → IsNoted old new history (history ++ [])
+still_noted : {H : Type 0} (old new : SeenServer H) (history : List Event) → new.unkept ≡ old.unkept → AreNoted old new history (history ++ [])
 still_noted old new history same kept noted = rw (append-nil history) (subst (λ u. AreUnkept u kept history) (sym same) noted)
 
 module _ {H : Type 0} (hosting : Hosting H) where
   -- time goes on, and what has expired is let go of
-  pub swept : (old : Seen H) (rules : RegistryRecord) (first : H) (history : List Event) (n m : ℕ) (kept : Held) → n ≤ m →
+  pub swept : (old : SeenServer H) (rules : RegistryRecord) (first : H) (history : List Event) (n m : ℕ) (kept : Held) → n ≤ m →
       FitsServer hosting.installs hosting.removes old rules first history n → (FitsStore old.store history m → FitsStore kept history m) →
       FitsServer hosting.installs hosting.removes (record old { store = kept; greatest = m }) rules first history m
   swept old rules first history n m kept le fits dropped = record {
@@ -65,30 +65,30 @@ module _ {H : Type 0} (hosting : Hosting H) where
   }
 
   -- nothing happens
-  pub bare_step : (old new : Seen H) (rules : RegistryRecord) (first : H) (history : List Event) (m status : ℕ) (reply : Written) →
-      FitsServer hosting.installs hosting.removes new rules first history m → reply ≡ written (bare status).reply →
+  pub bare_step : (old new : SeenServer H) (rules : RegistryRecord) (first : H) (history : List Event) (m status : ℕ) (reply : Written) →
+      FitsServer hosting.installs hosting.removes new rules first history m → reply ≡ in_writing (bare status).reply →
       new.unkept ≡ old.unkept → IsStep hosting.installs hosting.removes (bare status) reply old new rules first history m
   bare_step old new rules first history m status reply fits is same =
       record { reply_is = is; fits = rw (append-nil history) fits; noted = still_noted old new history same }
 
   -- the ruling is written, room is made for its changes, and they are made
-  pub answered : (old mid new : Seen H) (first : H) (history : List Event) (asking : Asking) (ruling : Ruling H) (reply : Written) →
-      IsRuling hosting old history asking ruling → IsSame hosting old mid → Makes hosting mid (listed ruling.decision.changes) ruling.checked new →
+  pub answered : (old mid new : SeenServer H) (first : H) (history : List Event) (asking : Asking) (ruling : Ruling H) (reply : Written) →
+      IsRuling hosting old history asking ruling → IsSame hosting old mid → Makes hosting mid (as_list ruling.decision.changes) ruling.checked new →
       new.unkept ≡ with_notes mid.unkept mid.greatest ruling.decision.changes →
-      reply ≡ written (reply_of old.rules (hosting.names old.host) ruling.decision.answer) → FitsNow hosting old first history →
+      reply ≡ in_writing (reply_of old.rules (hosting.names old.host) ruling.decision.answer) → FitsNow hosting old first history →
       (fault : Option HookFault) × IsHostFault hosting.refuses_install hosting.refuses_remove old.host (hook_change_at asking.endpoint asking.asked) fault
       × IsStep hosting.installs hosting.removes (comes_to hosting old history asking fault) reply old new old.rules first history old.greatest
   answered old mid new first history asking ruling reply r same makes noted is fits =
       let o = comes_to hosting old history asking r.fault in
-      let changes = told_changes hosting (scene_now hosting old history asking.draws) ruling.decision o r.told_is in
-      let go = subst (λ (n : ℕ). FitsServer hosting.installs hosting.removes mid old.rules first history n → changes_of history n (listed ruling.decision.changes) ≡ Some o.changes →
-      AllFollow history n o.changes → AllRightAfter old.rules history n o.changes → StandsAlone (listed ruling.decision.changes) →
-      CanMakeAll hosting mid.host (listed ruling.decision.changes) ruling.checked → FitsServer hosting.installs hosting.removes new old.rules first (with_changes history n o.changes) n)
+      let changes = told_changes hosting (setting_now hosting old history asking.draws) ruling.decision o r.told_is in
+      let go = subst (λ (n : ℕ). FitsServer hosting.installs hosting.removes mid old.rules first history n → changes_of history n (as_list ruling.decision.changes) ≡ Some o.changes →
+      AllFollow history n o.changes → AllRightAfter old.rules history n o.changes → StandsAlone (as_list ruling.decision.changes) →
+      CanMakeAll hosting mid.host (as_list ruling.decision.changes) ruling.checked → FitsServer hosting.installs hosting.removes new old.rules first (with_changes history n o.changes) n)
       same.greatest (makes old.rules first history o.changes) in (
         r.fault,
         r.host_has,
         record {
-          reply_is = is ∙ ap written (sym (told_reply hosting (scene_now hosting old history asking.draws) ruling.decision o r.told_is));
+          reply_is = is ∙ ap in_writing (sym (told_reply hosting (setting_now hosting old history asking.draws) ruling.decision o r.told_is));
           fits = go (same.fits old.rules first history old.greatest fits) changes r.follow r.right r.alone (rw same.host r.hooks);
           noted = λ kept before.
               let now : new.unkept ≡ with_notes old.unkept old.greatest ruling.decision.changes =
@@ -99,13 +99,13 @@ module _ {H : Type 0} (hosting : Hosting H) where
       )
 
   -- no reply was made, and nothing happened
-  pub none_made : {E : Type 0} (old new : Seen H) (asking : Asking) (result : Result Written E) → ((reply : Written) → result ≡ Ok reply → ⊥) →
-      Answers hosting old asking result new → IsSame hosting old new
+  pub none_made : {E : Type 0} (old new : SeenServer H) (asking : Asking) (result : Result Written E) → ((reply : Written) → result ≡ Ok reply → ⊥) →
+      AnswersRequest hosting old asking result new → IsSame hosting old new
   none_made old new asking (Ok reply) none made = absurd (none reply refl)
   none_made old new asking (Err e) none made = made
 
   -- what was noted before time went on is noted still
-  noted_before : (older old new : Seen H) (outcome : Outcome) (reply : Written) (rules : RegistryRecord) (first : H) (history : List Event) (m : ℕ) → old.unkept ≡ older.unkept →
+  noted_before : (older old new : SeenServer H) (outcome : Outcome) (reply : Written) (rules : RegistryRecord) (first : H) (history : List Event) (m : ℕ) → old.unkept ≡ older.unkept →
       IsStep hosting.installs hosting.removes outcome reply old new rules first history m → IsStep hosting.installs hosting.removes outcome reply older new rules first history m
   noted_before older old new outcome reply rules first history m same step = record {
     reply_is = step.reply_is;
@@ -114,7 +114,7 @@ module _ {H : Type 0} (hosting : Hosting H) where
   }
 
   -- what has expired is let go of, behind a step
-  pub swept_step : (old mid : Seen H) (kept : Held) (outcome : Outcome) (reply : Written) (rules : RegistryRecord) (first : H) (history : List Event) (m : ℕ) →
+  pub swept_step : (old mid : SeenServer H) (kept : Held) (outcome : Outcome) (reply : Written) (rules : RegistryRecord) (first : H) (history : List Event) (m : ℕ) →
       ((history : List Event) → FitsStore mid.store history mid.greatest → FitsStore kept history mid.greatest) →
       IsStep hosting.installs hosting.removes outcome reply old mid rules first history m →
       IsStep hosting.installs hosting.removes outcome reply old (record mid { store = kept }) rules first history m
@@ -136,24 +136,24 @@ module _ {H : Type 0} (hosting : Hosting H) where
       }
 
   -- what happens at an endpoint is what happens at its path
-  pub stepped : (older old new : Seen H) (wanted : RegistryRecord) (first : H) (history : List Event) (endpoint : Endpoint) (asked : Asked) (draws : Draws) (reply : Written) →
+  pub stepped : (older old new : SeenServer H) (wanted : RegistryRecord) (first : H) (history : List Event) (endpoint : Endpoint) (asked : Asked) (draws : Draws) (reply : Written) →
       endpoint_at (path_of asked.target) ≡ Some endpoint → bytes_eq asked.method (method_at endpoint) ≡ true →
       FitsServer hosting.installs hosting.removes old wanted first history old.greatest →
-      Answers {E = ℕ} hosting old (record { endpoint = endpoint; asked = asked; draws = draws }) (Ok reply) new → old.host ≡ older.host → old.unkept ≡ older.unkept →
+      AnswersRequest {E = ℕ} hosting old (record { endpoint = endpoint; asked = asked; draws = draws }) (Ok reply) new → old.host ≡ older.host → old.unkept ≡ older.unkept →
       (refused : Bool) × (fault : Option HookFault) × IsHostFault hosting.refuses_install hosting.refuses_remove older.host (hook_change asked) fault
-      × IsStep hosting.installs hosting.removes (outcome refused wanted (says_with hosting older.host fault) history asked old.greatest draws) reply older new wanted first history old.greatest
+      × IsStep hosting.installs hosting.removes (request_outcome refused wanted (says_with hosting older.host fault) history asked old.greatest draws) reply older new wanted first history old.greatest
   stepped older old new wanted first history endpoint asked draws reply at method fits answers host_same unkept_same =
       let own = subst (λ (r : RegistryRecord). FitsServer hosting.installs hosting.removes old r first history old.greatest) (sym fits.rules_are) fits in
       let done = answers first history own in
       let Stepped : RegistryRecord → H → Type 0 = λ r host. (refused : Bool) × (fault : Option HookFault) × IsHostFault hosting.refuses_install hosting.refuses_remove host (hook_change asked) fault
-      × IsStep hosting.installs hosting.removes (outcome refused r (says_with hosting host fault) history asked old.greatest draws) reply older new r first history old.greatest in
+      × IsStep hosting.installs hosting.removes (request_outcome refused r (says_with hosting host fault) history asked old.greatest draws) reply older new r first history old.greatest in
       let here : Stepped old.rules old.host =
       rw (at, method) (false, done.0, done.1, noted_before older old new (comes_to hosting old history (record { endpoint = endpoint; asked = asked; draws = draws }) done.0) reply old.rules first history old.greatest unkept_same done.2) in
       subst (λ (host : H). Stepped wanted host) host_same (subst (λ (r : RegistryRecord). Stepped r old.host) fits.rules_are here)
 
 -- two that are seen alike have noted the same, and have the same host
-pub unkept_as : {H : Type 0} (one other : Seen H) → one ≡ other → one.unkept ≡ other.unkept
+pub unkept_as : {H : Type 0} (one other : SeenServer H) → one ≡ other → one.unkept ≡ other.unkept
 unkept_as one other same = ap (λ server. server.unkept) same
 
-pub host_as : {H : Type 0} (one other : Seen H) → one ≡ other → one.host ≡ other.host
+pub host_as : {H : Type 0} (one other : SeenServer H) → one ≡ other → one.host ≡ other.host
 host_as one other same = ap (λ server. server.host) same

@@ -2,7 +2,7 @@
 use Rattle.std.proofs.Common.{◌≡◌, ◌∙◌, ap, sym, subst, refl, ℕ, List, [], ◌∷◌, Option, Some, None}
 use Rattle.std.specs.Borrow.{Bor}
 use Rattle.std.specs.Prelude.{option_map}
-use Rattle.consent.specs.Changes.{change_of, changes_of, family_ended, issued_with, listed, AllFollow}
+use Rattle.consent.specs.Changes.{change_of, changes_of, family_ended, issued_with, as_list, AllFollow}
 use Rattle.consent.specs.Consents.{KeptConsents, FitsConsents}
 use Rattle.consent.specs.ConsentLaws.{fits_consents-push_other}
 use Rattle.consent.specs.History.{Event, Change as happening, Grant, event_at, grant_at, with_change, with_changes}
@@ -22,7 +22,7 @@ use Rattle.endpoints.specs.Making.{AllPlain, IsPlain, Makes, MakesConsents, Make
 use Rattle.endpoints.specs.Ruling.{CanMake}
 use Rattle.endpoints.specs.declared.ruling.Checked.{Checked}
 use Rattle.endpoints.specs.declared.ruling.Checked.TheVariants.{NoHook, Installs, Removes}
-use Rattle.endpoints.specs.Server.{Seen}
+use Rattle.endpoints.specs.Server.{SeenServer}
 use Rattle.endpoints.proofs.Ruled.{begins, same_some}
 use Rattle.endpoints.proofs.Stepping.{AllQuiet, IsQuiet, all_right-more, host_push, quiet_consents, quiet_host}
 
@@ -86,7 +86,7 @@ gone_consents kept c name same history m next alone is fits =
     subst (λ n. FitsConsents kept (with_changes history m n)) (sym meant) (fits_consents-push_other kept history (event_at m (told.HookGone name.now)) refl fits)
 
 -- changes of which not one stands alone
-pub many_consents : (kept : KeptConsents) (changes : Changes) → ((c : Change) → changes ≡ One c → ⊥) → MakesConsents kept (listed changes) kept
+pub many_consents : (kept : KeptConsents) (changes : Changes) → ((c : Change) → changes ≡ One c → ⊥) → MakesConsents kept (as_list changes) kept
 many_consents kept Nothing other = plain_consents kept [] tt
 many_consents kept (One c) other = absurd (other c refl)
 many_consents kept (Two a b) other = λ history m next alone. plain_consents kept (a ∷ b ∷ []) alone history m next alone
@@ -97,7 +97,7 @@ module _ {H : Type 0} (hosting : Hosting H) where
   plain_host host cs checked are first history m next alone can is run =
       quiet_host hosting.installs hosting.removes first host history m next (all_quiet history m cs next are is) run
 
-  pub many_host : (host : H) (changes : Changes) (checked : Checked H) → ((c : Change) → changes ≡ One c → ⊥) → MakesHost hosting host (listed changes) checked host
+  pub many_host : (host : H) (changes : Changes) (checked : Checked H) → ((c : Change) → changes ≡ One c → ⊥) → MakesHost hosting host (as_list changes) checked host
   many_host host Nothing checked other = plain_host host [] checked tt
   many_host host (One c) checked other = absurd (other c refl)
   many_host host (Two a b) checked other = λ first history m next alone. plain_host host (a ∷ b ∷ []) checked alone first history m next alone
@@ -143,7 +143,7 @@ module _ {H : Type 0} (hosting : Hosting H) where
       absurd (kept_on old name checked other (subst (λ c. CanMake hosting old c checked) same can))
 
   -- what is made beside the store and in it is made in the server
-  pub made : (old : Seen H) (host : H) (store : Held) (consents : KeptConsents) (unkept prepared : Option (List DatedFact)) (cs : List Change) (checked : Checked H) →
+  pub made : (old : SeenServer H) (host : H) (store : Held) (consents : KeptConsents) (unkept prepared : Option (List DatedFact)) (cs : List Change) (checked : Checked H) →
       MakesConsents old.consents cs consents → MakesHost hosting old.host cs checked host →
       ((history : List Event) (next : List happening) → FitsStore old.store history old.greatest → changes_of history old.greatest cs ≡ Some next →
       AllFollow history old.greatest next → FitsStore store (with_changes history old.greatest next) old.greatest) →

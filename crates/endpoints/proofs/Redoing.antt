@@ -17,9 +17,9 @@ use Rattle.token_store.specs.Found.{found_seen}
 use Rattle.token_store.specs.Kept.{Held}
 use Rattle.token_store.specs.declared.found.Found.{Found}
 use Rattle.endpoints.specs.Making.{IsSame, Makes}
-use Rattle.endpoints.specs.Redo.{Follows, IsOfHistory, Redoes, RefusesRedo, history_refusal, unless_known}
+use Rattle.endpoints.specs.Redo.{FollowsEach, IsOfHistory, RedoesChange, RefusesRedo, history_refusal, unless_known}
 use Rattle.endpoints.specs.Ruling.{CanMake}
-use Rattle.endpoints.specs.Server.{Seen}
+use Rattle.endpoints.specs.Server.{SeenServer}
 use Rattle.endpoints.specs.declared.redo.RedoFault.{RedoFault}
 use Rattle.endpoints.specs.declared.redo.RedoFault.TheVariants.{MomentBack, Unknown, Store, ConsentsFull, HookVersion, Hook, Memory}
 use Rattle.endpoints.specs.declared.ruling.Checked.{Checked}
@@ -94,7 +94,7 @@ none_left (Some x) never = absurd (never x refl)
 
 module _ {H : Type 0} (hosting : Hosting H) where
   -- the fault is that of each history
-  pub refused : (server : Seen H) (moment : ℕ) (change : Change) (fault : RedoFault) → server.greatest ≤ moment → IsOfHistory fault →
+  pub refused : (server : SeenServer H) (moment : ℕ) (change : Change) (fault : RedoFault) → server.greatest ≤ moment → IsOfHistory fault →
       ((history : List Event) → FitsStore server.store history moment → FitsConsents server.consents history → Some fault ≡ history_refusal history moment change) →
       RefusesRedo hosting server moment change fault
   refused server moment change MomentBack le own is = absurd own
@@ -109,22 +109,22 @@ module _ {H : Type 0} (hosting : Hosting H) where
   refused server moment change Memory le own is = absurd own
 
   -- no history has a fault
-  pub followed : (server : Seen H) (moment : ℕ) (change : Change) (found : Option RedoFault) → server.greatest ≤ moment → ((fault : RedoFault) → found ≡ Some fault → ⊥) →
+  pub followed : (server : SeenServer H) (moment : ℕ) (change : Change) (found : Option RedoFault) → server.greatest ≤ moment → ((fault : RedoFault) → found ≡ Some fault → ⊥) →
       ((history : List Event) → FitsStore server.store history moment → FitsConsents server.consents history → found ≡ history_refusal history moment change) →
-      Follows hosting server moment change
+      FollowsEach hosting server moment change
   followed server moment change found le none is rules first history m fits =
       sym (is history (fits_later server.store history m moment (omega (arith, le, fits.greatest_is)) fits.store) fits.consents) ∙ none_left found none
 
   -- nothing has changed
-  pub same_self : (server : Seen H) → IsSame hosting server server
+  pub same_self : (server : SeenServer H) → IsSame hosting server server
   same_self server = record { rules = refl; host = refl; greatest = refl; unkept = refl; fits = λ rules first history m fits. fits }
 
   -- room was made, time went on, the change was made, and what had expired was let go of
-  pub redone : (old mid applied : Seen H) (store : Held) (moment : ℕ) (change : Change) (changes : List Change) (checked : Checked H) → changes ≡ change ∷ [] →
-      old.greatest ≤ moment → Follows hosting old moment change → CanMake hosting old.host change checked → IsSame hosting old mid →
+  pub redone : (old mid applied : SeenServer H) (store : Held) (moment : ℕ) (change : Change) (changes : List Change) (checked : Checked H) → changes ≡ change ∷ [] →
+      old.greatest ≤ moment → FollowsEach hosting old moment change → CanMake hosting old.host change checked → IsSame hosting old mid →
       Makes hosting (record mid { greatest = moment }) changes checked applied →
       ((history : List Event) → FitsStore applied.store history moment → FitsStore store history moment) →
-      Redoes hosting old moment change (record applied { store = store })
+      RedoesChange hosting old moment change (record applied { store = store })
   redone old mid applied store moment change changes checked only le follows can same wide dropped rules first history m fits =
       let makes = subst (λ cs. Makes hosting (record mid { greatest = moment }) cs checked applied) only wide in
       let now = swept hosting mid rules first history m moment mid.store (omega (arith, le, fits.greatest_is)) (same.fits rules first history m fits) (λ f. f) in

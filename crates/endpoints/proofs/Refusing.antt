@@ -9,12 +9,12 @@ use Rattle.hook_host.specs.Faults.{hook_fault_text}
 use Rattle.messages.specs.Reply.{plain}
 use Rattle.messages.specs.Reply.Body.{HookRefused}
 use Rattle.answers.specs.Outcomes.{only}
-use Rattle.answers.specs.Scene.{Scene}
+use Rattle.answers.specs.Setting.{Setting}
 use Rattle.answers.specs.declared.halt.Halt.{Halt}
 use Rattle.answers.specs.declared.halt.Halt.TheVariants.{Refuse, NoMemory}
 use Rattle.endpoints.specs.Hosts.{IsHostFault}
 use Rattle.endpoints.specs.HookPaths.{by_fault}
-use Rattle.endpoints.specs.Ruling.{IsRefusal, RulesHooks}
+use Rattle.endpoints.specs.Ruling.{IsHookRefused, RulesHooks}
 use Rattle.endpoints.specs.declared.ruling.Ruling.{Ruling}
 
 fault_told : (change : Change) (fault : HookFault) → fault ≢ Memory → only (plain 400 (HookRefused (hook_fault_text fault))) ≡ by_fault change (Some fault)
@@ -27,8 +27,8 @@ fault_told change Unknown other = refl
 fault_told change Memory other = absurd (other refl)
 
 -- the host's own fault for the change that was asked for
-pub refused_rules : {H : Type 0} (hosting : Hosting H) (host : H) (s : Scene) (change : Option Change) (asked : Change) (fault : HookFault) (result : Result (Ruling H) Halt) →
-    change ≡ Some asked → IsHostFault hosting.refuses_install hosting.refuses_remove host (Some asked) (Some fault) → IsRefusal fault result → RulesHooks hosting host s change result
+pub refused_rules : {H : Type 0} (hosting : Hosting H) (host : H) (s : Setting) (change : Option Change) (asked : Change) (fault : HookFault) (result : Result (Ruling H) Halt) →
+    change ≡ Some asked → IsHostFault hosting.refuses_install hosting.refuses_remove host (Some asked) (Some fault) → IsHookRefused fault result → RulesHooks hosting host s change result
 refused_rules hosting host s change asked fault (Err (Refuse error)) is host_fault refusal = absurd refusal
 refused_rules hosting host s change asked fault (Err NoMemory) is host_fault refusal = tt
 refused_rules hosting host s change asked fault (Ok ruling) is host_fault refusal =

@@ -2,9 +2,9 @@
 use Rattle.std.proofs.Common.{◌≡◌, ◌≤◌, ◌⊎◌, inl, inr, ◌∙◌, ap, sym, subst, refl, ℕ, List, [], ◌∷◌, Bool, true, false, Option, Some, None, arith}
 use Rattle.std.specs.Prelude.{not, codes, Result, Ok, Err, IfOk, option_map, option_and_then}
 use Rattle.std.specs.Result.{result_ok}
-use Rattle.params.specs.Form.{read_params, value_of}
+use Rattle.params.specs.Form.{read_params, value_sent}
 use Rattle.clients.specs.RegistryRecord.{RegistryRecord}
-use Rattle.consent.specs.Changes.{change_of, changes_of, listed, AllFollow}
+use Rattle.consent.specs.Changes.{change_of, changes_of, as_list, AllFollow}
 use Rattle.consent.specs.History.{Event, with_change}
 use Rattle.consent.specs.History.{Change as happening}
 use Rattle.consent.specs.declared.change.Change.{Change}
@@ -20,8 +20,8 @@ use Rattle.answers.specs.Halts.{Halts}
 use Rattle.answers.specs.Outcomes.{Outcome, bare, need, point, refuse}
 use Rattle.answers.specs.Replies.{reply_of}
 use Rattle.answers.specs.Requesters.{Parameters, form_of}
-use Rattle.answers.specs.Scene.{Scene}
-use Rattle.answers.specs.Told.{told}
+use Rattle.answers.specs.Setting.{Setting}
+use Rattle.answers.specs.Told.{outcome_told}
 use Rattle.answers.specs.declared.decision.Decision.{Decision}
 use Rattle.answers.specs.declared.halt.Halt.{Halt}
 use Rattle.token_store.specs.FitsLaws.{store_history}
@@ -35,10 +35,10 @@ use Rattle.endpoints.specs.Bounded.{AllRightAfter}
 use Rattle.endpoints.specs.HookPaths.{by_fault, hook_change_at, hook_gone, hook_points, hook_set, hook_set_by, is_operator, version_asked, with_operator}
 use Rattle.endpoints.specs.Hosts.{IsHostFault}
 use Rattle.endpoints.specs.Making.{AllPlain, IsPlain, StandsAlone}
-use Rattle.endpoints.specs.Reading.{IsRead}
+use Rattle.endpoints.specs.Reading.{IsRequestRead}
 use Rattle.endpoints.specs.Ruling.{CanMake, CanMakeAll, CanTake, RulesHooks}
-use Rattle.endpoints.specs.Rulings.{Asking, FitsNow, IsAlone, IsRuled, IsRuling, asking_of, comes_to, scene_now}
-use Rattle.endpoints.specs.Server.{Seen}
+use Rattle.endpoints.specs.Rulings.{Asking, FitsNow, IsAlone, IsRuled, IsRuling, asking_of, comes_to, setting_now}
+use Rattle.endpoints.specs.Server.{SeenServer}
 use Rattle.endpoints.proofs.Fair.{IsConsent, IsFair, IsOneConsent, authorize_fair, consent_fair, introspect_fair, list_fair, revoke_fair}
 use Rattle.endpoints.proofs.ReadingOn.{points_of}
 use Rattle.endpoints.proofs.SoundToken.{issue_token_sound}
@@ -147,16 +147,16 @@ module _ {H : Type 0} (hosting : Hosting H) where
       by_tame first same (inl quiet) = inl ((subst AllQuiet same quiet).0)
       by_tame first same (inr one) = inr (subst IsOneConsent same one)
 
-  pub told_changes : (s : Scene) (d : Decision) (o : Outcome) → told s d ≡ Some o → changes_of s.history s.moment (listed d.changes) ≡ Some o.changes
-  told_changes s d o is = by_changes (changes_of s.history s.moment (listed d.changes)) is
+  pub told_changes : (s : Setting) (d : Decision) (o : Outcome) → outcome_told s d ≡ Some o → changes_of s.history s.moment (as_list d.changes) ≡ Some o.changes
+  told_changes s d o is = by_changes (changes_of s.history s.moment (as_list d.changes)) is
     where
       by_changes : (changes : Option (List happening)) →
           option_map (λ changes. record { reply = reply_of s.rules s.names d.answer; changes = changes }) changes ≡ Some o → changes ≡ Some o.changes
       by_changes None h = absurd (cc)
       by_changes (Some changes) h = ap (λ (o : Outcome). Some o.changes) (same_some _ o h)
 
-  pub told_reply : (s : Scene) (d : Decision) (o : Outcome) → told s d ≡ Some o → o.reply ≡ reply_of s.rules s.names d.answer
-  told_reply s d o is = by_changes (changes_of s.history s.moment (listed d.changes)) is
+  pub told_reply : (s : Setting) (d : Decision) (o : Outcome) → outcome_told s d ≡ Some o → o.reply ≡ reply_of s.rules s.names d.answer
+  told_reply s d o is = by_changes (changes_of s.history s.moment (as_list d.changes)) is
     where
       by_changes : (changes : Option (List happening)) →
           option_map (λ changes. record { reply = reply_of s.rules s.names d.answer; changes = changes }) changes ≡ Some o → o.reply ≡ reply_of s.rules s.names d.answer
@@ -164,24 +164,24 @@ module _ {H : Type 0} (hosting : Hosting H) where
       by_changes (Some changes) h = ap (λ (o : Outcome). o.reply) (sym (same_some _ o h))
 
   -- an outcome without a change of the hooks
-  pub alone_ruling : (server : Seen H) (history : List Event) (asking : Asking) (d : Decision) →
+  pub alone_ruling : (server : SeenServer H) (history : List Event) (asking : Asking) (d : Decision) →
       IsFair server.rules history server.greatest (comes_to hosting server history asking None) →
-      told (scene_now hosting server history asking.draws) d ≡ Some (comes_to hosting server history asking None) →
+      outcome_told (setting_now hosting server history asking.draws) d ≡ Some (comes_to hosting server history asking None) →
       IsRuling hosting server history asking (record { decision = d; checked = NoHook })
   alone_ruling server history asking d fair is =
-      let changes = told_changes (scene_now hosting server history asking.draws) d (comes_to hosting server history asking None) is in
+      let changes = told_changes (setting_now hosting server history asking.draws) d (comes_to hosting server history asking None) is in
       record {
         fault = None;
         host_has = tt;
         told_is = is;
         follow = fair.follow;
         right = fair.right;
-        alone = tame_alone history server.greatest (listed d.changes) _ changes fair.tame;
-        hooks = made_all server.host history server.greatest (listed d.changes) _ changes fair.tame;
+        alone = tame_alone history server.greatest (as_list d.changes) _ changes fair.tame;
+        hooks = made_all server.host history server.greatest (as_list d.changes) _ changes fair.tame;
       }
 
   -- each endpoint's is fair that changes no hooks
-  pub alone_fair : (server : Seen H) (first : H) (history : List Event) (asked : Asked) (what : Reading) (draws : Draws) → IsAlone what →
+  pub alone_fair : (server : SeenServer H) (first : H) (history : List Event) (asked : Asked) (what : Reading) (draws : Draws) → IsAlone what →
       FitsNow hosting server first history → IsFair server.rules history server.greatest (comes_to hosting server history (asking_of asked what draws) None)
   alone_fair server first history asked (reading.Authorize params) draws alone fits =
       authorize_fair server.rules history server.greatest (store_history server.store history server.greatest fits.store) asked draws.first
@@ -306,7 +306,7 @@ one_change None fault each = tt
 one_change (Some change) fault each = one_by_fault change fault (each change refl)
 
 set_is : (params : Parameters) (code : List ℕ) (c : happening) → hook_set_by params code ≡ Some c → IsHooks c
-set_is params code c is = by_name (value_of (codes "name") params) is
+set_is params code c is = by_name (value_sent (codes "name") params) is
   where
     by_version : (name : List ℕ) (o : Option ℕ) → option_map (λ version. happening.HookSet name version code) o ≡ Some c → IsHooks c
     by_version name None h = absurd (cc)
@@ -314,41 +314,41 @@ set_is params code c is = by_name (value_of (codes "name") params) is
 
     by_name : (o : Option (List ℕ)) → option_and_then (hook_set params code) o ≡ Some c → IsHooks c
     by_name None h = absurd (cc)
-    by_name (Some name) h = by_version name (version_asked (value_of (codes "record") params)) h
+    by_name (Some name) h = by_version name (version_asked (value_sent (codes "record") params)) h
 
 gone_is : (params : Parameters) (c : happening) → hook_gone params ≡ Some c → IsHooks c
-gone_is params c is = by_name (value_of (codes "name") params) is
+gone_is params c is = by_name (value_sent (codes "name") params) is
   where
     by_name : (o : Option (List ℕ)) → option_map happening.HookGone o ≡ Some c → IsHooks c
     by_name None h = absurd (cc)
     by_name (Some name) h = subst IsHooks (same_some _ c h) tt
 
-module _ {H : Type 0} (hosting : Hosting H) (server : Seen H) (history : List Event) (asking : Asking) (change : Option happening) where
+module _ {H : Type 0} (hosting : Hosting H) (server : SeenServer H) (history : List Event) (asking : Asking) (change : Option happening) where
   hooks_ruled : (result : Result (Ruling H) Halt) → ((fault : Option HookFault) → comes_to hosting server history asking fault ≡ hook_points change fault) →
       hook_change_at asking.endpoint asking.asked ≡ change → ((c : happening) → change ≡ Some c → IsHooks c) →
-      RulesHooks hosting server.host (scene_now hosting server history asking.draws) change result → IsRuled hosting server history asking result
+      RulesHooks hosting server.host (setting_now hosting server history asking.draws) change result → IsRuled hosting server history asking result
   hooks_ruled (Err halt) points same each rules = subst (λ o. Halts halt o) (sym (points None)) rules
   hooks_ruled (Ok ruling) points same each rules =
       let fault = rules.0 in
-      let told_is : told (scene_now hosting server history asking.draws) ruling.decision ≡ Some (comes_to hosting server history asking fault) =
+      let told_is : outcome_told (setting_now hosting server history asking.draws) ruling.decision ≡ Some (comes_to hosting server history asking fault) =
       rules.2 ∙ ap Some (sym (points fault)) in
       let one : IsOneOfHooks (comes_to hosting server history asking fault).changes =
       subst (λ (o : Outcome). IsOneOfHooks o.changes) (sym (points fault)) (one_change change fault each) in
-      let changes = told_changes hosting (scene_now hosting server history asking.draws) ruling.decision (comes_to hosting server history asking fault) told_is in
+      let changes = told_changes hosting (setting_now hosting server history asking.draws) ruling.decision (comes_to hosting server history asking fault) told_is in
       record {
         fault = fault;
         host_has = subst (λ c. IsHostFault hosting.refuses_install hosting.refuses_remove server.host c fault) (sym same) rules.1;
         told_is = told_is;
         follow = one_follows history server.greatest _ one;
         right = one_right server.rules history server.greatest _ one;
-        alone = few_alone history server.greatest (listed ruling.decision.changes) _ changes (one_few _ one);
+        alone = few_alone history server.greatest (as_list ruling.decision.changes) _ changes (one_few _ one);
         hooks = rules.3;
       }
 
-module _ {H : Type 0} (hosting : Hosting H) (server : Seen H) (history : List Event) (asked : Asked) (params : Parameters) (draws : Draws) where
+module _ {H : Type 0} (hosting : Hosting H) (server : SeenServer H) (history : List Event) (asked : Asked) (params : Parameters) (draws : Draws) where
   -- a hook that the parameters ask for
-  pub install_ruled : (result : Result (Ruling H) Halt) → IsRead server.rules asked (reading.InstallHook params) →
-      RulesHooks hosting server.host (scene_now hosting server history draws) (hook_set_by params asked.body) result →
+  pub install_ruled : (result : Result (Ruling H) Halt) → IsRequestRead server.rules asked (reading.InstallHook params) →
+      RulesHooks hosting server.host (setting_now hosting server history draws) (hook_set_by params asked.body) result →
       IsRuled hosting server history (asking_of asked (reading.InstallHook params) draws) result
   install_ruled result leads rules =
       hooks_ruled hosting server history (asking_of asked (reading.InstallHook params) draws) (hook_set_by params asked.body) result
@@ -358,8 +358,8 @@ module _ {H : Type 0} (hosting : Hosting H) (server : Seen H) (history : List Ev
       (set_is params asked.body) rules
 
   -- and one that they take away
-  pub remove_ruled : (result : Result (Ruling H) Halt) → IsRead server.rules asked (reading.RemoveHook params) →
-      RulesHooks hosting server.host (scene_now hosting server history draws) (hook_gone params) result →
+  pub remove_ruled : (result : Result (Ruling H) Halt) → IsRequestRead server.rules asked (reading.RemoveHook params) →
+      RulesHooks hosting server.host (setting_now hosting server history draws) (hook_gone params) result →
       IsRuled hosting server history (asking_of asked (reading.RemoveHook params) draws) result
   remove_ruled result leads rules =
       hooks_ruled hosting server history (asking_of asked (reading.RemoveHook params) draws) (hook_gone params) result
@@ -374,7 +374,7 @@ module _ {H : Type 0} (hosting : Hosting H) (host : H) where
   can_take cs Removes can = can
 
   -- what is taken with a ruling was checked
-  pub if_can_take : (s : Scene) (change : Option happening) (result : Result (Ruling H) Halt) → RulesHooks hosting host s change result →
-      IfOk result (λ ruling. CanTake hosting host (listed ruling.decision.changes) ruling.checked)
-  if_can_take s change (Ok ruling) rules = can_take (listed ruling.decision.changes) ruling.checked rules.3
+  pub if_can_take : (s : Setting) (change : Option happening) (result : Result (Ruling H) Halt) → RulesHooks hosting host s change result →
+      IfOk result (λ ruling. CanTake hosting host (as_list ruling.decision.changes) ruling.checked)
+  if_can_take s change (Ok ruling) rules = can_take (as_list ruling.decision.changes) ruling.checked rules.3
   if_can_take s change (Err halt) rules = tt

@@ -12,9 +12,9 @@ use Rattle.messages.specs.Reply.{Reply, plain}
 use Rattle.messages.specs.Reply.Body.{Failure}
 use Rattle.messages.specs.declared.error.ErrorName.{ErrorName}
 use Rattle.messages.specs.declared.error.ErrorName.TheVariants.{InvalidRequest, InvalidGrant, InvalidScope}
-use Rattle.params.specs.Form.{value_of}
+use Rattle.params.specs.Form.{value_sent}
 use Rattle.token_endpoint.specs.Exchange.{ends_family}
-use Rattle.endpoints.specs.Bounded.{IsRight, AllRight, IsOfCode, IsOwn, MayHave, allowed_to}
+use Rattle.endpoints.specs.Bounded.{IsRightChange, AllRight, IsOfCode, IsOwn, MayHave, allowed_to}
 use Rattle.endpoints.specs.BoundedLaws.{own-later}
 use Rattle.consent.specs.declared.grant.Kind.{Kind}
 use Rattle.consent.specs.declared.grant.Kind.TheVariants.{Code, Token}
@@ -31,9 +31,9 @@ use Rattle.messages.specs.declared.request.Draws.{Draws}
 use Rattle.answers.specs.Requesters.{Parameters, KnownClient, scope_asked, scope_within}
 use Rattle.answers.specs.Texts.{where_passes, digest_told}
 use Rattle.answers.specs.Tokens.{is_own, refresh_of_client}
-use Rattle.token_endpoint.specs.Grants.{left_of, access_issued, refresh_issued, both_digests}
+use Rattle.token_endpoint.specs.Grants.{left_by_host, access_issued, refresh_issued, both_digests}
 use Rattle.answers.specs.Replies.{both_reply}
-use Rattle.token_endpoint.specs.Refresh.{rotated, refreshed, refresh, refresh_ask, checked, token_points, use_points}
+use Rattle.token_endpoint.specs.Refresh.{rotated, refreshed, refresh, refresh_ask, refresh_checked, refresh_points, use_points}
 use Rattle.endpoints.specs.Bounded.{AllRightAfter}
 use Rattle.endpoints.proofs.Stepping.{AllQuiet}
 
@@ -57,10 +57,10 @@ sound_need rules history m (Some x) without later a z = z x refl
 
 -- an event in the history was right when it happened
 pub all_right-at : (rules : RegistryRecord) (start before later : List Event) (e : Event) → AllRight rules start (before ++ e ∷ later) →
-    IsRight rules (start ++ before) e.change
-all_right-at rules start [] later e all = subst (λ h. IsRight rules h e.change) (sym (append-nil start)) all.0
+    IsRightChange rules (start ++ before) e.change
+all_right-at rules start [] later e all = subst (λ h. IsRightChange rules h e.change) (sym (append-nil start)) all.0
 all_right-at rules start (x ∷ before) later e all =
-    subst (λ h. IsRight rules h e.change) (append_assoc start (x ∷ []) before) (all_right-at rules (start ++ x ∷ []) before later e all.1)
+    subst (λ h. IsRightChange rules h e.change) (append_assoc start (x ∷ []) before) (all_right-at rules (start ++ x ∷ []) before later e all.1)
 
 -- a client that may have a scope may have less
 pub may_have-less : (rules : RegistryRecord) (client scope less : ℕ) → MayHave rules client scope → is_within less scope ≡ true → MayHave rules client less
@@ -77,7 +77,7 @@ pub same_grant : (x g : Grant) → Some x ≡ Some g → x ≡ g
 same_grant x g e = cc
 
 right_change : (rules : RegistryRecord) (before later : List Event) (e : Event) (moment : ℕ) (c : Change) (g : Grant) →
-    e.change ≡ c → grant_by moment c ≡ Some g → IsRight rules before c → is_code g.kind ≡ false → IsRightToken rules (before ++ e ∷ later) g
+    e.change ≡ c → grant_by moment c ≡ Some g → IsRightChange rules before c → is_code g.kind ≡ false → IsRightToken rules (before ++ e ∷ later) g
 right_change rules before later e moment (Consented owner client mask) g is at right token = cc
 right_change rules before later e moment (Spent digest) g is at right token = cc
 right_change rules before later e moment (FamilyEnded family) g is at right token = cc
@@ -196,13 +196,13 @@ scope_is_within rules limit params scope is = by_asked (scope_asked rules limit 
 pub refresh_sound : (rules : RegistryRecord) (history : List Event) (answer : Ask → Narrowed) (m : ℕ) (draws : Draws) (params : Parameters) (known : KnownClient) →
     AllRight rules [] history → IsSound rules history m (refresh rules history answer m draws params known)
 refresh_sound rules history answer m draws params known all =
-    sound_need {A = List ℕ} rules history m (value_of (codes "refresh_token") params) (refuse InvalidRequest)
-    (λ text. need (digest_told text) (refuse InvalidGrant) (λ digest. token_points history m known.number digest (uses digest)))
+    sound_need {A = List ℕ} rules history m (value_sent (codes "refresh_token") params) (refuse InvalidRequest)
+    (λ text. need (digest_told text) (refuse InvalidGrant) (λ digest. refresh_points history m known.number digest (uses digest)))
     (refused InvalidRequest) (λ text _.
     sound_need {A = List ℕ} rules history m (digest_told text) (refuse InvalidGrant)
-    (λ digest. token_points history m known.number digest (uses digest)) (refused InvalidGrant) (λ digest _.
+    (λ digest. refresh_points history m known.number digest (uses digest)) (refused InvalidGrant) (λ digest _.
     sound_need {A = Grant} rules history m (refresh_of_client history m known.number digest) (refuse InvalidGrant)
-    (checked history m digest (uses digest)) (refused InvalidGrant) (λ token found.
+    (refresh_checked history m digest (uses digest)) (refused InvalidGrant) (λ token found.
     let both = passes (is_own is_refresh known.number) (grant_at history digest m) token found in
     let own = and_parts (is_refresh token.kind) (token.client == known.number) both.1 in
     let right = right_token rules history digest m token all both.0 (refresh_no_code token.kind own.0) in
@@ -218,7 +218,7 @@ refresh_sound rules history answer m draws params known all =
     uses digest token = use_points rules history answer m draws params known.client digest token
 
     next : List ℕ → Grant → ℕ → Outcome
-    next digest token scope = refreshed rules history m draws digest token (left_of answer (refresh_ask rules history m known.client token scope))
+    next digest token scope = refreshed rules history m draws digest token (left_by_host answer (refresh_ask rules history m known.client token scope))
 
     refused : (error : ErrorName) → IsSound rules history m (refuse error)
     refused error = still rules history m (plain (status_of error) (Failure error))

@@ -19,7 +19,7 @@ use Rattle.hook_record.specs.declared.Narrowed.TheVariants.{Allowed, Denied, Emp
 use Rattle.hook_host.specs.Decisions.{met_with}
 use Rattle.hook_host.specs.DecisionLaws.{met_with_narrows}
 use Rattle.messages.specs.declared.request.Draws.{Draws}
-use Rattle.endpoints.specs.Bounded.{IsRight, AllRight, MayHave, allowed_to, is_of_code}
+use Rattle.endpoints.specs.Bounded.{IsRightChange, AllRight, MayHave, allowed_to, is_of_code}
 use Rattle.token_endpoint.specs.Grants.{access_issued, refresh_issued, both_digests}
 use Rattle.answers.specs.Replies.{access_reply, both_reply}
 use Rattle.token_endpoint.specs.Exchange.{exchanged_for}
@@ -27,7 +27,7 @@ use Rattle.token_endpoint.specs.ClientCredentials.{granted}
 use Rattle.endpoints.proofs.Sound.{IsSound, still, unless_sound, all_right-at, may_have-less, same_grant}
 
 code_change : (rules : RegistryRecord) (before : List Event) (moment : ℕ) (c : Change) (g : Grant) →
-    grant_by moment c ≡ Some g → IsRight rules before c → g.kind ≡ Code → MayHave rules g.client g.scope
+    grant_by moment c ≡ Some g → IsRightChange rules before c → g.kind ≡ Code → MayHave rules g.client g.scope
 code_change rules before moment (Consented owner client mask) g at right code = cc
 code_change rules before moment (Spent digest) g at right code = cc
 code_change rules before moment (FamilyEnded family) g at right code = cc

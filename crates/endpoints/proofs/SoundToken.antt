@@ -2,7 +2,7 @@
 use Rattle.std.proofs.Common.{◌≡◌, ℕ, List, [], true, false, Some, bit_and, refl, sym, ap, ◌∙◌, arith}
 use Rattle.std.specs.Prelude.{◌==◌, not, codes, bytes_eq}
 use Rattle.std.proofs.lemmas.Bool.{eq-eqb, and_parts}
-use Rattle.params.specs.Form.{value_of}
+use Rattle.params.specs.Form.{value_sent}
 use Rattle.clients.specs.RegistryRecord.{RegistryRecord}
 use Rattle.clients.specs.ClientRecord.{ClientRecord}
 use Rattle.clients.specs.Clients.{client_at}
@@ -30,8 +30,8 @@ use Rattle.answers.specs.Requesters.{Parameters, KnownClient, scope_within}
 use Rattle.pkce.specs.Proof.{proves}
 use Rattle.answers.specs.Texts.{digest_told}
 use Rattle.answers.specs.Tokens.{code_of_client, is_own}
-use Rattle.token_endpoint.specs.Grants.{left_of}
-use Rattle.token_endpoint.specs.Exchange.{exchange, exchange_code, exchange_ask, exchanged, checked, code_points, ends_family}
+use Rattle.token_endpoint.specs.Grants.{left_by_host}
+use Rattle.token_endpoint.specs.Exchange.{exchange, exchange_code, exchange_ask, exchanged, code_checked, code_points, ends_family}
 use Rattle.token_endpoint.specs.ClientCredentials.{client_credentials, granted, credentials_ask}
 use Rattle.token_endpoint.specs.TokenPath.{grant_points, token_points, issue_token}
 use Rattle.endpoints.proofs.Points.{authenticated_all}
@@ -62,17 +62,17 @@ module _ (rules : RegistryRecord) (history : List Event) (m : ℕ) where
   exchange_sound : (answer : Ask → Narrowed) (draws : Draws) (params : Parameters) (known : KnownClient) →
       IsHistory history m → AllRight rules [] history → IsSound rules history m (exchange rules history answer m draws params known)
   exchange_sound answer draws params known is all =
-      sound_need {A = List ℕ} rules history m (value_of (codes "code") params) (refuse InvalidRequest)
-      (λ text. need (value_of (codes "redirect_uri") params) (refuse InvalidRequest) (λ uri. need (value_of (codes "code_verifier") params) (refuse InvalidRequest) (λ verifier. last text uri verifier)))
+      sound_need {A = List ℕ} rules history m (value_sent (codes "code") params) (refuse InvalidRequest)
+      (λ text. need (value_sent (codes "redirect_uri") params) (refuse InvalidRequest) (λ uri. need (value_sent (codes "code_verifier") params) (refuse InvalidRequest) (λ verifier. last text uri verifier)))
       (error_sound InvalidRequest) (λ text _.
-      sound_need {A = List ℕ} rules history m (value_of (codes "redirect_uri") params) (refuse InvalidRequest)
-      (λ uri. need (value_of (codes "code_verifier") params) (refuse InvalidRequest) (λ verifier. last text uri verifier)) (error_sound InvalidRequest) (λ uri _.
-      sound_need {A = List ℕ} rules history m (value_of (codes "code_verifier") params) (refuse InvalidRequest)
+      sound_need {A = List ℕ} rules history m (value_sent (codes "redirect_uri") params) (refuse InvalidRequest)
+      (λ uri. need (value_sent (codes "code_verifier") params) (refuse InvalidRequest) (λ verifier. last text uri verifier)) (error_sound InvalidRequest) (λ uri _.
+      sound_need {A = List ℕ} rules history m (value_sent (codes "code_verifier") params) (refuse InvalidRequest)
       (λ verifier. last text uri verifier) (error_sound InvalidRequest) (λ verifier _.
       sound_need {A = List ℕ} rules history m (digest_told text) (refuse InvalidGrant)
       (λ digest. code_points history m known.number uri verifier digest (next digest)) (error_sound InvalidGrant) (λ digest _.
       sound_need {A = Grant} rules history m (code_of_client history m known.number digest) (refuse InvalidGrant)
-      (checked history m uri verifier digest (next digest)) (error_sound InvalidGrant) (λ code found.
+      (code_checked history m uri verifier digest (next digest)) (error_sound InvalidGrant) (λ code found.
       let both = passes (is_own is_code known.number) (grant_at history digest m) code found in
       let own = and_parts (is_code code.kind) (code.client == known.number) both.1 in
       let allowed = right_code rules history digest m code all both.0 (code_kind code.kind own.0) in
@@ -106,7 +106,7 @@ module _ (rules : RegistryRecord) (history : List Event) (m : ℕ) where
       (scope_is_within rules known.client.allowed params scope within))
     where
       next : ℕ → Outcome
-      next scope = granted rules history m draws known.number (left_of answer (credentials_ask rules m known scope))
+      next scope = granted rules history m draws known.number (left_by_host answer (credentials_ask rules m known scope))
 
   grant_sound : (grant : GrantType) (answer : Ask → Narrowed) (draws : Draws) (params : Parameters) (known : KnownClient) →
       IsHistory history m → AllRight rules [] history → client_at known.number rules.clients ≡ Some known.client →
@@ -119,7 +119,7 @@ module _ (rules : RegistryRecord) (history : List Event) (m : ℕ) where
       IsHistory history m → AllRight rules [] history → client_at known.number rules.clients ≡ Some known.client →
       IsSound rules history m (token_points rules history answer m draws params known)
   points_sound answer draws params known is all at =
-      sound_need {A = List ℕ} rules history m (value_of (codes "grant_type") params) (refuse InvalidRequest)
+      sound_need {A = List ℕ} rules history m (value_sent (codes "grant_type") params) (refuse InvalidRequest)
       (λ name. need (grant_named name) (refuse UnsupportedGrantType) (λ grant. point (not (has_grant grant known.client.grants)) (refuse UnauthorizedClient) (next grant)))
       (error_sound InvalidRequest) (λ name _.
       sound_need {A = GrantType} rules history m (grant_named name) (refuse UnsupportedGrantType)

@@ -9,7 +9,7 @@ use Rattle.consent.specs.GrowthLaws.{with_changes-cons}
 use Rattle.consent.specs.Consents.{KeptConsents, FitsConsents}
 use Rattle.consent.specs.ConsentLaws.{fits_consents-push_other}
 use Rattle.endpoints.specs.Hosts.{HostStep, HostRun}
-use Rattle.endpoints.specs.Bounded.{IsRight, AllRight, AllRightAfter}
+use Rattle.endpoints.specs.Bounded.{IsRightChange, AllRight, AllRightAfter}
 
 -- the change is no consent and no hook's
 abbrev pub IsQuiet : Change → Type 0
@@ -65,10 +65,10 @@ module _ {H : Type 0} (installs : H → List ℕ → Layout → List ℕ → H �
       (quiet_host first host (with_change history m c) m cs q.1 (host_push first host host history (event_at m c) run (quiet_step host c q.0)))
 
 all_right-push : (rules : RegistryRecord) (before history : List Event) (e : Event) → AllRight rules before history →
-    IsRight rules (before ++ history) e.change → AllRight rules before (history ++ e ∷ [])
-all_right-push rules before [] e all right = (subst (λ h. IsRight rules h e.change) (append-nil before) right, tt)
+    IsRightChange rules (before ++ history) e.change → AllRight rules before (history ++ e ∷ [])
+all_right-push rules before [] e all right = (subst (λ h. IsRightChange rules h e.change) (append-nil before) right, tt)
 all_right-push rules before (x ∷ later) e all right =
-    (all.0, all_right-push rules (before ++ x ∷ []) later e all.1 (subst (λ h. IsRight rules h e.change) (sym (append_assoc before (x ∷ []) later)) right))
+    (all.0, all_right-push rules (before ++ x ∷ []) later e all.1 (subst (λ h. IsRightChange rules h e.change) (sym (append_assoc before (x ∷ []) later)) right))
 
 pub all_right-more : (rules : RegistryRecord) (history : List Event) (m : ℕ) (changes : List Change) → AllRight rules [] history →
     AllRightAfter rules history m changes → AllRight rules [] (with_changes history m changes)

@@ -7,15 +7,15 @@ use Rattle.messages.specs.Written.{Written}
 use Rattle.token_store.specs.Fits.{FitsStore}
 use Rattle.token_store.specs.Kept.{Held}
 use Rattle.endpoints.specs.BoundedLaws.{tokens_keep_their_bounds}
-use Rattle.endpoints.specs.Server.{Seen, FitsServer}
+use Rattle.endpoints.specs.Server.{SeenServer, FitsServer}
 use Rattle.endpoints.specs.Steps.{Arrival, IsSwept, KeepsBounds, Steps, Sweeps}
 use Rattle.endpoints.proofs.Answering.{swept_step}
 
 module _ {H : Type 0} (hosting : Hosting H) where
-  pub bounded : (server : Seen H) → KeepsBounds hosting server
+  pub bounded : (server : SeenServer H) → KeepsBounds hosting server
   bounded server rules first history m fits = tokens_keep_their_bounds rules history m fits.store.fits.is_history fits.right
 
-  pub swept_steps : (old mid : Seen H) (kept : Held) (arrival : Arrival) (reply : Written) →
+  pub swept_steps : (old mid : SeenServer H) (kept : Held) (arrival : Arrival) (reply : Written) →
       ((history : List Event) → FitsStore mid.store history mid.greatest → FitsStore kept history mid.greatest) →
       Steps hosting old arrival reply mid → Steps hosting old arrival reply (record mid { store = kept })
   swept_steps old mid kept arrival reply dropped steps rules first history m fits =
@@ -23,7 +23,7 @@ module _ {H : Type 0} (hosting : Hosting H) where
       (s.0, s.1, s.2, swept_step hosting old mid kept _ reply rules first history (max m arrival.moment) dropped s.3)
 
   -- what is kept is as much as is unexpired of one history, and so of each
-  swept_each : (mid : Seen H) (kept : Held) (rules : RegistryRecord) (first : H) (after : List Event) (n : ℕ) →
+  swept_each : (mid : SeenServer H) (kept : Held) (rules : RegistryRecord) (first : H) (after : List Event) (n : ℕ) →
       ((history : List Event) → FitsStore mid.store history mid.greatest → FitsStore kept history mid.greatest) →
       ((history : List Event) → FitsStore mid.store history mid.greatest → length kept.kept ≡ unexpired_count history mid.greatest) →
       FitsServer hosting.installs hosting.removes mid rules first after n → IsSwept hosting (record mid { store = kept })
@@ -34,7 +34,7 @@ module _ {H : Type 0} (hosting : Hosting H) where
       few after there ∙ sym (here.fits.count mid.greatest (omega arith)) ∙ other.fits.count mid.greatest (omega arith)
       ∙ ap (unexpired_count history) fits'.greatest_is
 
-  pub sweeps : (old mid : Seen H) (kept : Held) (arrival : Arrival) (reply : Written) →
+  pub sweeps : (old mid : SeenServer H) (kept : Held) (arrival : Arrival) (reply : Written) →
       ((history : List Event) → FitsStore mid.store history mid.greatest → FitsStore kept history mid.greatest) →
       ((history : List Event) → FitsStore mid.store history mid.greatest → length kept.kept ≡ unexpired_count history mid.greatest) →
       Steps hosting old arrival reply mid → Sweeps hosting old (record mid { store = kept })

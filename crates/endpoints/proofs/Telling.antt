@@ -18,8 +18,8 @@ use Rattle.messages.specs.declared.error.ErrorName.TheVariants.{InvalidGrant}
 use Rattle.answers.specs.Halts.{Halts}
 use Rattle.answers.specs.Outcomes.{Outcome, only, refuse, unavailable}
 use Rattle.answers.specs.Replies.{id_of}
-use Rattle.answers.specs.Scene.{Scene}
-use Rattle.answers.specs.Told.{told}
+use Rattle.answers.specs.Setting.{Setting}
+use Rattle.answers.specs.Told.{outcome_told}
 use Rattle.answers.specs.Texts.{where_passes}
 use Rattle.answers.specs.declared.answer.Answer.TheVariants as answer
 use Rattle.answers.specs.declared.halt.Halt.{Halt}
@@ -83,14 +83,14 @@ other_refused number g other = by_test (g.client == number) refl
 
 -- what is told of a live token
 pub active_told : (rules : RegistryRecord) (g : Grant) (kind : TokenKind) (issued expires : ℕ) → g.kind ≡ Token kind → issued ≡ g.moment → expires ≡ g.moment + g.life →
-    introspection.told rules (Some g) ≡ only (plain 200 (Active (id_of rules g.client) expires issued (scope_text rules.scopes g.scope) (sub_of g.owner rules.owners) kind))
+    introspection.token_told rules (Some g) ≡ only (plain 200 (Active (id_of rules g.client) expires issued (scope_text rules.scopes g.scope) (sub_of g.owner rules.owners) kind))
 active_told rules g kind issued expires is_kind is_issued is_expires = rw (is_kind, is_issued, is_expires) refl
 
 no_token : (k : Kind) → ((t : TokenKind) → k ≡ Token t → ⊥) → k ≡ Code
 no_token Code other = refl
 no_token (Token t) other = absurd (other t refl)
 
-pub code_told : (rules : RegistryRecord) (g : Grant) → ((t : TokenKind) → g.kind ≡ Token t → ⊥) → introspection.told rules (Some g) ≡ only (plain 200 Inactive)
+pub code_told : (rules : RegistryRecord) (g : Grant) → ((t : TokenKind) → g.kind ≡ Token t → ⊥) → introspection.token_told rules (Some g) ≡ only (plain 200 Inactive)
 code_told rules g other = rw (no_token g.kind other) refl
 
 not_false : (b : Bool) → not b ≡ false → b ≡ true
@@ -103,8 +103,8 @@ differs b n k is true_is same = let e = eq-eqb n k same in false≢true (sym (is
 pub agrees : (b : Bool) (n k : ℕ) → b ≡ not (n == k) → b ≡ false → n ≡ k
 agrees b n k is false_is = eqb-true n k (not_false (n == k) (sym is ∙ false_is))
 
-pub revoked_told : (s : Scene) (digest : List ℕ) (g : Grant) → grant_at s.history digest s.moment ≡ Some g →
-    told s (record { answer = answer.Done; changes = One (change.FamilyEnded digest) })
+pub revoked_told : (s : Setting) (digest : List ℕ) (g : Grant) → grant_at s.history digest s.moment ≡ Some g →
+    outcome_told s (record { answer = answer.Done; changes = One (change.FamilyEnded digest) })
     ≡ Some (record { reply = plain 200 Empty; changes = FamilyEnded g.family ∷ [] })
 revoked_told s digest g at = rw at refl
 
@@ -114,8 +114,8 @@ module _ (rules : RegistryRecord) (history : List Event) (m : ℕ) (asked : Aske
   abbrev Presented : Type 0
   Presented = (next : ℕ → Option (List ℕ) → Outcome) → with_presented rules asked next ≡ next number digest
 
-  pub introspected : Presented → live_of history m digest ≡ live → introspection.introspect rules history asked m ≡ introspection.told rules live
-  introspected leads is = leads (λ _ d. introspection.told rules (live_of history m d)) ∙ ap (introspection.told rules) is
+  pub introspected : Presented → live_of history m digest ≡ live → introspection.introspect rules history asked m ≡ introspection.token_told rules live
+  introspected leads is = leads (λ _ d. introspection.token_told rules (live_of history m d)) ∙ ap (introspection.token_told rules) is
 
   pub revoked_as : Presented → live_of history m digest ≡ live → revocation.revoke_token rules history asked m ≡ revoked number live
   revoked_as leads is = leads (λ n d. revoked n (live_of history m d)) ∙ ap (revoked number) is

@@ -4,7 +4,7 @@ use Rattle.std.specs.Result.{result_ok}
 use Rattle.sha2.specs.Sha256.{sha256}
 use Rattle.pkce.specs.Proof.{is_challenge}
 use Rattle.pkce.specs.Token.{token_text}
-use Rattle.params.specs.Form.{read_params, value_of}
+use Rattle.params.specs.Form.{read_params, value_sent}
 use Rattle.clients.specs.RegistryRecord.{RegistryRecord}
 use Rattle.clients.specs.Clients.{has_redirect}
 use Rattle.clients.specs.Grants.{has_grant}
@@ -18,34 +18,35 @@ use Rattle.messages.specs.declared.error.ErrorName.TheVariants.{InvalidRequest, 
 use Rattle.messages.specs.Reply.{sent_back}
 use Rattle.messages.specs.Written.{error_text}
 use Rattle.answers.specs.Outcomes.{Outcome, point, need, only, refuse, unless_taken}
-use Rattle.answers.specs.Requesters.{Parameters, KnownClient, client_named, owner_of, scope_within}
+use Rattle.answers.specs.Requesters.{Parameters, KnownClient, client_named, owner_of_key, scope_within}
 use Rattle.answers.specs.Short.{state_limit}
 use Rattle.answers.specs.Texts.{where_passes}
 
 -- the state, if it was sent
-abbrev pub state_of : Parameters → Option (List ℕ)
-state_of params = value_of (codes "state") params
+abbrev pub state_sent : Parameters → Option (List ℕ)
+state_sent params = value_sent (codes "state") params
 
 -- what is sent back as the state is short
 abbrev pub HasShortState : Parameters → Type 0
-HasShortState params = length (unwrap_or (state_of params) []) ≤ state_limit
+HasShortState params = length (unwrap_or (state_sent params) []) ≤ state_limit
 
 -- the user agent is sent back with an error (RFC 6749, section 4.1.2.1)
 abbrev pub turned_back : List ℕ → Parameters → ErrorName → Outcome
-turned_back uri params error = only (sent_back uri (codes "error") (error_text error) (state_of params))
+turned_back uri params error = only (sent_back uri (codes "error") (error_text error) (state_sent params))
 
 -- the challenge, where its method is S256
 abbrev pub challenge_sent : Parameters → Option (List ℕ)
 challenge_sent params =
-    option_and_then (λ method. where_passes (λ challenge. bytes_eq method (codes "S256") && is_challenge challenge) (value_of (codes "code_challenge") params))
-    (value_of (codes "code_challenge_method") params)
+    option_and_then
+    (λ method. where_passes (λ challenge. bytes_eq method (codes "S256") && is_challenge challenge) (value_sent (codes "code_challenge") params))
+    (value_sent (codes "code_challenge_method") params)
 
 -- 7. the code: its text is the draw's, and its digest is kept
-abbrev pub code_given : List Event → ℕ → List ℕ → Parameters → ℕ → ℕ → ℕ → List ℕ → List ℕ → Outcome
-code_given history m draw params client owner scope uri challenge =
+abbrev pub code_sent_back : List Event → ℕ → List ℕ → Parameters → ℕ → ℕ → ℕ → List ℕ → List ℕ → Outcome
+code_sent_back history m draw params client owner scope uri challenge =
     unless_taken history m (sha256 draw ∷ [])
     (record {
-      reply = sent_back uri (codes "code") (token_text draw) (state_of params);
+      reply = sent_back uri (codes "code") (token_text draw) (state_sent params);
       changes = CodeGiven (length history) client owner scope uri challenge (sha256 draw) ∷ [];
     })
 
@@ -53,20 +54,20 @@ code_given history m draw params client owner scope uri challenge =
 abbrev pub authorize_known : RegistryRecord → List Event → Asked → ℕ → List ℕ → Parameters → KnownClient → List ℕ → Outcome
 authorize_known rules history asked m draw params known uri =
     let turned = turned_back uri params in
-    need (value_of (codes "response_type") params) (turned InvalidRequest) (λ type.
+    need (value_sent (codes "response_type") params) (turned InvalidRequest) (λ type.
     point (not (bytes_eq type (codes "code"))) (turned UnsupportedResponseType)
     (point (not (has_grant AuthorizationCode known.client.grants)) (turned UnauthorizedClient)
     (need (challenge_sent params) (turned InvalidRequest) (λ challenge.
     need (scope_within rules known.client.allowed params) (turned InvalidScope) (λ scope.
-    need (owner_of rules asked) (turned AccessDenied) (λ owner.
+    need (owner_of_key rules asked) (turned AccessDenied) (λ owner.
     point (not (is_within scope (consented_scope history owner known.number))) (turned AccessDenied)
-    (code_given history m draw params known.number owner scope uri challenge)))))))
+    (code_sent_back history m draw params known.number owner scope uri challenge)))))))
 
 -- 1. the client and its redirect URI; without them nobody is sent anywhere
 abbrev pub known_points : RegistryRecord → Parameters → (KnownClient → List ℕ → Outcome) → Outcome
 known_points rules params next =
     need (client_named rules params) (refuse InvalidRequest) (λ known.
-    need (where_passes (λ uri. has_redirect uri known.client) (value_of (codes "redirect_uri") params)) (refuse InvalidRequest) (next known))
+    need (where_passes (λ uri. has_redirect uri known.client) (value_sent (codes "redirect_uri") params)) (refuse InvalidRequest) (next known))
 
 -- 1 to 7, of the parameters of the query
 abbrev pub query_points : RegistryRecord → List Event → Asked → ℕ → List ℕ → Parameters → Outcome

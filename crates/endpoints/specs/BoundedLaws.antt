@@ -11,7 +11,7 @@ use Rattle.consent.specs.Covered.{IsCovered, IsConsented}
 use Rattle.consent.specs.CoveredLaws.{is_covered-start, is_covered-push, is_within-trans}
 use Rattle.consent.specs.GrowthLaws.{count_by-append, code_terms-keep, opener-append}
 use Rattle.consent.specs.declared.grant.TokenKind.{TokenKind}
-use Rattle.endpoints.specs.Bounded.{IsRight, AllRight, IsAllowed, IsConsentedBefore, IsConsentedAt, IsBounded, IsOfCode, IsOwn, is_of_code}
+use Rattle.endpoints.specs.Bounded.{IsRightChange, AllRight, IsAllowed, IsConsentedBefore, IsConsentedAt, IsBounded, IsOfCode, IsOwn, is_of_code}
 
 -- what opened the family is no code, also where more has happened
 no_code-append : (history more : List Event) (family : ℕ) → is_of_code (opener history family) ≡ false → is_of_code (opener more family) ≡ false →
@@ -40,7 +40,7 @@ own-later before between e family client owner kind digest scope life is own = r
 
 module _ (rules : RegistryRecord) where
   -- a right code is one that its owner consents to
-  right_consented : (before : List Event) (change : Change) → IsRight rules before change → IsConsented before change
+  right_consented : (before : List Event) (change : Change) → IsRightChange rules before change → IsConsented before change
   right_consented before (CodeGiven family client owner scope redirect challenge digest) right = right.1
   right_consented before (Consented owner client mask) right = tt
   right_consented before (Issued family client owner kind digest scope life) right = tt
@@ -58,10 +58,10 @@ module _ (rules : RegistryRecord) where
       let parts = count_by-append (is_code_of family) before later in let whole = one family in omega (arith, parts, whole)
 
   -- an event in the history was right when it happened
-  pub all_right-at : (start before later : List Event) (e : Event) → AllRight rules start (before ++ e ∷ later) → IsRight rules (start ++ before) e.change
-  all_right-at start [] later e all = subst (λ h. IsRight rules h e.change) (sym (append-nil start)) all.0
+  pub all_right-at : (start before later : List Event) (e : Event) → AllRight rules start (before ++ e ∷ later) → IsRightChange rules (start ++ before) e.change
+  all_right-at start [] later e all = subst (λ h. IsRightChange rules h e.change) (sym (append-nil start)) all.0
   all_right-at start (x ∷ before) later e all =
-      subst (λ h. IsRight rules h e.change) (append_assoc start (x ∷ []) before) (all_right-at (start ++ x ∷ []) before later e all.1)
+      subst (λ h. IsRightChange rules h e.change) (append_assoc start (x ∷ []) before) (all_right-at (start ++ x ∷ []) before later e all.1)
 
   -- and so were those before it
   all_right-before : (start before later : List Event) → AllRight rules start (before ++ later) → AllRight rules start before
@@ -80,7 +80,7 @@ module _ (rules : RegistryRecord) where
   covered_all : (history : List Event) → OneCode history → AllRight rules [] history → IsCovered history
   covered_all history one all = covered_after [] history one is_covered-start all
 
-  allowed_at : (before : List Event) (change : Change) → IsRight rules before change → IsAllowed rules change
+  allowed_at : (before : List Event) (change : Change) → IsRightChange rules before change → IsAllowed rules change
   allowed_at before (Issued family client owner kind digest scope life) right = (right.0, right.1)
   allowed_at before (Consented owner client mask) right = tt
   allowed_at before (CodeGiven family client owner scope redirect challenge digest) right = right.0
@@ -89,7 +89,7 @@ module _ (rules : RegistryRecord) where
   allowed_at before (HookSet name version code) right = tt
   allowed_at before (HookGone name) right = tt
 
-  consented_at : (before : List Event) (change : Change) → IsCovered before → IsRight rules before change → IsConsentedBefore before change
+  consented_at : (before : List Event) (change : Change) → IsCovered before → IsRightChange rules before change → IsConsentedBefore before change
   consented_at before (Issued family client owner kind digest scope life) covered right = by_owner right.2
     where
       by_owner : (IsOwn before family owner ⊎ IsOfCode before family client owner scope) → IsOwn before family owner ⊎ (is_within scope (consented_scope before owner client) ≡ true)
@@ -103,7 +103,7 @@ module _ (rules : RegistryRecord) where
   consented_at before (HookGone name) covered right = tt
 
   consented_later : (before between : List Event) (e : Event) → IsCovered (before ++ e ∷ between) → (change : Change) → e.change ≡ change →
-      IsRight rules before change → IsConsentedAt (before ++ e ∷ between) change
+      IsRightChange rules before change → IsConsentedAt (before ++ e ∷ between) change
   consented_later before between e covered (Issued family client owner kind digest scope life) is right = by_owner right.2
     where
       by_owner : (IsOwn before family owner ⊎ IsOfCode before family client owner scope) →

@@ -9,7 +9,7 @@ use Rattle.messages.specs.Asked.{Asked}
 use Rattle.messages.specs.Reply.{plain}
 use Rattle.messages.specs.Reply.Body.{Consent}
 use Rattle.answers.specs.Outcomes.{Outcome, point, need, refuse, unavailable}
-use Rattle.answers.specs.Requesters.{Parameters, with_form, client_named, owner_of, scope_asked}
+use Rattle.answers.specs.Requesters.{Parameters, with_form, client_named, owner_of_key, scope_asked}
 
 -- 4. the consent is kept. What it is too small for ends with it
 abbrev pub consent_given : RegistryRecord → List Event → ℕ → ℕ → ℕ → Outcome
@@ -23,7 +23,7 @@ consent_given rules history owner client mask =
 -- 1 to 3. the owner, the client and the mask
 abbrev pub consent_points : RegistryRecord → List Event → Asked → Parameters → Outcome
 consent_points rules history asked params =
-    need (owner_of rules asked) (refuse AccessDenied) (λ owner.
+    need (owner_of_key rules asked) (refuse AccessDenied) (λ owner.
     need (client_named rules params) (refuse InvalidRequest) (λ known.
     need (scope_asked rules 0 params) (refuse InvalidScope) (λ mask.
     consent_given rules history owner known.number mask)))

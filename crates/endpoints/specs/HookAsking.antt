@@ -6,5 +6,5 @@ use Rattle.hook_host.specs.Versions.{version_of}
 use Rattle.endpoints.specs.declared.hooks.HookAsked.{HookAsked}
 
 -- it is set, with this code
-abbrev pub hook_change : List ℕ → HookAsked → Change
-hook_change code asked = HookSet asked.name.now (version_of asked.layout) code
+abbrev pub hook_set_asked : List ℕ → HookAsked → Change
+hook_set_asked code asked = HookSet asked.name.now (version_of asked.layout) code

@@ -2,7 +2,7 @@
 use Rattle.std.specs.Prelude.{ℕ, List, [], ◌∷◌, not, codes, bytes_eq, Bool, false, Option, Some, None, if◌then◌else◌, option_and_then, option_map}
 use Rattle.std.specs.Option.{option_map_or}
 use Rattle.std.specs.Result.{result_ok}
-use Rattle.params.specs.Form.{read_params, value_of}
+use Rattle.params.specs.Form.{read_params, value_sent}
 use Rattle.clients.specs.RegistryRecord.{RegistryRecord}
 use Rattle.clients.specs.Registry.{is_operator_key}
 use Rattle.consent.specs.History.{Change}
@@ -38,18 +38,18 @@ version_asked (Some text) =
 -- the hook that the query names, with the body for its code
 abbrev pub hook_set : Parameters → List ℕ → List ℕ → Option Change
 hook_set params code name =
-    option_map (λ version. HookSet name version code) (version_asked (value_of (codes "record") params))
+    option_map (λ version. HookSet name version code) (version_asked (value_sent (codes "record") params))
 
 -- by its parameters
 abbrev pub hook_set_by : Parameters → List ℕ → Option Change
-hook_set_by params code = option_and_then (hook_set params code) (value_of (codes "name") params)
+hook_set_by params code = option_and_then (hook_set params code) (value_sent (codes "name") params)
 
 abbrev pub installation : Asked → Option Change
 installation asked = option_and_then (λ params. hook_set_by params asked.body) (result_ok (read_params (query_of asked.target)))
 
 -- the hook that the form names
 abbrev pub hook_gone : Parameters → Option Change
-hook_gone params = option_map HookGone (value_of (codes "name") params)
+hook_gone params = option_map HookGone (value_sent (codes "name") params)
 
 abbrev pub removal : Asked → Option Change
 removal asked = option_and_then hook_gone (form_of asked)

@@ -8,7 +8,7 @@ use Rattle.hook_host.specs.declared.host.HookHost.{Ghosts as Hosting}
 use Rattle.hook_host.specs.Versions.{layout_of}
 use Rattle.consent.specs.History.{Event, Change}
 use Rattle.consent.specs.History.Change.{Consented, CodeGiven, Issued, Spent, FamilyEnded, HookSet, HookGone}
-use Rattle.messages.specs.Written.{Written, written}
+use Rattle.messages.specs.Written.{Written, in_writing}
 use Rattle.answers.specs.Outcomes.{Outcome, chosen}
 
 -- what a host says: its answer to each ask, its hooks' names, and the fault that it has for the change that the request
@@ -21,16 +21,17 @@ pub record HostSays : Type 0 where
 -- THE HOST'S OWN FAULTS
 
 -- the host has this fault for the change
-abbrev pub Refuses : {H : Type 0} → (H → List ℕ → Layout → List ℕ → HookFault → Type 0) → (H → List ℕ → HookFault → Type 0) → H → Change → HookFault → Type 0
-Refuses refuses_install refuses_remove host (HookSet name version code) fault = refuses_install host name (layout_of version) code fault
-Refuses refuses_install refuses_remove host (HookGone name) fault = refuses_remove host name fault
-Refuses refuses_install refuses_remove host _ fault = ⊥
+abbrev pub HostRefuses : {H : Type 0} → (H → List ℕ → Layout → List ℕ → HookFault → Type 0) → (H → List ℕ → HookFault → Type 0) → H → Change → HookFault →
+    Type 0
+HostRefuses refuses_install refuses_remove host (HookSet name version code) fault = refuses_install host name (layout_of version) code fault
+HostRefuses refuses_install refuses_remove host (HookGone name) fault = refuses_remove host name fault
+HostRefuses refuses_install refuses_remove host _ fault = ⊥
 
 -- the fault, if any, is one that the host has for the change, if any
 abbrev pub IsHostFault : {H : Type 0} → (H → List ℕ → Layout → List ℕ → HookFault → Type 0) → (H → List ℕ → HookFault → Type 0) → H → Option Change → Option HookFault → Type 0
 IsHostFault refuses_install refuses_remove host change None = Unit {0}
 IsHostFault refuses_install refuses_remove host None (Some fault) = ⊥
-IsHostFault refuses_install refuses_remove host (Some change) (Some fault) = Refuses refuses_install refuses_remove host change fault
+IsHostFault refuses_install refuses_remove host (Some change) (Some fault) = HostRefuses refuses_install refuses_remove host change fault
 
 -- THE HOST'S HISTORY
 
@@ -59,7 +60,7 @@ HostSteps {H = H} installs removes old (c ∷ cs) new = (mid : H) × HostStep in
 
 -- the reply is the outcome's, and the host has made the outcome's changes
 pub record IsHooked {H : Type 0} (installs : H → List ℕ → Layout → List ℕ → H → Type 0) (removes : H → List ℕ → H → Type 0) (outcome : Outcome) (reply : Written) (old new : H) : Type 0 where
-  pub reply_is : reply ≡ written outcome.reply
+  pub reply_is : reply ≡ in_writing outcome.reply
   pub steps : HostSteps installs removes old outcome.changes new
 
 -- The host has one of its own faults for the change that is asked for, or none. By that the reply is the outcome's, or the

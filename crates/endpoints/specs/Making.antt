@@ -1,7 +1,7 @@
 -- What is made of changes.
 use Rattle.std.specs.Prelude.{◌≡◌, ◌≤◌, ℕ, List, [], ◌∷◌, Some}
 use Rattle.clients.specs.RegistryRecord.{RegistryRecord}
-use Rattle.consent.specs.Changes.{changes_of, listed, AllFollow}
+use Rattle.consent.specs.Changes.{changes_of, as_list, AllFollow}
 use Rattle.consent.specs.Consents.{KeptConsents, FitsConsents}
 use Rattle.consent.specs.History.{Event, Change as Happening, with_changes}
 use Rattle.consent.specs.declared.change.Change.{Change}
@@ -14,7 +14,7 @@ use Rattle.endpoints.specs.Hosts.{HostRun}
 use Rattle.endpoints.specs.Noting.{ArePrepared}
 use Rattle.endpoints.specs.Ruling.{CanMakeAll, CanTake}
 use Rattle.endpoints.specs.declared.ruling.Checked.{Checked}
-use Rattle.endpoints.specs.Server.{Seen, FitsServer}
+use Rattle.endpoints.specs.Server.{SeenServer, FitsServer}
 
 -- the change is no consent and no hook's
 abbrev pub IsPlain : Change → Type 0
@@ -38,13 +38,13 @@ HasConsentRoom kept (Consented owner client mask ∷ []) = 1 ≤ kept.room
 HasConsentRoom kept cs = Unit {0}
 
 -- there is room for the changes, and they are ready to be noted at the moment
-pub record HasRooms {H : Type 0} (server : Seen H) (moment : ℕ) (changes : Changes) : Type 0 where
-  pub store : HasRoom server.store (listed changes)
-  pub consents : HasConsentRoom server.consents (listed changes)
+pub record HasRooms {H : Type 0} (server : SeenServer H) (moment : ℕ) (changes : Changes) : Type 0 where
+  pub store : HasRoom server.store (as_list changes)
+  pub consents : HasConsentRoom server.consents (as_list changes)
   pub notes : ArePrepared server.prepared moment changes
 
 -- nothing has changed but what room there is
-pub record IsSame {H : Type 0} (hosting : Hosting H) (old new : Seen H) : Type 0 where
+pub record IsSame {H : Type 0} (hosting : Hosting H) (old new : SeenServer H) : Type 0 where
   pub rules : new.rules ≡ old.rules
   pub host : new.host ≡ old.host
   pub greatest : new.greatest ≡ old.greatest
@@ -53,9 +53,9 @@ pub record IsSame {H : Type 0} (hosting : Hosting H) (old new : Seen H) : Type 0
       FitsServer hosting.installs hosting.removes old rules first history m → FitsServer hosting.installs hosting.removes new rules first history m
 
 -- the server can make and note the changes of a ruling, without memory
-pub record IsReady {H : Type 0} (hosting : Hosting H) (server : Seen H) (changes : Changes) (checked : Checked H) : Type 0 where
+pub record IsReadyToMake {H : Type 0} (hosting : Hosting H) (server : SeenServer H) (changes : Changes) (checked : Checked H) : Type 0 where
   pub rooms : HasRooms server server.greatest changes
-  pub hook : CanTake hosting server.host (listed changes) checked
+  pub hook : CanTake hosting server.host (as_list changes) checked
 
 -- whatever the changes mean, the consents that are kept are then those with them
 abbrev pub MakesConsents : KeptConsents → List Change → KeptConsents → Type 0
@@ -72,7 +72,7 @@ MakesHost {H = H} hosting old changes checked new =
 
 -- Whatever history the server fitted, it then fits that history with the changes, where they may come next and are right,
 -- stand alone if they have to, and the host can make its own.
-abbrev pub Makes : {H : Type 0} → Hosting H → Seen H → List Change → Checked H → Seen H → Type 0
+abbrev pub Makes : {H : Type 0} → Hosting H → SeenServer H → List Change → Checked H → SeenServer H → Type 0
 Makes {H = H} hosting old changes checked new =
     (rules : RegistryRecord) (first : H) (history : List Event) (next : List Happening) →
     FitsServer hosting.installs hosting.removes old rules first history old.greatest →

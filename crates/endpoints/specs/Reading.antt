@@ -34,14 +34,14 @@ IsShortReading (Authorize params) = HasShortState params
 IsShortReading _ = Unit {0}
 
 -- the first points lead on to those of what was read
-abbrev pub IsRead : RegistryRecord → Asked → Reading → Type 0
-IsRead rules asked (Authorize params) = (next : Parameters → Outcome) → with_query asked next ≡ next params
-IsRead rules asked (InstallHook params) =
+abbrev pub IsRequestRead : RegistryRecord → Asked → Reading → Type 0
+IsRequestRead rules asked (Authorize params) = (next : Parameters → Outcome) → with_query asked next ≡ next params
+IsRequestRead rules asked (InstallHook params) =
     (next : Parameters → Outcome) → with_operator rules asked (with_query asked next) ≡ next params
-IsRead rules asked (RemoveHook params) =
+IsRequestRead rules asked (RemoveHook params) =
     (next : Parameters → Outcome) → with_operator rules asked (with_form asked next) ≡ next params
-IsRead rules asked ListHooks = (next : Outcome) → with_operator rules asked next ≡ next
-IsRead rules asked _ = Unit {0}
+IsRequestRead rules asked ListHooks = (next : Outcome) → with_operator rules asked next ≡ next
+IsRequestRead rules asked _ = Unit {0}
 
 -- or one of them ends the request
 abbrev pub EndsAt : Endpoint → RegistryRecord → Asked → Halt → Type 0

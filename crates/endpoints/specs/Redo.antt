@@ -8,18 +8,18 @@ use Rattle.consent.specs.declared.change.Change.TheVariants.{Consented, CodeGive
 use Rattle.hook_host.specs.Versions.{layout_of}
 use Rattle.hook_host.specs.declared.host.HookHost.{Ghosts as Hosting}
 use Rattle.token_store.specs.Fits.{refusal}
-use Rattle.endpoints.specs.Bounded.{IsRight}
-use Rattle.endpoints.specs.Server.{Seen, FitsServer}
+use Rattle.endpoints.specs.Bounded.{IsRightChange}
+use Rattle.endpoints.specs.Server.{SeenServer, FitsServer}
 use Rattle.endpoints.specs.declared.redo.RedoFault.{RedoFault}
 use Rattle.endpoints.specs.declared.redo.RedoFault.TheVariants.{MomentBack, Unknown, Store, ConsentsFull, HookVersion, Hook, Memory}
 
 -- Whatever history the server fitted, the change means what may come next, and where that is right, the server then fits the
 -- history with it, at its moment.
-abbrev pub Redoes : {H : Type 0} → Hosting H → Seen H → ℕ → Change → Seen H → Type 0
-Redoes {H = H} hosting old moment change new =
+abbrev pub RedoesChange : {H : Type 0} → Hosting H → SeenServer H → ℕ → Change → SeenServer H → Type 0
+RedoesChange {H = H} hosting old moment change new =
     (rules : RegistryRecord) (first : H) (history : List Event) (m : ℕ) → FitsServer hosting.installs hosting.removes old rules first history m →
     (next : Happening) × (change_of history moment change ≡ Some next) × CanFollow history moment next
-    × (IsRight rules history next → FitsServer hosting.installs hosting.removes new rules first (with_change history moment next) moment)
+    × (IsRightChange rules history next → FitsServer hosting.installs hosting.removes new rules first (with_change history moment next) moment)
 
 -- WHY IT IS NOT MADE
 
@@ -42,26 +42,26 @@ abbrev pub IsUnversioned : ℕ → Type 0
 IsUnversioned version = (version ≢ 1) × (version ≢ 2)
 
 -- each history that the server fits goes on with it
-abbrev pub Follows : {H : Type 0} → Hosting H → Seen H → ℕ → Change → Type 0
-Follows {H = H} hosting server moment change =
+abbrev pub FollowsEach : {H : Type 0} → Hosting H → SeenServer H → ℕ → Change → Type 0
+FollowsEach {H = H} hosting server moment change =
     (rules : RegistryRecord) (first : H) (history : List Event) (m : ℕ) → FitsServer hosting.installs hosting.removes server rules first history m →
     history_refusal history moment change ≡ None
 
 -- why the host does not make its change
-abbrev pub RefusesHook : {H : Type 0} → Hosting H → H → Change → RedoFault → Type 0
-RefusesHook hosting host (HookSet name version code) HookVersion = IsUnversioned version
-RefusesHook hosting host (HookSet name version code) (Hook fault) = hosting.refuses_install host name.now (layout_of version) code.now fault
-RefusesHook hosting host (HookGone name) (Hook fault) = hosting.refuses_remove host name.now fault
-RefusesHook hosting host _ Memory = Unit {0}
-RefusesHook hosting host _ _ = ⊥
+abbrev pub RefusesHookChange : {H : Type 0} → Hosting H → H → Change → RedoFault → Type 0
+RefusesHookChange hosting host (HookSet name version code) HookVersion = IsUnversioned version
+RefusesHookChange hosting host (HookSet name version code) (Hook fault) = hosting.refuses_install host name.now (layout_of version) code.now fault
+RefusesHookChange hosting host (HookGone name) (Hook fault) = hosting.refuses_remove host name.now fault
+RefusesHookChange hosting host _ Memory = Unit {0}
+RefusesHookChange hosting host _ _ = ⊥
 
 -- Why the change is not made: its moment is before the server's, or no history that the server fits goes on with it, or the
 -- host has a fault, or memory was refused.
-abbrev pub RefusesRedo : {H : Type 0} → Hosting H → Seen H → ℕ → Change → RedoFault → Type 0
+abbrev pub RefusesRedo : {H : Type 0} → Hosting H → SeenServer H → ℕ → Change → RedoFault → Type 0
 RefusesRedo hosting server moment change MomentBack = moment < server.greatest
 RefusesRedo hosting server moment change Memory = Unit {0}
-RefusesRedo hosting server moment change HookVersion = RefusesHook hosting server.host change HookVersion
-RefusesRedo hosting server moment change (Hook fault) = RefusesHook hosting server.host change (Hook fault)
+RefusesRedo hosting server moment change HookVersion = RefusesHookChange hosting server.host change HookVersion
+RefusesRedo hosting server moment change (Hook fault) = RefusesHookChange hosting server.host change (Hook fault)
 RefusesRedo {H = H} hosting server moment change fault =
     (rules : RegistryRecord) (first : H) (history : List Event) (m : ℕ) → FitsServer hosting.installs hosting.removes server rules first history m →
     history_refusal history moment change ≡ Some fault

@@ -29,8 +29,8 @@ outcome_at ListHooks rules host history asked m draws = list_hooks rules host.na
 
 -- No such path, another method, and then the endpoint's own points, or 503 where memory was refused for what they want.
 -- The first two want none.
-abbrev pub outcome : Bool → RegistryRecord → HostSays → List Event → Asked → ℕ → Draws → Outcome
-outcome refused rules host history asked m draws =
+abbrev pub request_outcome : Bool → RegistryRecord → HostSays → List Event → Asked → ℕ → Draws → Outcome
+request_outcome refused rules host history asked m draws =
     need (endpoint_at (path_of asked.target)) (bare 404) (λ endpoint.
     point (not (bytes_eq asked.method (method_at endpoint))) (bare 405)
     (chosen refused (outcome_at endpoint rules host history asked m draws)))

@@ -8,7 +8,7 @@ use Rattle.consent.specs.declared.kept_consent.KeptConsent.{KeptConsent}
 use Rattle.consent.specs.declared.kept_consent.ListFault.{ListFault}
 use Rattle.consent.specs.declared.kept_consent.ListFault.TheVariants as list
 use Rattle.token_store.specs.Fits.{FitsHistory}
-use Rattle.token_store.specs.Image.{HasTwo, image_of}
+use Rattle.token_store.specs.Image.{HasDigestTwice, as_kept}
 use Rattle.token_store.specs.Kept.{kept_unexpired}
 use Rattle.token_store.specs.declared.image.KeptRecord.{KeptRecord}
 use Rattle.token_store.specs.declared.restoring.RestoreFault.{RestoreFault as StoreFault}
@@ -18,13 +18,13 @@ use Rattle.endpoints.specs.declared.restoring.RestoreFault.TheVariants.{Full, Di
 
 -- the codes, tokens and consents are those of the history, from the moment on
 pub record AreOf (records : List KeptRecord) (consents : List KeptConsent) (history : List Event) (moment : ℕ) : Type 0 where
-  pub kept : FitsHistory (image_of records) history moment
+  pub kept : FitsHistory (as_kept records) history moment
   pub consented : FitsConsents (kept_consents consents) history
 
 -- why no server is made of them
 abbrev pub RefusesRestore : List KeptRecord → List KeptConsent → ℕ → RestoreFault → Type 0
-RefusesRestore records given moment Full = record_limit < kept_unexpired (image_of records) moment
-RefusesRestore records given moment DigestTwice = HasTwo (image_of records) moment
+RefusesRestore records given moment Full = record_limit < kept_unexpired (as_kept records) moment
+RefusesRestore records given moment DigestTwice = HasDigestTwice (as_kept records) moment
 RefusesRestore records given moment FamilyDiffers = Unit {0}
 RefusesRestore records given moment ConsentTwice = consents.HasTwo given
 RefusesRestore records given moment Memory = Unit {0}

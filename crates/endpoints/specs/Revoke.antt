@@ -1,6 +1,6 @@
 -- POST /revoke (RFC 7009, section 2)
 use Rattle.std.specs.Prelude.{◌==◌, ℕ, List, [], ◌∷◌, not, codes, Option, Some, None}
-use Rattle.params.specs.Form.{value_of}
+use Rattle.params.specs.Form.{value_sent}
 use Rattle.clients.specs.RegistryRecord.{RegistryRecord}
 use Rattle.consent.specs.History.{Event, Grant}
 use Rattle.consent.specs.History.Change.{FamilyEnded}
@@ -22,7 +22,7 @@ revoked number (Some token) =
 -- 2. the token
 abbrev pub revoke_points : List Event → ℕ → Parameters → KnownClient → Outcome
 revoke_points history m params known =
-    need (value_of (codes "token") params) (refuse InvalidRequest) (λ text.
+    need (value_sent (codes "token") params) (refuse InvalidRequest) (λ text.
     revoked known.number (live_token history m text))
 
 -- 1. the client

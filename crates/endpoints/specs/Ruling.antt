@@ -1,6 +1,6 @@
 -- What the operator's requests come to.
 use Rattle.std.specs.Prelude.{◌≡◌, ◌≢◌, List, [], ◌∷◌, Contains, Option, Some, None, Result, Ok, Err}
-use Rattle.consent.specs.Changes.{listed}
+use Rattle.consent.specs.Changes.{as_list}
 use Rattle.consent.specs.History as history
 use Rattle.consent.specs.declared.change.Change.{Change}
 use Rattle.consent.specs.declared.change.Change.TheVariants.{HookSet, HookGone}
@@ -10,8 +10,8 @@ use Rattle.hook_host.specs.declared.fault.HookFault.{HookFault}
 use Rattle.hook_host.specs.declared.fault.HookFault.TheVariants.{Memory}
 use Rattle.hook_host.specs.declared.host.HookHost.{Ghosts as Hosting}
 use Rattle.answers.specs.Halts.{Halts}
-use Rattle.answers.specs.Scene.{Scene}
-use Rattle.answers.specs.Told.{told}
+use Rattle.answers.specs.Setting.{Setting}
+use Rattle.answers.specs.Told.{outcome_told}
 use Rattle.answers.specs.declared.answer.Answer.TheVariants.{HookRefused}
 use Rattle.answers.specs.declared.halt.Halt.{Halt}
 use Rattle.answers.specs.declared.halt.Halt.TheVariants.{Refuse, NoMemory}
@@ -42,16 +42,16 @@ CanTake hosting host changes (Installs hook) = CanMakeAll hosting host changes (
 CanTake hosting host changes Removes = CanMakeAll hosting host changes Removes
 
 -- the fault is told, or memory was refused
-abbrev pub IsRefusal : {H : Type 0} → HookFault → Result (Ruling H) Halt → Type 0
-IsRefusal fault (Err (Refuse error)) = ⊥
-IsRefusal fault (Err NoMemory) = Unit {0}
-IsRefusal fault (Ok ruling) =
+abbrev pub IsHookRefused : {H : Type 0} → HookFault → Result (Ruling H) Halt → Type 0
+IsHookRefused fault (Err (Refuse error)) = ⊥
+IsHookRefused fault (Err NoMemory) = Unit {0}
+IsHookRefused fault (Ok ruling) =
     (fault ≢ Memory) × (ruling.decision ≡ record { answer = HookRefused fault; changes = Nothing })
 
 -- The host has one of its own faults for the change that is asked for, or none. By that the ruling is what the points
 -- come to, and the host can make its change.
-abbrev pub RulesHooks : {H : Type 0} → Hosting H → H → Scene → Option history.Change → Result (Ruling H) Halt → Type 0
+abbrev pub RulesHooks : {H : Type 0} → Hosting H → H → Setting → Option history.Change → Result (Ruling H) Halt → Type 0
 RulesHooks hosting host s change (Err halt) = Halts halt (hook_points change None)
 RulesHooks hosting host s change (Ok ruling) =
     (fault : Option HookFault) × IsHostFault hosting.refuses_install hosting.refuses_remove host change fault
-    × (told s ruling.decision ≡ Some (hook_points change fault)) × CanMakeAll hosting host (listed ruling.decision.changes) ruling.checked
+    × (outcome_told s ruling.decision ≡ Some (hook_points change fault)) × CanMakeAll hosting host (as_list ruling.decision.changes) ruling.checked

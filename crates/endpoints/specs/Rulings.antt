@@ -1,17 +1,17 @@
 -- What the server decides, and what it answers by that.
 use Rattle.std.specs.Prelude.{◌≡◌, List, Option, Some, None, Result, Ok, Err}
-use Rattle.consent.specs.Changes.{listed, AllFollow}
+use Rattle.consent.specs.Changes.{as_list, AllFollow}
 use Rattle.consent.specs.History.{Event}
 use Rattle.hook_host.specs.declared.fault.HookFault.{HookFault}
 use Rattle.hook_host.specs.declared.host.HookHost.{Ghosts as Hosting}
 use Rattle.messages.specs.Asked.{Asked}
-use Rattle.messages.specs.Written.{Written, written}
+use Rattle.messages.specs.Written.{Written, in_writing}
 use Rattle.messages.specs.declared.request.Draws.{Draws}
 use Rattle.answers.specs.Halts.{Halts}
 use Rattle.answers.specs.Outcomes.{Outcome, refuse}
-use Rattle.answers.specs.Scene.{Scene}
-use Rattle.answers.specs.Short.{IsShort}
-use Rattle.answers.specs.Told.{Decides, told}
+use Rattle.answers.specs.Setting.{Setting}
+use Rattle.answers.specs.Short.{IsShortReply}
+use Rattle.answers.specs.Told.{Decides, outcome_told}
 use Rattle.answers.specs.declared.decision.Decision.{Decision}
 use Rattle.answers.specs.declared.halt.Halt.{Halt}
 use Rattle.answers.specs.declared.halt.Halt.TheVariants.{Refuse, NoMemory}
@@ -26,7 +26,7 @@ use Rattle.endpoints.specs.Making.{StandsAlone, IsSame}
 use Rattle.endpoints.specs.Reading.{endpoint_of}
 use Rattle.endpoints.specs.Replies.{outcome_at}
 use Rattle.endpoints.specs.Ruling.{CanMakeAll}
-use Rattle.endpoints.specs.Server.{Seen, FitsServer, IsStep}
+use Rattle.endpoints.specs.Server.{SeenServer, FitsServer, IsStep}
 
 -- a request at an endpoint, with the random bytes of what its reply may give
 pub record Asking : Type 0 where
@@ -38,7 +38,7 @@ abbrev pub asking_of : Asked → Reading → Draws → Asking
 asking_of asked reading draws = record { endpoint = endpoint_of reading; asked = asked; draws = draws }
 
 -- the server fits the history under its own rules, at its own greatest moment
-abbrev pub FitsNow : {H : Type 0} → Hosting H → Seen H → H → List Event → Type 0
+abbrev pub FitsNow : {H : Type 0} → Hosting H → SeenServer H → H → List Event → Type 0
 FitsNow hosting server first history =
     FitsServer hosting.installs hosting.removes server server.rules first history server.greatest
 
@@ -47,13 +47,13 @@ abbrev pub says_with : {H : Type 0} → Hosting H → H → Option HookFault →
 says_with hosting host fault = record { answer = hosting.answer host; names = hosting.names host; fault = fault }
 
 -- what the request comes to, where the host has this fault
-abbrev pub comes_to : {H : Type 0} → Hosting H → Seen H → List Event → Asking → Option HookFault → Outcome
+abbrev pub comes_to : {H : Type 0} → Hosting H → SeenServer H → List Event → Asking → Option HookFault → Outcome
 comes_to hosting server history asking fault =
     outcome_at asking.endpoint server.rules (says_with hosting server.host fault) history asking.asked server.greatest asking.draws
 
 -- what a decision is taken in
-abbrev pub scene_now : {H : Type 0} → Hosting H → Seen H → List Event → Draws → Scene
-scene_now hosting server history draws = record {
+abbrev pub setting_now : {H : Type 0} → Hosting H → SeenServer H → List Event → Draws → Setting
+setting_now hosting server history draws = record {
   rules = server.rules;
   history = history;
   names = hosting.names server.host;
@@ -63,22 +63,22 @@ scene_now hosting server history draws = record {
 
 -- The ruling is what the request comes to, by one of the host's own faults or none. Its changes may come next, each is
 -- right, and the server can make them.
-pub record IsRuling {H : Type 0} (hosting : Hosting H) (server : Seen H) (history : List Event) (asking : Asking) (ruling : Ruling H) : Type 0 where
+pub record IsRuling {H : Type 0} (hosting : Hosting H) (server : SeenServer H) (history : List Event) (asking : Asking) (ruling : Ruling H) : Type 0 where
   pub fault : Option HookFault
   pub host_has : IsHostFault hosting.refuses_install hosting.refuses_remove server.host (hook_change_at asking.endpoint asking.asked) fault
-  pub told_is : told (scene_now hosting server history asking.draws) ruling.decision ≡ Some (comes_to hosting server history asking fault)
+  pub told_is : outcome_told (setting_now hosting server history asking.draws) ruling.decision ≡ Some (comes_to hosting server history asking fault)
   pub follow : AllFollow history server.greatest (comes_to hosting server history asking fault).changes
   pub right : AllRightAfter server.rules history server.greatest (comes_to hosting server history asking fault).changes
-  pub alone : StandsAlone (listed ruling.decision.changes)
-  pub hooks : CanMakeAll hosting server.host (listed ruling.decision.changes) ruling.checked
+  pub alone : StandsAlone (as_list ruling.decision.changes)
+  pub hooks : CanMakeAll hosting server.host (as_list ruling.decision.changes) ruling.checked
 
 -- or the request ends with an error, or for want of memory
-abbrev pub IsRuled : {H : Type 0} → Hosting H → Seen H → List Event → Asking → Result (Ruling H) Halt → Type 0
+abbrev pub IsRuled : {H : Type 0} → Hosting H → SeenServer H → List Event → Asking → Result (Ruling H) Halt → Type 0
 IsRuled hosting server history asking (Ok ruling) = IsRuling hosting server history asking ruling
 IsRuled hosting server history asking (Err halt) = Halts halt (comes_to hosting server history asking None)
 
 -- whatever history the server fits
-abbrev pub Rules : {H : Type 0} → Hosting H → Seen H → Asking → Result (Ruling H) Halt → Type 0
+abbrev pub Rules : {H : Type 0} → Hosting H → SeenServer H → Asking → Result (Ruling H) Halt → Type 0
 Rules {H = H} hosting server asking result =
     (first : H) (history : List Event) → FitsNow hosting server first history → IsRuled hosting server history asking result
 
@@ -90,23 +90,23 @@ IsAlone (InstallHook params) = ⊥
 IsAlone (RemoveHook params) = ⊥
 IsAlone _ = Unit {0}
 
-abbrev pub RulesAlone : {H : Type 0} → Hosting H → Seen H → Asking → Result Decision Halt → Type 0
+abbrev pub RulesAlone : {H : Type 0} → Hosting H → SeenServer H → Asking → Result Decision Halt → Type 0
 RulesAlone {H = H} hosting server asking result =
     (first : H) (history : List Event) → FitsNow hosting server first history →
-    Decides (scene_now hosting server history asking.draws) result (comes_to hosting server history asking None)
+    Decides (setting_now hosting server history asking.draws) result (comes_to hosting server history asking None)
 
 -- ANSWERS
 
 -- the reply tells of the error, and is short; where memory was refused there is none
 abbrev pub IsHalted : Halt → Written → Type 0
-IsHalted (Refuse error) reply = (reply ≡ written (refuse error).reply) × IsShort reply
+IsHalted (Refuse error) reply = (reply ≡ in_writing (refuse error).reply) × IsShortReply reply
 IsHalted NoMemory reply = ⊥
 
 -- The host has one of its own faults for the change that is asked for, or none. By that the reply is what the request
 -- comes to, and its changes are made. Where memory is refused, nothing is made.
-abbrev pub Answers : {H E : Type 0} → Hosting H → Seen H → Asking → Result Written E → Seen H → Type 0
-Answers {H = H} hosting old asking (Ok reply) new =
+abbrev pub AnswersRequest : {H E : Type 0} → Hosting H → SeenServer H → Asking → Result Written E → SeenServer H → Type 0
+AnswersRequest {H = H} hosting old asking (Ok reply) new =
     (first : H) (history : List Event) → FitsNow hosting old first history →
     (fault : Option HookFault) × IsHostFault hosting.refuses_install hosting.refuses_remove old.host (hook_change_at asking.endpoint asking.asked) fault
     × IsStep hosting.installs hosting.removes (comes_to hosting old history asking fault) reply old new old.rules first history old.greatest
-Answers hosting old asking (Err _) new = IsSame hosting old new
+AnswersRequest hosting old asking (Err _) new = IsSame hosting old new

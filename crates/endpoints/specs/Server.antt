@@ -8,13 +8,13 @@ use Rattle.change_codec.specs.Spelling.{DatedFact}
 use Rattle.change_codec.specs.Happened.{Happened}
 use Rattle.token_store.specs.Kept.{Held}
 use Rattle.token_store.specs.Fits.{FitsStore}
-use Rattle.messages.specs.Written.{Written, written}
+use Rattle.messages.specs.Written.{Written, in_writing}
 use Rattle.answers.specs.Outcomes.{Outcome}
 use Rattle.endpoints.specs.Hosts.{HostRun}
 use Rattle.endpoints.specs.Bounded.{AllRight}
 
 -- a server as it is seen
-pub record Seen (H : Type 0) : Type 0 where
+pub record SeenServer (H : Type 0) : Type 0 where
   pub rules : RegistryRecord
   pub host : H
   pub store : Held
@@ -28,7 +28,7 @@ pub record Seen (H : Type 0) : Type 0 where
 
 -- From its greatest moment on the server answers as the history says, under these rules, and its host comes from the
 -- first one by the history's hooks. `installs` and `removes` are the host's own relations.
-pub record FitsServer {H : Type 0} (installs : H → List ℕ → Layout → List ℕ → H → Type 0) (removes : H → List ℕ → H → Type 0) (server : Seen H) (rules : RegistryRecord) (first : H) (history : List Event) (m : ℕ) : Type 0 where
+pub record FitsServer {H : Type 0} (installs : H → List ℕ → Layout → List ℕ → H → Type 0) (removes : H → List ℕ → H → Type 0) (server : SeenServer H) (rules : RegistryRecord) (first : H) (history : List Event) (m : ℕ) : Type 0 where
   pub rules_are : server.rules ≡ rules
   pub greatest_is : server.greatest ≡ m
   pub store : FitsStore server.store history m
@@ -44,19 +44,19 @@ AreUnkept (Some facts) (Some kept) history = Happened kept facts history
 AreUnkept facts kept history = ⊥
 
 -- what the server has noted leads from the history that was kept last to this one
-abbrev pub Notes : {H : Type 0} → Seen H → Option (List Event) → List Event → Type 0
+abbrev pub Notes : {H : Type 0} → SeenServer H → Option (List Event) → List Event → Type 0
 Notes server kept history = AreUnkept server.unkept kept history
 
 -- whatever was kept last: where what was noted led to the one history, it now leads to the other
-abbrev pub IsNoted : {H : Type 0} → Seen H → Seen H → List Event → List Event → Type 0
-IsNoted old new before after = (kept : Option (List Event)) → Notes old kept before → Notes new kept after
+abbrev pub AreNoted : {H : Type 0} → SeenServer H → SeenServer H → List Event → List Event → Type 0
+AreNoted old new before after = (kept : Option (List Event)) → Notes old kept before → Notes new kept after
 
 -- just these facts are noted now: all else is as it was, but for what is ready to be noted
-abbrev pub NowNotes : {H : Type 0} → Seen H → Seen H → Option (List DatedFact) → Type 0
+abbrev pub NowNotes : {H : Type 0} → SeenServer H → SeenServer H → Option (List DatedFact) → Type 0
 NowNotes old new unkept = new ≡ record old { unkept = unkept; prepared = new.prepared }
 
 -- the reply is the outcome's, the server fits the history with the outcome's changes, and just these are noted
-pub record IsStep {H : Type 0} (installs : H → List ℕ → Layout → List ℕ → H → Type 0) (removes : H → List ℕ → H → Type 0) (outcome : Outcome) (reply : Written) (old new : Seen H) (rules : RegistryRecord) (first : H) (history : List Event) (m : ℕ) : Type 0 where
-  pub reply_is : reply ≡ written outcome.reply
+pub record IsStep {H : Type 0} (installs : H → List ℕ → Layout → List ℕ → H → Type 0) (removes : H → List ℕ → H → Type 0) (outcome : Outcome) (reply : Written) (old new : SeenServer H) (rules : RegistryRecord) (first : H) (history : List Event) (m : ℕ) : Type 0 where
+  pub reply_is : reply ≡ in_writing outcome.reply
   pub fits : FitsServer installs removes new rules first (with_changes history m outcome.changes) m
-  pub noted : IsNoted old new history (with_changes history m outcome.changes)
+  pub noted : AreNoted old new history (with_changes history m outcome.changes)

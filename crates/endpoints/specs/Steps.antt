@@ -9,9 +9,9 @@ use Rattle.messages.specs.Written.{Written}
 use Rattle.messages.specs.declared.request.Draws.{Draws}
 use Rattle.endpoints.specs.Bounded.{IsBounded}
 use Rattle.endpoints.specs.Hosts.{IsHostFault}
-use Rattle.endpoints.specs.Replies.{outcome, hook_change}
+use Rattle.endpoints.specs.Replies.{request_outcome, hook_change}
 use Rattle.endpoints.specs.Rulings.{says_with}
-use Rattle.endpoints.specs.Server.{Seen, FitsServer, IsStep}
+use Rattle.endpoints.specs.Server.{SeenServer, FitsServer, IsStep}
 
 -- a request as it comes: what it asks, when, and the random bytes of what its reply may give
 pub record Arrival : Type 0 where
@@ -22,28 +22,28 @@ pub record Arrival : Type 0 where
 -- Whatever history the server fitted, it then fits that history with what the request's outcome changes, at the greatest
 -- moment so far, just that is noted, and the reply is the outcome's. What is left open in the outcome is whether memory was
 -- refused, and which of its own faults the host has, if it has one.
-abbrev pub Steps : {H : Type 0} → Hosting H → Seen H → Arrival → Written → Seen H → Type 0
+abbrev pub Steps : {H : Type 0} → Hosting H → SeenServer H → Arrival → Written → SeenServer H → Type 0
 Steps {H = H} hosting server arrival reply server' =
     (rules : RegistryRecord) (first : H) (history : List Event) (m : ℕ) → FitsServer hosting.installs hosting.removes server rules first history m →
     (refused : Bool) × (fault : Option HookFault) × IsHostFault hosting.refuses_install hosting.refuses_remove server.host (hook_change arrival.asked) fault
     × IsStep hosting.installs hosting.removes
-    (outcome refused rules (says_with hosting server.host fault) history arrival.asked (max m arrival.moment) arrival.draws)
+    (request_outcome refused rules (says_with hosting server.host fault) history arrival.asked (max m arrival.moment) arrival.draws)
     reply server server' rules first history (max m arrival.moment)
 
 -- so it is of each history that the server fits, and of the moment from which it fits it
-abbrev pub OfEach : {H : Type 0} → Hosting H → Seen H → (RegistryRecord → List Event → ℕ → Type 0) → Type 0
+abbrev pub OfEach : {H : Type 0} → Hosting H → SeenServer H → (RegistryRecord → List Event → ℕ → Type 0) → Type 0
 OfEach {H = H} hosting server fact =
     (rules : RegistryRecord) (first : H) (history : List Event) (m : ℕ) →
     FitsServer hosting.installs hosting.removes server rules first history m → fact rules history m
 
 -- each code and token of the history keeps to allowance, consent and life
-abbrev pub KeepsBounds : {H : Type 0} → Hosting H → Seen H → Type 0
+abbrev pub KeepsBounds : {H : Type 0} → Hosting H → SeenServer H → Type 0
 KeepsBounds hosting server = OfEach hosting server (λ rules history m. IsBounded rules history)
 
 -- as many records are kept as the history has unexpired codes and tokens
-abbrev pub IsSwept : {H : Type 0} → Hosting H → Seen H → Type 0
+abbrev pub IsSwept : {H : Type 0} → Hosting H → SeenServer H → Type 0
 IsSwept hosting server = OfEach hosting server (λ rules history m. length server.store.kept ≡ unexpired_count history m)
 
 -- a server that fitted some history is swept then
-abbrev pub Sweeps : {H : Type 0} → Hosting H → Seen H → Seen H → Type 0
+abbrev pub Sweeps : {H : Type 0} → Hosting H → SeenServer H → SeenServer H → Type 0
 Sweeps hosting old new = OfEach hosting old (λ rules history m. IsSwept hosting new)

@@ -61,6 +61,6 @@ with_cause tally (Some Denied) = record tally { denied = one_more tally.denied }
 with_cause tally None = tally
 
 -- one more request was answered
-abbrev pub counted : Tally → Option Endpoint → ℕ → Option Cause → Tally
-counted tally endpoint status cause =
+abbrev pub with_request : Tally → Option Endpoint → ℕ → Option Cause → Tally
+with_request tally endpoint status cause =
     with_cause (record tally { asked = asked_at tally.asked endpoint; replied = replied tally.replied status }) cause

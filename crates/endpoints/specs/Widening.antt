@@ -4,7 +4,7 @@ use Rattle.clients.specs.ClientRecord.{ClientRecord}
 use Rattle.clients.specs.RegistryRecord.{RegistryRecord}
 use Rattle.consent.specs.History.{is_within}
 use Rattle.consent.specs.declared.grant.TokenKind.{TokenKind}
-use Rattle.endpoints.specs.Bounded.{life_limit}
+use Rattle.endpoints.specs.Bounded.{token_life_limit}
 
 -- each client has its number, and may be allowed all that it was
 abbrev pub AreWider : List ClientRecord → List ClientRecord → Type 0
@@ -18,4 +18,4 @@ pub record IsWider (old new : RegistryRecord) : Type 0 where
   pub scopes : (more : List (List ℕ)) × (new.scopes ≡ old.scopes ++ more)
   pub owners : length old.owners ≤ length new.owners
   pub clients : AreWider old.clients new.clients
-  pub lives : (kind : TokenKind) → life_limit old kind ≤ life_limit new kind
+  pub lives : (kind : TokenKind) → token_life_limit old kind ≤ token_life_limit new kind

@@ -9,8 +9,8 @@ use Rattle.clients.specs.RegistryRecord.{RegistryRecord}
 use Rattle.consent.specs.CoveredLaws.{is_within-trans}
 use Rattle.consent.specs.History.{Event, Change, is_within}
 use Rattle.consent.specs.History.Change.{Consented, CodeGiven, Issued, Spent, FamilyEnded, HookSet, HookGone}
-use Rattle.endpoints.specs.Bounded.{IsRight, AllRight, MayHave, allowed_to}
-use Rattle.endpoints.specs.Server.{Seen, FitsServer}
+use Rattle.endpoints.specs.Bounded.{IsRightChange, AllRight, MayHave, allowed_to}
+use Rattle.endpoints.specs.Server.{SeenServer, FitsServer}
 use Rattle.endpoints.specs.Widening.{AreWider, IsWider}
 
 -- what a client may be allowed, if there is one
@@ -55,7 +55,7 @@ module _ (old new : RegistryRecord) (wider : IsWider old new) where
     within = allowed_wider scope client may.within;
   }
 
-  right_wider : (before : List Event) (change : Change) → IsRight old before change → IsRight new before change
+  right_wider : (before : List Event) (change : Change) → IsRightChange old before change → IsRightChange new before change
   right_wider before (CodeGiven family client owner scope redirect challenge digest) right = (may_have-wider scope client right.0, right.1)
   right_wider before (Issued family client owner kind digest scope life) right =
       let longer = wider.lives kind in let within = right.1 in (may_have-wider scope client right.0, omega (arith, within, longer), right.2)
@@ -71,7 +71,7 @@ module _ (old new : RegistryRecord) (wider : IsWider old new) where
   all_right-wider before (e ∷ later) all = (right_wider before e.change all.0, all_right-wider (before ++ e ∷ []) later all.1)
 
   -- and a server under wider rules fits what it fitted
-  pub fits_server-wider : {H : Type 0} (installs : H → List ℕ → Layout → List ℕ → H → Type 0) (removes : H → List ℕ → H → Type 0) (server : Seen H) (first : H) (history : List Event) (m : ℕ) →
+  pub fits_server-wider : {H : Type 0} (installs : H → List ℕ → Layout → List ℕ → H → Type 0) (removes : H → List ℕ → H → Type 0) (server : SeenServer H) (first : H) (history : List Event) (m : ℕ) →
       FitsServer installs removes server old first history m → FitsServer installs removes (record server { rules = new }) new first history m
   fits_server-wider installs removes server first history m fits = record {
     rules_are = refl;

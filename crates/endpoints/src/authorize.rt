@@ -2,15 +2,15 @@
 ghost use Rattle.std.specs.Prelude.{◌≡◌, ◌≤◌, ℕ, List, Some, IfOk, length, option_copied};
 ghost use Rattle.clients.specs.Limits.{redirect_limit};
 ghost use Rattle.messages.specs.Asked.{asked_of};
-ghost use Rattle.answers.specs.Halts.{Leads};
+ghost use Rattle.answers.specs.Halts.{LeadsOrHalts};
 ghost use Rattle.answers.specs.Outcomes.{Outcome};
 ghost use Rattle.answers.specs.Requesters as asked;
 ghost use Rattle.answers.specs.Requesters.{Parameters};
-ghost use Rattle.answers.specs.Scene.{known_of};
+ghost use Rattle.answers.specs.Setting.{known_of};
 ghost use Rattle.answers.specs.Short.{IsShortAnswer, state_limit};
-ghost use Rattle.answers.specs.Told.{Decides, told};
+ghost use Rattle.answers.specs.Told.{Decides, outcome_told};
 ghost use Rattle.endpoints.specs.Authorize.{HasShortState, challenge_sent, known_points, query_points, with_query};
-ghost use Rattle.endpoints.specs.Deciding.{DecidesCode, InEach, code_by};
+ghost use Rattle.endpoints.specs.Deciding.{DecidesCode, InEachSetting, code_by};
 
 use answers::{Answer, Decision, Halt, KnownClient, View, named_client, owner, scope_within};
 use clients::{GrantType, Registry};
@@ -29,7 +29,8 @@ pub(crate) struct Requester<'r, 'p> {
 
 /// The parameters of the query.
 pub(crate) fn query(alloc: Global, request: &Request<'_>) -> Result<Params, Halt>
-    ensures leads { (next : Parameters → Outcome) → Leads result (with_query (asked_of request.entry.now) next) next }
+    ensures leads { (next : Parameters → Outcome) →
+        LeadsOrHalts result (with_query (asked_of request.entry.now) next) next }
     ensures short { length request.entry.now.target.now ≤ state_limit → IfOk result HasShortState }
 {
     match Params::read(alloc, request.query()) {
@@ -41,7 +42,7 @@ pub(crate) fn query(alloc: Global, request: &Request<'_>) -> Result<Params, Halt
 
 // The client and its redirect URI, without which nobody is sent anywhere.
 fn known<'r, 'p>(rules: &'r Registry, params: &'p Params) -> Result<Requester<'r, 'p>, Halt>
-    ensures leads { (next : asked.KnownClient → List ℕ → Outcome) → Leads result (known_points rules.now params.now next)
+    ensures leads { (next : asked.KnownClient → List ℕ → Outcome) → LeadsOrHalts result (known_points rules.now params.now next)
         (λ requester. next (known_of requester.known) requester.redirect.now) }
     ensures short { IfOk result (λ requester. length requester.redirect.now ≤ redirect_limit) }
 {
@@ -77,7 +78,7 @@ fn code_facts<'p>(
     params: &'p Params,
     requester: &Requester<'_, 'p>,
 ) -> Result<CodeFacts<'p>, ErrorName>
-    ensures decides { InEach view.now (λ s. DecidesCode s (asked_of request.entry.now) params.now requester.entry.now result) }
+    ensures decides { InEachSetting view.now (λ s. DecidesCode s (asked_of request.entry.now) params.now requester.entry.now result) }
     ensures there { IfOk result (λ facts. facts.redirect ≡ requester.entry.now.redirect) }
 {
     let client = requester.known.client;
@@ -108,7 +109,7 @@ fn code_facts<'p>(
 
 // The user agent is sent back with a code (RFC 6749, section 4.1.2).
 fn give_code<'p>(view: &View<'_>, params: &'p Params, facts: &CodeFacts<'p>) -> Decision<'p>
-    ensures told { InEach view.now (λ s. told s result ≡ Some (code_by s params.now facts.entry.now)) }
+    ensures told { InEachSetting view.now (λ s. outcome_told s result ≡ Some (code_by s params.now facts.entry.now)) }
     ensures short { length facts.entry.now.redirect.now ≤ redirect_limit → HasShortState params.now → IsShortAnswer result.answer }
 {
     let draw = view.draws.first;
@@ -141,7 +142,7 @@ pub(crate) fn authorize<'p>(
     request: &Request<'_>,
     params: &'p Params,
 ) -> Result<Decision<'p>, Halt>
-    ensures decides { InEach view.now (λ s. Decides s result
+    ensures decides { InEachSetting view.now (λ s. Decides s result
         (query_points s.rules s.history (asked_of request.entry.now) s.moment s.draws.first params.now)) }
     ensures short { HasShortState params.now → IfOk result (λ decision. IsShortAnswer decision.answer) }
 {

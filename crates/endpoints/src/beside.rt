@@ -1,6 +1,6 @@
 //! The changes that are made beside the store: of consents and of hooks.
 ghost use Rattle.std.specs.Prelude.{[], ◌∷◌};
-ghost use Rattle.consent.specs.Changes.{listed};
+ghost use Rattle.consent.specs.Changes.{as_list};
 ghost use Rattle.endpoints.specs.Making.{HasConsentRoom, MakesConsents, MakesHost};
 ghost use Rattle.endpoints.specs.Ruling.{CanTake};
 
@@ -47,10 +47,10 @@ pub(crate) fn make_beside<H: HookHost>(
     changes: &Changes<'_>,
     checked: Checked<H>,
 )
-    requires room { HasConsentRoom consents.old (listed changes.now) }
-    requires hook { CanTake H.HookHost host.old (listed changes.now) checked }
-    ensures consents { MakesConsents consents.old (listed changes.now) consents.new }
-    ensures hosts { MakesHost H.HookHost host.old (listed changes.now) checked host.new }
+    requires room { HasConsentRoom consents.old (as_list changes.now) }
+    requires hook { CanTake H.HookHost host.old (as_list changes.now) checked }
+    ensures consents { MakesConsents consents.old (as_list changes.now) consents.new }
+    ensures hosts { MakesHost H.HookHost host.old (as_list changes.now) checked host.new }
 {
     if let Changes::One(change) = changes {
         make_one(host, consents, change, checked);

@@ -1,16 +1,16 @@
 //! The operator's requests.
 ghost use Rattle.std.specs.Prelude.{◌≡◌, ℕ, List, IfOk, codes, option_and_then, option_map};
-ghost use Rattle.params.specs.Form.{value_of};
+ghost use Rattle.params.specs.Form.{value_sent};
 ghost use Rattle.consent.specs.History.{Change};
 ghost use Rattle.hook_host.specs.Versions.{version_of};
 ghost use Rattle.messages.specs.Asked.{asked_of};
-ghost use Rattle.answers.specs.Halts.{Leads};
+ghost use Rattle.answers.specs.Halts.{LeadsOrHalts};
 ghost use Rattle.answers.specs.Outcomes.{Outcome};
-ghost use Rattle.answers.specs.Scene.{Scene};
+ghost use Rattle.answers.specs.Setting.{Setting};
 ghost use Rattle.answers.specs.Short.{IsShortAnswer};
-ghost use Rattle.endpoints.specs.HookAsking.{hook_change};
+ghost use Rattle.endpoints.specs.HookAsking.{hook_set_asked};
 ghost use Rattle.endpoints.specs.HookPaths.{hook_gone, hook_set, hook_set_by, version_asked, with_operator};
-ghost use Rattle.endpoints.specs.Ruling.{IsRefusal, RulesHooks};
+ghost use Rattle.endpoints.specs.Ruling.{IsHookRefused, RulesHooks};
 
 use crate::ruling::{Checked, Ruling};
 use answers::{Answer, Decision, Halt};
@@ -23,7 +23,8 @@ use params::Params;
 
 /// The operator's key was sent.
 pub(crate) fn operator(rules: &Registry, request: &Request<'_>) -> Result<(), Halt>
-    ensures { (next : Outcome) → Leads result (with_operator rules.now (asked_of request.entry.now) next) (λ _. next) }
+    ensures { (next : Outcome) →
+        LeadsOrHalts result (with_operator rules.now (asked_of request.entry.now) next) (λ _. next) }
 {
     match request.operator_key {
         Some(key) if rules.is_operator(key) => Ok(()),
@@ -40,7 +41,7 @@ struct HookAsked<'a> {
 
 // The layout of the record that the hook reads.
 fn layout_asked(params: &Params) -> Option<Layout>
-    ensures { option_map version_of result ≡ version_asked (value_of (codes "record") params.now) }
+    ensures { option_map version_of result ≡ version_asked (value_sent (codes "record") params.now) }
 {
     match params.get("record") {
         None | Some("1") => Some(Layout::V1),
@@ -51,8 +52,8 @@ fn layout_asked(params: &Params) -> Option<Layout>
 
 // The hook that the parameters ask for.
 fn hook_asked(params: &Params) -> Option<HookAsked<'_>>
-    ensures { (code : List ℕ) → option_map (hook_change code) result
-        ≡ option_and_then (hook_set params.now code) (value_of (codes "name") params.now) }
+    ensures { (code : List ℕ) → option_map (hook_set_asked code) result
+        ≡ option_and_then (hook_set params.now code) (value_sent (codes "name") params.now) }
 {
     let name = params.get("name")?;
     let layout = layout_asked(params)?;
@@ -71,7 +72,7 @@ fn version_of(layout: Layout) -> u64
 
 // The host has that fault, with which nothing happens.
 fn refused<'c, H>(fault: HookFault) -> Result<Ruling<'c, H>, Halt>
-    ensures refused { IsRefusal fault result }
+    ensures refused { IsHookRefused fault result }
     ensures short { IfOk result (λ ruling. IsShortAnswer ruling.decision.answer) }
 {
     if fault == HookFault::Memory {
@@ -92,7 +93,7 @@ pub(crate) fn install<'c, H: HookHost>(
     code: &'c [u8],
     params: &'c Params,
 ) -> Result<Ruling<'c, H>, Halt>
-    ensures rules { (s : Scene) → RulesHooks H.HookHost host.now s (hook_set_by params.now code.now) result }
+    ensures rules { (s : Setting) → RulesHooks H.HookHost host.now s (hook_set_by params.now code.now) result }
     ensures short { IfOk result (λ ruling. IsShortAnswer ruling.decision.answer) }
 {
     let Some(asked) = hook_asked(params) else {
@@ -116,7 +117,7 @@ pub(crate) fn install<'c, H: HookHost>(
 
 /// Decides on the removal of the hook that the form names.
 pub(crate) fn remove<'c, H: HookHost>(host: &H, params: &'c Params) -> Result<Ruling<'c, H>, Halt>
-    ensures rules { (s : Scene) → RulesHooks H.HookHost host.now s (hook_gone params.now) result }
+    ensures rules { (s : Setting) → RulesHooks H.HookHost host.now s (hook_gone params.now) result }
     ensures short { IfOk result (λ ruling. IsShortAnswer ruling.decision.answer) }
 {
     let Some(name) = params.get("name") else {

@@ -3,7 +3,7 @@ ghost use Rattle.std.specs.Prelude.{◌≡◌, IfOk};
 ghost use Rattle.messages.specs.Asked.{asked_of};
 ghost use Rattle.answers.specs.Short.{IsShortAnswer};
 ghost use Rattle.answers.specs.Told.{Decides};
-ghost use Rattle.endpoints.specs.Deciding.{InEach};
+ghost use Rattle.endpoints.specs.Deciding.{InEachSetting};
 ghost use Rattle.endpoints.specs.Introspect.{introspect};
 
 use crate::revoke::{live_token, presented_by};
@@ -28,7 +28,7 @@ pub(crate) fn introspect<'c>(
     view: &View<'_>,
     request: &Request<'_>,
 ) -> Result<Decision<'c>, Halt>
-    ensures decides { InEach view.now (λ s. Decides s result
+    ensures decides { InEachSetting view.now (λ s. Decides s result
         (introspect s.rules s.history (asked_of request.entry.now) s.moment)) }
     ensures short { IfOk result (λ decision. IsShortAnswer decision.answer) }
 {

@@ -2,7 +2,7 @@
 ghost use Rattle.std.specs.Prelude.{◌≡◌, ◌≤◌, IfErr, IfOk, length};
 ghost use Rattle.messages.specs.Asked.{asked_of};
 ghost use Rattle.answers.specs.Short.{state_limit};
-ghost use Rattle.endpoints.specs.Reading.{EndsAt, IsRead, IsShortReading, endpoint_of};
+ghost use Rattle.endpoints.specs.Reading.{EndsAt, IsRequestRead, IsShortReading, endpoint_of};
 
 use crate::authorize::query;
 use crate::endpoint::Endpoint;
@@ -34,7 +34,7 @@ pub(crate) fn read(
     request: &Request<'_>,
 ) -> Result<Reading, Halt>
     ensures endpoint { IfOk result (λ reading. endpoint_of reading ≡ endpoint) }
-    ensures read { IfOk result (IsRead rules.now (asked_of request.entry.now)) }
+    ensures read { IfOk result (IsRequestRead rules.now (asked_of request.entry.now)) }
     ensures ends { IfErr result (EndsAt endpoint rules.now (asked_of request.entry.now)) }
     ensures short { length request.entry.now.target.now ≤ state_limit → IfOk result IsShortReading }
 {

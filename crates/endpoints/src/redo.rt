@@ -1,12 +1,12 @@
 //! A change that happened before is made again.
 ghost use Rattle.std.specs.Prelude.{◌≡◌, ℕ, List, ◌∷◌, [], Some, IfOk, IfErr, IfSome, IfNone, is_some, option_map};
-ghost use Rattle.consent.specs.Changes.{listed};
+ghost use Rattle.consent.specs.Changes.{as_list};
 ghost use Rattle.consent.specs.Consents.{FitsConsents};
 ghost use Rattle.consent.specs.History.{Event, grant_at};
 ghost use Rattle.hook_host.specs.Versions.{layout_of};
 ghost use Rattle.token_store.specs.Fits.{FitsStore, refusal};
 ghost use Rattle.endpoints.specs.FaultTexts.{redo_fault_text, of_hook_fault};
-ghost use Rattle.endpoints.specs.Redo.{IsOfHistory, IsUnversioned, RefusesHook, history_refusal};
+ghost use Rattle.endpoints.specs.Redo.{IsOfHistory, IsUnversioned, RefusesHookChange, history_refusal};
 ghost use Rattle.endpoints.specs.Ruling.{CanMake};
 
 use crate::ruling::Checked;
@@ -111,7 +111,7 @@ fn same<'a>(change: &Change<'a>) -> Change<'a>
 
 /// The change, by itself.
 pub(crate) fn alone<'a>(change: &Change<'a>) -> Changes<'a>
-    ensures { listed result ≡ change.now ∷ [] }
+    ensures { as_list result ≡ change.now ∷ [] }
 {
     Changes::One(same(change))
 }
@@ -193,7 +193,7 @@ pub(crate) fn check_hook<H: HookHost>(
     change: &Change<'_>,
 ) -> Result<Checked<H>, RedoFault>
     ensures can { IfOk result (CanMake H.HookHost host.now change.now) }
-    ensures refused { IfErr result (RefusesHook H.HookHost host.now change.now) }
+    ensures refused { IfErr result (RefusesHookChange H.HookHost host.now change.now) }
 {
     match change {
         Change::HookSet {

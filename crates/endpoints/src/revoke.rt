@@ -1,11 +1,11 @@
 //! POST /revoke (RFC 7009, section 2).
 ghost use Rattle.std.specs.Prelude.{◌≡◌, ℕ, List, Option, IfOk};
 ghost use Rattle.messages.specs.Asked.{asked_of};
-ghost use Rattle.answers.specs.Halts.{Leads};
+ghost use Rattle.answers.specs.Halts.{LeadsOrHalts};
 ghost use Rattle.answers.specs.Outcomes.{Outcome};
 ghost use Rattle.answers.specs.Short.{IsShortAnswer};
 ghost use Rattle.answers.specs.Told.{Decides};
-ghost use Rattle.endpoints.specs.Deciding.{FindsLive, InEach};
+ghost use Rattle.endpoints.specs.Deciding.{FindsLive, InEachSetting};
 ghost use Rattle.endpoints.specs.Presented.{with_presented};
 ghost use Rattle.endpoints.specs.Revoke.{revoke_token};
 
@@ -29,7 +29,7 @@ pub(crate) fn presented_by(
     rules: &Registry,
     request: &Request<'_>,
 ) -> Result<Presented, Halt>
-    ensures { (next : ℕ → Option (List ℕ) → Outcome) → Leads result
+    ensures { (next : ℕ → Option (List ℕ) → Outcome) → LeadsOrHalts result
         (with_presented rules.now (asked_of request.entry.now) next) (λ p. next p.client p.digest) }
 {
     let params = match form(alloc, request) {
@@ -51,7 +51,7 @@ pub(crate) fn presented_by(
 
 // The live access or refresh token of the digest.
 pub(crate) fn live_token<'a>(view: &View<'a>, digest: &[u8; 32]) -> Option<Found<'a>>
-    ensures { InEach view.now (λ s. FindsLive digest.now s result) }
+    ensures { InEachSetting view.now (λ s. FindsLive digest.now s result) }
 {
     let Some(found) = view.at(digest) else {
         return None;
@@ -70,7 +70,7 @@ pub(crate) fn revoke<'c>(
     view: &View<'_>,
     request: &Request<'_>,
 ) -> Result<Decision<'c>, Halt>
-    ensures decides { InEach view.now (λ s. Decides s result
+    ensures decides { InEachSetting view.now (λ s. Decides s result
         (revoke_token s.rules s.history (asked_of request.entry.now) s.moment)) }
     ensures short { IfOk result (λ decision. IsShortAnswer decision.answer) }
 {

@@ -1,25 +1,25 @@
 //! The server.
 ghost use Rattle.std.specs.Prelude.{◌≡◌, ◌<◌, ◌≤◌, ◌↔◌, ℕ, List, [], Err, None, Some, IfErr, IfOk, OnErr, OnOk, max, length, option_map};
-ghost use Rattle.consent.specs.Changes.{listed};
+ghost use Rattle.consent.specs.Changes.{as_list};
 ghost use Rattle.consent.specs.Consents.{FitsConsents, kept_consents};
 ghost use Rattle.consent.specs.declared.change.Changes.TheVariants.{One};
 ghost use Rattle.messages.specs.Asked.{asked_of};
-ghost use Rattle.answers.specs.Short.{IsShort, IsShortAnswer, state_limit};
+ghost use Rattle.answers.specs.Short.{IsShortReply, IsShortAnswer, state_limit};
 ghost use Rattle.change_codec.specs.Batches.{facts_in};
-ghost use Rattle.endpoints.specs.Making.{HasRooms, IsReady, IsSame, Makes};
+ghost use Rattle.endpoints.specs.Making.{HasRooms, IsReadyToMake, IsSame, Makes};
 ghost use Rattle.consent.specs.History.{Event, unexpired_count};
-ghost use Rattle.endpoints.specs.Redo.{Follows, Redoes, RefusesRedo};
+ghost use Rattle.endpoints.specs.Redo.{FollowsEach, RedoesChange, RefusesRedo};
 ghost use Rattle.endpoints.specs.Noting.{with_notes};
-ghost use Rattle.endpoints.specs.Reading.{EndsAt, IsRead, IsShortReading, endpoint_of};
+ghost use Rattle.endpoints.specs.Reading.{EndsAt, IsRequestRead, IsShortReading, endpoint_of};
 ghost use Rattle.endpoints.specs.Ruling.{CanMake, CanTake};
-ghost use Rattle.endpoints.specs.Rulings.{Answers, IsAlone, IsHalted, Rules, RulesAlone, asking_of};
+ghost use Rattle.endpoints.specs.Rulings.{AnswersRequest, IsAlone, IsHalted, Rules, RulesAlone, asking_of};
 ghost use Rattle.endpoints.specs.Bounded.{AllRight};
 ghost use Rattle.endpoints.specs.Hosts.{HostRun};
 ghost use Rattle.endpoints.specs.Restoring.{AreOf, RefusesRestore};
 ghost use Rattle.endpoints.specs.Server.{FitsServer, Notes, NowNotes};
 ghost use Rattle.endpoints.specs.Steps.{KeepsBounds, Steps, Sweeps};
 ghost use Rattle.token_store.specs.Fits.{FitsHistory, FitsStore};
-ghost use Rattle.token_store.specs.Image.{image_of};
+ghost use Rattle.token_store.specs.Image.{as_kept};
 
 use crate::authorize::authorize;
 use crate::beside::make_beside;
@@ -78,9 +78,9 @@ impl<H: Drop> Drop for Server<H> {
 
 impl<H> Model for Server<H> {
     ghost use Rattle.endpoints.specs.Noting.{noted_in, prepared_in};
-    ghost use Rattle.endpoints.specs.Server.{Seen};
+    ghost use Rattle.endpoints.specs.Server.{SeenServer};
 
-    ghost Value = { Seen H };
+    ghost Value = { SeenServer H };
 
     ghost view = { λ s. record {
       rules = s.rules;
@@ -151,7 +151,7 @@ impl<H: HookHost> Server<H> {
     /// The codes and tokens that are unexpired at the greatest moment.
     pub fn records(&self, alloc: Global) -> Result<Vec<KeptRecord<'_>>, AllocError>
         ensures { IfOk result (λ records. (history : List Event) → FitsStore self.now.store history self.now.greatest →
-            FitsHistory (image_of records.items) history self.now.greatest) }
+            FitsHistory (as_kept records.items) history self.now.greatest) }
     {
         self.store.records(alloc, self.greatest)
     }
@@ -193,7 +193,7 @@ impl<H: HookHost> Server<H> {
     /// Reads a request at its endpoint. Of the operator's requests the key is looked at first.
     pub fn read(&self, endpoint: Endpoint, request: &Request<'_>) -> Result<Reading, Halt>
         ensures endpoint { IfOk result (λ reading. endpoint_of reading ≡ endpoint) }
-        ensures read { IfOk result (IsRead self.now.rules (asked_of request.now)) }
+        ensures read { IfOk result (IsRequestRead self.now.rules (asked_of request.now)) }
         ensures ends { IfErr result (EndsAt endpoint self.now.rules (asked_of request.now)) }
         ensures short { length request.now.target.now ≤ state_limit → IfOk result IsShortReading }
     {
@@ -207,7 +207,7 @@ impl<H: HookHost> Server<H> {
         reading: &'a Reading,
         draws: &Draws,
     ) -> Result<Decision<'a>, Halt>
-        ensures decides { IsAlone reading.now → IsRead self.now.rules (asked_of request.now) reading.now →
+        ensures decides { IsAlone reading.now → IsRequestRead self.now.rules (asked_of request.now) reading.now →
             RulesAlone H.HookHost self.now (asking_of (asked_of request.now) reading.now draws.now) result }
         ensures short { IsShortReading reading.now → IfOk result (λ decision. IsShortAnswer decision.answer) }
     {
@@ -239,9 +239,9 @@ impl<H: HookHost> Server<H> {
         reading: &'a Reading,
         draws: &Draws,
     ) -> Result<Ruling<'a, H>, Halt>
-        ensures rules { IsRead self.now.rules (asked_of request.now) reading.now →
+        ensures rules { IsRequestRead self.now.rules (asked_of request.now) reading.now →
             Rules H.HookHost self.now (asking_of (asked_of request.now) reading.now draws.now) result }
-        ensures hook { IfOk result (λ ruling. CanTake H.HookHost self.now.host (listed ruling.decision.changes) ruling.checked) }
+        ensures hook { IfOk result (λ ruling. CanTake H.HookHost self.now.host (as_list ruling.decision.changes) ruling.checked) }
         ensures short { IsShortReading reading.now → IfOk result (λ ruling. IsShortAnswer ruling.decision.answer) }
     {
         match reading {
@@ -279,8 +279,8 @@ impl<H: HookHost> Server<H> {
 
     /// Makes the changes of a ruling, which room was made for, and notes them at the greatest moment, where that is done.
     pub fn apply(&mut self, changes: &Changes<'_>, checked: Checked<H>)
-        requires { IsReady H.HookHost self.old changes.now checked }
-        ensures makes { Makes H.HookHost self.old (listed changes.now) checked self.new }
+        requires { IsReadyToMake H.HookHost self.old changes.now checked }
+        ensures makes { Makes H.HookHost self.old (as_list changes.now) checked self.new }
         ensures notes { self.new.unkept ≡ with_notes self.old.unkept self.old.greatest changes.now }
     {
         note_prepared(&mut self.unkept);
@@ -297,9 +297,9 @@ impl<H: HookHost> Server<H> {
         draws: &Draws,
         cause: &mut Option<Cause>,
     ) -> Result<Response, AllocError>
-        ensures replies { Answers H.HookHost self.old
+        ensures replies { AnswersRequest H.HookHost self.old
             (record { endpoint = endpoint; asked = asked_of request.now; draws = draws.now }) result self.new }
-        ensures short { length request.now.target.now ≤ state_limit → IfOk result IsShort }
+        ensures short { length request.now.target.now ≤ state_limit → IfOk result IsShortReply }
     {
         let reading = match self.read(endpoint, request) {
             Ok(reading) => reading,
@@ -327,7 +327,7 @@ impl<H: HookHost> Server<H> {
     ) -> Response
         ensures replies { Steps H.HookHost self.old
             (record { asked = asked_of request.now; moment = moment; draws = draws.now }) result self.new }
-        ensures short { length request.now.target.now ≤ state_limit → IsShort result }
+        ensures short { length request.now.target.now ≤ state_limit → IsShortReply result }
     {
         self.greatest = greater(self.greatest, moment);
         self.store.drop_expired(self.greatest);
@@ -364,7 +364,7 @@ impl<H: HookHost> Server<H> {
             (record { asked = asked_of request.now; moment = moment; draws = draws.now }) result self.new }
         ensures bounded { KeepsBounds H.HookHost self.new }
         ensures kept { Sweeps H.HookHost self.old self.new }
-        ensures short { length request.now.target.now ≤ state_limit → IsShort result }
+        ensures short { length request.now.target.now ≤ state_limit → IsShortReply result }
     {
         let mut cause = None;
         let reply = self.answer(request, moment, draws, &mut cause);
@@ -418,7 +418,7 @@ impl<H: HookHost> Server<H> {
     // What the host finds of a change that may be made again at the moment.
     fn check_again(&self, moment: Moment, change: &Change<'_>) -> Result<Checked<H>, RedoFault>
         ensures back { (result ≡ Err RedoFault.MomentBack) ↔ (moment < self.now.greatest) }
-        ensures follows { OnOk result (Follows H.HookHost self.now moment change.now) }
+        ensures follows { OnOk result (FollowsEach H.HookHost self.now moment change.now) }
         ensures can { IfOk result (CanMake H.HookHost self.now.host change.now) }
         ensures refused { IfErr result (RefusesRedo H.HookHost self.now moment change.now) }
     {
@@ -434,7 +434,7 @@ impl<H: HookHost> Server<H> {
     /// Makes a change again that happened at the moment, which is then the greatest. What the change means is said by the
     /// changes that were made before it. A refused one changes nothing.
     pub fn redo(&mut self, moment: Moment, change: &Change<'_>) -> Result<(), RedoFault>
-        ensures redone { OnOk result (Redoes H.HookHost self.old moment change.now self.new) }
+        ensures redone { OnOk result (RedoesChange H.HookHost self.old moment change.now self.new) }
         ensures noted { OnOk result (self.new.unkept ≡ with_notes self.old.unkept moment (One change.now)) }
         ensures back { (result ≡ Err RedoFault.MomentBack) ↔ (moment < self.old.greatest) }
         ensures refused { IfErr result (RefusesRedo H.HookHost self.old moment change.now) }

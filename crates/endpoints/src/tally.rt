@@ -1,6 +1,6 @@
 //! How many requests were answered, and how.
 ghost use Rattle.std.specs.Prelude.{◌≡◌};
-ghost use Rattle.endpoints.specs.Tallies.{asked_at, cause_of, counted, one_more, replied, wanted};
+ghost use Rattle.endpoints.specs.Tallies.{asked_at, cause_of, with_request, one_more, replied, wanted};
 
 use crate::endpoint::Endpoint;
 use answers::{Answer, Want};
@@ -149,7 +149,7 @@ impl Tally {
         status: StatusCode,
         cause: Option<Cause>,
     )
-        ensures { self.new ≡ counted self.old endpoint status cause }
+        ensures { self.new ≡ with_request self.old endpoint status cause }
     {
         self.asked = self.asked.at(endpoint);
         self.replied = self.replied.with(status);

@@ -13,16 +13,16 @@ use Rattle.event_loop.specs.declared.place.Stage.TheVariants.{Free, Open, Ended,
 use Rattle.event_loop.specs.Deeds as deed
 use Rattle.event_loop.specs.Deeds.{Deed}
 use Rattle.event_loop.specs.Courses.{known, IsReached}
-use Rattle.event_loop.specs.Places.{IsTaken, IsServed, IsFreeAt, MayRead, read_limit}
+use Rattle.event_loop.specs.Places.{IsOccupied, IsInService, IsFreeAt, MayRead, read_limit}
 use Rattle.event_loop.specs.Scenes.{Promises, Scene}
-use Rattle.event_loop.specs.Coming.{Comes, opens, denies, finds_nobody, fails, asks, fresh_place}
+use Rattle.event_loop.specs.Coming.{AcceptsOne, opens, denies, finds_nobody, fails, asks, fresh_place}
 use Rattle.event_loop.specs.Reading as reading
-use Rattle.event_loop.specs.Reading.{Reads, read_place}
+use Rattle.event_loop.specs.Reading.{ReadsPlace, read_place}
 use Rattle.event_loop.specs.Writing as writing
-use Rattle.event_loop.specs.Writing.{Writes}
+use Rattle.event_loop.specs.Writing.{WritesPlace}
 use Rattle.event_loop.specs.Closing.{Closes, leaves}
-use Rattle.event_loop.specs.Served.{Step, Served, waits, hears_of_listener, hears_of, hears_of_none, comes, tries_again, reads, writes, closes, reports, keeps, puts_image, no_image, begins, goes}
-use Rattle.event_loop.specs.Answered.{Exchange, IsAnswered, read_at, written_at}
+use Rattle.event_loop.specs.Served.{LoopStep, Served, waits, hears_of_listener, hears_of, hears_of_none, comes, tries_again, reads, writes, closes, reports, keeps, puts_image, no_image, begins, goes}
+use Rattle.event_loop.specs.Answered.{PlaceExchange, IsAllAnswered, read_at, written_at}
 use Rattle.event_loop.proofs.Putting.{set_cases}
 use Rattle.event_loop.proofs.Kept.{kept_connections}
 use Rattle.http_edge.proofs.Connections.{no_other}
@@ -30,23 +30,23 @@ use Rattle.event_loop.proofs.Others.{is_itself, opens_other, ends_other, takes_o
 use Rattle.event_loop.proofs.Telling.{Talk, talk_opened, talk_lost, talk_given, talk_ended, talk_written, closing_taken, gives_reached, gives_other}
 
 -- one that is served is there
-served_taken : (stage : Stage) → IsServed stage → IsTaken stage
+served_taken : (stage : Stage) → IsInService stage → IsOccupied stage
 served_taken Free is = absurd is
 served_taken Open is = tt
 served_taken Ended is = tt
 served_taken (Broken fault) is = tt
 
 -- where a place is free, no connection is there
-not_free : (places : List Place) (k : ℕ) (place : Place) → IsFreeAt places k → slice_get places k ≡ Some place → IsTaken place.stage → ⊥
-not_free places k place free here taken = subst IsTaken (free place here) taken
+not_free : (places : List Place) (k : ℕ) (place : Place) → IsFreeAt places k → slice_get places k ≡ Some place → IsOccupied place.stage → ⊥
+not_free places k place free here taken = subst IsOccupied (free place here) taken
 
 module _ {N C J K H : Type 0} where
   -- the exchange as a talk
-  talk_of : (s : Scene N C J K H) (k : ℕ) (place : Place) (x : Exchange s k place) → Talk (read_at k s.deeds) (written_at k s.deeds) x.lost (known s.course k)
+  talk_of : (s : Scene N C J K H) (k : ℕ) (place : Place) (x : PlaceExchange s k place) → Talk (read_at k s.deeds) (written_at k s.deeds) x.lost (known s.course k)
   talk_of s k place x = record { connection = x.connection; here = x.here; stream = x.stream; rest = x.rest; requests = x.requests; front = x.front }
 
   exchange_of : (s : Scene N C J K H) (k : ℕ) (place : Place) (read written lost : List ℕ) → read_at k s.deeds ≡ read → written_at k s.deeds ≡ written → (t : Talk read written lost (known s.course k)) →
-      (place.stage ≡ Open → is_closing (known s.course k) ≡ false → lost ≡ []) → Exchange s k place
+      (place.stage ≡ Open → is_closing (known s.course k) ≡ false → lost ≡ []) → PlaceExchange s k place
   exchange_of s k place read written lost same_read same_written t whole = record {
     connection = t.connection;
     here = t.here;
@@ -59,8 +59,8 @@ module _ {N C J K H : Type 0} where
   }
 
   -- nothing happened to it
-  stays_same : (s s' : Scene N C J K H) (k : ℕ) (place place' : Place) → Exchange s k place → known s'.course k ≡ known s.course k → read_at k s'.deeds ≡ read_at k s.deeds → written_at k s'.deeds ≡ written_at k s.deeds →
-      (place'.stage ≡ Open → place.stage ≡ Open) → Exchange s' k place'
+  stays_same : (s s' : Scene N C J K H) (k : ℕ) (place place' : Place) → PlaceExchange s k place → known s'.course k ≡ known s.course k → read_at k s'.deeds ≡ read_at k s.deeds → written_at k s'.deeds ≡ written_at k s.deeds →
+      (place'.stage ≡ Open → place.stage ≡ Open) → PlaceExchange s' k place'
   stays_same s s' k place place' x same_known same_read same_written opened = record {
     connection = x.connection;
     here = same_known ∙ x.here;
@@ -73,16 +73,16 @@ module _ {N C J K H : Type 0} where
   }
 
   -- the place of a step at j, and another
-  module _ (p : Promises N C J K H) (rules : RegistryRecord) (host : H) (s : Scene N C J K H) (before : IsAnswered p rules host s) where
+  module _ (p : Promises N C J K H) (rules : RegistryRecord) (host : H) (s : Scene N C J K H) (before : IsAllAnswered p rules host s) where
     -- the place of a step is as it says, and the others are as they were
-    at_places : (s' : Scene N C J K H) (j : ℕ) (place' : Place) → s'.places ≡ slice_set s.places j place' → (IsTaken place'.stage → Exchange s' j place') →
+    at_places : (s' : Scene N C J K H) (j : ℕ) (place' : Place) → s'.places ≡ slice_set s.places j place' → (IsOccupied place'.stage → PlaceExchange s' j place') →
         ((k : ℕ) → k ≢ j → known s'.course k ≡ known s.course k) → ((k : ℕ) → k ≢ j → read_at k s'.deeds ≡ read_at k s.deeds) → ((k : ℕ) → k ≢ j → written_at k s'.deeds ≡ written_at k s.deeds) →
-        (k : ℕ) (place : Place) → slice_get s'.places k ≡ Some place → IsTaken place.stage → Exchange s' k place
+        (k : ℕ) (place : Place) → slice_get s'.places k ≡ Some place → IsOccupied place.stage → PlaceExchange s' k place
     at_places s' j place' put at same_known same_read same_written k place here taken =
         elim (set_cases s.places j k place' place (subst (λ places. slice_get places k ≡ Some place) put here)) [
           | inl is ↦
-              let taken' : IsTaken place'.stage = subst (λ (q : Place). IsTaken q.stage) is.1 taken in
-              subst (λ q. Exchange s' k q) (sym is.1) (subst (λ i. Exchange s' i place') (sym is.0) (at taken'))
+              let taken' : IsOccupied place'.stage = subst (λ (q : Place). IsOccupied q.stage) is.1 taken in
+              subst (λ q. PlaceExchange s' k q) (sym is.1) (subst (λ i. PlaceExchange s' i place') (sym is.0) (at taken'))
           | inr other ↦ stays_same s s' k place place (before.exchanges k place other.1 taken) (same_known k other.0) (same_read k other.0) (same_written k other.0) (λ e. e)
         ]
 
@@ -106,7 +106,7 @@ module _ {N C J K H : Type 0} where
     came_here j deeds = rw (is_itself j) (refl, refl)
 
     -- nothing was done at any place
-    idles : (s' : Scene N C J K H) → s'.places ≡ s.places → s'.course ≡ s.course → ((k : ℕ) → read_at k s'.deeds ≡ read_at k s.deeds) → ((k : ℕ) → written_at k s'.deeds ≡ written_at k s.deeds) → IsAnswered p rules host s'
+    idles : (s' : Scene N C J K H) → s'.places ≡ s.places → s'.course ≡ s.course → ((k : ℕ) → read_at k s'.deeds ≡ read_at k s.deeds) → ((k : ℕ) → written_at k s'.deeds ≡ written_at k s.deeds) → IsAllAnswered p rules host s'
     idles s' same_places same_course same_read same_written = record {
       reached = subst (IsReached p.hosting rules host) (sym same_course) before.reached;
       exchanges = λ k place here taken.
@@ -114,8 +114,8 @@ module _ {N C J K H : Type 0} where
     }
 
     -- one place is noted to be otherwise, and its connection is as it was
-    notes_place : (s' : Scene N C J K H) (j : ℕ) (place place' : Place) → slice_get s.places j ≡ Some place → s'.places ≡ slice_set s.places j place' → s'.course ≡ s.course → (IsTaken place'.stage → IsTaken place.stage) → (place'.stage ≡ Open → place.stage ≡ Open) →
-        ((k : ℕ) → read_at k s'.deeds ≡ read_at k s.deeds) → ((k : ℕ) → written_at k s'.deeds ≡ written_at k s.deeds) → IsAnswered p rules host s'
+    notes_place : (s' : Scene N C J K H) (j : ℕ) (place place' : Place) → slice_get s.places j ≡ Some place → s'.places ≡ slice_set s.places j place' → s'.course ≡ s.course → (IsOccupied place'.stage → IsOccupied place.stage) → (place'.stage ≡ Open → place.stage ≡ Open) →
+        ((k : ℕ) → read_at k s'.deeds ≡ read_at k s.deeds) → ((k : ℕ) → written_at k s'.deeds ≡ written_at k s.deeds) → IsAllAnswered p rules host s'
     notes_place s' j place place' here put same_course taken opened same_read same_written = record {
       reached = subst (IsReached p.hosting rules host) (sym same_course) before.reached;
       exchanges =
@@ -124,7 +124,7 @@ module _ {N C J K H : Type 0} where
           (λ k other. ap (λ course. known course k) same_course) (λ k other. same_read k) (λ k other. same_written k);
     }
 
-    comes_answered : (s' : Scene N C J K H) → Comes p rules host s s' → IsAnswered p rules host s'
+    comes_answered : (s' : Scene N C J K H) → AcceptsOne p rules host s s' → IsAllAnswered p rules host s'
     comes_answered s' (opens j n e on within free done) = record {
       reached = on.reached;
       exchanges =
@@ -143,9 +143,9 @@ module _ {N C J K H : Type 0} where
     comes_answered s' (fails n last journal done noted) = idles _ refl refl (λ k. refl) (λ k. refl)
     comes_answered s' (asks n taken done) = idles _ refl refl (λ k. refl) (λ k. refl)
 
-    reads_answered : (j : ℕ) (place : Place) (s' : Scene N C J K H) → slice_get s.places j ≡ Some place → MayRead place (known s.course j) → Reads p rules host j place s s' → IsAnswered p rules host s'
+    reads_answered : (j : ℕ) (place : Place) (s' : Scene N C J K H) → slice_get s.places j ≡ Some place → MayRead place (known s.course j) → ReadsPlace p rules host j place s s' → IsAllAnswered p rules host s'
     reads_answered j place s' here may (reading.hears bytes n course place' some few done heard is) =
-        let taken : IsTaken place.stage = subst IsTaken (sym may.is_open) tt in
+        let taken : IsOccupied place.stage = subst IsOccupied (sym may.is_open) tt in
         let x = before.exchanges j place here taken in
         let nothing_lost : x.lost ≡ [] = x.whole may.is_open (ap is_closing (sym x.here) ∙ may.stays) in
         let t : Talk (read_at j s.deeds) (written_at j s.deeds) [] (known s.course j) = subst (λ lost. Talk (read_at j s.deeds) (written_at j s.deeds) lost (known s.course j)) nothing_lost (talk_of s j place x) in
@@ -162,7 +162,7 @@ module _ {N C J K H : Type 0} where
               (λ k other. read_other j k bytes s.deeds other) (λ k other. refl);
         }
     reads_answered j place s' here may (reading.refuses bytes n fault course some few done unheard) =
-        let taken : IsTaken place.stage = subst IsTaken (sym may.is_open) tt in
+        let taken : IsOccupied place.stage = subst IsOccupied (sym may.is_open) tt in
         let x = before.exchanges j place here taken in
         let nothing_lost : x.lost ≡ [] = x.whole may.is_open (ap is_closing (sym x.here) ∙ may.stays) in
         let t : Talk (read_at j s.deeds) (written_at j s.deeds) [] (known s.course j) = subst (λ lost. Talk (read_at j s.deeds) (written_at j s.deeds) lost (known s.course j)) nothing_lost (talk_of s j place x) in
@@ -181,7 +181,7 @@ module _ {N C J K H : Type 0} where
               (λ k other. read_other j k bytes s.deeds other) (λ k other. refl);
         }
     reads_answered j place s' here may (reading.ends n e on done) =
-        let taken : IsTaken place.stage = subst IsTaken (sym may.is_open) tt in
+        let taken : IsOccupied place.stage = subst IsOccupied (sym may.is_open) tt in
         let x = before.exchanges j place here taken in
         record {
           reached = on.reached;
@@ -191,13 +191,13 @@ module _ {N C J K H : Type 0} where
               (λ k other. ends_other s.course.world on.world j k on.happens other) (λ k other. refl) (λ k other. refl);
         }
     reads_answered j place s' here may (reading.ends_nothing n fault done refused) =
-        notes_place _ j place (record place { stage = Broken (Refused fault) }) here refl refl (λ taken. subst IsTaken (sym may.is_open) tt) (λ e. may.is_open) (λ k. refl) (λ k. refl)
+        notes_place _ j place (record place { stage = Broken (Refused fault) }) here refl refl (λ taken. subst IsOccupied (sym may.is_open) tt) (λ e. may.is_open) (λ k. refl) (λ k. refl)
     reads_answered j place s' here may (reading.finds_nothing n done) =
         notes_place _ j place (record place { readable = false }) here refl refl (λ taken. taken) (λ e. e) (λ k. refl) (λ k. refl)
     reads_answered j place s' here may (reading.fails n done) =
-        notes_place _ j place (record place { stage = Broken Read }) here refl refl (λ taken. subst IsTaken (sym may.is_open) tt) (λ e. may.is_open) (λ k. refl) (λ k. refl)
+        notes_place _ j place (record place { stage = Broken Read }) here refl refl (λ taken. subst IsOccupied (sym may.is_open) tt) (λ e. may.is_open) (λ k. refl) (λ k. refl)
 
-    writes_answered : (j : ℕ) (place : Place) (s' : Scene N C J K H) → slice_get s.places j ≡ Some place → IsTaken place.stage → Writes p rules host j place s s' → IsAnswered p rules host s'
+    writes_answered : (j : ℕ) (place : Place) (s' : Scene N C J K H) → slice_get s.places j ≡ Some place → IsOccupied place.stage → WritesPlace p rules host j place s s' → IsAllAnswered p rules host s'
     writes_answered j place s' here taken (writing.sends count front n e on some is_front done) =
         let x = before.exchanges j place here taken in
         let t' = talk_written s.course.world on.world j count _ _ x.lost front some is_front on.happens (talk_of s j place x) in
@@ -213,7 +213,7 @@ module _ {N C J K H : Type 0} where
     writes_answered j place s' here taken (writing.fails n done) =
         notes_place _ j place (record place { stage = Broken Write }) here refl refl (λ t. taken) (λ e. absurd (cc)) (λ k. refl) (λ k. refl)
 
-    closes_answered : (j : ℕ) (place : Place) (s' : Scene N C J K H) → Closes p rules host j place s s' → IsAnswered p rules host s'
+    closes_answered : (j : ℕ) (place : Place) (s' : Scene N C J K H) → Closes p rules host j place s s' → IsAllAnswered p rules host s'
     closes_answered j place s' (leaves n e on last journal done noted) = record {
       reached = on.reached;
       exchanges =
@@ -221,12 +221,12 @@ module _ {N C J K H : Type 0} where
           (λ k other. forgets_other s.course.world on.world j k on.happens other) (λ k other. refl) (λ k other. refl);
     }
 
-    step_answered : (s' : Scene N C J K H) → Step p rules host s s' → IsAnswered p rules host s'
+    step_answered : (s' : Scene N C J K H) → LoopStep p rules host s s' → IsAllAnswered p rules host s'
     step_answered s' (waits limit room found n times c may done told) = idles _ refl refl (λ k. refl) (λ k. refl)
     step_answered s' (hears_of_listener more is) = idles _ refl refl (λ k. refl) (λ k. refl)
     step_answered s' (hears_of j readable writable hung more place place' is here told) =
         let same : place'.stage ≡ place.stage = ap (λ (q : Place). q.stage) told in
-        notes_place _ j place place' here refl refl (λ t. subst IsTaken same t) (λ e. sym same ∙ e) (λ k. refl) (λ k. refl)
+        notes_place _ j place place' here refl refl (λ t. subst IsOccupied same t) (λ e. sym same ∙ e) (λ k. refl) (λ k. refl)
     step_answered s' (hears_of_none j readable writable hung more is none) = idles _ refl refl (λ k. refl) (λ k. refl)
     step_answered s' (comes s'' told coming) = comes_answered s'' coming
     step_answered s' (tries_again since barred later) = idles _ refl refl (λ k. refl) (λ k. refl)
@@ -243,7 +243,7 @@ module _ {N C J K H : Type 0} where
     }
 
   -- so it is wherever steps lead to
-  pub served_answered : (p : Promises N C J K H) (rules : RegistryRecord) (host : H) (first s : Scene N C J K H) → Served p rules host first s → IsAnswered p rules host s
+  pub served_answered : (p : Promises N C J K H) (rules : RegistryRecord) (host : H) (first s : Scene N C J K H) → Served p rules host first s → IsAllAnswered p rules host s
   served_answered p rules host first s (begins is) = record {
     reached = is.reached;
     exchanges = λ k place here taken. absurd (not_free first.places k place (is.free k) here taken);

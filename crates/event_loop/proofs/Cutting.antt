@@ -13,17 +13,17 @@ use Rattle.http_edge.specs.declared.fault.EdgeFault.TheVariants.{TooManyRequests
 use Rattle.http_edge.specs.Chance.{next_draws}
 use Rattle.http_edge.specs.Pieces.{PieceGiven, PieceRefused}
 use Rattle.event_loop.specs.Courses.{Course}
-use Rattle.event_loop.specs.Giving.{Gives, IsRefused, GivesAll, GivesSome, nothing, gives, tries, cut_limit}
+use Rattle.event_loop.specs.Giving.{GivesPieces, IsPieceRefused, GivesAll, GivesSome, nothing, gives, tries, cut_limit}
 
 module _ {H : Type 0} (hosting : Hosting H) (rules : RegistryRecord) (host : H) (k moment : ℕ) where
   -- a front of the bytes was given
   pub record GivesFront (first : Course H) (front : List ℕ) (edge : SeenEdge H) (generator : ChaCha) : Type 0 where
     pub schedule : List Happening
     pub world : World
-    pub given : Gives hosting rules host k moment first front (record { edge = edge; generator = generator; schedule = schedule; world = world })
+    pub given : GivesPieces hosting rules host k moment first front (record { edge = edge; generator = generator; schedule = schedule; world = world })
 
   -- one more piece was given
-  pub gives_piece : (first course : Course H) (front piece : List ℕ) (edge : SeenEdge H) (generator : ChaCha) → Gives hosting rules host k moment first front course →
+  pub gives_piece : (first course : Course H) (front piece : List ℕ) (edge : SeenEdge H) (generator : ChaCha) → GivesPieces hosting rules host k moment first front course →
       Reached hosting course.edge rules host course.schedule course.world → is_closing (connection_at course.world.connections k) ≡ false →
       PieceGiven hosting course.edge edge k piece moment course.generator generator → GivesFront first (front ++ piece) edge generator
   gives_piece first course front piece edge generator given reached stays piece_given =
@@ -36,17 +36,17 @@ module _ {H : Type 0} (hosting : Hosting H) (rules : RegistryRecord) (host : H) 
 
   -- a piece was refused
   pub refuses_piece : (course : Course H) (piece : List ℕ) (generator : ChaCha) (fault : EdgeFault) → Reached hosting course.edge rules host course.schedule course.world →
-      PieceRefused hosting course.edge k piece course.generator generator fault → IsRefused k piece fault course
+      PieceRefused hosting course.edge k piece course.generator generator fault → IsPieceRefused k piece fault course
   refuses_piece course piece generator fault reached refused =
       record { generator = generator; count = refused.count; few = refused.few; enough = refused.enough; after = refused.after; refused = refused.refused rules host course.schedule course.world reached }
 
   -- what was given after a try that failed
-  pub tried_first : (first middle last : Course H) (bytes : List ℕ) → Gives hosting rules host k moment first [] middle → Gives hosting rules host k moment middle bytes last → Gives hosting rules host k moment first bytes last
+  pub tried_first : (first middle last : Course H) (bytes : List ℕ) → GivesPieces hosting rules host k moment first [] middle → GivesPieces hosting rules host k moment middle bytes last → GivesPieces hosting rules host k moment first bytes last
   tried_first first middle last bytes tried nothing = tried
   tried_first first middle last bytes tried (gives piece before stays g) = gives piece (tried_first first middle _ _ tried before) stays g
   tried_first first middle last bytes tried (tries piece before r) = tries piece (tried_first first middle _ _ tried before) r
 
-  pub heard_after : (first middle : Course H) (bytes : List ℕ) (edge : SeenEdge H) (generator : ChaCha) → Gives hosting rules host k moment first [] middle →
+  pub heard_after : (first middle : Course H) (bytes : List ℕ) (edge : SeenEdge H) (generator : ChaCha) → GivesPieces hosting rules host k moment first [] middle →
       GivesAll hosting rules host k moment bytes middle edge generator → GivesAll hosting rules host k moment bytes first edge generator
   heard_after first middle bytes edge generator tried all = record {
     schedule = all.schedule;
@@ -60,7 +60,7 @@ module _ {H : Type 0} (hosting : Hosting H) (rules : RegistryRecord) (host : H) 
     };
   }
 
-  pub unheard_after : (first middle : Course H) (bytes : List ℕ) (fault : EdgeFault) (edge : SeenEdge H) (generator : ChaCha) → Gives hosting rules host k moment first [] middle →
+  pub unheard_after : (first middle : Course H) (bytes : List ℕ) (fault : EdgeFault) (edge : SeenEdge H) (generator : ChaCha) → GivesPieces hosting rules host k moment first [] middle →
       GivesSome hosting rules host k moment bytes fault middle edge generator → GivesSome hosting rules host k moment bytes fault first edge generator
   unheard_after first middle bytes fault edge generator tried some = record {
     schedule = some.schedule;
@@ -90,7 +90,7 @@ module _ {H : Type 0} (hosting : Hosting H) (rules : RegistryRecord) (host : H) 
       }
 
   -- a piece behind the front was refused, and is not cut
-  pub unheard_behind : (first course : Course H) (bytes front piece rest : List ℕ) (fault : EdgeFault) (edge : SeenEdge H) (generator : ChaCha) → Gives hosting rules host k moment first front course →
+  pub unheard_behind : (first course : Course H) (bytes front piece rest : List ℕ) (fault : EdgeFault) (edge : SeenEdge H) (generator : ChaCha) → GivesPieces hosting rules host k moment first front course →
       Reached hosting course.edge rules host course.schedule course.world → bytes ≡ front ++ (piece ++ rest) → PieceRefused hosting course.edge k piece course.generator generator fault → edge ≡ course.edge →
       (fault ≡ TooManyRequests → length piece ≤ cut_limit) → GivesSome hosting rules host k moment bytes fault first edge generator
   unfolding refuses_piece

@@ -4,23 +4,23 @@ use Rattle.hook_host.specs.declared.host.HookHost.{Ghosts as Hosting}
 use Rattle.consent.specs.History.{Event}
 use Rattle.clients.specs.RegistryRecord.{RegistryRecord}
 use Rattle.messages.specs.declared.request.Draws.{Draws}
-use Rattle.http_edge.specs.Answers.{Mark}
-use Rattle.http_edge.specs.Schedule.{World, Comes as PieceComes, Passes, Takes, TakesNothing}
+use Rattle.http_edge.specs.Answers.{AnswerMark}
+use Rattle.http_edge.specs.Schedule.{World, PieceComes, PiecePasses, TakesOutput, TakesNothing}
 use Rattle.event_loop.specs.declared.fault.LoopFault.{LoopFault}
 use Rattle.event_loop.specs.declared.place.Place.{Place}
 use Rattle.change_codec.specs.Keeping.{Crashes, IsFrontOf, Holds, Keeps, KeepsNot, LeavesEither}
 use Rattle.event_loop.specs.Courses.{Course}
-use Rattle.event_loop.specs.Giving.{Gives, nothing, gives, tries}
+use Rattle.event_loop.specs.Giving.{GivesPieces, nothing, gives, tries}
 use Rattle.event_loop.specs.Scenes.{Promises, Scene, IsAllKept, IsUnkept}
-use Rattle.event_loop.specs.Coming.{Comes, opens, denies, finds_nobody, fails, asks}
+use Rattle.event_loop.specs.Coming.{AcceptsOne, opens, denies, finds_nobody, fails, asks}
 use Rattle.event_loop.specs.Reading as reading
-use Rattle.event_loop.specs.Reading.{Reads}
+use Rattle.event_loop.specs.Reading.{ReadsPlace}
 use Rattle.event_loop.specs.Writing as writing
-use Rattle.event_loop.specs.Writing.{Writes}
+use Rattle.event_loop.specs.Writing.{WritesPlace}
 use Rattle.event_loop.specs.Closing.{Closes, leaves}
-use Rattle.event_loop.specs.Served.{Step, Served, Shuts, waits, hears_of_listener, hears_of, hears_of_none, comes, tries_again, reads, writes, closes, reports, keeps, puts_image, no_image, begins, goes, stops, shuts, reports_last}
-use Rattle.event_loop.specs.Durable.{Onward, stays, onward, IsHeld, StandsBetween, IsDurable, IsDurableToEnd}
-use Rattle.event_loop.specs.Ends.{Fails, no_wait, no_time, not_kept, not_imaged, no_more}
+use Rattle.event_loop.specs.Served.{LoopStep, Served, Shuts, waits, hears_of_listener, hears_of, hears_of_none, comes, tries_again, reads, writes, closes, reports, keeps, puts_image, no_image, begins, goes, stops, shuts, reports_last}
+use Rattle.event_loop.specs.Durable.{Onward, stays, onward, KeeperHolds, StandsBetween, IsDurable, IsDurableToEnd}
+use Rattle.event_loop.specs.Ends.{CannotGoOn, no_wait, no_time, not_kept, not_imaged, no_more}
 use Rattle.event_loop.proofs.Answering.{served_answered}
 use Rattle.event_loop.proofs.Kept.{same_front, front_then, reached_front, kept_history, kept_last}
 
@@ -35,19 +35,19 @@ grows_not old new same = record { kept = ap (λ (w : World). w.kept) same; front
 grows_then : (a b c : World) → Grows a b → Grows b c → Grows a c
 grows_then a b c one two = record { kept = two.kept ∙ one.kept; front = front_then a.history b.history c.history one.front two.front }
 
-came_grows : {H : Type 0} (hosting : Hosting H) (rules : RegistryRecord) (host : H) (old new : World) (c : ℕ) (piece : List ℕ) (moment : ℕ) (draws : List Draws) (marks : List Mark) (closed : Bool) →
-    PieceComes hosting rules host old new c piece moment draws marks closed ⊎ Passes old new c marks closed → Grows old new
+came_grows : {H : Type 0} (hosting : Hosting H) (rules : RegistryRecord) (host : H) (old new : World) (c : ℕ) (piece : List ℕ) (moment : ℕ) (draws : List Draws) (marks : List AnswerMark) (closed : Bool) →
+    PieceComes hosting rules host old new c piece moment draws marks closed ⊎ PiecePasses old new c marks closed → Grows old new
 came_grows hosting rules host old new c piece moment draws marks closed (inl came) = record { kept = came.kept; front = (_, came.history) }
 came_grows hosting rules host old new c piece moment draws marks closed (inr passes) = grows_not old new passes.same
 
-gives_grows : {H : Type 0} (hosting : Hosting H) (rules : RegistryRecord) (host : H) (k moment : ℕ) (first : Course H) (bytes : List ℕ) (course : Course H) → Gives hosting rules host k moment first bytes course →
+gives_grows : {H : Type 0} (hosting : Hosting H) (rules : RegistryRecord) (host : H) (k moment : ℕ) (first : Course H) (bytes : List ℕ) (course : Course H) → GivesPieces hosting rules host k moment first bytes course →
     Grows first.world course.world
 gives_grows hosting rules host k moment first bytes course nothing = grows_not _ _ refl
 gives_grows hosting rules host k moment first bytes course (gives {bytes = front} {course = before} piece given still g) =
     grows_then first.world before.world _ (gives_grows hosting rules host k moment first front before given) (came_grows hosting rules host before.world g.on.on.world k piece moment _ g.on.marks g.on.closes g.on.on.happens.1)
 gives_grows hosting rules host k moment first bytes course (tries {course = before} piece given r) = gives_grows hosting rules host k moment first bytes before given
 
-takes_grows : (old new : World) (c n : ℕ) → Takes old new c n ⊎ TakesNothing old new c n → Grows old new
+takes_grows : (old new : World) (c n : ℕ) → TakesOutput old new c n ⊎ TakesNothing old new c n → Grows old new
 takes_grows old new c n (inl takes) = record { kept = takes.still.kept; front = same_front _ _ takes.still.history }
 takes_grows old new c n (inr absent) = grows_not old new absent.same
 
@@ -59,14 +59,14 @@ data Moves {N C J K H : Type 0} (p : Promises N C J K H) (s s' : Scene N C J K H
   keeps_still : IsAllKept s.course.world → Keeps p.keeping s.course.world.history s.course.world.history s.keeper s'.keeper → s'.course.world ≡ s.course.world → Moves p s s'
 
 module _ {N C J K H : Type 0} (p : Promises N C J K H) (rules : RegistryRecord) (host : H) where
-  comes_moves : (s s' : Scene N C J K H) → Comes p rules host s s' → Moves p s s'
+  comes_moves : (s s' : Scene N C J K H) → AcceptsOne p rules host s s' → Moves p s s'
   comes_moves s s' (opens j n e on within free done) = goes_on refl (record { kept = on.happens.still.kept; front = same_front _ _ on.happens.still.history })
   comes_moves s s' (denies j n n' fault last journal within free done refused closed noted) = goes_on refl (grows_not _ _ refl)
   comes_moves s s' (finds_nobody n done) = goes_on refl (grows_not _ _ refl)
   comes_moves s s' (fails n last journal done noted) = goes_on refl (grows_not _ _ refl)
   comes_moves s s' (asks n taken done) = goes_on refl (grows_not _ _ refl)
 
-  reads_moves : (j : ℕ) (place : Place) (s s' : Scene N C J K H) → Reads p rules host j place s s' → Moves p s s'
+  reads_moves : (j : ℕ) (place : Place) (s s' : Scene N C J K H) → ReadsPlace p rules host j place s s' → Moves p s s'
   reads_moves j place s s' (reading.hears bytes n course place' some few done heard is) =
       goes_on refl (gives_grows p.hosting rules host j s.times.moment s.course heard.given course heard.gives)
   reads_moves j place s s' (reading.refuses bytes n fault course some few done unheard) =
@@ -78,7 +78,7 @@ module _ {N C J K H : Type 0} (p : Promises N C J K H) (rules : RegistryRecord) 
   reads_moves j place s s' (reading.finds_nothing n done) = goes_on refl (grows_not _ _ refl)
   reads_moves j place s s' (reading.fails n done) = goes_on refl (grows_not _ _ refl)
 
-  writes_moves : (j : ℕ) (place : Place) (s s' : Scene N C J K H) → Writes p rules host j place s s' → Moves p s s'
+  writes_moves : (j : ℕ) (place : Place) (s s' : Scene N C J K H) → WritesPlace p rules host j place s s' → Moves p s s'
   writes_moves j place s s' (writing.sends count front n e on some is_front done) = goes_on refl (takes_grows s.course.world on.world j count on.happens)
   writes_moves j place s s' (writing.finds_no_room n done) = goes_on refl (grows_not _ _ refl)
   writes_moves j place s s' (writing.fails n done) = goes_on refl (grows_not _ _ refl)
@@ -86,7 +86,7 @@ module _ {N C J K H : Type 0} (p : Promises N C J K H) (rules : RegistryRecord) 
   closes_moves : (j : ℕ) (place : Place) (s s' : Scene N C J K H) → Closes p rules host j place s s' → Moves p s s'
   closes_moves j place s s' (leaves n e on last journal done noted) = goes_on refl (record { kept = on.happens.still.kept; front = same_front _ _ on.happens.still.history })
 
-  step_moves : (s s' : Scene N C J K H) → Step p rules host s s' → Moves p s s'
+  step_moves : (s s' : Scene N C J K H) → LoopStep p rules host s s' → Moves p s s'
   step_moves s s' (waits limit room found n times c may done told) = goes_on refl (grows_not _ _ refl)
   step_moves s s' (hears_of_listener more is) = goes_on refl (grows_not _ _ refl)
   step_moves s s' (hears_of j readable writable hung more place place' is here told) = goes_on refl (grows_not _ _ refl)
@@ -106,7 +106,7 @@ module _ {N C J K H : Type 0} (p : Promises N C J K H) (rules : RegistryRecord) 
   served_front : (first s : Scene N C J K H) → Served p rules host first s → (kept : List Event) → s.course.world.kept ≡ Some kept → IsFrontOf kept s.course.world.history
   served_front first s served kept is = reached_front p.hosting s.course.edge rules host s.course.schedule s.course.world (served_answered p rules host first s served).reached kept is
 
-  moves_held : (s s' : Scene N C J K H) → Moves p s s' → IsHeld p s → IsHeld p s'
+  moves_held : (s s' : Scene N C J K H) → Moves p s s' → KeeperHolds p s → KeeperHolds p s'
   moves_held s s' (goes_on same grows) held = λ kept is c left. held kept (sym grows.kept ∙ is) c (subst (λ k. p.keeping.may_leave k c) same left)
   moves_held s s' (keeps_all unkept kept last history) held = λ now is c left.
       let same : Some s.course.world.history ≡ Some now = sym last ∙ is in
@@ -118,7 +118,7 @@ module _ {N C J K H : Type 0} (p : Promises N C J K H) (rules : RegistryRecord) 
       let e : now ≡ s.course.world.history = all now before in
       subst (p.keeping.stands_for c) (sym e) (kept.holds (subst (λ (h : List Event). Holds p.keeping s.keeper h) e (held now before)) c left)
 
-  served_held : (first s : Scene N C J K H) → IsHeld p first → Served p rules host first s → IsHeld p s
+  served_held : (first s : Scene N C J K H) → KeeperHolds p first → Served p rules host first s → KeeperHolds p s
   served_held first s held (begins is) = held
   served_held first s held (goes {s = before} served step) = moves_held before s (step_moves before s step) (served_held first before held served)
 
@@ -131,7 +131,7 @@ module _ {N C J K H : Type 0} (p : Promises N C J K H) (rules : RegistryRecord) 
     pub kept : List Event
     pub here : s'.course.world.kept ≡ Some kept
     pub from : IsFrontOf before kept
-    pub held : IsHeld p s'
+    pub held : KeeperHolds p s'
 
   -- what was kept at the last scene lies between
   kept_between : (first s : Scene N C J K H) (before : List Event) (s' : Scene N C J K H) (l : Lasts first s before s') (kept : List Event) → s'.course.world.kept ≡ Some kept → (c : List ℕ) →
@@ -151,7 +151,7 @@ module _ {N C J K H : Type 0} (p : Promises N C J K H) (rules : RegistryRecord) 
       }
 
   -- it still lies between one step later
-  between_on : (s : Scene N C J K H) (before : List Event) (s' s'' : Scene N C J K H) (c : List ℕ) → Step p rules host s' s'' → IsFrontOf s'.course.world.history s''.course.world.history →
+  between_on : (s : Scene N C J K H) (before : List Event) (s' s'' : Scene N C J K H) (c : List ℕ) → LoopStep p rules host s' s'' → IsFrontOf s'.course.world.history s''.course.world.history →
       StandsBetween p rules host s before s' c → StandsBetween p rules host s before s'' c
   between_on s before s' s'' c step grows b = record {
     at = b.at;
@@ -164,7 +164,7 @@ module _ {N C J K H : Type 0} (p : Promises N C J K H) (rules : RegistryRecord) 
     to = front_then b.kept s'.course.world.history s''.course.world.history b.to grows;
   }
 
-  lasts_on : (first s : Scene N C J K H) (before : List Event) (s' s'' : Scene N C J K H) → Lasts first s before s' → Step p rules host s' s'' → Moves p s' s'' → Lasts first s before s''
+  lasts_on : (first s : Scene N C J K H) (before : List Event) (s' s'' : Scene N C J K H) → Lasts first s before s' → LoopStep p rules host s' s'' → Moves p s' s'' → Lasts first s before s''
   lasts_on first s before s' s'' l step (goes_on same grows) = record {
     served = goes l.served step;
     on = onward l.on step;
@@ -219,7 +219,7 @@ module _ {N C J K H : Type 0} (p : Promises N C J K H) (rules : RegistryRecord) 
         held = moves_held s' s'' (keeps_still all kept same) l.held;
       }
 
-  module _ (only_now : (keeper : K) (c : List ℕ) → p.keeping.left_since keeper (p.keeping.moment keeper) c → p.keeping.may_leave keeper c) (first : Scene N C J K H) (at_first : IsHeld p first) where
+  module _ (only_now : (keeper : K) (c : List ℕ) → p.keeping.left_since keeper (p.keeping.moment keeper) c → p.keeping.may_leave keeper c) (first : Scene N C J K H) (at_first : KeeperHolds p first) where
     lasts : (s : Scene N C J K H) (before : List Event) (s' : Scene N C J K H) → s.course.world.kept ≡ Some before → Served p rules host first s → Onward p rules host s s' → Lasts first s before s'
     lasts s before s' is served stays =
         let held = served_held first s at_first served in
@@ -248,7 +248,7 @@ module _ {N C J K H : Type 0} (p : Promises N C J K H) (rules : RegistryRecord) 
     pub served_durable : (s s' : Scene N C J K H) → Served p rules host first s → Onward p rules host s s' → IsDurable p rules host s s'
     served_durable s s' served on = λ kept is. (lasts s kept s' is served on).durable
 
-    fails_durable : (s last failed : Scene N C J K H) (fault : LoopFault) → Served p rules host first s → Onward p rules host s last → Fails p last fault failed → IsDurableToEnd p rules host s last failed
+    fails_durable : (s last failed : Scene N C J K H) (fault : LoopFault) → Served p rules host first s → Onward p rules host s last → CannotGoOn p last fault failed → IsDurableToEnd p rules host s last failed
     fails_durable s last failed fault served on (no_wait limit room n may done) = λ kept is c left. inl (served_durable s last served on kept is c left)
     fails_durable s last failed fault served on (no_time limit room found n c may done told) = λ kept is c left. inl (served_durable s last served on kept is c left)
     fails_durable s last failed fault served on (no_more many) = λ kept is c left. inl (served_durable s last served on kept is c left)
@@ -287,7 +287,7 @@ module _ {N C J K H : Type 0} (p : Promises N C J K H) (rules : RegistryRecord) 
     shuts_keeper s s' (reports_last {s = before} report journal shut wanted tells done) = shuts_keeper s before shut
 
     -- and so it is up to the end
-    pub durable_to_end : (s last failed end : Scene N C J K H) (fault : LoopFault) → Served p rules host first s → Onward p rules host s last → Fails p last fault failed → Shuts p rules host failed end →
+    pub durable_to_end : (s last failed end : Scene N C J K H) (fault : LoopFault) → Served p rules host first s → Onward p rules host s last → CannotGoOn p last fault failed → Shuts p rules host failed end →
         IsDurableToEnd p rules host s last end
     durable_to_end s last failed end fault served on failing shut = λ kept is c left.
         fails_durable s last failed fault served on failing kept is c (subst (λ k. p.keeping.left_since k (p.keeping.moment s.keeper) c) (shuts_keeper failed end shut) left)

@@ -11,7 +11,7 @@ use Rattle.change_codec.specs.Happened.{Happened}
 use Rattle.change_codec.specs.HappenedLaws.{Happened-front}
 use Rattle.endpoints.specs.Server.{AreUnkept}
 use Rattle.http_edge.specs.Edges.{SeenEdge}
-use Rattle.http_edge.specs.Schedule.{World, Happening, Keeps, Takes, TakesNothing}
+use Rattle.http_edge.specs.Schedule.{World, Happening, KeepsHistory, TakesOutput, TakesNothing}
 use Rattle.http_edge.specs.Reached.{Reached}
 use Rattle.change_codec.specs.Keeping.{IsFrontOf}
 use Rattle.event_loop.specs.Scenes.{IsAllKept, IsUnkept}
@@ -92,7 +92,7 @@ not_empty result facts both is none = false≢true (sym is ∙ both.1 none)
 
 -- KEEPING
 
-module _ (old new : World) (keeps : Keeps old new) where
+module _ (old new : World) (keeps : KeepsHistory old new) where
   pub kept_connections : new.connections ≡ old.connections
   kept_connections = ap (λ (w : World). w.connections) keeps.kept
 
@@ -114,6 +114,6 @@ pub all_kept_still : (old new : World) → new.kept ≡ old.kept → new.history
 all_kept_still old new kept history all last is = all last (sym kept ∙ is) ∙ sym history
 
 -- taking output leaves it so
-pub takes_kept : (old new : World) (c n : ℕ) → Takes old new c n ⊎ TakesNothing old new c n → IsAllKept old → IsAllKept new
+pub takes_kept : (old new : World) (c n : ℕ) → TakesOutput old new c n ⊎ TakesNothing old new c n → IsAllKept old → IsAllKept new
 takes_kept old new c n (inl takes) all = all_kept_still old new takes.still.kept takes.still.history all
 takes_kept old new c n (inr absent) all = all_kept_still old new (ap (λ (w : World). w.kept) absent.same) (ap (λ (w : World). w.history) absent.same) all

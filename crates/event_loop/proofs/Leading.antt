@@ -10,11 +10,11 @@ use Rattle.event_loop.specs.declared.service.Service.{Service}
 use Rattle.event_loop.specs.declared.sockets.Ready.{Ready}
 use Rattle.event_loop.specs.declared.tools.Tools.{Tools}
 use Rattle.event_loop.specs.Courses.{known, IsReached}
-use Rattle.event_loop.specs.Places.{IsUnread, IsUnwritten}
+use Rattle.event_loop.specs.Places.{NeedsNoRead, NeedsNoWrite}
 use Rattle.event_loop.specs.Scenes.{Promises, Scene, IsAllKept}
 use Rattle.event_loop.specs.Closing.{Closes, leaves}
 use Rattle.event_loop.specs.Deeds.{Reading, Writing, IsDone, done_since}
-use Rattle.event_loop.specs.Goes.{Past, DoneAfter, LeavesOthers, IsKnownAt, LeadsToActs, LeadsToTidy, LeadsToRest, LeadsTo, LeadsToAccepts, GoesReading, GoesKept, GoesWriting, LeadsToKept, LeadsWriting, LeadsRound, LeadsWrong, IsStill, ActsAt, TidiesAt, IsHeardAt, IsRestedAt, IsRested, IsSettledAt}
+use Rattle.event_loop.specs.Goes.{Past, DoneAfter, LeavesOthers, HoldsAt, LeadsToActs, LeadsToTidy, LeadsToRest, LeadsToSettled, LeadsToAccepts, GoesReading, GoesKept, GoesWriting, LeadsToKept, LeadsWriting, LeadsRound, LeadsWrong, StaysIdle, ActsAt, TidiesAt, IsHeardAt, IsRestedAt, IsRested, IsSettledAt}
 use Rattle.event_loop.proofs.Others.{forgets_other}
 use Rattle.event_loop.proofs.Doing.{none_more, done_then, done_some}
 use Rattle.event_loop.proofs.Kept.{all_kept_still}
@@ -34,7 +34,7 @@ module _ {N C J K H : Type 0} (p : Promises N C J K H) where
   closes_reached rules host k place s s' (leaves n e on last journal done noted) = on.reached
 
   -- a write, and a close where it is over
-  pub turn_then : (k : ℕ) (b c d : Service) (u v w : Tools N C J K H) → LeadsToActs p k (Writing k) IsUnwritten b u c v → LeadsToTidy p k c v d w → LeadsToRest p k b u d w
+  pub turn_then : (k : ℕ) (b c d : Service) (u v w : Tools N C J K H) → LeadsToActs p k (Writing k) NeedsNoWrite b u c v → LeadsToTidy p k c v d w → LeadsToRest p k b u d w
   turn_then k b c d u v w one two rules host first found past heard unwritten kept served =
       record {
         goes = record {
@@ -58,13 +58,13 @@ module _ {N C J K H : Type 0} (p : Promises N C J K H) where
         };
       }
     where
-      y : ActsAt p rules host first found k (Writing k) IsUnwritten b past c v
+      y : ActsAt p rules host first found k (Writing k) NeedsNoWrite b past c v
       y = one rules host first found past unwritten kept served
 
       z : TidiesAt p rules host first found k c y.goes.next d w
       z = two rules host first found y.goes.next y.goes.served
 
-      tended_or_still : (IsDone (Reading k) y.goes.next.deeds ⊎ IsDone (Writing k) y.goes.next.deeds) ⊎ (IsKnownAt k b past.world IsUnread × IsStill k b past.world c y.goes.next.world IsUnwritten)
+      tended_or_still : (IsDone (Reading k) y.goes.next.deeds ⊎ IsDone (Writing k) y.goes.next.deeds) ⊎ (HoldsAt k b past.world NeedsNoRead × StaysIdle k b past.world c y.goes.next.world NeedsNoWrite)
       tended_or_still = elim heard [
         | inr read ↦ inl (inl (y.goes.done.keeps (Reading k) read))
         | inl unread ↦ elim y.acts [
@@ -77,7 +77,7 @@ module _ {N C J K H : Type 0} (p : Promises N C J K H) where
       tended_some (inl read) = done_some (Reading k) y.goes.next.deeds (λ e. absurd (cc)) read
       tended_some (inr done) = done_some (Writing k) y.goes.next.deeds (λ e. absurd (cc)) done
 
-      written : IsKnownAt k c y.goes.next.world IsUnwritten ⊎ IsDone (Writing k) y.goes.next.deeds
+      written : HoldsAt k c y.goes.next.world NeedsNoWrite ⊎ IsDone (Writing k) y.goes.next.deeds
       written = elim y.acts [
         | inl still ↦ inl (unwritten_still k b c past.world y.goes.next.world still)
         | inr done ↦ inr done
@@ -107,13 +107,13 @@ module _ {N C J K H : Type 0} (p : Promises N C J K H) where
           (λ j. y.alone (Writing j) (λ e. absurd (cc)) (read.unwritten j)) y.kept y.served
 
   -- at all places, one after another
-  pub to_then : (f g h : List Ready) (a b c : Service) (t u v : Tools N C J K H) → LeadsTo p f a t g b u → LeadsTo p g b u h c v → LeadsTo p f a t h c v
+  pub to_then : (f g h : List Ready) (a b c : Service) (t u v : Tools N C J K H) → LeadsToSettled p f a t g b u → LeadsToSettled p g b u h c v → LeadsToSettled p f a t h c v
   to_then f g h a b c t u v one two rules host first past served settled =
       let x = one rules host first past served settled in
       let y = two rules host first x.next x.served x.settled in
       record { next = y.next; served = y.served; settled = y.settled; done = done_then _ _ _ x.done y.done }
 
-  pub nowhere : (f : List Ready) (a : Service) (t : Tools N C J K H) → LeadsTo p f a t f a t
+  pub nowhere : (f : List Ready) (a : Service) (t : Tools N C J K H) → LeadsToSettled p f a t f a t
   nowhere f a t rules host first past served settled = record { next = past; served = served; settled = settled; done = none_more past.deeds }
 
   -- and then it was tried to accept
@@ -163,7 +163,7 @@ heard_next k service past service' past' others done below =
 
 -- what was done at a place, or nothing was to be done there
 pub acts_heard : {N C J K H : Type 0} (p : Promises N C J K H) (rules : RegistryRecord) (host : H) (first : Scene N C J K H) (found : List Ready) (k : ℕ) (service : Service) (past : Past) (service' : Service) (tools' : Tools N C J K H) →
-    (x : ActsAt p rules host first found k (Reading k) IsUnread service past service' tools') → IsHeardAt k service' x.goes.next
+    (x : ActsAt p rules host first found k (Reading k) NeedsNoRead service past service' tools') → IsHeardAt k service' x.goes.next
 acts_heard p rules host first found k service past service' tools' x = elim x.acts [
   | inl still ↦ inl (still_unread k service service' past.world x.goes.next.world still)
   | inr done ↦ inr done

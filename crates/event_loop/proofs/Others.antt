@@ -5,8 +5,8 @@ use Rattle.std.proofs.lemmas.Bool.{eq-eqb}
 use Rattle.hook_host.specs.declared.host.HookHost.{Ghosts as Hosting}
 use Rattle.clients.specs.RegistryRecord.{RegistryRecord}
 use Rattle.messages.specs.declared.request.Draws.{Draws}
-use Rattle.http_edge.specs.Answers.{Mark}
-use Rattle.http_edge.specs.Schedule.{World, Connection, Comes, Passes, Opens, Ends, Takes, TakesNothing, Forgets, connection_at, with_connection, without_connection, fresh}
+use Rattle.http_edge.specs.Answers.{AnswerMark}
+use Rattle.http_edge.specs.Schedule.{World, Connection, PieceComes, PiecePasses, Opens, StreamEnds, TakesOutput, TakesNothing, ForgetsConnection, connection_at, with_connection, without_connection, fresh}
 use Rattle.http_edge.proofs.Connections.{added_other, found_number, put_other, without_other}
 
 pub is_itself : (c : ℕ) → (c == c) ≡ true
@@ -17,18 +17,18 @@ is_itself c = eq-eqb c c refl
 pub opens_other : (old new : World) (c d : ℕ) → Opens old new c → d ≢ c → connection_at new.connections d ≡ connection_at old.connections d
 opens_other old new c d opens other = rw opens.connections (added_other old.connections c d other)
 
-pub comes_other : {H : Type 0} (hosting : Hosting H) (rules : RegistryRecord) (first : H) (old new : World) (c d : ℕ) (piece : List ℕ) (moment : ℕ) (draws : List Draws) (marks : List Mark) (closes : Bool) →
-    Comes hosting rules first old new c piece moment draws marks closes ⊎ Passes old new c marks closes → d ≢ c → connection_at new.connections d ≡ connection_at old.connections d
+pub comes_other : {H : Type 0} (hosting : Hosting H) (rules : RegistryRecord) (first : H) (old new : World) (c d : ℕ) (piece : List ℕ) (moment : ℕ) (draws : List Draws) (marks : List AnswerMark) (closes : Bool) →
+    PieceComes hosting rules first old new c piece moment draws marks closes ⊎ PiecePasses old new c marks closes → d ≢ c → connection_at new.connections d ≡ connection_at old.connections d
 comes_other hosting rules first old new c d piece moment draws marks closes (inl comes) other =
     rw comes.connections (put_other old.connections c d _ (found_number old.connections c comes.before comes.here) other)
 comes_other hosting rules first old new c d piece moment draws marks closes (inr passes) other = ap (λ (w : World). connection_at w.connections d) passes.same
 
-pub ends_other : (old new : World) (c d : ℕ) → Ends old new c → d ≢ c → connection_at new.connections d ≡ connection_at old.connections d
+pub ends_other : (old new : World) (c d : ℕ) → StreamEnds old new c → d ≢ c → connection_at new.connections d ≡ connection_at old.connections d
 ends_other old new c d ends other = rw ends.connections (put_other old.connections c d _ (found_number old.connections c ends.before ends.here) other)
 
-pub takes_other : (old new : World) (c d n : ℕ) → Takes old new c n ⊎ TakesNothing old new c n → d ≢ c → connection_at new.connections d ≡ connection_at old.connections d
+pub takes_other : (old new : World) (c d n : ℕ) → TakesOutput old new c n ⊎ TakesNothing old new c n → d ≢ c → connection_at new.connections d ≡ connection_at old.connections d
 takes_other old new c d n (inl takes) other = rw takes.connections (put_other old.connections c d _ (found_number old.connections c takes.before takes.here) other)
 takes_other old new c d n (inr absent) other = ap (λ (w : World). connection_at w.connections d) absent.same
 
-pub forgets_other : (old new : World) (c d : ℕ) → Forgets old new c → d ≢ c → connection_at new.connections d ≡ connection_at old.connections d
+pub forgets_other : (old new : World) (c d : ℕ) → ForgetsConnection old new c → d ≢ c → connection_at new.connections d ≡ connection_at old.connections d
 forgets_other old new c d forgets other = rw forgets.connections (without_other old.connections c d other)

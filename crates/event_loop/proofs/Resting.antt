@@ -13,19 +13,19 @@ use Rattle.event_loop.specs.declared.service.Service.{Service}
 use Rattle.event_loop.specs.declared.sockets.Ready.{Ready}
 use Rattle.event_loop.specs.declared.tools.Tools.{Tools}
 use Rattle.event_loop.specs.Deeds.{Deed, Reading, Writing, done_since}
-use Rattle.event_loop.specs.Places.{IsTaken, IsServed, MayRead, MayWrite, IsUnread, IsUnwritten, IsOver, IsAtRest, broken, ended, dismissed}
+use Rattle.event_loop.specs.Places.{IsOccupied, IsInService, MayRead, MayWrite, NeedsNoRead, NeedsNoWrite, IsOver, IsPlaceAtRest, broken, ended, dismissed}
 use Rattle.event_loop.specs.Scenes.{Promises, Scene}
 use Rattle.event_loop.specs.Coming.{fresh_place}
 use Rattle.event_loop.specs.Served.{HadTurn, Served}
-use Rattle.event_loop.specs.Goes.{Past, DoneAfter, IsKnownAt, IsHeardAt, IsSettledAt, IsSettled, IsStill, IsLeft, a_read, a_write, IsLeftAt, LeavesOthers, IsRestedAt, IsRested, TidiesAt, scene_of}
+use Rattle.event_loop.specs.Goes.{Past, DoneAfter, HoldsAt, IsHeardAt, IsSettledAt, AreAllSettled, StaysIdle, IsWorkLeft, a_read, a_write, IsLeftAt, LeavesOthers, IsRestedAt, IsRested, TidiesAt, scene_of}
 use Rattle.event_loop.proofs.Putting.{set_other, set_same, same_some}
 use Rattle.event_loop.proofs.Doing.{none_more}
 
 -- at a free place nothing is to be done
-pub free_rests : (p : Place) (o : Option Connection) → p.stage ≡ Free → IsAtRest p o
+pub free_rests : (p : Place) (o : Option Connection) → p.stage ≡ Free → IsPlaceAtRest p o
 free_rests p o free = record {
   unread = λ r (may : MayRead p o). let open_is = may.is_open in absurd (cc);
-  unwritten = λ w (may : MayWrite p o). absurd (subst IsServed free may.served);
+  unwritten = λ w (may : MayWrite p o). absurd (subst IsInService free may.served);
   goes_on = λ over. not_over over;
 }
   where
@@ -35,7 +35,7 @@ free_rests p o free = record {
     not_over (dismissed is closing none) = absurd (cc)
 
 -- nor for a connection that just came
-pub fresh_rests : (now : ℕ) (k : Connection) → untaken (Some k) ≡ [] → is_closing (Some k) ≡ false → IsAtRest (fresh_place now) (Some k)
+pub fresh_rests : (now : ℕ) (k : Connection) → untaken (Some k) ≡ [] → is_closing (Some k) ≡ false → IsPlaceAtRest (fresh_place now) (Some k)
 fresh_rests now k none stays = record {
   unread = λ r may. absurd (false≢true r);
   unwritten = λ w (may : MayWrite (fresh_place now) (Some k)). (let some = may.some_left in let size = ap length none in absurd (omega (arith, some, size)));
@@ -48,21 +48,21 @@ fresh_rests now k none stays = record {
     not_over (dismissed is closing empty) = false≢true (sym stays ∙ closing)
 
 -- where nothing changed, there is still nothing to be done
-pub unwritten_still : (k : ℕ) (b c : Service) (v u : World) → IsStill k b v c u IsUnwritten → IsKnownAt k c u IsUnwritten
+pub unwritten_still : (k : ℕ) (b c : Service) (v u : World) → StaysIdle k b v c u NeedsNoWrite → HoldsAt k c u NeedsNoWrite
 unwritten_still k b c v u still =
-    subst (λ s. IsKnownAt k s u IsUnwritten) (sym still.service_is) (subst (λ w. IsKnownAt k b w IsUnwritten) (sym still.world_is) still.rests)
+    subst (λ s. HoldsAt k s u NeedsNoWrite) (sym still.service_is) (subst (λ w. HoldsAt k b w NeedsNoWrite) (sym still.world_is) still.rests)
 
-pub unread_still : (k : ℕ) (b c : Service) (v u : World) → IsKnownAt k b v IsUnread → IsStill k b v c u IsUnwritten → IsKnownAt k c u IsUnread
+pub unread_still : (k : ℕ) (b c : Service) (v u : World) → HoldsAt k b v NeedsNoRead → StaysIdle k b v c u NeedsNoWrite → HoldsAt k c u NeedsNoRead
 unread_still k b c v u unread still =
-    subst (λ s. IsKnownAt k s u IsUnread) (sym still.service_is) (subst (λ x. IsKnownAt k b x IsUnread) (sym still.world_is) unread)
+    subst (λ s. HoldsAt k s u NeedsNoRead) (sym still.service_is) (subst (λ x. HoldsAt k b x NeedsNoRead) (sym still.world_is) unread)
 
 -- where nothing was to be read, nothing is
-pub still_unread : (k : ℕ) (a b : Service) (w v : World) → IsStill k a w b v IsUnread → IsKnownAt k b v IsUnread
+pub still_unread : (k : ℕ) (a b : Service) (w v : World) → StaysIdle k a w b v NeedsNoRead → HoldsAt k b v NeedsNoRead
 still_unread k a b w v still =
-    subst (λ s. IsKnownAt k s v IsUnread) (sym still.service_is) (subst (λ x. IsKnownAt k a x IsUnread) (sym still.world_is) still.rests)
+    subst (λ s. HoldsAt k s v NeedsNoRead) (sym still.service_is) (subst (λ x. HoldsAt k a x NeedsNoRead) (sym still.world_is) still.rests)
 
 -- what rests needs no turn
-pub rests_turned : (k : ℕ) (place : Place) (o : Option Connection) (deeds : List Deed) → IsAtRest place o → HadTurn k place o deeds
+pub rests_turned : (k : ℕ) (place : Place) (o : Option Connection) (deeds : List Deed) → IsPlaceAtRest place o → HadTurn k place o deeds
 rests_turned k place o deeds rests = record { read = inl rests.unread; written = inl rests.unwritten; goes_on = rests.goes_on }
 
 -- what had its turn, had it
@@ -80,7 +80,7 @@ turned_then k place o earlier later done turn = record {
 pub rested_other : (k j : ℕ) (service : Service) (world : World) (service' : Service) (world' : World) → LeavesOthers k service world service' world' → j ≢ k →
     IsRestedAt j service world → IsRestedAt j service' world'
 rested_other k j service world service' world' others other rested none place here =
-    subst (λ o. IsAtRest place o) (sym (others.connections j other)) (rested (sym (others.due j other) ∙ none) place (sym (others.places j other) ∙ here))
+    subst (λ o. IsPlaceAtRest place o) (sym (others.connections j other)) (rested (sym (others.due j other) ∙ none) place (sym (others.places j other) ∙ here))
 
 pub others_then : (k : ℕ) (a : Service) (w : World) (b : Service) (v : World) (c : Service) (u : World) → LeavesOthers k a w b v → LeavesOthers k b v c u → LeavesOthers k a w c u
 others_then k a w b v c u one two = record {
@@ -94,13 +94,13 @@ pub no_others : (k : ℕ) (a : Service) (w : World) → LeavesOthers k a w a w
 no_others k a w = record { places = λ j other. refl; due = λ j other. refl; connections = λ j other. refl }
 
 -- where neither a read nor a write was to be done and nothing changed, none is left
-pub none_left : (k : ℕ) (b c : Service) (v u : World) → IsKnownAt k b v IsUnread → IsStill k b v c u IsUnwritten → IsLeftAt k c u → ⊥
+pub none_left : (k : ℕ) (b c : Service) (v u : World) → HoldsAt k b v NeedsNoRead → StaysIdle k b v c u NeedsNoWrite → IsLeftAt k c u → ⊥
 none_left k b c v u unread unwritten left =
     let here : slice_get b.places k ≡ Some left.place = subst (λ (s : Service). slice_get s.places k ≡ Some left.place) unwritten.service_is left.here in
-    let still : IsLeft left.place (connection_at v.connections k) = subst (λ (x : World). IsLeft left.place (connection_at x.connections k)) unwritten.world_is left.left in
+    let still : IsWorkLeft left.place (connection_at v.connections k) = subst (λ (x : World). IsWorkLeft left.place (connection_at x.connections k)) unwritten.world_is left.left in
     not_left still here
   where
-    not_left : IsLeft left.place (connection_at v.connections k) → slice_get b.places k ≡ Some left.place → ⊥
+    not_left : IsWorkLeft left.place (connection_at v.connections k) → slice_get b.places k ≡ Some left.place → ⊥
     not_left (a_write writable may) here = unwritten.rests left.place here writable may
     not_left (a_read readable may) here = unread left.place here readable may
 
@@ -108,7 +108,7 @@ none_left k b c v u unread unwritten left =
 pub heard_other : (k j : ℕ) (service : Service) (past : Past) (service' : Service) (past' : Past) → LeavesOthers k service past.world service' past'.world → DoneAfter past.deeds past'.deeds →
     j ≢ k → IsHeardAt j service past → IsHeardAt j service' past'
 heard_other k j service past service' past' others done other (inl unread) =
-    inl (λ place here. subst (λ o. IsUnread place o) (sym (others.connections j other)) (unread place (sym (others.places j other) ∙ here)))
+    inl (λ place here. subst (λ o. NeedsNoRead place o) (sym (others.connections j other)) (unread place (sym (others.places j other) ∙ here)))
 heard_other k j service past service' past' others done other (inr read) = inr (done.keeps (Reading j) read)
 
 -- and what was settled there
@@ -136,7 +136,7 @@ heard_kept service past past' same done j heard =
 
 -- where one place is settled and the others are, all are
 pub all_settled : (k : ℕ) (service : Service) (past : Past) (service' : Service) (past' : Past) → LeavesOthers k service past.world service' past'.world → DoneAfter past.deeds past'.deeds →
-    IsSettled service past → IsSettledAt k service' past' → IsSettled service' past'
+    AreAllSettled service past → IsSettledAt k service' past' → AreAllSettled service' past'
 all_settled k service past service' past' others done settled here j less =
     elim (eqb_tells j k) [
       | inl is ↦ subst (λ i. IsSettledAt i service' past') (sym is.1) here
@@ -145,7 +145,7 @@ all_settled k service past service' past' others done settled here j less =
 
 -- where more was done and no place changed, they are as settled
 pub settled_then : (service : Service) (past : Past) (service' : Service) (past' : Past) → service'.places ≡ service.places → service'.due ≡ service.due → past'.world ≡ past.world →
-    DoneAfter past.deeds past'.deeds → IsSettled service past → IsSettled service' past'
+    DoneAfter past.deeds past'.deeds → AreAllSettled service past → AreAllSettled service' past'
 settled_then service past service' past' places due world done settled j less =
     settled_other (suc j) j service past service' past'
     (record { places = λ i other. ap (λ l. slice_get l i) places; due = λ i other. ap (λ l. slice_get l i) due; connections = λ i other. ap (λ (w : World). connection_at w.connections i) world }) done
@@ -163,13 +163,13 @@ put_others k service service' place world world' put due same = record {
 
 -- what was put at rest is at rest
 put_at_rest : (k : ℕ) (service service' : Service) (place : Place) (world' : World) → service'.places ≡ slice_set service.places k place →
-    IsAtRest place (connection_at world'.connections k) → (place' : Place) → slice_get service'.places k ≡ Some place' → IsAtRest place' (connection_at world'.connections k)
+    IsPlaceAtRest place (connection_at world'.connections k) → (place' : Place) → slice_get service'.places k ≡ Some place' → IsPlaceAtRest place' (connection_at world'.connections k)
 put_at_rest k service service' place world' put rests place' here =
     let is : place' ≡ place = set_same service.places k place place' (ap (λ places. slice_get places k) (sym put) ∙ here) in
-    subst (λ q. IsAtRest q (connection_at world'.connections k)) (sym is) rests
+    subst (λ q. IsPlaceAtRest q (connection_at world'.connections k)) (sym is) rests
 
 pub put_settled : (k : ℕ) (service service' : Service) (place : Place) (past' : Past) → service'.places ≡ slice_set service.places k place →
-    IsAtRest place (connection_at past'.world.connections k) → (slice_get service'.due k ≡ Some true → 0 < done_since past'.deeds) → IsSettledAt k service' past'
+    IsPlaceAtRest place (connection_at past'.world.connections k) → (slice_get service'.due k ≡ Some true → 0 < done_since past'.deeds) → IsSettledAt k service' past'
 put_settled k service service' place past' put rests active = record {
   rested = λ none place' here. put_at_rest k service service' place past'.world put rests place' here;
   turned = λ place' here. rests_turned k place' _ past'.deeds (put_at_rest k service service' place past'.world put rests place' here);
@@ -179,7 +179,7 @@ put_settled k service service' place past' put rests active = record {
 -- a connection that is not over stays, and it is noted whether something is due there
 pub stays_tidy : {N C J K H : Type 0} (p : Promises N C J K H) (rules : RegistryRecord) (host : H) (first : Scene N C J K H) (found : List Ready) (k : ℕ) (service : Service) (tools : Tools N C J K H) (past : Past) (place : Place) (due : List Bool) →
     slice_get service.places k ≡ Some place → ¬ (IsOver place (connection_at past.world.connections k)) → ((j : ℕ) → j ≢ k → slice_get due j ≡ slice_get service.due j) →
-    (slice_get due k ≡ Some false → IsAtRest place (connection_at past.world.connections k)) → (slice_get due k ≡ Some true → IsLeft place (connection_at past.world.connections k)) →
+    (slice_get due k ≡ Some false → IsPlaceAtRest place (connection_at past.world.connections k)) → (slice_get due k ≡ Some true → IsWorkLeft place (connection_at past.world.connections k)) →
     Served p rules host first (scene_of service tools found past) → TidiesAt p rules host first found k service past (record service { due = due }) tools
 stays_tidy p rules host first found k service tools past place due here goes_on others rests left h = record {
   goes = record {
@@ -190,7 +190,7 @@ stays_tidy p rules host first found k service tools past place due here goes_on 
     alone = λ other differs not. not;
     ready = λ was. was;
   };
-  rested = λ none place' here'. subst (λ q. IsAtRest q (connection_at past.world.connections k)) (same_some place place' (sym here ∙ here')) (rests none);
+  rested = λ none place' here'. subst (λ q. IsPlaceAtRest q (connection_at past.world.connections k)) (same_some place place' (sym here ∙ here')) (rests none);
   turned = λ unread unwritten place' here'. record {
     read = elim unread [ inl none ↦ inl (none place' here') | inr tended ↦ inr tended ];
     written = elim unwritten [ inl none ↦ inl (none place' here') | inr done ↦ inr done ];
@@ -219,6 +219,6 @@ told_rested k service service' world place places due rested j less =
 pub record IsSilentFor (times : Times) (places : List Place) (k silence : ℕ) : Type 0 where
   pub place : Place
   pub here : slice_get places k ≡ Some place
-  pub taken : IsTaken place.stage
+  pub taken : IsOccupied place.stage
   pub silence_is : times.steady - place.since ≡ silence
   pub some : 0 < silence

@@ -12,16 +12,16 @@ use Rattle.event_loop.specs.declared.queue.Queue.TheVariants.{Told, Empty, Barre
 use Rattle.event_loop.specs.Deeds as deed
 use Rattle.event_loop.specs.Courses.{known, led}
 use Rattle.event_loop.specs.Noting.{NotesEnd}
-use Rattle.event_loop.specs.Places.{IsTaken, IsOver}
+use Rattle.event_loop.specs.Places.{IsOccupied, IsOver}
 use Rattle.event_loop.specs.Scenes.{Promises, Scene}
 
 -- none at the places took no byte for longer
 abbrev pub IsSilentLongest : List Place → Place → Type 0
-IsSilentLongest places place = (j : ℕ) (other : Place) → slice_get places j ≡ Some other → IsTaken other.stage → place.since ≤ other.since
+IsSilentLongest places place = (j : ℕ) (other : Place) → slice_get places j ≡ Some other → IsOccupied other.stage → place.since ≤ other.since
 
 -- each took a byte of a reply within so many seconds
 abbrev pub AreWithin : ℕ → Times → List Place → Type 0
-AreWithin limit times places = (k : ℕ) (place : Place) → slice_get places k ≡ Some place → IsTaken place.stage → times.steady - place.since ≤ limit
+AreWithin limit times places = (k : ℕ) (place : Place) → slice_get places k ≡ Some place → IsOccupied place.stage → times.steady - place.since ≤ limit
 
 -- Why the connection at a place is closed: it is over; it took no byte of a reply for longer than the limit; or all places
 -- are taken, another connection waits, and it is silent longest, for longer than the other limit. Of the seconds that are

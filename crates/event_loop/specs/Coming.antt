@@ -13,7 +13,7 @@ use Rattle.event_loop.specs.declared.queue.Queue.{Queue}
 use Rattle.event_loop.specs.declared.queue.Queue.TheVariants.{Told, Empty, Barred, Asked, Waits}
 use Rattle.event_loop.specs.Deeds as deed
 use Rattle.event_loop.specs.Courses.{led}
-use Rattle.event_loop.specs.Noting.{Notes}
+use Rattle.event_loop.specs.Noting.{NotesFault}
 use Rattle.event_loop.specs.Places.{IsFreeAt, AllTaken, places_limit}
 use Rattle.event_loop.specs.Scenes.{Promises, Scene}
 
@@ -30,20 +30,21 @@ told_queue Asked = Waits
 told_queue Waits = Waits
 
 -- Where somebody may wait, a connection is accepted, if there is a free place for it.
-pub data Comes {N C J K H : Type 0} (p : Promises N C J K H) (rules : RegistryRecord) (host : H) (s : Scene N C J K H) : Scene N C J K H → Type 0 where
+pub data AcceptsOne {N C J K H : Type 0} (p : Promises N C J K H) (rules : RegistryRecord) (host : H) (s : Scene N C J K H) : Scene N C J K H → Type 0 where
   opens : (k : ℕ) (n : N) (e : SeenEdge H) (on : GoesOn p.hosting e rules host s.course.schedule s.course.world (Opened k)) →
       k < places_limit → IsFreeAt s.places k → p.does s.sockets (deed.Came k) n →
-      Comes p rules host s (record s { sockets = n; deeds = deed.Came k ∷ s.deeds; course = led s.course e (Opened k) on.world;
+      AcceptsOne p rules host s (record s { sockets = n; deeds = deed.Came k ∷ s.deeds; course = led s.course e (Opened k) on.world;
           places = slice_set s.places k (fresh_place s.times.steady) })
   -- the edge refuses it, and it is closed at once
   denies : (k : ℕ) (n n' : N) (fault : EdgeFault) (last : Option ℕ) (journal : J) →
       k < places_limit → IsFreeAt s.places k → p.does s.sockets (deed.Came k) n → IsOpeningRefusal fault s.course.world.connections k →
-      p.does n (deed.Closed k) n' → Notes p.notes (Refused fault) s.times.steady s.noted s.journal last journal →
-      Comes p rules host s (record s { sockets = n'; deeds = deed.Closed k ∷ deed.Came k ∷ s.deeds; noted = last; journal = journal })
+      p.does n (deed.Closed k) n' → NotesFault p.notes (Refused fault) s.times.steady s.noted s.journal last journal →
+      AcceptsOne p rules host s (record s { sockets = n'; deeds = deed.Closed k ∷ deed.Came k ∷ s.deeds; noted = last; journal = journal })
   finds_nobody : (n : N) → p.does s.sockets deed.NobodyCame n →
-      Comes p rules host s (record s { sockets = n; deeds = deed.NobodyCame ∷ s.deeds; queue = Empty })
-  fails : (n : N) (last : Option ℕ) (journal : J) → p.does s.sockets deed.ComingFailed n → Notes p.notes Accept s.times.steady s.noted s.journal last journal →
-      Comes p rules host s (record s { sockets = n; deeds = deed.ComingFailed ∷ s.deeds; queue = Barred s.times.steady; noted = last; journal = journal })
+      AcceptsOne p rules host s (record s { sockets = n; deeds = deed.NobodyCame ∷ s.deeds; queue = Empty })
+  fails : (n : N) (last : Option ℕ) (journal : J) → p.does s.sockets deed.ComingFailed n →
+      NotesFault p.notes Accept s.times.steady s.noted s.journal last journal →
+      AcceptsOne p rules host s (record s { sockets = n; deeds = deed.ComingFailed ∷ s.deeds; queue = Barred s.times.steady; noted = last; journal = journal })
   -- all places are taken
   asks : (n : N) → AllTaken s.places → p.does s.sockets deed.Asked n →
-      Comes p rules host s (record s { sockets = n; deeds = deed.Asked ∷ s.deeds; queue = Asked })
+      AcceptsOne p rules host s (record s { sockets = n; deeds = deed.Asked ∷ s.deeds; queue = Asked })

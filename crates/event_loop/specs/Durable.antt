@@ -4,16 +4,16 @@ use Rattle.consent.specs.History.{Event}
 use Rattle.clients.specs.RegistryRecord.{RegistryRecord}
 use Rattle.change_codec.specs.Keeping.{IsFrontOf, Holds}
 use Rattle.event_loop.specs.Scenes.{Promises, Scene}
-use Rattle.event_loop.specs.Served.{Step}
+use Rattle.event_loop.specs.Served.{LoopStep}
 
 -- Steps lead on from a scene.
 pub data Onward {N C J K H : Type 0} (p : Promises N C J K H) (rules : RegistryRecord) (host : H) (s : Scene N C J K H) : Scene N C J K H → Type 0 where
   stays : Onward p rules host s s
-  onward : {s' s'' : Scene N C J K H} → Onward p rules host s s' → Step p rules host s' s'' → Onward p rules host s s''
+  onward : {s' s'' : Scene N C J K H} → Onward p rules host s s' → LoopStep p rules host s' s'' → Onward p rules host s s''
 
 -- the keeper holds what was kept last
-abbrev pub IsHeld : {N C J K H : Type 0} → Promises N C J K H → Scene N C J K H → Type 0
-IsHeld p s = (kept : List Event) → s.course.world.kept ≡ Some kept → Holds p.keeping s.keeper kept
+abbrev pub KeeperHolds : {N C J K H : Type 0} → Promises N C J K H → Scene N C J K H → Type 0
+KeeperHolds p s = (kept : List Event) → s.course.world.kept ≡ Some kept → Holds p.keeping s.keeper kept
 
 -- What a crash left stands for what was kept last at a scene from the one on, up to the other. That has all that was kept
 -- at the one, and nothing that has not happened at the other.

@@ -11,10 +11,10 @@ use Rattle.event_loop.specs.declared.tools.Tools.{Tools}
 use Rattle.event_loop.specs.Deeds as deed
 use Rattle.event_loop.specs.Deeds.{Keeping, IsDone}
 use Rattle.change_codec.specs.Keeping.{KeepsNot}
-use Rattle.event_loop.specs.Durable.{Onward, IsHeld, IsDurable, IsDurableToEnd}
+use Rattle.event_loop.specs.Durable.{Onward, KeeperHolds, IsDurable, IsDurableToEnd}
 use Rattle.event_loop.specs.Places.{AllFree}
 use Rattle.event_loop.specs.Scenes.{Promises, Scene, IsAllKept, IsUnkept}
-use Rattle.event_loop.specs.Answered.{IsAnswered}
+use Rattle.event_loop.specs.Answered.{IsAllAnswered}
 use Rattle.event_loop.specs.Served.{IsFirst, MayWait, Served, Shuts}
 
 -- these are the tools of the scene
@@ -32,17 +32,17 @@ rounds_limit = 18446744073709551615
 
 -- why it goes on no more: a wait failed; behind a wait the clocks told nothing, and what it found was not looked at; what is
 -- unkept could not be kept; an image could not be written; or so many rounds were made as can be counted
-pub data Fails {N C J K H : Type 0} (p : Promises N C J K H) (s : Scene N C J K H) : LoopFault → Scene N C J K H → Type 0 where
+pub data CannotGoOn {N C J K H : Type 0} (p : Promises N C J K H) (s : Scene N C J K H) : LoopFault → Scene N C J K H → Type 0 where
   no_wait : (limit : Option ℕ) (room : ℕ) (n : N) → MayWait p s limit room → p.does s.sockets (deed.WaitFailed limit room) n →
-      Fails p s Wait (record s { sockets = n; deeds = deed.WaitFailed limit room ∷ s.deeds })
+      CannotGoOn p s Wait (record s { sockets = n; deeds = deed.WaitFailed limit room ∷ s.deeds })
   no_time : (limit : Option ℕ) (room : ℕ) (found : List Ready) (n : N) (c : C) → MayWait p s limit room → p.does s.sockets (deed.Waited limit room found) n →
       p.tells s.clocks None c →
-      Fails p s Clock (record s { sockets = n; clocks = c; deeds = deed.Waited limit room found ∷ s.deeds; found = found })
+      CannotGoOn p s Clock (record s { sockets = n; clocks = c; deeds = deed.Waited limit room found ∷ s.deeds; found = found })
   not_kept : (keeper : K) (unkept : IsUnkept s.course.world) → ¬ (IsDone Keeping s.deeds) →
-      KeepsNot p.keeping unkept.kept s.course.world.history s.keeper keeper → Fails p s Keep (record s { keeper = keeper })
+      KeepsNot p.keeping unkept.kept s.course.world.history s.keeper keeper → CannotGoOn p s Keep (record s { keeper = keeper })
   not_imaged : (keeper : K) → IsAllKept s.course.world → KeepsNot p.keeping s.course.world.history s.course.world.history s.keeper keeper →
-      Fails p s Keep (record s { keeper = keeper })
-  no_more : rounds_limit ≤ deed.waits s.deeds → Fails p s Rounds s
+      CannotGoOn p s Keep (record s { keeper = keeper })
+  no_more : rounds_limit ≤ deed.waits s.deeds → CannotGoOn p s Rounds s
 
 -- The clocks told the first times, and steps led on, whose every scene is answered, until something failed; then nothing
 -- was done but that each connection that was left was closed and forgotten, and all places are free. Where the keeper held
@@ -58,13 +58,14 @@ pub record HasServed {N C J K H : Type 0} (p : Promises N C J K H) (rules : Regi
   pub tools_are : AreTools (record tools { clocks = first.clocks }) first
   pub last : Scene N C J K H
   pub served : Served p rules host first last
-  pub answered : (s : Scene N C J K H) → Served p rules host first s → IsAnswered p rules host s
-  pub durable : IsHeld p first → (s s' : Scene N C J K H) → Served p rules host first s → Onward p rules host s s' → IsDurable p rules host s s'
+  pub answered : (s : Scene N C J K H) → Served p rules host first s → IsAllAnswered p rules host s
+  pub durable : KeeperHolds p first → (s s' : Scene N C J K H) → Served p rules host first s → Onward p rules host s s' → IsDurable p rules host s s'
   pub failed : Scene N C J K H
-  pub fails : Fails p last fault failed
+  pub fails : CannotGoOn p last fault failed
   pub end : Scene N C J K H
   pub shuts : Shuts p rules host failed end
-  pub durable_then : IsHeld p first → (s : Scene N C J K H) → Served p rules host first s → Onward p rules host s last → IsDurableToEnd p rules host s last end
+  pub durable_then : KeeperHolds p first → (s : Scene N C J K H) → Served p rules host first s → Onward p rules host s last →
+      IsDurableToEnd p rules host s last end
   pub free : AllFree end.places
   pub tools_are_then : AreTools tools' end
 
@@ -76,7 +77,7 @@ pub record ServesNothing {N C J K H : Type 0} (p : Promises N C J K H) (tools : 
   pub same : tools' ≡ record tools { clocks = clocks }
 
 -- wherever the edge was reached
-abbrev pub Ends : {N C J K H : Type 0} → Promises N C J K H → Limits → Tools N C J K H → LoopFault → Tools N C J K H → Type 0
-Ends {N} {C} {J} {K} {H} p limits tools fault tools' =
+abbrev pub RunEnds : {N C J K H : Type 0} → Promises N C J K H → Limits → Tools N C J K H → LoopFault → Tools N C J K H → Type 0
+RunEnds {N} {C} {J} {K} {H} p limits tools fault tools' =
     (rules : RegistryRecord) (host : H) (schedule : List Happening) (world : World) → Reached p.hosting tools.edge rules host schedule world →
     HasServed p rules host limits tools schedule world fault tools' ⊎ ServesNothing p tools fault tools'

@@ -18,7 +18,8 @@ abbrev pub cut_limit : ℕ
 cut_limit = 512
 
 -- A piece was given to the edge with the generator's next draws, and the generator stands behind them.
-pub record IsGiven {H : Type 0} (hosting : Hosting H) (rules : RegistryRecord) (host : H) (k moment : ℕ) (piece : List ℕ) (course : Course H) : Type 0 where
+pub record IsPieceGiven {H : Type 0} (hosting : Hosting H) (rules : RegistryRecord) (host : H) (k moment : ℕ) (piece : List ℕ)
+    (course : Course H) : Type 0 where
   pub edge : SeenEdge H
   pub generator : ChaCha
   pub count : ℕ
@@ -27,7 +28,7 @@ pub record IsGiven {H : Type 0} (hosting : Hosting H) (rules : RegistryRecord) (
   pub on : PieceGoesOn hosting edge rules host course.schedule course.world k piece moment (next_draws course.generator count)
 
 -- It was refused, with such draws; for want of draws only where it had as many as a piece may have.
-pub record IsRefused {H : Type 0} (k : ℕ) (piece : List ℕ) (fault : EdgeFault) (course : Course H) : Type 0 where
+pub record IsPieceRefused {H : Type 0} (k : ℕ) (piece : List ℕ) (fault : EdgeFault) (course : Course H) : Type 0 where
   pub generator : ChaCha
   pub count : ℕ
   pub few : count ≤ draws_limit
@@ -37,23 +38,24 @@ pub record IsRefused {H : Type 0} (k : ℕ) (piece : List ℕ) (fault : EdgeFaul
 
 -- Bytes are given in pieces, one after another, none after the 400 of a faulty head. A piece that completes too many
 -- requests may be tried again in cuts.
-pub data Gives {H : Type 0} (hosting : Hosting H) (rules : RegistryRecord) (host : H) (k moment : ℕ) (first : Course H) : List ℕ → Course H → Type 0 where
-  nothing : Gives hosting rules host k moment first [] first
-  gives : {bytes : List ℕ} {course : Course H} (piece : List ℕ) → Gives hosting rules host k moment first bytes course → is_closing (known course k) ≡ false →
-      (g : IsGiven hosting rules host k moment piece course) →
-      Gives hosting rules host k moment first (bytes ++ piece)
+pub data GivesPieces {H : Type 0} (hosting : Hosting H) (rules : RegistryRecord) (host : H) (k moment : ℕ) (first : Course H) : List ℕ → Course H → Type 0 where
+  nothing : GivesPieces hosting rules host k moment first [] first
+  gives : {bytes : List ℕ} {course : Course H} (piece : List ℕ) → GivesPieces hosting rules host k moment first bytes course →
+      is_closing (known course k) ≡ false →
+      (g : IsPieceGiven hosting rules host k moment piece course) →
+      GivesPieces hosting rules host k moment first (bytes ++ piece)
       (record (led course g.edge (Came k piece moment (next_draws course.generator g.count) g.on.marks g.on.closes) g.on.on.world) { generator = g.generator })
-  tries : {bytes : List ℕ} {course : Course H} (piece : List ℕ) → Gives hosting rules host k moment first bytes course →
-      (r : IsRefused k piece TooManyRequests course) →
-      Gives hosting rules host k moment first bytes (record course { generator = r.generator })
+  tries : {bytes : List ℕ} {course : Course H} (piece : List ℕ) → GivesPieces hosting rules host k moment first bytes course →
+      (r : IsPieceRefused k piece TooManyRequests course) →
+      GivesPieces hosting rules host k moment first bytes (record course { generator = r.generator })
 
 -- All bytes were given, or the rest comes behind the 400 of a faulty head.
-pub record IsHeard {H : Type 0} (hosting : Hosting H) (rules : RegistryRecord) (host : H) (k moment : ℕ) (bytes : List ℕ)
+pub record AreBytesHeard {H : Type 0} (hosting : Hosting H) (rules : RegistryRecord) (host : H) (k moment : ℕ) (bytes : List ℕ)
     (course course' : Course H) : Type 0 where
   pub given : List ℕ
   pub rest : List ℕ
   pub all : bytes ≡ given ++ rest
-  pub gives : Gives hosting rules host k moment course given course'
+  pub gives : GivesPieces hosting rules host k moment course given course'
   pub over : (rest ≡ []) ⊎ (is_closing (known course' k) ≡ true)
 
 -- A front of them was given, and then a piece was refused that is no longer cut.
@@ -64,8 +66,8 @@ pub record IsUnheard {H : Type 0} (hosting : Hosting H) (rules : RegistryRecord)
   pub rest : List ℕ
   pub all : bytes ≡ given ++ (piece ++ rest)
   pub before : Course H
-  pub gives : Gives hosting rules host k moment course given before
-  pub refused : IsRefused k piece fault before
+  pub gives : GivesPieces hosting rules host k moment course given before
+  pub refused : IsPieceRefused k piece fault before
   pub cut : fault ≡ TooManyRequests → length piece ≤ cut_limit
   pub is_after : course' ≡ record before { generator = refused.generator }
 
@@ -74,7 +76,7 @@ pub record GivesAll {H : Type 0} (hosting : Hosting H) (rules : RegistryRecord) 
     (edge : SeenEdge H) (generator : ChaCha) : Type 0 where
   pub schedule : List Happening
   pub world : World
-  pub heard : IsHeard hosting rules host k moment bytes course (record { edge = edge; generator = generator; schedule = schedule; world = world })
+  pub heard : AreBytesHeard hosting rules host k moment bytes course (record { edge = edge; generator = generator; schedule = schedule; world = world })
 
 -- wherever the edge was reached, a front of them
 pub record GivesSome {H : Type 0} (hosting : Hosting H) (rules : RegistryRecord) (host : H) (k moment : ℕ) (bytes : List ℕ) (fault : EdgeFault)

@@ -16,11 +16,11 @@ use Rattle.event_loop.specs.declared.tools.Tools.{Tools}
 use Rattle.event_loop.specs.declared.fault.LoopFault.TheVariants.{Keep}
 use Rattle.event_loop.specs.Deeds.{Deed, Task, Reading, Keeping, Writing, Accepting, IsDone, waits, done_since}
 use Rattle.event_loop.specs.Giving.{GivesAll, GivesSome}
-use Rattle.event_loop.specs.Places.{IsTaken, MayRead, MayWrite, IsUnread, IsUnwritten, IsAtRest, AllFree}
+use Rattle.event_loop.specs.Places.{IsOccupied, MayRead, MayWrite, NeedsNoRead, NeedsNoWrite, IsPlaceAtRest, AllFree}
 use Rattle.event_loop.specs.Scenes.{Promises, Scene, IsAllKept}
 use Rattle.event_loop.specs.Closing.{IsSilentLongest, AreWithin, Closes}
 use Rattle.event_loop.specs.Served.{HadTurn, Served, Shuts}
-use Rattle.event_loop.specs.Ends.{Fails}
+use Rattle.event_loop.specs.Ends.{CannotGoOn}
 
 -- it holds of the connection, wherever the edge was reached
 abbrev pub WhereKnown : {H : Type 0} → Hosting H → SeenEdge H → ℕ → (Option Connection → Type 0) → Type 0
@@ -98,7 +98,7 @@ LeadsToRefusal hosting k moment bytes fault edge generator edge' generator' =
 pub record IsLongestAt (places : List Place) (k : ℕ) : Type 0 where
   pub place : Place
   pub here : slice_get places k ≡ Some place
-  pub taken : IsTaken place.stage
+  pub taken : IsOccupied place.stage
   pub longest : IsSilentLongest places place
 
 -- the other places are as they were, and so are their connections
@@ -123,14 +123,14 @@ pub record GoesAt {N C J K H : Type 0} (p : Promises N C J K H) (rules : Registr
   pub alone : (other : Task) → other ≢ task → ¬ (IsDone other past.deeds) → ¬ (IsDone other next.deeds)
 
 -- it holds of what is known of the place, and of its connection
-abbrev pub IsKnownAt : ℕ → Service → World → (Place → Option Connection → Type 0) → Type 0
-IsKnownAt k service world P = (place : Place) → slice_get service.places k ≡ Some place → P place (connection_at world.connections k)
+abbrev pub HoldsAt : ℕ → Service → World → (Place → Option Connection → Type 0) → Type 0
+HoldsAt k service world P = (place : Place) → slice_get service.places k ≡ Some place → P place (connection_at world.connections k)
 
 -- nothing changed, since nothing is to be done
-pub record IsStill (k : ℕ) (service : Service) (world : World) (service' : Service) (world' : World) (P : Place → Option Connection → Type 0) : Type 0 where
+pub record StaysIdle (k : ℕ) (service : Service) (world : World) (service' : Service) (world' : World) (P : Place → Option Connection → Type 0) : Type 0 where
   pub service_is : service' ≡ service
   pub world_is : world' ≡ world
-  pub rests : IsKnownAt k service world P
+  pub rests : HoldsAt k service world P
 
 -- a task is done at one place, or nothing changed, since it is not to be done
 pub record ActsAt {N C J K H : Type 0} (p : Promises N C J K H) (rules : RegistryRecord) (host : H) (first : Scene N C J K H) (found : List Ready)
@@ -138,7 +138,7 @@ pub record ActsAt {N C J K H : Type 0} (p : Promises N C J K H) (rules : Registr
     (tools' : Tools N C J K H) : Type 0 where
   pub goes : GoesAt p rules host first found k task service past service' tools'
   pub due : service'.due ≡ service.due
-  pub acts : IsStill k service past.world service' goes.next.world P ⊎ IsDone task goes.next.deeds
+  pub acts : StaysIdle k service past.world service' goes.next.world P ⊎ IsDone task goes.next.deeds
 
 -- so it is where it was not done since the last wait, and may be done
 abbrev pub LeadsToActs : {N C J K H : Type 0} → Promises N C J K H → ℕ → Task → (Place → Option Connection → Type 0) → Service → Tools N C J K H → Service →
@@ -149,28 +149,28 @@ LeadsToActs {N} {C} {J} {K} {H} p k task P service tools service' tools' =
     ActsAt p rules host first found k task P service past service' tools'
 
 -- a read or a write is to be done
-pub data IsLeft (place : Place) (connection : Option Connection) : Type 0 where
-  a_read : place.readable ≡ true → MayRead place connection → IsLeft place connection
-  a_write : place.writable ≡ true → MayWrite place connection → IsLeft place connection
+pub data IsWorkLeft (place : Place) (connection : Option Connection) : Type 0 where
+  a_read : place.readable ≡ true → MayRead place connection → IsWorkLeft place connection
+  a_write : place.writable ≡ true → MayWrite place connection → IsWorkLeft place connection
 
 -- so it is at the place
 pub record IsLeftAt (k : ℕ) (service : Service) (world : World) : Type 0 where
   pub place : Place
   pub here : slice_get service.places k ≡ Some place
-  pub left : IsLeft place (connection_at world.connections k)
+  pub left : IsWorkLeft place (connection_at world.connections k)
 
 -- where nothing is noted to be due, nothing is to be done at the place
 abbrev pub IsRestedAt : ℕ → Service → World → Type 0
-IsRestedAt k service world = slice_get service.due k ≡ Some false → IsKnownAt k service world IsAtRest
+IsRestedAt k service world = slice_get service.due k ≡ Some false → HoldsAt k service world IsPlaceAtRest
 
 -- no read is to be done at the place, or one was done since the last wait
 abbrev pub IsHeardAt : ℕ → Service → Past → Type 0
-IsHeardAt k service past = IsKnownAt k service past.world IsUnread ⊎ IsDone (Reading k) past.deeds
+IsHeardAt k service past = HoldsAt k service past.world NeedsNoRead ⊎ IsDone (Reading k) past.deeds
 
 -- the place had its turn, and where nothing is noted to be due, nothing is to be done there, and else something was done
 pub record IsSettledAt (k : ℕ) (service : Service) (past : Past) : Type 0 where
   pub rested : IsRestedAt k service past.world
-  pub turned : IsKnownAt k service past.world (λ place connection. HadTurn k place connection past.deeds)
+  pub turned : HoldsAt k service past.world (λ place connection. HadTurn k place connection past.deeds)
   pub active : slice_get service.due k ≡ Some true → 0 < done_since past.deeds
 
 -- steps lead on, which touch one place alone, and it is settled
@@ -184,9 +184,9 @@ pub record TidiesAt {N C J K H : Type 0} (p : Promises N C J K H) (rules : Regis
     (k : ℕ) (service : Service) (past : Past) (service' : Service) (tools' : Tools N C J K H) : Type 0 where
   pub goes : GoesAt p rules host first found k (Writing k) service past service' tools'
   pub rested : IsRestedAt k service' goes.next.world
-  pub turned : IsKnownAt k service past.world IsUnread ⊎ (IsDone (Reading k) past.deeds ⊎ IsDone (Writing k) past.deeds) →
-      IsKnownAt k service past.world IsUnwritten ⊎ IsDone (Writing k) past.deeds →
-      IsKnownAt k service' goes.next.world (λ place connection. HadTurn k place connection goes.next.deeds)
+  pub turned : HoldsAt k service past.world NeedsNoRead ⊎ (IsDone (Reading k) past.deeds ⊎ IsDone (Writing k) past.deeds) →
+      HoldsAt k service past.world NeedsNoWrite ⊎ IsDone (Writing k) past.deeds →
+      HoldsAt k service' goes.next.world (λ place connection. HadTurn k place connection goes.next.deeds)
   pub left : slice_get service'.due k ≡ Some true → IsLeftAt k service past.world
 
 abbrev pub LeadsToTidy : {N C J K H : Type 0} → Promises N C J K H → ℕ → Service → Tools N C J K H → Service → Tools N C J K H → Type 0
@@ -217,34 +217,34 @@ LeadsAway {N} {C} {J} {K} {H} p k place service tools service' tools' =
 abbrev pub IsRested : Service → World → Type 0
 IsRested service world = (k : ℕ) → k < 64 → IsRestedAt k service world
 
-abbrev pub IsSettled : Service → Past → Type 0
-IsSettled service past = (k : ℕ) → k < 64 → IsSettledAt k service past
+abbrev pub AreAllSettled : Service → Past → Type 0
+AreAllSettled service past = (k : ℕ) → k < 64 → IsSettledAt k service past
 
 -- steps lead on, and all places are settled
-pub record GoesTo {N C J K H : Type 0} (p : Promises N C J K H) (rules : RegistryRecord) (host : H) (first : Scene N C J K H) (found : List Ready)
+pub record GoesSettled {N C J K H : Type 0} (p : Promises N C J K H) (rules : RegistryRecord) (host : H) (first : Scene N C J K H) (found : List Ready)
     (past : Past) (service' : Service) (tools' : Tools N C J K H) : Type 0 where
   pub next : Past
   pub served : Served p rules host first (scene_of service' tools' found next)
-  pub settled : IsSettled service' next
+  pub settled : AreAllSettled service' next
   pub done : DoneAfter past.deeds next.deeds
 
-abbrev pub LeadsTo : {N C J K H : Type 0} → Promises N C J K H → List Ready → Service → Tools N C J K H → List Ready → Service → Tools N C J K H → Type 0
-LeadsTo {N} {C} {J} {K} {H} p found service tools found' service' tools' =
+abbrev pub LeadsToSettled : {N C J K H : Type 0} → Promises N C J K H → List Ready → Service → Tools N C J K H → List Ready → Service → Tools N C J K H → Type 0
+LeadsToSettled {N} {C} {J} {K} {H} p found service tools found' service' tools' =
     (rules : RegistryRecord) (host : H) (first : Scene N C J K H) (past : Past) → Served p rules host first (scene_of service tools found past) →
-        IsSettled service past →
-    GoesTo p rules host first found' past service' tools'
+        AreAllSettled service past →
+    GoesSettled p rules host first found' past service' tools'
 
 -- so they do, and where it is so then, it was tried to accept since the last wait
-pub record Accepts {N C J K H : Type 0} (p : Promises N C J K H) (rules : RegistryRecord) (host : H) (first : Scene N C J K H) (found : List Ready)
+pub record GoesAccepting {N C J K H : Type 0} (p : Promises N C J K H) (rules : RegistryRecord) (host : H) (first : Scene N C J K H) (found : List Ready)
     (P : Type 0) (past : Past) (service' : Service) (tools' : Tools N C J K H) : Type 0 where
-  pub goes : GoesTo p rules host first found past service' tools'
+  pub goes : GoesSettled p rules host first found past service' tools'
   pub tried : P → IsDone Accepting goes.next.deeds
 
 abbrev pub LeadsToAccepts : {N C J K H : Type 0} → Promises N C J K H → List Ready → Type 0 → Service → Tools N C J K H → Service → Tools N C J K H → Type 0
 LeadsToAccepts {N} {C} {J} {K} {H} p found P service tools service' tools' =
     (rules : RegistryRecord) (host : H) (first : Scene N C J K H) (past : Past) → Served p rules host first (scene_of service tools found past) →
-        IsSettled service past →
-    Accepts p rules host first found P past service' tools'
+        AreAllSettled service past →
+    GoesAccepting p rules host first found P past service' tools'
 
 -- what was found ready is noted at its place
 abbrev pub LeadsToHearing : {N C J K H : Type 0} → Promises N C J K H → List Ready → Service → Tools N C J K H → List Ready → Service → Type 0
@@ -292,25 +292,25 @@ abbrev pub LeadsToLoss : {N C J K H : Type 0} → Promises N C J K H → Tools N
 LeadsToLoss {N} {C} {J} {K} {H} p tools fault tools' =
     (rules : RegistryRecord) (host : H) (first : Scene N C J K H) (found : List Ready) (service : Service) (past : Past) → ¬ (IsDone Keeping past.deeds) →
         Served p rules host first (scene_of service tools found past) →
-    Fails p (scene_of service tools found past) fault (scene_of service tools' found past)
+    CannotGoOn p (scene_of service tools found past) fault (scene_of service tools' found past)
 
 -- where nothing is unkept, no more is kept than may be beside an image, or an image was refused in this second
-abbrev pub IsShort : {N C J K H : Type 0} → Promises N C J K H → Service → Tools N C J K H → World → Type 0
-IsShort p service tools world = IsAllKept world → p.is_long tools.keeper → service.refused ≡ Some service.times.steady
+abbrev pub IsKeptShort : {N C J K H : Type 0} → Promises N C J K H → Service → Tools N C J K H → World → Type 0
+IsKeptShort p service tools world = IsAllKept world → p.is_long tools.keeper → service.refused ≡ Some service.times.steady
 
 -- wherever steps lead to, they lead on, and it is so
 abbrev pub LeadsToShort : {N C J K H : Type 0} → Promises N C J K H → Service → Tools N C J K H → Service → Tools N C J K H → Type 0
 LeadsToShort {N} {C} {J} {K} {H} p service tools service' tools' =
     (rules : RegistryRecord) (host : H) (first : Scene N C J K H) (found : List Ready) (past : Past) →
     Served p rules host first (scene_of service tools found past) →
-    Served p rules host first (scene_of service' tools' found past) × IsShort p service' tools' past.world
+    Served p rules host first (scene_of service' tools' found past) × IsKeptShort p service' tools' past.world
 
 -- or the image could not be written
 abbrev pub LeadsToNoImage : {N C J K H : Type 0} → Promises N C J K H → Service → Tools N C J K H → LoopFault → Service → Tools N C J K H → Type 0
 LeadsToNoImage {N} {C} {J} {K} {H} p service tools fault service' tools' =
     (rules : RegistryRecord) (host : H) (first : Scene N C J K H) (found : List Ready) (past : Past) →
     Served p rules host first (scene_of service tools found past) →
-    Fails p (scene_of service tools found past) fault (scene_of service' tools' found past)
+    CannotGoOn p (scene_of service tools found past) fault (scene_of service' tools' found past)
 
 -- each place below i is settled; those from i on were heard, and not written to; and nothing is unkept
 pub record GoesWriting {N C J K H : Type 0} (p : Promises N C J K H) (rules : RegistryRecord) (host : H) (first : Scene N C J K H) (found : List Ready)
@@ -342,8 +342,8 @@ pub record IsQuick (service : Service) : Type 0 where
   pub tried : IsTried service
 
 -- all places are settled, and nobody is to be accepted, or it was tried since the last wait
-pub record IsReady (service : Service) (past : Past) : Type 0 where
-  pub settled : IsSettled service past
+pub record IsReadyToWait (service : Service) (past : Past) : Type 0 where
+  pub settled : AreAllSettled service past
   pub queue : service.queue ≢ Told ⊎ IsDone Accepting past.deeds
   pub quick : IsQuick service
 
@@ -352,13 +352,13 @@ pub record GoesRound {N C J K H : Type 0} (p : Promises N C J K H) (rules : Regi
     (past : Past) (service' : Service) (tools' : Tools N C J K H) : Type 0 where
   pub next : Past
   pub served : Served p rules host first (scene_of service' tools' [] next)
-  pub ready : IsReady service' next
+  pub ready : IsReadyToWait service' next
   pub waits_are : waits next.deeds ≡ waits past.deeds + count
 
 abbrev pub LeadsRound : {N C J K H : Type 0} → Promises N C J K H → ℕ → Service → Tools N C J K H → Service → Tools N C J K H → Type 0
 LeadsRound {N} {C} {J} {K} {H} p count service tools service' tools' =
     (rules : RegistryRecord) (host : H) (first : Scene N C J K H) (past : Past) → Served p rules host first (scene_of service tools [] past) →
-        IsReady service past →
+        IsReadyToWait service past →
     GoesRound p rules host first count past service' tools'
 
 -- steps lead to a scene where something fails
@@ -368,12 +368,12 @@ pub record GoesWrong {N C J K H : Type 0} (p : Promises N C J K H) (rules : Regi
   pub served : Served p rules host first last
   pub found : List Ready
   pub next : Past
-  pub fails : Fails p last fault (scene_of service' tools' found next)
+  pub fails : CannotGoOn p last fault (scene_of service' tools' found next)
 
 abbrev pub LeadsWrong : {N C J K H : Type 0} → Promises N C J K H → LoopFault → Service → Tools N C J K H → Service → Tools N C J K H → Type 0
 LeadsWrong {N} {C} {J} {K} {H} p fault service tools service' tools' =
     (rules : RegistryRecord) (host : H) (first : Scene N C J K H) (past : Past) → Served p rules host first (scene_of service tools [] past) →
-        IsReady service past →
+        IsReadyToWait service past →
     GoesWrong p rules host first fault service' tools'
 
 -- connections that are left are closed

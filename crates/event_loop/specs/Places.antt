@@ -24,15 +24,15 @@ abbrev pub backlog_limit : ℕ
 backlog_limit = 65536
 
 -- a connection is there
-abbrev pub IsTaken : Stage → Type 0
-IsTaken Free = ⊥
-IsTaken stage = ⊤
+abbrev pub IsOccupied : Stage → Type 0
+IsOccupied Free = ⊥
+IsOccupied stage = ⊤
 
 -- it is served
-abbrev pub IsServed : Stage → Type 0
-IsServed Open = ⊤
-IsServed Ended = ⊤
-IsServed stage = ⊥
+abbrev pub IsInService : Stage → Type 0
+IsInService Open = ⊤
+IsInService Ended = ⊤
+IsInService stage = ⊥
 
 -- The place's connection, as the edge knows it, is to be read: the edge didn't give it the 400 of a faulty head, and its
 -- backlog is small
@@ -43,7 +43,7 @@ pub record MayRead (p : Place) (connection : Option Connection) : Type 0 where
 
 -- output is left for it
 pub record MayWrite (p : Place) (connection : Option Connection) : Type 0 where
-  pub served : IsServed p.stage
+  pub served : IsInService p.stage
   pub some_left : 0 < length (untaken connection)
 
 -- nothing is left to be done for it: a fault ended it, or all output is written and it sends no more or had the 400 of a
@@ -54,17 +54,17 @@ pub data IsOver (p : Place) (connection : Option Connection) : Type 0 where
   dismissed : p.stage ≡ Open → is_closing connection ≡ true → untaken connection ≡ [] → IsOver p connection
 
 -- no read is to be done now
-abbrev pub IsUnread : Place → Option Connection → Type 0
-IsUnread p connection = p.readable ≡ true → ¬ (MayRead p connection)
+abbrev pub NeedsNoRead : Place → Option Connection → Type 0
+NeedsNoRead p connection = p.readable ≡ true → ¬ (MayRead p connection)
 
 -- no write is to be done now
-abbrev pub IsUnwritten : Place → Option Connection → Type 0
-IsUnwritten p connection = p.writable ≡ true → ¬ (MayWrite p connection)
+abbrev pub NeedsNoWrite : Place → Option Connection → Type 0
+NeedsNoWrite p connection = p.writable ≡ true → ¬ (MayWrite p connection)
 
 -- nothing is to be done now
-pub record IsAtRest (p : Place) (connection : Option Connection) : Type 0 where
-  pub unread : IsUnread p connection
-  pub unwritten : IsUnwritten p connection
+pub record IsPlaceAtRest (p : Place) (connection : Option Connection) : Type 0 where
+  pub unread : NeedsNoRead p connection
+  pub unwritten : NeedsNoWrite p connection
   pub goes_on : ¬ (IsOver p connection)
 
 -- ALL PLACES
@@ -78,4 +78,4 @@ AllFree places = (k : ℕ) → IsFreeAt places k
 
 -- a connection is at each place
 abbrev pub AllTaken : List Place → Type 0
-AllTaken places = (k : ℕ) (place : Place) → slice_get places k ≡ Some place → IsTaken place.stage
+AllTaken places = (k : ℕ) (place : Place) → slice_get places k ≡ Some place → IsOccupied place.stage

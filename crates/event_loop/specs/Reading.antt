@@ -11,7 +11,7 @@ use Rattle.event_loop.specs.declared.place.Place.{Place}
 use Rattle.event_loop.specs.declared.place.Stage.TheVariants.{Ended, Broken}
 use Rattle.event_loop.specs.Deeds as deed
 use Rattle.event_loop.specs.Courses.{Course, led}
-use Rattle.event_loop.specs.Giving.{IsHeard, IsUnheard}
+use Rattle.event_loop.specs.Giving.{AreBytesHeard, IsUnheard}
 use Rattle.event_loop.specs.Places.{read_limit}
 use Rattle.event_loop.specs.Scenes.{Promises, Scene}
 
@@ -20,27 +20,27 @@ abbrev pub read_place : Place → ℕ → Place
 read_place place count = record place { readable = nat_le read_limit count || place.hung }
 
 -- The connection at a place is read once, into a buffer of just so many bytes, and what came is given to the edge at the moment that the clocks told.
-pub data Reads {N C J K H : Type 0} (p : Promises N C J K H) (rules : RegistryRecord) (host : H) (k : ℕ) (place : Place)
+pub data ReadsPlace {N C J K H : Type 0} (p : Promises N C J K H) (rules : RegistryRecord) (host : H) (k : ℕ) (place : Place)
     (s : Scene N C J K H) : Scene N C J K H → Type 0 where
   hears : (bytes : List ℕ) (n : N) (course : Course H) (place' : Place) → 0 < length bytes → length bytes ≤ read_limit →
       p.does s.sockets (deed.Read k read_limit bytes) n →
-      IsHeard p.hosting rules host k s.times.moment bytes s.course course → place' ≡ read_place place (length bytes) →
-      Reads p rules host k place s (record s { sockets = n; deeds = deed.Read k read_limit bytes ∷ s.deeds; course = course;
+      AreBytesHeard p.hosting rules host k s.times.moment bytes s.course course → place' ≡ read_place place (length bytes) →
+      ReadsPlace p rules host k place s (record s { sockets = n; deeds = deed.Read k read_limit bytes ∷ s.deeds; course = course;
           places = slice_set s.places k place' })
   refuses : (bytes : List ℕ) (n : N) (fault : EdgeFault) (course : Course H) → 0 < length bytes → length bytes ≤ read_limit →
       p.does s.sockets (deed.Read k read_limit bytes) n →
       IsUnheard p.hosting rules host k s.times.moment bytes fault s.course course →
-      Reads p rules host k place s (record s { sockets = n; deeds = deed.Read k read_limit bytes ∷ s.deeds; course = course;
+      ReadsPlace p rules host k place s (record s { sockets = n; deeds = deed.Read k read_limit bytes ∷ s.deeds; course = course;
           places = slice_set s.places k (record place { stage = Broken (Refused fault) }) })
   ends : (n : N) (e : SeenEdge H) (on : GoesOn p.hosting e rules host s.course.schedule s.course.world (HasEnded k)) → p.does s.sockets (deed.ReadEnd k) n →
-      Reads p rules host k place s (record s { sockets = n; deeds = deed.ReadEnd k ∷ s.deeds; course = led s.course e (HasEnded k) on.world;
+      ReadsPlace p rules host k place s (record s { sockets = n; deeds = deed.ReadEnd k ∷ s.deeds; course = led s.course e (HasEnded k) on.world;
           places = slice_set s.places k (record place { stage = Ended }) })
   ends_nothing : (n : N) (fault : EdgeFault) → p.does s.sockets (deed.ReadEnd k) n → IsEndingRefusal fault s.course.world.connections k →
-      Reads p rules host k place s (record s { sockets = n; deeds = deed.ReadEnd k ∷ s.deeds;
+      ReadsPlace p rules host k place s (record s { sockets = n; deeds = deed.ReadEnd k ∷ s.deeds;
           places = slice_set s.places k (record place { stage = Broken (Refused fault) }) })
   finds_nothing : (n : N) → p.does s.sockets (deed.ReadNothing k) n →
-      Reads p rules host k place s (record s { sockets = n; deeds = deed.ReadNothing k ∷ s.deeds;
+      ReadsPlace p rules host k place s (record s { sockets = n; deeds = deed.ReadNothing k ∷ s.deeds;
           places = slice_set s.places k (record place { readable = false }) })
   fails : (n : N) → p.does s.sockets (deed.ReadFailed k) n →
-      Reads p rules host k place s (record s { sockets = n; deeds = deed.ReadFailed k ∷ s.deeds;
+      ReadsPlace p rules host k place s (record s { sockets = n; deeds = deed.ReadFailed k ∷ s.deeds;
           places = slice_set s.places k (record place { stage = Broken Read }) })

@@ -13,11 +13,11 @@ use Rattle.change_codec.specs.Keeping.{Keeps}
 use Rattle.http_edge.specs.Edges.{SeenEdge}
 use Rattle.http_edge.specs.Reached.{GoesOn}
 use Rattle.http_edge.specs.Schedule.{Connection, Kept}
-use Rattle.event_loop.specs.Places.{IsTaken, MayRead, MayWrite, IsUnread, IsUnwritten, IsOver, IsAtRest, AllFree, places_limit, ready_limit}
+use Rattle.event_loop.specs.Places.{IsOccupied, MayRead, MayWrite, NeedsNoRead, NeedsNoWrite, IsOver, IsPlaceAtRest, AllFree, places_limit, ready_limit}
 use Rattle.event_loop.specs.Scenes.{Promises, Scene, IsAllKept, IsUnkept}
-use Rattle.event_loop.specs.Coming.{Comes, told_queue}
-use Rattle.event_loop.specs.Reading.{Reads}
-use Rattle.event_loop.specs.Writing.{Writes}
+use Rattle.event_loop.specs.Coming.{AcceptsOne, told_queue}
+use Rattle.event_loop.specs.Reading.{ReadsPlace}
+use Rattle.event_loop.specs.Writing.{WritesPlace}
 use Rattle.event_loop.specs.Closing.{AreWithin, Cause, Closes}
 use Rattle.event_loop.specs.Reporting.{IsDue, Tells}
 use Rattle.event_loop.specs.declared.report.LastTold.{LastTold}
@@ -27,14 +27,14 @@ use Rattle.event_loop.specs.declared.report.Report.{Report}
 
 -- nothing is to be done now: at no place, and nobody is to be accepted
 pub record IsIdle {N C J K H : Type 0} (s : Scene N C J K H) : Type 0 where
-  pub places : (k : ℕ) (place : Place) → slice_get s.places k ≡ Some place → IsAtRest place (known s.course k)
+  pub places : (k : ℕ) (place : Place) → slice_get s.places k ≡ Some place → IsPlaceAtRest place (known s.course k)
   pub queue : s.queue ≢ Told
 
 -- The place had its turn since the last wait: no read is to be done there, or one was done, or a write, which may have made
 -- room for one; no write is to be done, or one was done; and its connection is not over.
 pub record HadTurn (k : ℕ) (place : Place) (connection : Option Connection) (deeds : List Deed) : Type 0 where
-  pub read : IsUnread place connection ⊎ (IsDone (Reading k) deeds ⊎ IsDone (Writing k) deeds)
-  pub written : IsUnwritten place connection ⊎ IsDone (Writing k) deeds
+  pub read : NeedsNoRead place connection ⊎ (IsDone (Reading k) deeds ⊎ IsDone (Writing k) deeds)
+  pub written : NeedsNoWrite place connection ⊎ IsDone (Writing k) deeds
   pub goes_on : ¬ (IsOver place connection)
 
 -- so did each place; and nobody is to be accepted, or it was tried
@@ -75,39 +75,39 @@ told_place place readable writable hung =
 -- the journal is told what is due, what is unkept is kept, or an image is put in the place of what is kept. Between two waits
 -- a place is read at most once, and written to at most once, and it is kept at most once. Nothing is written, and no image is
 -- put, while something is unkept.
-pub data Step {N C J K H : Type 0} (p : Promises N C J K H) (rules : RegistryRecord) (host : H) (s : Scene N C J K H) : Scene N C J K H → Type 0 where
+pub data LoopStep {N C J K H : Type 0} (p : Promises N C J K H) (rules : RegistryRecord) (host : H) (s : Scene N C J K H) : Scene N C J K H → Type 0 where
   waits : (limit : Option ℕ) (room : ℕ) (found : List Ready) (n : N) (times : Times) (c : C) → MayWait p s limit room →
       p.does s.sockets (deed.Waited limit room found) n → p.tells s.clocks (Some times) c →
-      Step p rules host s (record s { sockets = n; clocks = c; deeds = deed.Waited limit room found ∷ s.deeds; found = found; times = times })
-  hears_of_listener : (more : List Ready) → s.found ≡ ready.Listener ∷ more → Step p rules host s (record s { found = more; queue = told_queue s.queue })
+      LoopStep p rules host s (record s { sockets = n; clocks = c; deeds = deed.Waited limit room found ∷ s.deeds; found = found; times = times })
+  hears_of_listener : (more : List Ready) → s.found ≡ ready.Listener ∷ more → LoopStep p rules host s (record s { found = more; queue = told_queue s.queue })
   hears_of : (k : ℕ) (readable writable hung : Bool) (more : List Ready) (place place' : Place) → s.found ≡ ready.Connection k readable writable hung ∷
       more → slice_get s.places k ≡ Some place →
-      place' ≡ told_place place readable writable hung → Step p rules host s (record s { found = more; places = slice_set s.places k place' })
+      place' ≡ told_place place readable writable hung → LoopStep p rules host s (record s { found = more; places = slice_set s.places k place' })
   hears_of_none : (k : ℕ) (readable writable hung : Bool) (more : List Ready) → s.found ≡ ready.Connection k readable writable hung ∷ more →
       slice_get s.places k ≡ None →
-      Step p rules host s (record s { found = more })
-  comes : (s' : Scene N C J K H) → s.queue ≡ Told → Comes p rules host s s' → Step p rules host s s'
+      LoopStep p rules host s (record s { found = more })
+  comes : (s' : Scene N C J K H) → s.queue ≡ Told → AcceptsOne p rules host s s' → LoopStep p rules host s s'
   -- in another second than an accept failed in, it is tried again
-  tries_again : (since : ℕ) → s.queue ≡ Barred since → since ≢ s.times.steady → Step p rules host s (record s { queue = Told })
+  tries_again : (since : ℕ) → s.queue ≡ Barred since → since ≢ s.times.steady → LoopStep p rules host s (record s { queue = Told })
   reads : (k : ℕ) (place : Place) (s' : Scene N C J K H) → slice_get s.places k ≡ Some place → place.readable ≡ true → ¬ (IsDone (Reading k) s.deeds) →
-      MayRead place (known s.course k) → Reads p rules host k place s s' → Step p rules host s s'
+      MayRead place (known s.course k) → ReadsPlace p rules host k place s s' → LoopStep p rules host s s'
   writes : (k : ℕ) (place : Place) (s' : Scene N C J K H) → slice_get s.places k ≡ Some place → place.writable ≡ true → ¬ (IsDone (Writing k) s.deeds) →
       IsAllKept s.course.world →
-      MayWrite place (known s.course k) → Writes p rules host k place s s' → Step p rules host s s'
-  closes : (k : ℕ) (place : Place) (s' : Scene N C J K H) → slice_get s.places k ≡ Some place → IsTaken place.stage → Cause s k place →
-      Closes p rules host k place s s' → Step p rules host s s'
+      MayWrite place (known s.course k) → WritesPlace p rules host k place s s' → LoopStep p rules host s s'
+  closes : (k : ℕ) (place : Place) (s' : Scene N C J K H) → slice_get s.places k ≡ Some place → IsOccupied place.stage → Cause s k place →
+      Closes p rules host k place s s' → LoopStep p rules host s s'
   -- the journal alone is another
   reports : (notice : Notice) (told : LastTold) (journal : J) → IsDue p s notice told → p.reports s.journal notice journal →
-      Step p rules host s (record s { journal = journal; told = told })
+      LoopStep p rules host s (record s { journal = journal; told = told })
   keeps : (keeper : K) (e : SeenEdge H) (unkept : IsUnkept s.course.world) (on : GoesOn p.hosting e rules host s.course.schedule s.course.world Kept) →
       ¬ (IsDone Keeping s.deeds) →
       Keeps p.keeping unkept.kept s.course.world.history s.keeper keeper →
-      Step p rules host s (record s { keeper = keeper; course = led s.course e Kept on.world; deeds = deed.Kept ∷ s.deeds })
+      LoopStep p rules host s (record s { keeper = keeper; course = led s.course e Kept on.world; deeds = deed.Kept ∷ s.deeds })
   -- the keeper alone is another, which holds the same
   puts_image : (keeper : K) → IsAllKept s.course.world → Keeps p.keeping s.course.world.history s.course.world.history s.keeper keeper →
-      Step p rules host s (record s { keeper = keeper })
+      LoopStep p rules host s (record s { keeper = keeper })
   -- an image was refused, and nothing else is other
-  no_image : Step p rules host s (record s { refused = Some s.times.steady })
+  no_image : LoopStep p rules host s (record s { refused = Some s.times.steady })
 
 -- At first no connection is there, none is known to wait, and nothing was done, and the edge is reached.
 pub record IsFirst {N C J K H : Type 0} (p : Promises N C J K H) (rules : RegistryRecord) (host : H) (s : Scene N C J K H) : Type 0 where
@@ -124,12 +124,12 @@ pub record IsFirst {N C J K H : Type 0} (p : Promises N C J K H) (rules : Regist
 -- Steps lead from the first scene to another.
 pub data Served {N C J K H : Type 0} (p : Promises N C J K H) (rules : RegistryRecord) (host : H) (first : Scene N C J K H) : Scene N C J K H → Type 0 where
   begins : IsFirst p rules host first → Served p rules host first first
-  goes : {s s' : Scene N C J K H} → Served p rules host first s → Step p rules host s s' → Served p rules host first s'
+  goes : {s s' : Scene N C J K H} → Served p rules host first s → LoopStep p rules host s s' → Served p rules host first s'
 
 -- Connections that are left are closed and forgotten, one after another. Where reports are wanted, there is one more.
 pub data Shuts {N C J K H : Type 0} (p : Promises N C J K H) (rules : RegistryRecord) (host : H) (first : Scene N C J K H) : Scene N C J K H → Type 0 where
   stops : Shuts p rules host first first
-  shuts : {s s' : Scene N C J K H} (k : ℕ) (place : Place) → Shuts p rules host first s → slice_get s.places k ≡ Some place → IsTaken place.stage →
+  shuts : {s s' : Scene N C J K H} (k : ℕ) (place : Place) → Shuts p rules host first s → slice_get s.places k ≡ Some place → IsOccupied place.stage →
       Closes p rules host k place s s' →
       Shuts p rules host first s'
   reports_last : {s : Scene N C J K H} (report : Report) (journal : J) → Shuts p rules host first s → IsSome s.limits.report → Tells p s report →

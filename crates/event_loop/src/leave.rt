@@ -2,10 +2,10 @@
 ghost use Rattle.std.specs.Prelude.{◌≡◌, ◌≢◌, ◌<◌, ◌≤◌, ◌-◌, ℕ, true, false, List, Some, IfSome, IfNone, slice_get, slice_set, length};
 ghost use Rattle.event_loop.specs.declared.place.Stage.TheVariants.{Free};
 ghost use Rattle.event_loop.specs.declared.sockets.Ready.{Ready};
-ghost use Rattle.event_loop.specs.Places.{AllFree, IsFreeAt, IsTaken, IsOver};
+ghost use Rattle.event_loop.specs.Places.{AllFree, IsFreeAt, IsOccupied, IsOver};
 ghost use Rattle.event_loop.specs.Closing.{AreWithin, freed_queue};
 ghost use Rattle.event_loop.specs.declared.queue.Queue.TheVariants.{Waits};
-ghost use Rattle.event_loop.specs.Goes.{IsLongestAt, IsTried, WhereKnown, LeadsAway, LeadsShut, LeadsTo, LeadsToTidy};
+ghost use Rattle.event_loop.specs.Goes.{IsLongestAt, IsTried, WhereKnown, LeadsAway, LeadsShut, LeadsToSettled, LeadsToTidy};
 ghost use Rattle.event_loop.specs.Scenes.{promises};
 ghost use Rattle.image_keeper.specs.Keeping.{keeping};
 
@@ -26,7 +26,7 @@ use http_edge::Edge;
 
 // Whether nothing is left to be done for a connection.
 fn is_over<H: HookHost>(edge: &Edge<H>, place: Place, k: u32) -> bool
-    ensures taken { result ≡ true → IsTaken place.stage }
+    ensures taken { result ≡ true → IsOccupied place.stage }
     ensures over { result ≡ true → WhereKnown H.HookHost edge.now k (IsOver place) }
     ensures goes_on { result ≡ false → WhereKnown H.HookHost edge.now k (λ connection. ¬ (IsOver place connection)) }
 {
@@ -104,8 +104,8 @@ impl Service {
         k: u32,
     )
         requires bound { k < 64 }
-        ensures leads { (found : List Ready) → LeadsTo (promises N.Sockets C.Clocks J.Journal (keeping K.Keeper K.ImageKeeper.own) H.HookHost) found self.old tools.old found self.new tools.new }
-        ensures within { (place : Place) → slice_get self.new.places k ≡ Some place → IsTaken place.stage → self.old.times.steady - place.since ≤ self.old.limits.idle }
+        ensures leads { (found : List Ready) → LeadsToSettled (promises N.Sockets C.Clocks J.Journal (keeping K.Keeper K.ImageKeeper.own) H.HookHost) found self.old tools.old found self.new tools.new }
+        ensures within { (place : Place) → slice_get self.new.places k ≡ Some place → IsOccupied place.stage → self.old.times.steady - place.since ≤ self.old.limits.idle }
         ensures others { (j : ℕ) → j ≢ k → slice_get self.new.places j ≡ slice_get self.old.places j }
         ensures size { length self.new.places ≡ length self.old.places }
         ensures times { self.new.times ≡ self.old.times }
@@ -126,7 +126,7 @@ impl Service {
         &mut self,
         tools: &mut Tools<N, C, J, K, H>,
     )
-        ensures leads { (found : List Ready) → LeadsTo (promises N.Sockets C.Clocks J.Journal (keeping K.Keeper K.ImageKeeper.own) H.HookHost) found self.old tools.old found self.new tools.new }
+        ensures leads { (found : List Ready) → LeadsToSettled (promises N.Sockets C.Clocks J.Journal (keeping K.Keeper K.ImageKeeper.own) H.HookHost) found self.old tools.old found self.new tools.new }
         ensures within { AreWithin self.new.limits.idle self.new.times self.new.places }
     {
         for k in 0..PLACES {
@@ -139,7 +139,7 @@ impl Service {
         &mut self,
         tools: &mut Tools<N, C, J, K, H>,
     )
-        ensures leads { (found : List Ready) → LeadsTo (promises N.Sockets C.Clocks J.Journal (keeping K.Keeper K.ImageKeeper.own) H.HookHost) found self.old tools.old found self.new tools.new }
+        ensures leads { (found : List Ready) → LeadsToSettled (promises N.Sockets C.Clocks J.Journal (keeping K.Keeper K.ImageKeeper.own) H.HookHost) found self.old tools.old found self.new tools.new }
         ensures within { AreWithin self.new.limits.idle self.new.times self.new.places }
         ensures tried { IsTried self.new }
     {
@@ -176,7 +176,7 @@ impl Service {
         &mut self,
         tools: &mut Tools<N, C, J, K, H>,
     )
-        ensures leads { (found : List Ready) → LeadsTo (promises N.Sockets C.Clocks J.Journal (keeping K.Keeper K.ImageKeeper.own) H.HookHost) found self.old tools.old found self.new tools.new }
+        ensures leads { (found : List Ready) → LeadsToSettled (promises N.Sockets C.Clocks J.Journal (keeping K.Keeper K.ImageKeeper.own) H.HookHost) found self.old tools.old found self.new tools.new }
         ensures within { (limit : ℕ) → AreWithin limit self.old.times self.old.places → AreWithin limit self.new.times self.new.places }
         ensures tried { IsTried self.old → IsTried self.new }
         ensures crowded { self.new.queue ≡ Waits → AreWithin self.new.limits.crowded self.new.times self.new.places }

@@ -2,7 +2,7 @@
 ghost use Rattle.std.specs.Prelude.{◌≡◌, ◌<◌, ◌≤◌, true, false, Some, OnOk, IfErr, slice_get, length};
 ghost use Rattle.http_edge.specs.Reached.{is_closing};
 ghost use Rattle.event_loop.specs.Deeds.{Reading};
-ghost use Rattle.event_loop.specs.Places.{MayRead, IsUnread};
+ghost use Rattle.event_loop.specs.Places.{MayRead, NeedsNoRead};
 ghost use Rattle.event_loop.specs.Goes.{WhereKnown, LeadsToActs, LeadsToGiving, LeadsToRefusal};
 ghost use Rattle.event_loop.specs.Scenes.{promises};
 ghost use Rattle.image_keeper.specs.Keeping.{keeping};
@@ -102,7 +102,7 @@ impl Service {
         requires here { slice_get self.old.places k ≡ Some place }
         requires readable { place.readable ≡ true }
         requires may { WhereKnown H.HookHost tools.old.edge k (MayRead place) }
-        ensures { LeadsToActs (promises N.Sockets C.Clocks J.Journal (keeping K.Keeper K.ImageKeeper.own) H.HookHost) k (Reading k) IsUnread self.old tools.old self.new tools.new }
+        ensures { LeadsToActs (promises N.Sockets C.Clocks J.Journal (keeping K.Keeper K.ImageKeeper.own) H.HookHost) k (Reading k) NeedsNoRead self.old tools.old self.new tools.new }
     {
         let i = k as usize;
         match tools.sockets.read(k, &mut self.buffer) {
@@ -150,7 +150,7 @@ impl Service {
         k: u32,
     )
         requires bound { k < 64 }
-        ensures { LeadsToActs (promises N.Sockets C.Clocks J.Journal (keeping K.Keeper K.ImageKeeper.own) H.HookHost) k (Reading k) IsUnread self.old tools.old self.new tools.new }
+        ensures { LeadsToActs (promises N.Sockets C.Clocks J.Journal (keeping K.Keeper K.ImageKeeper.own) H.HookHost) k (Reading k) NeedsNoRead self.old tools.old self.new tools.new }
     {
         let place = self.place_at(k);
         if may_read(&tools.edge, place, k) {

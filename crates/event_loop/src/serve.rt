@@ -1,5 +1,5 @@
 //! Serving connections.
-ghost use Rattle.event_loop.specs.Ends.{Ends};
+ghost use Rattle.event_loop.specs.Ends.{RunEnds};
 ghost use Rattle.event_loop.specs.Goes.{LeadsWrong};
 ghost use Rattle.event_loop.specs.Scenes.{promises};
 ghost use Rattle.image_keeper.specs.Keeping.{keeping};
@@ -38,7 +38,7 @@ pub fn serve_all<N: Sockets, C: Clocks, J: Journal, K: ImageKeeper, H: HookHost>
     tools: &mut Tools<N, C, J, K, H>,
     limits: Limits,
 ) -> LoopFault
-    ensures { Ends (promises N.Sockets C.Clocks J.Journal (keeping K.Keeper K.ImageKeeper.own) H.HookHost) limits tools.old result tools.new }
+    ensures { RunEnds (promises N.Sockets C.Clocks J.Journal (keeping K.Keeper K.ImageKeeper.own) H.HookHost) limits tools.old result tools.new }
 {
     let Some(times) = tools.clocks.read() else {
         return LoopFault::Clock;

@@ -1,7 +1,7 @@
 //! Telling what the server does.
 ghost use Rattle.std.specs.Prelude.{◌≡◌, List, Some, IfSome, IsSome};
 ghost use Rattle.event_loop.specs.declared.sockets.Ready.{Ready};
-ghost use Rattle.event_loop.specs.Goes.{LeadsShut, LeadsTo, Past, scene_of};
+ghost use Rattle.event_loop.specs.Goes.{LeadsShut, LeadsToSettled, Past, scene_of};
 ghost use Rattle.event_loop.specs.Reporting.{Tells, is_long_ago};
 ghost use Rattle.event_loop.specs.Scenes.{promises};
 ghost use Rattle.image_keeper.specs.Keeping.{keeping};
@@ -66,7 +66,7 @@ impl Service {
         tools: &mut Tools<N, C, J, K, H>,
     )
         requires wanted { IsSome self.old.limits.report }
-        ensures leads { (found : List Ready) → LeadsTo (promises N.Sockets C.Clocks J.Journal (keeping K.Keeper K.ImageKeeper.own) H.HookHost) found self.old tools.old found self.new tools.new }
+        ensures leads { (found : List Ready) → LeadsToSettled (promises N.Sockets C.Clocks J.Journal (keeping K.Keeper K.ImageKeeper.own) H.HookHost) found self.old tools.old found self.new tools.new }
         ensures limits { self.new.limits ≡ self.old.limits }
     {
         let full = tools.edge.server().tally().wanted.store_room;
@@ -88,7 +88,7 @@ impl Service {
         every: u64,
     )
         requires wanted { self.old.limits.report ≡ Some every }
-        ensures { (found : List Ready) → LeadsTo (promises N.Sockets C.Clocks J.Journal (keeping K.Keeper K.ImageKeeper.own) H.HookHost) found self.old tools.old found self.new tools.new }
+        ensures { (found : List Ready) → LeadsToSettled (promises N.Sockets C.Clocks J.Journal (keeping K.Keeper K.ImageKeeper.own) H.HookHost) found self.old tools.old found self.new tools.new }
     {
         if self.times.steady.saturating_sub(self.told.report) < every {
             return;
@@ -103,7 +103,7 @@ impl Service {
         &mut self,
         tools: &mut Tools<N, C, J, K, H>,
     )
-        ensures { (found : List Ready) → LeadsTo (promises N.Sockets C.Clocks J.Journal (keeping K.Keeper K.ImageKeeper.own) H.HookHost) found self.old tools.old found self.new tools.new }
+        ensures { (found : List Ready) → LeadsToSettled (promises N.Sockets C.Clocks J.Journal (keeping K.Keeper K.ImageKeeper.own) H.HookHost) found self.old tools.old found self.new tools.new }
     {
         let Some(every) = self.limits.report else {
             return;

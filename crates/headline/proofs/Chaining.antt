@@ -13,7 +13,7 @@ use Rattle.consent.specs.History.{Event, Change}
 use Rattle.consent.specs.History.Change.{Consented, CodeGiven, Issued, Spent, FamilyEnded, HookSet, HookGone}
 use Rattle.endpoints.specs.Hosts.{HostStep, HostRun}
 use Rattle.http_edge.specs.Edges.{SeenEdge}
-use Rattle.http_edge.specs.Schedule.{Happens, start}
+use Rattle.http_edge.specs.Schedule.{Happens, first_world}
 use Rattle.headline.specs.declared.call.EdgeCall.{EdgeCall}
 use Rattle.headline.specs.declared.call.Upshot.{Upshot}
 use Rattle.headline.specs.Calls.{taken_after}
@@ -61,7 +61,7 @@ all_made hosting rules calls upshots edge chain answers p =
     record {
       schedule = p.schedule;
       last = p.world;
-      scheduled = lead_schedule happens start calls upshots p.schedule p.world p.lead;
+      scheduled = lead_schedule happens first_world calls upshots p.schedule p.world p.lead;
       led = p.reached.run;
       answered = λ c connection here.
           let talk = p.talks c connection here in
@@ -79,5 +79,5 @@ all_made hosting rules calls upshots edge chain answers p =
       bounded = p.reached.bounded;
       hooks = run_safe [] edge.server.host p.world.history (chain p.world.history edge.server.host p.reached.server.hosts) none_safe;
       answers = λ ask. answers edge.server.host ask;
-      caused = lead_upshots happens start calls upshots p.schedule p.world p.lead;
+      caused = lead_upshots happens first_world calls upshots p.schedule p.world p.lead;
     }

@@ -2,7 +2,7 @@
 use Rattle.std.proofs.Common.{◌≡◌, ℕ, List, [], ◌∷◌, ◌++◌, length, take, append-nil, refl, sym, ap, subst, ◌∙◌}
 use Rattle.hook_host.specs.declared.host.HookHost.{Ghosts as Hosting}
 use Rattle.clients.specs.RegistryRecord.{RegistryRecord}
-use Rattle.http_edge.specs.Schedule.{World, Happening, Opened, Came, HasEnded, Taken, Forgotten, Happens, connection_at, start, untaken}
+use Rattle.http_edge.specs.Schedule.{World, Happening, Opened, Came, HasEnded, Taken, Forgotten, Happens, connection_at, first_world, untaken}
 use Rattle.http_edge.specs.Edges.{SeenEdge}
 use Rattle.http_edge.specs.Reached.{Reached}
 use Rattle.http_edge.proofs.Showing.{shows_output}
@@ -11,7 +11,7 @@ use Rattle.headline.specs.declared.call.EdgeCall.{EdgeCall}
 use Rattle.headline.specs.declared.call.EdgeCall.TheVariants.{Event, Take, Forget}
 use Rattle.headline.specs.declared.call.Upshot.{Upshot}
 use Rattle.headline.specs.declared.call.Upshot.TheVariants.{Done, Refused}
-use Rattle.headline.specs.Calls.{IsHappening, IsCause, AreSchedule, AreUpshots, bytes_for, given_by, given_after, taken_by, taken_after}
+use Rattle.headline.specs.Calls.{IsHappening, IsCause, AreSchedule, AreUpshots, bytes_for, given_by_call, given_after, taken_by, taken_after}
 use Rattle.headline.specs.Making.{CallLeads}
 use Rattle.headline.proofs.Talking.{Talk, Talks, talks_opened, talks_came, talks_ended, talks_taken, talks_forgotten}
 
@@ -74,7 +74,7 @@ module _ (happens : World → Happening → World → Type 0) where
       given_on old calls upshots schedule new l.1 c before call upshot
   given_on old (x ∷ calls) (Done bytes ∷ upshots) [] new l c before call upshot = absurd l
   given_on old (x ∷ calls) (Done bytes ∷ upshots) (e ∷ schedule) new l c before call upshot =
-      given_on l.2 calls upshots schedule new l.4 c (given_by c before x) call upshot
+      given_on l.2 calls upshots schedule new l.4 c (given_by_call c before x) call upshot
 
   pub taken_on : (old : World) (calls : List EdgeCall) (upshots : List Upshot) (schedule : List Happening) (new : World) →
       Lead happens old calls upshots schedule new → (c : ℕ) (before : List ℕ) (call : EdgeCall) (upshot : Upshot) →
@@ -95,11 +95,11 @@ module _ {H : Type 0} (hosting : Hosting H) (rules : RegistryRecord) (first : H)
     pub schedule : List Happening
     pub world : World
     pub reached : Reached hosting edge rules first schedule world
-    pub lead : Lead (Happens hosting rules first) start calls upshots schedule world
+    pub lead : Lead (Happens hosting rules first) first_world calls upshots schedule world
     pub talks : Talks hosting rules first world.connections (λ c. given_after c [] calls upshots) (λ c. taken_after c [] calls upshots)
 
-  pub nothing_made : (edge : SeenEdge H) → Reached hosting edge rules first [] start → Progress [] [] edge
-  nothing_made edge reached = record { schedule = []; world = start; reached = reached; lead = refl; talks = λ d k here. absurd (cc) }
+  pub nothing_made : (edge : SeenEdge H) → Reached hosting edge rules first [] first_world → Progress [] [] edge
+  nothing_made edge reached = record { schedule = []; world = first_world; reached = reached; lead = refl; talks = λ d k here. absurd (cc) }
 
   -- with one more
   module _ (calls : List EdgeCall) (upshots : List Upshot) (old new : SeenEdge H) (p : Progress calls upshots old) where
@@ -120,12 +120,12 @@ module _ {H : Type 0} (hosting : Hosting H) (rules : RegistryRecord) (first : H)
           schedule = p.schedule ++ added;
           world = world;
           reached = reached;
-          lead = lead_join happens start calls upshots p.schedule p.world (call ∷ []) (upshot ∷ []) added world p.lead lead;
+          lead = lead_join happens first_world calls upshots p.schedule p.world (call ∷ []) (upshot ∷ []) added world p.lead lead;
           talks = λ d k here.
               subst (λ g. Talk hosting rules first g (taken_after d [] (calls ++ call ∷ []) (upshots ++ upshot ∷ [])) k)
-              (sym (given_on happens start calls upshots p.schedule p.world p.lead d [] call upshot))
+              (sym (given_on happens first_world calls upshots p.schedule p.world p.lead d [] call upshot))
               (subst (λ t. Talk hosting rules first (given_after d (given d) (call ∷ []) (upshot ∷ [])) t k)
-              (sym (taken_on happens start calls upshots p.schedule p.world p.lead d [] call upshot)) (talks d k here));
+              (sym (taken_on happens first_world calls upshots p.schedule p.world p.lead d [] call upshot)) (talks d k here));
         }
 
     pub one_more : (call : EdgeCall) (upshot : Upshot) → CallLeads hosting old new call upshot → Progress (calls ++ call ∷ []) (upshots ++ upshot ∷ []) new

@@ -6,14 +6,14 @@ use Rattle.std.proofs.lemmas.List.Concat.{flat_map-append}
 use Rattle.hook_host.specs.declared.host.HookHost.{Ghosts as Hosting}
 use Rattle.clients.specs.RegistryRecord.{RegistryRecord}
 use Rattle.consent.specs.History.{Event, with_changes}
-use Rattle.messages.specs.Written.{written, reply_bytes}
+use Rattle.messages.specs.Written.{in_writing, reply_bytes}
 use Rattle.answers.specs.Outcomes.{Outcome}
 use Rattle.heads.specs.Message.{Message, Messages, asked_of_message}
 use Rattle.heads.specs.ReadingLaws.{nothing_has_none}
 use Rattle.messages.specs.declared.request.Draws.{Draws}
-use Rattle.http_edge.specs.Answers.{Mark, AreAnswered, replies_of}
+use Rattle.http_edge.specs.Answers.{AnswerMark, AreAnswered, replies_of}
 use Rattle.headline.specs.Headline.{HaveOutcomes}
-use Rattle.http_edge.specs.Schedule.{World, Connection, Comes, Passes, Opens, Ends, Takes, TakesNothing, Forgets, connection_at, ended, fresh, heard, is_closing_phase, untaken, faulty_if}
+use Rattle.http_edge.specs.Schedule.{World, Connection, PieceComes, PiecePasses, Opens, StreamEnds, TakesOutput, TakesNothing, ForgetsConnection, connection_at, ended, fresh, heard, is_closing_phase, untaken, faulty_if}
 use Rattle.http_edge.specs.Lanes.{SeenLane, ShowsConnections}
 use Rattle.http_edge.specs.declared.lane.Phase.{Phase}
 use Rattle.http_edge.specs.declared.lane.Phase.TheVariants as phase
@@ -21,7 +21,7 @@ use Rattle.http_edge.proofs.Connections.{by_number, same_connection, found_numbe
 
 -- requests that were answered one after another have outcomes
 pub have_outcomes : {H : Type 0} (hosting : Hosting H) (rules : RegistryRecord) (first : H) (m : ℕ) (history : List Event) (messages : List Message)
-    (draws : List Draws) (marks : List Mark) (outcomes : List Outcome) →
+    (draws : List Draws) (marks : List AnswerMark) (outcomes : List Outcome) →
     AreAnswered hosting rules first m history (map asked_of_message messages) draws marks outcomes → HaveOutcomes hosting rules first messages outcomes
 have_outcomes hosting rules first m history [] draws [] [] a = tt
 have_outcomes hosting rules first m history [] draws [] (o ∷ outcomes) a = absurd a
@@ -92,7 +92,7 @@ module _ {H : Type 0} (hosting : Hosting H) (rules : RegistryRecord) (first : H)
       (record { passed = []; stream = refl; none = λ _. refl; rest = []; requests = record { reads = refl; none = nothing_has_none }; output = refl; outcomes = []; each = tt; replies = refl }))
       (λ other. stays d k (rw opens.connections (added_other old.connections c d other)) here)
 
-  pub talks_ended : Ends old new c → Talks hosting rules first new.connections given taken
+  pub talks_ended : StreamEnds old new c → Talks hosting rules first new.connections given taken
   talks_ended ends d k here =
       by_number c d (λ b. Talk hosting rules first (given d) (taken d) k)
       (λ same.
@@ -112,7 +112,7 @@ module _ {H : Type 0} (hosting : Hosting H) (rules : RegistryRecord) (first : H)
       }))
       (λ other. stays d k (rw ends.connections (put_other old.connections c d _ (found_number old.connections c ends.before ends.here) other)) here)
 
-  pub talks_forgotten : Forgets old new c → Talks hosting rules first new.connections given taken
+  pub talks_forgotten : ForgetsConnection old new c → Talks hosting rules first new.connections given taken
   talks_forgotten forgets d k here =
       by_number c d (λ b. Talk hosting rules first (given d) (taken d) k)
       (λ same.
@@ -126,7 +126,7 @@ module _ {H : Type 0} (hosting : Hosting H) (rules : RegistryRecord) (first : H)
   own_front (suc i) (x ∷ l) = ap (λ r. x ∷ r) (own_front i l)
 
   pub talks_taken : (most : ℕ) (bytes : List ℕ) → bytes ≡ take most (untaken (connection_at old.connections c)) →
-      Takes old new c (length bytes) ⊎ TakesNothing old new c (length bytes) → Talks hosting rules first new.connections given (λ d. cond (c == d) (taken d ++ bytes) (taken d))
+      TakesOutput old new c (length bytes) ⊎ TakesNothing old new c (length bytes) → Talks hosting rules first new.connections given (λ d. cond (c == d) (taken d ++ bytes) (taken d))
   talks_taken most bytes is (inl takes) d k here =
       by_number c d (λ b. Talk hosting rules first (given d) (cond b (taken d ++ bytes) (taken d)) k)
       (λ same.
@@ -162,8 +162,8 @@ module _ {H : Type 0} (hosting : Hosting H) (rules : RegistryRecord) (first : H)
       (λ other. stays d k (ap (λ (w : World). connection_at w.connections d) nothing.same) here)
 
   module _ (lanes : List SeenLane) (shows : ShowsConnections lanes old.connections) where
-    pub talks_came : (piece : List ℕ) (moment : ℕ) (draws : List Draws) (marks : List Mark) (closes : Bool) →
-        Comes hosting rules first old new c piece moment draws marks closes ⊎ Passes old new c marks closes →
+    pub talks_came : (piece : List ℕ) (moment : ℕ) (draws : List Draws) (marks : List AnswerMark) (closes : Bool) →
+        PieceComes hosting rules first old new c piece moment draws marks closes ⊎ PiecePasses old new c marks closes →
         Talks hosting rules first new.connections (λ d. cond (c == d) (given d ++ piece) (given d)) taken
     talks_came piece moment draws marks closes (inl comes) d k here =
         by_number c d (λ b. Talk hosting rules first (cond b (given d ++ piece) (given d)) (taken d) k)
@@ -189,7 +189,7 @@ module _ {H : Type 0} (hosting : Hosting H) (rules : RegistryRecord) (first : H)
               (have_outcomes hosting rules first new.greatest old.history comes.messages draws marks comes.outcomes comes.answered);
           replies = ap (λ l. l ++ more) said
               ∙ sym (append_assoc (replies_of t.outcomes) (replies_of comes.outcomes) (faulty_if closes))
-              ∙ ap (λ l. l ++ faulty_if closes) (sym (flat_map-append (λ (o : Outcome). reply_bytes (written o.reply)) t.outcomes comes.outcomes))
+              ∙ ap (λ l. l ++ faulty_if closes) (sym (flat_map-append (λ (o : Outcome). reply_bytes (in_writing o.reply)) t.outcomes comes.outcomes))
               ∙ ap (λ b. replies_of (t.outcomes ++ comes.outcomes) ++ faulty_if b) (sym (closing_told closes));
         }))
         (λ other. stays d k (rw comes.connections (put_other old.connections c d _ (found_number old.connections c comes.before comes.here) other)) here)

@@ -1,6 +1,6 @@
 -- Calls on an edge, and what came of them, as a schedule.
 use Rattle.std.specs.Prelude.{◌≡◌, ⊤, ℕ, List, [], ◌∷◌, ◌++◌, Bool, ◌==◌, if◌then◌else◌, length, take}
-use Rattle.http_edge.specs.Answers.{Mark}
+use Rattle.http_edge.specs.Answers.{AnswerMark}
 use Rattle.http_edge.specs.Schedule.{World, Connection, Happening, Opened, Came, HasEnded, Taken, Forgotten, connection_at, untaken}
 use Rattle.http_edge.specs.Refusals.{IsEventRefusal}
 use Rattle.http_edge.specs.declared.event.Event.TheVariants as event
@@ -15,7 +15,7 @@ use Rattle.headline.specs.declared.call.Upshot.TheVariants.{Done, Refused}
 abbrev pub IsHappening : EdgeCall → List ℕ → Happening → Type 0
 IsHappening (Event (event.Open c)) bytes e = e ≡ Opened c
 IsHappening (Event (event.Bytes c piece moment draws)) bytes e =
-    (marks : List Mark) × (closes : Bool) × (e ≡ Came c piece.now moment draws.now marks closes)
+    (marks : List AnswerMark) × (closes : Bool) × (e ≡ Came c piece.now moment draws.now marks closes)
 IsHappening (Event (event.End c)) bytes e = e ≡ HasEnded c
 IsHappening (Take c most) bytes e = e ≡ Taken c (length bytes)
 IsHappening (Forget c) bytes e = e ≡ Forgotten c
@@ -54,17 +54,17 @@ AreUpshots happens old calls upshots schedule = ⊥
 -- THE BYTES OF A CONNECTION
 
 -- what was given to the connection since it was opened, by one call more that was done
-abbrev pub given_by : ℕ → List ℕ → EdgeCall → List ℕ
-given_by c before (Event (event.Open d)) = if d == c then [] else before
-given_by c before (Event (event.Bytes d piece moment draws)) = if d == c then before ++ piece.now else before
-given_by c before (Event (event.End d)) = before
-given_by c before (Take d most) = before
-given_by c before (Forget d) = before
+abbrev pub given_by_call : ℕ → List ℕ → EdgeCall → List ℕ
+given_by_call c before (Event (event.Open d)) = if d == c then [] else before
+given_by_call c before (Event (event.Bytes d piece moment draws)) = if d == c then before ++ piece.now else before
+given_by_call c before (Event (event.End d)) = before
+given_by_call c before (Take d most) = before
+given_by_call c before (Forget d) = before
 
 -- by more calls
 abbrev pub given_after : ℕ → List ℕ → List EdgeCall → List Upshot → List ℕ
 given_after c before (call ∷ calls) (Refused fault ∷ upshots) = given_after c before calls upshots
-given_after c before (call ∷ calls) (Done bytes ∷ upshots) = given_after c (given_by c before call) calls upshots
+given_after c before (call ∷ calls) (Done bytes ∷ upshots) = given_after c (given_by_call c before call) calls upshots
 given_after c before calls upshots = before
 
 -- what was taken of the connection since it was opened, by one call more that was done

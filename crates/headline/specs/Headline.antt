@@ -13,7 +13,7 @@ use Rattle.messages.specs.declared.request.Draws.{Draws}
 use Rattle.answers.specs.Outcomes.{Outcome}
 use Rattle.heads.specs.Message.{Message, Messages, asked_of_message}
 use Rattle.endpoints.specs.Bounded.{IsBounded}
-use Rattle.http_edge.specs.Answers.{IsAnswered, Mark, replies_of}
+use Rattle.http_edge.specs.Answers.{IsOutcomeOfRequest, AnswerMark, replies_of}
 use Rattle.http_edge.specs.Edges.{SeenEdge, output_of}
 use Rattle.http_edge.specs.Schedule.{World, Connection, Happening, Happens, Run, connection_at, faulty_if, is_closing_phase}
 use Rattle.http_edge.specs.Schedule as world
@@ -28,8 +28,8 @@ pub record HasOutcome {H : Type 0} (hosting : Hosting H) (rules : RegistryRecord
   pub moment : ℕ
   pub history : List Event
   pub draws : Draws
-  pub mark : Mark
-  pub answered : IsAnswered hosting rules first moment history (asked_of_message request) draws mark outcome
+  pub mark : AnswerMark
+  pub answered : IsOutcomeOfRequest hosting rules first moment history (asked_of_message request) draws mark outcome
 
 -- each request has its outcome, in their order
 abbrev pub HaveOutcomes : {H : Type 0} → Hosting H → RegistryRecord → H → List Message → List Outcome → Type 0
@@ -69,7 +69,7 @@ pub record IsMade (hosting : Hosting (List Named)) (rules : RegistryRecord) (cal
   -- the calls that were not refused are the schedule
   pub scheduled : AreSchedule calls upshots schedule
   -- the world is that of the schedule
-  pub led : Run hosting rules [] world.start schedule last
+  pub led : Run hosting rules [] world.first_world schedule last
   -- the bytes of each connection, taken and to be taken, are the replies to the requests in the bytes given to it
   pub answered : (c : ℕ) (connection : Connection) → connection_at last.connections c ≡ Some connection →
       Conversation hosting rules (given_after c [] calls upshots) (taken_after c [] calls upshots ++ output_of edge c) connection
@@ -79,4 +79,4 @@ pub record IsMade (hosting : Hosting (List Named)) (rules : RegistryRecord) (cal
   pub hooks : All (λ named. IsSafeHook named.hook) edge.server.host
   pub answers : (ask : Ask) → hosting.answer edge.server.host ask ≡ narrowed_by (hooks_of edge.server.host) ask
   -- each call had its upshot where those before it lead: one that was refused has its cause there
-  pub caused : AreUpshots (Happens hosting rules []) world.start calls upshots schedule
+  pub caused : AreUpshots (Happens hosting rules []) world.first_world calls upshots schedule

@@ -2,7 +2,7 @@
 use Rattle.std.specs.Prelude.{◌≡◌, [], length, take}
 use Rattle.hook_host.specs.declared.host.HookHost.{Ghosts as Hosting}
 use Rattle.http_edge.specs.Edges.{SeenEdge, output_of}
-use Rattle.http_edge.specs.Reached.{Leads, InEach}
+use Rattle.http_edge.specs.Reached.{HappeningLeads, InEach}
 use Rattle.http_edge.specs.Events.{EventLeads}
 use Rattle.http_edge.specs.Schedule.{Taken, Forgotten}
 use Rattle.headline.specs.declared.call.EdgeCall.{EdgeCall}
@@ -16,5 +16,5 @@ abbrev pub CallLeads : {H : Type 0} → Hosting H → SeenEdge H → SeenEdge H 
 CallLeads hosting old new call (Refused fault) = (new ≡ old) × InEach hosting old (λ world. IsCause fault world.connections call)
 CallLeads hosting old new (Event e) (Done bytes) = (bytes.items ≡ []) × EventLeads hosting old new e
 CallLeads hosting old new (Take c most) (Done bytes) =
-    (bytes.items ≡ take most (output_of old c)) × Leads hosting old new (Taken c (length bytes.items))
-CallLeads hosting old new (Forget c) (Done bytes) = (bytes.items ≡ []) × Leads hosting old new (Forgotten c)
+    (bytes.items ≡ take most (output_of old c)) × HappeningLeads hosting old new (Taken c (length bytes.items))
+CallLeads hosting old new (Forget c) (Done bytes) = (bytes.items ≡ []) × HappeningLeads hosting old new (Forgotten c)

@@ -3,8 +3,8 @@
 ghost use Rattle.std.specs.Prelude.{◌≡◌, IfOk, IfErr, OnOk, OnErr, length, take};
 ghost use Rattle.http_edge.specs.Edges.{output_of};
 ghost use Rattle.http_edge.specs.Events.{EventLeads};
-ghost use Rattle.http_edge.specs.Reached.{Leads};
-ghost use Rattle.http_edge.specs.Refusals.{Refuses};
+ghost use Rattle.http_edge.specs.Reached.{HappeningLeads};
+ghost use Rattle.http_edge.specs.Refusals.{RefusesEvent};
 ghost use Rattle.http_edge.specs.Schedule.{Taken};
 ghost use Rattle.headline.specs.Headline.{IsMade};
 ghost use Rattle.headline.specs.Making.{CallLeads};
@@ -32,7 +32,7 @@ fn take_bytes<H: HookHost>(
     most: usize,
 ) -> Result<Vec<u8>, AllocError>
     ensures bytes { IfOk result (λ bytes. bytes.items ≡ take most (output_of edge.old c)) }
-    ensures taken { IfOk result (λ bytes. Leads H.HookHost edge.old edge.new (Taken c (length bytes.items))) }
+    ensures taken { IfOk result (λ bytes. HappeningLeads H.HookHost edge.old edge.new (Taken c (length bytes.items))) }
     ensures err { OnErr result (edge.new ≡ edge.old) }
 {
     let output = edge.output(c);
@@ -46,7 +46,7 @@ fn take_bytes<H: HookHost>(
 // An event happens, or is refused and changes nothing.
 fn happen<H: HookHost>(edge: &mut Edge<H>, event: &Event<'_>) -> Result<(), EdgeFault>
     ensures done { OnOk result (EventLeads H.HookHost edge.old edge.new event.now) }
-    ensures refused { IfErr result (Refuses H.HookHost edge.old event.now) }
+    ensures refused { IfErr result (RefusesEvent H.HookHost edge.old event.now) }
     ensures err { OnErr result (edge.new ≡ edge.old) }
 {
     match event {

@@ -13,7 +13,7 @@ use Rattle.heads.specs.Fields.{content_length, AreGoodFields}
 use Rattle.heads.specs.Places.{AreFieldsIn}
 use Rattle.heads.specs.declared.fields.FieldSpans.{FieldSpans}
 use Rattle.std.specs.Prelude.{is_some, IsTrue, Option}
-use Rattle.heads.specs.Message.{BeginsWith, IsHopeless, IsGood, fields_of}
+use Rattle.heads.specs.Message.{BeginsWithMessage, IsHopeless, IsGood, head_fields}
 use Rattle.heads.specs.Waiting.{IsUnfinished, Wants}
 use Rattle.heads.specs.ReadingLaws.{some_head, reads_head, same_some}
 
@@ -92,12 +92,12 @@ wants_first [] e =
 wants_first (b ∷ bytes) e = absurd (omega (arith, e))
 
 -- a good head, and not its whole body
-module _ (head : RequestHead) (size : ℕ) (good : IsGood head) (body : content_length (fields_of head) ≡ Some size) (small : size ≤ body_size_limit) where
+module _ (head : RequestHead) (size : ℕ) (good : IsGood head) (body : content_length (head_fields head) ≡ Some size) (small : size ≤ body_size_limit) where
   unfinished_body : (bytes after : List ℕ) → ReadsRequest bytes head after → length bytes < length (print_request head) + size → IsUnfinished bytes (length (print_request head) + size)
   unfinished_body bytes after whole short = record {
     none = λ m rest b.
         let same = request_unique bytes head m.head after (m.body ++ rest) whole (reads_head bytes m rest b) in
-        let long : size ≡ length m.body = same_some _ _ (sym body ∙ ap (λ h. content_length (fields_of h)) same.0 ∙ b.body) in
+        let long : size ≡ length m.body = same_some _ _ (sym body ∙ ap (λ h. content_length (head_fields h)) same.0 ∙ b.body) in
         let all : length bytes ≡ length (print_request head) + length after = ap length whole.1 ∙ length-append (print_request head) after in
         let behind : length after ≡ length m.body + length rest = ap length same.1 ∙ length-append m.body rest in
         omega (arith, long, all, behind, short);
@@ -108,7 +108,7 @@ module _ (head : RequestHead) (size : ℕ) (good : IsGood head) (body : content_
     short = (let most = good.size in omega (arith, most, short, small));
     message = λ other behind n reads fine is.
         let same = request_unique bytes head other after behind whole reads in
-        let long : size ≡ n = same_some _ _ (sym body ∙ ap (λ h. content_length (fields_of h)) same.0 ∙ is) in
+        let long : size ≡ n = same_some _ _ (sym body ∙ ap (λ h. content_length (head_fields h)) same.0 ∙ is) in
         ap (λ h. length (print_request h) + size) same.0 ∙ ap (λ k. length (print_request other) + k) long;
   }
 
@@ -121,8 +121,8 @@ module _ (head : RequestHead) (size : ℕ) (good : IsGood head) (body : content_
 -- ---- a whole message
 
 -- a good head, and its whole body
-pub begins_whole : (bytes : List ℕ) (head : RequestHead) (len size : ℕ) → ReadsRequest bytes head (drop len bytes) → IsGood head → content_length (fields_of head) ≡ Some size → len + size ≤ length bytes →
-    BeginsWith bytes (record { head = head; body = take size (drop len bytes) }) (drop (len + size) bytes)
+pub begins_whole : (bytes : List ℕ) (head : RequestHead) (len size : ℕ) → ReadsRequest bytes head (drop len bytes) → IsGood head → content_length (head_fields head) ≡ Some size → len + size ≤ length bytes →
+    BeginsWithMessage bytes (record { head = head; body = take size (drop len bytes) }) (drop (len + size) bytes)
 begins_whole bytes head len size whole good body fits =
     let few : size ≤ length (drop len bytes) = (let l = length-drop len bytes in omega (arith, l, fits)) in
     record {

@@ -7,30 +7,30 @@ abbrev pub lowercase : List ℕ → List ℕ
 lowercase text = map to_ascii_lowercase text
 
 -- whether a field, its name and its value, has this name, ASCII case ignored
-abbrev pub is_named : List ℕ → List ℕ × List ℕ → Bool
-is_named name field = bytes_eq (lowercase field.0) (lowercase name)
+abbrev pub field_has_name : List ℕ → List ℕ × List ℕ → Bool
+field_has_name name field = bytes_eq (lowercase field.0) (lowercase name)
 
 -- the values of the fields of this name, in order
-unfoldable pub values_of : List ℕ → List (List ℕ × List ℕ) → List (List ℕ)
-values_of name fields = map (λ f. f.1) (filter (is_named name) fields)
+unfoldable pub field_values : List ℕ → List (List ℕ × List ℕ) → List (List ℕ)
+field_values name fields = map (λ f. f.1) (filter (field_has_name name) fields)
 
-abbrev pub first_of : List (List ℕ) → Option (List ℕ)
-first_of [] = None
-first_of (value ∷ more) = Some value
+abbrev pub first_value : List (List ℕ) → Option (List ℕ)
+first_value [] = None
+first_value (value ∷ more) = Some value
 
 -- the value of the field of this name, where there is one
-abbrev pub value_of : List ℕ → List (List ℕ × List ℕ) → Option (List ℕ)
-value_of name fields = first_of (values_of name fields)
+abbrev pub field_value : List ℕ → List (List ℕ × List ℕ) → Option (List ℕ)
+field_value name fields = first_value (field_values name fields)
 
 -- how long the body is. None: Content-Length is faulty
 abbrev pub content_length : List (List ℕ × List ℕ) → Option ℕ
-content_length fields = length_by (values_of (codes "content-length") fields)
+content_length fields = length_by (field_values (codes "content-length") fields)
 
 -- no Transfer-Encoding, a Content-Length that is not faulty, and the others at most once
 pub record AreGoodFields (fields : List (List ℕ × List ℕ)) : Type 0 where
-  pub transfer : values_of (codes "transfer-encoding") fields ≡ []
-  pub authorization : length (values_of (codes "authorization") fields) ≤ 1
-  pub content_type : length (values_of (codes "content-type") fields) ≤ 1
-  pub owner_key : length (values_of (codes "x-owner-key") fields) ≤ 1
-  pub operator_key : length (values_of (codes "x-operator-key") fields) ≤ 1
+  pub transfer : field_values (codes "transfer-encoding") fields ≡ []
+  pub authorization : length (field_values (codes "authorization") fields) ≤ 1
+  pub content_type : length (field_values (codes "content-type") fields) ≤ 1
+  pub owner_key : length (field_values (codes "x-owner-key") fields) ≤ 1
+  pub operator_key : length (field_values (codes "x-operator-key") fields) ≤ 1
   pub body : IsSome (content_length fields)

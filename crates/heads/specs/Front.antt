@@ -1,9 +1,9 @@
 -- What is read at the front of the bytes.
 use Rattle.std.specs.Prelude.{◌≡◌, ◌≤◌, ◌<◌, ℕ, List, length, drop, slice_range, codes}
 use Rattle.httparse.specs.Spans.{span_bytes, IsWithin}
-use Rattle.heads.specs.Fields.{value_of}
-use Rattle.heads.specs.Places.{bytes_at, IsOptionWithin}
-use Rattle.heads.specs.Message.{Message, BeginsWith, IsHopeless, fields_of}
+use Rattle.heads.specs.Fields.{field_value}
+use Rattle.heads.specs.Places.{bytes_at_place, IsOptionWithin}
+use Rattle.heads.specs.Message.{Message, BeginsWithMessage, IsHopeless, head_fields}
 use Rattle.heads.specs.Waiting.{Wants}
 use Rattle.heads.specs.declared.front.Found.{Found}
 use Rattle.heads.specs.declared.front.Front.{Front}
@@ -23,14 +23,14 @@ pub record IsFoundWithin (bytes : List ℕ) (found : Found) : Type 0 where
 
 -- the bytes begin with the message, and its parts lie at these places
 pub record IsWholeAt (bytes : List ℕ) (found : Found) (m : Message) : Type 0 where
-  pub begins : BeginsWith bytes m (drop found.end bytes)
+  pub begins : BeginsWithMessage bytes m (drop found.end bytes)
   pub method : span_bytes bytes found.head.method ≡ m.head.method
   pub target : span_bytes bytes found.head.path ≡ m.head.target
   pub body : slice_range bytes found.head.len found.end ≡ m.body
-  pub authorization : bytes_at bytes found.fields.authorization ≡ value_of (codes "authorization") (fields_of m.head)
-  pub content_type : bytes_at bytes found.fields.content_type ≡ value_of (codes "content-type") (fields_of m.head)
-  pub owner_key : bytes_at bytes found.fields.owner_key ≡ value_of (codes "x-owner-key") (fields_of m.head)
-  pub operator_key : bytes_at bytes found.fields.operator_key ≡ value_of (codes "x-operator-key") (fields_of m.head)
+  pub authorization : bytes_at_place bytes found.fields.authorization ≡ field_value (codes "authorization") (head_fields m.head)
+  pub content_type : bytes_at_place bytes found.fields.content_type ≡ field_value (codes "content-type") (head_fields m.head)
+  pub owner_key : bytes_at_place bytes found.fields.owner_key ≡ field_value (codes "x-owner-key") (head_fields m.head)
+  pub operator_key : bytes_at_place bytes found.fields.operator_key ≡ field_value (codes "x-operator-key") (head_fields m.head)
 
 -- a whole message; or more bytes are wanted; or none can help
 abbrev pub IsFront : List ℕ → Front → Type 0

@@ -4,18 +4,18 @@ use Rattle.httparse.specs.Grammar.{RequestHead, print_request, IsRequestHead, Re
 use Rattle.httparse.specs.Spans.{name_and_value}
 use Rattle.messages.specs.Asked.{Asked}
 use Rattle.heads.specs.Limits.{head_size_limit, field_line_limit}
-use Rattle.heads.specs.Fields.{AreGoodFields, content_length, value_of}
+use Rattle.heads.specs.Fields.{AreGoodFields, content_length, field_value}
 
 -- the names and the values of a head's fields
-abbrev pub fields_of : RequestHead → List (List ℕ × List ℕ)
-fields_of head = map name_and_value head.fields
+abbrev pub head_fields : RequestHead → List (List ℕ × List ℕ)
+head_fields head = map name_and_value head.fields
 
 -- HTTP/1.1, within the limits, and no faulty field. A head that is not good is faulty
 pub record IsGood (head : RequestHead) : Type 0 where
   pub version : head.minor ≡ 1
   pub lines : length head.fields ≤ field_line_limit
   pub size : length (print_request head) ≤ head_size_limit
-  pub fields : AreGoodFields (fields_of head)
+  pub fields : AreGoodFields (head_fields head)
 
 -- a request as it came
 pub record Message : Type 0 where
@@ -23,24 +23,24 @@ pub record Message : Type 0 where
   pub body : List ℕ
 
 -- the bytes are the message, a good head and as many bytes as its Content-Length says, and then rest
-pub record BeginsWith (bytes : List ℕ) (m : Message) (rest : List ℕ) : Type 0 where
+pub record BeginsWithMessage (bytes : List ℕ) (m : Message) (rest : List ℕ) : Type 0 where
   pub head : IsRequestHead m.head
   pub good : IsGood m.head
-  pub body : content_length (fields_of m.head) ≡ Some (length m.body)
+  pub body : content_length (head_fields m.head) ≡ Some (length m.body)
   pub text : bytes ≡ print_request m.head ++ (m.body ++ rest)
 
 -- no front of the bytes is a message
 abbrev pub HasNone : List ℕ → Type 0
-HasNone bytes = (m : Message) (rest : List ℕ) → ¬ (BeginsWith bytes m rest)
+HasNone bytes = (m : Message) (rest : List ℕ) → ¬ (BeginsWithMessage bytes m rest)
 
 -- the stream is these messages and then rest
-abbrev pub Reads : List ℕ → List Message → List ℕ → Type 0
-Reads stream [] rest = stream ≡ rest
-Reads stream (m ∷ ms) rest = (middle : List ℕ) × BeginsWith stream m middle × Reads middle ms rest
+abbrev pub ReadsMessages : List ℕ → List Message → List ℕ → Type 0
+ReadsMessages stream [] rest = stream ≡ rest
+ReadsMessages stream (m ∷ ms) rest = (middle : List ℕ) × BeginsWithMessage stream m middle × ReadsMessages middle ms rest
 
 -- the stream is these messages and then a rest of which no front is a message
 pub record Messages (stream : List ℕ) (messages : List Message) (rest : List ℕ) : Type 0 where
-  pub reads : Reads stream messages rest
+  pub reads : ReadsMessages stream messages rest
   pub none : HasNone rest
 
 -- no continuation of the bytes begins with a message
@@ -55,18 +55,18 @@ pub record BeginsFaulty (bytes : List ℕ) : Type 0 where
   pub faulty : ¬ (IsGood head)
 
 -- no bytes can follow that make a head of the front; a target is judged at its end
-pub record IsRefused (bytes : List ℕ) : Type 0 where
+pub record CannotBecomeHead (bytes : List ℕ) : Type 0 where
   pub none : HasNoRequest bytes
   pub never : ¬ (MayBecomeRequest bytes)
 
 -- as many bytes as a head may have, and no good head at their front
-pub record IsTooLong (bytes : List ℕ) : Type 0 where
+pub record IsHeadTooLong (bytes : List ℕ) : Type 0 where
   pub size : head_size_limit ≤ length bytes
   pub none : (head : RequestHead) (after : List ℕ) → ReadsRequest bytes head after → ¬ (IsGood head)
 
 -- a faulty head has to be told at the latest now
 abbrev pub MustTell : List ℕ → Type 0
-MustTell bytes = BeginsFaulty bytes ⊎ (IsRefused bytes ⊎ IsTooLong bytes)
+MustTell bytes = BeginsFaulty bytes ⊎ (CannotBecomeHead bytes ⊎ IsHeadTooLong bytes)
 
 -- what a message asks
 abbrev pub asked_of_message : Message → Asked
@@ -74,8 +74,8 @@ asked_of_message m = record {
   method = m.head.method;
   target = m.head.target;
   body = m.body;
-  authorization = value_of (codes "authorization") (fields_of m.head);
-  content_type = value_of (codes "content-type") (fields_of m.head);
-  owner_key = value_of (codes "x-owner-key") (fields_of m.head);
-  operator_key = value_of (codes "x-operator-key") (fields_of m.head);
+  authorization = field_value (codes "authorization") (head_fields m.head);
+  content_type = field_value (codes "content-type") (head_fields m.head);
+  owner_key = field_value (codes "x-owner-key") (head_fields m.head);
+  operator_key = field_value (codes "x-operator-key") (head_fields m.head);
 }

@@ -3,13 +3,13 @@ use Rattle.std.specs.Prelude.{◌≡◌, ◌+◌, ◌<◌, ℕ, List, ◌++◌, 
 use Rattle.httparse.specs.Grammar.{RequestHead, print_request, ReadsRequest}
 use Rattle.heads.specs.Limits.{message_size_limit}
 use Rattle.heads.specs.Fields.{content_length}
-use Rattle.heads.specs.Message.{HasNone, MustTell, IsGood, fields_of}
+use Rattle.heads.specs.Message.{HasNone, MustTell, IsGood, head_fields}
 
 -- once a good head has come, the length of its message is wanted
 abbrev pub WantsMessage : List ℕ → ℕ → Type 0
 WantsMessage bytes wanted =
     (head : RequestHead) (after : List ℕ) (size : ℕ) → ReadsRequest bytes head after → IsGood head
-    → content_length (fields_of head) ≡ Some size → wanted ≡ length (print_request head) + size
+    → content_length (head_fields head) ≡ Some size → wanted ≡ length (print_request head) + size
 
 -- no message yet, no faulty head that has to be told, and fewer bytes than a message may have
 pub record IsUnfinished (bytes : List ℕ) (wanted : ℕ) : Type 0 where

@@ -2,7 +2,7 @@
 ghost use Rattle.std.specs.Prelude.{◌≡◌, ◌≤◌, ℕ, List, All, length, map, ◌∷◌, [], ◌++◌, IfSome, MatchOption, bytes_eq};
 ghost use Rattle.httparse.specs.Spans.{IsHeaderWithin, header_bytes, span_bytes};
 ghost use Rattle.heads.specs.Limits.{body_size_limit};
-ghost use Rattle.heads.specs.Fields.{values_of, lowercase, AreGoodFields, content_length};
+ghost use Rattle.heads.specs.Fields.{field_values, lowercase, AreGoodFields, content_length};
 ghost use Rattle.heads.specs.Places.{IsLookup, IsLookupOf, IsLookupWithin, IsPlaceOf, AreFieldsIn};
 
 use crate::content_length::read_body_length;
@@ -53,7 +53,7 @@ pub(crate) fn read_fields(bytes: &[u8], headers: &[HeaderSpan]) -> Option<FieldS
 // The one value of a name, if there is one. None: there are several.
 fn at_most_once(bytes: &[u8], headers: &[HeaderSpan], name: &[u8]) -> Option<Option<Span>>
     requires { All (IsHeaderWithin (length bytes.now)) headers.now }
-    ensures { MatchOption result (2 ≤ length (values_of name.now (map (header_bytes bytes.now) headers.now)))
+    ensures { MatchOption result (2 ≤ length (field_values name.now (map (header_bytes bytes.now) headers.now)))
         (λ place. IsPlaceOf name.now bytes.now (map (header_bytes bytes.now) headers.now) place) }
 {
     match find(bytes, headers, name) {

@@ -6,7 +6,7 @@ ghost use Rattle.httparse.specs.Spans.{IsRequestOf, IsRequestWithin};
 ghost use Rattle.messages.specs.Asked.{asked_of};
 ghost use Rattle.heads.specs.Limits.{field_line_limit};
 ghost use Rattle.heads.specs.Message.{Message, asked_of_message};
-ghost use Rattle.heads.specs.Places.{IsOptionWithin, bytes_at};
+ghost use Rattle.heads.specs.Places.{IsOptionWithin, bytes_at_place};
 ghost use Rattle.heads.specs.Front.{IsFront, IsFoundWithin, IsWholeAt};
 
 use crate::fields::{FieldSpans, read_fields};
@@ -121,7 +121,7 @@ fn without_head(bytes: &[u8]) -> Front
 
 fn value_at<'a>(bytes: &'a [u8], place: Option<Span>) -> Option<&'a [u8]>
     requires { IsOptionWithin (length bytes.now) place }
-    ensures { option_copied result ≡ bytes_at bytes.now place }
+    ensures { option_copied result ≡ bytes_at_place bytes.now place }
 {
     match place {
         Some(span) => Some(span.of(bytes)),

@@ -10,36 +10,36 @@ use Rattle.std.proofs.lemmas.Map.Views.{Contains-from_any}
 use Rattle.std.proofs.lemmas.Slice.Eq.{bytes_eq-Decides}
 use Rattle.insn.specs.declared.layout.Layout.{Layout}
 use Rattle.hook_host.specs.Names.{without, hook_limit, IsHookName, AreHookNames}
-use Rattle.hook_chain.specs.Chains.{Named, Accepts, HoldsAll, names_of, has_name, without_name}
+use Rattle.hook_chain.specs.Chains.{Named, Accepts, HoldsAll, hook_names, has_name, without_name}
 
-named_among : (name : List ℕ) (hooks : List Named) → has_name hooks name ≡ list_any (bytes_eq name) (names_of hooks)
+named_among : (name : List ℕ) (hooks : List Named) → has_name hooks name ≡ list_any (bytes_eq name) (hook_names hooks)
 named_among name [] = refl
 named_among name (h ∷ hooks) = rw (named_among name hooks) refl
 
-pub contains_name : (name : List ℕ) (hooks : List Named) → has_name hooks name ≡ true → Contains (names_of hooks) name
-contains_name name hooks e = Contains-from_any {eq = bytes_eq} (λ x y f. (bytes_eq-Decides x y).0 f) name (names_of hooks) (sym (named_among name hooks) ∙ e)
+pub contains_name : (name : List ℕ) (hooks : List Named) → has_name hooks name ≡ true → Contains (hook_names hooks) name
+contains_name name hooks e = Contains-from_any {eq = bytes_eq} (λ x y f. (bytes_eq-Decides x y).0 f) name (hook_names hooks) (sym (named_among name hooks) ∙ e)
 
-passed_over : (name : List ℕ) (h : Named) (hooks : List Named) (b : Bool) → bytes_eq name h.name ≡ b → names_of (without_name name hooks) ≡ without name (names_of hooks) → names_of (without_name name (h ∷ hooks)) ≡ without name (names_of (h ∷ hooks))
+passed_over : (name : List ℕ) (h : Named) (hooks : List Named) (b : Bool) → bytes_eq name h.name ≡ b → hook_names (without_name name hooks) ≡ without name (hook_names hooks) → hook_names (without_name name (h ∷ hooks)) ≡ without name (hook_names (h ∷ hooks))
 passed_over name h hooks true e rest = rw e rest
 passed_over name h hooks false e rest = rw e (ap (λ (names : List (List ℕ)). h.name ∷ names) rest)
 
-pub names_without : (name : List ℕ) (hooks : List Named) → names_of (without_name name hooks) ≡ without name (names_of hooks)
+pub names_without : (name : List ℕ) (hooks : List Named) → hook_names (without_name name hooks) ≡ without name (hook_names hooks)
 names_without name [] = refl
 names_without name (h ∷ hooks) = passed_over name h hooks (bytes_eq name h.name) refl (names_without name hooks)
 
 -- the names that are left are hook names
-pub hook_names_without : (name : List ℕ) (hooks : List Named) → AreHookNames (names_of hooks) → AreHookNames (names_of (without_name name hooks))
+pub hook_names_without : (name : List ℕ) (hooks : List Named) → AreHookNames (hook_names hooks) → AreHookNames (hook_names (without_name name hooks))
 hook_names_without name hooks are = record {
   few = omega (arith, are.few, length-map (without_name name hooks) (λ (h : Named). h.name), length-map hooks (λ (h : Named). h.name), length-filter (λ (h : Named). not (bytes_eq name h.name)) hooks, count_by-le-length (λ (h : Named). not (bytes_eq name h.name)) hooks);
-  each = subst (λ (names : List (List ℕ)). All IsHookName names) (sym (names_without name hooks)) (All-filter (λ other. not (bytes_eq name other)) IsHookName (names_of hooks) are.each);
+  each = subst (λ (names : List (List ℕ)). All IsHookName names) (sym (names_without name hooks)) (All-filter (λ other. not (bytes_eq name other)) IsHookName (hook_names hooks) are.each);
 }
 
 found_at : (name : List ℕ) (names : List (List ℕ)) → Contains names name → list_any (bytes_eq name) names ≡ true
 found_at name names there = list_any-from_Any (bytes_eq name) names (there.0, name, there.1, there.2, (bytes_eq-Decides name name).1 refl)
 
 -- a hook has a name that is among theirs
-pub named_of_contains : (name : List ℕ) (hooks : List Named) → Contains (names_of hooks) name → has_name hooks name ≡ true
-named_of_contains name hooks there = named_among name hooks ∙ found_at name (names_of hooks) there
+pub named_of_contains : (name : List ℕ) (hooks : List Named) → Contains (hook_names hooks) name → has_name hooks name ≡ true
+named_of_contains name hooks there = named_among name hooks ∙ found_at name (hook_names hooks) there
 
 none_left : (name : List ℕ) (hooks : List Named) → hooks ≡ [] → without_name name hooks ≡ []
 none_left name hooks none = rw none refl
@@ -61,7 +61,7 @@ holds_with name code layout hooks new before capacity holds accepts more some = 
   names = record {
     few = rw accepts.alone (omega (arith, accepts.place.room, length-map (hooks ++ record { name = name; hook = accepts.hook } ∷ []) (λ (h : Named). h.name), length-append hooks (record { name = name; hook = accepts.hook } ∷ [])));
     each = rw accepts.alone (rw (map-append (λ (h : Named). h.name) hooks (record { name = name; hook = accepts.hook } ∷ []))
-        (All-push IsHookName (names_of hooks) name holds.names.each accepts.place.named));
+        (All-push IsHookName (hook_names hooks) name holds.names.each accepts.place.named));
   };
   room = by_room holds.room;
 } where

@@ -18,8 +18,8 @@ pub record Named : Type 0 where
   pub name : List ℕ
   pub hook : Checked
 
-abbrev pub names_of : List Named → List (List ℕ)
-names_of hooks = map (λ h. h.name) hooks
+abbrev pub hook_names : List Named → List (List ℕ)
+hook_names hooks = map (λ h. h.name) hooks
 
 abbrev pub hooks_of : List Named → List Checked
 hooks_of hooks = map (λ h. h.hook) hooks
@@ -34,7 +34,7 @@ without_name name hooks = filter (λ h. not (bytes_eq name h.name)) hooks
 
 -- the hooks have names, and where there is one, there is room for as many as may be
 pub record HoldsAll (hooks : List Named) (capacity : ℕ) : Type 0 where
-  pub names : AreHookNames (names_of hooks)
+  pub names : AreHookNames (hook_names hooks)
   pub room : (hooks ≡ []) ⊎ (hook_limit ≤ capacity)
 
 -- a name that is a hook's, that no hook has yet, and for which there is room

@@ -2,7 +2,7 @@
 
 ghost use Rattle.std.specs.Prelude.{◌≡◌, ◌↔◌, ◌<◌, ◌≤◌, ◌∷◌, ◌++◌, [], Contains, IsTrue, IfOk, IfErr, IsOk, OnOk, OnErr, length};
 ghost use Rattle.hook_host.specs.Names.{AreHookNames, hook_limit};
-ghost use Rattle.hook_chain.specs.Chains.{Accepts, HasNoPlace, HasPlace, IsAcceptedCode, IsInstalled, IsNotTaken, IsRemoved, RefusesInstall, RefusesRemove, has_name, hooks_of, names_of};
+ghost use Rattle.hook_chain.specs.Chains.{Accepts, HasNoPlace, HasPlace, IsAcceptedCode, IsInstalled, IsNotTaken, IsRemoved, RefusesInstall, RefusesRemove, has_name, hooks_of, hook_names};
 ghost use Rattle.hook_chain.specs.Exits.{narrowed_by};
 
 use crate::hook::Hook;
@@ -62,7 +62,7 @@ impl Chain {
     /// Whether a hook has a name.
     fn has(&self, name: &str) -> bool
         ensures value { result ≡ has_name self.now name.now }
-        ensures names { AreHookNames (names_of self.now) }
+        ensures names { AreHookNames (hook_names self.now) }
     {
         self.hooks.iter().any(|hook| name == hook.name.as_str())
     }
@@ -103,7 +103,7 @@ fn accepted(alloc: Global, layout: Layout, code: &[u8]) -> Result<Verified, Hook
 impl HookHost for Chain {
     ghost answer = { λ hooks ask. narrowed_by (hooks_of hooks) ask };
 
-    ghost names = { names_of };
+    ghost names = { hook_names };
 
     ghost accepts = { Accepts };
 

@@ -8,13 +8,13 @@ use Rattle.hook_commands.specs.declared.fault.HookCommandFault.{HookCommandFault
 use Rattle.hook_commands.specs.declared.fault.HookCommandFault.TheVariants.{Insn, Verify}
 use Rattle.hook_commands.specs.declared.judge.JudgeFault.TheVariants as judge
 use Rattle.hook_commands.specs.Answers.{IsJudgedText, IsRunOn}
-use Rattle.hook_commands.specs.Faults.{of_decoding, of_verifying}
+use Rattle.hook_commands.specs.Faults.{command_fault_of_decoding, command_fault_of_verifying}
 
 told : (code_hex record_hex : List ℕ) (fault : InsnFault) (f : HookCommandFault) → fault ≢ insn.Memory → f ≡ Insn fault
     → IsJudgedText code_hex record_hex (Err (judge.Insn fault)) → IsRunOn code_hex record_hex (Err f)
 told code_hex record_hex fault f no_memory is_told judged = subst (λ e. IsRunOn code_hex record_hex (Err e)) (sym is_told) (no_memory, judged)
 
-pub told_insn : (code_hex record_hex : List ℕ) (fault : InsnFault) (f : HookCommandFault) → f ≡ of_decoding fault
+pub told_insn : (code_hex record_hex : List ℕ) (fault : InsnFault) (f : HookCommandFault) → f ≡ command_fault_of_decoding fault
     → IsJudgedText code_hex record_hex (Err (judge.Insn fault)) → IsRunOn code_hex record_hex (Err f)
 told_insn code_hex record_hex insn.Memory f is_told judged = subst (λ e. IsRunOn code_hex record_hex (Err e)) (sym is_told) tt
 told_insn code_hex record_hex insn.Empty f is_told judged = told code_hex record_hex _ f (λ same. cc) is_told judged
@@ -32,7 +32,7 @@ refused : (code_hex record_hex : List ℕ) (fault : VerifyFault) (f : HookComman
     → IsJudgedText code_hex record_hex (Err (judge.Verify fault)) → IsRunOn code_hex record_hex (Err f)
 refused code_hex record_hex fault f no_memory is_told judged = subst (λ e. IsRunOn code_hex record_hex (Err e)) (sym is_told) (no_memory, judged)
 
-pub told_verify : (code_hex record_hex : List ℕ) (fault : VerifyFault) (f : HookCommandFault) → f ≡ of_verifying fault
+pub told_verify : (code_hex record_hex : List ℕ) (fault : VerifyFault) (f : HookCommandFault) → f ≡ command_fault_of_verifying fault
     → IsJudgedText code_hex record_hex (Err (judge.Verify fault)) → IsRunOn code_hex record_hex (Err f)
 told_verify code_hex record_hex verify.Memory f is_told judged = subst (λ e. IsRunOn code_hex record_hex (Err e)) (sym is_told) tt
 told_verify code_hex record_hex (verify.JumpOut i) f is_told judged = refused code_hex record_hex _ f (λ same. cc) is_told judged

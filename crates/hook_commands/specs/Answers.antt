@@ -70,23 +70,23 @@ IsTracedOn code_hex record_hex (Ok answer) = ⊥
 IsTracedOn code_hex record_hex (Err fault) = IsRunOn code_hex record_hex (Err fault)
 
 -- what a command answers, where this stands in its file
-abbrev pub IsAnsweredBy : HookCommand → File → Result HookAnswer HookCommandFault → Type 0
-IsAnsweredBy (commands.Run code_hex record_hex) file outcome = IsRunOn code_hex.now record_hex.now outcome
-IsAnsweredBy (commands.Trace code_hex record_hex) file outcome = IsTracedOn code_hex.now record_hex.now outcome
-IsAnsweredBy (commands.Assemble path) file outcome = IsAssembledAs path.now file outcome
-IsAnsweredBy (commands.List path) file outcome = IsListedAs path.now file outcome
-IsAnsweredBy (commands.ListSlots path) file outcome = IsListedWithSlotsAs path.now file outcome
-IsAnsweredBy (commands.Check layout path) file outcome = IsCheckedOn layout path.now file outcome
-IsAnsweredBy (commands.Why layout path) file outcome = IsExplainedOn layout path.now file outcome
-IsAnsweredBy (commands.Ask layout words) file outcome = IsAskedAs layout words outcome
+abbrev pub IsHookAnsweredBy : HookCommand → File → Result HookAnswer HookCommandFault → Type 0
+IsHookAnsweredBy (commands.Run code_hex record_hex) file outcome = IsRunOn code_hex.now record_hex.now outcome
+IsHookAnsweredBy (commands.Trace code_hex record_hex) file outcome = IsTracedOn code_hex.now record_hex.now outcome
+IsHookAnsweredBy (commands.Assemble path) file outcome = IsAssembledAs path.now file outcome
+IsHookAnsweredBy (commands.List path) file outcome = IsListedAs path.now file outcome
+IsHookAnsweredBy (commands.ListSlots path) file outcome = IsListedWithSlotsAs path.now file outcome
+IsHookAnsweredBy (commands.Check layout path) file outcome = IsCheckedOn layout path.now file outcome
+IsHookAnsweredBy (commands.Why layout path) file outcome = IsExplainedOn layout path.now file outcome
+IsHookAnsweredBy (commands.Ask layout words) file outcome = IsAskedAs layout words outcome
 
 -- the path of the file that a command is about
-abbrev pub file_named_by : HookCommand → Option (List ℕ)
-file_named_by (commands.Run code_hex record_hex) = None
-file_named_by (commands.Trace code_hex record_hex) = None
-file_named_by (commands.Assemble path) = Some path.now
-file_named_by (commands.List path) = Some path.now
-file_named_by (commands.ListSlots path) = Some path.now
-file_named_by (commands.Check layout path) = Some path.now
-file_named_by (commands.Why layout path) = Some path.now
-file_named_by (commands.Ask layout words) = None
+abbrev pub file_of_hook_command : HookCommand → Option (List ℕ)
+file_of_hook_command (commands.Run code_hex record_hex) = None
+file_of_hook_command (commands.Trace code_hex record_hex) = None
+file_of_hook_command (commands.Assemble path) = Some path.now
+file_of_hook_command (commands.List path) = Some path.now
+file_of_hook_command (commands.ListSlots path) = Some path.now
+file_of_hook_command (commands.Check layout path) = Some path.now
+file_of_hook_command (commands.Why layout path) = Some path.now
+file_of_hook_command (commands.Ask layout words) = None

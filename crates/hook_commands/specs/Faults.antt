@@ -8,13 +8,13 @@ use Rattle.assembler.specs.declared.fault.AsmFault.TheVariants as asm
 use Rattle.hook_commands.specs.declared.fault.HookCommandFault.{HookCommandFault}
 use Rattle.hook_commands.specs.declared.fault.HookCommandFault.TheVariants.{Text, Insn, Verify, OutOfMemory}
 
-abbrev pub of_decoding : InsnFault → HookCommandFault
-of_decoding insn.Memory = OutOfMemory
-of_decoding fault = Insn fault
+abbrev pub command_fault_of_decoding : InsnFault → HookCommandFault
+command_fault_of_decoding insn.Memory = OutOfMemory
+command_fault_of_decoding fault = Insn fault
 
-abbrev pub of_verifying : VerifyFault → HookCommandFault
-of_verifying verify.Memory = OutOfMemory
-of_verifying fault = Verify fault
+abbrev pub command_fault_of_verifying : VerifyFault → HookCommandFault
+command_fault_of_verifying verify.Memory = OutOfMemory
+command_fault_of_verifying fault = Verify fault
 
 abbrev pub of_assembling : AsmFault → HookCommandFault
 of_assembling asm.Memory = OutOfMemory

@@ -14,7 +14,7 @@ use Rattle.hook_commands.specs.declared.answer.HookAnswer.TheVariants as answers
 use Rattle.hook_commands.specs.declared.fault.HookCommandFault.{HookCommandFault}
 use Rattle.hook_commands.specs.declared.fault.HookCommandFault.TheVariants as faults
 use Rattle.hook_commands.specs.HexText.{IsHexOf, IsNoHex}
-use Rattle.hook_commands.specs.Verdict.{IsTaken}
+use Rattle.hook_commands.specs.Verdict.{IsTakenProgram}
 use Rattle.verifier.specs.Verdicts.{IsVerdict}
 
 abbrev pub File : Type 0
@@ -77,7 +77,7 @@ IsListedAs path file (Err fault) = HoldsNoProgram path file fault
 pub record IsAcceptedOn (layout : Layout) (file : File) (count : ℕ) : Type 0 where
   pub program : List Insn
   pub held : HoldsProgram file program
-  pub taken : IsTaken layout program
+  pub taken : IsTakenProgram layout program
   pub counted : count ≡ length program
 
 -- the file's program is not accepted for records of a version: this is its fault
@@ -87,13 +87,13 @@ pub record IsRefusedOn (layout : Layout) (file : File) (fault : VerifyFault) : T
   pub refused : IsVerdict layout program fault
 
 -- why the program of a file is not accepted, where it holds one
-abbrev pub IsNotAccepted : Layout → File → HookCommandFault → Type 0
-IsNotAccepted layout file (faults.Verify fault) = (fault ≢ verify.Memory) × IsRefusedOn layout file fault
-IsNotAccepted layout file faults.OutOfMemory = ⊤
-IsNotAccepted layout file fault = ⊥
+abbrev pub IsFileNotAccepted : Layout → File → HookCommandFault → Type 0
+IsFileNotAccepted layout file (faults.Verify fault) = (fault ≢ verify.Memory) × IsRefusedOn layout file fault
+IsFileNotAccepted layout file faults.OutOfMemory = ⊤
+IsFileNotAccepted layout file fault = ⊥
 
 -- what `check` answers to the file of a path, for records of a version
 abbrev pub IsCheckedOn : Layout → List ℕ → File → Result HookAnswer HookCommandFault → Type 0
 IsCheckedOn layout path file (Ok (answers.Accepted count)) = IsAcceptedOn layout file count
 IsCheckedOn layout path file (Ok answer) = ⊥
-IsCheckedOn layout path file (Err fault) = HoldsNoProgram path file fault ⊎ IsNotAccepted layout file fault
+IsCheckedOn layout path file (Err fault) = HoldsNoProgram path file fault ⊎ IsFileNotAccepted layout file fault

@@ -13,7 +13,7 @@ abbrev pub byte_of : ℕ → ℕ → Option ℕ
 byte_of high low = option_and_then (λ h. option_map (λ l. h * 16 + l) (hex_digit_value low)) (hex_digit_value high)
 
 -- a text begins with blanks and the two digits of a byte, and goes on so
-pub record BeginsWith (text : List ℕ) (byte : ℕ) (rest : List ℕ) : Type 0 where
+pub record BeginsWithByte (text : List ℕ) (byte : ℕ) (rest : List ℕ) : Type 0 where
   pub blanks : List ℕ
   pub high : ℕ
   pub low : ℕ
@@ -24,7 +24,7 @@ pub record BeginsWith (text : List ℕ) (byte : ℕ) (rest : List ℕ) : Type 0 
 -- a text is hex of these bytes
 abbrev pub IsHexOf : List ℕ → List ℕ → Type 0
 IsHexOf text [] = AllByRecursion IsBlank text
-IsHexOf text (byte ∷ bytes) = (rest : List ℕ) × BeginsWith text byte rest × IsHexOf rest bytes
+IsHexOf text (byte ∷ bytes) = (rest : List ℕ) × BeginsWithByte text byte rest × IsHexOf rest bytes
 
 -- a text is hex of no bytes at all
 abbrev pub IsNoHex : List ℕ → Type 0

@@ -15,7 +15,7 @@ use Rattle.hook_commands.specs.declared.judge.Asked.{Asked}
 use Rattle.hook_commands.specs.declared.judge.Judged.{Judged}
 use Rattle.hook_commands.specs.declared.judge.JudgeFault.{JudgeFault}
 use Rattle.hook_commands.specs.declared.judge.JudgeFault.TheVariants as faults
-use Rattle.hook_commands.specs.Verdict.{IsTaken, IsTurnedAway}
+use Rattle.hook_commands.specs.Verdict.{IsTakenProgram, IsTurnedAway}
 
 -- what a record asks, of the version that its length says
 abbrev pub asked_in : List ℕ → Option Asked
@@ -40,7 +40,7 @@ pub record IsAccepted (code bytes : List ℕ) (judged : Judged) : Type 0 where
   pub asked : Asked
   pub asks : asked_in bytes ≡ Some asked
   pub spelled : Spells code program
-  pub taken : IsTaken asked.layout program
+  pub taken : IsTakenProgram asked.layout program
   pub run : IsAnswer program asked bytes judged
 
 -- the record asks something, and the code is no program: this is its first fault

@@ -25,24 +25,24 @@ abbrev pub judged_text : Judged → List ℕ
 judged_text judged = codes "r0 " ++ decimal judged.r0 ++ codes "\nsteps " ++ decimal judged.steps ++ codes "\n" ++ narrowed_text judged.answer
 
 -- the whole text that an answer is printed as
-abbrev pub answer_text : HookAnswer → List ℕ
-answer_text (answers.Judged judged) = judged_text judged ++ codes "\n"
-answer_text (answers.Code hex) = string_bytes hex ++ codes "\n"
-answer_text (answers.Listing text) = string_bytes text
-answer_text (answers.Refusal text) = string_bytes text
-answer_text (answers.Accepted count) = codes "accepted " ++ decimal count ++ codes "\n"
+abbrev pub hook_answer_text : HookAnswer → List ℕ
+hook_answer_text (answers.Judged judged) = judged_text judged ++ codes "\n"
+hook_answer_text (answers.Code hex) = string_bytes hex ++ codes "\n"
+hook_answer_text (answers.Listing text) = string_bytes text
+hook_answer_text (answers.Refusal text) = string_bytes text
+hook_answer_text (answers.Accepted count) = codes "accepted " ++ decimal count ++ codes "\n"
 
 -- a text's fault, behind its line where it has one
 abbrev pub located_text : AsmFault → List ℕ
 located_text fault = option_map_or (λ line. codes "line " ++ decimal line ++ codes ": ") (line_of_fault fault) [] ++ name_of_fault fault
 
-abbrev pub fault_text : HookCommandFault → List ℕ
-fault_text BadArguments = codes "bad arguments"
-fault_text BadRecord = codes "bad record"
-fault_text (CannotRead path) = codes "cannot read " ++ path.now
-fault_text (IsElf path) = codes "ELF file: " ++ path.now
-fault_text (IsNotHex path) = codes "not hex: " ++ path.now
-fault_text (Text fault) = located_text fault
-fault_text (Insn fault) = codes "Insn " ++ insn_fault_text fault
-fault_text (Verify fault) = codes "Verify " ++ verify_fault_text fault
-fault_text OutOfMemory = codes "out of memory"
+abbrev pub hook_command_fault_text : HookCommandFault → List ℕ
+hook_command_fault_text BadArguments = codes "bad arguments"
+hook_command_fault_text BadRecord = codes "bad record"
+hook_command_fault_text (CannotRead path) = codes "cannot read " ++ path.now
+hook_command_fault_text (IsElf path) = codes "ELF file: " ++ path.now
+hook_command_fault_text (IsNotHex path) = codes "not hex: " ++ path.now
+hook_command_fault_text (Text fault) = located_text fault
+hook_command_fault_text (Insn fault) = codes "Insn " ++ insn_fault_text fault
+hook_command_fault_text (Verify fault) = codes "Verify " ++ verify_fault_text fault
+hook_command_fault_text OutOfMemory = codes "out of memory"

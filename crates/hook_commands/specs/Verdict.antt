@@ -9,7 +9,7 @@ use Rattle.insn.specs.Step.{Safe}
 use Rattle.verifier.specs.Verdicts.{IsVerdict}
 
 -- a program is taken: the first look finds nothing, and from every record the run exits
-pub record IsTaken (layout : Layout) (program : List Insn) : Type 0 where
+pub record IsTakenProgram (layout : Layout) (program : List Insn) : Type 0 where
   pub looked : look_verdict program ≡ None
   pub safe : Safe layout program
 

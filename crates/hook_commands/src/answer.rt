@@ -1,7 +1,7 @@
 //! What a command about a hook answers.
 
 ghost use Rattle.std.specs.Prelude.{◌≡◌, Some};
-ghost use Rattle.hook_commands.specs.Printed.{answer_text, judged_text};
+ghost use Rattle.hook_commands.specs.Printed.{hook_answer_text, judged_text};
 
 use crate::judge::Judged;
 use hook_record::Narrowed;
@@ -23,7 +23,7 @@ pub enum HookAnswer {
 }
 
 impl Display for HookAnswer {
-    ghost output = { λ answer. Some (answer_text answer) };
+    ghost output = { λ answer. Some (hook_answer_text answer) };
 
     fn fmt<W: Write>(&self, f: &mut Formatter<W>) -> fmt::Result {
         match self {

@@ -2,7 +2,7 @@
 
 ghost use Rattle.std.specs.Prelude.{◌≡◌};
 ghost use Rattle.std.specs.Option.{option_copied};
-ghost use Rattle.hook_commands.specs.Answers.{file_named_by, IsAnsweredBy};
+ghost use Rattle.hook_commands.specs.Answers.{file_of_hook_command, IsHookAnsweredBy};
 
 use crate::answer::HookAnswer;
 use crate::commands::ask::asked;
@@ -64,7 +64,7 @@ pub enum HookCommand<'w> {
 impl<'w> HookCommand<'w> {
     /// The path of the file that the command is about.
     pub fn file(self) -> Option<&'w str>
-        ensures { option_copied result ≡ file_named_by self.entry }
+        ensures { option_copied result ≡ file_of_hook_command self.entry }
     {
         match self {
             HookCommand::Run { .. } | HookCommand::Trace { .. } | HookCommand::Ask { .. } => None,
@@ -82,7 +82,7 @@ impl<'w> HookCommand<'w> {
         alloc: Global,
         file: Option<&[u8]>,
     ) -> Result<HookAnswer, HookCommandFault<'w>>
-        ensures { IsAnsweredBy self.entry (option_copied file.entry) result }
+        ensures { IsHookAnsweredBy self.entry (option_copied file.entry) result }
     {
         match self {
             HookCommand::Run {

@@ -1,8 +1,8 @@
 //! Why a command about a hook has no answer.
 
 ghost use Rattle.std.specs.Prelude.{◌≡◌, Some};
-ghost use Rattle.hook_commands.specs.Faults.{of_assembling, of_decoding, of_verifying};
-ghost use Rattle.hook_commands.specs.Printed.{fault_text, located_text};
+ghost use Rattle.hook_commands.specs.Faults.{of_assembling, command_fault_of_decoding, command_fault_of_verifying};
+ghost use Rattle.hook_commands.specs.Printed.{hook_command_fault_text, located_text};
 ghost use Rattle.hook_commands.specs.declared.fault.HookCommandFault.TheVariants.{OutOfMemory};
 
 use assembler::AsmFault;
@@ -35,7 +35,7 @@ pub enum HookCommandFault<'w> {
 }
 
 impl<'w> Display for HookCommandFault<'w> {
-    ghost output = { λ fault. Some (fault_text fault) };
+    ghost output = { λ fault. Some (hook_command_fault_text fault) };
 
     fn fmt<W: Write>(&self, f: &mut Formatter<W>) -> fmt::Result {
         match self {
@@ -80,7 +80,7 @@ impl<'w> From<AsmFault> for HookCommandFault<'w> {
 }
 
 impl<'w> From<InsnFault> for HookCommandFault<'w> {
-    ghost from_gives = { λ fault f. f ≡ of_decoding fault };
+    ghost from_gives = { λ fault f. f ≡ command_fault_of_decoding fault };
 
     fn from(fault: InsnFault) -> HookCommandFault<'w> {
         match fault {
@@ -91,7 +91,7 @@ impl<'w> From<InsnFault> for HookCommandFault<'w> {
 }
 
 impl<'w> From<VerifyFault> for HookCommandFault<'w> {
-    ghost from_gives = { λ fault f. f ≡ of_verifying fault };
+    ghost from_gives = { λ fault f. f ≡ command_fault_of_verifying fault };
 
     fn from(fault: VerifyFault) -> HookCommandFault<'w> {
         match fault {

@@ -13,8 +13,8 @@ use Rattle.insn.specs.SlotLaws.{slots_of_bounds, length-places}
 use Rattle.hook_trial.specs.declared.way.Hop.{Hop}
 use Rattle.hook_trial.specs.declared.way.Step.{Step}
 use Rattle.hook_trial.specs.declared.way.Step.TheVariants.{Past, Jumping}
-use Rattle.hook_trial.specs.Ways.{goes_past, jump_target, slot_ahead, slot_behind, GoesOn, IsJump, IsStraight, Here, Further, Leads}
-use Rattle.hook_trial.specs.WaySteps.{is_led, step_of, target_past, where_led, AreSteps, IsStepFrom, LeadsOn}
+use Rattle.hook_trial.specs.Ways.{goes_past, jump_target, slot_ahead, slot_behind, GoesBehind, IsJump, IsStraightWay, Here, Further, Leads}
+use Rattle.hook_trial.specs.WaySteps.{is_led, step_of, target_past, where_led, AreWaySteps, IsStepFrom, WayLeadsOn}
 
 -- something begins at slots of the program alone
 begins_inside : (program : List Insn) (k : ℕ) (j : Insn) → begins_at program k ≡ Some j → k < slot_count program
@@ -36,7 +36,7 @@ no_steps n = replicate n None
 
 module _ (program : List Insn) (unwritten : Option RegNo) where
   -- one goes on, and then a way leads on
-  pub past_first : (from next to : ℕ) (hops : List Hop) → GoesOn program unwritten from next
+  pub past_first : (from next to : ℕ) (hops : List Hop) → GoesBehind program unwritten from next
       → Leads program unwritten next hops to → Leads program unwritten from hops to
   past_first from next to [] g s = Further g s
   past_first from next to (h ∷ hs) g l = (Further g l.0, l.1, l.2)
@@ -49,21 +49,21 @@ module _ (program : List Insn) (unwritten : Option RegNo) where
   -- what a way that doesn't end where it begins begins with
   abbrev pub FirstMove : ℕ → ℕ → Type 0
   FirstMove from goal =
-      ((next : ℕ) × GoesOn program unwritten from next × (rest : List Hop) × Leads program unwritten next rest goal)
+      ((next : ℕ) × GoesBehind program unwritten from next × (rest : List Hop) × Leads program unwritten next rest goal)
       ⊎ ((next : ℕ) × IsJump program from next × (rest : List Hop) × Leads program unwritten next rest goal)
 
-  straight_first : (from at : ℕ) → IsStraight program unwritten from at
-      → (from ≡ at) ⊎ ((next : ℕ) × GoesOn program unwritten from next × IsStraight program unwritten next at)
+  straight_first : (from at : ℕ) → IsStraightWay program unwritten from at
+      → (from ≡ at) ⊎ ((next : ℕ) × GoesBehind program unwritten from next × IsStraightWay program unwritten next at)
   straight_first from at Here = inl refl
   straight_first from at (Further {next = next} g s) = inr (next, g, s)
 
   pub first_move : (from goal : ℕ) (hops : List Hop) → from ≢ goal → Leads program unwritten from hops goal → FirstMove from goal
   first_move from goal [] apart s = by (straight_first from goal s) where
-    by : (from ≡ goal) ⊎ ((next : ℕ) × GoesOn program unwritten from next × IsStraight program unwritten next goal) → FirstMove from goal
+    by : (from ≡ goal) ⊎ ((next : ℕ) × GoesBehind program unwritten from next × IsStraightWay program unwritten next goal) → FirstMove from goal
     by (inl e) = absurd (apart e)
     by (inr m) = inl (m.0, m.1, [], m.2)
   first_move from goal (h ∷ hs) apart l = by (straight_first from h.from l.0) where
-    by : (from ≡ h.from) ⊎ ((next : ℕ) × GoesOn program unwritten from next × IsStraight program unwritten next h.from) → FirstMove from goal
+    by : (from ≡ h.from) ⊎ ((next : ℕ) × GoesBehind program unwritten from next × IsStraightWay program unwritten next h.from) → FirstMove from goal
     by (inl e) = inr (h.to, subst (λ k. IsJump program k h.to) (sym e) l.1, hs, l.2)
     by (inr m) = inl (m.0, m.1, h ∷ hs, (m.2, l.1, l.2))
 
@@ -77,7 +77,7 @@ module _ (program : List Insn) (unwritten : Option RegNo) where
 
   -- ---- the table
 
-  module _ (goal from : ℕ) (steps : List (Option Step)) (a : AreSteps program unwritten goal from steps) where
+  module _ (goal from : ℕ) (steps : List (Option Step)) (a : AreWaySteps program unwritten goal from steps) where
     leads_by : (to : ℕ) (o : Option Step) → IsStepFrom program unwritten goal to o → is_some o ≡ true
         → (rest : List Hop) × Leads program unwritten to rest goal
     leads_by to None s e = absurd cc
@@ -87,7 +87,7 @@ module _ (program : List Insn) (unwritten : Option RegNo) where
     pub led : (to : ℕ) → from ≤ to → is_led steps goal to ≡ true → (rest : List Hop) × Leads program unwritten to rest goal
     led to low e = by (cases_eq to goal) where
       by : (to ≡ goal) ⊎ (to ≡ goal → ⊥) → (rest : List Hop) × Leads program unwritten to rest goal
-      by (inl same) = ([], subst (λ k. IsStraight program unwritten to k) same Here)
+      by (inl same) = ([], subst (λ k. IsStraightWay program unwritten to k) same Here)
       by (inr apart) =
           let other = ne_eqb to goal apart in
           let some : is_some (slice_index_or steps to None) ≡ true = rw other at e in
@@ -128,7 +128,7 @@ module _ (program : List Insn) (unwritten : Option RegNo) where
       past_target to true q e = (q, cc)
       past_target to false q e = absurd cc
 
-      past_found : (to : ℕ) → where_led steps goal (target_past unwritten slot i) ≡ Some to → LeadsOn program unwritten goal slot (Past to)
+      past_found : (to : ℕ) → where_led steps goal (target_past unwritten slot i) ≡ Some to → WayLeadsOn program unwritten goal slot (Past to)
       past_found to e =
           let w = led_some (target_past unwritten slot i) to e in
           let t = past_target to (goes_past unwritten i) refl w.0 in
@@ -137,7 +137,7 @@ module _ (program : List Insn) (unwritten : Option RegNo) where
           let r = led to (omega arith) w.1 in
           record { moves = record { insn = i; begins = begins; goes = t.0; behind = t.1 }; rest = r.0; leads = r.1; further = omega arith }
 
-      past_none : where_led steps goal (target_past unwritten slot i) ≡ None → (next : ℕ) → GoesOn program unwritten slot next
+      past_none : where_led steps goal (target_past unwritten slot i) ≡ None → (next : ℕ) → GoesBehind program unwritten slot next
           → (rest : List Hop) → Leads program unwritten next rest goal → ⊥
       past_none e next g =
           let same = same_insn g.insn g.begins in
@@ -152,7 +152,7 @@ module _ (program : List Insn) (unwritten : Option RegNo) where
       target_ahead (Some (pos d)) to e = let same : slot_behind slot i + d ≡ to = cc in omega arith
       target_ahead (Some (negsuc d)) to e = absurd cc
 
-      jump_found : (to : ℕ) → where_led steps goal (jump_target slot i) ≡ Some to → LeadsOn program unwritten goal slot (Jumping to)
+      jump_found : (to : ℕ) → where_led steps goal (jump_target slot i) ≡ Some to → WayLeadsOn program unwritten goal slot (Jumping to)
       jump_found to e =
           let w = led_some (jump_target slot i) to e in
           let ahead : slot + slots_of i ≤ to = target_ahead (distance_of i) to w.0 in
@@ -187,7 +187,7 @@ module _ (program : List Insn) (unwritten : Option RegNo) where
         step_by slot next_is apart i begins (where_led steps goal (target_past unwritten slot i)) (where_led steps goal (jump_target slot i)) refl refl
 
   -- a table without steps has those behind the program
-  pub none_behind : (goal : ℕ) → AreSteps program unwritten goal (slot_count program) (no_steps (slot_count program))
+  pub none_behind : (goal : ℕ) → AreWaySteps program unwritten goal (slot_count program) (no_steps (slot_count program))
   none_behind goal = record { long = length-replicate {A = Option Step} (slot_count program) None; each = each } where
     no_step : (n k : ℕ) → slice_index_or (no_steps n) k None ≡ None
     no_step zero k = refl
@@ -206,8 +206,8 @@ module _ (program : List Insn) (unwritten : Option RegNo) where
 
   -- one step more
   pub step_set : (goal slot : ℕ) (steps : List (Option Step)) → slot < slot_count program
-      → AreSteps program unwritten goal (slot + 1) steps
-      → AreSteps program unwritten goal slot (set steps slot (step_of steps unwritten goal slot (begins_at program slot)))
+      → AreWaySteps program unwritten goal (slot + 1) steps
+      → AreWaySteps program unwritten goal slot (set steps slot (step_of steps unwritten goal slot (begins_at program slot)))
   step_set goal slot steps inside a = record { long = length-set steps slot step ∙ a.long; each = each } where
     step : Option Step
     step = step_of steps unwritten goal slot (begins_at program slot)
@@ -236,14 +236,14 @@ module _ (program : List Insn) (unwritten : Option RegNo) where
     pub so_far : (rest : List Hop) → Leads program unwritten at rest goal → Leads program unwritten 0 (hops ++ rest) goal
     pub leads : (at ≡ 0) ⊎ ((rest : List Hop) × Leads program unwritten at rest goal)
 
-  pub gone_past : (goal : ℕ) (hops : List Hop) (at to : ℕ) → IsFollowed goal hops at → LeadsOn program unwritten goal at (Past to)
+  pub gone_past : (goal : ℕ) (hops : List Hop) (at to : ℕ) → IsFollowed goal hops at → WayLeadsOn program unwritten goal at (Past to)
       → IsFollowed goal hops to
   gone_past goal hops at to f s = record {
     so_far = λ rest l. f.so_far rest (past_first at to goal rest s.moves l);
     leads = inr (s.rest, s.leads);
   }
 
-  pub jumped : (goal : ℕ) (hops : List Hop) (at to : ℕ) → IsFollowed goal hops at → LeadsOn program unwritten goal at (Jumping to)
+  pub jumped : (goal : ℕ) (hops : List Hop) (at to : ℕ) → IsFollowed goal hops at → WayLeadsOn program unwritten goal at (Jumping to)
       → IsFollowed goal (hops ++ record { from = at; to = to } ∷ []) to
   jumped goal hops at to f s = record {
     so_far = λ rest l.

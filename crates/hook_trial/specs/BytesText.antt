@@ -49,13 +49,13 @@ range_line first last known =
 -- ---- the bytes that are read
 
 -- n bytes from each offset of a span on, where they lie in the stack
-abbrev pub bytes_in : Region → Span → ℕ → Option BytesRead
-bytes_in region.Record span n = None
-bytes_in region.Stack span n = Some (record { from = span.least; to = span.greatest + n })
+abbrev pub stack_bytes_in : Region → Span → ℕ → Option BytesRead
+stack_bytes_in region.Record span n = None
+stack_bytes_in region.Stack span n = Some (record { from = span.least; to = span.greatest + n })
 
 abbrev pub bytes_at : Result Place WalkFault → ℕ → Option BytesRead
 bytes_at (Err fault) n = None
-bytes_at (Ok place) n = bytes_in place.region place.span n
+bytes_at (Ok place) n = stack_bytes_in place.region place.span n
 
 -- n bytes so far behind what a register holds
 abbrev pub bytes_behind : Layout → Reg → ℤ → ℕ → Option BytesRead
@@ -71,14 +71,14 @@ bytes_read layout known i = None
 
 -- ---- what is told of a block: eight bytes from a multiple of eight on
 
-abbrev pub is_unset : Mark → Bool
-is_unset Unset = true
-is_unset mark = false
+abbrev pub is_unset_mark : Mark → Bool
+is_unset_mark Unset = true
+is_unset_mark mark = false
 
 -- so many bytes from one on are unset
 abbrev pub are_unset : Stack → ℕ → ℕ → Bool
 are_unset stack from zero = true
-are_unset stack from (suc n) = are_unset stack from n && is_unset (mark_at stack (from + n))
+are_unset stack from (suc n) = are_unset stack from n && is_unset_mark (mark_at stack (from + n))
 
 -- a line for each of so many bytes from one on
 abbrev pub byte_lines : Stack → ℕ → ℕ → List ℕ

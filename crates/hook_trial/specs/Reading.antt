@@ -10,9 +10,9 @@ use Rattle.insn.specs.declared.instruction.Insn.{Insn}
 use Rattle.insn.specs.declared.instruction.Insn.TheVariants.{Alu64Imm, Alu64Reg, Alu32Imm, Alu32Reg, Divide, Remainder, Negate, MoveSigned, SwapBytes, LoadWide, Load, LoadSigned, StoreReg, StoreImm, Jump, JumpLong, Jump64IfImm, Jump64IfReg, Jump32IfImm, Jump32IfReg, Exit}
 
 -- a move does not read what it writes
-abbrev pub left_of : AluOp → RegNo → Option RegNo
-left_of Mov dst = None
-left_of op dst = Some dst
+abbrev pub left_register : AluOp → RegNo → Option RegNo
+left_register Mov dst = None
+left_register op dst = Some dst
 
 abbrev pub right_of : Operand → Option RegNo
 right_of (Reg src) = Some src
@@ -20,10 +20,10 @@ right_of (Imm imm) = None
 
 -- the register that is read and stands first: an operand, or what a store leads to
 abbrev pub left_read : Insn → Option RegNo
-left_read (Alu64Imm op dst imm) = left_of op dst
-left_read (Alu64Reg op dst src) = left_of op dst
-left_read (Alu32Imm op dst imm) = left_of op dst
-left_read (Alu32Reg op dst src) = left_of op dst
+left_read (Alu64Imm op dst imm) = left_register op dst
+left_read (Alu64Reg op dst src) = left_register op dst
+left_read (Alu32Imm op dst imm) = left_register op dst
+left_read (Alu32Reg op dst src) = left_register op dst
 left_read (Divide width signedness dst operand) = Some dst
 left_read (Remainder width signedness dst operand) = Some dst
 left_read (Negate width dst) = Some dst

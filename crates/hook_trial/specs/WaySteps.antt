@@ -7,7 +7,7 @@ use Rattle.insn.specs.Program.{slot_count}
 use Rattle.hook_trial.specs.declared.way.Hop.{Hop}
 use Rattle.hook_trial.specs.declared.way.Step.{Step}
 use Rattle.hook_trial.specs.declared.way.Step.TheVariants.{Past, Jumping}
-use Rattle.hook_trial.specs.Ways.{goes_past, jump_target, slot_behind, GoesOn, IsJump, Leads}
+use Rattle.hook_trial.specs.Ways.{goes_past, jump_target, slot_behind, GoesBehind, IsJump, Leads}
 
 -- a way leads to the goal from a slot of which the table has the step, and from the goal itself
 abbrev pub is_led : List (Option Step) → ℕ → ℕ → Bool
@@ -30,28 +30,28 @@ step_of steps unwritten goal slot (Some i) =
     (option_map Past (where_led steps goal (target_past unwritten slot i)))
     (option_map Jumping (where_led steps goal (jump_target slot i)))
 
-abbrev pub slot_of : Step → ℕ
-slot_of (Past to) = to
-slot_of (Jumping to) = to
+abbrev pub step_slot : Step → ℕ
+step_slot (Past to) = to
+step_slot (Jumping to) = to
 
 -- one takes a step from a slot
 abbrev pub Moves : List Insn → Option RegNo → ℕ → Step → Type 0
-Moves program unwritten from (Past to) = GoesOn program unwritten from to
+Moves program unwritten from (Past to) = GoesBehind program unwritten from to
 Moves program unwritten from (Jumping to) = IsJump program from to
 
 -- a step goes further, and a way leads on from there
-pub record LeadsOn (program : List Insn) (unwritten : Option RegNo) (goal slot : ℕ) (step : Step) : Type 0 where
+pub record WayLeadsOn (program : List Insn) (unwritten : Option RegNo) (goal slot : ℕ) (step : Step) : Type 0 where
   pub moves : Moves program unwritten slot step
   pub rest : List Hop
-  pub leads : Leads program unwritten (slot_of step) rest goal
-  pub further : slot < slot_of step
+  pub leads : Leads program unwritten (step_slot step) rest goal
+  pub further : slot < step_slot step
 
 -- a step leads on from a slot; or no way leads from it to the goal
 abbrev pub IsStepFrom : List Insn → Option RegNo → ℕ → ℕ → Option Step → Type 0
 IsStepFrom program unwritten goal slot None = (hops : List Hop) → Leads program unwritten slot hops goal → ⊥
-IsStepFrom program unwritten goal slot (Some step) = LeadsOn program unwritten goal slot step
+IsStepFrom program unwritten goal slot (Some step) = WayLeadsOn program unwritten goal slot step
 
 -- a table has the steps from a slot on, but of the goal, where one steps no more
-pub record AreSteps (program : List Insn) (unwritten : Option RegNo) (goal from : ℕ) (steps : List (Option Step)) : Type 0 where
+pub record AreWaySteps (program : List Insn) (unwritten : Option RegNo) (goal from : ℕ) (steps : List (Option Step)) : Type 0 where
   pub long : length steps ≡ slot_count program
   pub each : (k : ℕ) → from ≤ k → k ≢ goal → IsStepFrom program unwritten goal k (slice_index_or steps k None)

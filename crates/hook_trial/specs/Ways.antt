@@ -46,17 +46,17 @@ abbrev pub jump_target : ℕ → Insn → Option ℕ
 jump_target slot i = option_and_then (slot_ahead (slot_behind slot i)) (distance_of i)
 
 -- from a slot one goes on behind the instruction there, which leaves a register unwritten, if one is to stay so
-pub record GoesOn (program : List Insn) (unwritten : Option RegNo) (from to : ℕ) : Type 0 where
+pub record GoesBehind (program : List Insn) (unwritten : Option RegNo) (from to : ℕ) : Type 0 where
   pub insn : Insn
   pub begins : begins_at program from ≡ Some insn
   pub goes : goes_past unwritten insn ≡ true
   pub behind : to ≡ slot_behind from insn
 
 -- from a slot one comes to another by going on alone, jumping nowhere
-pub data IsStraight (program : List Insn) (unwritten : Option RegNo) : ℕ → ℕ → Type 0 where
-  Here : {slot : ℕ} → IsStraight program unwritten slot slot
-  Further : {from next to : ℕ} → GoesOn program unwritten from next → IsStraight program unwritten next to
-      → IsStraight program unwritten from to
+pub data IsStraightWay (program : List Insn) (unwritten : Option RegNo) : ℕ → ℕ → Type 0 where
+  Here : {slot : ℕ} → IsStraightWay program unwritten slot slot
+  Further : {from next to : ℕ} → GoesBehind program unwritten from next → IsStraightWay program unwritten next to
+      → IsStraightWay program unwritten from to
 
 -- the jump of the instruction at a slot leads to another
 pub record IsJump (program : List Insn) (from to : ℕ) : Type 0 where
@@ -66,9 +66,9 @@ pub record IsJump (program : List Insn) (from to : ℕ) : Type 0 where
 
 -- from a slot one comes to another by these jumps in order, going straight between them
 abbrev pub Leads : List Insn → Option RegNo → ℕ → List Hop → ℕ → Type 0
-Leads program unwritten from [] to = IsStraight program unwritten from to
+Leads program unwritten from [] to = IsStraightWay program unwritten from to
 Leads program unwritten from (hop ∷ hops) to =
-    IsStraight program unwritten from hop.from × IsJump program hop.from hop.to × Leads program unwritten hop.to hops to
+    IsStraightWay program unwritten from hop.from × IsJump program hop.from hop.to × Leads program unwritten hop.to hops to
 
 -- jumps by which one comes from slot 0 to a slot; or there are none
 abbrev pub IsWayFound : List Insn → Option RegNo → ℕ → Option (List Hop) → Type 0

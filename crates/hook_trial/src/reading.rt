@@ -1,15 +1,15 @@
 //! The registers that an instruction reads.
 
 ghost use Rattle.std.specs.Prelude.{◌≡◌};
-ghost use Rattle.hook_trial.specs.Reading.{left_of, left_read as spec_left_read, right_of, right_read as spec_right_read};
+ghost use Rattle.hook_trial.specs.Reading.{left_register, left_read as spec_left_read, right_of, right_read as spec_right_read};
 
 use insn::instruction::{Insn, Operand};
 use insn::operation::AluOp;
 use insn::register::RegNo;
 
 /// The register that an operation reads on its left: a move reads none.
-fn left_of(op: AluOp, dst: RegNo) -> Option<RegNo>
-    ensures { result ≡ left_of op dst }
+fn left_register(op: AluOp, dst: RegNo) -> Option<RegNo>
+    ensures { result ≡ left_register op dst }
 {
     match op {
         AluOp::Mov => None,
@@ -32,8 +32,8 @@ pub fn left_read(insn: Insn) -> Option<RegNo>
     ensures { result ≡ spec_left_read insn }
 {
     match insn {
-        Insn::Alu64Imm { op, dst, .. } | Insn::Alu32Imm { op, dst, .. } => left_of(op, dst),
-        Insn::Alu64Reg { op, dst, .. } | Insn::Alu32Reg { op, dst, .. } => left_of(op, dst),
+        Insn::Alu64Imm { op, dst, .. } | Insn::Alu32Imm { op, dst, .. } => left_register(op, dst),
+        Insn::Alu64Reg { op, dst, .. } | Insn::Alu32Reg { op, dst, .. } => left_register(op, dst),
         Insn::Divide { dst, .. } | Insn::Remainder { dst, .. } => Some(dst),
         Insn::Negate { dst, .. } | Insn::SwapBytes { dst, .. } => Some(dst),
         Insn::StoreReg { dst, .. } | Insn::StoreImm { dst, .. } => Some(dst),

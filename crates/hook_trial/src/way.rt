@@ -5,7 +5,7 @@ ghost use Rattle.std.specs.Option.{option_copied};
 ghost use Rattle.std.specs.String.{string_bytes};
 ghost use Rattle.insn.specs.Program.{places, slot_count, SLOT_LIMIT};
 ghost use Rattle.hook_trial.specs.Ways.{goes_on, goes_past, hop_text, hops_of, jump_target, unwritten_text, way_text, IsWayFound, TellsWay};
-ghost use Rattle.hook_trial.specs.WaySteps.{step_of, target_past, where_led, AreSteps};
+ghost use Rattle.hook_trial.specs.WaySteps.{step_of, target_past, where_led, AreWaySteps};
 
 use insn::instruction::Insn;
 use insn::program::Program;
@@ -133,7 +133,7 @@ fn steps_to(
     unwritten: Option<RegNo>,
     goal: usize,
 ) -> Result<Vec<Option<Step>>, AllocError>
-    ensures { IfOk result (λ steps. AreSteps program.now unwritten goal 0 steps.items) }
+    ensures { IfOk result (λ steps. AreWaySteps program.now unwritten goal 0 steps.items) }
 {
     let begins = places_of(alloc, program.insns())?;
     let mut slot = begins.len();

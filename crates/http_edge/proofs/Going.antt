@@ -10,22 +10,22 @@ use Rattle.messages.specs.declared.request.Draws.{Draws}
 use Rattle.answers.specs.Outcomes.{Outcome}
 use Rattle.endpoints.specs.Bounded.{IsBounded}
 use Rattle.endpoints.specs.BoundedLaws.{tokens_keep_their_bounds}
-use Rattle.endpoints.specs.Server.{Seen, FitsServer, AreUnkept, NowNotes}
+use Rattle.endpoints.specs.Server.{SeenServer, FitsServer, AreUnkept, NowNotes}
 use Rattle.heads.specs.Message.{Message}
 use Rattle.heads.specs.ReadingLaws.{messages_cut, nothing_has_none}
-use Rattle.http_edge.specs.Answers.{changes_of, replies_of}
-use Rattle.http_edge.specs.Schedule.{World, Connection, Happening, Opened, Came, HasEnded, Taken, Forgotten, Kept, Happens, Run, ended, has_ended, start, resumed, fresh, heard, with_connection, without_connection, moment_after, faulty_if}
+use Rattle.http_edge.specs.Answers.{changes_made, replies_of}
+use Rattle.http_edge.specs.Schedule.{World, Connection, Happening, Opened, Came, HasEnded, Taken, Forgotten, Kept, Happens, Run, ended, has_stream_ended, first_world, resumed, fresh, heard, with_connection, without_connection, moment_after, faulty_if}
 use Rattle.http_edge.specs.Lanes.{SeenLane, lane_at, with_lane, without_lane, fresh_lane, ShowsConnection, ShowsConnections}
-use Rattle.http_edge.specs.Heard.{IsRead, LaneHeard}
+use Rattle.http_edge.specs.Heard.{AreMessagesRead, LaneHeard}
 use Rattle.http_edge.specs.Edges.{SeenEdge}
-use Rattle.http_edge.specs.Reached.{Reached, BeginsOver, ResumesOver, GoesOn, Leads, PieceLeads}
+use Rattle.http_edge.specs.Reached.{Reached, BeginsOver, ResumesOver, GoesOn, HappeningLeads, PieceLeads}
 use Rattle.http_edge.specs.declared.lane.Phase.{Phase}
 use Rattle.http_edge.specs.declared.lane.Phase.TheVariants.{Open, Closing}
 use Rattle.http_edge.proofs.Phases.{ended_not_open}
 use Rattle.http_edge.proofs.Showing.{shows_here, shows_none, shows_put, shows_without, shows_added, shows_length}
 
 -- what a server fits is bounded
-pub fits_bounded : {H : Type 0} (hosting : Hosting H) (server : Seen H) (rules : RegistryRecord) (first : H) (history : List Event) (m : ℕ) → FitsServer hosting.installs hosting.removes server rules first history m →
+pub fits_bounded : {H : Type 0} (hosting : Hosting H) (server : SeenServer H) (rules : RegistryRecord) (first : H) (history : List Event) (m : ℕ) → FitsServer hosting.installs hosting.removes server rules first history m →
     IsBounded rules history
 fits_bounded hosting server rules first history m fits = tokens_keep_their_bounds rules history m fits.store.fits.is_history fits.right
 
@@ -46,7 +46,7 @@ goes_on hosting edge edge' rules first schedule world connections e reached same
   world = changed world connections;
   happens = happens;
   reached = record {
-    run = run_push hosting rules first start world (changed world connections) schedule e reached.run happens;
+    run = run_push hosting rules first first_world world (changed world connections) schedule e reached.run happens;
     server = rw same reached.server;
     notes = rw same reached.notes;
     shows = shows;
@@ -62,15 +62,15 @@ shows_fresh : (c : ℕ) → ShowsConnection (fresh_lane c) (fresh c)
 shows_fresh c = record { number = refl; phase = refl; within = omega arith; output = refl; rest = λ e. record { reads = refl; none = nothing_has_none }; nothing_held = λ e. refl }
 
 pub on_opened : {H : Type 0} (hosting : Hosting H) (edge edge' : SeenEdge H) (c : ℕ) → edge'.server ≡ edge.server → lane_at edge.lanes c ≡ None → length edge.lanes < 64 →
-    edge'.lanes ≡ edge.lanes ++ fresh_lane c ∷ [] → Leads hosting edge edge' (Opened c)
+    edge'.lanes ≡ edge.lanes ++ fresh_lane c ∷ [] → HappeningLeads hosting edge edge' (Opened c)
 on_opened hosting edge edge' c same none few lanes rules first schedule world reached =
     let size = shows_length edge.lanes world.connections reached.shows in
     goes_on hosting edge edge' rules first schedule world (world.connections ++ fresh c ∷ []) _ reached same
     (shows_as _ _ _ lanes (shows_added edge.lanes world.connections (fresh_lane c) (fresh c) reached.shows (shows_fresh c)))
     (record { absent = shows_none edge.lanes world.connections c reached.shows none; few = omega (arith, size, few); still = record { greatest = refl; history = refl; kept = refl }; connections = refl })
 
-pub on_ended : {H : Type 0} (hosting : Hosting H) (edge edge' : SeenEdge H) (c : ℕ) (lane : SeenLane) → edge'.server ≡ edge.server → lane_at edge.lanes c ≡ Some lane → has_ended lane.phase ≡ false →
-    edge'.lanes ≡ with_lane c (record { number = lane.number; phase = ended lane.phase; rest = []; output = lane.output }) edge.lanes → Leads hosting edge edge' (HasEnded c)
+pub on_ended : {H : Type 0} (hosting : Hosting H) (edge edge' : SeenEdge H) (c : ℕ) (lane : SeenLane) → edge'.server ≡ edge.server → lane_at edge.lanes c ≡ Some lane → has_stream_ended lane.phase ≡ false →
+    edge'.lanes ≡ with_lane c (record { number = lane.number; phase = ended lane.phase; rest = []; output = lane.output }) edge.lanes → HappeningLeads hosting edge edge' (HasEnded c)
 on_ended hosting edge edge' c lane same here not_ended lanes rules first schedule world reached =
     let at = shows_here edge.lanes world.connections c lane reached.shows here in
     let shows = at.2 in
@@ -85,10 +85,10 @@ on_ended hosting edge edge' c lane same here not_ended lanes rules first schedul
       rest = λ e. absurd (ended_not_open at.0.phase e);
       nothing_held = λ e. refl;
     })))
-    (record { before = at.0; here = at.1; not_ended = sym (ap has_ended shows.phase) ∙ not_ended; still = record { greatest = refl; history = refl; kept = refl }; connections = refl })
+    (record { before = at.0; here = at.1; not_ended = sym (ap has_stream_ended shows.phase) ∙ not_ended; still = record { greatest = refl; history = refl; kept = refl }; connections = refl })
 
 pub on_taken : {H : Type 0} (hosting : Hosting H) (edge edge' : SeenEdge H) (c n : ℕ) (lane : SeenLane) → edge'.server ≡ edge.server → lane_at edge.lanes c ≡ Some lane → n ≤ length lane.output →
-    edge'.lanes ≡ with_lane c (record { number = lane.number; phase = lane.phase; rest = lane.rest; output = drop n lane.output }) edge.lanes → Leads hosting edge edge' (Taken c n)
+    edge'.lanes ≡ with_lane c (record { number = lane.number; phase = lane.phase; rest = lane.rest; output = drop n lane.output }) edge.lanes → HappeningLeads hosting edge edge' (Taken c n)
 on_taken hosting edge edge' c n lane same here fits lanes rules first schedule world reached =
     let at = shows_here edge.lanes world.connections c lane reached.shows here in
     let shows = at.2 in
@@ -104,7 +104,7 @@ on_taken hosting edge edge' c n lane same here fits lanes rules first schedule w
     (inl (record { before = x; here = at.1; fits = enough; still = record { greatest = refl; history = refl; kept = refl }; connections = refl }))
 
 pub on_taken_nothing : {H : Type 0} (hosting : Hosting H) (edge edge' : SeenEdge H) (c n : ℕ) → edge'.server ≡ edge.server → lane_at edge.lanes c ≡ None → n ≡ 0 → edge'.lanes ≡ edge.lanes →
-    Leads hosting edge edge' (Taken c n)
+    HappeningLeads hosting edge edge' (Taken c n)
 on_taken_nothing hosting edge edge' c n same none zero lanes rules first schedule world reached =
     goes_on hosting edge edge' rules first schedule world world.connections _ reached same (shows_as _ _ _ lanes reached.shows)
     (inr (record { absent = shows_none edge.lanes world.connections c reached.shows none; nothing = zero; same = refl }))
@@ -122,16 +122,16 @@ notes_anew None history noting = absurd (cc)
 notes_anew (Some facts) history noting = refl
 
 -- what is noted changes no answer
-fits_noting : {H : Type 0} (hosting : Hosting H) (old new : Seen H) (unkept : Option (List DatedFact)) (rules : RegistryRecord) (first : H) (history : List Event) (m : ℕ) → NowNotes old new unkept →
+fits_noting : {H : Type 0} (hosting : Hosting H) (old new : SeenServer H) (unkept : Option (List DatedFact)) (rules : RegistryRecord) (first : H) (history : List Event) (m : ℕ) → NowNotes old new unkept →
     FitsServer hosting.installs hosting.removes old rules first history m → FitsServer hosting.installs hosting.removes new rules first history m
 fits_noting {H = H} hosting old new unkept rules first history m same fits =
-    let P : Seen H → Type 0 = λ server. FitsServer hosting.installs hosting.removes server rules first history m in
+    let P : SeenServer H → Type 0 = λ server. FitsServer hosting.installs hosting.removes server rules first history m in
     subst P (sym same)
     (record { rules_are = fits.rules_are; greatest_is = fits.greatest_is; store = fits.store; consents = fits.consents; hosts = fits.hosts; right = fits.right })
 
 -- what has happened was kept
 pub on_kept : {H : Type 0} (hosting : Hosting H) (edge edge' : SeenEdge H) → NowNotes edge.server edge'.server (option_map (λ facts. []) edge.server.unkept) → edge'.lanes ≡ edge.lanes →
-    IsSome edge.server.unkept → Leads hosting edge edge' Kept
+    IsSome edge.server.unkept → HappeningLeads hosting edge edge' Kept
 on_kept hosting edge edge' same lanes noting rules first schedule world reached =
     let before = kept_before edge.server.unkept world.kept world.history noting reached.notes in
     let world' : World = record world { kept = Some world.history } in
@@ -140,7 +140,7 @@ on_kept hosting edge edge' same lanes noting rules first schedule world reached 
       world = world';
       happens = happens;
       reached = record {
-        run = run_push hosting rules first start world world' schedule _ reached.run happens;
+        run = run_push hosting rules first first_world world world' schedule _ reached.run happens;
         server = fits_noting hosting edge.server edge'.server _ rules first world.history world.greatest same reached.server;
         notes =
             (let P : Option (List DatedFact) → Type 0 = λ unkept. AreUnkept unkept (Some world.history) world.history in
@@ -165,7 +165,7 @@ goes_on_from hosting edge none rules first history m fits notes = record {
   bounded = fits_bounded hosting edge.server rules first history m fits;
 }
 
-pub on_forgotten : {H : Type 0} (hosting : Hosting H) (edge edge' : SeenEdge H) (c : ℕ) → edge'.server ≡ edge.server → edge'.lanes ≡ without_lane c edge.lanes → Leads hosting edge edge' (Forgotten c)
+pub on_forgotten : {H : Type 0} (hosting : Hosting H) (edge edge' : SeenEdge H) (c : ℕ) → edge'.server ≡ edge.server → edge'.lanes ≡ without_lane c edge.lanes → HappeningLeads hosting edge edge' (Forgotten c)
 on_forgotten hosting edge edge' c same lanes rules first schedule world reached =
     goes_on hosting edge edge' rules first schedule world (without_connection c world.connections) _ reached same
     (shows_as _ _ _ lanes (shows_without edge.lanes world.connections c reached.shows))
@@ -193,7 +193,7 @@ nothing_kept false kept rest e p = absurd (p refl)
 
 -- the lane after a piece shows the connection after it
 shows_heard : (lane lane' : SeenLane) (k : Connection) (piece : List ℕ) (messages : List Message) (outcomes : List Outcome) (middle : List ℕ) (draws : List Draws) (closes : Bool) → k.phase ≡ Open →
-    ShowsConnection lane k → lane'.number ≡ lane.number → IsRead (lane.rest ++ piece) lane'.rest messages draws closes → lane'.phase ≡ cond closes Closing Open →
+    ShowsConnection lane k → lane'.number ≡ lane.number → AreMessagesRead (lane.rest ++ piece) lane'.rest messages draws closes → lane'.phase ≡ cond closes Closing Open →
     lane'.output ≡ middle ++ faulty_if closes → middle ≡ lane.output ++ replies_of outcomes → ShowsConnection lane' (heard k piece messages outcomes closes)
 shows_heard lane lane' k piece messages outcomes middle draws closes is_open shows number read phase output said =
     let le = shows.within in
@@ -225,7 +225,7 @@ on_heard hosting edge edge' c lane lane' piece moment draws here is_open short l
     let served = hears.serves rules first world.history world.greatest reached.server in
     let m = moment_after world.greatest moment messages in
     let k' = heard k piece messages served.outcomes closes in
-    let world' : World = record { connections = with_connection c k' world.connections; greatest = m; history = with_changes world.history m (changes_of served.outcomes); kept = world.kept } in
+    let world' : World = record { connections = with_connection c k' world.connections; greatest = m; history = with_changes world.history m (changes_made served.outcomes); kept = world.kept } in
     let happens : Happens hosting rules first world (Came c piece moment draws served.marks closes) world' = (
       short,
       inl (record {
@@ -256,7 +256,7 @@ on_heard hosting edge edge' c lane lane' piece moment draws here is_open short l
         world = world';
         happens = happens;
         reached = record {
-          run = run_push hosting rules first start world world' schedule _ reached.run happens;
+          run = run_push hosting rules first first_world world world' schedule _ reached.run happens;
           server = served.fits;
           notes = served.noted world.kept reached.notes;
           shows = shows_as _ _ _ lanes (shows_put edge.lanes world.connections c lane' k' reached.shows shown);

@@ -6,10 +6,10 @@ use Rattle.hook_host.specs.declared.host.HookHost.{Ghosts as Hosting}
 use Rattle.messages.specs.declared.request.Draws.{Draws}
 use Rattle.heads.specs.Message.{Message, Messages}
 use Rattle.heads.specs.ReadingLaws.{messages_cut}
-use Rattle.http_edge.specs.Schedule.{Connection, connection_at, has_ended}
+use Rattle.http_edge.specs.Schedule.{Connection, connection_at, has_stream_ended}
 use Rattle.http_edge.specs.Lanes.{SeenLane, lane_at, IsHearing, ShowsConnections}
 use Rattle.http_edge.specs.Edges.{SeenEdge, IsOpenRefusal, IsEndRefusal, IsBytesRefusal, MayHear}
-use Rattle.http_edge.specs.Refusals.{MaySend, Completes, IsPieceRefusal, IsOpeningRefusal, IsEndingRefusal, IsEventRefusal, Refuses}
+use Rattle.http_edge.specs.Refusals.{MaySend, Completes, IsPieceRefusal, IsOpeningRefusal, IsEndingRefusal, IsEventRefusal, RefusesEvent}
 use Rattle.http_edge.specs.declared.event.Event.{Event}
 use Rattle.http_edge.specs.declared.event.Event.TheVariants as event
 use Rattle.http_edge.specs.declared.fault.EdgeFault.{EdgeFault}
@@ -21,7 +21,7 @@ module _ (lanes : List SeenLane) (ks : List Connection) (c : ℕ) (shows : Shows
   hearing_is None e = rw (shows_none lanes ks c shows e) ((λ x. x), (λ x. x))
   hearing_is (Some lane) e =
       let at = shows_here lanes ks c lane shows e in
-      rw at.1 ((λ hears. sym (ap has_ended at.2.phase) ∙ hears), (λ hears. ap has_ended at.2.phase ∙ hears))
+      rw at.1 ((λ hears. sym (ap has_stream_ended at.2.phase) ∙ hears), (λ hears. ap has_stream_ended at.2.phase ∙ hears))
 
   not_hearing : ¬ (IsHearing (lane_at lanes c)) → ¬ (MaySend (connection_at ks c))
   not_hearing not may = not ((hearing_is (lane_at lanes c) refl).1 may)
@@ -67,19 +67,19 @@ err_map : {A E : Type 0} (r : Result A E) (P Q : E → Type 0) → ((e : E) → 
 err_map (Ok x) P Q f is = is
 err_map (Err e) P Q f is = f e is
 
-pub open_refuses : {H A : Type 0} (hosting : Hosting H) (edge : SeenEdge H) (c : ℕ) (e : Event) (r : Result A EdgeFault) → e ≡ event.Open c → IfErr r (λ fault. IsOpenRefusal fault edge.lanes c) → IfErr r (λ fault. Refuses hosting edge e fault)
+pub open_refuses : {H A : Type 0} (hosting : Hosting H) (edge : SeenEdge H) (c : ℕ) (e : Event) (r : Result A EdgeFault) → e ≡ event.Open c → IfErr r (λ fault. IsOpenRefusal fault edge.lanes c) → IfErr r (λ fault. RefusesEvent hosting edge e fault)
 open_refuses hosting edge c e r same is =
-    err_map r (λ fault. IsOpenRefusal fault edge.lanes c) (λ fault. Refuses hosting edge e fault)
+    err_map r (λ fault. IsOpenRefusal fault edge.lanes c) (λ fault. RefusesEvent hosting edge e fault)
     (λ fault x rules first schedule world reached. subst (λ y. IsEventRefusal fault world.connections y) (sym same) (opening_refused edge.lanes world.connections c reached.shows fault x)) is
 
-pub end_refuses : {H A : Type 0} (hosting : Hosting H) (edge : SeenEdge H) (c : ℕ) (e : Event) (r : Result A EdgeFault) → e ≡ event.End c → IfErr r (λ fault. IsEndRefusal fault edge.lanes c) → IfErr r (λ fault. Refuses hosting edge e fault)
+pub end_refuses : {H A : Type 0} (hosting : Hosting H) (edge : SeenEdge H) (c : ℕ) (e : Event) (r : Result A EdgeFault) → e ≡ event.End c → IfErr r (λ fault. IsEndRefusal fault edge.lanes c) → IfErr r (λ fault. RefusesEvent hosting edge e fault)
 end_refuses hosting edge c e r same is =
-    err_map r (λ fault. IsEndRefusal fault edge.lanes c) (λ fault. Refuses hosting edge e fault)
+    err_map r (λ fault. IsEndRefusal fault edge.lanes c) (λ fault. RefusesEvent hosting edge e fault)
     (λ fault x rules first schedule world reached. subst (λ y. IsEventRefusal fault world.connections y) (sym same) (ending_refused edge.lanes world.connections c reached.shows fault x)) is
 
 pub piece_refuses : {H A : Type 0} (hosting : Hosting H) (edge : SeenEdge H) (c : ℕ) (piece : List ℕ) (draws : List Draws) (e : Event) (r : Result A EdgeFault) →
     ((fault : EdgeFault) (connections : List Connection) → IsPieceRefusal fault connections c piece draws → IsEventRefusal fault connections e) →
-    IfErr r (λ fault. IsBytesRefusal fault edge.lanes c piece draws) → IfErr r (λ fault. Refuses hosting edge e fault)
+    IfErr r (λ fault. IsBytesRefusal fault edge.lanes c piece draws) → IfErr r (λ fault. RefusesEvent hosting edge e fault)
 piece_refuses hosting edge c piece draws e r same is =
-    err_map r (λ fault. IsBytesRefusal fault edge.lanes c piece draws) (λ fault. Refuses hosting edge e fault)
+    err_map r (λ fault. IsBytesRefusal fault edge.lanes c piece draws) (λ fault. RefusesEvent hosting edge e fault)
     (λ fault x rules first schedule world reached. same fault world.connections (piece_refused edge.lanes world.connections c reached.shows fault piece draws x)) is

@@ -2,7 +2,7 @@
 use Rattle.std.specs.Prelude.{◌≡◌, ◌≤◌, ◌<◌, ◌++◌, ℕ, List, Option, Some, None, IsSome, length}
 use Rattle.change_codec.specs.Spelling.{DatedFact}
 use Rattle.messages.specs.declared.request.Draws.{Draws}
-use Rattle.endpoints.specs.Server.{Seen}
+use Rattle.endpoints.specs.Server.{SeenServer}
 use Rattle.http_edge.specs.Limits.{connection_limit, piece_limit}
 use Rattle.http_edge.specs.Lanes.{SeenLane, lane_at, output_in, IsHearing}
 use Rattle.http_edge.specs.Heard.{IsHearingRefusal}
@@ -11,7 +11,7 @@ use Rattle.http_edge.specs.declared.fault.EdgeFault.{EdgeFault}
 use Rattle.http_edge.specs.declared.fault.EdgeFault.TheVariants.{TooMany, NotOpen, AlreadyOpen, PieceTooLong, Memory}
 
 pub record SeenEdge (H : Type 0) : Type 0 where
-  pub server : Seen H
+  pub server : SeenServer H
   pub lanes : List SeenLane
 
 abbrev pub output_of : {H : Type 0} → SeenEdge H → ℕ → List ℕ

@@ -1,7 +1,7 @@
 -- What the edge keeps of connections.
 use Rattle.std.specs.Prelude.{◌≡◌, ◌≢◌, ◌≤◌, ℕ, List, [], ◌∷◌, Option, Some, None, ◌==◌, find, filter, not, Bool, false, if◌then◌else◌, length, ⊤}
 use Rattle.heads.specs.Message.{Messages}
-use Rattle.http_edge.specs.Schedule.{Connection, has_ended, is_closing_phase, untaken}
+use Rattle.http_edge.specs.Schedule.{Connection, has_stream_ended, is_closing_phase, untaken}
 use Rattle.http_edge.specs.declared.lane.Phase.{Phase}
 use Rattle.http_edge.specs.declared.lane.Phase.TheVariants.{Open}
 
@@ -42,7 +42,7 @@ is_closing_lane (Some lane) = is_closing_phase lane.phase
 -- bytes may still come
 abbrev pub IsHearing : Option SeenLane → Type 0
 IsHearing None = ⊥
-IsHearing (Some lane) = has_ended lane.phase ≡ false
+IsHearing (Some lane) = has_stream_ended lane.phase ≡ false
 
 -- what is kept of a connection is what is known of it: an open one's rest is that of its whole stream
 pub record ShowsConnection (lane : SeenLane) (k : Connection) : Type 0 where

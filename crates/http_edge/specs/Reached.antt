@@ -4,11 +4,11 @@ use Rattle.hook_host.specs.declared.host.HookHost.{Ghosts as Hosting}
 use Rattle.clients.specs.RegistryRecord.{RegistryRecord}
 use Rattle.consent.specs.History.{Event}
 use Rattle.messages.specs.declared.request.Draws.{Draws}
-use Rattle.endpoints.specs.Server.{Seen, FitsServer, Notes}
+use Rattle.endpoints.specs.Server.{SeenServer, FitsServer, Notes}
 use Rattle.heads.specs.Message.{Messages}
 use Rattle.endpoints.specs.Bounded.{IsBounded}
-use Rattle.http_edge.specs.Answers.{Mark}
-use Rattle.http_edge.specs.Schedule.{World, Connection, Happening, Came, Resumed, Happens, Run, is_closing_phase, start, resumed}
+use Rattle.http_edge.specs.Answers.{AnswerMark}
+use Rattle.http_edge.specs.Schedule.{World, Connection, Happening, Came, Resumed, Happens, Run, is_closing_phase, first_world, resumed}
 use Rattle.http_edge.specs.Lanes.{ShowsConnections}
 use Rattle.http_edge.specs.Edges.{SeenEdge}
 use Rattle.http_edge.specs.declared.lane.Phase.TheVariants.{Open}
@@ -19,20 +19,20 @@ use Rattle.http_edge.specs.declared.lane.Phase.TheVariants.{Open}
 -- its life.
 pub record Reached {H : Type 0} (hosting : Hosting H) (edge : SeenEdge H) (rules : RegistryRecord) (first : H) (schedule : List Happening)
     (world : World) : Type 0 where
-  pub run : Run hosting rules first start schedule world
+  pub run : Run hosting rules first first_world schedule world
   pub server : FitsServer hosting.installs hosting.removes edge.server rules first world.history world.greatest
   pub notes : Notes edge.server world.kept world.history
   pub shows : ShowsConnections edge.lanes world.connections
   pub bounded : IsBounded rules world.history
 
 -- over a server that notes nothing, and to which nothing has happened yet, no event leads to the edge
-abbrev pub BeginsOver : {H : Type 0} → Hosting H → Seen H → SeenEdge H → Type 0
+abbrev pub BeginsOver : {H : Type 0} → Hosting H → SeenServer H → SeenEdge H → Type 0
 BeginsOver hosting server edge =
     (rules : RegistryRecord) (first : _) → FitsServer hosting.installs hosting.removes server rules first [] 0 → Notes server None [] →
-    Reached hosting edge rules first [] start
+    Reached hosting edge rules first [] first_world
 
 -- over a server that notes what happens from a history on, its going on from there leads to the edge
-abbrev pub ResumesOver : {H : Type 0} → Hosting H → Seen H → SeenEdge H → Type 0
+abbrev pub ResumesOver : {H : Type 0} → Hosting H → SeenServer H → SeenEdge H → Type 0
 ResumesOver hosting server edge =
     (rules : RegistryRecord) (first : _) (history : List Event) (m : ℕ) →
     FitsServer hosting.installs hosting.removes server rules first history m → Notes server (Some history) history →
@@ -51,15 +51,15 @@ pub record GoesOn {H : Type 0} (hosting : Hosting H) (edge : SeenEdge H) (rules 
   pub reached : Reached hosting edge rules first (schedule ++ e ∷ []) world
 
 -- wherever the one edge was reached, the event leads to the other
-abbrev pub Leads : {H : Type 0} → Hosting H → SeenEdge H → SeenEdge H → Happening → Type 0
-Leads hosting old new e =
+abbrev pub HappeningLeads : {H : Type 0} → Hosting H → SeenEdge H → SeenEdge H → Happening → Type 0
+HappeningLeads hosting old new e =
     (rules : RegistryRecord) (first : _) (schedule : List Happening) (world : World) → Reached hosting old rules first schedule world →
     GoesOn hosting new rules first schedule world e
 
 -- a piece with some marks leads on
 pub record PieceGoesOn {H : Type 0} (hosting : Hosting H) (edge : SeenEdge H) (rules : RegistryRecord) (first : H) (schedule : List Happening)
     (old : World) (c : ℕ) (piece : List ℕ) (moment : ℕ) (draws : List Draws) : Type 0 where
-  pub marks : List Mark
+  pub marks : List AnswerMark
   pub closes : Bool
   pub on : GoesOn hosting edge rules first schedule old (Came c piece moment draws marks closes)
 

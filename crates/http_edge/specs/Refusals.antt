@@ -4,7 +4,7 @@ use Rattle.hook_host.specs.declared.host.HookHost.{Ghosts as Hosting}
 use Rattle.messages.specs.declared.request.Draws.{Draws}
 use Rattle.heads.specs.Message.{Message, Messages}
 use Rattle.http_edge.specs.Limits.{connection_limit, piece_limit, request_limit}
-use Rattle.http_edge.specs.Schedule.{Connection, connection_at, has_ended}
+use Rattle.http_edge.specs.Schedule.{Connection, connection_at, has_stream_ended}
 use Rattle.http_edge.specs.Edges.{SeenEdge}
 use Rattle.http_edge.specs.Reached.{InEach}
 use Rattle.http_edge.specs.declared.lane.Phase.TheVariants.{Open}
@@ -16,7 +16,7 @@ use Rattle.http_edge.specs.declared.fault.EdgeFault.TheVariants.{TooMany, NotOpe
 -- bytes may still come on the connection
 abbrev pub MaySend : Option Connection → Type 0
 MaySend None = ⊥
-MaySend (Some k) = has_ended k.phase ≡ false
+MaySend (Some k) = has_stream_ended k.phase ≡ false
 
 -- The connection is open, the piece is not too long, and these are the messages that it completes
 pub record Completes (connections : List Connection) (c : ℕ) (piece : List ℕ) (messages : List Message) : Type 0 where
@@ -57,5 +57,5 @@ IsEventRefusal fault connections (event.Bytes c piece moment draws) = IsPieceRef
 IsEventRefusal fault connections (event.End c) = IsEndingRefusal fault connections c
 
 -- the fault is the event's, wherever the edge was reached
-abbrev pub Refuses : {H : Type 0} → Hosting H → SeenEdge H → Event → EdgeFault → Type 0
-Refuses hosting edge e fault = InEach hosting edge (λ world. IsEventRefusal fault world.connections e)
+abbrev pub RefusesEvent : {H : Type 0} → Hosting H → SeenEdge H → Event → EdgeFault → Type 0
+RefusesEvent hosting edge e fault = InEach hosting edge (λ world. IsEventRefusal fault world.connections e)

@@ -9,7 +9,7 @@ use Rattle.answers.specs.Outcomes.{Outcome}
 use Rattle.endpoints.specs.Bounded.{AllRight}
 use Rattle.heads.specs.Message.{Message, Messages, IsHopeless, MustTell, asked_of_message}
 use Rattle.http_edge.specs.Limits.{connection_limit, piece_limit, request_limit}
-use Rattle.http_edge.specs.Answers.{Mark, AreAnswered, changes_of, replies_of}
+use Rattle.http_edge.specs.Answers.{AnswerMark, AreAnswered, changes_made, replies_of}
 use Rattle.http_edge.specs.declared.lane.Phase.{Phase}
 use Rattle.http_edge.specs.declared.lane.Phase.TheVariants.{Open, Closing, Ended, Closed}
 
@@ -17,7 +17,7 @@ use Rattle.http_edge.specs.declared.lane.Phase.TheVariants.{Open, Closing, Ended
 -- faulty head was given
 pub data Happening : Type 0 where
   Opened : (c : ℕ) → Happening
-  Came : (c : ℕ) → (piece : List ℕ) → (moment : ℕ) → (draws : List Draws) → (marks : List Mark) → (closes : Bool) → Happening
+  Came : (c : ℕ) → (piece : List ℕ) → (moment : ℕ) → (draws : List Draws) → (marks : List AnswerMark) → (closes : Bool) → Happening
   HasEnded : (c : ℕ) → Happening
   Taken : (c n : ℕ) → Happening
   Forgotten : (c : ℕ) → Happening
@@ -27,11 +27,11 @@ pub data Happening : Type 0 where
   Resumed : (history : List Event) → (greatest : ℕ) → Happening
 
 -- its stream has ended
-abbrev pub has_ended : Phase → Bool
-has_ended Open = false
-has_ended Closing = false
-has_ended Ended = true
-has_ended Closed = true
+abbrev pub has_stream_ended : Phase → Bool
+has_stream_ended Open = false
+has_stream_ended Closing = false
+has_stream_ended Ended = true
+has_stream_ended Closed = true
 
 -- the 400 of a faulty head was given
 abbrev pub is_closing_phase : Phase → Bool
@@ -63,8 +63,8 @@ pub record World : Type 0 where
   pub kept : Option (List Event)
 
 -- nothing has happened yet, and nothing is kept
-abbrev pub start : World
-start = record { connections = []; greatest = 0; history = []; kept = None }
+abbrev pub first_world : World
+first_world = record { connections = []; greatest = 0; history = []; kept = None }
 
 -- nothing has happened since the history, which was kept, up to its greatest moment
 abbrev pub resumed : List Event → ℕ → World
@@ -115,8 +115,8 @@ heard k piece messages outcomes closes = record {
 }
 
 -- bytes came on an open connection: the messages that they complete are those of its whole stream, and are answered
-pub record Comes {H : Type 0} (hosting : Hosting H) (rules : RegistryRecord) (first : H) (old new : World) (c : ℕ) (piece : List ℕ) (moment : ℕ)
-    (draws : List Draws) (marks : List Mark) (closes : Bool) : Type 0 where
+pub record PieceComes {H : Type 0} (hosting : Hosting H) (rules : RegistryRecord) (first : H) (old new : World) (c : ℕ) (piece : List ℕ) (moment : ℕ)
+    (draws : List Draws) (marks : List AnswerMark) (closes : Bool) : Type 0 where
   pub before : Connection
   pub here : connection_at old.connections c ≡ Some before
   pub is_open : before.phase ≡ Open
@@ -131,18 +131,18 @@ pub record Comes {H : Type 0} (hosting : Hosting H) (rules : RegistryRecord) (fi
   pub may_tell : closes ≡ true → IsHopeless rest
   pub must_tell : MustTell rest → closes ≡ true
   pub greatest : new.greatest ≡ moment_after old.greatest moment messages
-  pub history : new.history ≡ with_changes old.history new.greatest (changes_of outcomes)
+  pub history : new.history ≡ with_changes old.history new.greatest (changes_made outcomes)
   pub kept : new.kept ≡ old.kept
   pub connections : new.connections ≡ with_connection c (heard before piece messages outcomes closes) old.connections
 
 -- the server's side is as it was
-pub record IsStill (old new : World) : Type 0 where
+pub record IsServerStill (old new : World) : Type 0 where
   pub greatest : new.greatest ≡ old.greatest
   pub history : new.history ≡ old.history
   pub kept : new.kept ≡ old.kept
 
 -- bytes that come after the 400 of a faulty head change nothing
-pub record Passes (old new : World) (c : ℕ) (marks : List Mark) (closes : Bool) : Type 0 where
+pub record PiecePasses (old new : World) (c : ℕ) (marks : List AnswerMark) (closes : Bool) : Type 0 where
   pub before : Connection
   pub here : connection_at old.connections c ≡ Some before
   pub is_closing : before.phase ≡ Closing
@@ -154,23 +154,23 @@ pub record Passes (old new : World) (c : ℕ) (marks : List Mark) (closes : Bool
 pub record Opens (old new : World) (c : ℕ) : Type 0 where
   pub absent : connection_at old.connections c ≡ None
   pub few : length old.connections < connection_limit
-  pub still : IsStill old new
+  pub still : IsServerStill old new
   pub connections : new.connections ≡ old.connections ++ fresh c ∷ []
 
 -- the stream of a connection ends
-pub record Ends (old new : World) (c : ℕ) : Type 0 where
+pub record StreamEnds (old new : World) (c : ℕ) : Type 0 where
   pub before : Connection
   pub here : connection_at old.connections c ≡ Some before
-  pub not_ended : has_ended before.phase ≡ false
-  pub still : IsStill old new
+  pub not_ended : has_stream_ended before.phase ≡ false
+  pub still : IsServerStill old new
   pub connections : new.connections ≡ with_connection c (record before { phase = ended before.phase }) old.connections
 
 -- so many bytes of a connection's output are taken
-pub record Takes (old new : World) (c n : ℕ) : Type 0 where
+pub record TakesOutput (old new : World) (c n : ℕ) : Type 0 where
   pub before : Connection
   pub here : connection_at old.connections c ≡ Some before
   pub fits : before.taken + n ≤ length before.output
-  pub still : IsStill old new
+  pub still : IsServerStill old new
   pub connections : new.connections ≡ with_connection c (record before { taken = before.taken + n }) old.connections
 
 -- of a connection that is not there nothing is taken
@@ -180,19 +180,19 @@ pub record TakesNothing (old new : World) (c n : ℕ) : Type 0 where
   pub same : new ≡ old
 
 -- a connection is forgotten, if it is there
-pub record Forgets (old new : World) (c : ℕ) : Type 0 where
-  pub still : IsStill old new
+pub record ForgetsConnection (old new : World) (c : ℕ) : Type 0 where
+  pub still : IsServerStill old new
   pub connections : new.connections ≡ without_connection c old.connections
 
 -- where something was kept before, the server's whole history is kept
-pub record Keeps (old new : World) : Type 0 where
+pub record KeepsHistory (old new : World) : Type 0 where
   pub before : List Event
   pub kept_before : old.kept ≡ Some before
   pub kept : new ≡ record old { kept = Some old.history }
 
 -- where nothing has happened yet, the server goes on from a history that is right under its rules
 pub record Resumes (rules : RegistryRecord) (old new : World) (history : List Event) (greatest : ℕ) : Type 0 where
-  pub first : old ≡ start
+  pub first : old ≡ first_world
   pub is_history : IsHistory history greatest
   pub right : AllRight rules [] history
   pub resumed : new ≡ resumed history greatest
@@ -200,11 +200,11 @@ pub record Resumes (rules : RegistryRecord) (old new : World) (history : List Ev
 abbrev pub Happens : {H : Type 0} → Hosting H → RegistryRecord → H → World → Happening → World → Type 0
 Happens hosting rules first old (Opened c) new = Opens old new c
 Happens hosting rules first old (Came c piece moment draws marks closes) new =
-    (length piece ≤ piece_limit) × (Comes hosting rules first old new c piece moment draws marks closes ⊎ Passes old new c marks closes)
-Happens hosting rules first old (HasEnded c) new = Ends old new c
-Happens hosting rules first old (Taken c n) new = Takes old new c n ⊎ TakesNothing old new c n
-Happens hosting rules first old (Forgotten c) new = Forgets old new c
-Happens hosting rules first old Kept new = Keeps old new
+    (length piece ≤ piece_limit) × (PieceComes hosting rules first old new c piece moment draws marks closes ⊎ PiecePasses old new c marks closes)
+Happens hosting rules first old (HasEnded c) new = StreamEnds old new c
+Happens hosting rules first old (Taken c n) new = TakesOutput old new c n ⊎ TakesNothing old new c n
+Happens hosting rules first old (Forgotten c) new = ForgetsConnection old new c
+Happens hosting rules first old Kept new = KeepsHistory old new
 Happens hosting rules first old (Resumed history greatest) new = Resumes rules old new history greatest
 
 -- A SCHEDULE

@@ -1,9 +1,9 @@
 //! Requests answered one after another.
 ghost use Rattle.std.specs.Prelude.{◌≡◌, ◌≤◌, ◌+◌, ◌*◌, ℕ, List, length, vec_len, vec_capacity};
 ghost use Rattle.messages.specs.Small.{reply_limit};
-ghost use Rattle.heads.specs.Message.{Message, Reads};
+ghost use Rattle.heads.specs.Message.{Message, ReadsMessages};
 ghost use Rattle.heads.specs.Front.{IsFront};
-ghost use Rattle.http_edge.specs.Heard.{HasMessages, Serves};
+ghost use Rattle.http_edge.specs.Heard.{HasMessages, ServesMessages};
 
 use endpoints::{Moment, Server};
 use heads::{Front, front_of, lend};
@@ -25,8 +25,8 @@ pub(crate) fn answer_all<H: HookHost>(
     requires messages { HasMessages bytes.now count }
     requires draws { count ≤ length draws.now }
     requires room { vec_len output.old + count * reply_limit ≤ vec_capacity output.old }
-    ensures served { (messages : List Message) (rest : List ℕ) → Reads bytes.now messages rest → length messages ≡ count →
-        Serves H.HookHost server.old server.new output.old.items output.new.items messages moment draws.now }
+    ensures served { (messages : List Message) (rest : List ℕ) → ReadsMessages bytes.now messages rest → length messages ≡ count →
+        ServesMessages H.HookHost server.old server.new output.old.items output.new.items messages moment draws.now }
     ensures room { vec_capacity output.old ≤ vec_capacity output.new }
     ensures len { vec_len output.new ≤ vec_len output.old + count * reply_limit }
 {

@@ -11,9 +11,9 @@ ghost use Rattle.http_edge.specs.Lanes.{lane_at, fresh_lane, without_lane, rest_
 ghost use Rattle.http_edge.specs.Places.{IsPosition};
 ghost use Rattle.http_edge.specs.Heard.{LaneHeard, IsHearingRefusal};
 ghost use Rattle.http_edge.specs.Edges.{output_of, unkept_of, IsOpenRefusal, IsEndRefusal, IsBytesRefusal};
-ghost use Rattle.http_edge.specs.Reached.{BeginsOver, ResumesOver, InEach, Leads, PieceLeads, is_closing, IsHeld};
+ghost use Rattle.http_edge.specs.Reached.{BeginsOver, ResumesOver, InEach, HappeningLeads, PieceLeads, is_closing, IsHeld};
 ghost use Rattle.http_edge.specs.Events.{EventLeads};
-ghost use Rattle.http_edge.specs.Refusals.{Refuses};
+ghost use Rattle.http_edge.specs.Refusals.{RefusesEvent};
 
 use crate::event::Event;
 use crate::fault::EdgeFault;
@@ -254,7 +254,7 @@ impl<H: HookHost> Edge<H> {
     /// All that has happened was kept, and is no longer unkept.
     pub fn forget_unkept(&mut self)
         requires { IsSome (unkept_of self.old) }
-        ensures kept { Leads H.HookHost self.old self.new Kept }
+        ensures kept { HappeningLeads H.HookHost self.old self.new Kept }
         ensures none { unkept_of self.new ≡ Some [] }
         ensures lanes { self.new.lanes ≡ self.old.lanes }
     {
@@ -263,7 +263,7 @@ impl<H: HookHost> Edge<H> {
 
     // A connection is opened.
     fn open(&mut self, c: u32) -> Result<(), EdgeFault>
-        ensures done { OnOk result (Leads H.HookHost self.old self.new (Opened c)) }
+        ensures done { OnOk result (HappeningLeads H.HookHost self.old self.new (Opened c)) }
         ensures refused { IfErr result (λ fault. IsOpenRefusal fault self.old.lanes c) }
         ensures err { OnErr result (self.new ≡ self.old) }
     {
@@ -321,7 +321,7 @@ impl<H: HookHost> Edge<H> {
 
     // The stream of a connection ended.
     fn end(&mut self, c: u32) -> Result<(), EdgeFault>
-        ensures done { OnOk result (Leads H.HookHost self.old self.new (HasEnded c)) }
+        ensures done { OnOk result (HappeningLeads H.HookHost self.old self.new (HasEnded c)) }
         ensures refused { IfErr result (λ fault. IsEndRefusal fault self.old.lanes c) }
         ensures err { OnErr result (self.new ≡ self.old) }
     {
@@ -340,7 +340,7 @@ impl<H: HookHost> Edge<H> {
         ensures done { OnOk result (EventLeads H.HookHost self.old self.new event.entry) }
         // For an opening in the order AlreadyOpen, TooMany, Memory; for bytes in the order NotOpen, PieceTooLong,
         // TooManyRequests, DrawsShort, Memory.
-        ensures refused { IfErr result (λ fault. Refuses H.HookHost self.old event.entry fault) }
+        ensures refused { IfErr result (λ fault. RefusesEvent H.HookHost self.old event.entry fault) }
         ensures err { OnErr result (self.new ≡ self.old) }
     {
         match event {
@@ -358,7 +358,7 @@ impl<H: HookHost> Edge<H> {
     /// So many bytes to the connection were taken, at most as many as its output has.
     pub fn take(&mut self, c: u32, n: usize)
         requires { n ≤ length (output_of self.old c) }
-        ensures taken { Leads H.HookHost self.old self.new (Taken c n) }
+        ensures taken { HappeningLeads H.HookHost self.old self.new (Taken c n) }
         ensures left { output_of self.new c ≡ drop n (output_of self.old c) }
     {
         if let Some(i) = place_of(&self.lanes, c) {
@@ -368,7 +368,7 @@ impl<H: HookHost> Edge<H> {
 
     /// The connection is forgotten, if it is there. Its number may be opened again.
     pub fn forget(&mut self, c: u32)
-        ensures forgotten { Leads H.HookHost self.old self.new (Forgotten c) }
+        ensures forgotten { HappeningLeads H.HookHost self.old self.new (Forgotten c) }
         ensures gone { lane_at self.new.lanes c ≡ None }
     {
         remove_lane(&mut self.lanes, c);

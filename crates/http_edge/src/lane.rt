@@ -1,6 +1,6 @@
 //! What is kept of a connection.
 ghost use Rattle.std.specs.Prelude.{◌≡◌};
-ghost use Rattle.http_edge.specs.Schedule.{ended, has_ended, is_closing_phase};
+ghost use Rattle.http_edge.specs.Schedule.{ended, has_stream_ended, is_closing_phase};
 
 use crate::rest::Rest;
 use std::marker::Model;
@@ -21,7 +21,7 @@ pub enum Phase {
 impl Phase {
     /// Whether its stream has ended.
     pub(crate) fn has_ended(self) -> bool
-        ensures { result ≡ has_ended self }
+        ensures { result ≡ has_stream_ended self }
     {
         match self {
             Phase::Open | Phase::Closing => false,

@@ -4,11 +4,11 @@ use Rattle.std.specs.Prelude.{IfOk}
 use Rattle.change_codec.specs.declared.fault.ChangeFault.{ChangeFault}
 use Rattle.change_codec.specs.declared.fault.DecodeFault.{DecodeFault}
 use Rattle.change_codec.specs.Spelling.{short, wide, counted, IsText}
-use Rattle.change_codec.specs.Reading.{Gives, text_at}
-use Rattle.change_codec.specs.FieldLaws.{IsBytes, ok_is, Takes, Takes-then, short_again, moment_again}
+use Rattle.change_codec.specs.Reading.{GivesReading, text_at}
+use Rattle.change_codec.specs.FieldLaws.{IsBytes, ok_is, TakesFront, Takes-then, short_again, moment_again}
 use Rattle.image_codec.specs.Facts.{RulesFact, ImageFact}
-use Rattle.image_codec.specs.Spelling.{listed, client_spelling, rules_fields, rules_spelling, record_spelling, consent_spelling, hook_spelling, image_fields, image_spelling, EachFits, ClientFits, RulesFit, RecordFits, ConsentFits, HookFits, ImageFits}
-use Rattle.image_codec.specs.Reading.{listed_at, client_at, rules_at, record_at, consent_at, hook_at, image_at, rules_reading, image_reading}
+use Rattle.image_codec.specs.Spelling.{listed, client_spelling, rules_fields, rules_spelling, record_spelling, consent_spelling, hook_spelling, image_fields, image_spelling, ListFits, ClientFits, RulesFit, RecordFits, ConsentFits, HookFits, ImageFits}
+use Rattle.image_codec.specs.Reading.{listed_at, client_fact_at, rules_at, record_at, consent_at, hook_at, image_at, rules_reading, image_reading}
 use Rattle.image_codec.proofs.Lists.{Reads, step_then, listed_reads, whole_takes, whole_again}
 use Rattle.image_codec.proofs.Fields.{short_reads, moment_reads, text_reads, client_reads, record_reads, consent_reads, hook_reads}
 
@@ -16,22 +16,22 @@ use Rattle.image_codec.proofs.Fields.{short_reads, moment_reads, text_reads, cli
 flat_five : (a b c d e rest : List ℕ) → (a ++ (b ++ (c ++ (d ++ e)))) ++ rest ≡ a ++ (b ++ (c ++ (d ++ (e ++ rest))))
 flat_five a b c d e rest = simp append_assoc
 
-names_read : Reads (listed_at text_at) (listed counted) (EachFits IsText)
+names_read : Reads (listed_at text_at) (listed counted) (ListFits IsText)
 names_read = listed_reads text_at counted IsText text_reads
 
-clients_read : Reads (listed_at client_at) (listed client_spelling) (EachFits ClientFits)
-clients_read = listed_reads client_at client_spelling ClientFits client_reads
+clients_read : Reads (listed_at client_fact_at) (listed client_spelling) (ListFits ClientFits)
+clients_read = listed_reads client_fact_at client_spelling ClientFits client_reads
 
-records_read : Reads (listed_at record_at) (listed record_spelling) (EachFits RecordFits)
+records_read : Reads (listed_at record_at) (listed record_spelling) (ListFits RecordFits)
 records_read = listed_reads record_at record_spelling RecordFits record_reads
 
-consents_read : Reads (listed_at consent_at) (listed consent_spelling) (EachFits ConsentFits)
+consents_read : Reads (listed_at consent_at) (listed consent_spelling) (ListFits ConsentFits)
 consents_read = listed_reads consent_at consent_spelling ConsentFits consent_reads
 
-hooks_read : Reads (listed_at hook_at) (listed hook_spelling) (EachFits HookFits)
+hooks_read : Reads (listed_at hook_at) (listed hook_spelling) (ListFits HookFits)
 hooks_read = listed_reads hook_at hook_spelling HookFits hook_reads
 
-rules_takes : (bytes : List ℕ) (x : RulesFact × List ℕ) → IsBytes bytes → rules_at bytes ≡ Ok x → Takes bytes (rules_fields x.0) x.1 × RulesFit x.0
+rules_takes : (bytes : List ℕ) (x : RulesFact × List ℕ) → IsBytes bytes → rules_at bytes ≡ Ok x → TakesFront bytes (rules_fields x.0) x.1 × RulesFit x.0
 unfolding rules_at
 rules_takes bytes x are e =
     step_then _ _ _ names_read bytes _ x are e (λ scopes scopes-rest scopes-took scopes-fits scopes-next.
@@ -46,9 +46,9 @@ rules_takes bytes x are e =
       access_life = access_life;
       refresh_life = refresh_life;
     } in
-    let all : Takes bytes (rules_fields fact) refresh_life-rest =
+    let all : TakesFront bytes (rules_fields fact) refresh_life-rest =
     Takes-then _ _ _ _ _ scopes-took (Takes-then _ _ _ _ _ owners-took (Takes-then _ _ _ _ _ clients-took (Takes-then _ _ _ _ _ access_life-took refresh_life-took))) in
-    subst (λ (y : RulesFact × List ℕ). Takes bytes (rules_fields y.0) y.1 × RulesFit y.0) {x = (fact, refresh_life-rest)} (ok_is (fact, refresh_life-rest) x refresh_life-next) (all, (scopes-fits, owners-fits, clients-fits, access_life-fits, refresh_life-fits)))))))
+    subst (λ (y : RulesFact × List ℕ). TakesFront bytes (rules_fields y.0) y.1 × RulesFit y.0) {x = (fact, refresh_life-rest)} (ok_is (fact, refresh_life-rest) x refresh_life-next) (all, (scopes-fits, owners-fits, clients-fits, access_life-fits, refresh_life-fits)))))))
 
 rules_again : (r : RulesFact) (rest : List ℕ) → RulesFit r → rules_at (rules_fields r ++ rest) ≡ Ok (r, rest)
 unfolding rules_at
@@ -71,7 +71,7 @@ rules_again r rest fits =
 rules_read : Reads rules_at rules_fields RulesFit
 rules_read = record { takes = rules_takes; again = rules_again }
 
-image_takes : (bytes : List ℕ) (x : ImageFact × List ℕ) → IsBytes bytes → image_at bytes ≡ Ok x → Takes bytes (image_fields x.0) x.1 × ImageFits x.0
+image_takes : (bytes : List ℕ) (x : ImageFact × List ℕ) → IsBytes bytes → image_at bytes ≡ Ok x → TakesFront bytes (image_fields x.0) x.1 × ImageFits x.0
 unfolding image_at
 image_takes bytes x are e =
     step_then _ _ _ rules_read bytes _ x are e (λ rules rules-rest rules-took rules-fits rules-next.
@@ -86,9 +86,9 @@ image_takes bytes x are e =
       consents = consents;
       hooks = hooks;
     } in
-    let all : Takes bytes (image_fields fact) hooks-rest =
+    let all : TakesFront bytes (image_fields fact) hooks-rest =
     Takes-then _ _ _ _ _ rules-took (Takes-then _ _ _ _ _ greatest-took (Takes-then _ _ _ _ _ records-took (Takes-then _ _ _ _ _ consents-took hooks-took))) in
-    subst (λ (y : ImageFact × List ℕ). Takes bytes (image_fields y.0) y.1 × ImageFits y.0) {x = (fact, hooks-rest)} (ok_is (fact, hooks-rest) x hooks-next) (all, (rules-fits, greatest-fits, records-fits, consents-fits, hooks-fits)))))))
+    subst (λ (y : ImageFact × List ℕ). TakesFront bytes (image_fields y.0) y.1 × ImageFits y.0) {x = (fact, hooks-rest)} (ok_is (fact, hooks-rest) x hooks-next) (all, (rules-fits, greatest-fits, records-fits, consents-fits, hooks-fits)))))))
 
 image_again : (i : ImageFact) (rest : List ℕ) → ImageFits i → image_at (image_fields i ++ rest) ≡ Ok (i, rest)
 unfolding image_at
@@ -126,7 +126,7 @@ pub image_reading_again : (i : ImageFact) → ImageFits i → image_reading (ima
 image_reading_again i fits = whole_again image_at image_fields ImageFits image_reads 2 i fits
 
 -- what was read, seen by view, has what is said of each that bytes spell
-pub read_is : {X Y : Type 0} (view : X → Y) (P : Y → Type 0) (read : Result Y ChangeFault) (r : Result X DecodeFault) → ((y : Y) → read ≡ Ok y → P y) → Gives view r read → IfOk r (λ x. P (view x))
+pub read_is : {X Y : Type 0} (view : X → Y) (P : Y → Type 0) (read : Result Y ChangeFault) (r : Result X DecodeFault) → ((y : Y) → read ≡ Ok y → P y) → GivesReading view r read → IfOk r (λ x. P (view x))
 read_is view P read (Ok x) all given = all (view x) given
 read_is view P read (Err e) all given = tt
 

@@ -9,7 +9,7 @@ use Rattle.change_codec.specs.declared.fault.ChangeFault.{ChangeFault}
 use Rattle.change_codec.specs.declared.fault.DecodeFault.{DecodeFault}
 use Rattle.change_codec.specs.declared.fault.DecodeFault.TheVariants as errors
 use Rattle.change_codec.specs.Spelling.{short}
-use Rattle.change_codec.specs.Reading.{◌>>=◌, Fails, number_at}
+use Rattle.change_codec.specs.Reading.{◌>>=◌, FailsReading, big_endian_at}
 use Rattle.image_codec.specs.Reading.{each_at, listed_at}
 
 -- ---- reading
@@ -26,7 +26,7 @@ whole_front : {A : Type 0} (read : Result (List A × List ℕ) ChangeFault) → 
 whole_front (Ok x) = refl
 whole_front (Err f) = refl
 
-pub begins : {A : Type 0} (one_at : List ℕ → Result (A × List ℕ) ChangeFault) (front : List A) (bytes : List ℕ) (count : ℕ) (rest : List ℕ) → front ≡ [] → number_at w32 bytes ≡ Ok (count, rest)
+pub begins : {A : Type 0} (one_at : List ℕ → Result (A × List ℕ) ChangeFault) (front : List A) (bytes : List ℕ) (count : ℕ) (rest : List ℕ) → front ≡ [] → big_endian_at w32 bytes ≡ Ok (count, rest)
     → with_front front (each_at one_at (count - 0) rest) ≡ listed_at one_at bytes
 unfolding listed_at
 begins one_at front bytes count rest none e =
@@ -44,7 +44,7 @@ goes_on one_at front count i bytes n after total lt h so_far =
     sym one ∙ so_far
 
 pub ends : {A : Type 0} (one_at : List ℕ → Result (A × List ℕ) ChangeFault) (e : DecodeFault) (front : List A) (count i : ℕ) (bytes : List ℕ) (total : Result (List A × List ℕ) ChangeFault)
-    → i < count → Fails e (one_at bytes) → with_front front (each_at one_at (count - i) bytes) ≡ total → Fails e total
+    → i < count → FailsReading e (one_at bytes) → with_front front (each_at one_at (count - i) bytes) ≡ total → FailsReading e total
 unfolding each_at
 ends one_at errors.Memory front count i bytes total lt h so_far = tt
 ends one_at (errors.Bytes f) front count i bytes total lt h so_far =

@@ -3,7 +3,7 @@ use Rattle.std.proofs.Common.{◌≡◌, ℕ, List, [], ◌∷◌, map, refl, sy
 use Rattle.token_store.specs.declared.image.KeptKind.{KeptKind}
 use Rattle.token_store.specs.declared.image.KeptKind.TheVariants as kept
 use Rattle.token_store.specs.declared.image.KeptRecord.{KeptRecord}
-use Rattle.token_store.specs.Image.{image_of, kept_record, kind_kept, owner_kept, redirect_kept, challenge_kept}
+use Rattle.token_store.specs.Image.{as_kept, kept_record, kind_kept, owner_kept, redirect_kept, challenge_kept}
 use Rattle.image_codec.specs.Facts.{kind_fact, record_fact}
 use Rattle.image_codec.specs.Kept.{kind_told, owner_told, redirect_told, challenge_told, kept_told}
 
@@ -26,9 +26,9 @@ challenge_same (kept.Token token) = refl
 told_same : (r : KeptRecord) → kept_told (record_fact r) ≡ kept_record r
 told_same r = rw (kind_same r.kind, owner_same r.owner r.kind, redirect_same r.kind, challenge_same r.kind) refl
 
-pub all_same : (rs : List KeptRecord) → map kept_told (map record_fact rs) ≡ image_of rs
+pub all_same : (rs : List KeptRecord) → map kept_told (map record_fact rs) ≡ as_kept rs
 all_same [] = refl
 all_same (r ∷ rs) = rw (told_same r, all_same rs) refl
 
-pub one_image_kept : (some others : List KeptRecord) → map record_fact some ≡ map record_fact others → image_of some ≡ image_of others
+pub one_image_kept : (some others : List KeptRecord) → map record_fact some ≡ map record_fact others → as_kept some ≡ as_kept others
 one_image_kept some others e = sym (all_same some) ∙ ap (map kept_told) e ∙ all_same others

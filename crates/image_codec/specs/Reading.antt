@@ -4,7 +4,7 @@ use Rattle.std.specs.Int.{w32, w64}
 use Rattle.consent.specs.declared.grant.TokenKind.TheVariants.{Access, Refresh}
 use Rattle.change_codec.specs.declared.fault.ChangeFault.{ChangeFault}
 use Rattle.change_codec.specs.declared.fault.ChangeFault.TheVariants as faults
-use Rattle.change_codec.specs.Reading.{◌>>=◌, number_at, part_at, party_at, moment_at, counted_at, text_at}
+use Rattle.change_codec.specs.Reading.{◌>>=◌, big_endian_at, part_at, party_at, moment_at, counted_at, text_at}
 use Rattle.consent.specs.declared.kept_consent.KeptConsent.{KeptConsent}
 use Rattle.image_codec.specs.Facts.{ClientFact, RulesFact, KindFact, Code, Token, RecordFact, HookFact, ImageFact}
 
@@ -21,18 +21,18 @@ each_at one_at (suc n) bytes = do
 unfoldable pub listed_at : {A : Type 0} → (List ℕ → Result (A × List ℕ) ChangeFault) → List ℕ
     → Result (List A × List ℕ) ChangeFault
 listed_at one_at bytes = do
-  count ← number_at w32 bytes
+  count ← big_endian_at w32 bytes
   each_at one_at count.0 count.1
 
-unfoldable pub mark_at : List ℕ → Result (Bool × List ℕ) ChangeFault
-mark_at [] = Err faults.Short
-mark_at (zero ∷ rest) = Ok (false, rest)
-mark_at (suc zero ∷ rest) = Ok (true, rest)
-mark_at (suc (suc b) ∷ rest) = Err faults.Variant
+unfoldable pub yes_or_no_at : List ℕ → Result (Bool × List ℕ) ChangeFault
+yes_or_no_at [] = Err faults.Short
+yes_or_no_at (zero ∷ rest) = Ok (false, rest)
+yes_or_no_at (suc zero ∷ rest) = Ok (true, rest)
+yes_or_no_at (suc (suc b) ∷ rest) = Err faults.Variant
 
 unfoldable pub some_at : List ℕ → Result (Option ℕ × List ℕ) ChangeFault
 some_at bytes = do
-  n ← number_at w64 bytes
+  n ← big_endian_at w64 bytes
   Ok (Some n.0, n.1)
 
 unfoldable pub optional_at : List ℕ → Result (Option ℕ × List ℕ) ChangeFault
@@ -43,19 +43,19 @@ optional_at (suc (suc b) ∷ rest) = Err faults.Variant
 
 -- RULES
 
-unfoldable pub client_at : List ℕ → Result (ClientFact × List ℕ) ChangeFault
-client_at bytes = do
+unfoldable pub client_fact_at : List ℕ → Result (ClientFact × List ℕ) ChangeFault
+client_fact_at bytes = do
   name ← text_at bytes
-  allowed ← number_at w64 name.1
+  allowed ← big_endian_at w64 name.1
   Ok (record { name = name.0; allowed = allowed.0 }, allowed.1)
 
 unfoldable pub rules_at : List ℕ → Result (RulesFact × List ℕ) ChangeFault
 rules_at bytes = do
   scopes ← listed_at text_at bytes
-  owners ← number_at w32 scopes.1
-  clients ← listed_at client_at owners.1
-  access ← number_at w32 clients.1
-  refresh ← number_at w32 access.1
+  owners ← big_endian_at w32 scopes.1
+  clients ← listed_at client_fact_at owners.1
+  access ← big_endian_at w32 clients.1
+  refresh ← big_endian_at w32 access.1
   Ok (
     record {
       scopes = scopes.0;
@@ -69,8 +69,8 @@ rules_at bytes = do
 
 -- RECORDS
 
-unfoldable pub code_at : List ℕ → Result (KindFact × List ℕ) ChangeFault
-code_at bytes = do
+unfoldable pub code_kind_at : List ℕ → Result (KindFact × List ℕ) ChangeFault
+code_kind_at bytes = do
   owner ← party_at bytes
   redirect ← text_at owner.1
   challenge ← text_at redirect.1
@@ -80,22 +80,22 @@ unfoldable pub kind_at : List ℕ → Result (KindFact × List ℕ) ChangeFault
 kind_at [] = Err faults.Short
 kind_at (zero ∷ rest) = Ok (Token Access, rest)
 kind_at (suc zero ∷ rest) = Ok (Token Refresh, rest)
-kind_at (suc (suc zero) ∷ rest) = code_at rest
+kind_at (suc (suc zero) ∷ rest) = code_kind_at rest
 kind_at (suc (suc (suc b)) ∷ rest) = Err faults.Kind
 
 unfoldable pub record_at : List ℕ → Result (RecordFact × List ℕ) ChangeFault
 record_at bytes = do
   digest ← part_at 32 bytes
   kind ← kind_at digest.1
-  family ← number_at w64 kind.1
+  family ← big_endian_at w64 kind.1
   client ← party_at family.1
-  owner ← number_at w32 client.1
-  scope ← number_at w64 owner.1
+  owner ← big_endian_at w32 client.1
+  scope ← big_endian_at w64 owner.1
   moment ← moment_at scope.1
-  life ← number_at w32 moment.1
+  life ← big_endian_at w32 moment.1
   code_scope ← optional_at life.1
-  spent ← mark_at code_scope.1
-  ended ← mark_at spent.1
+  spent ← yes_or_no_at code_scope.1
+  ended ← yes_or_no_at spent.1
   Ok (
     record {
       digest = digest.0;
@@ -119,13 +119,13 @@ unfoldable pub consent_at : List ℕ → Result (KeptConsent × List ℕ) Change
 consent_at bytes = do
   owner ← party_at bytes
   client ← party_at owner.1
-  mask ← number_at w64 client.1
+  mask ← big_endian_at w64 client.1
   Ok (record { owner = owner.0; client = client.0; mask = mask.0 }, mask.1)
 
 unfoldable pub hook_at : List ℕ → Result (HookFact × List ℕ) ChangeFault
 hook_at bytes = do
   name ← text_at bytes
-  version ← number_at w64 name.1
+  version ← big_endian_at w64 name.1
   code ← counted_at version.1
   Ok (record { name = name.0; version = version.0; code = code.0 }, code.1)
 

@@ -1,7 +1,7 @@
 -- The one spelling of each image and of each rules, and what has one.
 use Rattle.std.specs.Prelude.{◌++◌, ◌∷◌, [], ℕ, List, Bool, true, false, Option, None, Some, length}
 use Rattle.std.specs.List.{flat_map, AllByRecursion}
-use Rattle.change_codec.specs.Spelling.{wide, short, counted, kind_byte, IsWide, IsShort, IsParty, IsMoment, IsDigest, IsText}
+use Rattle.change_codec.specs.Spelling.{wide, short, counted, kind_byte, FitsEightBytes, FitsFourBytes, IsParty, IsMoment, IsDigest, IsText}
 use Rattle.consent.specs.declared.kept_consent.KeptConsent.{KeptConsent}
 use Rattle.image_codec.specs.Facts.{ClientFact, RulesFact, KindFact, Code, Token, RecordFact, HookFact, ImageFact}
 
@@ -69,16 +69,16 @@ image_spelling i = 2 ∷ image_fields i
 -- WHAT HAS A SPELLING
 
 -- each of them fits, and they can be counted
-abbrev pub EachFits : {A : Type 0} → (A → Type 0) → List A → Type 0
-EachFits Fits xs = IsShort (length xs) × AllByRecursion Fits xs
+abbrev pub ListFits : {A : Type 0} → (A → Type 0) → List A → Type 0
+ListFits Fits xs = FitsFourBytes (length xs) × AllByRecursion Fits xs
 
 abbrev pub ClientFits : ClientFact → Type 0
-ClientFits c = IsText c.name × IsWide c.allowed
+ClientFits c = IsText c.name × FitsEightBytes c.allowed
 
 abbrev pub RulesFit : RulesFact → Type 0
 RulesFit r =
-    EachFits IsText r.scopes × IsShort r.owners × EachFits ClientFits r.clients × IsShort r.access_life
-    × IsShort r.refresh_life
+    ListFits IsText r.scopes × FitsFourBytes r.owners × ListFits ClientFits r.clients × FitsFourBytes r.access_life
+    × FitsFourBytes r.refresh_life
 
 abbrev pub KindFits : KindFact → Type 0
 KindFits (Token kind) = Unit {0}
@@ -86,42 +86,42 @@ KindFits (Code owner redirect challenge) = IsParty owner × IsText redirect × I
 
 abbrev pub OptionFits : Option ℕ → Type 0
 OptionFits None = Unit {0}
-OptionFits (Some n) = IsWide n
+OptionFits (Some n) = FitsEightBytes n
 
 abbrev pub HomeFits : RecordFact → Type 0
-HomeFits r = IsWide r.family × IsParty r.client × IsShort r.owner
+HomeFits r = FitsEightBytes r.family × IsParty r.client × FitsFourBytes r.owner
 
 abbrev pub GrantFits : RecordFact → Type 0
-GrantFits r = IsWide r.scope × IsMoment r.moment × IsShort r.life
+GrantFits r = FitsEightBytes r.scope × IsMoment r.moment × FitsFourBytes r.life
 
 abbrev pub RecordFits : RecordFact → Type 0
 RecordFits r = IsDigest r.digest × KindFits r.kind × HomeFits r × GrantFits r × OptionFits r.code_scope
 
 abbrev pub ConsentFits : KeptConsent → Type 0
-ConsentFits c = IsParty c.owner × IsParty c.client × IsWide c.mask
+ConsentFits c = IsParty c.owner × IsParty c.client × FitsEightBytes c.mask
 
 abbrev pub HookFits : HookFact → Type 0
-HookFits h = IsText h.name × IsWide h.version × IsShort (length h.code)
+HookFits h = IsText h.name × FitsEightBytes h.version × FitsFourBytes (length h.code)
 
 abbrev pub ImageFits : ImageFact → Type 0
 ImageFits i =
-    RulesFit i.rules × IsMoment i.greatest × EachFits RecordFits i.records × EachFits ConsentFits i.consents
-    × EachFits HookFits i.hooks
+    RulesFit i.rules × IsMoment i.greatest × ListFits RecordFits i.records × ListFits ConsentFits i.consents
+    × ListFits HookFits i.hooks
 
 -- WHAT CAN BE COUNTED: how many there are, and the bytes of a text or code, in four bytes
 
 abbrev pub RulesCount : RulesFact → Type 0
 RulesCount r =
-    EachFits (λ name. IsShort (length name)) r.scopes × EachFits (λ c. IsShort (length c.name)) r.clients
+    ListFits (λ name. FitsFourBytes (length name)) r.scopes × ListFits (λ c. FitsFourBytes (length c.name)) r.clients
 
 abbrev pub KindCounts : KindFact → Type 0
 KindCounts (Token kind) = Unit {0}
-KindCounts (Code owner redirect challenge) = IsShort (length redirect) × IsShort (length challenge)
+KindCounts (Code owner redirect challenge) = FitsFourBytes (length redirect) × FitsFourBytes (length challenge)
 
 abbrev pub HookCounts : HookFact → Type 0
-HookCounts h = IsShort (length h.name) × IsShort (length h.code)
+HookCounts h = FitsFourBytes (length h.name) × FitsFourBytes (length h.code)
 
 abbrev pub ImageCounts : ImageFact → Type 0
 ImageCounts i =
-    RulesCount i.rules × EachFits (λ r. KindCounts r.kind) i.records × IsShort (length i.consents)
-    × EachFits HookCounts i.hooks
+    RulesCount i.rules × ListFits (λ r. KindCounts r.kind) i.records × FitsFourBytes (length i.consents)
+    × ListFits HookCounts i.hooks

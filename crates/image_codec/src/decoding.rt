@@ -1,10 +1,10 @@
 //! An image from bytes, and rules.
 
 ghost use Rattle.std.specs.Prelude.{◌≡◌, IfOk, Ok, map};
-ghost use Rattle.change_codec.specs.Reading.{Gives, text_at};
+ghost use Rattle.change_codec.specs.Reading.{GivesReading, text_at};
 ghost use Rattle.image_codec.specs.Facts.{ImageFact, RulesFact, client_fact, hook_fact, image_fact, kind_fact, record_fact, rules_fact};
 ghost use Rattle.image_codec.specs.Spelling.{ImageFits, RulesFit, image_spelling, rules_spelling};
-ghost use Rattle.image_codec.specs.Reading.{alone_at, client_at, code_at, consent_at, hook_at, image_at, image_reading, kind_at, listed_at, mark_at, optional_at, record_at, rules_at, rules_reading, some_at};
+ghost use Rattle.image_codec.specs.Reading.{alone_at, client_fact_at, code_kind_at, consent_at, hook_at, image_at, image_reading, kind_at, listed_at, yes_or_no_at, optional_at, record_at, rules_at, rules_reading, some_at};
 
 use crate::image::{ClientRules, Image, KeptHook, Rules};
 use change_codec::field::{counted_of, digest_of, moment_of, party_of, short_of, text_of, wide_of};
@@ -13,9 +13,9 @@ use consent::{ClientNo, KeptConsent, Moment, OwnerNo, TokenKind};
 use std::alloc::Global;
 use token_store::{KeptKind, KeptRecord};
 
-#[tactic(auto, unfolding(crate::specs::Reading::mark_at))]
+#[tactic(auto, unfolding(crate::specs::Reading::yes_or_no_at))]
 fn mark_of(bytes: &[u8]) -> Result<(bool, &[u8]), DecodeFault>
-    ensures { Gives (λ x. (x.0, x.1.now)) result (mark_at bytes.now) }
+    ensures { GivesReading (λ x. (x.0, x.1.now)) result (yes_or_no_at bytes.now) }
 {
     match bytes {
         [] => Err(DecodeFault::Bytes(ChangeFault::Short)),
@@ -27,7 +27,7 @@ fn mark_of(bytes: &[u8]) -> Result<(bool, &[u8]), DecodeFault>
 
 #[tactic(auto, unfolding(crate::specs::Reading::some_at))]
 fn some_of(bytes: &[u8]) -> Result<(Option<u64>, &[u8]), DecodeFault>
-    ensures { Gives (λ x. (x.0, x.1.now)) result (some_at bytes.now) }
+    ensures { GivesReading (λ x. (x.0, x.1.now)) result (some_at bytes.now) }
 {
     let (number, rest) = wide_of(bytes)?;
     Ok((Some(number), rest))
@@ -35,7 +35,7 @@ fn some_of(bytes: &[u8]) -> Result<(Option<u64>, &[u8]), DecodeFault>
 
 #[tactic(auto, unfolding(crate::specs::Reading::optional_at))]
 fn optional_of(bytes: &[u8]) -> Result<(Option<u64>, &[u8]), DecodeFault>
-    ensures { Gives (λ x. (x.0, x.1.now)) result (optional_at bytes.now) }
+    ensures { GivesReading (λ x. (x.0, x.1.now)) result (optional_at bytes.now) }
 {
     match bytes {
         [] => Err(DecodeFault::Bytes(ChangeFault::Short)),
@@ -47,7 +47,7 @@ fn optional_of(bytes: &[u8]) -> Result<(Option<u64>, &[u8]), DecodeFault>
 
 #[tactic(auto, unfolding(crate::specs::Reading::listed_at))]
 fn names_of(alloc: Global, bytes: &[u8]) -> Result<(Vec<&str>, &[u8]), DecodeFault>
-    ensures { Gives (λ x. (map (λ s. s.now) x.0.items, x.1.now)) result (listed_at text_at bytes.now) }
+    ensures { GivesReading (λ x. (map (λ s. s.now) x.0.items, x.1.now)) result (listed_at text_at bytes.now) }
 {
     let (count, behind) = short_of(bytes)?;
     let mut names = Vec::new(alloc);
@@ -64,9 +64,9 @@ fn names_of(alloc: Global, bytes: &[u8]) -> Result<(Vec<&str>, &[u8]), DecodeFau
     Ok((names, rest))
 }
 
-#[tactic(auto, unfolding(crate::specs::Reading::client_at))]
+#[tactic(auto, unfolding(crate::specs::Reading::client_fact_at))]
 fn client_of(bytes: &[u8]) -> Result<(ClientRules, &[u8]), DecodeFault>
-    ensures { Gives (λ x. (client_fact x.0, x.1.now)) result (client_at bytes.now) }
+    ensures { GivesReading (λ x. (client_fact x.0, x.1.now)) result (client_fact_at bytes.now) }
 {
     let (name, rest) = text_of(bytes)?;
     let (allowed, rest) = wide_of(rest)?;
@@ -75,7 +75,7 @@ fn client_of(bytes: &[u8]) -> Result<(ClientRules, &[u8]), DecodeFault>
 
 #[tactic(auto, unfolding(crate::specs::Reading::listed_at))]
 fn clients_of(alloc: Global, bytes: &[u8]) -> Result<(Vec<ClientRules>, &[u8]), DecodeFault>
-    ensures { Gives (λ x. (map client_fact x.0.items, x.1.now)) result (listed_at client_at bytes.now) }
+    ensures { GivesReading (λ x. (map client_fact x.0.items, x.1.now)) result (listed_at client_fact_at bytes.now) }
 {
     let (count, behind) = short_of(bytes)?;
     let mut clients = Vec::new(alloc);
@@ -94,7 +94,7 @@ fn clients_of(alloc: Global, bytes: &[u8]) -> Result<(Vec<ClientRules>, &[u8]), 
 
 #[tactic(auto, unfolding(crate::specs::Reading::rules_at))]
 fn rules_of(alloc: Global, bytes: &[u8]) -> Result<(Rules, &[u8]), DecodeFault>
-    ensures { Gives (λ x. (rules_fact x.0, x.1.now)) result (rules_at bytes.now) }
+    ensures { GivesReading (λ x. (rules_fact x.0, x.1.now)) result (rules_at bytes.now) }
 {
     let (scopes, rest) = names_of(alloc, bytes)?;
     let (owners, rest) = short_of(rest)?;
@@ -111,9 +111,9 @@ fn rules_of(alloc: Global, bytes: &[u8]) -> Result<(Rules, &[u8]), DecodeFault>
     Ok((rules, rest))
 }
 
-#[tactic(auto, unfolding(crate::specs::Reading::code_at))]
+#[tactic(auto, unfolding(crate::specs::Reading::code_kind_at))]
 fn code_of(bytes: &[u8]) -> Result<(KeptKind, &[u8]), DecodeFault>
-    ensures { Gives (λ x. (kind_fact x.0, x.1.now)) result (code_at bytes.now) }
+    ensures { GivesReading (λ x. (kind_fact x.0, x.1.now)) result (code_kind_at bytes.now) }
 {
     let (owner, rest) = party_of(bytes)?;
     let (redirect, rest) = text_of(rest)?;
@@ -128,7 +128,7 @@ fn code_of(bytes: &[u8]) -> Result<(KeptKind, &[u8]), DecodeFault>
 
 #[tactic(auto, unfolding(crate::specs::Reading::kind_at))]
 fn kind_of(bytes: &[u8]) -> Result<(KeptKind, &[u8]), DecodeFault>
-    ensures { Gives (λ x. (kind_fact x.0, x.1.now)) result (kind_at bytes.now) }
+    ensures { GivesReading (λ x. (kind_fact x.0, x.1.now)) result (kind_at bytes.now) }
 {
     match bytes {
         [] => Err(DecodeFault::Bytes(ChangeFault::Short)),
@@ -141,7 +141,7 @@ fn kind_of(bytes: &[u8]) -> Result<(KeptKind, &[u8]), DecodeFault>
 
 #[tactic(auto, unfolding(crate::specs::Reading::record_at))]
 fn record_of(bytes: &[u8]) -> Result<(KeptRecord, &[u8]), DecodeFault>
-    ensures { Gives (λ x. (record_fact x.0, x.1.now)) result (record_at bytes.now) }
+    ensures { GivesReading (λ x. (record_fact x.0, x.1.now)) result (record_at bytes.now) }
 {
     let (digest, rest) = digest_of(bytes)?;
     match kind_of(rest) {
@@ -176,7 +176,7 @@ fn record_of(bytes: &[u8]) -> Result<(KeptRecord, &[u8]), DecodeFault>
 
 #[tactic(auto, unfolding(crate::specs::Reading::listed_at))]
 fn records_of(alloc: Global, bytes: &[u8]) -> Result<(Vec<KeptRecord>, &[u8]), DecodeFault>
-    ensures { Gives (λ x. (map record_fact x.0.items, x.1.now)) result (listed_at record_at bytes.now) }
+    ensures { GivesReading (λ x. (map record_fact x.0.items, x.1.now)) result (listed_at record_at bytes.now) }
 {
     let (count, behind) = short_of(bytes)?;
     let mut records = Vec::new(alloc);
@@ -195,7 +195,7 @@ fn records_of(alloc: Global, bytes: &[u8]) -> Result<(Vec<KeptRecord>, &[u8]), D
 
 #[tactic(auto, unfolding(crate::specs::Reading::consent_at))]
 fn consent_of(bytes: &[u8]) -> Result<(KeptConsent, &[u8]), DecodeFault>
-    ensures { Gives (λ x. (x.0, x.1.now)) result (consent_at bytes.now) }
+    ensures { GivesReading (λ x. (x.0, x.1.now)) result (consent_at bytes.now) }
 {
     let (owner, rest) = party_of(bytes)?;
     let (client, rest) = party_of(rest)?;
@@ -210,7 +210,7 @@ fn consent_of(bytes: &[u8]) -> Result<(KeptConsent, &[u8]), DecodeFault>
 
 #[tactic(auto, unfolding(crate::specs::Reading::listed_at))]
 fn consents_of(alloc: Global, bytes: &[u8]) -> Result<(Vec<KeptConsent>, &[u8]), DecodeFault>
-    ensures { Gives (λ x. (x.0.items, x.1.now)) result (listed_at consent_at bytes.now) }
+    ensures { GivesReading (λ x. (x.0.items, x.1.now)) result (listed_at consent_at bytes.now) }
 {
     let (count, behind) = short_of(bytes)?;
     let mut consents = Vec::new(alloc);
@@ -229,7 +229,7 @@ fn consents_of(alloc: Global, bytes: &[u8]) -> Result<(Vec<KeptConsent>, &[u8]),
 
 #[tactic(auto, unfolding(crate::specs::Reading::hook_at))]
 fn hook_of(bytes: &[u8]) -> Result<(KeptHook, &[u8]), DecodeFault>
-    ensures { Gives (λ x. (hook_fact x.0, x.1.now)) result (hook_at bytes.now) }
+    ensures { GivesReading (λ x. (hook_fact x.0, x.1.now)) result (hook_at bytes.now) }
 {
     let (name, rest) = text_of(bytes)?;
     let (version, rest) = wide_of(rest)?;
@@ -244,7 +244,7 @@ fn hook_of(bytes: &[u8]) -> Result<(KeptHook, &[u8]), DecodeFault>
 
 #[tactic(auto, unfolding(crate::specs::Reading::listed_at))]
 fn hooks_of(alloc: Global, bytes: &[u8]) -> Result<(Vec<KeptHook>, &[u8]), DecodeFault>
-    ensures { Gives (λ x. (map hook_fact x.0.items, x.1.now)) result (listed_at hook_at bytes.now) }
+    ensures { GivesReading (λ x. (map hook_fact x.0.items, x.1.now)) result (listed_at hook_at bytes.now) }
 {
     let (count, behind) = short_of(bytes)?;
     let mut hooks = Vec::new(alloc);
@@ -263,7 +263,7 @@ fn hooks_of(alloc: Global, bytes: &[u8]) -> Result<(Vec<KeptHook>, &[u8]), Decod
 
 #[tactic(auto, unfolding(crate::specs::Reading::image_at))]
 fn image_of(alloc: Global, bytes: &[u8]) -> Result<(Image, &[u8]), DecodeFault>
-    ensures { Gives (λ x. (image_fact x.0, x.1.now)) result (image_at bytes.now) }
+    ensures { GivesReading (λ x. (image_fact x.0, x.1.now)) result (image_at bytes.now) }
 {
     let (rules, rest) = rules_of(alloc, bytes)?;
     let (greatest, rest) = moment_of(rest)?;
@@ -282,7 +282,7 @@ fn image_of(alloc: Global, bytes: &[u8]) -> Result<(Image, &[u8]), DecodeFault>
 
 #[tactic(auto, unfolding(crate::specs::Reading::alone_at))]
 fn rules_alone(alloc: Global, bytes: &[u8]) -> Result<Rules, DecodeFault>
-    ensures { Gives rules_fact result (alone_at rules_at bytes.now) }
+    ensures { GivesReading rules_fact result (alone_at rules_at bytes.now) }
 {
     let (rules, rest) = rules_of(alloc, bytes)?;
     if !rest.is_empty() {
@@ -293,7 +293,7 @@ fn rules_alone(alloc: Global, bytes: &[u8]) -> Result<Rules, DecodeFault>
 
 #[tactic(auto, unfolding(crate::specs::Reading::whole_at))]
 fn read_rules(alloc: Global, bytes: &[u8]) -> Result<Rules, DecodeFault>
-    ensures { Gives rules_fact result (rules_reading bytes.now) }
+    ensures { GivesReading rules_fact result (rules_reading bytes.now) }
 {
     match bytes {
         [] => Err(DecodeFault::Bytes(ChangeFault::Short)),
@@ -304,7 +304,7 @@ fn read_rules(alloc: Global, bytes: &[u8]) -> Result<Rules, DecodeFault>
 
 #[tactic(auto, unfolding(crate::specs::Reading::alone_at))]
 fn image_alone(alloc: Global, bytes: &[u8]) -> Result<Image, DecodeFault>
-    ensures { Gives image_fact result (alone_at image_at bytes.now) }
+    ensures { GivesReading image_fact result (alone_at image_at bytes.now) }
 {
     let (image, rest) = image_of(alloc, bytes)?;
     if !rest.is_empty() {
@@ -315,7 +315,7 @@ fn image_alone(alloc: Global, bytes: &[u8]) -> Result<Image, DecodeFault>
 
 #[tactic(auto, unfolding(crate::specs::Reading::whole_at))]
 fn read_image(alloc: Global, bytes: &[u8]) -> Result<Image, DecodeFault>
-    ensures { Gives image_fact result (image_reading bytes.now) }
+    ensures { GivesReading image_fact result (image_reading bytes.now) }
 {
     match bytes {
         [] => Err(DecodeFault::Bytes(ChangeFault::Short)),
@@ -330,9 +330,10 @@ pub fn decode_rules(alloc: Global, bytes: &[u8]) -> Result<Rules, DecodeFault>
     ensures spelled { IfOk result (λ r. bytes.now ≡ rules_spelling (rules_fact r)) }
     ensures fits { IfOk result (λ r. RulesFit (rules_fact r)) }
     // What is spelled so is read, unless memory runs out.
-    ensures again { (r : RulesFact) → RulesFit r → bytes.now ≡ rules_spelling r → Gives rules_fact result (Ok r) }
+    ensures again { (r : RulesFact) → RulesFit r → bytes.now ≡ rules_spelling r →
+        GivesReading rules_fact result (Ok r) }
     // Which fault it is.
-    ensures exact { Gives rules_fact result (rules_reading bytes.now) }
+    ensures exact { GivesReading rules_fact result (rules_reading bytes.now) }
 {
     read_rules(alloc, bytes)
 }
@@ -343,9 +344,10 @@ pub fn decode(alloc: Global, bytes: &[u8]) -> Result<Image, DecodeFault>
     ensures spelled { IfOk result (λ i. bytes.now ≡ image_spelling (image_fact i)) }
     ensures fits { IfOk result (λ i. ImageFits (image_fact i)) }
     // What is spelled so is read, unless memory runs out.
-    ensures again { (i : ImageFact) → ImageFits i → bytes.now ≡ image_spelling i → Gives image_fact result (Ok i) }
+    ensures again { (i : ImageFact) → ImageFits i → bytes.now ≡ image_spelling i →
+        GivesReading image_fact result (Ok i) }
     // Which fault it is.
-    ensures exact { Gives image_fact result (image_reading bytes.now) }
+    ensures exact { GivesReading image_fact result (image_reading bytes.now) }
 {
     read_image(alloc, bytes)
 }

@@ -2,9 +2,9 @@
 
 ghost use Rattle.std.specs.Prelude.{◌≡◌, ◌↔◌, ◌++◌, length, map, IsTrue, IsErrOf, OnOk};
 ghost use Rattle.change_codec.specs.declared.fault.EncodeFault.TheVariants.{TooLong};
-ghost use Rattle.change_codec.specs.Spelling.{IsShort, IsText, counted, kind_byte, short};
+ghost use Rattle.change_codec.specs.Spelling.{FitsFourBytes, IsText, counted, kind_byte, short};
 ghost use Rattle.image_codec.specs.Facts.{Code, Token, client_fact, hook_fact, image_fact, kind_fact, record_fact, rules_fact};
-ghost use Rattle.image_codec.specs.Spelling.{ClientFits, ConsentFits, EachFits, GrantFits, HomeFits, HookCounts, HookFits, ImageCounts, ImageFits, KindCounts, KindFits, OptionFits, RecordFits, RulesCount, RulesFit, client_spelling, consent_spelling, grant_spelling, home_spelling, hook_spelling, image_spelling, kind_spelling, listed, mark, marks_spelling, optional, record_spelling, rules_fields, rules_spelling};
+ghost use Rattle.image_codec.specs.Spelling.{ClientFits, ConsentFits, ListFits, GrantFits, HomeFits, HookCounts, HookFits, ImageCounts, ImageFits, KindCounts, KindFits, OptionFits, RecordFits, RulesCount, RulesFit, client_spelling, consent_spelling, grant_spelling, home_spelling, hook_spelling, image_spelling, kind_spelling, listed, mark, marks_spelling, optional, record_spelling, rules_fields, rules_spelling};
 
 use crate::image::{ClientRules, Image, KeptHook, Rules};
 use change_codec::EncodeFault;
@@ -19,13 +19,13 @@ use token_store::{KeptKind, KeptRecord};
 // ---- what can be counted
 
 fn name_counts(name: &str) -> bool
-    ensures { IsTrue result ↔ IsShort (length name.now) }
+    ensures { IsTrue result ↔ FitsFourBytes (length name.now) }
 {
     is_short(name.as_bytes())
 }
 
 fn names_count(names: &[&str]) -> bool
-    ensures { IsTrue result ↔ EachFits (λ name. IsShort (length name)) (map (λ s. s.now) names.now) }
+    ensures { IsTrue result ↔ ListFits (λ name. FitsFourBytes (length name)) (map (λ s. s.now) names.now) }
 {
     if names.len() >= 1 << 32 {
         return false;
@@ -39,13 +39,13 @@ fn names_count(names: &[&str]) -> bool
 }
 
 fn client_counts(client: &ClientRules) -> bool
-    ensures { IsTrue result ↔ IsShort (length client.now.name.now) }
+    ensures { IsTrue result ↔ FitsFourBytes (length client.now.name.now) }
 {
     is_short(client.name.as_bytes())
 }
 
 fn clients_count(clients: &[ClientRules]) -> bool
-    ensures { IsTrue result ↔ EachFits (λ c. IsShort (length c.name)) (map client_fact clients.now) }
+    ensures { IsTrue result ↔ ListFits (λ c. FitsFourBytes (length c.name)) (map client_fact clients.now) }
 {
     if clients.len() >= 1 << 32 {
         return false;
@@ -78,7 +78,7 @@ fn kind_counts(kind: &KeptKind) -> bool
 }
 
 fn records_count(records: &[KeptRecord]) -> bool
-    ensures { IsTrue result ↔ EachFits (λ r. KindCounts r.kind) (map record_fact records.now) }
+    ensures { IsTrue result ↔ ListFits (λ r. KindCounts r.kind) (map record_fact records.now) }
 {
     if records.len() >= 1 << 32 {
         return false;
@@ -98,7 +98,7 @@ fn hook_counts(hook: &KeptHook) -> bool
 }
 
 fn hooks_count(hooks: &[KeptHook]) -> bool
-    ensures { IsTrue result ↔ EachFits HookCounts (map hook_fact hooks.now) }
+    ensures { IsTrue result ↔ ListFits HookCounts (map hook_fact hooks.now) }
 {
     if hooks.len() >= 1 << 32 {
         return false;
@@ -123,9 +123,9 @@ fn image_counts(image: &Image) -> bool
 // ---- rules
 
 fn put_names(out: &mut Vec<u8>, names: &[&str]) -> Result<(), AllocError>
-    requires { EachFits (λ name. IsShort (length name)) (map (λ s. s.now) names.now) }
+    requires { ListFits (λ name. FitsFourBytes (length name)) (map (λ s. s.now) names.now) }
     ensures written { OnOk result (out.new.items ≡ out.old.items ++ listed counted (map (λ s. s.now) names.now)) }
-    ensures fits { OnOk result (EachFits IsText (map (λ s. s.now) names.now)) }
+    ensures fits { OnOk result (ListFits IsText (map (λ s. s.now) names.now)) }
 {
     put_short(out, names.len() as u32)?;
     for name in names {
@@ -135,7 +135,7 @@ fn put_names(out: &mut Vec<u8>, names: &[&str]) -> Result<(), AllocError>
 }
 
 fn put_client_rules(out: &mut Vec<u8>, client: &ClientRules) -> Result<(), AllocError>
-    requires { IsShort (length client.now.name.now) }
+    requires { FitsFourBytes (length client.now.name.now) }
     ensures written { OnOk result (out.new.items ≡ out.old.items ++ client_spelling (client_fact client.now)) }
     ensures fits { OnOk result (ClientFits (client_fact client.now)) }
 {
@@ -145,9 +145,9 @@ fn put_client_rules(out: &mut Vec<u8>, client: &ClientRules) -> Result<(), Alloc
 }
 
 fn put_clients(out: &mut Vec<u8>, clients: &[ClientRules]) -> Result<(), AllocError>
-    requires { EachFits (λ c. IsShort (length c.name)) (map client_fact clients.now) }
+    requires { ListFits (λ c. FitsFourBytes (length c.name)) (map client_fact clients.now) }
     ensures written { OnOk result (out.new.items ≡ out.old.items ++ listed client_spelling (map client_fact clients.now)) }
-    ensures fits { OnOk result (EachFits ClientFits (map client_fact clients.now)) }
+    ensures fits { OnOk result (ListFits ClientFits (map client_fact clients.now)) }
 {
     put_short(out, clients.len() as u32)?;
     for client in clients {
@@ -214,8 +214,8 @@ fn put_code(
     redirect: &str,
     challenge: &str,
 ) -> Result<(), AllocError>
-    requires redirect { IsShort (length redirect.now) }
-    requires challenge { IsShort (length challenge.now) }
+    requires redirect { FitsFourBytes (length redirect.now) }
+    requires challenge { FitsFourBytes (length challenge.now) }
     ensures written { OnOk result (out.new.items ≡ out.old.items ++ kind_spelling (Code owner redirect.now challenge.now)) }
     ensures fits { OnOk result (KindFits (Code owner redirect.now challenge.now)) }
 {
@@ -287,9 +287,9 @@ fn put_record(out: &mut Vec<u8>, kept: &KeptRecord) -> Result<(), AllocError>
 }
 
 fn put_records(out: &mut Vec<u8>, records: &[KeptRecord]) -> Result<(), AllocError>
-    requires { EachFits (λ r. KindCounts r.kind) (map record_fact records.now) }
+    requires { ListFits (λ r. KindCounts r.kind) (map record_fact records.now) }
     ensures written { OnOk result (out.new.items ≡ out.old.items ++ listed record_spelling (map record_fact records.now)) }
-    ensures fits { OnOk result (EachFits RecordFits (map record_fact records.now)) }
+    ensures fits { OnOk result (ListFits RecordFits (map record_fact records.now)) }
 {
     put_short(out, records.len() as u32)?;
     for kept in records {
@@ -311,9 +311,9 @@ fn put_consent(out: &mut Vec<u8>, consent: &KeptConsent) -> Result<(), AllocErro
 }
 
 fn put_consents(out: &mut Vec<u8>, consents: &[KeptConsent]) -> Result<(), AllocError>
-    requires { IsShort (length consents.now) }
+    requires { FitsFourBytes (length consents.now) }
     ensures written { OnOk result (out.new.items ≡ out.old.items ++ listed consent_spelling consents.now) }
-    ensures fits { OnOk result (EachFits ConsentFits consents.now) }
+    ensures fits { OnOk result (ListFits ConsentFits consents.now) }
 {
     put_short(out, consents.len() as u32)?;
     for consent in consents {
@@ -334,9 +334,9 @@ fn put_hook(out: &mut Vec<u8>, hook: &KeptHook) -> Result<(), AllocError>
 }
 
 fn put_hooks(out: &mut Vec<u8>, hooks: &[KeptHook]) -> Result<(), AllocError>
-    requires { EachFits HookCounts (map hook_fact hooks.now) }
+    requires { ListFits HookCounts (map hook_fact hooks.now) }
     ensures written { OnOk result (out.new.items ≡ out.old.items ++ listed hook_spelling (map hook_fact hooks.now)) }
-    ensures fits { OnOk result (EachFits HookFits (map hook_fact hooks.now)) }
+    ensures fits { OnOk result (ListFits HookFits (map hook_fact hooks.now)) }
 {
     put_short(out, hooks.len() as u32)?;
     for hook in hooks {

@@ -2,7 +2,7 @@
 
 ghost use Rattle.std.specs.Prelude.{◌≡◌, List, map};
 ghost use Rattle.token_store.specs.declared.image.KeptRecord.{KeptRecord};
-ghost use Rattle.token_store.specs.Image.{image_of};
+ghost use Rattle.token_store.specs.Image.{as_kept};
 ghost use Rattle.image_codec.specs.Facts.{ImageFact, RulesFact, record_fact};
 ghost use Rattle.image_codec.specs.Spelling.{ImageFits, RulesFit, image_spelling, rules_spelling};
 
@@ -21,5 +21,5 @@ pub fn bytes_tell_one_rules()
 /// What an image says of a store's records is all that a store is made again from.
 pub fn facts_say_what_is_kept()
     ensures { (some others : List KeptRecord) → map record_fact some ≡ map record_fact others
-        → image_of some ≡ image_of others }
+        → as_kept some ≡ as_kept others }
 {}

@@ -3,19 +3,19 @@ use Rattle.std.specs.Prelude.{ℕ, List}
 use Rattle.change_codec.specs.Keeping.{Crashes, Keeps, KeepsNot}
 use Rattle.clients.specs.RegistryRecord.{RegistryRecord}
 use Rattle.consent.specs.History.{Event}
-use Rattle.endpoints.specs.Server.{Seen, FitsServer}
+use Rattle.endpoints.specs.Server.{SeenServer, FitsServer}
 use Rattle.hook_host.specs.declared.host.HookHost.{Ghosts as Hosting}
 
 -- so it is of each history that the server fits
-abbrev pub OfFitted : {H : Type 0} → Hosting H → Seen H → (List Event → Type 0) → Type 0
+abbrev pub OfFitted : {H : Type 0} → Hosting H → SeenServer H → (List Event → Type 0) → Type 0
 OfFitted {H = H} hosting server claim =
     (rules : RegistryRecord) (first : H) (history : List Event) (m : ℕ) →
     FitsServer hosting.installs hosting.removes server rules first history m → claim history
 
 -- The keeper held the history: it holds it still, and a crash meanwhile left what stands for it.
-abbrev pub KeepsImage : {H K : Type 0} → Hosting H → Crashes K → Seen H → K → K → Type 0
+abbrev pub KeepsImage : {H K : Type 0} → Hosting H → Crashes K → SeenServer H → K → K → Type 0
 KeepsImage hosting crashes server old new = OfFitted hosting server (λ history. Keeps crashes history history old new)
 
 -- or putting the image failed, and a crash meanwhile left what stands for it
-abbrev pub KeepsNoImage : {H K : Type 0} → Hosting H → Crashes K → Seen H → K → K → Type 0
+abbrev pub KeepsNoImage : {H K : Type 0} → Hosting H → Crashes K → SeenServer H → K → K → Type 0
 KeepsNoImage hosting crashes server old new = OfFitted hosting server (λ history. KeepsNot crashes history history old new)

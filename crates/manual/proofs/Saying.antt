@@ -6,7 +6,7 @@ use Rattle.std.proofs.lemmas.List.Elements.{All-append}
 use Rattle.std.specs.Option.{option_copied, option_or}
 use Rattle.std.specs.Borrow.{Bor}
 use Rattle.manual.specs.declared.topic.Topic.{Topic}
-use Rattle.manual.specs.Topics.{IsSaidBy, IsTextOf, Say, words_of}
+use Rattle.manual.specs.Topics.{IsSaidBy, IsTextOf, Say, topic_words}
 
 said_before : (some more : List Topic) (name text : List ℕ) → IsTextOf some name text → IsTextOf (some ++ more) name text
 said_before some more name text is =
@@ -45,6 +45,6 @@ pub said_by_either : (words others : List (List ℕ)) (name : List ℕ) (first s
 said_by_either words others name first second either by_first by_second is_either =
     subst (λ o. IsSaidBy (words ++ others) name (option_copied o)) (sym is_either) (
       by_first.0 ++ by_second.0,
-      map-append (λ (topic : Topic). topic.name.now) by_first.0 by_second.0 ∙ ap (λ w. w ++ words_of by_second.0) by_first.1 ∙ ap (λ w. words ++ w) by_second.1,
+      map-append (λ (topic : Topic). topic.name.now) by_first.0 by_second.0 ∙ ap (λ w. w ++ topic_words by_second.0) by_first.1 ∙ ap (λ w. words ++ w) by_second.1,
       said_by_both by_first.0 by_second.0 name first second by_first.2 by_second.2,
     )

@@ -18,12 +18,12 @@ Say topics name (Some text) = IsTextOf topics name text
 Say topics name None = All (λ topic. topic.name.now ≢ name) topics
 
 -- the words that the topics explain, in their order
-abbrev pub words_of : List Topic → List (List ℕ)
-words_of topics = map (λ topic. topic.name.now) topics
+abbrev pub topic_words : List Topic → List (List ℕ)
+topic_words topics = map (λ topic. topic.name.now) topics
 
 -- what topics that explain just these words say of a name
 abbrev pub IsSaidBy : List (List ℕ) → List ℕ → Option (List ℕ) → Type 0
-IsSaidBy words name text = (topics : List Topic) × (words_of topics ≡ words) × Say topics name text
+IsSaidBy words name text = (topics : List Topic) × (topic_words topics ≡ words) × Say topics name text
 
 -- what the manual says of a name
 abbrev pub IsSaid : List ℕ → Option (List ℕ) → Type 0

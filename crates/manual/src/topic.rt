@@ -2,7 +2,7 @@
 
 ghost use Rattle.std.specs.Prelude.{◌≡◌, ◌↔◌, IsTrue};
 ghost use Rattle.std.specs.Option.{option_copied};
-ghost use Rattle.manual.specs.Topics.{IsSaidBy, Say, words_of};
+ghost use Rattle.manual.specs.Topics.{IsSaidBy, Say, topic_words};
 
 /// What a name of the program means.
 #[derive(Clone, Copy, Debug)]
@@ -34,7 +34,7 @@ fn text_named(topics: &[Topic], name: &str) -> Option<&'static str>
 
 /// What topics that explain just their words say of a name.
 pub fn said_by(topics: &[Topic], name: &str) -> Option<&'static str>
-    ensures { IsSaidBy (words_of topics.now) name.now (option_copied result) }
+    ensures { IsSaidBy (topic_words topics.now) name.now (option_copied result) }
 {
     text_named(topics, name)
 }

@@ -8,27 +8,27 @@ use Rattle.consent.specs.declared.grant.TokenKind.TheVariants.{Access, Refresh}
 use Rattle.messages.specs.declared.error.ErrorName.TheVariants.{InvalidClient, AccessDenied}
 use Rattle.messages.specs.Reply.{plain, sent_back}
 use Rattle.messages.specs.Reply.Body.{Empty, Failure, Tokens, Active, Inactive, HookRefused, Hooks}
-use Rattle.messages.specs.Written.{body_text, error_text, written, reply_bytes, faulty_bytes}
+use Rattle.messages.specs.Written.{body_text, error_text, in_writing, reply_bytes, faulty_bytes}
 
 -- client credentials: an access token alone
-tokens_reply : reply_bytes (written (plain 200 (Tokens (codes "BAQEBAQEBAQEBAQEBAQEBAQEBAQEBAQEBAQEBAQEBAQ") 300 None (codes "read"))))
+tokens_reply : reply_bytes (in_writing (plain 200 (Tokens (codes "BAQEBAQEBAQEBAQEBAQEBAQEBAQEBAQEBAQEBAQEBAQ") 300 None (codes "read"))))
     ≡ codes "HTTP/1.1 200 OK\r\nContent-Type: application/json\r\nCache-Control: no-store\r\nPragma: no-cache\r\nContent-Length: 116\r\n\r\n{\"access_token\":\"BAQEBAQEBAQEBAQEBAQEBAQEBAQEBAQEBAQEBAQEBAQ\",\"expires_in\":300,\"scope\":\"read\",\"token_type\":\"Bearer\"}"
 unfolding escape_byte digits
 tokens_reply = refl
 
 -- a client with another secret
-refused_reply : reply_bytes (written (plain 401 (Failure InvalidClient)))
+refused_reply : reply_bytes (in_writing (plain 401 (Failure InvalidClient)))
     ≡ codes "HTTP/1.1 401 Unauthorized\r\nContent-Type: application/json\r\nCache-Control: no-store\r\nPragma: no-cache\r\nWWW-Authenticate: Basic realm=\"oauthd\"\r\nContent-Length: 26\r\n\r\n{\"error\":\"invalid_client\"}"
 unfolding escape_byte digits
 refused_reply = refl
 
 -- the user agent is sent back with a state that a form escapes
-sent_reply : reply_bytes (written (sent_back (codes "https://app.example/cb") (codes "error") (error_text AccessDenied) (Some (codes "a b&" ++ 195 ∷ 169 ∷ []))))
+sent_reply : reply_bytes (in_writing (sent_back (codes "https://app.example/cb") (codes "error") (error_text AccessDenied) (Some (codes "a b&" ++ 195 ∷ 169 ∷ []))))
     ≡ codes "HTTP/1.1 302 Found\r\nCache-Control: no-store\r\nPragma: no-cache\r\nLocation: https://app.example/cb?error=access_denied&state=a+b%26%C3%A9\r\nContent-Length: 0\r\n\r\n"
 unfolding digits byte_serialize percent_encode_byte
 sent_reply = refl
 
-not_found : reply_bytes (written (plain 404 Empty)) ≡ codes "HTTP/1.1 404 Not Found\r\nContent-Length: 0\r\n\r\n"
+not_found : reply_bytes (in_writing (plain 404 Empty)) ≡ codes "HTTP/1.1 404 Not Found\r\nContent-Length: 0\r\n\r\n"
 unfolding digits
 not_found = refl
 

@@ -38,10 +38,10 @@ IsSmallBody (HookRefused detail) = length detail ≤ 256
 IsSmallBody (Hooks names) = (length names ≤ 8) × All (λ name. length name ≤ 64) names
 
 -- a reply says where to go or has a body, and what it says is short
-abbrev pub IsShort : Option Redirection → Body → Type 0
-IsShort None body = IsSmallBody body
-IsShort (Some r) body = IsSmallRedirection r × (body ≡ Empty)
+abbrev pub IsSmallContent : Option Redirection → Body → Type 0
+IsSmallContent None body = IsSmallBody body
+IsSmallContent (Some r) body = IsSmallRedirection r × (body ≡ Empty)
 
-pub record IsSmall (reply : Reply) : Type 0 where
+pub record IsSmallReply (reply : Reply) : Type 0 where
   pub status : is_reply_status reply.status ≡ true
-  pub short : IsShort reply.location reply.body
+  pub short : IsSmallContent reply.location reply.body

@@ -13,8 +13,8 @@ use Rattle.messages.specs.declared.error.ErrorName.{ErrorName}
 use Rattle.messages.specs.declared.error.ErrorName.TheVariants as error
 use Rattle.messages.specs.Reply.{Redirection, Body, Reply, sent_back}
 use Rattle.messages.specs.Reply.Body.{Empty, Failure, Tokens, Consent, Active, Inactive, Hook, HookRefused, Hooks}
-use Rattle.messages.specs.Written.{Written, written, body_text, location_text, string_items, error_text, line, line_if, is_bare, status_line, type_line, cache_lines, location_line, challenge_line, length_line, crlf, head_bytes, reply_bytes}
-use Rattle.messages.specs.Small.{reply_limit, is_reply_status, IsSmallRedirection, IsSmallBody, IsShort, IsSmall}
+use Rattle.messages.specs.Written.{Written, in_writing, body_text, location_text, string_items, error_text, line, line_if, is_bare, status_line, type_line, cache_lines, location_line, challenge_line, length_line, crlf, head_bytes, reply_bytes}
+use Rattle.messages.specs.Small.{reply_limit, is_reply_status, IsSmallRedirection, IsSmallBody, IsSmallContent, IsSmallReply}
 use Rattle.messages.specs.SizeLaws.{length-escape, length-extend_pairs}
 
 -- LINES
@@ -162,24 +162,24 @@ laid w status short =
     let l = length-append (status_line w.status) (type_line w.body) in
     omega (arith, a, b, c, d, e, f, g, h, i, j, k, l)
 
-sized : (status : ℕ) (location : Option Redirection) (body : Body) → is_reply_status status ≡ true → IsShort location body →
-    length (reply_bytes (written (record { status = status; location = location; body = body }))) < reply_limit
+sized : (status : ℕ) (location : Option Redirection) (body : Body) → is_reply_status status ≡ true → IsSmallContent location body →
+    length (reply_bytes (in_writing (record { status = status; location = location; body = body }))) < reply_limit
 sized status None body is short =
     let b = body_short body short in
-    let a = laid (written (record { status = status; location = None; body = body })) is b in
+    let a = laid (in_writing (record { status = status; location = None; body = body })) is b in
     omega (arith, a, b)
 sized status (Some r) body is short =
     let none = ap (λ body. length (unwrap_or (body_text body) [])) short.1 in
-    let a = laid (written (record { status = status; location = Some r; body = body })) is (omega (arith, none)) in
+    let a = laid (in_writing (record { status = status; location = Some r; body = body })) is (omega (arith, none)) in
     let b = location_short r short.0 in
     omega (arith, a, b, none)
 
-pub small_bytes : (reply : Reply) → IsSmall reply → length (reply_bytes (written reply)) < reply_limit
+pub small_bytes : (reply : Reply) → IsSmallReply reply → length (reply_bytes (in_writing reply)) < reply_limit
 small_bytes reply small = sized reply.status reply.location reply.body small.status small.short
 
 -- a short pair and a state are sent to a short URI
 pub small_sent_back : (uri name value : List ℕ) (state : Option (List ℕ)) → length uri ≤ 2048 → length name + length value ≤ 200 →
-    length (unwrap_or state []) ≤ 8192 → IsSmall (sent_back uri name value state)
+    length (unwrap_or state []) ≤ 8192 → IsSmallReply (sent_back uri name value state)
 small_sent_back uri name value None short pair sent =
     record { status = refl; short = (record { uri = short; few = omega arith; texts = omega (arith, pair) }, refl) }
 small_sent_back uri name value (Some state) short pair sent =

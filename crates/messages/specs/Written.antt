@@ -35,9 +35,9 @@ abbrev pub refresh_member : Option (List ℕ) → Members → Members
 refresh_member None members = members
 refresh_member (Some text) members = text_member (codes "refresh_token") text members
 
-abbrev pub sub_member : Option (List ℕ) → Members → Members
-sub_member None members = members
-sub_member (Some text) members = text_member (codes "sub") text members
+abbrev pub with_sub : Option (List ℕ) → Members → Members
+with_sub None members = members
+with_sub (Some text) members = text_member (codes "sub") text members
 
 abbrev pub type_member : TokenKind → Members
 type_member Access = text_member (codes "token_type") (codes "Bearer") no_members
@@ -63,7 +63,7 @@ json_of (Active client expires issued scope sub kind) =
     (number_member (codes "exp") expires
     (number_member (codes "iat") issued
     (text_member (codes "scope") scope
-    (sub_member sub
+    (with_sub sub
     (type_member kind))))))))
 json_of Inactive = Some (object (member (codes "active") (boolean false) no_members))
 json_of (Hook name) = Some (object (text_member (codes "name") name no_members))
@@ -87,8 +87,8 @@ pub record Written : Type 0 where
   pub location : Option (List ℕ)
   pub body : Option (List ℕ)
 
-abbrev pub written : Reply → Written
-written reply = record {
+abbrev pub in_writing : Reply → Written
+in_writing reply = record {
   status = reply.status;
   location = option_map location_text reply.location;
   body = body_text reply.body;

@@ -2,7 +2,7 @@
 ghost use Rattle.std.specs.Prelude.{◌≡◌, IfOk, map, option_copied};
 ghost use Rattle.messages.specs.Reply.{plain, sent_back};
 ghost use Rattle.messages.specs.Reply.Body.{Failure, Tokens, Consent, Active, Inactive, Hook, HookRefused, Hooks};
-ghost use Rattle.messages.specs.Written.{written};
+ghost use Rattle.messages.specs.Written.{in_writing};
 
 use crate::body;
 use crate::error::ErrorName;
@@ -14,7 +14,7 @@ use std::alloc::{AllocError, Global};
 
 /// An error (RFC 6749, section 5.2).
 pub fn failure(alloc: Global, status: StatusCode, error: ErrorName) -> Result<Response, AllocError>
-    ensures { IfOk result (λ reply. reply ≡ written (plain status (Failure error))) }
+    ensures { IfOk result (λ reply. reply ≡ in_writing (plain status (Failure error))) }
 {
     Ok(Response::with_body(status, body::failure(alloc, error)?))
 }
@@ -27,7 +27,7 @@ pub fn tokens(
     refresh: Option<&str>,
     scope: &str,
 ) -> Result<Response, AllocError>
-    ensures { IfOk result (λ reply. reply ≡ written (plain 200
+    ensures { IfOk result (λ reply. reply ≡ in_writing (plain 200
         (Tokens access.now life (option_copied refresh.entry) scope.now))) }
 {
     let text = body::tokens(alloc, access, life, refresh, scope)?;
@@ -36,14 +36,14 @@ pub fn tokens(
 
 /// The scope that an owner consents to.
 pub fn consent(alloc: Global, scope: &str) -> Result<Response, AllocError>
-    ensures { IfOk result (λ reply. reply ≡ written (plain 200 (Consent scope.now))) }
+    ensures { IfOk result (λ reply. reply ≡ in_writing (plain 200 (Consent scope.now))) }
 {
     Ok(Response::with_body(StatusCode::OK, body::consent(alloc, scope)?))
 }
 
 /// What is told of a live token (RFC 7662, section 2.2).
 pub fn active(alloc: Global, token: ActiveToken<'_>) -> Result<Response, AllocError>
-    ensures { IfOk result (λ reply. reply ≡ written (plain 200
+    ensures { IfOk result (λ reply. reply ≡ in_writing (plain 200
         (Active token.entry.client.now token.entry.expires token.entry.issued token.entry.scope.now
         (option_copied token.entry.sub) token.entry.kind))) }
 {
@@ -52,21 +52,21 @@ pub fn active(alloc: Global, token: ActiveToken<'_>) -> Result<Response, AllocEr
 
 /// What is told of a token that is not live (RFC 7662, section 2.2).
 pub fn inactive(alloc: Global) -> Result<Response, AllocError>
-    ensures { IfOk result (λ reply. reply ≡ written (plain 200 Inactive)) }
+    ensures { IfOk result (λ reply. reply ≡ in_writing (plain 200 Inactive)) }
 {
     Ok(Response::with_body(StatusCode::OK, body::inactive(alloc)?))
 }
 
 /// The name of a hook that was installed or removed.
 pub fn hook(alloc: Global, name: &str) -> Result<Response, AllocError>
-    ensures { IfOk result (λ reply. reply ≡ written (plain 200 (Hook name.now))) }
+    ensures { IfOk result (λ reply. reply ≡ in_writing (plain 200 (Hook name.now))) }
 {
     Ok(Response::with_body(StatusCode::OK, body::hook(alloc, name)?))
 }
 
 /// Why a hook was not installed or removed, as its fault prints.
 pub fn hook_refused(alloc: Global, detail: &str) -> Result<Response, AllocError>
-    ensures { IfOk result (λ reply. reply ≡ written (plain 400 (HookRefused detail.now))) }
+    ensures { IfOk result (λ reply. reply ≡ in_writing (plain 400 (HookRefused detail.now))) }
 {
     let text = body::hook_refused(alloc, detail)?;
     Ok(Response::with_body(StatusCode::BAD_REQUEST, text))
@@ -74,7 +74,7 @@ pub fn hook_refused(alloc: Global, detail: &str) -> Result<Response, AllocError>
 
 /// The names of all hooks, in the order in which they run.
 pub fn hooks(alloc: Global, names: &[&str]) -> Result<Response, AllocError>
-    ensures { IfOk result (λ reply. reply ≡ written (plain 200 (Hooks (map (λ name. name.now) names.now)))) }
+    ensures { IfOk result (λ reply. reply ≡ in_writing (plain 200 (Hooks (map (λ name. name.now) names.now)))) }
 {
     Ok(Response::with_body(StatusCode::OK, body::hooks(alloc, names)?))
 }
@@ -87,7 +87,7 @@ pub fn redirect(
     value: &str,
     state: Option<&str>,
 ) -> Result<Response, AllocError>
-    ensures { IfOk result (λ reply. reply ≡ written
+    ensures { IfOk result (λ reply. reply ≡ in_writing
         (sent_back uri.now name.now value.now (option_copied state.entry))) }
 {
     Ok(Response::found(location_of(alloc, uri, name, value, state)?))

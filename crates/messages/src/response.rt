@@ -25,12 +25,12 @@ impl Model for Response {
 ghost use Rattle.std.specs.Prelude.{◌≡◌, ◌≤◌, ◌+◌, ◌++◌, None, Some, length, option_copied, string_bytes, vec_len, vec_capacity};
 ghost use Rattle.messages.specs.Reply.{plain};
 ghost use Rattle.messages.specs.Reply.Body.{Empty};
-ghost use Rattle.messages.specs.Written.{written, reply_bytes};
+ghost use Rattle.messages.specs.Written.{in_writing, reply_bytes};
 
 impl Response {
     /// A status and nothing else.
     pub fn bare(status: StatusCode) -> Response
-        ensures { result ≡ written (plain status Empty) }
+        ensures { result ≡ in_writing (plain status Empty) }
     {
         Response {
             status,

@@ -9,7 +9,7 @@ use Rattle.hook_chain.specs.Chains.{Named}
 use Rattle.state_file.specs.declared.starting.Started.{Started}
 use Rattle.oauthd.specs.declared.fault.PerformFault.{PerformFault}
 use Rattle.oauthd.specs.declared.hook_files.HookCode.{HookCode}
-use Rattle.oauthd.specs.Hooks.{fact_of}
+use Rattle.oauthd.specs.Hooks.{hook_fact_of}
 use Rattle.oauthd.specs.Startings.{ComesOfState, Handed, RefusesState, Startings, starting_of}
 
 pub anew : (starts : Startings) (state : Option (List ℕ)) (handed : Handed) (cause : LoopFault) → state ≡ None → starts.anew handed cause
@@ -22,9 +22,9 @@ on_state starts state path handed cause named started = subst (λ o. starting_of
 
 -- the same of equal codes
 pub comes_of : {R : Type 0} (keeping : Crashes (BatchFile (DiskFile R))) (rules : RegistryRecord) (started : Started (DiskFile R) (List Named)) (codes others : List HookCode)
-    → codes ≡ others → ComesOfState keeping rules (map fact_of codes) started → ComesOfState keeping rules (map fact_of others) started
-comes_of keeping rules started codes others same comes = subst (λ cs. ComesOfState keeping rules (map fact_of cs) started) same comes
+    → codes ≡ others → ComesOfState keeping rules (map hook_fact_of codes) started → ComesOfState keeping rules (map hook_fact_of others) started
+comes_of keeping rules started codes others same comes = subst (λ cs. ComesOfState keeping rules (map hook_fact_of cs) started) same comes
 
 pub refused_of : (rules : RegistryRecord) (fault : PerformFault) (codes others : List HookCode)
-    → codes ≡ others → RefusesState rules (map fact_of codes) fault → RefusesState rules (map fact_of others) fault
-refused_of rules fault codes others same refuses = subst (λ cs. RefusesState rules (map fact_of cs) fault) same refuses
+    → codes ≡ others → RefusesState rules (map hook_fact_of codes) fault → RefusesState rules (map hook_fact_of others) fault
+refused_of rules fault codes others same refuses = subst (λ cs. RefusesState rules (map hook_fact_of cs) fault) same refuses

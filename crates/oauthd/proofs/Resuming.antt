@@ -14,7 +14,7 @@ use Rattle.hook_chain.specs.Chains.{Named, IsInstalled, IsRemoved}
 use Rattle.hook_chain.specs.contracts.chain.ChainHookHost.TheImpl as chain
 use Rattle.image_codec.specs.Facts.{HookFact}
 use Rattle.state_file.specs.Hooks.{with_hooks}
-use Rattle.state_file.specs.Resuming.{HaveNoImage, OfEach, ServesOn, WasRun}
+use Rattle.state_file.specs.Resuming.{HaveNoImage, OfEachHistory, ServesOn, WasRun}
 use Rattle.state_file.specs.declared.starting.Started.{Started}
 use Rattle.oauthd.specs.Startings.{ComesOfState, StandsWithOrWithout}
 use Rattle.state_file.proofs.Replaying.{replays}
@@ -27,14 +27,14 @@ was_run left history (inr ran) = inr (replays history ran.0 ran.1)
 -- what is known of it, by the bytes, the hooks, the device and the chain that it was started with
 module _ {R : Type 0} (keeping : Crashes (BatchFile (DiskFile R))) (rules : RegistryRecord) (started : Started (DiskFile R) (List Named)) where
   abbrev pub Serves : List ℕ → List HookFact → List Named → Type 0
-  Serves bytes hooks first = OfEach chain.ghosts first bytes (λ history. ServesOn chain.ghosts started rules first (with_hooks started.moment history hooks))
+  Serves bytes hooks first = OfEachHistory chain.ghosts first bytes (λ history. ServesOn chain.ghosts started rules first (with_hooks started.moment history hooks))
 
   abbrev pub Held : List ℕ → List HookFact → List Named → Type 0
-  Held bytes hooks first = OfEach chain.ghosts first bytes (λ history. Holds keeping started.keeper (with_hooks started.moment history hooks))
+  Held bytes hooks first = OfEachHistory chain.ghosts first bytes (λ history. Holds keeping started.keeper (with_hooks started.moment history hooks))
 
   abbrev pub Meanwhile : DiskFile R → List ℕ → List HookFact → List Named → Type 0
   Meanwhile device bytes hooks first =
-      OfEach chain.ghosts first bytes (λ history. LeavesOnly (λ d. length d.log.calls) (λ d. LeftSince d.log.calls) device started.keeper.device
+      OfEachHistory chain.ghosts first bytes (λ history. LeavesOnly (λ d. length d.log.calls) (λ d. LeftSince d.log.calls) device started.keeper.device
       (StandsWithOrWithout history (with_hooks started.moment history hooks)))
 
   pub comes : (opened : Opened R) (bytes : List ℕ) (facts hooks : List HookFact) (first : List Named)

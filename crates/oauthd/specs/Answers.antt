@@ -1,6 +1,6 @@
 -- What the commands answer.
 use Rattle.std.specs.Prelude.{ℕ, Option, Result, Ok, Err}
-use Rattle.hook_commands.specs.Answers.{IsAnsweredBy as IsHookAnsweredBy}
+use Rattle.hook_commands.specs.Answers.{IsHookAnsweredBy}
 use Rattle.hook_commands.specs.File.{File}
 use Rattle.oauthd.specs.NamedFiles.{bytes_in}
 use Rattle.oauthd.specs.declared.named_file.NamedFile.{NamedFile}
@@ -12,7 +12,7 @@ use Rattle.oauthd.specs.declared.answer.Answer.{Answer}
 use Rattle.oauthd.specs.declared.answer.Answer.TheVariants as answers
 use Rattle.oauthd.specs.declared.fault.PerformFault.{PerformFault}
 use Rattle.oauthd.specs.declared.fault.PerformFault.TheVariants as faults
-use Rattle.oauthd.specs.Help.{IsExplained, IsPage}
+use Rattle.oauthd.specs.Help.{IsNameExplained, IsPage}
 use Rattle.oauthd.specs.Registries.{IsRegistryTold}
 use Rattle.oauthd.specs.States.{IsStateTold}
 use Rattle.oauthd.specs.Transcripts.{IsReplayedAs}
@@ -31,5 +31,5 @@ IsAnsweredBy (commands.Registry path) file outcome = IsRegistryTold path.now fil
 IsAnsweredBy (commands.State path) file outcome = (now : Option ℕ) × IsStateTold path.now (bytes_in file) now outcome
 IsAnsweredBy (commands.Replay path) file outcome = IsReplayedAs path.now (bytes_in file) outcome
 IsAnsweredBy (commands.Help word) file outcome = IsPage PAGE.now outcome
-IsAnsweredBy (commands.Explain name) file outcome = IsExplained name.now outcome
+IsAnsweredBy (commands.Explain name) file outcome = IsNameExplained name.now outcome
 IsAnsweredBy commands.Version file outcome = IsPage VERSION.now outcome

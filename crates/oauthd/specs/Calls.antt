@@ -6,24 +6,24 @@ use Rattle.oauthd.specs.declared.call.Call.TheVariants.{Command, Service}
 use Rattle.oauthd.specs.declared.fault.PerformFault.{PerformFault}
 use Rattle.oauthd.specs.declared.fault.PerformFault.TheVariants.{BadArguments, OutOfMemory}
 use Rattle.start_words.specs.Options.{HookSaid}
-use Rattle.oauthd.specs.Services.{config_of, hooks_of, IsService, ServiceFails}
-use Rattle.oauthd.specs.Words.{file_named_by, IsCommand, Words}
+use Rattle.oauthd.specs.Services.{config_of, hooks_installed, IsService, ServiceFails}
+use Rattle.oauthd.specs.Words.{file_named_by, IsCommand, Arguments}
 
 -- words are those of a call
-abbrev pub IsCall : Words → Call → Type 0
+abbrev pub IsCall : Arguments → Call → Type 0
 IsCall words (Command command) = IsCommand words command
 IsCall words (Service service) = IsService words service
 
-abbrev pub IsNoCall : Words → Type 0
+abbrev pub IsNoCall : Arguments → Type 0
 IsNoCall words = (call : Call) → IsCall words call → ⊥
 
 -- how words are read: as the call whose words they are, and as bad arguments where there is none, but for a word behind
 -- `start` that is refused
-abbrev pub IsRead : Words → Result Call PerformFault → Type 0
-IsRead words (Ok call) = IsCall words call
-IsRead words (Err BadArguments) = IsNoCall words
-IsRead words (Err OutOfMemory) = ⊤
-IsRead words (Err fault) = ServiceFails (map string_bytes words) fault
+abbrev pub AreWordsRead : Arguments → Result Call PerformFault → Type 0
+AreWordsRead words (Ok call) = IsCall words call
+AreWordsRead words (Err BadArguments) = IsNoCall words
+AreWordsRead words (Err OutOfMemory) = ⊤
+AreWordsRead words (Err fault) = ServiceFails (map string_bytes words) fault
 
 -- the path of the file that is read for a call
 abbrev pub file_of : Call → Option (List ℕ)
@@ -33,4 +33,4 @@ file_of (Service service) = Some (config_of service)
 -- the hooks whose files are read for it, too
 abbrev pub hooks_named_by : Call → List HookSaid
 hooks_named_by (Command command) = []
-hooks_named_by (Service service) = hooks_of service
+hooks_named_by (Service service) = hooks_installed service

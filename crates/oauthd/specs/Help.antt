@@ -7,11 +7,11 @@ use Rattle.oauthd.specs.declared.fault.PerformFault.{PerformFault}
 use Rattle.oauthd.specs.declared.fault.PerformFault.TheVariants.{BadArguments}
 
 -- what `help NAME` answers: what the manual says of the name, and bad arguments where that is nothing
-abbrev pub IsExplained : List ℕ → Result Answer PerformFault → Type 0
-IsExplained name (Ok (answers.Page text)) = IsSaid name (Some text.now)
-IsExplained name (Ok answer) = ⊥
-IsExplained name (Err BadArguments) = IsSaid name None
-IsExplained name (Err fault) = ⊥
+abbrev pub IsNameExplained : List ℕ → Result Answer PerformFault → Type 0
+IsNameExplained name (Ok (answers.Page text)) = IsSaid name (Some text.now)
+IsNameExplained name (Ok answer) = ⊥
+IsNameExplained name (Err BadArguments) = IsSaid name None
+IsNameExplained name (Err fault) = ⊥
 
 -- what a command answers that prints a text of the program's own
 abbrev pub IsPage : List ℕ → Result Answer PerformFault → Type 0

@@ -41,8 +41,8 @@ AreFactsOf [] [] = ⊤
 AreFactsOf (hook ∷ hooks) (fact ∷ facts) = IsFactOf hook fact × AreFactsOf hooks facts
 AreFactsOf hooks facts = ⊥
 
-abbrev pub fact_of : HookCode → HookFact
-fact_of code = record { name = code.hook.name.now; version = version_of code.hook.layout; code = code.code.items }
+abbrev pub hook_fact_of : HookCode → HookFact
+hook_fact_of code = record { name = code.hook.name.now; version = version_of code.hook.layout; code = code.code.items }
 
 -- a hook's code is installed under its name, behind the hooks before
 pub record TakesHook (before : List Named) (hook : HookInFile) (after : List Named) : Type 0 where

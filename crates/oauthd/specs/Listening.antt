@@ -26,7 +26,7 @@ use Rattle.image_codec.specs.Facts.{HookFact}
 use Rattle.oauthd.specs.Printed.{told_text}
 use Rattle.oauthd.specs.Services.{config_of, patience_of}
 use Rattle.oauthd.specs.Startings.{RefusesState, Startings, handed, starting_of}
-use Rattle.oauthd.specs.Statuses.{status_of}
+use Rattle.oauthd.specs.Statuses.{end_status}
 
 -- the file that a call is about, a service's registry, and what stands in those of its hooks
 pub record ServiceFiles : Type 0 where
@@ -47,7 +47,7 @@ pub record HasListened (file : File) (old new : Option (List ℕ)) : Type 0 wher
   pub announced : Announces old new
 
 -- `serve` served its connections
-pub record HasServed (service : Service) (files : ServiceFiles) (old new : Option (List ℕ)) : Type 0 where
+pub record ServeEnded (service : Service) (files : ServiceFiles) (old new : Option (List ℕ)) : Type 0 where
   pub listened : HasListened (registry_bytes files) old new
   pub given : ServeWords
   pub service_is : service ≡ Serve given
@@ -82,8 +82,8 @@ pub record LacksState (service : Service) (files : ServiceFiles) (fault : Perfor
 
 -- why a service serves nothing: the file comes first, then its registry, then its hooks, then its state, and then the server's
 -- socket
-abbrev pub ServesNothing : Service → ServiceFiles → PerformFault → Type 0
-ServesNothing service files fault =
+abbrev pub CannotServe : Service → ServiceFiles → PerformFault → Type 0
+CannotServe service files fault =
     HoldsNoRegistry (config_of service) (registry_bytes files) fault ⊎ LacksHook service files fault ⊎ LacksState service files fault ⊎ IsDeaf (registry_bytes files) fault
 
 -- a service keeps its state in a file that is named: of that a torn end is told, where it is cut off
@@ -95,8 +95,8 @@ pub record NamesState (service : Service) : Type 0 where
 -- why a service serves nothing is told, behind what was told of its state's file, and the status is that of the fault
 pub record TellsNoService (service : Service) (files : ServiceFiles) (status : Status) (old new : Option (List ℕ)) : Type 0 where
   pub fault : PerformFault
-  pub cause : ServesNothing service files fault
-  pub ended : status ≡ status_of fault
+  pub cause : CannotServe service files fault
+  pub ended : status ≡ end_status fault
   pub lines : Option (List ℕ)
   pub unlined : (lines ≡ old) ⊎ NamesState service
   pub told : Appends lines new (told_text fault)
@@ -119,13 +119,13 @@ pub record HasStopped (starts : Startings) (service : Service) (files : ServiceF
 -- state's file, or it stopped.
 abbrev pub FailsService : {W E : Type 0} → Startings → (W → Option (List ℕ)) → Service → ServiceFiles → PerformFault → W → W → E → E → Type 0
 FailsService starts of_out service files fault out out' err err' =
-    (((err' ≡ err) ⊎ NamesState service) × ServesNothing service files fault) ⊎ HasStopped starts service files fault (of_out out) (of_out out')
+    (((err' ≡ err) ⊎ NamesState service) × CannotServe service files fault) ⊎ HasStopped starts service files fault (of_out out) (of_out out')
 
 -- so it did, which is told behind the lines of connections that ended, and the status is that of the fault
 pub record TellsStop (starts : Startings) (service : Service) (files : ServiceFiles) (status : Status) (old new told_then : Option (List ℕ)) : Type 0 where
   pub fault : PerformFault
   pub stopped : HasStopped starts service files fault old new
-  pub ended : status ≡ status_of fault
+  pub ended : status ≡ end_status fault
   pub lines : Option (List ℕ)
   pub told : Appends lines told_then (told_text fault)
 
@@ -133,6 +133,6 @@ pub record TellsStop (starts : Startings) (service : Service) (files : ServiceFi
 -- stopped.
 abbrev pub EndsService : {W E : Type 0} → Startings → (W → Option (List ℕ)) → (E → Option (List ℕ)) → Service → ServiceFiles → Status → W → W → E → E → Type 0
 EndsService starts of_out of_err service files status out out' err err' =
-    ((status ≡ Done) × HasServed service files (of_out out) (of_out out'))
+    ((status ≡ Done) × ServeEnded service files (of_out out) (of_out out'))
     ⊎ TellsNoService service files status (of_err err) (of_err err')
     ⊎ TellsStop starts service files status (of_out out) (of_out out') (of_err err')

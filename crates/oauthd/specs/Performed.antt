@@ -8,7 +8,7 @@ use Rattle.oauthd.specs.declared.fault.Status.{Status}
 use Rattle.oauthd.specs.Answers.{IsAnsweredBy}
 use Rattle.oauthd.specs.declared.named_file.NamedFile.{NamedFile}
 use Rattle.oauthd.specs.Printed.{answer_text, told_text}
-use Rattle.oauthd.specs.Statuses.{status_of, status_of_answer}
+use Rattle.oauthd.specs.Statuses.{end_status, status_of_answer}
 
 -- what a command answers is printed, and it is done, or a program is refused
 pub record PrintsAnswer (command : Command) (file : Option NamedFile) (status : Status) (old new : Option (List ℕ)) : Type 0 where
@@ -21,7 +21,7 @@ pub record PrintsAnswer (command : Command) (file : Option NamedFile) (status : 
 pub record TellsFault (command : Command) (file : Option NamedFile) (status : Status) (old new : Option (List ℕ)) : Type 0 where
   pub fault : PerformFault
   pub answered : IsAnsweredBy command file (Err fault)
-  pub ended : status ≡ status_of fault
+  pub ended : status ≡ end_status fault
   pub told : Appends old new (told_text fault)
 
 -- A command ends, with what it prints and what it tells, each seen as the bytes so far: it is done, and tells nothing; or it

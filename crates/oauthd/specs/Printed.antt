@@ -2,7 +2,7 @@
 use Rattle.std.specs.Prelude.{ℕ, List, ◌++◌, codes}
 use Rattle.std.specs.Fmt.{decimal}
 use Rattle.std.specs.String.{string_bytes}
-use Rattle.hook_commands.specs.Printed.{answer_text as hook_answer_text, fault_text as hook_command_fault_text}
+use Rattle.hook_commands.specs.Printed.{hook_answer_text, hook_command_fault_text}
 use Rattle.clients.specs.FaultTexts.{config_fault_text}
 use Rattle.clients.specs.Spots.{spot_text}
 use Rattle.hook_host.specs.Faults.{hook_fault_text}

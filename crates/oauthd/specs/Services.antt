@@ -1,7 +1,7 @@
 -- The commands that serve connections: their words, and the file that they name.
 use Rattle.std.specs.Prelude.{◌≡◌, ⊤, ℕ, List, [], ◌∷◌, map, codes, length, Some, unwrap_or, Ok, Err}
 use Rattle.std.specs.String.{string_bytes}
-use Rattle.start_words.specs.Numbers.{number_of}
+use Rattle.start_words.specs.Numbers.{number_said}
 use Rattle.start_words.specs.Options.{HookSaid, Said, wrong}
 use Rattle.start_words.specs.Start.{given_by, start_in}
 use Rattle.start_words.specs.declared.words.StartWords.{StartWords}
@@ -12,7 +12,7 @@ use Rattle.oauthd.specs.declared.service.ServeWords.{ServeWords}
 use Rattle.oauthd.specs.declared.service.Service.{Service}
 use Rattle.oauthd.specs.declared.service.Service.TheVariants.{Serve, Start}
 use Rattle.hook_commands.specs.HexText.{IsHexOf}
-use Rattle.oauthd.specs.Words.{Words}
+use Rattle.oauthd.specs.Words.{Arguments}
 
 -- a text is hex of a seed, which has 32 bytes
 abbrev pub IsSeed : List ℕ → List ℕ → Type 0
@@ -24,7 +24,7 @@ pub record GiveServe (words : List (List ℕ)) (given : ServeWords) : Type 0 whe
   pub count : List ℕ
   pub words_are : words ≡ given.address.now ∷ given.config.now ∷ seed_hex ∷ count ∷ []
   pub seed_is : IsSeed seed_hex given.seed
-  pub count_is : number_of count ≡ Some given.count
+  pub count_is : number_said count ≡ Some given.count
 
 -- the words behind `start` are ADDR CONFIG, and its options
 abbrev pub GiveStart : List (List ℕ) → StartWords → Type 0
@@ -42,10 +42,10 @@ NameService [] service = ⊥
 NameService (name ∷ words) (Serve given) = (name ≡ codes "serve") × GiveServe words given
 NameService (name ∷ words) (Start given) = (name ≡ codes "start") × GiveStart words given
 
-abbrev pub IsService : Words → Service → Type 0
+abbrev pub IsService : Arguments → Service → Type 0
 IsService words service = NameService (map string_bytes words) service
 
-abbrev pub IsNoService : Words → Type 0
+abbrev pub IsNoService : Arguments → Type 0
 IsNoService words = (service : Service) → NameService (map string_bytes words) service → ⊥
 
 -- why words that begin with a service's name are refused
@@ -55,9 +55,9 @@ ServiceFails (name ∷ words) (BadWord word fault) = (name ≡ codes "start") ×
 ServiceFails words fault = ⊥
 
 -- the hooks that are installed before it listens
-abbrev pub hooks_of : Service → List HookSaid
-hooks_of (Serve given) = []
-hooks_of (Start given) = given.options.hooks
+abbrev pub hooks_installed : Service → List HookSaid
+hooks_installed (Serve given) = []
+hooks_installed (Start given) = given.options.hooks
 
 -- the seconds for which its server is patient, 60 and 5 where they are left out, and those from report to report
 abbrev pub patience_of : Said → Patience

@@ -3,7 +3,7 @@ use Rattle.std.specs.Prelude.{◌≡◌, ⊤, ℕ, List, length, Option, None, I
 use Rattle.batch_file.specs.Frames.{recovered}
 use Rattle.hook_commands.specs.File.{File}
 use Rattle.image_codec.specs.Facts.{ImageFact}
-use Rattle.state_file.specs.Accounts.{IsTorn, RefusesAccount, TellIfAny}
+use Rattle.state_file.specs.Accounts.{HasTornEnd, RefusesAccount, TellIfAny}
 use Rattle.state_file.specs.Standing.{IsImageOf}
 use Rattle.state_file.specs.declared.account.AccountFault.TheVariants as accounts
 use Rattle.state_listing.specs.Lines.{listing_text}
@@ -19,7 +19,7 @@ pub record IsStateText (bytes : List ℕ) (now : Option ℕ) (text : List ℕ) :
   pub torn : ℕ
   pub each : OfEachRun bytes (λ history. IsImageOf image history)
   pub told : TellIfAny bytes image.rules
-  pub torn_is : IsTorn bytes torn
+  pub torn_is : HasTornEnd bytes torn
   pub text_is : text ≡ listing_text image (record { bytes = length bytes; batches = length (recovered bytes); torn = torn; looked_at = now })
 
 -- what `state` answers to the file of a path

@@ -13,11 +13,11 @@ use Rattle.oauthd.specs.declared.fault.Status.{Status}
 use Rattle.oauthd.specs.declared.fault.Status.TheVariants.{Done, Refused, BadUse, NoMemory}
 
 -- 0 done, 1 refused, 2 bad use, 3 no memory
-abbrev pub code_of : Status → ℕ
-code_of Done = 0
-code_of Refused = 1
-code_of BadUse = 2
-code_of NoMemory = 3
+abbrev pub exit_code : Status → ℕ
+exit_code Done = 0
+exit_code Refused = 1
+exit_code BadUse = 2
+exit_code NoMemory = 3
 
 -- a hook or a text that is refused is one thing, bad use another
 abbrev pub status_of_hook_command : HookCommandFault → Status
@@ -32,24 +32,24 @@ status_of_hook_command (hook.Verify fault) = Refused
 status_of_hook_command hook.OutOfMemory = NoMemory
 
 -- so it is with an event that is refused
-abbrev pub status_of : PerformFault → Status
-status_of BadArguments = BadUse
-status_of (BadWord word fault) = BadUse
-status_of (HookCommand fault) = status_of_hook_command fault
-status_of (CannotRead path) = BadUse
-status_of (Config fault) = BadUse
-status_of (ConfigAt fault spot) = BadUse
-status_of (Hook name fault) = BadUse
-status_of (BadLine line) = BadUse
-status_of (Event line fault) = Refused
-status_of (Unopened fault) = BadUse
-status_of (State fault) = BadUse
-status_of (StateAt number fault) = BadUse
-status_of CannotListen = BadUse
-status_of NoSeed = BadUse
-status_of (Stopped fault) = BadUse
-status_of OutOfMemory = NoMemory
-status_of CannotWrite = BadUse
+abbrev pub end_status : PerformFault → Status
+end_status BadArguments = BadUse
+end_status (BadWord word fault) = BadUse
+end_status (HookCommand fault) = status_of_hook_command fault
+end_status (CannotRead path) = BadUse
+end_status (Config fault) = BadUse
+end_status (ConfigAt fault spot) = BadUse
+end_status (Hook name fault) = BadUse
+end_status (BadLine line) = BadUse
+end_status (Event line fault) = Refused
+end_status (Unopened fault) = BadUse
+end_status (State fault) = BadUse
+end_status (StateAt number fault) = BadUse
+end_status CannotListen = BadUse
+end_status NoSeed = BadUse
+end_status (Stopped fault) = BadUse
+end_status OutOfMemory = NoMemory
+end_status CannotWrite = BadUse
 
 -- an answer that tells why a program is refused ends as a refusal, every other one is done
 abbrev pub status_of_answer : Answer → Status

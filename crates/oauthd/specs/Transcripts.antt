@@ -31,12 +31,12 @@ HasNoReplay file faults.OutOfMemory = ⊤
 HasNoReplay file fault = ⊥
 
 -- why the file of a path is no text
-abbrev pub HoldsNoText : List ℕ → File → PerformFault → Type 0
-HoldsNoText path file (faults.CannotRead named) = IsNoText file × (named.now ≡ path)
-HoldsNoText path file fault = ⊥
+abbrev pub HoldsNoTranscript : List ℕ → File → PerformFault → Type 0
+HoldsNoTranscript path file (faults.CannotRead named) = IsNoText file × (named.now ≡ path)
+HoldsNoTranscript path file fault = ⊥
 
 -- what `replay` answers to the file of a path
 abbrev pub IsReplayedAs : List ℕ → File → Result Answer PerformFault → Type 0
 IsReplayedAs path file (Ok (answers.Replayed output)) = IsReplayed file output.items
 IsReplayedAs path file (Ok answer) = ⊥
-IsReplayedAs path file (Err fault) = HoldsNoText path file fault ⊎ HasNoReplay file fault
+IsReplayedAs path file (Err fault) = HoldsNoTranscript path file fault ⊎ HasNoReplay file fault

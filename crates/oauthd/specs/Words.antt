@@ -4,7 +4,7 @@ use Rattle.std.specs.String.{string_bytes}
 use Rattle.std.specs.declared.alloc.Global.{Global}
 use Rattle.hook_trial.specs.declared.asking.AskWords.{AskWords}
 use Rattle.insn.specs.declared.layout.Layout.TheVariants.{V1, V2}
-use Rattle.hook_commands.specs.Answers.{file_named_by as file_of_hook_command}
+use Rattle.hook_commands.specs.Answers.{file_of_hook_command}
 use Rattle.hook_commands.specs.declared.command.HookCommand.{HookCommand}
 use Rattle.hook_commands.specs.declared.command.HookCommand.TheVariants as hook
 use Rattle.oauthd.specs.declared.command.Command.{Command}
@@ -12,8 +12,8 @@ use Rattle.oauthd.specs.declared.command.Command.TheVariants as commands
 use Rattle.oauthd.specs.declared.command.HelpWord.TheVariants.{Help, Long, Short}
 
 -- the words behind the program's name
-abbrev pub Words : Type 0
-Words = List (String Global)
+abbrev pub Arguments : Type 0
+Arguments = List (String Global)
 
 -- the words that tell an ask
 abbrev pub ask_words : AskWords → List (List ℕ)
@@ -34,22 +34,22 @@ hook_words_of (hook.Ask V1 words) = codes "ask" ∷ ask_words words
 hook_words_of (hook.Ask V2 words) = codes "ask2" ∷ ask_words words
 
 -- the words that name a command
-abbrev pub words_of : Command → List (List ℕ)
-words_of (commands.Hook command) = hook_words_of command
-words_of (commands.Registry path) = codes "registry" ∷ path.now ∷ []
-words_of (commands.State path) = codes "state" ∷ path.now ∷ []
-words_of (commands.Replay path) = codes "replay" ∷ path.now ∷ []
-words_of (commands.Help Help) = codes "help" ∷ []
-words_of (commands.Help Long) = codes "--help" ∷ []
-words_of (commands.Help Short) = codes "-h" ∷ []
-words_of (commands.Explain name) = codes "help" ∷ name.now ∷ []
-words_of commands.Version = codes "--version" ∷ []
+abbrev pub words_of_command : Command → List (List ℕ)
+words_of_command (commands.Hook command) = hook_words_of command
+words_of_command (commands.Registry path) = codes "registry" ∷ path.now ∷ []
+words_of_command (commands.State path) = codes "state" ∷ path.now ∷ []
+words_of_command (commands.Replay path) = codes "replay" ∷ path.now ∷ []
+words_of_command (commands.Help Help) = codes "help" ∷ []
+words_of_command (commands.Help Long) = codes "--help" ∷ []
+words_of_command (commands.Help Short) = codes "-h" ∷ []
+words_of_command (commands.Explain name) = codes "help" ∷ name.now ∷ []
+words_of_command commands.Version = codes "--version" ∷ []
 
-abbrev pub IsCommand : Words → Command → Type 0
-IsCommand words command = map string_bytes words ≡ words_of command
+abbrev pub IsCommand : Arguments → Command → Type 0
+IsCommand words command = map string_bytes words ≡ words_of_command command
 
-abbrev pub IsNoCommand : Words → Type 0
-IsNoCommand words = (command : Command) → map string_bytes words ≢ words_of command
+abbrev pub IsNoCommand : Arguments → Type 0
+IsNoCommand words = (command : Command) → map string_bytes words ≢ words_of_command command
 
 -- a command that tells an ask
 abbrev pub IsAsking : Command → Type 0

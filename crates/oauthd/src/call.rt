@@ -3,7 +3,7 @@
 ghost use Rattle.std.specs.Prelude.{◌≡◌, map};
 ghost use Rattle.std.specs.Option.{option_copied};
 ghost use Rattle.start_words.specs.Options.{hook_said};
-ghost use Rattle.oauthd.specs.Calls.{file_of, hooks_named_by, IsRead};
+ghost use Rattle.oauthd.specs.Calls.{file_of, hooks_named_by, AreWordsRead};
 
 use crate::command::Command;
 use crate::fault::PerformFault;
@@ -23,7 +23,7 @@ pub enum Call<'w> {
 impl<'w> Call<'w> {
     /// What words call for: those behind the program's name. They are read here alone.
     pub fn from_words(alloc: Global, words: &'w [String]) -> Result<Call<'w>, PerformFault<'w>>
-        ensures { IsRead words.now result }
+        ensures { AreWordsRead words.now result }
     {
         if let Some(service) = Service::from_words(alloc, words)? {
             return Ok(Call::Service(service));

@@ -3,7 +3,7 @@
 ghost use Rattle.std.specs.Prelude.{◌≡◌, ◌≢◌, [], ◌∷◌, IfSome, IfNone};
 ghost use Rattle.std.specs.Option.{option_copied};
 ghost use Rattle.oauthd.specs.Answers.{IsAnsweredBy};
-ghost use Rattle.oauthd.specs.Words.{file_named_by, words_of, IsCommand, IsNoCommand};
+ghost use Rattle.oauthd.specs.Words.{file_named_by, words_of_command, IsCommand, IsNoCommand};
 
 use crate::answer::Answer;
 use crate::commands::help::explained;
@@ -51,8 +51,8 @@ pub enum Command<'w> {
 
 /// The command that one word names.
 fn alone<'w>(name: &str) -> Option<Command<'w>>
-    ensures named { IfSome result (λ command. words_of command ≡ name.now ∷ []) }
-    ensures none { IfNone result ((command : Command) → words_of command ≢ name.now ∷ []) }
+    ensures named { IfSome result (λ command. words_of_command command ≡ name.now ∷ []) }
+    ensures none { IfNone result ((command : Command) → words_of_command command ≢ name.now ∷ []) }
 {
     match name {
         "help" => Some(Command::Help(HelpWord::Help)),
@@ -65,8 +65,8 @@ fn alone<'w>(name: &str) -> Option<Command<'w>>
 
 /// The command that two words name.
 fn with_word<'w>(name: &str, word: &'w str) -> Option<Command<'w>>
-    ensures named { IfSome result (λ command. words_of command ≡ name.now ∷ word.now ∷ []) }
-    ensures none { IfNone result ((command : Command) → words_of command ≢ name.now ∷ word.now ∷ []) }
+    ensures named { IfSome result (λ command. words_of_command command ≡ name.now ∷ word.now ∷ []) }
+    ensures none { IfNone result ((command : Command) → words_of_command command ≢ name.now ∷ word.now ∷ []) }
 {
     match name {
         "asm" => Some(Command::Hook(HookCommand::Assemble { path: word })),

@@ -1,7 +1,7 @@
 //! Why a command is not done, and with which status the program then ends.
 
 ghost use Rattle.std.specs.Prelude.{◌≡◌, Some};
-ghost use Rattle.oauthd.specs.Statuses.{code_of, status_of, status_of_hook_command};
+ghost use Rattle.oauthd.specs.Statuses.{exit_code, end_status, status_of_hook_command};
 ghost use Rattle.oauthd.specs.Faults.{of_account, of_configuring, of_listening, of_opening, of_replaying, of_state};
 ghost use Rattle.oauthd.specs.Printed.{fault_text, stop_text};
 ghost use Rattle.oauthd.specs.declared.fault.PerformFault.TheVariants.{OutOfMemory};
@@ -35,7 +35,7 @@ pub enum Status {
 impl Status {
     /// The program's exit status.
     pub fn code(self) -> u8
-        ensures { result ≡ code_of self }
+        ensures { result ≡ exit_code self }
     {
         self as u8
     }
@@ -100,7 +100,7 @@ fn status_of_hook_command(fault: &HookCommandFault<'_>) -> Status
 impl<'w> PerformFault<'w> {
     /// The status with which the program then ends.
     pub fn status(&self) -> Status
-        ensures { result ≡ status_of self.now }
+        ensures { result ≡ end_status self.now }
     {
         match self {
             PerformFault::HookCommand(fault) => status_of_hook_command(fault),

@@ -4,7 +4,7 @@ ghost use Rattle.std.specs.Prelude.{◌≡◌, [], Some, OnOk, IfOk, IfErr, map}
 ghost use Rattle.hook_host.specs.Versions.{version_of};
 ghost use Rattle.image_codec.specs.Facts.{hook_fact};
 ghost use Rattle.start_words.specs.Options.{hook_said};
-ghost use Rattle.oauthd.specs.Hooks.{AreFactsOf, fact_of, HoldsCode, in_file, IsFactOf, RefusesHook, RefusesHooks, said_of, TakesHook, TakesHooks};
+ghost use Rattle.oauthd.specs.Hooks.{AreFactsOf, hook_fact_of, HoldsCode, in_file, IsFactOf, RefusesHook, RefusesHooks, said_of, TakesHook, TakesHooks};
 ghost use Rattle.oauthd.specs.declared.fault.PerformFault.TheVariants.{OutOfMemory};
 
 use crate::fault::PerformFault;
@@ -67,7 +67,7 @@ fn version_of(layout: Layout) -> u64
 impl<'w> HookCode<'w> {
     /// The hook, as a state file has it.
     fn kept(&self) -> KeptHook<'_>
-        ensures { hook_fact result ≡ fact_of self.now }
+        ensures { hook_fact result ≡ hook_fact_of self.now }
     {
         KeptHook {
             name: self.hook.name,
@@ -103,7 +103,7 @@ fn install<'w>(
     read: &HookRead<'w>,
 ) -> Result<HookCode<'w>, PerformFault<'w>>
     ensures done { OnOk result (TakesHook chain.old (in_file read.now) chain.new) }
-    ensures coded { IfOk result (λ installed. IsFactOf (in_file read.now) (fact_of installed)) }
+    ensures coded { IfOk result (λ installed. IsFactOf (in_file read.now) (hook_fact_of installed)) }
     ensures refused { IfErr result (RefusesHook chain.old (in_file read.now)) }
 {
     let hook = read.hook;
@@ -124,7 +124,7 @@ pub fn take_hooks<'w>(
     hooks: &[HookRead<'w>],
 ) -> Result<HooksTaken<'w>, PerformFault<'w>>
     ensures taken { IfOk result (λ taken. TakesHooks [] (map in_file hooks.now) taken.chain) }
-    ensures coded { IfOk result (λ taken. AreFactsOf (map in_file hooks.now) (map fact_of taken.codes.items)) }
+    ensures coded { IfOk result (λ taken. AreFactsOf (map in_file hooks.now) (map hook_fact_of taken.codes.items)) }
     ensures refused { IfErr result (RefusesHooks [] (map in_file hooks.now)) }
 {
     let mut chain = Chain::new(alloc);
@@ -143,7 +143,7 @@ pub fn kept_hooks<'c>(
     alloc: Global,
     codes: &'c [HookCode<'_>],
 ) -> Result<Vec<KeptHook<'c>>, AllocError>
-    ensures { IfOk result (λ kept. map hook_fact kept.items ≡ map fact_of codes.now) }
+    ensures { IfOk result (λ kept. map hook_fact kept.items ≡ map hook_fact_of codes.now) }
 {
     let mut kept = Vec::new(alloc);
     for code in codes {

@@ -1,7 +1,7 @@
 //! The commands that have an option, or many words.
 
 ghost use Rattle.std.specs.Prelude.{◌≡◌, ◌≢◌, [], ◌∷◌, map, string_bytes, IfSome, IfNone};
-ghost use Rattle.oauthd.specs.Words.{ask_words, words_of, IsAsking, IsCommand, IsOptional};
+ghost use Rattle.oauthd.specs.Words.{ask_words, words_of_command, IsAsking, IsCommand, IsOptional};
 
 use crate::command::Command;
 use hook_commands::HookCommand;
@@ -10,9 +10,9 @@ use insn::layout::Layout;
 
 /// The command about a file that a name, an option and the file's path name.
 pub fn with_option<'w>(name: &str, option: &str, word: &'w str) -> Option<Command<'w>>
-    ensures named { IfSome result (λ command. words_of command ≡ name.now ∷ option.now ∷ word.now ∷ []) }
+    ensures named { IfSome result (λ command. words_of_command command ≡ name.now ∷ option.now ∷ word.now ∷ []) }
     ensures none { IfNone result ((command : Command) → IsOptional command →
-        words_of command ≢ name.now ∷ option.now ∷ word.now ∷ []) }
+        words_of_command command ≢ name.now ∷ option.now ∷ word.now ∷ []) }
 {
     match (name, option) {
         ("list", "--slots") => Some(Command::Hook(HookCommand::ListSlots { path: word })),
@@ -36,9 +36,9 @@ pub fn to_trace<'w>(
     record_hex: &'w str,
 ) -> Option<Command<'w>>
     ensures named { IfSome result (λ command.
-        words_of command ≡ name.now ∷ option.now ∷ code_hex.now ∷ record_hex.now ∷ []) }
+        words_of_command command ≡ name.now ∷ option.now ∷ code_hex.now ∷ record_hex.now ∷ []) }
     ensures none { IfNone result ((command : Command) →
-        words_of command ≢ name.now ∷ option.now ∷ code_hex.now ∷ record_hex.now ∷ []) }
+        words_of_command command ≢ name.now ∷ option.now ∷ code_hex.now ∷ record_hex.now ∷ []) }
 {
     match (name, option) {
         ("run", "--trace") => Some(Command::Hook(HookCommand::Trace {
@@ -51,8 +51,8 @@ pub fn to_trace<'w>(
 
 /// The command that a name and the words of an ask name.
 fn asking<'w>(name: &str, words: AskWords<'w>) -> Option<Command<'w>>
-    ensures named { IfSome result (λ command. words_of command ≡ name.now ∷ ask_words words.entry) }
-    ensures none { IfNone result ((command : Command) → words_of command ≢ name.now ∷ ask_words words.entry) }
+    ensures named { IfSome result (λ command. words_of_command command ≡ name.now ∷ ask_words words.entry) }
+    ensures none { IfNone result ((command : Command) → words_of_command command ≢ name.now ∷ ask_words words.entry) }
 {
     let layout = match name {
         "ask" => Layout::V1,
@@ -66,7 +66,7 @@ fn asking<'w>(name: &str, words: AskWords<'w>) -> Option<Command<'w>>
 pub fn to_ask<'w>(words: &'w [String]) -> Option<Command<'w>>
     ensures named { IfSome result (IsCommand words.now) }
     ensures none { IfNone result ((command : Command) → IsAsking command →
-        map string_bytes words.now ≢ words_of command) }
+        map string_bytes words.now ≢ words_of_command command) }
 {
     match words {
         [name, kind, now, client, owner, scope, life] => asking(

@@ -5,11 +5,11 @@ ghost use Rattle.std.specs.Io.KnownBytes.{Appends};
 ghost use Rattle.std.specs.Option.{option_copied};
 ghost use Rattle.daemon.specs.Started.{keeping_by};
 ghost use Rattle.oauthd.specs.Endings.{EndsCall, EndsWords};
-ghost use Rattle.oauthd.specs.Listening.{EndsService, FailsService, files_in, HasServed};
+ghost use Rattle.oauthd.specs.Listening.{EndsService, FailsService, files_in, ServeEnded};
 ghost use Rattle.oauthd.specs.Performed.{EndsCommand};
 ghost use Rattle.oauthd.specs.Printed.{told_text};
 ghost use Rattle.oauthd.specs.Startings.{startings};
-ghost use Rattle.oauthd.specs.Statuses.{status_of};
+ghost use Rattle.oauthd.specs.Statuses.{end_status};
 
 use crate::call::Call;
 use crate::call_files::{CallFiles, read_files};
@@ -113,7 +113,7 @@ pub fn write_text<W: Write, D: Display + Drop>(to: &mut W, text: D) -> io::Resul
 /// Reports a fault in one line, and gives the status that it has.
 pub fn report<E: Write>(fault: PerformFault<'_>, err: &mut E) -> Result<Status, Unwritten>
     ensures { IfOk result (λ status.
-        (status ≡ status_of fault.entry) × Appends (E.contents err.old) (E.contents err.new) (told_text fault.entry)) }
+        (status ≡ end_status fault.entry) × Appends (E.contents err.old) (E.contents err.new) (told_text fault.entry)) }
 {
     match write_text(err, format_args!("oauthd: {fault}\n")) {
         Ok(()) => Ok(fault.status()),
@@ -124,7 +124,7 @@ pub fn report<E: Write>(fault: PerformFault<'_>, err: &mut E) -> Result<Status, 
 /// Tells a fault in one line, and says how the program then ends. A write that fails is bad use.
 pub fn told<E: Write>(fault: PerformFault<'_>, err: &mut E) -> Status
     ensures { (result ≡ Status.BadUse)
-        ⊎ ((result ≡ status_of fault.entry) × Appends (E.contents err.old) (E.contents err.new) (told_text fault.entry)) }
+        ⊎ ((result ≡ end_status fault.entry) × Appends (E.contents err.old) (E.contents err.new) (told_text fault.entry)) }
 {
     match report(fault, err) {
         Ok(status) => status,
@@ -147,7 +147,7 @@ fn serve_as<
     out: &mut W,
     err: &mut E,
 ) -> Result<(), PerformFault<'w>>
-    ensures done { OnOk result (HasServed service.now (files_in files.entry) (W.contents out.old) (W.contents out.new)) }
+    ensures done { OnOk result (ServeEnded service.now (files_in files.entry) (W.contents out.old) (W.contents out.new)) }
     ensures fault { IfErr result (λ fault.
         FailsService (startings ⟦<MachineClocks<'r, R> as Clocks>⟧
         ⟦<LineJournal<'e, E> as Journal>⟧ (keeping_by ⟦<OnDisk<'r, R> as Keeper>⟧ ⟦<OnDisk<'r, R> as ImageKeeper>⟧.is_long))

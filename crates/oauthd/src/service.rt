@@ -2,11 +2,11 @@
 
 ghost use Rattle.std.specs.Prelude.{◌≡◌, ◌∷◌, ℕ, List, map, IfOk, IfErr, IfSome, IfNone, string_bytes};
 ghost use Rattle.start_words.specs.Options.{hook_said};
-ghost use Rattle.oauthd.specs.Services.{config_of, GiveServe, GiveStart, hooks_of, IsNoService, IsSeed, IsService, ServiceFails, StartFails};
+ghost use Rattle.oauthd.specs.Services.{config_of, GiveServe, GiveStart, hooks_installed, IsNoService, IsSeed, IsService, ServiceFails, StartFails};
 
 use crate::fault::PerformFault;
 use hook_commands::bytes_of_hex;
-use start_words::{HookFile, StartFault, StartWords, number_of};
+use start_words::{HookFile, StartFault, StartWords, number_said};
 use std::alloc::{AllocError, Global};
 
 /// What `serve ADDR CONFIG SEEDHEX COUNT` is given.
@@ -53,7 +53,7 @@ fn serve_given<'w>(alloc: Global, words: &'w [String]) -> Result<Option<ServeWor
     let Some(seed) = seed_of(alloc, seed_hex.as_str())? else {
         return Ok(None);
     };
-    let Some(count) = number_of(count.as_str()) else {
+    let Some(count) = number_said(count.as_str()) else {
         return Ok(None);
     };
     Ok(Some(ServeWords {
@@ -119,7 +119,7 @@ impl<'w> Service<'w> {
 
     /// The hooks that are installed before it listens.
     pub fn hooks(&self) -> &[HookFile<'w>]
-        ensures { map hook_said result.now ≡ hooks_of self.now }
+        ensures { map hook_said result.now ≡ hooks_installed self.now }
     {
         match self {
             Service::Serve(_) => &[],

@@ -3,9 +3,9 @@
 ghost use Rattle.std.specs.Prelude.{◌≡◌, IfOk, IfErr, map};
 ghost use Rattle.std.specs.Bool.{OnTrue};
 ghost use Rattle.std.specs.Io.KnownBytes.{Appends};
-ghost use Rattle.oauthd.specs.Hooks.{fact_of};
+ghost use Rattle.oauthd.specs.Hooks.{hook_fact_of};
 ghost use Rattle.oauthd.specs.Printed.{cut_text};
-ghost use Rattle.state_file.specs.Accounts.{IsTorn};
+ghost use Rattle.state_file.specs.Accounts.{HasTornEnd};
 ghost use Rattle.oauthd.specs.Startings.{ComesOfState, RefusesState, keeping_of};
 
 use crate::fault::PerformFault;
@@ -24,7 +24,7 @@ use std::rt::Files;
 
 /// How many bytes of an unfinished write stand in a state file.
 fn torn_in(alloc: Global, bytes: &[u8]) -> Result<usize, AllocError>
-    ensures { IfOk result (IsTorn bytes.now) }
+    ensures { IfOk result (HasTornEnd bytes.now) }
 {
     let found = read_batches(alloc, bytes)?;
     Ok(torn_behind(bytes, found.end))
@@ -55,8 +55,8 @@ pub fn start_at<'r, R: Files<File = File> + AllocGlobal, E: Write>(
     codes: &[HookCode<'_>],
     err: &mut E,
 ) -> Result<Started<DiskFile<'r, R>, Chain>, PerformFault<'static>>
-    ensures started { IfOk result (ComesOfState (keeping_of ⟦<StateKeeper<DiskFile<'r, R>> as Keeper>⟧) registry (map fact_of codes.now)) }
-    ensures refused { IfErr result (RefusesState registry (map fact_of codes.now)) }
+    ensures started { IfOk result (ComesOfState (keeping_of ⟦<StateKeeper<DiskFile<'r, R>> as Keeper>⟧) registry (map hook_fact_of codes.now)) }
+    ensures refused { IfErr result (RefusesState registry (map hook_fact_of codes.now)) }
 {
     let alloc = rt.alloc();
     let Opened { device, bytes } = DiskFile::open(rt, path)?;

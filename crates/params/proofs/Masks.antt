@@ -9,7 +9,7 @@ use Rattle.std.specs.Int.{bit_at}
 use Rattle.params.specs.Form.{any_twice}
 use Rattle.params.specs.FormLaws.{bytes_eq-sym, same_bytes}
 use Rattle.params.specs.ScopeLaws.{bit_of, bit_of-small}
-use Rattle.params.specs.Scope.{is_among, mask_of, place_of}
+use Rattle.params.specs.Scope.{is_among, mask_of, place_among}
 
 module _ {Y : Type 0} where
   pub position_from-texts : (name : List ℕ) (i : ℕ) (names : List (String Y)) → position_from (λ s. bytes_eq name (string_bytes s)) i names ≡ position_from (bytes_eq name) i (map string_bytes names)
@@ -68,7 +68,7 @@ place_after t k (n ∷ names) = by (t n) (place_after t (k + 1) names)
     by false e = e
 
 -- one more token sets the bit of its place
-pub mask_of-cons : (names : List (List ℕ)) (t : List ℕ) (ts : List (List ℕ)) (i : ℕ) → any_twice names ≡ false → place_of t names ≡ Some i → mask_of names (t ∷ ts) ≡ bit_or (2 ^ i) (mask_of names ts)
+pub mask_of-cons : (names : List (List ℕ)) (t : List ℕ) (ts : List (List ℕ)) (i : ℕ) → any_twice names ≡ false → place_among t names ≡ Some i → mask_of names (t ∷ ts) ≡ bit_or (2 ^ i) (mask_of names ts)
 mask_of-cons [] t ts i once at = cc at
 mask_of-cons (n ∷ names) t ts i once at = by (bytes_eq t n) refl (position_from (bytes_eq t) 0 names) refl at (λ j f. mask_of-cons names t ts j parts.1 f)
   where
@@ -77,7 +77,7 @@ mask_of-cons (n ∷ names) t ts i once at = by (bytes_eq t n) refl (position_fro
 
     by : (b : Bool) → bytes_eq t n ≡ b → (o : Option ℕ) → position_from (bytes_eq t) 0 names ≡ o
         → cond b (Some 0) (position_from (bytes_eq t) 1 names) ≡ Some i
-        → ((j : ℕ) → place_of t names ≡ Some j → mask_of names (t ∷ ts) ≡ bit_or (2 ^ j) (mask_of names ts))
+        → ((j : ℕ) → place_among t names ≡ Some j → mask_of names (t ∷ ts) ≡ bit_or (2 ^ j) (mask_of names ts))
         → mask_of (n ∷ names) (t ∷ ts) ≡ bit_or (2 ^ i) (mask_of (n ∷ names) ts)
     by true e o f at later =
         let first : 0 ≡ i = cc at in
@@ -100,5 +100,5 @@ place_before t k (n ∷ names) i at = by (t n) at (place_before t (k + 1) names 
     by false e later = omega (arith, later e)
 
 -- a place is one of the list
-pub place-lt : (names : List (List ℕ)) (t : List ℕ) (i : ℕ) → place_of t names ≡ Some i → i < length names
+pub place-lt : (names : List (List ℕ)) (t : List ℕ) (i : ℕ) → place_among t names ≡ Some i → i < length names
 place-lt names t i at = omega (arith, place_before (bytes_eq t) 0 names i at)

@@ -4,7 +4,7 @@ use Rattle.std.specs.Prelude.{bytes_eq}
 use Rattle.std.specs.List.{list_any}
 use Rattle.std.proofs.lemmas.Bool.{or_left, or_right, or_cases}
 use Rattle.std.proofs.lemmas.List.Folds.{list_any-append}
-use Rattle.params.specs.Form.{any_twice, names_in, texts_of}
+use Rattle.params.specs.Form.{any_twice, names_of_pairs, texts_of}
 use Rattle.params.specs.FormLaws.{bytes_eq-sym}
 
 -- a name that stands before stands twice
@@ -17,7 +17,7 @@ any_twice-later (n ∷ names) name left stands =
     ]
 
 -- of fewer than two names none stands twice
-pub few_once : {A : Type 0} (ps : List (String A × String A)) → length ps < 2 → any_twice (names_in (texts_of ps)) ≡ false
+pub few_once : {A : Type 0} (ps : List (String A × String A)) → length ps < 2 → any_twice (names_of_pairs (texts_of ps)) ≡ false
 few_once [] few = refl
 few_once (p ∷ []) few = refl
 few_once (p ∷ q ∷ ps) few = absurd (omega (arith, few))

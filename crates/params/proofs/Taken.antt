@@ -6,7 +6,7 @@ use Rattle.std.proofs.Math.Seq.{drop-cons}
 use Rattle.std.proofs.lemmas.Bool.{or_left, or_right}
 use Rattle.std.proofs.lemmas.List.{drop-map}
 use Rattle.std.proofs.lemmas.List.Folds.{list_any-append}
-use Rattle.params.specs.Form.{value_of}
+use Rattle.params.specs.Form.{value_sent}
 use Rattle.params.specs.FormLaws.{bytes_eq-sym}
 
 -- the next item of a list, and of what it is mapped to
@@ -21,10 +21,10 @@ module _ {X : Type 0} where
 
 -- the value of a name, looked up from the next parameter on
 pub value_at : (name : List ℕ) (params : List (List ℕ × List ℕ)) (i : ℕ) (p : List ℕ × List ℕ) (b : Bool)
-    → drop i params ≡ p ∷ drop (i + 1) params → value_of name params ≡ value_of name (drop i params) → bytes_eq name p.0 ≡ b
-    → value_of name params ≡ cond b (Some p.1) (value_of name (drop (i + 1) params))
+    → drop i params ≡ p ∷ drop (i + 1) params → value_sent name params ≡ value_sent name (drop i params) → bytes_eq name p.0 ≡ b
+    → value_sent name params ≡ cond b (Some p.1) (value_sent name (drop (i + 1) params))
 value_at name params i p b next so_far test =
-    so_far ∙ ap (λ ps. value_of name ps) next ∙ ap (λ t. cond t (Some p.1) (value_of name (drop (i + 1) params))) test
+    so_far ∙ ap (λ ps. value_sent name ps) next ∙ ap (λ t. cond t (Some p.1) (value_sent name (drop (i + 1) params))) test
 
 -- a name is among those taken, and then among those with one more
 pub taken_with : {X : Type 0} (q name : List ℕ) (taken : List (List ℕ)) (o : Option X) (w : X) → is_some o ≡ list_any (bytes_eq q) taken

@@ -9,7 +9,7 @@ use Rattle.std.specs.Int.{bit_at}
 use Rattle.std.proofs.Math.Pow.{pow-lt}
 use Rattle.std.specs.Int.Bits.{or_zero_r}
 use Rattle.params.specs.Form.{any_twice}
-use Rattle.params.specs.Scope.{is_among, mask_of, place_of}
+use Rattle.params.specs.Scope.{is_among, mask_of, place_among}
 use Rattle.params.specs.ScopeLaws.{is_some-position_from}
 use Rattle.params.proofs.Masks.{mask_of-cons, mask_of-nil}
 
@@ -29,14 +29,14 @@ scope_after names mask left = if list_all (λ token. is_among token names) left 
 pub scope_after-nil : (names : List (List ℕ)) (mask : ℕ) → scope_after names mask [] ≡ Some mask
 scope_after-nil names mask = ap (λ m. Some (bit_or mask m)) (mask_of-nil names) ∙ ap (λ m. Some m) (or_zero_r mask)
 
-pub scope_after-cons : (names : List (List ℕ)) (mask : ℕ) (t : List ℕ) (ts : List (List ℕ)) (i : ℕ) → any_twice names ≡ false → i < 64 → place_of t names ≡ Some i
+pub scope_after-cons : (names : List (List ℕ)) (mask : ℕ) (t : List ℕ) (ts : List (List ℕ)) (i : ℕ) → any_twice names ≡ false → i < 64 → place_among t names ≡ Some i
     → scope_after names mask (t ∷ ts) ≡ scope_after names (bit_or mask (1 * 2 ^ i % 2 ^ 64)) ts
 scope_after-cons names mask t ts i once small at =
     let known : is_among t names ≡ true = sym (is_some-position_from (bytes_eq t) 0 names) ∙ ap (λ o. is_some o) at in
     let bit : 1 * 2 ^ i % 2 ^ 64 ≡ 2 ^ i = omega (arith, pow-lt small) in
     rw (known, mask_of-cons names t ts i once at, bit) (ap (λ m. if list_all (λ token. is_among token names) ts then Some m else None) (sym (or_assoc mask (2 ^ i) (mask_of names ts))))
 
-pub scope_after-none : (names : List (List ℕ)) (mask : ℕ) (t : List ℕ) (ts : List (List ℕ)) → place_of t names ≡ None → scope_after names mask (t ∷ ts) ≡ None
+pub scope_after-none : (names : List (List ℕ)) (mask : ℕ) (t : List ℕ) (ts : List (List ℕ)) → place_among t names ≡ None → scope_after names mask (t ∷ ts) ≡ None
 scope_after-none names mask t ts none =
     let unknown : is_among t names ≡ false = sym (is_some-position_from (bytes_eq t) 0 names) ∙ ap (λ o. is_some o) none in
     rw unknown refl

@@ -10,16 +10,16 @@ use Rattle.std.proofs.lemmas.List.Elements.{All-nil, All-cons}
 use Rattle.std.proofs.lemmas.Slice.Eq.{bytes_eq-Decides}
 use Rattle.std.proofs.lemmas.List.Splits.{slice_split_none, slice_split_at}
 use Rattle.params.specs.Form.{any_twice}
-use Rattle.params.specs.Scope.{is_scope_character, is_scope_token, is_scope_name, is_among, IsCatalogue, tokens_of, mask_of, names_of, scope_mask, scope_text, with_name}
+use Rattle.params.specs.Scope.{is_scope_character, is_scope_token, is_scope_name, is_among, IsCatalogue, tokens_of, mask_of, names_in_mask, scope_mask, scope_text, text_with_name}
 use Rattle.params.specs.ScopeLaws.{list_all-names_of}
 use Rattle.params.proofs.Masks.{mask_of-cons_other, mask_of-nil}
 
 -- the written text, when the names so far have this text and those are left
 abbrev pub text_after : List ℕ → List (List ℕ) → List ℕ
 text_after text [] = text
-text_after text (name ∷ names) = with_name text (join_with_byte 0x20 (name ∷ names))
+text_after text (name ∷ names) = text_with_name text (join_with_byte 0x20 (name ∷ names))
 
-pub text_after-cons : (text name : List ℕ) (names : List (List ℕ)) → is_scope_name name ≡ true → text_after text (name ∷ names) ≡ text_after (with_name text name) names
+pub text_after-cons : (text name : List ℕ) (names : List (List ℕ)) → is_scope_name name ≡ true → text_after text (name ∷ names) ≡ text_after (text_with_name text name) names
 text_after-cons text name [] is = refl
 text_after-cons [] [] (m ∷ ms) is = cc is
 text_after-cons [] (c ∷ cs) (m ∷ ms) is = refl
@@ -31,24 +31,24 @@ list_all-drop p i names all =
 
 -- one turn of the loop over the names, where the bit is set
 pub text_after-odd : (text : List ℕ) (names : List (List ℕ)) (i left : ℕ) (name : List ℕ) → list_all is_scope_name names ≡ true → drop i names ≡ name ∷ drop (i + 1) names → left % 2 ≡ 1
-    → text_after text (names_of (drop i names) left) ≡ text_after (with_name text name) (names_of (drop (i + 1) names) (left / 2))
+    → text_after text (names_in_mask (drop i names) left) ≡ text_after (text_with_name text name) (names_in_mask (drop (i + 1) names) (left / 2))
 text_after-odd text names i left name all at odd =
     let is = (and_parts (is_scope_name name) (list_all is_scope_name (drop (i + 1) names)) (ap (λ l. list_all is_scope_name l) (sym at) ∙ list_all-drop is_scope_name i names all)).0 in
-    ap (λ l. text_after text (names_of l left)) at
-    ∙ ap (λ b. text_after text (if b then name ∷ names_of (drop (i + 1) names) (left / 2) else names_of (drop (i + 1) names) (left / 2))) (eq-eqb (left % 2) 1 odd)
-    ∙ text_after-cons text name (names_of (drop (i + 1) names) (left / 2)) is
+    ap (λ l. text_after text (names_in_mask l left)) at
+    ∙ ap (λ b. text_after text (if b then name ∷ names_in_mask (drop (i + 1) names) (left / 2) else names_in_mask (drop (i + 1) names) (left / 2))) (eq-eqb (left % 2) 1 odd)
+    ∙ text_after-cons text name (names_in_mask (drop (i + 1) names) (left / 2)) is
 
 -- and where it is not
 pub text_after-even : (text : List ℕ) (names : List (List ℕ)) (i left : ℕ) (name : List ℕ) → drop i names ≡ name ∷ drop (i + 1) names → left % 2 ≢ 1
-    → text_after text (names_of (drop i names) left) ≡ text_after text (names_of (drop (i + 1) names) (left / 2))
+    → text_after text (names_in_mask (drop i names) left) ≡ text_after text (names_in_mask (drop (i + 1) names) (left / 2))
 text_after-even text names i left name at even =
-    ap (λ l. text_after text (names_of l left)) at
-    ∙ ap (λ b. text_after text (if b then name ∷ names_of (drop (i + 1) names) (left / 2) else names_of (drop (i + 1) names) (left / 2))) (ne_eqb (left % 2) 1 even)
+    ap (λ l. text_after text (names_in_mask l left)) at
+    ∙ ap (λ b. text_after text (if b then name ∷ names_in_mask (drop (i + 1) names) (left / 2) else names_in_mask (drop (i + 1) names) (left / 2))) (ne_eqb (left % 2) 1 even)
 
 -- past the last name the text is whole
 pub text_after-end : (text whole : List ℕ) (names : List (List ℕ)) (i left : ℕ) → length names ≤ i
-    → text_after text (names_of (drop i names) left) ≡ whole → text ≡ whole
-text_after-end text whole names i left past is = ap (λ l. text_after text (names_of l left)) (sym (drop_all i names past)) ∙ is
+    → text_after text (names_in_mask (drop i names) left) ≡ whole → text ≡ whole
+text_after-end text whole names i left past is = ap (λ l. text_after text (names_in_mask l left)) (sym (drop_all i names past)) ∙ is
 
 -- the text is not empty where a name is left
 some_after : (text name : List ℕ) (names : List (List ℕ)) → is_scope_name name ≡ true → 0 < length (text_after text (name ∷ names))
@@ -58,13 +58,13 @@ some_after [] (c ∷ cs) [] is = omega arith
 some_after [] (c ∷ cs) (m ∷ ms) is = omega arith
 
 pub text_after-some : (text : List ℕ) (names : List (List ℕ)) (i left : ℕ) (name : List ℕ) → list_all is_scope_name names ≡ true → drop i names ≡ name ∷ drop (i + 1) names → left % 2 ≡ 1
-    → 0 < length (text_after text (names_of (drop i names) left))
+    → 0 < length (text_after text (names_in_mask (drop i names) left))
 text_after-some text names i left name all at odd =
     let is = (and_parts (is_scope_name name) (list_all is_scope_name (drop (i + 1) names)) (ap (λ l. list_all is_scope_name l) (sym at) ∙ list_all-drop is_scope_name i names all)).0 in
-    let here : names_of (drop i names) left ≡ name ∷ names_of (drop (i + 1) names) (left / 2) =
-    ap (λ l. names_of l left) at
-    ∙ ap (λ b. if b then name ∷ names_of (drop (i + 1) names) (left / 2) else names_of (drop (i + 1) names) (left / 2)) (eq-eqb (left % 2) 1 odd) in
-    rw here (some_after text name (names_of (drop (i + 1) names) (left / 2)) is)
+    let here : names_in_mask (drop i names) left ≡ name ∷ names_in_mask (drop (i + 1) names) (left / 2) =
+    ap (λ l. names_in_mask l left) at
+    ∙ ap (λ b. if b then name ∷ names_in_mask (drop (i + 1) names) (left / 2) else names_in_mask (drop (i + 1) names) (left / 2)) (eq-eqb (left % 2) 1 odd) in
+    rw here (some_after text name (names_in_mask (drop (i + 1) names) (left / 2)) is)
 
 -- ---- read back
 
@@ -98,19 +98,19 @@ all_among front (n ∷ names) = and_from _ _
     (ap (λ l. list_all (λ t. is_among t l) names) (sym (append_assoc front (n ∷ []) names)) ∙ all_among (front ++ n ∷ []) names)
 
 -- a name that is not in the list is not among those of a mask
-among-names_of : (q : List ℕ) (names : List (List ℕ)) (mask : ℕ) → is_among q names ≡ false → is_among q (names_of names mask) ≡ false
+among-names_of : (q : List ℕ) (names : List (List ℕ)) (mask : ℕ) → is_among q names ≡ false → is_among q (names_in_mask names mask) ≡ false
 among-names_of q [] mask new = refl
 among-names_of q (n ∷ names) mask new = by (mask % 2 == 1) (among-names_of q names (mask / 2) parts.1)
   where
     parts : (bytes_eq q n ≡ false) × (is_among q names ≡ false)
     parts = or_parts (bytes_eq q n) (is_among q names) new
 
-    by : (b : Bool) → is_among q (names_of names (mask / 2)) ≡ false → is_among q (if b then n ∷ names_of names (mask / 2) else names_of names (mask / 2)) ≡ false
+    by : (b : Bool) → is_among q (names_in_mask names (mask / 2)) ≡ false → is_among q (if b then n ∷ names_in_mask names (mask / 2) else names_in_mask names (mask / 2)) ≡ false
     by true later = or_from _ _ parts.0 later
     by false later = later
 
 -- the mask of the names of a mask is that mask
-mask_of-names_of : (names : List (List ℕ)) (mask : ℕ) → any_twice names ≡ false → mask < 2 ^ length names → mask_of names (names_of names mask) ≡ mask
+mask_of-names_of : (names : List (List ℕ)) (mask : ℕ) → any_twice names ≡ false → mask < 2 ^ length names → mask_of names (names_in_mask names mask) ≡ mask
 mask_of-names_of [] mask once fits = omega arith
 mask_of-names_of (n ∷ names) mask once fits =
     by (mask % 2 == 1) refl (mask_of-names_of names (mask / 2) parts.1 (omega (arith, pow-succ' 2 (length names))))
@@ -118,16 +118,16 @@ mask_of-names_of (n ∷ names) mask once fits =
     parts : (is_among n names ≡ false) × (any_twice names ≡ false)
     parts = or_parts (is_among n names) (any_twice names) once
 
-    by : (b : Bool) → (mask % 2 == 1) ≡ b → mask_of names (names_of names (mask / 2)) ≡ mask / 2
-        → mask_of (n ∷ names) (if b then n ∷ names_of names (mask / 2) else names_of names (mask / 2)) ≡ mask
+    by : (b : Bool) → (mask % 2 == 1) ≡ b → mask_of names (names_in_mask names (mask / 2)) ≡ mask / 2
+        → mask_of (n ∷ names) (if b then n ∷ names_in_mask names (mask / 2) else names_in_mask names (mask / 2)) ≡ mask
     by true e later =
-        rw (or_left (bytes_eq n n) (is_among n (names_of names (mask / 2))) ((bytes_eq-Decides n n).1 refl), mask_of-cons_other names n (names_of names (mask / 2)) parts.0, later) (omega (arith, eqb-true (mask % 2) 1 e))
+        rw (or_left (bytes_eq n n) (is_among n (names_in_mask names (mask / 2))) ((bytes_eq-Decides n n).1 refl), mask_of-cons_other names n (names_in_mask names (mask / 2)) parts.0, later) (omega (arith, eqb-true (mask % 2) 1 e))
     by false e later =
         rw (among-names_of n names (mask / 2) parts.0, later) (omega (arith, eqb-false (mask % 2) 1 e))
 
 pub read_back : (names : List (List ℕ)) (mask : ℕ) → IsCatalogue names → 0 < mask → mask < 2 ^ length names → scope_mask names (scope_text names mask) ≡ Some mask
 read_back names mask is some fits =
-    by (names_of names mask) (mask_of-names_of names mask is.distinct fits) (list_all-names_of is_scope_name names mask is.scope_names) (list_all-names_of (λ t. is_among t names) names mask (all_among [] names))
+    by (names_in_mask names mask) (mask_of-names_of names mask is.distinct fits) (list_all-names_of is_scope_name names mask is.scope_names) (list_all-names_of (λ t. is_among t names) names mask (all_among [] names))
   where
     by : (ts : List (List ℕ)) → mask_of names ts ≡ mask → list_all is_scope_name ts ≡ true → list_all (λ t. is_among t names) ts ≡ true → scope_mask names (join_with_byte 0x20 ts) ≡ Some mask
     by [] made all known = absurd (omega (arith, made, mask_of-nil names))

@@ -8,12 +8,12 @@ use Rattle.params.specs.declared.params.ParamFault.{ParamFault}
 use Rattle.params.specs.declared.params.ParamFault.TheVariants.{Twice, NotUtf8, Memory}
 
 -- the text of a name or a value, with U+FFFD where its bytes are not UTF-8
-abbrev pub text_of : List ℕ → List ℕ
-text_of bytes = utf8_lossy (decode bytes)
+abbrev pub lossy_text : List ℕ → List ℕ
+lossy_text bytes = utf8_lossy (decode bytes)
 
 -- the pairs, decoded, less those with an empty value
 abbrev pub sent : List (List ℕ × List ℕ) → List (List ℕ × List ℕ)
-sent raw = filter (λ p. is_nonempty p.1) (map (λ p. (text_of p.0, text_of p.1)) raw)
+sent raw = filter (λ p. is_nonempty p.1) (map (λ p. (lossy_text p.0, lossy_text p.1)) raw)
 
 -- the pairs of a form that count as sent
 abbrev pub pairs : List ℕ → List (List ℕ × List ℕ)
@@ -34,14 +34,14 @@ any_twice [] = false
 any_twice (x ∷ xs) = list_any (bytes_eq x) xs || any_twice xs
 
 -- the names of the pairs
-abbrev pub names_in : List (List ℕ × List ℕ) → List (List ℕ)
-names_in ps = map (λ p. p.0) ps
+abbrev pub names_of_pairs : List (List ℕ × List ℕ) → List (List ℕ)
+names_of_pairs ps = map (λ p. p.0) ps
 
 -- the pairs, where none is damaged and no name stands twice, or the first fault
 abbrev pub checked : List (List ℕ × List ℕ) → Result (List (List ℕ × List ℕ)) ParamFault
 checked ps =
     if list_any is_damaged ps then Err NotUtf8
-    else (if any_twice (names_in ps) then Err Twice else Ok ps)
+    else (if any_twice (names_of_pairs ps) then Err Twice else Ok ps)
 
 -- the parameters of a form in the order in which they were sent, or the first fault
 abbrev pub read_params : List ℕ → Result (List (List ℕ × List ℕ)) ParamFault
@@ -57,5 +57,5 @@ abbrev pub texts_of : {A : Type 0} → List (String A × String A) → List (Lis
 texts_of ps = map (λ p. (string_bytes p.0, string_bytes p.1)) ps
 
 -- the value of the parameter of this name
-abbrev pub value_of : List ℕ → List (List ℕ × List ℕ) → Option (List ℕ)
-value_of name params = lookup (bytes_eq name) params
+abbrev pub value_sent : List ℕ → List (List ℕ × List ℕ) → Option (List ℕ)
+value_sent name params = lookup (bytes_eq name) params

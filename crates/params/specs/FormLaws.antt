@@ -12,7 +12,7 @@ use Rattle.std.proofs.lemmas.List.Elements.{All-nil, All-cons, All-head, All-tai
 use Rattle.std.proofs.lemmas.Str.{utf8_lossy_step}
 use Rattle.percent_encoding.proofs.PercentLemmas.{length-percent_decode}
 use Rattle.form_urlencoded.specs.Form.{raw_pairs, split, onto_first, split_pair, ampersand, decode, plus_to_space, is_nonempty}
-use Rattle.params.specs.Form.{text_of, sent, pairs, has_replacement, is_damaged, any_twice, names_in, checked, read_params, value_of}
+use Rattle.params.specs.Form.{lossy_text, sent, pairs, has_replacement, is_damaged, any_twice, names_of_pairs, checked, read_params, value_sent}
 use Rattle.params.specs.declared.params.ParamFault.TheVariants.{Twice, NotUtf8}
 
 pub same_bytes : (a b : List ℕ) → bytes_eq a b ≡ true → a ≡ b
@@ -53,7 +53,7 @@ undamaged bytes h = by_test (utf8_valid_len bytes == length bytes) refl
         ∙ has_replacement-after (take (utf8_valid_len bytes) bytes) (replacement_bytes ++ utf8_lossy (after_first_chunk bytes)) refl))
 
 -- a text without U+FFFD is no longer than the bytes that were sent for it
-pub length-text_of : (bytes : List ℕ) → has_replacement (text_of bytes) ≡ false → length (text_of bytes) ≤ length bytes
+pub length-text_of : (bytes : List ℕ) → has_replacement (lossy_text bytes) ≡ false → length (lossy_text bytes) ≤ length bytes
 length-text_of bytes h =
     let same = ap (λ (l : List ℕ). length l) (undamaged (decode bytes) h) in
     omega (arith, same, (length-percent_decode (map plus_to_space bytes)).0, length-map bytes plus_to_space)
@@ -96,28 +96,28 @@ short_values input =
     (split ampersand input) (short_pieces ampersand input)))
 
 value_among : (name value : List ℕ) (n : ℕ) (raw : List (List ℕ × List ℕ)) → All (HasShortValue n) raw
-    → list_any is_damaged (sent raw) ≡ false → value_of name (sent raw) ≡ Some value → length value ≤ n
+    → list_any is_damaged (sent raw) ≡ false → value_sent name (sent raw) ≡ Some value → length value ≤ n
 value_among name value n [] short whole found = cc found
 value_among name value n (p ∷ raw) short whole found =
-    sent_or_not (is_nonempty (text_of p.1)) whole found (value_among name value n raw (All-tail (HasShortValue n) p raw short))
+    sent_or_not (is_nonempty (lossy_text p.1)) whole found (value_among name value n raw (All-tail (HasShortValue n) p raw short))
   where
-    here : has_replacement (text_of p.1) ≡ false → text_of p.1 ≡ value → length value ≤ n
+    here : has_replacement (lossy_text p.1) ≡ false → lossy_text p.1 ≡ value → length value ≤ n
     here plain is = omega (arith, ap (λ (l : List ℕ). length l) is, length-text_of p.1 plain, All-head (HasShortValue n) p raw short)
 
-    of_it : (same : Bool) → (is_damaged (text_of p.0, text_of p.1) || list_any is_damaged (sent raw)) ≡ false
-        → cond same (Some (text_of p.1)) (value_of name (sent raw)) ≡ Some value
-        → (list_any is_damaged (sent raw) ≡ false → value_of name (sent raw) ≡ Some value → length value ≤ n) → length value ≤ n
+    of_it : (same : Bool) → (is_damaged (lossy_text p.0, lossy_text p.1) || list_any is_damaged (sent raw)) ≡ false
+        → cond same (Some (lossy_text p.1)) (value_sent name (sent raw)) ≡ Some value
+        → (list_any is_damaged (sent raw) ≡ false → value_sent name (sent raw) ≡ Some value → length value ≤ n) → length value ≤ n
     of_it true whole found later = here (or_parts _ _ (or_parts _ _ whole).0).1 (cc found)
     of_it false whole found later = later (or_parts _ _ whole).1 found
 
-    sent_or_not : (some : Bool) → list_any is_damaged (if some then (text_of p.0, text_of p.1) ∷ sent raw else sent raw) ≡ false
-        → value_of name (if some then (text_of p.0, text_of p.1) ∷ sent raw else sent raw) ≡ Some value
-        → (list_any is_damaged (sent raw) ≡ false → value_of name (sent raw) ≡ Some value → length value ≤ n) → length value ≤ n
-    sent_or_not true whole found later = of_it (bytes_eq name (text_of p.0)) whole found later
+    sent_or_not : (some : Bool) → list_any is_damaged (if some then (lossy_text p.0, lossy_text p.1) ∷ sent raw else sent raw) ≡ false
+        → value_sent name (if some then (lossy_text p.0, lossy_text p.1) ∷ sent raw else sent raw) ≡ Some value
+        → (list_any is_damaged (sent raw) ≡ false → value_sent name (sent raw) ≡ Some value → length value ≤ n) → length value ≤ n
+    sent_or_not true whole found later = of_it (bytes_eq name (lossy_text p.0)) whole found later
     sent_or_not false whole found later = later whole found
 
 checked_parts : (ps params : List (List ℕ × List ℕ)) → checked ps ≡ Ok params → (list_any is_damaged ps ≡ false) × (ps ≡ params)
-checked_parts ps params ok = by (list_any is_damaged ps) refl (any_twice (names_in ps)) ok
+checked_parts ps params ok = by (list_any is_damaged ps) refl (any_twice (names_of_pairs ps)) ok
   where
     by : (damaged : Bool) → list_any is_damaged ps ≡ damaged → (twice : Bool)
         → (if damaged then Err NotUtf8 else (if twice then Err Twice else Ok ps)) ≡ Ok params → (list_any is_damaged ps ≡ false) × (ps ≡ params)
@@ -127,7 +127,7 @@ checked_parts ps params ok = by (list_any is_damaged ps) refl (any_twice (names_
 
 -- the value of a parameter is no longer than its form
 pub length-value_of : (input name value : List ℕ) (params : List (List ℕ × List ℕ)) → read_params input ≡ Ok params
-    → value_of name params ≡ Some value → length value ≤ length input
+    → value_sent name params ≡ Some value → length value ≤ length input
 length-value_of input name value params ok found =
     let parts = checked_parts (pairs input) params ok in
-    value_among name value (length input) (raw_pairs input) (short_values input) parts.0 (ap (λ ps. value_of name ps) parts.1 ∙ found)
+    value_among name value (length input) (raw_pairs input) (short_values input) parts.0 (ap (λ ps. value_sent name ps) parts.1 ∙ found)

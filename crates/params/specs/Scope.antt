@@ -23,8 +23,8 @@ abbrev pub is_among : List ℕ → List (List ℕ) → Bool
 is_among name names = list_any (bytes_eq name) names
 
 -- the place of the name in the list
-abbrev pub place_of : List ℕ → List (List ℕ) → Option ℕ
-place_of name names = position_from (bytes_eq name) 0 names
+abbrev pub place_among : List ℕ → List (List ℕ) → Option ℕ
+place_among name names = position_from (bytes_eq name) 0 names
 
 -- scope names, not too many, no two equal
 pub record IsCatalogue (names : List (List ℕ)) : Type 0 where
@@ -59,18 +59,18 @@ scope_mask names text =
     if list_all (λ token. is_among token names) (tokens_of text) then Some (mask_of names (tokens_of text)) else None
 
 -- the names of a mask, in catalogue order
-abbrev pub names_of : List (List ℕ) → ℕ → List (List ℕ)
-names_of [] mask = []
-names_of (name ∷ names) mask = if mask % 2 == 1 then name ∷ names_of names (mask / 2) else names_of names (mask / 2)
+abbrev pub names_in_mask : List (List ℕ) → ℕ → List (List ℕ)
+names_in_mask [] mask = []
+names_in_mask (name ∷ names) mask = if mask % 2 == 1 then name ∷ names_in_mask names (mask / 2) else names_in_mask names (mask / 2)
 
 -- the one written text of a set
 abbrev pub scope_text : List (List ℕ) → ℕ → List ℕ
-scope_text names mask = join_with_byte 0x20 (names_of names mask)
+scope_text names mask = join_with_byte 0x20 (names_in_mask names mask)
 
 -- the text with one more name
-abbrev pub with_name : List ℕ → List ℕ → List ℕ
-with_name [] name = name
-with_name (b ∷ text) name = (b ∷ text) ++ 0x20 ∷ name
+abbrev pub text_with_name : List ℕ → List ℕ → List ℕ
+text_with_name [] name = name
+text_with_name (b ∷ text) name = (b ∷ text) ++ 0x20 ∷ name
 
 -- a text of a set of names is read as that set
 abbrev pub IsReadBack : List (List ℕ) → ℕ → List ℕ → Type 0

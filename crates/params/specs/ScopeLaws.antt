@@ -9,7 +9,7 @@ use Rattle.std.proofs.Math.Nat.{pow-succ'}
 use Rattle.params.specs.Limits.{scope_name_limit, scope_text_limit}
 use Rattle.params.specs.FormLaws.{any_twice-append, bytes_eq-sym}
 use Rattle.params.specs.declared.catalogue.CatalogueFault.TheVariants.{BadScope, TooLong, Twice, Full}
-use Rattle.params.specs.Scope.{IsCatalogue, name_fault, is_among, is_scope_name, is_scope_token, names_of, scope_text, scope_mask, mask_of, tokens_of}
+use Rattle.params.specs.Scope.{IsCatalogue, name_fault, is_among, is_scope_name, is_scope_token, names_in_mask, scope_text, scope_mask, mask_of, tokens_of}
 
 pub is_some-position_from : (t : List ℕ → Bool) (i : ℕ) (names : List (List ℕ)) → is_some (position_from t i names) ≡ list_any t names
 is_some-position_from t i [] = refl
@@ -39,22 +39,22 @@ IsCatalogue-push names name is e =
     no_fault true false false false h = (refl, refl, refl, refl)
 
 -- what holds of each name holds of those of a mask
-pub list_all-names_of : (p : List ℕ → Bool) (names : List (List ℕ)) (mask : ℕ) → list_all p names ≡ true → list_all p (names_of names mask) ≡ true
+pub list_all-names_of : (p : List ℕ → Bool) (names : List (List ℕ)) (mask : ℕ) → list_all p names ≡ true → list_all p (names_in_mask names mask) ≡ true
 list_all-names_of p [] mask all = refl
 list_all-names_of p (n ∷ names) mask all = by (mask % 2 == 1) (list_all-names_of p names (mask / 2) parts.1)
   where
     parts : (p n ≡ true) × (list_all p names ≡ true)
     parts = and_parts (p n) (list_all p names) all
 
-    by : (b : Bool) → list_all p (names_of names (mask / 2)) ≡ true → list_all p (if b then n ∷ names_of names (mask / 2) else names_of names (mask / 2)) ≡ true
+    by : (b : Bool) → list_all p (names_in_mask names (mask / 2)) ≡ true → list_all p (if b then n ∷ names_in_mask names (mask / 2) else names_in_mask names (mask / 2)) ≡ true
     by true later = and_from _ _ parts.0 later
     by false later = later
 
-length-names_of : (names : List (List ℕ)) (mask : ℕ) → length (names_of names mask) ≤ length names
+length-names_of : (names : List (List ℕ)) (mask : ℕ) → length (names_in_mask names mask) ≤ length names
 length-names_of [] mask = omega arith
 length-names_of (n ∷ names) mask = by (mask % 2 == 1) (length-names_of names (mask / 2))
   where
-    by : (b : Bool) → length (names_of names (mask / 2)) ≤ length names → length (if b then n ∷ names_of names (mask / 2) else names_of names (mask / 2)) ≤ length (n ∷ names)
+    by : (b : Bool) → length (names_in_mask names (mask / 2)) ≤ length names → length (if b then n ∷ names_in_mask names (mask / 2) else names_in_mask names (mask / 2)) ≤ length (n ∷ names)
     by true later = omega arith
     by false later = omega arith
 
@@ -72,7 +72,7 @@ length-join (n ∷ m ∷ names) all =
 -- the written text of a set is short
 pub length-scope_text : (names : List (List ℕ)) (mask : ℕ) → IsCatalogue names → length (scope_text names mask) ≤ scope_text_limit
 length-scope_text names mask is =
-    omega (arith, is.count, length-names_of names mask, length-join (names_of names mask) (list_all-names_of is_scope_name names mask is.scope_names))
+    omega (arith, is.count, length-names_of names mask, length-join (names_in_mask names mask) (list_all-names_of is_scope_name names mask is.scope_names))
 
 -- no names are a catalogue
 pub IsCatalogue-nil : IsCatalogue []

@@ -3,7 +3,7 @@ ghost use Rattle.std.specs.Prelude.{◌≡◌, ◌⊎◌, ◌<◌, ◌≤◌, �
 ghost use Rattle.params.specs.declared.catalogue.CatalogueFault.TheVariants.{Memory};
 ghost use Rattle.params.specs.FaultTexts.{catalogue_fault_text};
 ghost use Rattle.params.specs.Limits.{scope_text_limit};
-ghost use Rattle.params.specs.Scope.{IsNameRefusal, IsReadBack, name_fault, scope_mask, scope_text, with_name, place_of, is_among, is_scope_token, is_scope_character};
+ghost use Rattle.params.specs.Scope.{IsNameRefusal, IsReadBack, name_fault, scope_mask, scope_text, text_with_name, place_among, is_among, is_scope_token, is_scope_character};
 
 use std::alloc::{AllocError, AllocFailed, Global};
 use std::fmt;
@@ -117,7 +117,7 @@ impl Catalogue {
     {
         let mut mask = 0;
         for token in text.split(' ') {
-            mask |= 1 << place_of(&self.names, token)?;
+            mask |= 1 << place_among(&self.names, token)?;
         }
         Some(mask)
     }
@@ -151,7 +151,7 @@ impl Catalogue {
         if name.len() > LONGEST_NAME {
             return Some(CatalogueFault::TooLong);
         }
-        if place_of(&self.names, name).is_some() {
+        if place_among(&self.names, name).is_some() {
             return Some(CatalogueFault::Twice);
         }
         if self.names.len() >= MOST_NAMES {
@@ -163,7 +163,7 @@ impl Catalogue {
 
 // Puts a name behind the others, with a space between two.
 fn append_name(text: &mut String, name: &str) -> Result<(), AllocError>
-    ensures { OnOk result (string_bytes text.new ≡ with_name (string_bytes text.old) name.now) }
+    ensures { OnOk result (string_bytes text.new ≡ text_with_name (string_bytes text.old) name.now) }
 {
     if !text.is_empty() {
         text.push(' ')?;
@@ -172,8 +172,8 @@ fn append_name(text: &mut String, name: &str) -> Result<(), AllocError>
 }
 
 // The place of the name among the names, which is the number of its bit.
-fn place_of(names: &[String], name: &str) -> Option<usize>
-    ensures place { result ≡ place_of name.now (map string_bytes names.now) }
+fn place_among(names: &[String], name: &str) -> Option<usize>
+    ensures place { result ≡ place_among name.now (map string_bytes names.now) }
     ensures found { is_some result ≡ is_among name.now (map string_bytes names.now) }
 {
     names.iter().position(|known| name == known.as_str())

@@ -2,7 +2,7 @@
 ghost use Rattle.std.specs.Prelude.{◌≡◌, ◌<◌, length, IfOk, IfErr, Ok, Some, option_copied, string_bytes};
 ghost use Rattle.params.specs.declared.params.ParamFault.TheVariants.{Memory};
 ghost use Rattle.params.specs.FaultTexts.{param_fault_text};
-ghost use Rattle.params.specs.Form.{IsFormRefusal, read_params, value_of, has_replacement, any_twice, names_in, texts_of};
+ghost use Rattle.params.specs.Form.{IsFormRefusal, read_params, value_sent, has_replacement, any_twice, names_of_pairs, texts_of};
 
 use form_urlencoded::parse;
 use std::alloc::{AllocError, AllocFailed, Global};
@@ -92,7 +92,7 @@ impl Params {
 
     /// The value of the parameter, where it was sent.
     pub fn get(&self, name: &str) -> Option<&str>
-        ensures { option_copied result ≡ value_of name.now self.now }
+        ensures { option_copied result ≡ value_sent name.now self.now }
     {
         for (known, value) in &self.pairs {
             if name == known.as_str() {
@@ -105,7 +105,7 @@ impl Params {
 
 // Whether some name stands twice.
 fn any_twice(alloc: Global, pairs: &[(String, String)]) -> Result<bool, AllocError>
-    ensures ok { IfOk result (λ twice. twice ≡ any_twice (names_in (texts_of pairs.now))) }
+    ensures ok { IfOk result (λ twice. twice ≡ any_twice (names_of_pairs (texts_of pairs.now))) }
     ensures err { IfErr result (λ _. 0 < length pairs.now) }
 {
     if pairs.len() < 2 {

@@ -11,13 +11,13 @@ use Rattle.consent.specs.History.Change.{Consented, CodeGiven, Issued, Spent, Fa
 use Rattle.consent.specs.HistoryLaws.{grant_at-given}
 use Rattle.consent.specs.declared.grant.Kind.TheVariants.{Token}
 use Rattle.consent.specs.declared.grant.TokenKind.{TokenKind}
-use Rattle.endpoints.specs.Bounded.{IsBounded, IsAllowed, IsConsentedAt, IsOwn, life_limit}
+use Rattle.endpoints.specs.Bounded.{IsBounded, IsAllowed, IsConsentedAt, IsOwn, token_life_limit}
 use Rattle.promises.specs.Grants.{KeepsScope, IsSince}
 use Rattle.promises.proofs.Spending.{live_is, ended_stays}
 
 -- a life within the limit of the kind
 abbrev pub IsShort : RegistryRecord → Grant → Type 0
-IsShort rules g = (kind : TokenKind) → g.kind ≡ Token kind → g.life ≤ life_limit rules kind
+IsShort rules g = (kind : TokenKind) → g.kind ≡ Token kind → g.life ≤ token_life_limit rules kind
 
 same_grant : (x g : Grant) → Some x ≡ Some g → x ≡ g
 same_grant x g e = cc
@@ -31,7 +31,7 @@ change_keeps : (rules : RegistryRecord) (history : List Event) (moment : ℕ) (c
     KeepsScope rules history g × IsShort rules g
 change_keeps rules history moment (Issued family client owner kind digest scope life) g at token allowed consented alive =
     subst (λ (x : Grant). has_ended history x.family ≡ false → KeepsScope rules history x × IsShort rules x) (same_grant _ g at)
-    (λ lives. (record { allowed = allowed.0; consented = by_owner lives consented }, λ k is. subst (λ x. life ≤ life_limit rules x) (same_kind kind k is) allowed.1)) alive
+    (λ lives. (record { allowed = allowed.0; consented = by_owner lives consented }, λ k is. subst (λ x. life ≤ token_life_limit rules x) (same_kind kind k is) allowed.1)) alive
   where
     by_owner : has_ended history family ≡ false → (IsOwn history family owner ⊎ (has_ended history family ≡ false → is_within scope (consented_scope history owner client) ≡ true)) →
         IsOwn history family owner ⊎ (is_within scope (consented_scope history owner client) ≡ true)

@@ -9,7 +9,7 @@ use Rattle.consent.specs.History.{Event, event_at, Grant, grants, grant_at, live
 use Rattle.consent.specs.History.Change.{FamilyEnded}
 use Rattle.consent.specs.GrowthLaws.{grants-append}
 use Rattle.messages.specs.declared.error.ErrorName.TheVariants.{InvalidRequest, InvalidGrant}
-use Rattle.params.specs.Form.{value_of}
+use Rattle.params.specs.Form.{value_sent}
 use Rattle.answers.specs.Outcomes.{Outcome, point, need, bare, chosen, refuse}
 use Rattle.answers.specs.Requesters.{form_of}
 use Rattle.answers.specs.Texts.{digest_told}
@@ -19,7 +19,7 @@ use Rattle.endpoints.specs.Paths.{endpoint_at, method_at}
 use Rattle.endpoints.specs.Replies.{outcome_at}
 use Rattle.endpoints.specs.Revoke.{revoke_token, revoke_points, revoked}
 use Rattle.promises.specs.Occasions.{Occasion, outcome_of, history_after}
-use Rattle.promises.specs.Uses.{Exchanges, IsGiven, Revokes}
+use Rattle.promises.specs.Uses.{Exchanges, IsGivenAmong, Revokes}
 use Rattle.promises.proofs.Walking.{at_point, at_need, at_authenticated, no_error_200, other, same_some, granted_at}
 use Rattle.promises.proofs.Spending.{has_digest, grant_at-still, is_spent-by, ended_by, ended_stays, live_is}
 use Rattle.promises.proofs.Exchanging.{IsUse, IsUsed, issue_used}
@@ -43,7 +43,7 @@ module _ (rules : RegistryRecord) (history : List Event) (occasion : Occasion) w
       (issue_used rules history occasion.arrival.moment text occasion.host.answer occasion.arrival.asked occasion.arrival.draws it.params it.form it.presents) it.granted
 
 pub exchanged_once : (rules : RegistryRecord) (history between : List Event) (occasion later : Occasion) (text : List ℕ) →
-    Exchanges rules history occasion text → Exchanges rules (history_after rules history occasion ++ between) later text → IsGiven between text
+    Exchanges rules history occasion text → Exchanges rules (history_after rules history occasion ++ between) later text → IsGivenAmong between text
 exchanged_once rules history between occasion later text first second =
     let a = use_of rules history occasion text first in
     let b = use_of rules (history_after rules history occasion ++ between) later text second in
@@ -91,8 +91,8 @@ module _ (rules : RegistryRecord) (history : List Event) (occasion : Occasion) (
       there ∙ granted_at (not (bytes_eq occasion.arrival.asked.method (codes "POST"))) occasion.refused o (ap (λ (x : Outcome). x.reply.status) (sym there) ∙ it.done) in
       subst Ended (sym same)
       (at_authenticated Ended rules occasion.arrival.asked (revoke_points history occasion.arrival.moment) refused (λ e. absurd (other 503 200 refl e)) (λ params known is.
-      at_need Ended {A = List ℕ} (value_of (codes "token") params) (refuse InvalidRequest) (λ text. revoked known.number (live_token history occasion.arrival.moment text)) (refused InvalidRequest) (λ text sent.
-      let same_text : text ≡ it.text = same_some text it.text (value_of (codes "token") params) sent (ap (value_of (codes "token")) (same_some params it.params (form_of occasion.arrival.asked) is it.form) ∙ it.presents) in
+      at_need Ended {A = List ℕ} (value_sent (codes "token") params) (refuse InvalidRequest) (λ text. revoked known.number (live_token history occasion.arrival.moment text)) (refused InvalidRequest) (λ text sent.
+      let same_text : text ≡ it.text = same_some text it.text (value_sent (codes "token") params) sent (ap (value_sent (codes "token")) (same_some params it.params (form_of occasion.arrival.asked) is it.form) ∙ it.presents) in
       subst (λ t. Ended (revoked known.number t)) (sym (ap (live_token history occasion.arrival.moment) same_text ∙ it.live))
       (at_point Ended (not (token.client == known.number)) (refuse InvalidGrant) _ (λ _. refused InvalidGrant) (λ _ _. refl))))) it.done
 

@@ -5,7 +5,7 @@ use Rattle.std.specs.List.{list_any}
 use Rattle.std.proofs.lemmas.Bool.{or_left, or_from}
 use Rattle.std.proofs.lemmas.Slice.Eq.{bytes_eq-Decides}
 use Rattle.sha2.specs.Sha256.{sha256}
-use Rattle.params.specs.Form.{value_of}
+use Rattle.params.specs.Form.{value_sent}
 use Rattle.clients.specs.RegistryRecord.{RegistryRecord}
 use Rattle.clients.specs.ClientRecord.{ClientRecord}
 use Rattle.clients.specs.Grants.{has_grant, grant_named}
@@ -26,7 +26,7 @@ use Rattle.answers.specs.Outcomes.{Outcome, point, refuse, unavailable, unless_t
 use Rattle.answers.specs.Requesters.{Parameters, KnownClient, form_of, scope_within}
 use Rattle.answers.specs.Texts.{digest_told, where_passes}
 use Rattle.answers.specs.Tokens.{code_of_client, refresh_of_client}
-use Rattle.token_endpoint.specs.Grants.{left_of, access_issued, refresh_issued, both_digests}
+use Rattle.token_endpoint.specs.Grants.{left_by_host, access_issued, refresh_issued, both_digests}
 use Rattle.answers.specs.Replies.{access_reply, both_reply}
 use Rattle.token_endpoint.specs.Exchange as code
 use Rattle.token_endpoint.specs.Refresh as token
@@ -162,51 +162,51 @@ module _ (rules : RegistryRecord) (history : List Event) (m : ℕ) (text : List 
         Used (code.code_points history m known.number uri verifier digest (code.exchange_code rules history answer m draws known.client digest))
     use_code uri verifier digest told =
         at_need Used {A = Grant} (code_of_client history m known.number digest) (refuse InvalidGrant)
-        (code.checked history m uri verifier digest next) (refused InvalidGrant) (λ g found.
+        (code.code_checked history m uri verifier digest next) (refused InvalidGrant) (λ g found.
         let named = passed _ (grant_at history digest m) g found in
         at_point Used (is_spent history digest m) (code.ends_family g) _ (λ _ e. absurd (other 400 200 refl e)) (λ unspent.
         at_point Used (has_ended history g.family) (refuse InvalidGrant) _ (λ _. refused InvalidGrant) (λ _.
         at_point Used (not (bytes_eq uri g.redirect)) (refuse InvalidGrant) _ (λ _. refused InvalidGrant) (λ _.
         at_point Used (not (proves verifier g.challenge)) (refuse InvalidGrant) (next g) (λ _. refused InvalidGrant) (λ _.
-        by_left draws digest g told named unspent known.client (left_of answer (code.exchange_ask rules history m known.client g)))))))
+        by_left draws digest g told named unspent known.client (left_by_host answer (code.exchange_ask rules history m known.client g)))))))
       where
         next : Grant → Outcome
         next g = code.exchange_code rules history answer m draws known.client digest g
 
-    exchange_used : value_of (codes "code") params ≡ Some text → Used (code.exchange rules history answer m draws params known)
+    exchange_used : value_sent (codes "code") params ≡ Some text → Used (code.exchange rules history answer m draws params known)
     exchange_used presents =
-        at_need Used {A = List ℕ} (value_of (codes "code") params) (refuse InvalidRequest) _ (refused InvalidRequest) (λ sent is.
-        at_need Used {A = List ℕ} (value_of (codes "redirect_uri") params) (refuse InvalidRequest) _ (refused InvalidRequest) (λ uri _.
-        at_need Used {A = List ℕ} (value_of (codes "code_verifier") params) (refuse InvalidRequest) _ (refused InvalidRequest) (λ verifier _.
+        at_need Used {A = List ℕ} (value_sent (codes "code") params) (refuse InvalidRequest) _ (refused InvalidRequest) (λ sent is.
+        at_need Used {A = List ℕ} (value_sent (codes "redirect_uri") params) (refuse InvalidRequest) _ (refused InvalidRequest) (λ uri _.
+        at_need Used {A = List ℕ} (value_sent (codes "code_verifier") params) (refuse InvalidRequest) _ (refused InvalidRequest) (λ verifier _.
         at_need Used {A = List ℕ} (digest_told sent) (refuse InvalidGrant) _ (refused InvalidGrant) (λ digest told.
-        use_code uri verifier digest (ap digest_told (same_some text sent (value_of (codes "code") params) presents is) ∙ told)))))
+        use_code uri verifier digest (ap digest_told (same_some text sent (value_sent (codes "code") params) presents is) ∙ told)))))
 
     use_token : (digest : List ℕ) → digest_told text ≡ Some digest →
-        Used (token.token_points history m known.number digest (token.use_points rules history answer m draws params known.client digest))
+        Used (token.refresh_points history m known.number digest (token.use_points rules history answer m draws params known.client digest))
     use_token digest told =
         at_need Used {A = Grant} (refresh_of_client history m known.number digest) (refuse InvalidGrant) _ (refused InvalidGrant) (λ g found.
         let named = passed _ (grant_at history digest m) g found in
         at_point Used (is_spent history digest m) (code.ends_family g) _ (λ _ e. absurd (other 400 200 refl e)) (λ unspent.
         at_point Used (has_ended history g.family) (refuse InvalidGrant) _ (λ _. refused InvalidGrant) (λ _.
         at_need Used {A = ℕ} (scope_within rules g.scope params) (refuse InvalidScope) _ (refused InvalidScope) (λ scope _.
-        by_left_token draws digest g told named unspent (left_of answer (token.refresh_ask rules history m known.client g scope))))))
+        by_left_token draws digest g told named unspent (left_by_host answer (token.refresh_ask rules history m known.client g scope))))))
 
-    refresh_used : value_of (codes "refresh_token") params ≡ Some text → Used (token.refresh rules history answer m draws params known)
+    refresh_used : value_sent (codes "refresh_token") params ≡ Some text → Used (token.refresh rules history answer m draws params known)
     refresh_used presents =
-        at_need Used {A = List ℕ} (value_of (codes "refresh_token") params) (refuse InvalidRequest) _ (refused InvalidRequest) (λ sent is.
+        at_need Used {A = List ℕ} (value_sent (codes "refresh_token") params) (refuse InvalidRequest) _ (refused InvalidRequest) (λ sent is.
         at_need Used {A = List ℕ} (digest_told sent) (refuse InvalidGrant) _ (refused InvalidGrant) (λ digest told.
-        use_token digest (ap digest_told (same_some text sent (value_of (codes "refresh_token") params) presents is) ∙ told)))
+        use_token digest (ap digest_told (same_some text sent (value_sent (codes "refresh_token") params) presents is) ∙ told)))
 
     -- by the grant type that is named
-    typed_used : (name : List ℕ) (grant : GrantType) → value_of (codes "grant_type") params ≡ Some name → grant_named name ≡ Some grant →
+    typed_used : (name : List ℕ) (grant : GrantType) → value_sent (codes "grant_type") params ≡ Some name → grant_named name ≡ Some grant →
         Used (grant_points grant rules history answer m draws params known) →
         Used (token_points rules history answer m draws params known)
     typed_used name grant is named used =
-        at_need Used {A = List ℕ} (value_of (codes "grant_type") params) (refuse InvalidRequest) _ (refused InvalidRequest) (λ n at.
+        at_need Used {A = List ℕ} (value_sent (codes "grant_type") params) (refuse InvalidRequest) _ (refused InvalidRequest) (λ n at.
         at_need Used {A = GrantType} (grant_named n) (refuse UnsupportedGrantType) _ (refused UnsupportedGrantType) (λ g found.
         at_point Used (not (has_grant g known.client.grants)) (refuse UnauthorizedClient) _ (λ _. refused UnauthorizedClient) (λ _.
         subst (λ x. Used (grant_points x rules history answer m draws params known))
-        (same_some grant g (grant_named n) (ap grant_named (same_some n name (value_of (codes "grant_type") params) at is) ∙ named) found) used)))
+        (same_some grant g (grant_named n) (ap grant_named (same_some n name (value_sent (codes "grant_type") params) at is) ∙ named) found) used)))
 
     presented_used : Presents params text → Used (token_points rules history answer m draws params known)
     presented_used (inl by_code) = typed_used (codes "authorization_code") AuthorizationCode by_code.0 refl (exchange_used by_code.1)

@@ -5,7 +5,7 @@ use Rattle.std.proofs.lemmas.Bool.{eq-eqb, eqb-true, ne_eqb}
 use Rattle.std.proofs.lemmas.Nat.{and_le_r}
 use Rattle.sha2.specs.Sha256.{sha256}
 use Rattle.pkce.specs.Proof.{proves}
-use Rattle.params.specs.Form.{value_of}
+use Rattle.params.specs.Form.{value_sent}
 use Rattle.clients.specs.RegistryRecord.{RegistryRecord}
 use Rattle.clients.specs.ClientRecord.{ClientRecord}
 use Rattle.authentication.specs.Authentication.{authenticated}
@@ -31,13 +31,13 @@ use Rattle.answers.specs.Outcomes.{Outcome, point, need, refuse, unavailable, un
 use Rattle.answers.specs.Requesters.{Parameters, KnownClient, form_of, known_client, with_client, scope_within}
 use Rattle.answers.specs.Texts.{digest_told}
 use Rattle.answers.specs.Tokens.{code_of_client, refresh_of_client}
-use Rattle.token_endpoint.specs.Grants.{left_of, access_issued, refresh_issued, both_digests}
+use Rattle.token_endpoint.specs.Grants.{left_by_host, access_issued, refresh_issued, both_digests}
 use Rattle.answers.specs.Replies.{access_reply, both_reply}
 use Rattle.token_endpoint.specs.Exchange as code
 use Rattle.token_endpoint.specs.Refresh as token
 use Rattle.token_endpoint.specs.ClientCredentials as own
 use Rattle.token_endpoint.specs.TokenPath.{issue_token, token_points, grant_points}
-use Rattle.promises.specs.Occasions.{Occasion, GoesTo, outcome_of, reply_of}
+use Rattle.promises.specs.Occasions.{Occasion, GoesTo, outcome_of, reply_on}
 use Rattle.promises.specs.Hooked.{allows_all, without_hooks, IsNarrowed}
 use Rattle.promises.proofs.Walking.{no_error_200, other}
 use Rattle.promises.proofs.Exchanged.{at_path}
@@ -62,7 +62,7 @@ wanting : (p : Outcome) → Narrows unavailable p
 wanting p e = absurd (other 503 200 refl e)
 
 -- what an ask holds some of is left of it by a host that allows all
-all_left : (ask : Ask) (scope life : ℕ) → IsNarrowing ask scope life → left_of allows_all ask ≡ Allowed ask.scope ask.life
+all_left : (ask : Ask) (scope life : ℕ) → IsNarrowing ask scope life → left_by_host allows_all ask ≡ Allowed ask.scope ask.life
 all_left ask scope life some =
     ap (λ s. narrowing.left_of s (min ask.life ask.life)) (eqb-true (bit_and ask.scope ask.scope) ask.scope (is_within-self ask.scope))
     ∙ ap (λ l. narrowing.left_of ask.scope l) (least ask.life)
@@ -135,11 +135,11 @@ module _ (rules : RegistryRecord) (history : List Event) (m : ℕ) where
   -- by what a host leaves, and what one leaves that allows all
   module _ (draws : Draws) (answer : Ask → Narrowed) (ask : Ask) where
     by_code : (digest : List ℕ) (g : Grant) (client : ClientRecord) →
-        Narrows (code.exchanged rules history m draws client digest g (left_of answer ask)) (code.exchanged rules history m draws client digest g (left_of allows_all ask))
-    by_code digest g client = by_left (left_of answer ask) refl
+        Narrows (code.exchanged rules history m draws client digest g (left_by_host answer ask)) (code.exchanged rules history m draws client digest g (left_by_host allows_all ask))
+    by_code digest g client = by_left (left_by_host answer ask) refl
       where
-        by_left : (left : Narrowed) → left_of answer ask ≡ left →
-            Narrows (code.exchanged rules history m draws client digest g left) (code.exchanged rules history m draws client digest g (left_of allows_all ask))
+        by_left : (left : Narrowed) → left_by_host answer ask ≡ left →
+            Narrows (code.exchanged rules history m draws client digest g left) (code.exchanged rules history m draws client digest g (left_by_host allows_all ask))
         by_left Denied is = λ e. absurd (other 400 200 refl e)
         by_left EmptyScope is = λ e. absurd (other 400 200 refl e)
         by_left (Allowed scope life) is =
@@ -149,11 +149,11 @@ module _ (rules : RegistryRecord) (history : List Event) (m : ℕ) where
             (for_code draws digest g scope life ask.scope ask.life (within ask scope life some) some.no_longer (has_grant RefreshToken client.grants))
 
     by_token : (digest : List ℕ) (g : Grant) →
-        Narrows (token.refreshed rules history m draws digest g (left_of answer ask)) (token.refreshed rules history m draws digest g (left_of allows_all ask))
-    by_token digest g = by_left (left_of answer ask) refl
+        Narrows (token.refreshed rules history m draws digest g (left_by_host answer ask)) (token.refreshed rules history m draws digest g (left_by_host allows_all ask))
+    by_token digest g = by_left (left_by_host answer ask) refl
       where
-        by_left : (left : Narrowed) → left_of answer ask ≡ left →
-            Narrows (token.refreshed rules history m draws digest g left) (token.refreshed rules history m draws digest g (left_of allows_all ask))
+        by_left : (left : Narrowed) → left_by_host answer ask ≡ left →
+            Narrows (token.refreshed rules history m draws digest g left) (token.refreshed rules history m draws digest g (left_by_host allows_all ask))
         by_left Denied is = refused InvalidGrant _
         by_left EmptyScope is = refused InvalidScope _
         by_left (Allowed scope life) is =
@@ -162,11 +162,11 @@ module _ (rules : RegistryRecord) (history : List Event) (m : ℕ) where
             (sym (all_left ask scope life some))
             (for_token draws digest g scope life ask.scope ask.life (within ask scope life some) some.no_longer)
 
-    by_own : (number : ℕ) → Narrows (own.granted rules history m draws number (left_of answer ask)) (own.granted rules history m draws number (left_of allows_all ask))
-    by_own number = by_left (left_of answer ask) refl
+    by_own : (number : ℕ) → Narrows (own.granted rules history m draws number (left_by_host answer ask)) (own.granted rules history m draws number (left_by_host allows_all ask))
+    by_own number = by_left (left_by_host answer ask) refl
       where
-        by_left : (left : Narrowed) → left_of answer ask ≡ left →
-            Narrows (own.granted rules history m draws number left) (own.granted rules history m draws number (left_of allows_all ask))
+        by_left : (left : Narrowed) → left_by_host answer ask ≡ left →
+            Narrows (own.granted rules history m draws number left) (own.granted rules history m draws number (left_by_host allows_all ask))
         by_left Denied is = refused UnauthorizedClient _
         by_left EmptyScope is = refused InvalidScope _
         by_left (Allowed scope life) is =
@@ -187,9 +187,9 @@ module _ (rules : RegistryRecord) (history : List Event) (m : ℕ) where
   module _ (answer : Ask → Narrowed) (draws : Draws) (params : Parameters) (known : KnownClient) where
     in_exchange : Narrows (code.exchange rules history answer m draws params known) (code.exchange rules history allows_all m draws params known)
     in_exchange =
-        both_need {A = List ℕ} (value_of (codes "code") params) (refuse InvalidRequest) (refuse InvalidRequest) _ _ (refused InvalidRequest _) (λ sent.
-        both_need {A = List ℕ} (value_of (codes "redirect_uri") params) (refuse InvalidRequest) (refuse InvalidRequest) _ _ (refused InvalidRequest _) (λ uri.
-        both_need {A = List ℕ} (value_of (codes "code_verifier") params) (refuse InvalidRequest) (refuse InvalidRequest) _ _ (refused InvalidRequest _) (λ verifier.
+        both_need {A = List ℕ} (value_sent (codes "code") params) (refuse InvalidRequest) (refuse InvalidRequest) _ _ (refused InvalidRequest _) (λ sent.
+        both_need {A = List ℕ} (value_sent (codes "redirect_uri") params) (refuse InvalidRequest) (refuse InvalidRequest) _ _ (refused InvalidRequest _) (λ uri.
+        both_need {A = List ℕ} (value_sent (codes "code_verifier") params) (refuse InvalidRequest) (refuse InvalidRequest) _ _ (refused InvalidRequest _) (λ verifier.
         both_need {A = List ℕ} (digest_told sent) (refuse InvalidGrant) (refuse InvalidGrant) _ _ (refused InvalidGrant _) (λ digest.
         both_need {A = Grant} (code_of_client history m known.number digest) (refuse InvalidGrant) (refuse InvalidGrant) _ _ (refused InvalidGrant _) (λ g.
         both_point (is_spent history digest m) (code.ends_family g) _ (code.ends_family g) _ (λ e. absurd (other 400 200 refl e))
@@ -200,7 +200,7 @@ module _ (rules : RegistryRecord) (history : List Event) (m : ℕ) where
 
     in_refresh : Narrows (token.refresh rules history answer m draws params known) (token.refresh rules history allows_all m draws params known)
     in_refresh =
-        both_need {A = List ℕ} (value_of (codes "refresh_token") params) (refuse InvalidRequest) (refuse InvalidRequest) _ _ (refused InvalidRequest _) (λ sent.
+        both_need {A = List ℕ} (value_sent (codes "refresh_token") params) (refuse InvalidRequest) (refuse InvalidRequest) _ _ (refused InvalidRequest _) (λ sent.
         both_need {A = List ℕ} (digest_told sent) (refuse InvalidGrant) (refuse InvalidGrant) _ _ (refused InvalidGrant _) (λ digest.
         both_need {A = Grant} (refresh_of_client history m known.number digest) (refuse InvalidGrant) (refuse InvalidGrant) _ _ (refused InvalidGrant _) (λ g.
         both_point (is_spent history digest m) (code.ends_family g) _ (code.ends_family g) _ (λ e. absurd (other 400 200 refl e))
@@ -220,7 +220,7 @@ module _ (rules : RegistryRecord) (history : List Event) (m : ℕ) where
 
     in_tokens : Narrows (token_points rules history answer m draws params known) (token_points rules history allows_all m draws params known)
     in_tokens =
-        both_need {A = List ℕ} (value_of (codes "grant_type") params) (refuse InvalidRequest) (refuse InvalidRequest) _ _ (refused InvalidRequest _) (λ name.
+        both_need {A = List ℕ} (value_sent (codes "grant_type") params) (refuse InvalidRequest) (refuse InvalidRequest) _ _ (refused InvalidRequest _) (λ name.
         both_need {A = GrantType} (grant_named name) (refuse UnsupportedGrantType) (refuse UnsupportedGrantType) _ _ (refused UnsupportedGrantType _) (λ grant.
         both_point (not (has_grant grant known.client.grants)) (refuse UnauthorizedClient) _ (refuse UnauthorizedClient) _ (refused UnauthorizedClient _) (by_type grant)))
 
@@ -240,7 +240,7 @@ module _ (rules : RegistryRecord) (history : List Event) (m : ℕ) where
       by_client (authenticated rules.clients asked.authorization params) (token_points rules history answer m draws params) (token_points rules history allows_all m draws params)
       (λ known. in_tokens answer draws params known))
 
-pub hooks_narrow : (rules : RegistryRecord) (history : List Event) (occasion : Occasion) → GoesTo occasion (codes "/token") → (reply_of rules history occasion).status ≡ 200 →
+pub hooks_narrow : (rules : RegistryRecord) (history : List Event) (occasion : Occasion) → GoesTo occasion (codes "/token") → (reply_on rules history occasion).status ≡ 200 →
     IsNarrowed (outcome_of rules history occasion) (outcome_of rules history (without_hooks occasion))
 hooks_narrow rules history occasion goes granted =
     let there : outcome_of rules history occasion ≡ at_path rules history occasion (codes "/token") = ap (at_path rules history occasion) goes in

@@ -7,7 +7,7 @@ use Rattle.std.proofs.lemmas.Bool.{false≢true}
 use Rattle.sha2.specs.Sha256.{sha256}
 use Rattle.pkce.specs.Proof.{proves}
 use Rattle.pkce.specs.Token.{token_text}
-use Rattle.params.specs.Form.{read_params, value_of}
+use Rattle.params.specs.Form.{read_params, value_sent}
 use Rattle.clients.specs.RegistryRecord.{RegistryRecord}
 use Rattle.clients.specs.ClientRecord.{ClientRecord}
 use Rattle.clients.specs.Clients.{client_at, has_redirect}
@@ -34,22 +34,22 @@ use Rattle.messages.specs.Reply.{Reply, Body, plain, sent_back}
 use Rattle.messages.specs.Reply.Body.{Empty, Failure, Tokens, Consent, Active, Inactive, Hook, HookRefused, Hooks}
 use Rattle.messages.specs.Written.{error_text}
 use Rattle.answers.specs.Outcomes.{Outcome, point, need, only, refuse, bare, unavailable, unless_taken, chosen, status_of}
-use Rattle.answers.specs.Requesters.{Parameters, KnownClient, form_of, scope_within, scope_asked, client_named, owner_of}
+use Rattle.answers.specs.Requesters.{Parameters, KnownClient, form_of, scope_within, scope_asked, client_named, owner_of_key}
 use Rattle.answers.specs.Texts.{digest_told, where_passes}
 use Rattle.answers.specs.Tokens.{code_of_client, refresh_of_client, live_token}
-use Rattle.token_endpoint.specs.Grants.{left_of, access_issued, refresh_issued, both_digests}
+use Rattle.token_endpoint.specs.Grants.{left_by_host, access_issued, refresh_issued, both_digests}
 use Rattle.answers.specs.Replies.{access_reply, both_reply}
 use Rattle.token_endpoint.specs.Exchange as code
 use Rattle.token_endpoint.specs.Refresh as token
 use Rattle.token_endpoint.specs.ClientCredentials as own
 use Rattle.token_endpoint.specs.TokenPath.{issue_token, token_points, grant_points}
-use Rattle.endpoints.specs.Authorize.{authorize, challenge_sent, state_of, turned_back}
+use Rattle.endpoints.specs.Authorize.{authorize, challenge_sent, state_sent, turned_back}
 use Rattle.endpoints.specs.ConsentPath.{give_consent}
 use Rattle.endpoints.specs.Revoke.{revoke_token, revoke_points, revoked}
 use Rattle.endpoints.specs.HookPaths.{install_hook, remove_hook, list_hooks, change_hooks, by_fault, installation, removal, is_operator}
-use Rattle.endpoints.specs.Introspect.{introspect, introspect_points, told, told_of}
-use Rattle.endpoints.specs.Bounded.{IsBounded, life_limit}
-use Rattle.promises.specs.Occasions.{Occasion, outcome_of, reply_of}
+use Rattle.endpoints.specs.Introspect.{introspect, introspect_points, token_told, told_of}
+use Rattle.endpoints.specs.Bounded.{IsBounded, token_life_limit}
+use Rattle.promises.specs.Occasions.{Occasion, outcome_of, reply_on}
 use Rattle.promises.specs.Grants.{KeepsScope, TellsBounded}
 use Rattle.promises.proofs.Bounding.{live_keeps, there}
 use Rattle.promises.proofs.Walking.{at_point, at_need, at_chosen, at_authenticated, other}
@@ -118,31 +118,31 @@ module _ (P : Outcome → Type 0)
   module _ (answer : Ask → Narrowed) (draws : Draws) (params : Parameters) (known : KnownClient) where
     in_exchange : P (code.exchange rules history answer m draws params known)
     in_exchange =
-        at_need P {A = List ℕ} (value_of (codes "code") params) (refuse InvalidRequest) _ (refused InvalidRequest) (λ sent _.
-        at_need P {A = List ℕ} (value_of (codes "redirect_uri") params) (refuse InvalidRequest) _ (refused InvalidRequest) (λ uri _.
-        at_need P {A = List ℕ} (value_of (codes "code_verifier") params) (refuse InvalidRequest) _ (refused InvalidRequest) (λ verifier _.
+        at_need P {A = List ℕ} (value_sent (codes "code") params) (refuse InvalidRequest) _ (refused InvalidRequest) (λ sent _.
+        at_need P {A = List ℕ} (value_sent (codes "redirect_uri") params) (refuse InvalidRequest) _ (refused InvalidRequest) (λ uri _.
+        at_need P {A = List ℕ} (value_sent (codes "code_verifier") params) (refuse InvalidRequest) _ (refused InvalidRequest) (λ verifier _.
         at_need P {A = List ℕ} (digest_told sent) (refuse InvalidGrant) _ (refused InvalidGrant) (λ digest _.
         at_need P {A = Grant} (code_of_client history m known.number digest) (refuse InvalidGrant) _ (refused InvalidGrant) (λ g _.
         at_point P (is_spent history digest m) (code.ends_family g) _ (λ _. ends g) (λ _.
         at_point P (has_ended history g.family) (refuse InvalidGrant) _ (λ _. refused InvalidGrant) (λ _.
         at_point P (not (bytes_eq uri g.redirect)) (refuse InvalidGrant) _ (λ _. refused InvalidGrant) (λ _.
         at_point P (not (proves verifier g.challenge)) (refuse InvalidGrant) _ (λ _. refused InvalidGrant) (λ _.
-        by_left draws digest g known.client (left_of answer (code.exchange_ask rules history m known.client g)))))))))))
+        by_left draws digest g known.client (left_by_host answer (code.exchange_ask rules history m known.client g)))))))))))
 
     in_refresh : P (token.refresh rules history answer m draws params known)
     in_refresh =
-        at_need P {A = List ℕ} (value_of (codes "refresh_token") params) (refuse InvalidRequest) _ (refused InvalidRequest) (λ sent _.
+        at_need P {A = List ℕ} (value_sent (codes "refresh_token") params) (refuse InvalidRequest) _ (refused InvalidRequest) (λ sent _.
         at_need P {A = List ℕ} (digest_told sent) (refuse InvalidGrant) _ (refused InvalidGrant) (λ digest _.
         at_need P {A = Grant} (refresh_of_client history m known.number digest) (refuse InvalidGrant) _ (refused InvalidGrant) (λ g _.
         at_point P (is_spent history digest m) (code.ends_family g) _ (λ _. ends g) (λ _.
         at_point P (has_ended history g.family) (refuse InvalidGrant) _ (λ _. refused InvalidGrant) (λ _.
         at_need P {A = ℕ} (scope_within rules g.scope params) (refuse InvalidScope) _ (refused InvalidScope) (λ scope _.
-        by_left_token draws digest g (left_of answer (token.refresh_ask rules history m known.client g scope))))))))
+        by_left_token draws digest g (left_by_host answer (token.refresh_ask rules history m known.client g scope))))))))
 
     in_own : P (own.client_credentials rules history answer m draws params known)
     in_own =
         at_need P {A = ℕ} (scope_within rules known.client.allowed params) (refuse InvalidScope) _ (refused InvalidScope) (λ scope _.
-        by_left_own draws known.number (left_of answer (own.credentials_ask rules m known scope)))
+        by_left_own draws known.number (left_by_host answer (own.credentials_ask rules m known scope)))
 
     by_type : (grant : GrantType) → P (grant_points grant rules history answer m draws params known)
     by_type AuthorizationCode = in_exchange
@@ -151,7 +151,7 @@ module _ (P : Outcome → Type 0)
 
     in_tokens : P (token_points rules history answer m draws params known)
     in_tokens =
-        at_need P {A = List ℕ} (value_of (codes "grant_type") params) (refuse InvalidRequest) _ (refused InvalidRequest) (λ name _.
+        at_need P {A = List ℕ} (value_sent (codes "grant_type") params) (refuse InvalidRequest) _ (refused InvalidRequest) (λ name _.
         at_need P {A = GrantType} (grant_named name) (refuse UnsupportedGrantType) _ (refused UnsupportedGrantType) (λ grant _.
         at_point P (not (has_grant grant known.client.grants)) (refuse UnauthorizedClient) _ (λ _. refused UnauthorizedClient) (λ _. by_type grant)))
 
@@ -162,27 +162,27 @@ module _ (P : Outcome → Type 0)
   -- AUTHORIZATION AND CONSENT
 
   turned : (uri : List ℕ) (params : Parameters) (error : ErrorName) → P (turned_back uri params error)
-  turned uri params error = nothing (sent_back uri (codes "error") (error_text error) (state_of params)) tt
+  turned uri params error = nothing (sent_back uri (codes "error") (error_text error) (state_sent params)) tt
 
   pub at_authorize : (asked : Asked) (draw : List ℕ) → P (authorize rules history asked m draw)
   at_authorize asked draw =
       at_need P {A = Parameters} (result_ok (read_params (query_of asked.target))) (refuse InvalidRequest) _ (refused InvalidRequest) (λ params _.
       at_need P {A = KnownClient} (client_named rules params) (refuse InvalidRequest) _ (refused InvalidRequest) (λ known _.
-      at_need P {A = List ℕ} (where_passes (λ uri. has_redirect uri known.client) (value_of (codes "redirect_uri") params)) (refuse InvalidRequest) _ (refused InvalidRequest) (λ uri _.
-      at_need P {A = List ℕ} (value_of (codes "response_type") params) (turned_back uri params InvalidRequest) _ (turned uri params InvalidRequest) (λ type _.
+      at_need P {A = List ℕ} (where_passes (λ uri. has_redirect uri known.client) (value_sent (codes "redirect_uri") params)) (refuse InvalidRequest) _ (refused InvalidRequest) (λ uri _.
+      at_need P {A = List ℕ} (value_sent (codes "response_type") params) (turned_back uri params InvalidRequest) _ (turned uri params InvalidRequest) (λ type _.
       at_point P (not (bytes_eq type (codes "code"))) (turned_back uri params UnsupportedResponseType) _ (λ _. turned uri params UnsupportedResponseType) (λ _.
       at_point P (not (has_grant AuthorizationCode known.client.grants)) (turned_back uri params UnauthorizedClient) _ (λ _. turned uri params UnauthorizedClient) (λ _.
       at_need P {A = List ℕ} (challenge_sent params) (turned_back uri params InvalidRequest) _ (turned uri params InvalidRequest) (λ challenge _.
       at_need P {A = ℕ} (scope_within rules known.client.allowed params) (turned_back uri params InvalidScope) _ (turned uri params InvalidScope) (λ scope _.
-      at_need P {A = ℕ} (owner_of rules asked) (turned_back uri params AccessDenied) _ (turned uri params AccessDenied) (λ owner _.
+      at_need P {A = ℕ} (owner_of_key rules asked) (turned_back uri params AccessDenied) _ (turned uri params AccessDenied) (λ owner _.
       at_point P (not (is_within scope (consented_scope history owner known.number))) (turned_back uri params AccessDenied) _ (λ _. turned uri params AccessDenied) (λ _.
-      free (sha256 draw ∷ []) (sent_back uri (codes "code") (token_text draw) (state_of params))
+      free (sha256 draw ∷ []) (sent_back uri (codes "code") (token_text draw) (state_sent params))
       (CodeGiven (length history) known.number owner scope uri challenge (sha256 draw) ∷ []) (other 302 503 refl) tt))))))))))
 
   pub at_consent : (asked : Asked) → P (give_consent rules history asked)
   at_consent asked =
       at_need P {A = Parameters} (form_of asked) (refuse InvalidRequest) _ (refused InvalidRequest) (λ params _.
-      at_need P {A = ℕ} (owner_of rules asked) (refuse AccessDenied) _ (refused AccessDenied) (λ owner _.
+      at_need P {A = ℕ} (owner_of_key rules asked) (refuse AccessDenied) _ (refused AccessDenied) (λ owner _.
       at_need P {A = KnownClient} (client_named rules params) (refuse InvalidRequest) _ (refused InvalidRequest) (λ known _.
       at_need P {A = ℕ} (scope_asked rules 0 params) (refuse InvalidScope) _ (refused InvalidScope) (λ mask _.
       at_point P (not (has_consent_room history owner known.number mask)) unavailable _ (λ _. wanting) (λ _.
@@ -197,7 +197,7 @@ module _ (P : Outcome → Type 0)
   pub at_revoke : (asked : Asked) → P (revoke_token rules history asked m)
   at_revoke asked =
       at_authenticated P rules asked (revoke_points history m) refused wanting (λ params known _.
-      at_need P {A = List ℕ} (value_of (codes "token") params) (refuse InvalidRequest) _ (refused InvalidRequest) (λ text _.
+      at_need P {A = List ℕ} (value_sent (codes "token") params) (refuse InvalidRequest) _ (refused InvalidRequest) (λ text _.
       revoking known.number (live_token history m text)))
 
   -- HOOKS
@@ -255,7 +255,7 @@ module _ (P : Outcome → Type 0) (rules : RegistryRecord) (history : List Event
     (nothing : (reply : Reply) → IsQuiet reply.body → P (only reply))
     (active : (digest : List ℕ) (g : Grant) → live_grant history digest m ≡ Some g → is_code g.kind ≡ false →
     P (only (plain 200 (told_of rules g g.kind)))) where
-  telling : (text : List ℕ) → P (told rules (live_token history m text))
+  telling : (text : List ℕ) → P (token_told rules (live_token history m text))
   telling text = by_digest (digest_told text)
     where
       is_true : (k : Kind) → not (is_code k) ≡ true → is_code k ≡ false
@@ -263,22 +263,22 @@ module _ (P : Outcome → Type 0) (rules : RegistryRecord) (history : List Event
       is_true (Token kind) e = refl
 
       by_test : (digest : List ℕ) (g : Grant) (b : Bool) → live_grant history digest m ≡ Some g → not (is_code g.kind) ≡ b →
-          P (told rules (cond b (Some g) None))
+          P (token_told rules (cond b (Some g) None))
       by_test digest g true live is = active digest g live (is_true g.kind is)
       by_test digest g false live is = nothing (plain 200 Inactive) tt
 
-      by_grant : (digest : List ℕ) (o : Option Grant) → live_grant history digest m ≡ o → P (told rules (where_passes (λ g. not (is_code g.kind)) o))
+      by_grant : (digest : List ℕ) (o : Option Grant) → live_grant history digest m ≡ o → P (token_told rules (where_passes (λ g. not (is_code g.kind)) o))
       by_grant digest None live = nothing (plain 200 Inactive) tt
       by_grant digest (Some g) live = by_test digest g (not (is_code g.kind)) live refl
 
-      by_digest : (o : Option (List ℕ)) → P (told rules (where_passes (λ g. not (is_code g.kind)) (option_and_then (λ digest. live_grant history digest m) o)))
+      by_digest : (o : Option (List ℕ)) → P (token_told rules (where_passes (λ g. not (is_code g.kind)) (option_and_then (λ digest. live_grant history digest m) o)))
       by_digest None = nothing (plain 200 Inactive) tt
       by_digest (Some digest) = by_grant digest (live_grant history digest m) refl
 
   pub at_introspect : (asked : Asked) → P (introspect rules history asked m)
   at_introspect asked =
       at_authenticated P rules asked (introspect_points rules history m) refused wanting (λ params known _.
-      at_need P {A = List ℕ} (value_of (codes "token") params) (refuse InvalidRequest) _ (refused InvalidRequest) (λ text _. telling text))
+      at_need P {A = List ℕ} (value_sent (codes "token") params) (refuse InvalidRequest) _ (refused InvalidRequest) (λ text _. telling text))
     where
       refused : (error : ErrorName) → P (refuse error)
       refused error = nothing (plain (status_of error) (Failure error)) tt
@@ -288,12 +288,12 @@ module _ (P : Outcome → Type 0) (rules : RegistryRecord) (history : List Event
 
 -- WHAT FOLLOWS
 
-pub nothing_of_503 : (rules : RegistryRecord) (history : List Event) (occasion : Occasion) → (reply_of rules history occasion).status ≡ 503 → (outcome_of rules history occasion).changes ≡ []
+pub nothing_of_503 : (rules : RegistryRecord) (history : List Event) (occasion : Occasion) → (reply_on rules history occasion).status ≡ 503 → (outcome_of rules history occasion).changes ≡ []
 nothing_of_503 rules history occasion =
     at_occasion (λ o. o.reply.status ≡ 503 → o.changes ≡ []) (λ reply _ _. refl) (λ reply changes apart _ is. absurd (apart is)) rules history
     (λ asked m. at_introspect (λ o. o.reply.status ≡ 503 → o.changes ≡ []) rules history m (λ reply _ _. refl) (λ digest g live token _. refl) asked) occasion
 
-pub active_bounded : (rules : RegistryRecord) (history : List Event) → IsBounded rules history → (occasion : Occasion) → TellsBounded rules history (reply_of rules history occasion).body
+pub active_bounded : (rules : RegistryRecord) (history : List Event) → IsBounded rules history → (occasion : Occasion) → TellsBounded rules history (reply_on rules history occasion).body
 active_bounded rules history bounded occasion =
     at_occasion Tells (λ reply quiet. quiet_tells reply.body quiet) (λ reply changes _ quiet. quiet_tells reply.body quiet) rules history
     (λ asked m. at_introspect Tells rules history m (λ reply quiet. quiet_tells reply.body quiet) (λ digest g live token.
@@ -316,7 +316,7 @@ active_bounded rules history bounded occasion =
     quiet_tells (Hooks names) quiet = tt
 
     told_tells : (g : Grant) (client : ClientRecord) → client_at g.client rules.clients ≡ Some client → KeepsScope rules history g →
-        (k : Kind) → ((kind : TokenKind) → k ≡ Token kind → g.life ≤ life_limit rules kind) → TellsBounded rules history (told_of rules g k)
+        (k : Kind) → ((kind : TokenKind) → k ≡ Token kind → g.life ≤ token_life_limit rules kind) → TellsBounded rules history (told_of rules g k)
     told_tells g client at keeps Code short = tt
     told_tells g client at keeps (Token kind) short =
         let few = short kind refl in

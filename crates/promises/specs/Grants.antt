@@ -10,9 +10,9 @@ use Rattle.consent.specs.History.Change.{Consented}
 use Rattle.hook_host.specs.declared.host.HookHost.{Ghosts as Hosting}
 use Rattle.messages.specs.Reply.{Body}
 use Rattle.messages.specs.Reply.Body.{Active}
-use Rattle.endpoints.specs.Bounded.{IsOwn, MayHave, life_limit}
-use Rattle.endpoints.specs.Server.{Seen, FitsServer}
-use Rattle.promises.specs.Occasions.{Occasion, reply_of}
+use Rattle.endpoints.specs.Bounded.{IsOwn, MayHave, token_life_limit}
+use Rattle.endpoints.specs.Server.{SeenServer, FitsServer}
+use Rattle.promises.specs.Occasions.{Occasion, reply_on}
 
 -- the scope is within what the client may have and, unless the token is the client's own, within what the owner consents to now
 pub record KeepsScope (rules : RegistryRecord) (history : List Event) (token : Grant) : Type 0 where
@@ -26,7 +26,7 @@ TellsBounded rules history (Active id expires issued scope sub kind) =
     (token : Grant) × KeepsScope rules history token × (scope ≡ scope_text rules.scopes token.scope)
     × (client : ClientRecord) × (client_at token.client rules.clients ≡ Some client) × (id ≡ client.id)
     × (sub ≡ sub_of token.owner rules.owners)
-    × (expires ≤ issued + life_limit rules kind)
+    × (expires ≤ issued + token_life_limit rules kind)
 TellsBounded rules history body = Unit {0}
 
 -- The owner of the code or token that the digest names at the moment consented to this mask: after it was given, or without
@@ -40,7 +40,7 @@ pub record IsSince (history : List Event) (digest : List ℕ) (moment : ℕ) (to
 
 -- where a reply tells of an active token, it tells one that keeps to its bounds
 abbrev pub TellsWithin : RegistryRecord → List Event → Type 0
-TellsWithin rules history = (occasion : Occasion) → TellsBounded rules history (reply_of rules history occasion).body
+TellsWithin rules history = (occasion : Occasion) → TellsBounded rules history (reply_on rules history occasion).body
 
 -- the scope of a live token of an owner is within each consent that counts for it
 abbrev pub KeepsToConsents : List Event → Type 0
@@ -63,5 +63,5 @@ AreOfClients rules history =
 -- so it is of the rules and the history of each server
 abbrev pub InEachHistory : {H : Type 0} → Hosting H → (RegistryRecord → List Event → Type 0) → Type 0
 InEachHistory {H = H} hosting fact =
-    (server : Seen H) (rules : RegistryRecord) (first : H) (history : List Event) (m : ℕ) →
+    (server : SeenServer H) (rules : RegistryRecord) (first : H) (history : List Event) (m : ℕ) →
     FitsServer hosting.installs hosting.removes server rules first history m → fact rules history

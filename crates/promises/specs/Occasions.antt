@@ -6,7 +6,7 @@ use Rattle.messages.specs.Target.{path_of}
 use Rattle.messages.specs.Reply.{Reply}
 use Rattle.answers.specs.Outcomes.{Outcome}
 use Rattle.endpoints.specs.Hosts.{HostSays}
-use Rattle.endpoints.specs.Replies.{outcome}
+use Rattle.endpoints.specs.Replies.{request_outcome}
 use Rattle.endpoints.specs.Steps.{Arrival}
 
 -- a request as it comes, what the host of hooks says then, and whether memory is refused for it
@@ -18,10 +18,10 @@ pub record Occasion : Type 0 where
 -- what it comes to after this history
 abbrev pub outcome_of : RegistryRecord → List Event → Occasion → Outcome
 outcome_of rules history occasion =
-    outcome occasion.refused rules occasion.host history occasion.arrival.asked occasion.arrival.moment occasion.arrival.draws
+    request_outcome occasion.refused rules occasion.host history occasion.arrival.asked occasion.arrival.moment occasion.arrival.draws
 
-abbrev pub reply_of : RegistryRecord → List Event → Occasion → Reply
-reply_of rules history occasion = (outcome_of rules history occasion).reply
+abbrev pub reply_on : RegistryRecord → List Event → Occasion → Reply
+reply_on rules history occasion = (outcome_of rules history occasion).reply
 
 -- the history that it leaves
 abbrev pub history_after : RegistryRecord → List Event → Occasion → List Event

@@ -5,7 +5,7 @@ ghost use Rattle.clients.specs.RegistryRecord.{RegistryRecord};
 ghost use Rattle.consent.specs.History.{Event, Grant};
 ghost use Rattle.promises.specs.Grants.{AreOfClients, AreOfTheirCodes, InEachHistory, KeepsToConsents, TellsWithin};
 ghost use Rattle.promises.specs.Hooked.{IsNarrowed, without_hooks};
-ghost use Rattle.promises.specs.Occasions.{GoesTo, Occasion, history_after, outcome_of, reply_of};
+ghost use Rattle.promises.specs.Occasions.{GoesTo, Occasion, history_after, outcome_of, reply_on};
 ghost use Rattle.promises.specs.Uses.{Exchanges, IsDead, IsUsedUp, Revokes};
 
 use hook_host::HookHost;
@@ -34,7 +34,7 @@ pub fn codes_and_tokens_are_of_clients<H: HookHost>()
 /// Nothing happens with a 503.
 pub fn nothing_comes_of_a_503()
     ensures { (rules : RegistryRecord) (history : List Event) (occasion : Occasion) →
-        (reply_of rules history occasion).status ≡ 503 → (outcome_of rules history occasion).changes ≡ [] }
+        (reply_on rules history occasion).status ≡ 503 → (outcome_of rules history occasion).changes ≡ [] }
 {}
 
 /// No code and no refresh token is exchanged twice, whatever comes between: where a text is, a code or token of that very
@@ -54,6 +54,6 @@ pub fn a_revoked_family_stays_dead()
 /// and have some of the scope and some of the life that they would have then.
 pub fn no_hook_widens()
     ensures { (rules : RegistryRecord) (history : List Event) (occasion : Occasion) → GoesTo occasion (codes "/token") →
-        (reply_of rules history occasion).status ≡ 200 →
+        (reply_on rules history occasion).status ≡ 200 →
         IsNarrowed (outcome_of rules history occasion) (outcome_of rules history (without_hooks occasion)) }
 {}

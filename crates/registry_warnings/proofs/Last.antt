@@ -6,7 +6,7 @@ use Rattle.std.specs.List.{list_any}
 use Rattle.std.specs.Option.{option_map_or}
 use Rattle.std.specs.Str.{bytes_eq}
 use Rattle.std.proofs.lemmas.List.{map-append}
-use Rattle.registry_warnings.specs.Warnings.{Objects, names_of, innermost, outer}
+use Rattle.registry_warnings.specs.Warnings.{Objects, names_listed, innermost, outer}
 
 pub outer-append : (objects : Objects) (names : List (List ℕ)) → outer (objects ++ names ∷ []) ≡ objects
 outer-append [] names = refl
@@ -21,13 +21,13 @@ innermost-append (first ∷ (second ∷ objects)) names = innermost-append (seco
 -- what is popped is the innermost, and the others stay
 pub popped : (old new : List (Vec (String Global) Global)) (last : Option (Vec (String Global) Global)) → old ≡ new ++ option_to_list last
     → (n m : ℕ) → length old ≡ n → MatchOption last ((n ≡ 0) × (m ≡ 0)) (λ _. m + 1 ≡ n)
-    → (option_map_or names_of last [] ≡ innermost (map names_of old)) × (map names_of new ≡ outer (map names_of old))
+    → (option_map_or names_listed last [] ≡ innermost (map names_listed old)) × (map names_listed new ≡ outer (map names_listed old))
 popped [] [] None is n m count few = (refl, refl)
 popped [] (x ∷ new) None is n m count few = absurd (cc is)
 popped (o ∷ old) new None is n m count few = absurd (omega (arith, count, few.0))
 popped old new (Some last) is n m count few =
-    let mapped : map names_of old ≡ map names_of new ++ names_of last ∷ [] = ap (λ (l : List (Vec (String Global) Global)). map names_of l) is ∙ map-append names_of new (last ∷ []) in
-    (rw mapped (sym (innermost-append (map names_of new) (names_of last))), rw mapped (sym (outer-append (map names_of new) (names_of last))))
+    let mapped : map names_listed old ≡ map names_listed new ++ names_listed last ∷ [] = ap (λ (l : List (Vec (String Global) Global)). map names_listed l) is ∙ map-append names_listed new (last ∷ []) in
+    (rw mapped (sym (innermost-append (map names_listed new) (names_listed last))), rw mapped (sym (outer-append (map names_listed new) (names_listed last))))
 
 -- a text is among the texts of strings where one of the strings has it
 pub any_text : (text : List ℕ) (strings : List (String Global))
@@ -38,7 +38,7 @@ any_text text (s ∷ ss) = ap (λ b. bytes_eq text (string_bytes s) || b) (any_t
 -- the innermost one is the last
 pub last-innermost : (text : List ℕ) (open_ones : List (Vec (String Global) Global)) (last : Option (Vec (String Global) Global))
     → last ≡ slice_get open_ones (length open_ones - 1)
-    → option_map_or (λ names. list_any (λ s. bytes_eq text (string_bytes s)) names.items) last false ≡ list_any (bytes_eq text) (innermost (map names_of open_ones))
+    → option_map_or (λ names. list_any (λ s. bytes_eq text (string_bytes s)) names.items) last false ≡ list_any (bytes_eq text) (innermost (map names_listed open_ones))
 last-innermost text [] None is = refl
 last-innermost text [] (Some names) is = absurd (cc is)
 last-innermost text (o ∷ []) None is = absurd (cc is)

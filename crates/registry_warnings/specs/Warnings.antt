@@ -12,8 +12,8 @@ use Rattle.registry_warnings.specs.Names.{is_of_registry, is_of_key, is_known_in
 abbrev pub Objects : Type 0
 Objects = List (List (List ℕ))
 
-abbrev pub names_of : Vec (String Global) Global → List (List ℕ)
-names_of names = map string_bytes names.items
+abbrev pub names_listed : Vec (String Global) Global → List (List ℕ)
+names_listed names = map string_bytes names.items
 
 abbrev pub innermost : Objects → List (List ℕ)
 innermost [] = []
@@ -31,8 +31,8 @@ abbrev pub with_member : List ℕ → Objects → Objects
 with_member name objects = outer objects ++ (innermost objects ++ name ∷ []) ∷ []
 
 -- the name of the registry's member that is read
-abbrev pub place_of : Objects → Option (List ℕ)
-place_of objects = option_and_then (λ names. slice_get names (length names - 1)) (slice_get objects 0)
+abbrev pub member_read : Objects → Option (List ℕ)
+member_read objects = option_and_then (λ names. slice_get names (length names - 1)) (slice_get objects 0)
 
 -- WARNINGS
 
@@ -40,7 +40,7 @@ place_of objects = option_and_then (λ names. slice_get names (length names - 1)
 abbrev pub is_known : Objects → List ℕ → Bool
 is_known objects name =
     if length objects == 1 then is_of_registry name
-    else (if length objects == 2 then is_known_in (place_of objects) name else is_of_key name)
+    else (if length objects == 2 then is_known_in (member_read objects) name else is_of_key name)
 
 -- the objects that are open behind a token
 abbrev pub after : Objects → Token → Objects
@@ -62,22 +62,22 @@ unknown_text objects name = if is_known objects name then [] else codes "warning
 abbrev pub twice_text : Objects → List ℕ → List ℕ
 twice_text objects name = if list_any (bytes_eq name) (innermost objects) then codes "warning: a member stands twice: " ++ name ++ codes "\n" else []
 
-abbrev pub told : Objects → Token → List ℕ
-told objects (key name) = unknown_text objects name ++ twice_text objects name
-told objects begin_object = []
-told objects end_object = []
-told objects begin_array = []
-told objects end_array = []
-told objects (string text) = []
-told objects (number text) = []
-told objects (boolean b) = []
-told objects null = []
-told objects bad = []
+abbrev pub token_warnings : Objects → Token → List ℕ
+token_warnings objects (key name) = unknown_text objects name ++ twice_text objects name
+token_warnings objects begin_object = []
+token_warnings objects end_object = []
+token_warnings objects begin_array = []
+token_warnings objects end_array = []
+token_warnings objects (string text) = []
+token_warnings objects (number text) = []
+token_warnings objects (boolean b) = []
+token_warnings objects null = []
+token_warnings objects bad = []
 
 -- of tokens, where these objects are open
 abbrev pub warnings : Objects → List Token → List ℕ
 warnings objects [] = []
-warnings objects (token ∷ tokens) = told objects token ++ warnings (after objects token) tokens
+warnings objects (token ∷ tokens) = token_warnings objects token ++ warnings (after objects token) tokens
 
 -- of UTF-8 text
 abbrev pub warnings_in : List ℕ → List ℕ

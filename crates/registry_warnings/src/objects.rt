@@ -3,7 +3,7 @@
 ghost use Rattle.std.specs.Prelude.{◌≡◌, ◌-◌, map, slice_get, option_copied, [], ◌∷◌, ◌++◌, length, bytes_eq, string_bytes, OnOk};
 ghost use Rattle.std.specs.Option.{option_map_or};
 ghost use Rattle.std.specs.List.{list_any};
-ghost use Rattle.registry_warnings.specs.Warnings.{place_of, names_of, innermost, outer, with_member};
+ghost use Rattle.registry_warnings.specs.Warnings.{member_read, names_listed, innermost, outer, with_member};
 
 use std::alloc::{AllocError, Global};
 use std::marker::Model;
@@ -31,11 +31,11 @@ pub(crate) struct Objects {
 
 impl Model for Objects {
     ghost use Rattle.std.specs.Prelude.{ℕ, List, map, string_bytes};
-    ghost use Rattle.registry_warnings.specs.Warnings.{names_of};
+    ghost use Rattle.registry_warnings.specs.Warnings.{names_listed};
 
     ghost Value = { List (List (List ℕ)) };
 
-    ghost view = { λ objects. map names_of objects.open.items };
+    ghost view = { λ objects. map names_listed objects.open.items };
 }
 
 impl Objects {
@@ -56,7 +56,7 @@ impl Objects {
 
     // The name of the registry's member that is read.
     pub(crate) fn place(&self) -> Option<&str>
-        ensures { option_copied result ≡ place_of self.now }
+        ensures { option_copied result ≡ member_read self.now }
     {
         match self.open.first() {
             Some(names) => last_of(names),
@@ -74,7 +74,7 @@ impl Objects {
 
     // The innermost one is closed: the names of its members, if one is open.
     pub(crate) fn end(&mut self) -> Option<Vec<String>>
-        ensures names { option_map_or names_of result [] ≡ innermost self.old }
+        ensures names { option_map_or names_listed result [] ≡ innermost self.old }
         ensures others { self.new ≡ outer self.old }
     {
         self.open.pop()

@@ -3,7 +3,7 @@
 ghost use Rattle.std.specs.Prelude.{◌≡◌, [], ◌++◌, string_bytes, codes, IfOk, OnOk};
 ghost use Rattle.json.specs.Reads.{token_of};
 ghost use Rattle.json.specs.Lex.{tokens};
-ghost use Rattle.registry_warnings.specs.Warnings.{is_known, unknown_text, twice_text, after, told, warnings, warnings_in};
+ghost use Rattle.registry_warnings.specs.Warnings.{is_known, unknown_text, twice_text, after, token_warnings, warnings, warnings_in};
 
 use crate::names::{is_known_in, is_of_key, is_of_registry};
 use crate::objects::Objects;
@@ -59,7 +59,7 @@ fn take_token(
     lines: &mut String,
 ) -> Result<(), AllocError>
     ensures objects { OnOk result (objects.new ≡ after objects.old (token_of token.entry)) }
-    ensures lines { OnOk result (string_bytes lines.new ≡ string_bytes lines.old ++ told objects.old (token_of token.entry)) }
+    ensures lines { OnOk result (string_bytes lines.new ≡ string_bytes lines.old ++ token_warnings objects.old (token_of token.entry)) }
 {
     match token {
         Token::BeginObject => objects.begin(alloc),

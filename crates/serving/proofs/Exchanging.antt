@@ -7,33 +7,33 @@ use Rattle.clients.specs.RegistryRecord.{RegistryRecord}
 use Rattle.messages.specs.declared.request.Draws.{Draws}
 use Rattle.heads.specs.Message.{Messages}
 use Rattle.heads.specs.ReadingLaws.{nothing_has_none}
-use Rattle.http_edge.specs.Answers.{Mark, replies_of}
-use Rattle.http_edge.specs.Schedule.{ended, World, Connection, Happening, Opened, Came, HasEnded, Taken, Comes, Passes, Opens, Ends, Takes, connection_at, fresh, heard, untaken, faulty_if}
+use Rattle.http_edge.specs.Answers.{AnswerMark, replies_of}
+use Rattle.http_edge.specs.Schedule.{ended, World, Connection, Happening, Opened, Came, HasEnded, Taken, PieceComes, PiecePasses, Opens, StreamEnds, TakesOutput, connection_at, fresh, heard, untaken, faulty_if}
 use Rattle.http_edge.specs.Edges.{SeenEdge, output_of}
-use Rattle.http_edge.specs.Reached.{Reached, GoesOn, Leads, PieceLeads, is_closing}
+use Rattle.http_edge.specs.Reached.{Reached, GoesOn, HappeningLeads, PieceLeads, is_closing}
 use Rattle.serving.specs.Streams.{Doing, Received, ReadFailed, Sent, Carries, nothing, receives, sends, fails_to_receive, fails_to_send}
-use Rattle.serving.specs.Served.{Scene, Stage, Coming, Reading, Finished, Ended, Served, Left, MayWrite, IsAttentive, Writes, WriteFails, Step, Runs, none, more, begins, goes, opens, denies, hears, refuses, loses_time, breaks, finishes, stops, closes, ends, ends_nothing, is_over, writes, fails_to_write, forgets}
-use Rattle.serving.specs.Answered.{Exchange, MayLose, IsServed, IsDenied, Answers}
+use Rattle.serving.specs.Served.{ServingScene, Stage, Coming, Reading, Finished, Ended, Served, Left, MayWriteAt, IsAttentive, WritesFronts, WriteFails, ServingStep, Runs, none, more, begins, goes, opens, denies, hears, refuses, loses_time, breaks, finishes, stops, closes, ends, ends_nothing, is_over, writes, fails_to_write, forgets}
+use Rattle.serving.specs.Answered.{StreamExchange, MayLose, IsConnectionServed, IsDenied, ServesConnection}
 use Rattle.serving.specs.declared.fault.ServeFault.{ServeFault}
 use Rattle.http_edge.proofs.Connections.{same_connection, found_put, found_fresh, shown}
 
 module _ {H S : Type 0} (hosting : Hosting H) (does : S → Doing → S → Type 0) (c : ℕ) (rules : RegistryRecord) (first : H) (schedule : List Happening) (s0 : S) where
   -- an exchange at this edge and stream, with nothing lost
   abbrev Now : SeenEdge H → S → Type 0
-  Now e s = Exchange hosting does c rules first schedule s0 e s []
+  Now e s = StreamExchange hosting does c rules first schedule s0 e s []
 
   -- one that is over
   record Over (fault : Option ServeFault) (e : SeenEdge H) (s : S) : Type 0 where
     lost : List ℕ
     may_lose : MayLose fault lost
-    exchange : Exchange hosting does c rules first schedule s0 e s lost
+    exchange : StreamExchange hosting does c rules first schedule s0 e s lost
     all : fault ≡ None → untaken (Some exchange.connection) ≡ []
 
   one_more : (edge : SeenEdge H) (events : List Happening) (world : World) (x : Happening) → Reached hosting edge rules first ((schedule ++ events) ++ x ∷ []) world →
       Reached hosting edge rules first (schedule ++ (events ++ x ∷ [])) world
   one_more edge events world x reached = let P : List Happening → Type 0 = λ es. Reached hosting edge rules first es world in subst P (append_assoc schedule events (x ∷ [])) reached
 
-  pub on_opened : (e e' : SeenEdge H) (world : World) → Reached hosting e rules first schedule world → Leads hosting e e' (Opened c) → Now e' s0
+  pub on_opened : (e e' : SeenEdge H) (world : World) → Reached hosting e rules first schedule world → HappeningLeads hosting e e' (Opened c) → Now e' s0
   on_opened e e' world reached leads =
       let on = leads rules first schedule world reached in
       let opening : Opens world on.world c = on.happens in
@@ -53,7 +53,7 @@ module _ {H S : Type 0} (hosting : Hosting H) (does : S → Doing → S → Type
       }
 
   -- the edge did not hear of what was read
-  pub on_lost : (e : SeenEdge H) (s s' : S) (piece : List ℕ) → Now e s → does s (Received piece) s' → Exchange hosting does c rules first schedule s0 e s' piece
+  pub on_lost : (e : SeenEdge H) (s s' : S) (piece : List ℕ) → Now e s → does s (Received piece) s' → StreamExchange hosting does c rules first schedule s0 e s' piece
   on_lost e s s' piece x done = record {
     heard = x.heard ++ piece;
     written = x.written;
@@ -96,14 +96,14 @@ module _ {H S : Type 0} (hosting : Hosting H) (does : S → Doing → S → Type
       let on = leads rules first (schedule ++ x.events) x.world x.reached in
       elim on.on.happens.1 [ inl comes ↦ by_coming on.marks on.closes on.on comes | inr passes ↦ absurd (not_passed on.marks on.closes on.on.world passes) ]
     where
-      not_passed : (marks : List Mark) (told : Bool) (new : World) → Passes x.world new c marks told → ⊥
+      not_passed : (marks : List AnswerMark) (told : Bool) (new : World) → PiecePasses x.world new c marks told → ⊥
       not_passed marks told new passes =
           let stays : false ≡ is_closing (connection_at x.world.connections c) = attentive.stays rules first (schedule ++ x.events) x.world x.reached in
           let closing : is_closing (connection_at x.world.connections c) ≡ true = rw (passes.here, passes.is_closing) refl in
           false≢true (stays ∙ closing)
 
-      by_coming : (marks : List Mark) (told : Bool) (on : GoesOn hosting e' rules first (schedule ++ x.events) x.world (Came c piece moment draws marks told)) →
-          Comes hosting rules first x.world on.world c piece moment draws marks told → Now e' s'
+      by_coming : (marks : List AnswerMark) (told : Bool) (on : GoesOn hosting e' rules first (schedule ++ x.events) x.world (Came c piece moment draws marks told)) →
+          PieceComes hosting rules first x.world on.world c piece moment draws marks told → Now e' s'
       by_coming marks told on comes =
           let k = comes.before in
           let same : x.connection ≡ k = same_connection x.connection k (sym x.here ∙ comes.here) in
@@ -128,10 +128,10 @@ module _ {H S : Type 0} (hosting : Hosting H) (does : S → Doing → S → Type
                 ∙ sym (append_assoc x.written (drop k.taken k.output) new) ∙ ap (λ bytes. bytes ++ new) front;
           }
 
-  pub on_ended : (e e' : SeenEdge H) (s : S) → Now e s → Leads hosting e e' (HasEnded c) → Now e' s
+  pub on_ended : (e e' : SeenEdge H) (s : S) → Now e s → HappeningLeads hosting e e' (HasEnded c) → Now e' s
   on_ended e e' s x leads =
       let on = leads rules first (schedule ++ x.events) x.world x.reached in
-      let ending : Ends x.world on.world c = on.happens in
+      let ending : StreamEnds x.world on.world c = on.happens in
       let k = ending.before in
       let same : x.connection ≡ k = same_connection x.connection k (sym x.here ∙ ending.here) in
       let k' : Connection = record k { phase = ended k.phase } in
@@ -151,12 +151,12 @@ module _ {H S : Type 0} (hosting : Hosting H) (does : S → Doing → S → Type
       }
 
   -- a front of the output was written, and taken
-  pub on_written : (e e' : SeenEdge H) (s s' : S) (n : ℕ) → Now e s → 0 < n → does s (Sent (take n (output_of e c))) s' → Leads hosting e e' (Taken c n) → Now e' s'
+  pub on_written : (e e' : SeenEdge H) (s s' : S) (n : ℕ) → Now e s → 0 < n → does s (Sent (take n (output_of e c))) s' → HappeningLeads hosting e e' (Taken c n) → Now e' s'
   on_written e e' s s' n x some done leads =
       let on = leads rules first (schedule ++ x.events) x.world x.reached in
       elim on.happens [ inl takes ↦ by_taking on takes | inr absent ↦ absurd (let zero = absent.nothing in omega (arith, zero, some)) ]
     where
-      by_taking : (on : GoesOn hosting e' rules first (schedule ++ x.events) x.world (Taken c n)) → Takes x.world on.world c n → Now e' s'
+      by_taking : (on : GoesOn hosting e' rules first (schedule ++ x.events) x.world (Taken c n)) → TakesOutput x.world on.world c n → Now e' s'
       by_taking on takes =
           let k = takes.before in
           let same : x.connection ≡ k = same_connection x.connection k (sym x.here ∙ takes.here) in
@@ -183,7 +183,7 @@ module _ {H S : Type 0} (hosting : Hosting H) (does : S → Doing → S → Type
           }
 
   -- one front after another
-  pub on_writes : (e : SeenEdge H) (s : S) (e' : SeenEdge H) (s' : S) → Now e s → Writes hosting does c e s e' s' → Now e' s'
+  pub on_writes : (e : SeenEdge H) (s : S) (e' : SeenEdge H) (s' : S) → Now e s → WritesFronts hosting does c e s e' s' → Now e' s'
   on_writes e s e' s' x none = x
   on_writes e s e' s' x (more n before some within done leads) = on_written _ e' _ s' n (on_writes e s _ _ x before) some done leads
 
@@ -206,16 +206,16 @@ module _ {H S : Type 0} (hosting : Hosting H) (does : S → Doing → S → Type
 
 -- how a service stands at each stage
 module _ {H S C : Type 0} (hosting : Hosting H) (does : S → Doing → S → Type 0) (tells : C → Option ℕ → C → Type 0) (c : ℕ) (rules : RegistryRecord) (first : H) (schedule : List Happening) (world : World) (e0 : SeenEdge H) (s0 : S) (reached : Reached hosting e0 rules first schedule world) where
-  abbrev Stands : Stage → Scene H S C → Type 0
+  abbrev Stands : Stage → ServingScene H S C → Type 0
   Stands Coming x = (x.edge ≡ e0) × (x.stream ≡ s0)
   Stands (Reading n) x = Now hosting does c rules first schedule s0 x.edge x.stream
   Stands Finished x = Now hosting does c rules first schedule s0 x.edge x.stream
   Stands Ended x = Now hosting does c rules first schedule s0 x.edge x.stream
   Stands (Served fault) x = Over hosting does c rules first schedule s0 fault x.edge x.stream
-  Stands (Left fault) x = IsDenied c world.connections e0 s0 fault x.edge x.stream ⊎ IsServed hosting does c rules first schedule s0 fault x.edge x.stream
+  Stands (Left fault) x = IsDenied c world.connections e0 s0 fault x.edge x.stream ⊎ IsConnectionServed hosting does c rules first schedule s0 fault x.edge x.stream
 
   -- where output may be written
-  from_stage : (stage : Stage) (x : Scene H S C) → MayWrite stage → Stands stage x → Now hosting does c rules first schedule s0 x.edge x.stream
+  from_stage : (stage : Stage) (x : ServingScene H S C) → MayWriteAt stage → Stands stage x → Now hosting does c rules first schedule s0 x.edge x.stream
   from_stage Coming x may h = absurd may
   from_stage (Reading n) x may h = h
   from_stage Finished x may h = absurd may
@@ -223,7 +223,7 @@ module _ {H S C : Type 0} (hosting : Hosting H) (does : S → Doing → S → Ty
   from_stage (Served fault) x may h = absurd may
   from_stage (Left fault) x may h = absurd may
 
-  to_stage : (stage : Stage) (x : Scene H S C) → MayWrite stage → Now hosting does c rules first schedule s0 x.edge x.stream → Stands stage x
+  to_stage : (stage : Stage) (x : ServingScene H S C) → MayWriteAt stage → Now hosting does c rules first schedule s0 x.edge x.stream → Stands stage x
   to_stage Coming x may h = absurd may
   to_stage (Reading n) x may h = h
   to_stage Finished x may h = absurd may
@@ -231,7 +231,7 @@ module _ {H S C : Type 0} (hosting : Hosting H) (does : S → Doing → S → Ty
   to_stage (Served fault) x may h = absurd may
   to_stage (Left fault) x may h = absurd may
 
-  step_stands : (a b : Stage) (old new : Scene H S C) → Step hosting does tells c a old b new → Stands a old → Stands b new
+  step_stands : (a b : Stage) (old new : ServingScene H S C) → ServingStep hosting does tells c a old b new → Stands a old → Stands b new
   step_stands a b old new (opens leads) h = rw h.1 (on_opened hosting does c rules first schedule s0 _ _ world (rw h.0 reached) leads)
   step_stands a b old new (denies fault refused) h =
       inl (record { cause = fault; is_fault = refl; is_refusal = refused rules first schedule world (rw h.0 reached); same_edge = h.0; same_stream = h.1 })
@@ -265,12 +265,12 @@ module _ {H S C : Type 0} (hosting : Hosting H) (does : S → Doing → S → Ty
         forgotten = leads rules first (schedule ++ h.exchange.events) h.exchange.world h.exchange.reached;
       })
 
-  runs_stand : (old : Scene H S C) → old.edge ≡ e0 → old.stream ≡ s0 → (b : Stage) (new : Scene H S C) → Runs hosting does tells c Coming old b new → Stands b new
+  runs_stand : (old : ServingScene H S C) → old.edge ≡ e0 → old.stream ≡ s0 → (b : Stage) (new : ServingScene H S C) → Runs hosting does tells c Coming old b new → Stands b new
   runs_stand old same_edge same_stream b new begins = (same_edge, same_stream)
   runs_stand old same_edge same_stream b new (goes run step) = step_stands _ _ _ _ step (runs_stand old same_edge same_stream _ _ run)
 
 -- whatever was done, what was written answers what was read
-pub answers : {H S C : Type 0} (hosting : Hosting H) (does : S → Doing → S → Type 0) (tells : C → Option ℕ → C → Type 0) (c : ℕ) (old : Scene H S C) (fault : Option ServeFault) (new : Scene H S C) →
-    Runs hosting does tells c Coming old (Left fault) new → Answers hosting does c old.edge old.stream fault new.edge new.stream
+pub answers : {H S C : Type 0} (hosting : Hosting H) (does : S → Doing → S → Type 0) (tells : C → Option ℕ → C → Type 0) (c : ℕ) (old : ServingScene H S C) (fault : Option ServeFault) (new : ServingScene H S C) →
+    Runs hosting does tells c Coming old (Left fault) new → ServesConnection hosting does c old.edge old.stream fault new.edge new.stream
 answers hosting does tells c old fault new run rules first schedule world reached =
     runs_stand hosting does tells c rules first schedule world old.edge old.stream reached old refl refl (Left fault) new run

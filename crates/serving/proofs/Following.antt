@@ -4,9 +4,9 @@ use Rattle.hook_host.specs.declared.host.HookHost.{Ghosts as Hosting}
 use Rattle.clients.specs.RegistryRecord.{RegistryRecord}
 use Rattle.http_edge.specs.Schedule.{World, Happening}
 use Rattle.http_edge.specs.Edges.{SeenEdge}
-use Rattle.http_edge.specs.Reached.{Reached, GoesOn, Leads}
+use Rattle.http_edge.specs.Reached.{Reached, GoesOn, HappeningLeads}
 use Rattle.serving.specs.Streams.{Doing}
-use Rattle.serving.specs.Served.{Scene, Stage, Step, Runs, Writes, LeadsOn, none, more, begins, goes, opens, denies, hears, refuses, loses_time, breaks, finishes, stops, closes, ends, ends_nothing, is_over, writes, fails_to_write, forgets}
+use Rattle.serving.specs.Served.{ServingScene, Stage, ServingStep, Runs, WritesFronts, LeadsOn, none, more, begins, goes, opens, denies, hears, refuses, loses_time, breaks, finishes, stops, closes, ends, ends_nothing, is_over, writes, fails_to_write, forgets}
 
 happened : {H : Type 0} (hosting : Hosting H) (rules : RegistryRecord) (first : H) (schedule events : List Happening) (edge : SeenEdge H) (old : World) (x : Happening) →
     GoesOn hosting edge rules first (schedule ++ events) old x → LeadsOn hosting edge rules first schedule
@@ -17,17 +17,17 @@ happened hosting rules first schedule events edge old x on = record {
 }
 
 one_more : {H : Type 0} (hosting : Hosting H) (rules : RegistryRecord) (first : H) (schedule : List Happening) (e e' : SeenEdge H) (x : Happening) →
-    Leads hosting e e' x → LeadsOn hosting e rules first schedule → LeadsOn hosting e' rules first schedule
+    HappeningLeads hosting e e' x → LeadsOn hosting e rules first schedule → LeadsOn hosting e' rules first schedule
 one_more hosting rules first schedule e e' x leads l = happened hosting rules first schedule l.events e' l.world x (leads rules first (schedule ++ l.events) l.world l.reached)
 
 writes_lead : {H S : Type 0} (hosting : Hosting H) (does : S → Doing → S → Type 0) (c : ℕ) (rules : RegistryRecord) (first : H) (schedule : List Happening) (e0 : SeenEdge H) (s0 : S) (e : SeenEdge H) (s : S) →
-    Writes hosting does c e0 s0 e s → LeadsOn hosting e0 rules first schedule → LeadsOn hosting e rules first schedule
+    WritesFronts hosting does c e0 s0 e s → LeadsOn hosting e0 rules first schedule → LeadsOn hosting e rules first schedule
 writes_lead hosting does c rules first schedule e0 s0 e s none l = l
 writes_lead hosting does c rules first schedule e0 s0 e s (more n before some within sends takes) l =
     one_more hosting rules first schedule _ _ _ takes (writes_lead hosting does c rules first schedule e0 s0 _ _ before l)
 
-step_leads : {H S C : Type 0} (hosting : Hosting H) (does : S → Doing → S → Type 0) (tells : C → Option ℕ → C → Type 0) (c : ℕ) (rules : RegistryRecord) (first : H) (schedule : List Happening) (a b : Stage) (old new : Scene H S C) →
-    Step hosting does tells c a old b new → LeadsOn hosting old.edge rules first schedule → LeadsOn hosting new.edge rules first schedule
+step_leads : {H S C : Type 0} (hosting : Hosting H) (does : S → Doing → S → Type 0) (tells : C → Option ℕ → C → Type 0) (c : ℕ) (rules : RegistryRecord) (first : H) (schedule : List Happening) (a b : Stage) (old new : ServingScene H S C) →
+    ServingStep hosting does tells c a old b new → LeadsOn hosting old.edge rules first schedule → LeadsOn hosting new.edge rules first schedule
 step_leads hosting does tells c rules first schedule a b old new (opens leads) l = one_more hosting rules first schedule _ _ _ leads l
 step_leads hosting does tells c rules first schedule a b old new (denies fault refused) l = l
 step_leads hosting does tells c rules first schedule a b old new (hears n piece moment few attentive some short done told given after) l =
@@ -46,14 +46,14 @@ step_leads hosting does tells c rules first schedule a b old new (writes stage m
 step_leads hosting does tells c rules first schedule a b old new (fails_to_write stage may w) l = writes_lead hosting does c rules first schedule _ _ _ _ w.writes l
 step_leads hosting does tells c rules first schedule a b old new (forgets fault leads gone) l = one_more hosting rules first schedule _ _ _ leads l
 
-runs_lead : {H S C : Type 0} (hosting : Hosting H) (does : S → Doing → S → Type 0) (tells : C → Option ℕ → C → Type 0) (c : ℕ) (rules : RegistryRecord) (first : H) (schedule : List Happening) (a : Stage) (old : Scene H S C) (b : Stage) (new : Scene H S C) →
+runs_lead : {H S C : Type 0} (hosting : Hosting H) (does : S → Doing → S → Type 0) (tells : C → Option ℕ → C → Type 0) (c : ℕ) (rules : RegistryRecord) (first : H) (schedule : List Happening) (a : Stage) (old : ServingScene H S C) (b : Stage) (new : ServingScene H S C) →
     Runs hosting does tells c a old b new → LeadsOn hosting old.edge rules first schedule → LeadsOn hosting new.edge rules first schedule
 runs_lead hosting does tells c rules first schedule a old b new begins l = l
 runs_lead hosting does tells c rules first schedule a old b new (goes run step) l =
     step_leads hosting does tells c rules first schedule _ _ _ _ step (runs_lead hosting does tells c rules first schedule a old _ _ run l)
 
 -- whatever was done, the edge is one that a longer schedule leads to
-pub leads_on : {H S C : Type 0} (hosting : Hosting H) (does : S → Doing → S → Type 0) (tells : C → Option ℕ → C → Type 0) (c : ℕ) (a : Stage) (old : Scene H S C) (b : Stage) (new : Scene H S C) →
+pub leads_on : {H S C : Type 0} (hosting : Hosting H) (does : S → Doing → S → Type 0) (tells : C → Option ℕ → C → Type 0) (c : ℕ) (a : Stage) (old : ServingScene H S C) (b : Stage) (new : ServingScene H S C) →
     Runs hosting does tells c a old b new → (rules : RegistryRecord) (first : H) (schedule : List Happening) (world : World) → Reached hosting old.edge rules first schedule world → LeadsOn hosting new.edge rules first schedule
 leads_on hosting does tells c a old b new run rules first schedule world reached =
     runs_lead hosting does tells c rules first schedule a old b new run

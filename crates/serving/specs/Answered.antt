@@ -9,14 +9,14 @@ use Rattle.http_edge.specs.Refusals.{IsOpeningRefusal}
 use Rattle.http_edge.specs.Reached.{Reached, GoesOn}
 use Rattle.http_edge.specs.declared.fault.EdgeFault.{EdgeFault}
 use Rattle.serving.specs.Streams.{Doing, Carries}
-use Rattle.serving.specs.Served.{piece_limit}
+use Rattle.serving.specs.Served.{stream_piece_limit}
 use Rattle.serving.specs.declared.fault.ServeFault.{ServeFault}
 use Rattle.serving.specs.declared.fault.ServeFault.TheVariants as Fault
 
 -- What came and went on a stream, and how the connection stands then. The bytes that came are the connection's, but for
 -- those that were lost. Its requests are the messages in them. What was written is a front of all its output: of the
 -- replies to its requests, as the schedule has them.
-pub record Exchange {H S : Type 0} (hosting : Hosting H) (does : S → Doing → S →
+pub record StreamExchange {H S : Type 0} (hosting : Hosting H) (does : S → Doing → S →
     Type 0) (c : ℕ) (rules : RegistryRecord) (first : H) (schedule : List Happening) (old : S) (edge : SeenEdge H) (new : S) (lost : List ℕ) : Type 0 where
   pub heard : List ℕ
   pub written : List ℕ
@@ -33,17 +33,17 @@ pub record Exchange {H S : Type 0} (hosting : Hosting H) (does : S → Doing →
 
 -- what was read and did not come to the edge: a last piece, which the edge refused or the clock had no moment for
 abbrev pub MayLose : Option ServeFault → List ℕ → Type 0
-MayLose (Some (Fault.Refused fault)) lost = length lost ≤ piece_limit
-MayLose (Some Fault.Clock) lost = length lost ≤ piece_limit
+MayLose (Some (Fault.Refused fault)) lost = length lost ≤ stream_piece_limit
+MayLose (Some Fault.Clock) lost = length lost ≤ stream_piece_limit
 MayLose fault lost = lost ≡ []
 
 -- a connection was opened, served up to this fault or to its end, and forgotten; at its end all its output is written
-pub record IsServed {H S : Type 0} (hosting : Hosting H) (does : S → Doing → S →
+pub record IsConnectionServed {H S : Type 0} (hosting : Hosting H) (does : S → Doing → S →
     Type 0) (c : ℕ) (rules : RegistryRecord) (first : H) (schedule : List Happening) (old : S) (fault : Option ServeFault) (edge : SeenEdge H) (new : S) : Type 0 where
   pub before : SeenEdge H
   pub lost : List ℕ
   pub may_lose : MayLose fault lost
-  pub exchange : Exchange hosting does c rules first schedule old before new lost
+  pub exchange : StreamExchange hosting does c rules first schedule old before new lost
   pub all : fault ≡ None → untaken (Some exchange.connection) ≡ []
   pub forgotten : GoesOn hosting edge rules first (schedule ++ exchange.events) exchange.world (Forgotten c)
 
@@ -57,7 +57,7 @@ pub record IsDenied {H S : Type 0} (c : ℕ) (connections : List Connection) (ol
   pub same_stream : stream' ≡ stream
 
 -- wherever the edge was reached
-abbrev pub Answers : {H S : Type 0} → Hosting H → (S → Doing → S → Type 0) → ℕ → SeenEdge H → S → Option ServeFault → SeenEdge H → S → Type 0
-Answers hosting does c old stream fault new stream' =
+abbrev pub ServesConnection : {H S : Type 0} → Hosting H → (S → Doing → S → Type 0) → ℕ → SeenEdge H → S → Option ServeFault → SeenEdge H → S → Type 0
+ServesConnection hosting does c old stream fault new stream' =
     (rules : RegistryRecord) (first : _) (schedule : List Happening) (world : World) → Reached hosting old rules first schedule world →
-    IsDenied c world.connections old stream fault new stream' ⊎ IsServed hosting does c rules first schedule stream fault new stream'
+    IsDenied c world.connections old stream fault new stream' ⊎ IsConnectionServed hosting does c rules first schedule stream fault new stream'

@@ -3,8 +3,8 @@ ghost use Rattle.std.specs.Prelude.{◌≡◌, ◌<◌, ◌+◌, ℕ, List, [], 
 ghost use Rattle.clients.specs.RegistryRecord.{RegistryRecord};
 ghost use Rattle.http_edge.specs.Schedule.{World, Happening};
 ghost use Rattle.http_edge.specs.Reached.{Reached};
-ghost use Rattle.serving.specs.Served.{Runs, Goes, Coming, Reading, Finished, Ended, Served, Left, IsAttentive, IsWritten, WriteFails, at, LeadsOn, fault_in, stage_heard, stage_over};
-ghost use Rattle.serving.specs.Answered.{Answers};
+ghost use Rattle.serving.specs.Served.{Runs, Goes, Coming, Reading, Finished, Ended, Served, Left, IsAttentive, IsWritten, WriteFails, serving_scene, LeadsOn, any_fault, stage_heard, stage_over};
+ghost use Rattle.serving.specs.Answered.{ServesConnection};
 ghost use Rattle.serving.specs.declared.fault.ServeFault.TheVariants.{Write};
 
 use crate::clock::Clock;
@@ -39,7 +39,7 @@ fn hear<H: HookHost, S: Stream, C: Clock>(
     rng: &mut ChaCha20Rng,
 ) -> Result<Heard, ServeFault>
     requires attentive { IsAttentive H.HookHost edge.old c }
-    ensures { (n : ℕ) → n < 1048576 → Goes H.HookHost S.does C.tells c (Reading n) (at edge.old stream.old clock.old rng.old) (stage_heard n result) (at edge.new stream.new clock.new rng.new) }
+    ensures { (n : ℕ) → n < 1048576 → Goes H.HookHost S.does C.tells c (Reading n) (serving_scene edge.old stream.old clock.old rng.old) (stage_heard n result) (serving_scene edge.new stream.new clock.new rng.new) }
 {
     let mut buffer = [0; PIECE_LIMIT];
     let Ok(count) = stream.receive(&mut buffer) else {
@@ -101,7 +101,7 @@ fn hear_all<H: HookHost, S: Stream, C: Clock>(
     clock: &mut C,
     rng: &mut ChaCha20Rng,
 ) -> Result<Over, ServeFault>
-    ensures { Goes H.HookHost S.does C.tells c (Reading 0) (at edge.old stream.old clock.old rng.old) (stage_over result) (at edge.new stream.new clock.new rng.new) }
+    ensures { Goes H.HookHost S.does C.tells c (Reading 0) (serving_scene edge.old stream.old clock.old rng.old) (stage_over result) (serving_scene edge.new stream.new clock.new rng.new) }
 {
     for pieces in 0..READ_LIMIT {
         write_output(edge, c, stream)?;
@@ -124,7 +124,7 @@ fn attend<H: HookHost, S: Stream, C: Clock>(
     clock: &mut C,
     rng: &mut ChaCha20Rng,
 ) -> Result<(), ServeFault>
-    ensures { Goes H.HookHost S.does C.tells c (Reading 0) (at edge.old stream.old clock.old rng.old) (Served (fault_in result)) (at edge.new stream.new clock.new rng.new) }
+    ensures { Goes H.HookHost S.does C.tells c (Reading 0) (serving_scene edge.old stream.old clock.old rng.old) (Served (any_fault result)) (serving_scene edge.new stream.new clock.new rng.new) }
 {
     match hear_all(edge, c, stream, clock, rng)? {
         Over::Closed => Ok(()),
@@ -149,11 +149,11 @@ pub fn serve_one<H: HookHost, S: Stream, C: Clock>(
     clock: &mut C,
     rng: &mut ChaCha20Rng,
 ) -> Result<(), ServeFault>
-    ensures served { Runs H.HookHost S.does C.tells c Coming (at edge.old stream.old clock.old rng.old) (Left (fault_in result)) (at edge.new stream.new clock.new rng.new) }
+    ensures served { Runs H.HookHost S.does C.tells c Coming (serving_scene edge.old stream.old clock.old rng.old) (Left (any_fault result)) (serving_scene edge.new stream.new clock.new rng.new) }
     ensures reached { (rules : RegistryRecord) (first : H) (schedule : List Happening) (world : World) → Reached H.HookHost edge.old rules first schedule world →
         LeadsOn H.HookHost edge.new rules first schedule }
     // All that was written is a front of the replies to the requests in what was read.
-    ensures written { Answers H.HookHost S.does c edge.old stream.old (fault_in result) edge.new stream.new }
+    ensures written { ServesConnection H.HookHost S.does c edge.old stream.old (any_fault result) edge.new stream.new }
 {
     if let Err(fault) = edge.event(Event::Open(c)) {
         return Err(ServeFault::Refused(fault));

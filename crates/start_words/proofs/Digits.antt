@@ -5,7 +5,7 @@ use Rattle.std.specs.List.{list_all}
 use Rattle.std.specs.Result.{OkIff, result_ok}
 use Rattle.std.specs.Str.Parse.{AllDigits, digits_value, IsNumeral, ParsesUnsigned, without_leading_plus}
 use Rattle.std.proofs.lemmas.Bool.{and_parts}
-use Rattle.start_words.specs.Numbers.{is_number, number_of}
+use Rattle.start_words.specs.Numbers.{says_number, number_said}
 
 digit_below : (b : ℕ) → is_ascii_digit b ≡ true → digit_value b < 10
 digit_below b is = grind arith
@@ -22,7 +22,7 @@ no_plus (b ∷ bs) are =
     let parts = and_parts (is_ascii_digit b) (list_all is_ascii_digit bs) are in
     grind (arith, parts.0)
 
-none_of : (text : List ℕ) (b : Bool) → is_number text ≡ b → list_all is_ascii_digit text ≡ true → (IsNumeral 10 text × (digits_value 10 text < 2 ^ 32) → ⊥) → None ≡ number_of text
+none_of : (text : List ℕ) (b : Bool) → says_number text ≡ b → list_all is_ascii_digit text ≡ true → (IsNumeral 10 text × (digits_value 10 text < 2 ^ 32) → ⊥) → None ≡ number_said text
 none_of text false is are not = rw is refl
 none_of text true is are not =
     let parts = and_parts (nat_lt 0 (length text) && list_all is_ascii_digit text) (nat_lt (digits_value 10 text) 0x100000000) is in
@@ -32,15 +32,15 @@ none_of text true is are not =
     absurd (not ((long, all_digits text are), below))
 
 number : {E : Type 0} (text : List ℕ) (r : Result ℕ E) → list_all is_ascii_digit text ≡ true
-    → OkIff r (IsNumeral 10 text × (digits_value 10 text < 2 ^ 32)) (digits_value 10 text) → result_ok r ≡ number_of text
+    → OkIff r (IsNumeral 10 text × (digits_value 10 text < 2 ^ 32)) (digits_value 10 text) → result_ok r ≡ number_said text
 number text (Ok n) are parses =
     let long : 0 < length text = parses.0.0.0 in
     let below : digits_value 10 text < 2 ^ 32 = parses.0.1 in
-    let is : is_number text ≡ true = grind (arith, are, long, below) in
+    let is : says_number text ≡ true = grind (arith, are, long, below) in
     rw (is, parses.1) refl
-number text (Err e) are parses = none_of text (is_number text) refl are parses
+number text (Err e) are parses = none_of text (says_number text) refl are parses
 
 -- what `parse` gives is the number that the digits say
-pub parsed : {E : Type 0} (text : List ℕ) (r : Result ℕ E) → list_all is_ascii_digit text ≡ true → ParsesUnsigned 32 10 text r → result_ok r ≡ number_of text
+pub parsed : {E : Type 0} (text : List ℕ) (r : Result ℕ E) → list_all is_ascii_digit text ≡ true → ParsesUnsigned 32 10 text r → result_ok r ≡ number_said text
 parsed text r are parses =
     number text r are (subst (λ t. OkIff r (IsNumeral 10 t × (digits_value 10 t < 2 ^ 32)) (digits_value 10 t)) (no_plus text are) parses)

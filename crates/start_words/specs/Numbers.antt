@@ -5,9 +5,9 @@ use Rattle.std.specs.List.{list_all}
 use Rattle.std.specs.Str.Parse.{digits_value}
 
 -- one digit or more, for a number below 2^32
-abbrev pub is_number : List ℕ → Bool
-is_number text = nat_lt 0 (length text) && list_all is_ascii_digit text && nat_lt (digits_value 10 text) 0x100000000
+abbrev pub says_number : List ℕ → Bool
+says_number text = nat_lt 0 (length text) && list_all is_ascii_digit text && nat_lt (digits_value 10 text) 0x100000000
 
 -- the number that a text says
-abbrev pub number_of : List ℕ → Option ℕ
-number_of text = if is_number text then Some (digits_value 10 text) else None
+abbrev pub number_said : List ℕ → Option ℕ
+number_said text = if says_number text then Some (digits_value 10 text) else None

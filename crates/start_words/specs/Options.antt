@@ -12,7 +12,7 @@ use Rattle.start_words.specs.declared.fault.WordFault.TheVariants.{Unknown, NoVa
 use Rattle.start_words.specs.declared.option.HookFile.{HookFile}
 use Rattle.start_words.specs.declared.option.OptionName.{OptionName}
 use Rattle.start_words.specs.declared.option.OptionName.TheVariants.{Silence, Full, Report, State, Hook}
-use Rattle.start_words.specs.Numbers.{number_of}
+use Rattle.start_words.specs.Numbers.{number_said}
 
 -- a hook's name, the layout of the record that it reads, and the path of its file
 pub record HookSaid : Type 0 where
@@ -49,8 +49,8 @@ Err e >>= next = Err e
 -- ---- one option
 
 -- the option of a name
-abbrev pub named : List ℕ → Option OptionName
-named word =
+abbrev pub option_named : List ℕ → Option OptionName
+option_named word =
     if bytes_eq word (codes "--silence") then Some Silence
     else (if bytes_eq word (codes "--full") then Some Full
     else (if bytes_eq word (codes "--report") then Some Report
@@ -64,7 +64,7 @@ not_0 None = None
 not_0 (Some n) = if n == 0 then None else Some n
 
 abbrev pub above_0 : List ℕ → Option ℕ
-above_0 text = not_0 (number_of text)
+above_0 text = not_0 (number_said text)
 
 -- a text has an equals sign
 abbrev pub is_pair : List ℕ → Bool
@@ -87,28 +87,28 @@ once None None = Err BadValue
 once None (Some value) = Ok (Some value)
 
 -- with what an option and its value say
-abbrev pub with_value : Said → OptionName → List ℕ → Result Said WordFault
-with_value said Silence value = do
+abbrev pub with_option_value : Said → OptionName → List ℕ → Result Said WordFault
+with_option_value said Silence value = do
   seconds ← once said.silence (above_0 value)
   Ok (record said { silence = seconds })
-with_value said Full value = do
-  seconds ← once said.full (number_of value)
+with_option_value said Full value = do
+  seconds ← once said.full (number_said value)
   Ok (record said { full = seconds })
-with_value said Report value = do
+with_option_value said Report value = do
   seconds ← once said.report (above_0 value)
   Ok (record said { report = seconds })
-with_value said State value = do
+with_option_value said State value = do
   path ← once said.state (path_in value)
   Ok (record said { state = path })
-with_value said (Hook layout) value = do
+with_option_value said (Hook layout) value = do
   hook ← ok_or (hook_in layout value) BadValue
   Ok (record said { hooks = said.hooks ++ hook ∷ [] })
 
 -- with what two words say
 abbrev pub with_option : Said → List ℕ → List ℕ → Result Said WordFault
 with_option said word value = do
-  name ← ok_or (named word) Unknown
-  with_value said name value
+  name ← ok_or (option_named word) Unknown
+  with_option_value said name value
 
 -- ---- the words
 
@@ -119,7 +119,7 @@ blamed word (Err fault) = Err (wrong word fault)
 
 -- the fault of an option without a value
 abbrev pub lone_fault : List ℕ → WordFault
-lone_fault word = if is_some (named word) then NoValue else Unknown
+lone_fault word = if is_some (option_named word) then NoValue else Unknown
 
 -- what these words say, two by two, beside what was said before
 abbrev pub options_after : Said → List (List ℕ) → Result Said Refused
@@ -147,7 +147,7 @@ none_placed said words (Some more) = Err bad_words
 abbrev pub full_placed : Said → List (List ℕ) → Option (List ℕ × List (List ℕ)) → Result (Said × List (List ℕ)) Refused
 full_placed said words None = Ok (said, words)
 full_placed said words (Some (full, rest)) = do
-  seconds ← ok_or (number_of full) bad_words
+  seconds ← ok_or (number_said full) bad_words
   none_placed (record said { full = Some seconds }) rest (by_place rest)
 
 -- SILENCE, which may be left out
@@ -170,7 +170,7 @@ options_in words = do
 -- ---- faults
 
 -- why a reading has no result
-abbrev pub IsRefused : {A : Type 0} → Result A Refused → StartFault → Type 0
-IsRefused reading BadWords = reading ≡ Err bad_words
-IsRefused reading (Word word fault) = reading ≡ Err (wrong word.now fault)
-IsRefused reading Memory = ⊤
+abbrev pub IsWhyRefused : {A : Type 0} → Result A Refused → StartFault → Type 0
+IsWhyRefused reading BadWords = reading ≡ Err bad_words
+IsWhyRefused reading (Word word fault) = reading ≡ Err (wrong word.now fault)
+IsWhyRefused reading Memory = ⊤

@@ -8,7 +8,7 @@ mod options;
 mod words;
 
 pub use fault::{StartFault, WordFault};
-pub use number::number_of;
+pub use number::number_said;
 pub use option::HookFile;
 pub use options::Options;
 pub use words::StartWords;

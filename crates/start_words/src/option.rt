@@ -3,9 +3,9 @@
 ghost use Rattle.std.specs.Prelude.{◌≡◌, option_map};
 ghost use Rattle.std.specs.Option.{option_copied};
 ghost use Rattle.std.specs.Str.{bytes_eq};
-ghost use Rattle.start_words.specs.Options.{above_0, hook_in, hook_said, named, path_in};
+ghost use Rattle.start_words.specs.Options.{above_0, hook_in, hook_said, option_named, path_in};
 
-use crate::number::number_of;
+use crate::number::number_said;
 use insn::layout::Layout;
 
 /// The file of a program that is installed as a hook.
@@ -35,8 +35,8 @@ pub enum OptionName {
 }
 
 /// The option of a name.
-pub fn named(word: &str) -> Option<OptionName>
-    ensures { result ≡ named word.now }
+pub fn option_named(word: &str) -> Option<OptionName>
+    ensures { result ≡ option_named word.now }
 {
     match word {
         "--silence" => Some(OptionName::Silence),
@@ -53,7 +53,7 @@ pub fn named(word: &str) -> Option<OptionName>
 pub fn above_0(text: &str) -> Option<u32>
     ensures { result ≡ above_0 text.now }
 {
-    match number_of(text) {
+    match number_said(text) {
         Some(0) | None => None,
         Some(seconds) => Some(seconds),
     }

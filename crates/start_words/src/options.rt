@@ -2,12 +2,12 @@
 
 ghost use Rattle.std.specs.Prelude.{◌≡◌, ◌∷◌, ◌++◌, [], Ok, Err, OnOk, IfOk, IfErr, IfSome, IfNone, map, string_bytes, unwrap_or, option_map};
 ghost use Rattle.std.specs.Option.{option_copied};
-ghost use Rattle.start_words.specs.Options.{bad_words, blamed, by_place, hook_said, is_option, IsRefused, lone_fault, nothing_said, once, options_after, options_in, placed_after, with_option};
+ghost use Rattle.start_words.specs.Options.{bad_words, blamed, by_place, hook_said, is_option, IsWhyRefused, lone_fault, nothing_said, once, options_after, options_in, placed_after, with_option};
 ghost use Rattle.start_words.specs.declared.fault.StartFault.TheVariants.{Memory};
 
 use crate::fault::{StartFault, WordFault};
-use crate::number::number_of;
-use crate::option::{HookFile, OptionName, above_0, hook_in, named, path_in};
+use crate::number::number_said;
+use crate::option::{HookFile, OptionName, above_0, hook_in, option_named, path_in};
 use std::alloc::Global;
 use std::marker::Model;
 
@@ -65,7 +65,7 @@ fn once<T: Copy>(said: Option<T>, value: Option<T>) -> Result<Option<T>, WordFau
 fn lone_fault(word: &str) -> WordFault
     ensures { result ≡ lone_fault word.now }
 {
-    match named(word) {
+    match option_named(word) {
         Some(_) => WordFault::NoValue,
         None => WordFault::Unknown,
     }
@@ -135,14 +135,14 @@ impl<'w> Options<'w> {
     // Takes an option and its value.
     fn take(&mut self, word: &'w str, value: &'w str) -> Result<(), StartFault<'w>>
         ensures done { OnOk result (with_option self.old word.now value.now ≡ Ok self.new) }
-        ensures refused { IfErr result (λ fault. IsRefused (blamed word.now (with_option self.old word.now value.now)) fault) }
+        ensures refused { IfErr result (λ fault. IsWhyRefused (blamed word.now (with_option self.old word.now value.now)) fault) }
     {
         let blame = |fault| StartFault::Word { word, fault };
-        match named(word).ok_or(WordFault::Unknown).map_err(blame)? {
+        match option_named(word).ok_or(WordFault::Unknown).map_err(blame)? {
             OptionName::Silence => self.silence = once(self.silence, above_0(value)).map_err(
                 blame,
             )?,
-            OptionName::Full => self.full = once(self.full, number_of(value)).map_err(blame)?,
+            OptionName::Full => self.full = once(self.full, number_said(value)).map_err(blame)?,
             OptionName::Report => self.report = once(self.report, above_0(value)).map_err(blame)?,
             OptionName::State => self.state = once(self.state, path_in(value)).map_err(blame)?,
             OptionName::Hook(layout) => {
@@ -158,7 +158,7 @@ impl<'w> Options<'w> {
     // Takes options, two words each.
     fn take_all(&mut self, words: &'w [String]) -> Result<(), StartFault<'w>>
         ensures done { OnOk result (options_after self.old (map string_bytes words.now) ≡ Ok self.new) }
-        ensures refused { IfErr result (IsRefused (options_after self.old (map string_bytes words.now))) }
+        ensures refused { IfErr result (IsWhyRefused (options_after self.old (map string_bytes words.now))) }
     {
         let mut rest = words;
         while let Some((word, behind)) = rest.split_first() {
@@ -185,7 +185,7 @@ impl<'w> Options<'w> {
         let Some((full, words)) = by_place(words) else {
             return Some(words);
         };
-        self.full = Some(number_of(full)?);
+        self.full = Some(number_said(full)?);
         match by_place(words) {
             Some(_) => None,
             None => Some(words),
@@ -195,7 +195,7 @@ impl<'w> Options<'w> {
     /// The options that the words behind the registry's file say.
     pub fn read(alloc: Global, words: &'w [String]) -> Result<Options<'w>, StartFault<'w>>
         ensures done { IfOk result (λ options. options_in (map string_bytes words.now) ≡ Ok options) }
-        ensures refused { IfErr result (IsRefused (options_in (map string_bytes words.now))) }
+        ensures refused { IfErr result (IsWhyRefused (options_in (map string_bytes words.now))) }
     {
         let mut options = Options::new(alloc);
         let Some(rest) = options.take_places(words) else {

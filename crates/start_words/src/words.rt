@@ -2,7 +2,7 @@
 
 ghost use Rattle.std.specs.Prelude.{◌≡◌, ◌==◌, Ok, IfOk, IfErr, map, string_bytes};
 ghost use Rattle.std.specs.List.{list_any};
-ghost use Rattle.start_words.specs.Options.{IsRefused};
+ghost use Rattle.start_words.specs.Options.{IsWhyRefused};
 ghost use Rattle.start_words.specs.Start.{given_by, names_port, start_in};
 
 use crate::fault::{StartFault, WordFault};
@@ -38,7 +38,7 @@ impl<'w> StartWords<'w> {
     /// What the words behind `start` give.
     pub fn read(alloc: Global, words: &'w [String]) -> Result<StartWords<'w>, StartFault<'w>>
         ensures done { IfOk result (λ given. start_in (map string_bytes words.now) ≡ Ok (given_by given)) }
-        ensures refused { IfErr result (IsRefused (start_in (map string_bytes words.now))) }
+        ensures refused { IfErr result (IsWhyRefused (start_in (map string_bytes words.now))) }
     {
         let Some((address, behind)) = words.split_first() else {
             return Err(StartFault::BadWords);

@@ -10,11 +10,11 @@ use Rattle.image_codec.specs.Facts.{ImageFact, RulesFact, record_fact}
 use Rattle.image_codec.specs.Kept.{kept_told}
 use Rattle.image_codec.specs.KeptLaws.{all_same}
 use Rattle.token_store.specs.Fits.{FitsHistory, FitsStore}
-use Rattle.token_store.specs.Image.{image_of}
+use Rattle.token_store.specs.Image.{as_kept}
 use Rattle.token_store.specs.Kept.{Kept}
 use Rattle.token_store.specs.declared.image.KeptRecord.{KeptRecord}
 use Rattle.state_file.specs.Accounts.{IsAccountOf, IsImageIn, IsOfTelling, RefusesAccount, TellIfAny, fault_in}
-use Rattle.state_file.specs.Resuming.{AnswersFor, Begins, Fits, IsOfChanges, RedoesBatches, RefusesImage}
+use Rattle.state_file.specs.Resuming.{AnswersFor, BeginsByBatches, FitsRestored, IsOfChanges, RedoesBatches, RefusesImage}
 use Rattle.state_file.specs.Standing.{AreTold, IsImageOf}
 use Rattle.state_file.specs.Telling.{Tell, rules_of}
 use Rattle.state_file.specs.declared.account.Account.{Account}
@@ -79,7 +79,7 @@ of_image number batches (state.HookDiffers name) of = absurd of
 
 module _ {H : Type 0} (hosting : Hosting H) where
   -- a server that is begun, and for which the later batches are made again, fits what the bytes stand for
-  pub answers_for : (registry : RegistryRecord) (first : H) (batches later : List (List ℕ)) (begun restored : Restored H) → Begins hosting registry first batches later begun →
+  pub answers_for : (registry : RegistryRecord) (first : H) (batches later : List (List ℕ)) (begun restored : Restored H) → BeginsByBatches hosting registry first batches later begun →
       RedoesBatches hosting begun later restored → (left : List ℕ) → recovered left ≡ batches → AnswersFor hosting left registry first restored
   answers_for registry first batches later begun restored begins redone left are history stands right run =
       let from = begun_fits hosting registry first left batches later begun history stands are begins right run in
@@ -89,23 +89,23 @@ module _ {H : Type 0} (hosting : Hosting H) where
   -- a server that fits a history has an image that is one of it
   pub imaged : (restored : Restored H) (image : ImageFact) (records : List KeptRecord) (consents : List KeptConsent) →
       map record_fact records ≡ image.records → consents ≡ image.consents → image.greatest ≡ restored.moment → image.hooks ≡ restored.hooks →
-      ((history : List Event) → FitsStore restored.server.store history restored.server.greatest → FitsHistory (image_of records) history restored.server.greatest) →
+      ((history : List Event) → FitsStore restored.server.store history restored.server.greatest → FitsHistory (as_kept records) history restored.server.greatest) →
       ((history : List Event) → FitsConsents restored.server.consents history → FitsConsents (kept_consents consents) history) →
-      (rules : RegistryRecord) (first : H) (history : List Event) → Fits hosting restored rules first history → IsImageOf image history
+      (rules : RegistryRecord) (first : H) (history : List Event) → FitsRestored hosting restored rules first history → IsImageOf image history
   imaged restored image records consents told given greatest hooks lists gives rules first history fits =
       let server = fits.0 in
-      let there : FitsHistory (image_of records) history restored.server.greatest =
+      let there : FitsHistory (as_kept records) history restored.server.greatest =
       lists history (subst (λ (m : ℕ). FitsStore restored.server.store history m) (sym server.greatest_is) server.store) in
       let moment : restored.server.greatest ≡ image.greatest = server.greatest_is ∙ sym greatest in
-      let kept : image_of records ≡ map kept_told image.records = sym (all_same records) ∙ ap (map kept_told) told in
+      let kept : as_kept records ≡ map kept_told image.records = sym (all_same records) ∙ ap (map kept_told) told in
       record {
-        records = subst (λ (ks : List Kept). FitsHistory ks history image.greatest) kept (subst (λ (m : ℕ). FitsHistory (image_of records) history m) moment there);
+        records = subst (λ (ks : List Kept). FitsHistory ks history image.greatest) kept (subst (λ (m : ℕ). FitsHistory (as_kept records) history m) moment there);
         consents = subst (λ (cs : List KeptConsent). FitsConsents (kept_consents cs) history) given (gives history server.consents);
         hooks = hooks ∙ fits.1;
       }
 
   -- so has an account
-  pub image_in : (account : Account H) (image : ImageFact) → ((rules : RegistryRecord) (first : H) (history : List Event) → Fits hosting account.restored rules first history → IsImageOf image history) →
+  pub image_in : (account : Account H) (image : ImageFact) → ((rules : RegistryRecord) (first : H) (history : List Event) → FitsRestored hosting account.restored rules first history → IsImageOf image history) →
       (left : List ℕ) (first : H) → (of : IsAccountOf hosting left first account) → rules_of of.registry ≡ image.rules → IsImageIn hosting left first image
   image_in account image is left first of rules = record {
     each = λ history stands was run. is of.registry first history (of.answers history stands (right_now left history of.registry of.wider stands was) run);

@@ -9,8 +9,8 @@ use Rattle.endpoints.specs.Bounded.{AllRight}
 use Rattle.hook_host.specs.declared.host.HookHost.{Ghosts as Hosting}
 use Rattle.image_codec.specs.Facts.{ImageFact}
 use Rattle.image_codec.specs.Spelling.{ImageFits, image_spelling}
-use Rattle.state_file.specs.Hooks.{hooks_of}
-use Rattle.state_file.specs.Resuming.{Begins, Fits, HaveNoImage, IsMadeOf, Replays, WasRun}
+use Rattle.state_file.specs.Hooks.{hooks_set_in}
+use Rattle.state_file.specs.Resuming.{BeginsByBatches, FitsRestored, HaveNoImage, IsMadeOf, Replays, WasRun}
 use Rattle.state_file.specs.Standing.{AreTold, Begin, BeginWithImage, StandsFor}
 use Rattle.state_file.specs.declared.restored.Restored.{Restored}
 use Rattle.state_file.proofs.Redone.{right_before}
@@ -31,19 +31,19 @@ has_image batches behind image none is = let e : true ≡ false = subst (λ (bs 
 module _ {H : Type 0} (hosting : Hosting H) (rules : RegistryRecord) (first : H) where
   -- the server that is begun with fits what the changes lead on from
   pub begun_fits : (left : List ℕ) (batches later : List (List ℕ)) (restored : Restored H) (history : List Event) → (stands : StandsFor left history) →
-      recovered left ≡ batches → Begins hosting rules first batches later restored → AllRight rules [] history → WasRun hosting first left history →
-      (stands.later ≡ later) × Fits hosting restored rules first stands.base
+      recovered left ≡ batches → BeginsByBatches hosting rules first batches later restored → AllRight rules [] history → WasRun hosting first left history →
+      (stands.later ≡ later) × FitsRestored hosting restored rules first stands.base
   begun_fits left batches later restored history stands are begins right run = by stands.begins
     where
       ran : WasRun hosting first left history → (image : ImageFact) → recovered left ≡ image_spelling image ∷ stands.later → (more : List Event) → history ≡ stands.base ++ more → Replays hosting first stands.base
       ran (inl none) image is more front = absurd (has_image (recovered left) stands.later image none is)
       ran (inr replays) image is more front = replays stands.base (more, front)
 
-      by : Begin (recovered left) stands.base stands.later → (stands.later ≡ later) × Fits hosting restored rules first stands.base
+      by : Begin (recovered left) stands.base stands.later → (stands.later ≡ later) × FitsRestored hosting restored rules first stands.base
       by (inl none) =
           let told : AreTold batches stands.facts = subst (λ (bs : List (List ℕ)). AreTold bs stands.facts) (none.1 ∙ are) stands.told in
           let anew = begins.anew (no_image batches stands.facts told) in
-          (none.1 ∙ are ∙ sym anew.0, subst (λ (h : List Event). Fits hosting restored rules first h) (sym none.0) anew.1)
+          (none.1 ∙ are ∙ sym anew.0, subst (λ (h : List Event). FitsRestored hosting restored rules first h) (sym none.0) anew.1)
       by (inr of) =
           let made = begins.of_image of.0 stands.later (of.2.0, sym are ∙ of.2.1) in
           let front = Happened-front stands.base history stands.facts stands.happened in
@@ -53,14 +53,14 @@ module _ {H : Type 0} (hosting : Hosting H) (rules : RegistryRecord) (first : H)
 -- so are the hooks
 module _ {H : Type 0} (hosting : Hosting H) (rules : RegistryRecord) (first : H) where
   pub begun_hooks : (left : List ℕ) (batches later : List (List ℕ)) (restored : Restored H) (history : List Event) → (stands : StandsFor left history) →
-      recovered left ≡ batches → Begins hosting rules first batches later restored → (stands.later ≡ later) × (restored.hooks ≡ hooks_of stands.base)
+      recovered left ≡ batches → BeginsByBatches hosting rules first batches later restored → (stands.later ≡ later) × (restored.hooks ≡ hooks_set_in stands.base)
   begun_hooks left batches later restored history stands are begins = by stands.begins
     where
-      by : Begin (recovered left) stands.base stands.later → (stands.later ≡ later) × (restored.hooks ≡ hooks_of stands.base)
+      by : Begin (recovered left) stands.base stands.later → (stands.later ≡ later) × (restored.hooks ≡ hooks_set_in stands.base)
       by (inl none) =
           let told : AreTold batches stands.facts = subst (λ (bs : List (List ℕ)). AreTold bs stands.facts) (none.1 ∙ are) stands.told in
           let anew = begins.anew (no_image batches stands.facts told) in
-          (none.1 ∙ are ∙ sym anew.0, anew.1.1 ∙ ap hooks_of (sym none.0))
+          (none.1 ∙ are ∙ sym anew.0, anew.1.1 ∙ ap hooks_set_in (sym none.0))
       by (inr of) =
           let made = begins.of_image of.0 stands.later (of.2.0, sym are ∙ of.2.1) in
           (sym made.0, made.1.0 ∙ of.1.hooks)
@@ -81,7 +81,7 @@ begins_2 batches behind image none begin = has_image batches behind image none b
 module _ {H : Type 0} (hosting : Hosting H) (rules : RegistryRecord) (first : H) where
   -- a server that is made of the first batch
   pub begins_made : (batches later : List (List ℕ)) (batch : List ℕ) (read : ImageFact) (restored : Restored H) → batches ≡ batch ∷ later → ImageFits read → batch ≡ image_spelling read →
-      ((i : ImageFact) → ImageFits i → batch ≡ image_spelling i → read ≡ i) → IsMadeOf hosting read rules first restored → Begins hosting rules first batches later restored
+      ((i : ImageFact) → ImageFits i → batch ≡ image_spelling i → read ≡ i) → IsMadeOf hosting read rules first restored → BeginsByBatches hosting rules first batches later restored
   begins_made batches later batch read restored are fits spelled one made = record {
     anew = λ none. absurd (has_image batches later read none (are ∙ ap (λ (b : List ℕ). b ∷ later) spelled));
     of_image = λ image behind begin. of image behind (same_image batches later behind batch read image are begin (one image));
@@ -91,7 +91,7 @@ module _ {H : Type 0} (hosting : Hosting H) (rules : RegistryRecord) (first : H)
       of image behind same = (same.0, subst (λ (i : ImageFact). IsMadeOf hosting i rules first restored) same.1 made)
 
   -- a new server, where none is an image
-  pub begins_anew : (batches : List (List ℕ)) (restored : Restored H) → HaveNoImage batches → Fits hosting restored rules first [] → Begins hosting rules first batches batches restored
+  pub begins_anew : (batches : List (List ℕ)) (restored : Restored H) → HaveNoImage batches → FitsRestored hosting restored rules first [] → BeginsByBatches hosting rules first batches batches restored
   begins_anew batches restored none fits = record {
     anew = λ _. (refl, fits);
     of_image = λ image behind begin. absurd (begins_2 batches behind image none begin);

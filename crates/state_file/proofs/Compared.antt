@@ -10,37 +10,37 @@ use Rattle.clients.specs.RegistryRecord.{RegistryRecord}
 use Rattle.consent.specs.History.{is_within}
 use Rattle.consent.specs.declared.grant.TokenKind.{TokenKind}
 use Rattle.consent.specs.declared.grant.TokenKind.TheVariants.{Access, Refresh}
-use Rattle.endpoints.specs.Bounded.{life_limit}
+use Rattle.endpoints.specs.Bounded.{token_life_limit}
 use Rattle.endpoints.specs.Widening.{AreWider, IsWider}
 use Rattle.image_codec.specs.Facts.{ClientFact, client_fact}
 use Rattle.image_codec.specs.declared.image.ClientRules.{ClientRules}
-use Rattle.state_file.specs.Comparing.{AreAsWide, client_names, moved, narrowed}
-use Rattle.state_file.specs.Telling.{client_of, rules_of}
+use Rattle.state_file.specs.Comparing.{AreAsWide, client_names, first_moved, first_narrowed}
+use Rattle.state_file.specs.Telling.{client_told, rules_of}
 
 -- a choice that gave nothing was the one way
 stays : {A : Type 0} (test : Bool) (x : A) (rest : Option A) → (if test then rest else Some x) ≡ None → (test ≡ true) × (rest ≡ None)
 stays true x rest is = (refl, is)
 stays false x rest is = absurd cc
 
-moved_front : (told now : List (List ℕ)) → moved told now ≡ None → (more : List (List ℕ)) × (now ≡ told ++ more)
+moved_front : (told now : List (List ℕ)) → first_moved told now ≡ None → (more : List (List ℕ)) × (now ≡ told ++ more)
 moved_front [] now none = (now, refl)
 moved_front (name ∷ names) [] none = absurd cc
 moved_front (name ∷ names) (other ∷ others) none =
-    let here = stays (bytes_eq name other) name (moved names others) none in
+    let here = stays (bytes_eq name other) name (first_moved names others) none in
     let same : name ≡ other = (bytes_eq-Decides name other).0 here.0 in
     let front = moved_front names others here.1 in
     (front.0, subst (λ (n : List ℕ). other ∷ others ≡ n ∷ (names ++ front.0)) (sym same) (ap (λ (xs : List (List ℕ)). other ∷ xs) front.1))
 
-clients_wider : (told now : List ClientRecord) → moved (client_names (map client_of told)) (client_names (map client_of now)) ≡ None →
-    narrowed (map client_of told) (map client_of now) ≡ None → AreWider told now
+clients_wider : (told now : List ClientRecord) → first_moved (client_names (map client_told told)) (client_names (map client_told now)) ≡ None →
+    first_narrowed (map client_told told) (map client_told now) ≡ None → AreWider told now
 clients_wider [] now names within = tt
 clients_wider (c ∷ cs) [] names within = absurd cc
 clients_wider (c ∷ cs) (d ∷ ds) names within =
-    let named = stays (bytes_eq c.id d.id) c.id (moved (client_names (map client_of cs)) (client_names (map client_of ds))) names in
-    let allowed = stays (is_within c.allowed d.allowed) c.id (narrowed (map client_of cs) (map client_of ds)) within in
+    let named = stays (bytes_eq c.id d.id) c.id (first_moved (client_names (map client_told cs)) (client_names (map client_told ds))) names in
+    let allowed = stays (is_within c.allowed d.allowed) c.id (first_narrowed (map client_told cs) (map client_told ds)) within in
     (sym ((bytes_eq-Decides c.id d.id).0 named.0), allowed.0, clients_wider cs ds named.1 allowed.1)
 
-lives_longer : (old new : RegistryRecord) → old.access_life ≤ new.access_life → old.refresh_life ≤ new.refresh_life → (kind : TokenKind) → life_limit old kind ≤ life_limit new kind
+lives_longer : (old new : RegistryRecord) → old.access_life ≤ new.access_life → old.refresh_life ≤ new.refresh_life → (kind : TokenKind) → token_life_limit old kind ≤ token_life_limit new kind
 lives_longer old new access refresh Access = access
 lives_longer old new access refresh Refresh = refresh
 
@@ -55,38 +55,38 @@ wider old new wide = record {
 -- THE STEPS OF A COMPARISON
 
 pub moved_on : (a b : List (List ℕ)) (i : ℕ) (x y : List ℕ) → i < length a → i < length b → get_or a i x ≡ x → get_or b i y ≡ y → bytes_eq x y ≡ true →
-    moved (drop i a) (drop i b) ≡ moved (drop (i + 1) a) (drop (i + 1) b)
+    first_moved (drop i a) (drop i b) ≡ first_moved (drop (i + 1) a) (drop (i + 1) b)
 moved_on a b i x y within_a within_b is_x is_y same = rw (drop_more a i x within_a, drop_more b i y within_b, is_x, is_y, same) refl
 
 pub moved_other : (a b : List (List ℕ)) (i : ℕ) (x y : List ℕ) → i < length a → i < length b → get_or a i x ≡ x → get_or b i y ≡ y → bytes_eq x y ≡ false →
-    moved (drop i a) (drop i b) ≡ Some x
+    first_moved (drop i a) (drop i b) ≡ Some x
 moved_other a b i x y within_a within_b is_x is_y differ = rw (drop_more a i x within_a, drop_more b i y within_b, is_x, is_y, differ) refl
 
-pub moved_past : (a b : List (List ℕ)) (i : ℕ) (x : List ℕ) → i < length a → length b ≤ i → get_or a i x ≡ x → moved (drop i a) (drop i b) ≡ Some x
+pub moved_past : (a b : List (List ℕ)) (i : ℕ) (x : List ℕ) → i < length a → length b ≤ i → get_or a i x ≡ x → first_moved (drop i a) (drop i b) ≡ Some x
 moved_past a b i x within_a past is_x = rw (drop_more a i x within_a, drop_all i b past, is_x) refl
 
-pub moved_end : (a b : List (List ℕ)) (i : ℕ) → length a ≤ i → moved (drop i a) (drop i b) ≡ None
+pub moved_end : (a b : List (List ℕ)) (i : ℕ) → length a ≤ i → first_moved (drop i a) (drop i b) ≡ None
 moved_end a b i past = rw (drop_all i a past) refl
 
-none_beside : (a : List ClientFact) → narrowed a [] ≡ None
+none_beside : (a : List ClientFact) → first_narrowed a [] ≡ None
 none_beside [] = refl
 none_beside (c ∷ cs) = refl
 
 pub narrowed_on : (a b : List ClientFact) (i : ℕ) (x y : ClientFact) → i < length a → i < length b → get_or a i x ≡ x → get_or b i y ≡ y →
-    is_within x.allowed y.allowed ≡ true → narrowed (drop i a) (drop i b) ≡ narrowed (drop (i + 1) a) (drop (i + 1) b)
+    is_within x.allowed y.allowed ≡ true → first_narrowed (drop i a) (drop i b) ≡ first_narrowed (drop (i + 1) a) (drop (i + 1) b)
 narrowed_on a b i x y within_a within_b is_x is_y all = rw (drop_more a i x within_a, drop_more b i y within_b, is_x, is_y, all) refl
 
 pub narrowed_here : (a b : List ClientFact) (i : ℕ) (x y : ClientFact) → i < length a → i < length b → get_or a i x ≡ x → get_or b i y ≡ y →
-    is_within x.allowed y.allowed ≡ false → narrowed (drop i a) (drop i b) ≡ Some x.name
+    is_within x.allowed y.allowed ≡ false → first_narrowed (drop i a) (drop i b) ≡ Some x.name
 narrowed_here a b i x y within_a within_b is_x is_y less = rw (drop_more a i x within_a, drop_more b i y within_b, is_x, is_y, less) refl
 
-pub narrowed_past : (a b : List ClientFact) (i : ℕ) → length b ≤ i → narrowed (drop i a) (drop i b) ≡ narrowed (drop (i + 1) a) (drop (i + 1) b)
+pub narrowed_past : (a b : List ClientFact) (i : ℕ) → length b ≤ i → first_narrowed (drop i a) (drop i b) ≡ first_narrowed (drop (i + 1) a) (drop (i + 1) b)
 narrowed_past a b i past =
     let here : drop i b ≡ [] = drop_all i b past in
     let next : drop (i + 1) b ≡ [] = drop_all (i + 1) b (omega (arith, past)) in
     rw (here, next) (none_beside (drop i a) ∙ sym (none_beside (drop (i + 1) a)))
 
-pub narrowed_end : (a b : List ClientFact) (i : ℕ) → length a ≤ i → narrowed (drop i a) (drop i b) ≡ None
+pub narrowed_end : (a b : List ClientFact) (i : ℕ) → length a ≤ i → first_narrowed (drop i a) (drop i b) ≡ None
 narrowed_end a b i past = rw (drop_all i a past) refl
 
 -- AT THE ELEMENTS OF TWO LISTS
@@ -103,21 +103,21 @@ pub same_names : (names : List (Bor (List ℕ))) → map (λ s. s.now) names ≡
 same_names names = refl
 
 module _ {X : Type 0} (f : X → List ℕ) (names : List X → List (List ℕ)) (are : (xs : List X) → names xs ≡ map f xs) (told now : List X) (d : X) (i : ℕ) (within : i < length told)
-    (so_far : moved (names told) (names now) ≡ moved (drop i (names told)) (drop i (names now))) where
+    (so_far : first_moved (names told) (names now) ≡ first_moved (drop i (names told)) (drop i (names now))) where
   pub step_on : i < length now → bytes_eq (f (get_or told i d)) (f (get_or now i d)) ≡ true →
-      moved (names told) (names now) ≡ moved (drop (i + 1) (names told)) (drop (i + 1) (names now))
+      first_moved (names told) (names now) ≡ first_moved (drop (i + 1) (names told)) (drop (i + 1) (names now))
   step_on beside same =
       so_far ∙ rw (are told, are now)
       (moved_on (map f told) (map f now) i (f (get_or told i d)) (f (get_or now i d)) (rw (length-map told f) within) (rw (length-map now f) beside)
       (get_or-map f told i d (f (get_or told i d)) within) (get_or-map f now i d (f (get_or now i d)) beside) same)
 
-  pub step_other : i < length now → bytes_eq (f (get_or told i d)) (f (get_or now i d)) ≡ false → Some (f (get_or told i d)) ≡ moved (names told) (names now)
+  pub step_other : i < length now → bytes_eq (f (get_or told i d)) (f (get_or now i d)) ≡ false → Some (f (get_or told i d)) ≡ first_moved (names told) (names now)
   step_other beside differ =
       sym (so_far ∙ rw (are told, are now)
       (moved_other (map f told) (map f now) i (f (get_or told i d)) (f (get_or now i d)) (rw (length-map told f) within) (rw (length-map now f) beside)
       (get_or-map f told i d (f (get_or told i d)) within) (get_or-map f now i d (f (get_or now i d)) beside) differ))
 
-  pub step_past : length now ≤ i → Some (f (get_or told i d)) ≡ moved (names told) (names now)
+  pub step_past : length now ≤ i → Some (f (get_or told i d)) ≡ first_moved (names told) (names now)
   step_past past =
       sym (so_far ∙ rw (are told, are now)
       (moved_past (map f told) (map f now) i (f (get_or told i d)) (rw (length-map told f) within) (rw (length-map now f) past)
@@ -134,9 +134,9 @@ pub beyond_if : (scope mask : ℕ) → (bit_and scope mask ≡ scope → ⊥) �
 beyond_if scope mask is_not = ne_eqb (bit_and scope mask) scope is_not
 
 module _ (told now : List ClientRules) (d : ClientRules) (i : ℕ) (within : i < length told)
-    (so_far : narrowed (map client_fact told) (map client_fact now) ≡ narrowed (drop i (map client_fact told)) (drop i (map client_fact now))) where
+    (so_far : first_narrowed (map client_fact told) (map client_fact now) ≡ first_narrowed (drop i (map client_fact told)) (drop i (map client_fact now))) where
   abbrev then_narrowed : Type 0
-  then_narrowed = narrowed (map client_fact told) (map client_fact now) ≡ narrowed (drop (i + 1) (map client_fact told)) (drop (i + 1) (map client_fact now))
+  then_narrowed = first_narrowed (map client_fact told) (map client_fact now) ≡ first_narrowed (drop (i + 1) (map client_fact told)) (drop (i + 1) (map client_fact now))
 
   pub narrow_on : i < length now → is_within (get_or told i d).allowed (get_or now i d).allowed ≡ true → then_narrowed
   narrow_on beside all =
@@ -148,7 +148,7 @@ module _ (told now : List ClientRules) (d : ClientRules) (i : ℕ) (within : i <
   narrow_past past = so_far ∙ narrowed_past (map client_fact told) (map client_fact now) i (rw (length-map now client_fact) past)
 
   pub narrow_here : i < length now → is_within (get_or told i d).allowed (get_or now i d).allowed ≡ false →
-      Some (get_or told i d).name.now ≡ narrowed (map client_fact told) (map client_fact now)
+      Some (get_or told i d).name.now ≡ first_narrowed (map client_fact told) (map client_fact now)
   narrow_here beside less =
       sym (so_far ∙ narrowed_here (map client_fact told) (map client_fact now) i (client_fact (get_or told i d)) (client_fact (get_or now i d))
       (rw (length-map told client_fact) within) (rw (length-map now client_fact) beside)

@@ -6,13 +6,13 @@ use Rattle.change_codec.specs.Keeping.{Crashes, Holds, LeavesEither}
 use Rattle.clients.specs.RegistryRecord.{RegistryRecord}
 use Rattle.consent.specs.History.{Event}
 use Rattle.endpoints.specs.Bounded.{AllRight}
-use Rattle.endpoints.specs.Server.{Seen, FitsServer, Notes, NowNotes, AreUnkept}
+use Rattle.endpoints.specs.Server.{SeenServer, FitsServer, Notes, NowNotes, AreUnkept}
 use Rattle.endpoints.specs.Widening.{IsWider}
 use Rattle.endpoints.specs.WideningLaws.{all_right-wider}
 use Rattle.hook_host.specs.declared.host.HookHost.{Ghosts as Hosting}
 use Rattle.image_codec.specs.Facts.{HookFact}
 use Rattle.state_file.specs.Hooks.{AreSet, with_hooks}
-use Rattle.state_file.specs.Resuming.{Fits, KeepsNoted, Sets, WasRight}
+use Rattle.state_file.specs.Resuming.{FitsRestored, KeepsNoted, Sets, WasRight}
 use Rattle.state_file.specs.Standing.{StandsFor}
 use Rattle.state_file.specs.StandingLaws.{StandsFor-none}
 use Rattle.state_file.specs.Telling.{TellsRules, rules_of}
@@ -27,31 +27,31 @@ right_now left history registry wider stands (inl none) = subst (λ (h : List Ev
 right_now left history registry wider stands (inr told) = all_right-wider told.0 registry (wider told.0 told.1) [] history told.2
 
 -- a server that begins to note fits what it fitted
-pub noting_fits : {H : Type 0} (hosting : Hosting H) (restored : Restored H) (server : Seen H) (rules : RegistryRecord) (first : H) (history : List Event) → NowNotes restored.server server (Some []) →
-    Fits hosting restored rules first history → Fits hosting (record restored { server = server }) rules first history
+pub noting_fits : {H : Type 0} (hosting : Hosting H) (restored : Restored H) (server : SeenServer H) (rules : RegistryRecord) (first : H) (history : List Event) → NowNotes restored.server server (Some []) →
+    FitsRestored hosting restored rules first history → FitsRestored hosting (record restored { server = server }) rules first history
 noting_fits hosting restored server rules first history begins fits =
     (fits_noting hosting restored.server server (Some []) rules first history restored.moment begins fits.0, fits.1)
 
 -- what a start comes to
-pub record IsDone {H K : Type 0} (hosting : Hosting H) (crashes : Crashes K) (server : Seen H) (keeper kept : K) (rules : RegistryRecord) (first : H) (history now : List Event) (hooks : List HookFact) (moment : ℕ) : Type 0 where
+pub record IsDone {H K : Type 0} (hosting : Hosting H) (crashes : Crashes K) (server : SeenServer H) (keeper kept : K) (rules : RegistryRecord) (first : H) (history now : List Event) (hooks : List HookFact) (moment : ℕ) : Type 0 where
   pub fits : FitsServer hosting.installs hosting.removes server rules first now moment
   pub notes : Notes server (Some now) now
   pub set : AreSet hooks now
   pub holds : Holds crashes kept now
   pub meanwhile : LeavesEither crashes history now keeper kept
 
-pub is_done : {H K : Type 0} (hosting : Hosting H) (crashes : Crashes K) (restored : Restored H) (noting : Seen H) (set : Restored H) (server : Seen H) (keeper kept : K) (rules : RegistryRecord) (first : H) (history : List Event) (hooks : List HookFact) →
-    Fits hosting restored rules first history → NowNotes restored.server noting (Some []) →
+pub is_done : {H K : Type 0} (hosting : Hosting H) (crashes : Crashes K) (restored : Restored H) (noting : SeenServer H) (set : Restored H) (server : SeenServer H) (keeper kept : K) (rules : RegistryRecord) (first : H) (history : List Event) (hooks : List HookFact) →
+    FitsRestored hosting restored rules first history → NowNotes restored.server noting (Some []) →
     Sets hosting (record restored { server = noting }) hooks set → set.moment ≡ restored.moment → NowNotes set.server server server.unkept → KeepsNoted crashes set.server server keeper kept →
     Holds crashes keeper history → IsDone hosting crashes server keeper kept rules first history (with_hooks set.moment history hooks) hooks set.moment
 is_done {H = H} hosting crashes restored noting set server keeper kept rules first history hooks fits begins sets moment same keeps holds =
-    let begun : Fits hosting (record restored { server = noting }) rules first history = noting_fits hosting restored noting rules first history begins fits in
-    let noted : noting.unkept ≡ Some [] = ap (λ (s : Seen H). s.unkept) begins in
+    let begun : FitsRestored hosting (record restored { server = noting }) rules first history = noting_fits hosting restored noting rules first history begins fits in
+    let noted : noting.unkept ≡ Some [] = ap (λ (s : SeenServer H). s.unkept) begins in
     let from : Notes noting (Some history) history = subst (λ unkept. AreUnkept unkept (Some history) history) (sym noted) refl in
     let all = sets rules first history begun in
     let at : with_hooks restored.moment history hooks ≡ with_hooks set.moment history hooks = ap (λ (m : ℕ). with_hooks m history hooks) (sym moment) in
     let now : List Event = with_hooks set.moment history hooks in
-    let fits_now : Fits hosting set rules first now = subst (λ (h : List Event). Fits hosting set rules first h) at all.0 in
+    let fits_now : FitsRestored hosting set rules first now = subst (λ (h : List Event). FitsRestored hosting set rules first h) at all.0 in
     let set_now : AreSet hooks now = subst (λ (h : List Event). AreSet hooks h) at all.1 in
     let notes_now : Notes set.server (Some history) now = subst (λ (h : List Event). Notes set.server (Some history) h) at (all.2 (Some history) from) in
     let done = keeps history now notes_now holds in

@@ -7,7 +7,7 @@ use Rattle.consent.specs.declared.change.NewToken.{NewToken}
 use Rattle.change_codec.specs.Happened.{Happened, meaning_of}
 use Rattle.change_codec.specs.Spelling.{DatedFact, Fact, Consented, CodeGiven, IssuedAlone, Issued, Spent, FamilyEnded, HookSet, HookGone}
 use Rattle.image_codec.specs.Facts.{HookFact}
-use Rattle.state_file.specs.Hooks.{hooks_behind, hooks_by, hooks_with, hooks_after, hooks_of}
+use Rattle.state_file.specs.Hooks.{hooks_behind, hooks_by, hooks_with, hooks_after, hooks_set_in}
 
 issued_none : (token : NewToken) (g : Option Grant) (change : Change) (hooks : List HookFact) → option_map (issued_with token) g ≡ Some change → hooks ≡ hooks_with hooks change
 issued_none token None change hooks is = absurd cc
@@ -41,16 +41,16 @@ hooks_after-push : (hooks : List HookFact) (history : List Event) (e : Event) �
 hooks_after-push hooks [] e = refl
 hooks_after-push hooks (x ∷ history) e = hooks_after-push (hooks_with hooks x.change) history e
 
-pub hooks_of-with : (history : List Event) (moment : ℕ) (change : Change) → hooks_of (with_change history moment change) ≡ hooks_with (hooks_of history) change
+pub hooks_of-with : (history : List Event) (moment : ℕ) (change : Change) → hooks_set_in (with_change history moment change) ≡ hooks_with (hooks_set_in history) change
 hooks_of-with history moment change = hooks_after-push [] history (event_at moment change)
 
 -- the hooks of a history that dated changes lead to
-pub hooks_of-happened : (before after : List Event) (facts : List DatedFact) → Happened before facts after → hooks_of after ≡ hooks_behind (hooks_of before) facts
-hooks_of-happened before after [] happened = ap hooks_of happened
+pub hooks_of-happened : (before after : List Event) (facts : List DatedFact) → Happened before facts after → hooks_set_in after ≡ hooks_behind (hooks_set_in before) facts
+hooks_of-happened before after [] happened = ap hooks_set_in happened
 hooks_of-happened before after (d ∷ ds) happened =
     let next : List Event = with_change before d.moment happened.0 in
-    let one : hooks_of next ≡ hooks_by (hooks_of before) d.fact =
-    hooks_of-with before d.moment happened.0 ∙ sym (hooks_told before d.moment d.fact happened.0 (hooks_of before) happened.1) in
+    let one : hooks_set_in next ≡ hooks_by (hooks_set_in before) d.fact =
+    hooks_of-with before d.moment happened.0 ∙ sym (hooks_told before d.moment d.fact happened.0 (hooks_set_in before) happened.1) in
     hooks_of-happened next after ds happened.3 ∙ ap (λ (hs : List HookFact). hooks_behind hs ds) one
 
 -- some changes, and then others

@@ -7,14 +7,14 @@ use Rattle.consent.specs.declared.kept_consent.KeptConsent.{KeptConsent}
 use Rattle.endpoints.specs.Bounded.{AllRight}
 use Rattle.endpoints.specs.Hosts.{HostRun}
 use Rattle.endpoints.specs.Restoring.{AreOf}
-use Rattle.endpoints.specs.Server.{Seen, FitsServer}
+use Rattle.endpoints.specs.Server.{SeenServer, FitsServer}
 use Rattle.hook_host.specs.Versions.{layout_of}
 use Rattle.hook_host.specs.declared.host.HookHost.{Ghosts as Hosting}
 use Rattle.image_codec.specs.Facts.{HookFact, ImageFact, record_fact}
 use Rattle.image_codec.specs.Kept.{kept_told}
 use Rattle.image_codec.specs.KeptLaws.{all_same}
 use Rattle.token_store.specs.Fits.{FitsHistory, FitsStore}
-use Rattle.token_store.specs.Image.{image_of}
+use Rattle.token_store.specs.Image.{as_kept}
 use Rattle.token_store.specs.Kept.{Kept}
 use Rattle.token_store.specs.declared.image.KeptRecord.{KeptRecord}
 use Rattle.state_file.specs.Renewing.{IsImageFor}
@@ -36,7 +36,7 @@ module _ {H : Type 0} (hosting : Hosting H) where
   made_of restored image records host first rules told moment hooks installed fits = (
     hooks,
     λ history is right replays.
-        let kept : map kept_told image.records ≡ image_of records = ap (map kept_told) (sym told) ∙ all_same records in
+        let kept : map kept_told image.records ≡ as_kept records = ap (map kept_told) (sym told) ∙ all_same records in
         let of : AreOf records image.consents history image.greatest = record {
           kept = subst (λ (ks : List Kept). FitsHistory ks history image.greatest) kept is.records;
           consented = is.consents;
@@ -49,16 +49,16 @@ module _ {H : Type 0} (hosting : Hosting H) where
   )
 
   -- and a server that fits a history has an image that is one of it
-  pub is_image : (server : Seen H) (image : ImageFact) (records : List KeptRecord) (consents : List KeptConsent) (hooks : List HookFact) →
+  pub is_image : (server : SeenServer H) (image : ImageFact) (records : List KeptRecord) (consents : List KeptConsent) (hooks : List HookFact) →
       map record_fact records ≡ image.records → consents ≡ image.consents → image.greatest ≡ server.greatest → image.hooks ≡ hooks →
-      ((history : List Event) → FitsStore server.store history server.greatest → FitsHistory (image_of records) history server.greatest) →
+      ((history : List Event) → FitsStore server.store history server.greatest → FitsHistory (as_kept records) history server.greatest) →
       ((history : List Event) → FitsConsents server.consents history → FitsConsents (kept_consents consents) history) → IsImageFor hosting server hooks image
   is_image server image records consents hooks told given greatest are lists gives rules first history m fits set =
-      let there : FitsHistory (image_of records) history server.greatest =
+      let there : FitsHistory (as_kept records) history server.greatest =
       lists history (subst (λ (n : ℕ). FitsStore server.store history n) (sym fits.greatest_is) fits.store) in
-      let kept : image_of records ≡ map kept_told image.records = sym (all_same records) ∙ ap (map kept_told) told in
+      let kept : as_kept records ≡ map kept_told image.records = sym (all_same records) ∙ ap (map kept_told) told in
       record {
-        records = subst (λ (ks : List Kept). FitsHistory ks history image.greatest) kept (subst (λ (n : ℕ). FitsHistory (image_of records) history n) (sym greatest) there);
+        records = subst (λ (ks : List Kept). FitsHistory ks history image.greatest) kept (subst (λ (n : ℕ). FitsHistory (as_kept records) history n) (sym greatest) there);
         consents = subst (λ (cs : List KeptConsent). FitsConsents (kept_consents cs) history) given (gives history fits.consents);
         hooks = are ∙ set;
       }

@@ -4,12 +4,12 @@ use Rattle.batch_file.specs.Frames.{recovered}
 use Rattle.change_codec.proofs.Batches.{one_list}
 use Rattle.change_codec.specs.Happened.{Happened}
 use Rattle.change_codec.specs.HappenedLaws.{Happened-split}
-use Rattle.change_codec.specs.Spelling.{DatedFact, HaveSpelling, spelling}
+use Rattle.change_codec.specs.Spelling.{DatedFact, HaveSpelling, batch_spelling}
 use Rattle.consent.specs.History.{Event}
 use Rattle.image_codec.proofs.Images.{one_image, one_rules}
 use Rattle.image_codec.specs.Facts.{HookFact, ImageFact, RulesFact}
 use Rattle.image_codec.specs.Spelling.{ImageFits, image_spelling, rules_spelling}
-use Rattle.state_file.specs.Hooks.{hooks_behind, hooks_of}
+use Rattle.state_file.specs.Hooks.{hooks_behind, hooks_set_in}
 use Rattle.state_file.specs.Knowing.{IsKnown, image_size}
 use Rattle.state_file.specs.Standing.{AreTold, Begin, IsImageOf, StandsFor, begins_image}
 use Rattle.state_file.specs.StandingLaws.{StandsFor-same}
@@ -71,23 +71,23 @@ image_size-more (b ∷ batches) batch none = refl
 -- A BATCH OF CHANGES
 
 pub known_more : (left now batch rules : List ℕ) (old new : List HookFact) (image : ℕ) (facts : List DatedFact) → recovered now ≡ recovered left ++ batch ∷ [] →
-    batch ≡ spelling facts → HaveSpelling facts → new ≡ hooks_behind old facts → IsKnown left rules old image → IsKnown now rules new image
+    batch ≡ batch_spelling facts → HaveSpelling facts → new ≡ hooks_behind old facts → IsKnown left rules old image → IsKnown now rules new image
 known_more left now batch rules old new image facts are is fits follows known = record {
-  rules_are = λ told tells. known.rules_are told (tells.0, sym (ap last_rules spelled ∙ last_rules-push (recovered left) (spelling facts)) ∙ tells.1, tells.2);
+  rules_are = λ told tells. known.rules_are told (tells.0, sym (ap last_rules spelled ∙ last_rules-push (recovered left) (batch_spelling facts)) ∙ tells.1, tells.2);
   hooks_are = λ history stands. hooks history (stood_before left now batch history are none stands);
   image_is = known.image_is ∙ sym (ap image_size are ∙ image_size-more (recovered left) batch none);
 }
   where
-    spelled : recovered now ≡ recovered left ++ spelling facts ∷ []
+    spelled : recovered now ≡ recovered left ++ batch_spelling facts ∷ []
     spelled = are ∙ ap (λ (b : List ℕ). recovered left ++ b ∷ []) is
 
     none : begins_image batch ≡ false
     none = ap begins_image is
 
-    hooks : (history : List Event) → StoodBefore left batch history → new ≡ hooks_of history
+    hooks : (history : List Event) → StoodBefore left batch history → new ≡ hooks_set_in history
     hooks history stood =
         let same : stood.facts ≡ facts = told_as batch facts stood.facts is (λ others fit spells. one_list others facts fit fits (sym spells ∙ is)) stood.told in
-        let on : hooks_of history ≡ hooks_behind (hooks_of stood.before) facts =
+        let on : hooks_set_in history ≡ hooks_behind (hooks_set_in stood.before) facts =
         hooks_of-happened stood.before history facts (subst (λ (ds : List DatedFact). Happened stood.before ds history) same stood.happened) in
         follows ∙ ap (λ (hs : List HookFact). hooks_behind hs facts) (known.hooks_are stood.before stood.stands) ∙ sym on
 
@@ -109,7 +109,7 @@ tell_one batches some others a b = tells_one a.0 some others a.2 (tell_in batche
 -- rules were told in the file, or it told them before
 pub known_begun : (old new bytes : List ℕ) (now : RulesFact) (hooks : List HookFact) (image : ℕ) (told : Bool) → IsOfRules bytes now → TellsRules new now →
     (told ≡ true → recovered new ≡ recovered old) → (told ≡ false → recovered new ≡ recovered old ++ bytes ∷ []) →
-    ((history : List Event) → StandsFor old history → hooks ≡ hooks_of history) → image ≡ image_size (recovered old) → IsKnown new bytes hooks image
+    ((history : List Event) → StandsFor old history → hooks ≡ hooks_set_in history) → image ≡ image_size (recovered old) → IsKnown new bytes hooks image
 known_begun old new bytes now hooks image told of tells same added set sized = record {
   rules_are = λ others told_too. of.1 ∙ ap rules_spelling (tell_one (recovered new) now others tells told_too);
   hooks_are = hooks_of_all told same added;
@@ -119,14 +119,14 @@ known_begun old new bytes now hooks image told of tells same added set sized = r
     none : begins_image bytes ≡ false
     none = ap begins_image of.1
 
-    before : (history : List Event) → StoodBefore old bytes history → hooks ≡ hooks_of history
+    before : (history : List Event) → StoodBefore old bytes history → hooks ≡ hooks_set_in history
     before history stood =
         let alone : AreTold (rules_spelling now ∷ []) stood.facts = subst (λ (b : List ℕ). AreTold (b ∷ []) stood.facts) of.1 stood.told in
         let nothing : stood.facts ≡ [] = alone in
         let same_history : history ≡ stood.before = subst (λ (ds : List DatedFact). Happened stood.before ds history) nothing stood.happened in
-        set stood.before stood.stands ∙ ap hooks_of (sym same_history)
+        set stood.before stood.stands ∙ ap hooks_set_in (sym same_history)
 
-    hooks_of_all : (t : Bool) → (t ≡ true → recovered new ≡ recovered old) → (t ≡ false → recovered new ≡ recovered old ++ bytes ∷ []) → (history : List Event) → StandsFor new history → hooks ≡ hooks_of history
+    hooks_of_all : (t : Bool) → (t ≡ true → recovered new ≡ recovered old) → (t ≡ false → recovered new ≡ recovered old ++ bytes ∷ []) → (history : List Event) → StandsFor new history → hooks ≡ hooks_set_in history
     hooks_of_all true is more history stands = set history (StandsFor-same new old history (sym (is refl)) stands)
     hooks_of_all false is more history stands = before history (stood_before old new bytes history (more refl) none stands)
 
@@ -144,7 +144,7 @@ known_image now rules image hooks size are fits rules_are hooks_are sized = reco
   image_is = sized ∙ sym (ap image_size are);
 }
   where
-    by : (history : List Event) → (stands : StandsFor now history) → Begin (recovered now) stands.base stands.later → hooks ≡ hooks_of history
+    by : (history : List Event) → (stands : StandsFor now history) → Begin (recovered now) stands.base stands.later → hooks ≡ hooks_set_in history
     by history stands (inl anew) =
         let told : AreTold (image_spelling image ∷ []) stands.facts = subst (λ (bs : List (List ℕ)). AreTold bs stands.facts) (anew.1 ∙ are) stands.told in
         let e = told.3 in
@@ -156,4 +156,4 @@ known_image now rules image hooks size are fits rules_are hooks_are sized = reco
         let same : image ≡ of.0 = one_image image of.0 fits of.2.0 first in
         let nothing : stands.facts ≡ [] = subst (λ (bs : List (List ℕ)). AreTold bs stands.facts) rest stands.told in
         let stays : history ≡ stands.base = subst (λ (ds : List DatedFact). Happened stands.base ds history) nothing stands.happened in
-        sym hooks_are ∙ ap (λ (i : ImageFact). i.hooks) same ∙ of.1.hooks ∙ ap hooks_of (sym stays)
+        sym hooks_are ∙ ap (λ (i : ImageFact). i.hooks) same ∙ of.1.hooks ∙ ap hooks_set_in (sym stays)

@@ -8,7 +8,7 @@ use Rattle.clients.specs.ClientRecord.{ClientRecord}
 use Rattle.clients.specs.Clients.{client_at}
 use Rattle.image_codec.specs.Facts.{ClientFact, client_fact}
 use Rattle.image_codec.specs.declared.image.ClientRules.{ClientRules}
-use Rattle.state_file.specs.Telling.{client_of}
+use Rattle.state_file.specs.Telling.{client_told}
 
 taken : (xs : List ClientRecord) (i : ℕ) (x : ClientRecord) → slice_get xs i ≡ Some x → take (suc i) xs ≡ take i xs ++ x ∷ []
 taken [] i x is = absurd cc
@@ -25,11 +25,11 @@ client_numbered clients i number client is at =
     subst (λ (n : ℕ). slice_get clients n ≡ Some client) back (sym here ∙ there)
 
 pub clients_more : (clients : List ClientRecord) (i : ℕ) (client : ClientRecord) (before : List ClientRules) (told : ClientRules) (after : List ClientRules) →
-    slice_get clients i ≡ Some client → map client_fact before ≡ map client_of (take i clients) → after ≡ before ++ told ∷ [] → told.name.now ≡ client.id → told.allowed ≡ client.allowed →
-    map client_fact after ≡ map client_of (take (i + 1) clients)
+    slice_get clients i ≡ Some client → map client_fact before ≡ map client_told (take i clients) → after ≡ before ++ told ∷ [] → told.name.now ≡ client.id → told.allowed ≡ client.allowed →
+    map client_fact after ≡ map client_told (take (i + 1) clients)
 clients_more clients i client before told after at so_far more name allowed =
     let next : i + 1 ≡ suc i = omega arith in
-    let same : client_fact told ≡ client_of client = rw (name, allowed) refl in
+    let same : client_fact told ≡ client_told client = rw (name, allowed) refl in
     rw (more, next, taken clients i client at)
-    (map_push client_fact before told ∙ ap (λ (facts : List ClientFact). facts ++ client_fact told ∷ []) so_far ∙ ap (λ (fact : ClientFact). map client_of (take i clients) ++ fact ∷ []) same
-    ∙ sym (map_push client_of (take i clients) client))
+    (map_push client_fact before told ∙ ap (λ (facts : List ClientFact). facts ++ client_fact told ∷ []) so_far ∙ ap (λ (fact : ClientFact). map client_told (take i clients) ++ fact ∷ []) same
+    ∙ sym (map_push client_told (take i clients) client))

@@ -5,17 +5,17 @@ use Rattle.clients.specs.RegistryRecord.{RegistryRecord}
 use Rattle.consent.specs.History.{Event, event_at, with_change}
 use Rattle.consent.specs.declared.change.Change.{Change}
 use Rattle.hook_host.specs.declared.host.HookHost.{Ghosts as Hosting}
-use Rattle.endpoints.specs.Bounded.{AllRight, IsRight}
+use Rattle.endpoints.specs.Bounded.{AllRight, IsRightChange}
 use Rattle.endpoints.specs.BoundedLaws.{all_right-at}
 use Rattle.endpoints.specs.Server.{FitsServer}
 use Rattle.endpoints.specs.Redo as again
-use Rattle.change_codec.specs.Spelling.{DatedFact, HaveSpelling, spelling, fact_of}
+use Rattle.change_codec.specs.Spelling.{DatedFact, HaveSpelling, batch_spelling, fact_of}
 use Rattle.change_codec.specs.Happened.{dated}
 use Rattle.change_codec.specs.HappenedLaws.{Happened-split, Happened-front, meaning_of-told}
 use Rattle.state_file.specs.Standing.{AreTold}
 use Rattle.image_codec.specs.Facts.{HookFact}
-use Rattle.state_file.specs.Hooks.{hooks_behind, hooks_by, hooks_of}
-use Rattle.state_file.specs.Resuming.{Fits, FitsOn, Redoes, RedoesBatches}
+use Rattle.state_file.specs.Hooks.{hooks_behind, hooks_by, hooks_set_in}
+use Rattle.state_file.specs.Resuming.{FitsRestored, FitsOn, RedoesDated, RedoesBatches}
 use Rattle.state_file.specs.declared.restored.Restored.{Restored}
 use Rattle.state_file.proofs.Hooked.{hooks_behind-append, hooks_told, hooks_of-with}
 
@@ -25,11 +25,11 @@ right_before rules start [] later all = tt
 right_before rules start (x ∷ before) later all = (all.0, right_before rules (start ++ x ∷ []) before later all.1)
 
 -- a batch that spells its dated changes has those and no others
-pub told_as : (batch : List ℕ) (ds facts : List DatedFact) → batch ≡ spelling ds → ((others : List DatedFact) → HaveSpelling others → batch ≡ spelling others → others ≡ ds) →
+pub told_as : (batch : List ℕ) (ds facts : List DatedFact) → batch ≡ batch_spelling ds → ((others : List DatedFact) → HaveSpelling others → batch ≡ batch_spelling others → others ≡ ds) →
     AreTold (batch ∷ []) facts → facts ≡ ds
 told_as batch ds facts is one told = by (subst (λ (b : List ℕ). AreTold (b ∷ []) facts) is told)
   where
-    by : AreTold (spelling ds ∷ []) facts → facts ≡ ds
+    by : AreTold (batch_spelling ds ∷ []) facts → facts ≡ ds
     by t =
         let same : t.0 ≡ ds = one t.0 t.2 (is ∙ t.3) in
         t.5 ∙ ap (λ (x : List DatedFact). t.0 ++ x) t.4 ∙ append-nil t.0 ∙ same
@@ -48,8 +48,8 @@ told_split ((suc n ∷ bytes) ∷ batches) more facts told =
 
 module _ {H : Type 0} (hosting : Hosting H) where
   -- none
-  pub redoes_none : (restored : Restored H) → Redoes hosting restored [] restored
-  redoes_none restored = (refl, λ rules first before after fits happened right. subst (λ (h : List Event). Fits hosting restored rules first h) (sym happened) fits)
+  pub redoes_none : (restored : Restored H) → RedoesDated hosting restored [] restored
+  redoes_none restored = (refl, λ rules first before after fits happened right. subst (λ (h : List Event). FitsRestored hosting restored rules first h) (sym happened) fits)
 
   -- some, and then others
   fits_then : (old mid new : Restored H) (facts more : List DatedFact) → FitsOn hosting old facts mid → FitsOn hosting mid more new → FitsOn hosting old (facts ++ more) new
@@ -59,50 +59,50 @@ module _ {H : Type 0} (hosting : Hosting H) where
       let right_there : AllRight rules [] parts.0 = right_before rules [] parts.0 front.0 (subst (λ (h : List Event). AllRight rules [] h) front.1 right) in
       then rules first parts.0 after (one rules first before parts.0 fits parts.1 right_there) parts.2 right
 
-  pub redoes_then : (old mid new : Restored H) (facts more : List DatedFact) → Redoes hosting old facts mid → Redoes hosting mid more new → Redoes hosting old (facts ++ more) new
+  pub redoes_then : (old mid new : Restored H) (facts more : List DatedFact) → RedoesDated hosting old facts mid → RedoesDated hosting mid more new → RedoesDated hosting old (facts ++ more) new
   redoes_then old mid new facts more one then = (
     then.0 ∙ ap (λ (hs : List HookFact). hooks_behind hs more) one.0 ∙ sym (hooks_behind-append old.hooks facts more),
     fits_then old mid new facts more one.1 then.1,
   )
 
   -- one
-  fits_one : (old new : Restored H) (moment : ℕ) (change : Change) → again.Redoes hosting old.server moment change new.server →
+  fits_one : (old new : Restored H) (moment : ℕ) (change : Change) → again.RedoesChange hosting old.server moment change new.server →
       new.hooks ≡ hooks_by old.hooks (fact_of change) → new.moment ≡ moment → FitsOn hosting old (dated moment change ∷ []) new
   fits_one old new moment change redone hooks moment_is rules first before after fits happened right =
       let made = redone rules first before old.moment fits.0 in
       let some : Some made.0 ≡ Some happened.0 = sym made.1 ∙ sym (meaning_of-told before moment change) ∙ happened.1 in
       let same : made.0 ≡ happened.0 = cc in
       let ends : after ≡ with_change before moment made.0 = happened.3 ∙ ap (with_change before moment) (sym same) in
-      let here : IsRight rules before made.0 = all_right-at rules [] before [] (event_at moment made.0) (subst (λ (h : List Event). AllRight rules [] h) ends right) in
+      let here : IsRightChange rules before made.0 = all_right-at rules [] before [] (event_at moment made.0) (subst (λ (h : List Event). AllRight rules [] h) ends right) in
       let server : FitsServer hosting.installs hosting.removes new.server rules first after moment =
       subst (λ (h : List Event). FitsServer hosting.installs hosting.removes new.server rules first h moment) (sym ends) (made.3 here) in
-      let set : new.hooks ≡ hooks_of after =
-      hooks ∙ ap (λ (hs : List HookFact). hooks_by hs (fact_of change)) fits.1 ∙ hooks_told before moment (fact_of change) happened.0 (hooks_of before) happened.1
-      ∙ sym (hooks_of-with before moment happened.0) ∙ ap hooks_of (sym happened.3) in
+      let set : new.hooks ≡ hooks_set_in after =
+      hooks ∙ ap (λ (hs : List HookFact). hooks_by hs (fact_of change)) fits.1 ∙ hooks_told before moment (fact_of change) happened.0 (hooks_set_in before) happened.1
+      ∙ sym (hooks_of-with before moment happened.0) ∙ ap hooks_set_in (sym happened.3) in
       (subst (λ (m : ℕ). FitsServer hosting.installs hosting.removes new.server rules first after m) (sym moment_is) server, set)
 
-  pub redoes_one : (old new : Restored H) (moment : ℕ) (change : Change) → again.Redoes hosting old.server moment change new.server →
-      new.hooks ≡ hooks_by old.hooks (fact_of change) → new.moment ≡ moment → Redoes hosting old (dated moment change ∷ []) new
+  pub redoes_one : (old new : Restored H) (moment : ℕ) (change : Change) → again.RedoesChange hosting old.server moment change new.server →
+      new.hooks ≡ hooks_by old.hooks (fact_of change) → new.moment ≡ moment → RedoesDated hosting old (dated moment change ∷ []) new
   redoes_one old new moment change redone hooks moment_is = (hooks, fits_one old new moment change redone hooks moment_is)
 
   -- no batch, or one of rules
   pub redoes_no_batch : (restored : Restored H) → RedoesBatches hosting restored [] restored
-  redoes_no_batch restored facts told = subst (λ (ds : List DatedFact). Redoes hosting restored ds restored) (sym told) (redoes_none restored)
+  redoes_no_batch restored facts told = subst (λ (ds : List DatedFact). RedoesDated hosting restored ds restored) (sym told) (redoes_none restored)
 
   pub redoes_rules : (restored : Restored H) (batch rules : List ℕ) → batch ≡ 0 ∷ rules → RedoesBatches hosting restored (batch ∷ []) restored
   redoes_rules restored batch rules is facts told =
       redoes_no_batch restored facts (subst (λ (b : List ℕ). AreTold (b ∷ []) facts) is told)
 
   -- a batch of dated changes
-  pub redoes_batch : (old new : Restored H) (batch : List ℕ) (ds : List DatedFact) → batch ≡ spelling ds →
-      ((others : List DatedFact) → HaveSpelling others → batch ≡ spelling others → others ≡ ds) →
-      Redoes hosting old ds new → RedoesBatches hosting old (batch ∷ []) new
+  pub redoes_batch : (old new : Restored H) (batch : List ℕ) (ds : List DatedFact) → batch ≡ batch_spelling ds →
+      ((others : List DatedFact) → HaveSpelling others → batch ≡ batch_spelling others → others ≡ ds) →
+      RedoesDated hosting old ds new → RedoesBatches hosting old (batch ∷ []) new
   redoes_batch old new batch ds is one redone facts told =
-      subst (λ (x : List DatedFact). Redoes hosting old x new) (sym (told_as batch ds facts is one told)) redone
+      subst (λ (x : List DatedFact). RedoesDated hosting old x new) (sym (told_as batch ds facts is one told)) redone
 
   -- some batches, and then others
   pub redoes_batches : (old mid new : Restored H) (batches more : List (List ℕ)) → RedoesBatches hosting old batches mid →
       RedoesBatches hosting mid more new → RedoesBatches hosting old (batches ++ more) new
   redoes_batches old mid new batches more one then facts told =
       let parts = told_split batches more facts told in
-      subst (λ (x : List DatedFact). Redoes hosting old x new) (sym parts.4) (redoes_then old mid new parts.0 parts.1 (one parts.0 parts.2) (then parts.1 parts.3))
+      subst (λ (x : List DatedFact). RedoesDated hosting old x new) (sym parts.4) (redoes_then old mid new parts.0 parts.1 (one parts.0 parts.2) (then parts.1 parts.3))

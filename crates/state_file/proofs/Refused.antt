@@ -9,8 +9,8 @@ use Rattle.image_codec.specs.Spelling.{ImageFits, image_spelling}
 use Rattle.image_codec.specs.declared.image.KeptHook.{KeptHook}
 use Rattle.state_file.specs.Comparing.{AreNarrower, IsUnread, RefuseBeside, RefuseRules, TakesRules}
 use Rattle.state_file.specs.FaultTexts.{of_redoing}
-use Rattle.state_file.specs.Hooks.{named}
-use Rattle.state_file.specs.Resuming.{IsOfChanges, IsOfImage, RefusesHook, RefusesImage, RefusesResume}
+use Rattle.state_file.specs.Hooks.{hook_named}
+use Rattle.state_file.specs.Resuming.{IsOfChanges, IsOfImage, RefusesSetting, RefusesImage, RefusesResume}
 use Rattle.state_file.specs.Telling.{TellsIn}
 use Rattle.state_file.specs.declared.fault.StateFault.{StateFault}
 use Rattle.state_file.specs.declared.fault.StateFault.TheVariants as state
@@ -56,7 +56,7 @@ unread batch now (state.Hook name fault) is = absurd is
 
 module _ {H : Type 0} (hosting : Hosting H) (restored : Restored H) (hook : HookFact) where
   -- one of a new name that is not made
-  pub not_made : named hook.name restored.hooks ≡ None → (fault : RedoFault) → RefusesHook hosting restored hook (of_redoing fault)
+  pub not_made : hook_named hook.name restored.hooks ≡ None → (fault : RedoFault) → RefusesSetting hosting restored hook (of_redoing fault)
   not_made none redoing.MomentBack = none
   not_made none redoing.Unknown = none
   not_made none (redoing.Store fault) = none

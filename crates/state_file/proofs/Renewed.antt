@@ -3,7 +3,7 @@ use Rattle.std.proofs.Common.{◌≡◌, ◌⊎◌, ◌<◌, ◌+◌, ◌^◌, i
 use Rattle.std.specs.Prelude.{◌/◌}
 use Rattle.std.proofs.Math.Nat.{mul-div-le}
 use Rattle.batch_file.specs.Crashes.{LeavesOnly}
-use Rattle.batch_file.specs.Frames.{recovered, IsOldOrNew, IsSettled}
+use Rattle.batch_file.specs.Frames.{recovered, IsOldOrNew, IsOnDisk}
 use Rattle.batch_file.specs.declared.appending.BatchFile.{BatchFile}
 use Rattle.consent.specs.History.{Event}
 use Rattle.change_codec.specs.Keeping.{Holds, Keeps, KeepsNot, LeavesEither, StandsForEither}
@@ -11,11 +11,11 @@ use Rattle.image_codec.specs.Facts.{HookFact, ImageFact, RulesFact}
 use Rattle.image_codec.proofs.Images.{one_rules}
 use Rattle.image_codec.specs.Spelling.{ImageFits, RulesFit, image_spelling, rules_spelling}
 use Rattle.state_file.specs.Knowing.{IsLong, image_size}
-use Rattle.endpoints.specs.Server.{Seen}
+use Rattle.endpoints.specs.Server.{SeenServer}
 use Rattle.hook_host.specs.declared.host.HookHost.{Ghosts as Hosting}
 use Rattle.image_keeper.specs.declared.keeper.ImageFault.{ImageFault}
 use Rattle.image_keeper.specs.declared.keeper.ImageFault.TheVariants.{TooLong}
-use Rattle.state_file.specs.Hooks.{hooks_of}
+use Rattle.state_file.specs.Hooks.{hooks_set_in}
 use Rattle.state_file.specs.Renewing.{HasTooMuch, IsUnspelled}
 use Rattle.state_file.specs.Standing.{IsImageOf, StandsFor}
 use Rattle.state_file.specs.StandingLaws.{StandsFor-image, StandsFor-same}
@@ -74,7 +74,7 @@ module _ {D : Type 0} (seen : D → List ℕ) (may_leave : D → List ℕ → Ty
   keeps_not_same only_now old history = record { meanwhile = (keeps_same only_now old history).meanwhile }
 
   -- it was put there
-  pub keeps_image : (old new : BatchFile D) (image : ImageFact) (bytes : List ℕ) → bytes ≡ image_spelling image → ImageFits image → IsSettled seen may_leave new →
+  pub keeps_image : (old new : BatchFile D) (image : ImageFact) (bytes : List ℕ) → bytes ≡ image_spelling image → ImageFits image → IsOnDisk seen may_leave new →
       recovered (seen new.device) ≡ bytes ∷ [] → (history : List Event) → (StandsFor (seen old.device) history → IsImageOf image history) →
       LeavesOnly moment left_since old.device new.device (IsOldOrNew (recovered (seen old.device)) bytes) → Keeps (of_file seen may_leave moment left_since) history history old new
   keeps_image old new image bytes is fits settled alone history of leaves = record {
@@ -90,7 +90,7 @@ module _ {D : Type 0} (seen : D → List ℕ) (may_leave : D → List ℕ → Ty
       there one c (inr same) = subst (λ (x : List ℕ). StandsFor x history) (sym same) (StandsFor-image (seen new.device) image history spelled fits one)
 
   -- and it tells the rules that were told
-  pub image_tells : (old new : BatchFile D) (image : ImageFact) (bytes rules : List ℕ) → bytes ≡ image_spelling image → ImageFits image → IsSettled seen may_leave new →
+  pub image_tells : (old new : BatchFile D) (image : ImageFact) (bytes rules : List ℕ) → bytes ≡ image_spelling image → ImageFits image → IsOnDisk seen may_leave new →
       recovered (seen new.device) ≡ bytes ∷ [] → rules ≡ rules_spelling image.rules → ((told : RulesFact) → TellsRules (seen old.device) told → rules ≡ rules_spelling told) →
       (told : RulesFact) → LeavesRules seen may_leave old told → LeavesRules seen may_leave new told
   image_tells old new image bytes rules is fits settled alone spell known told leaves = leaves_rules seen may_leave new told settled here
@@ -111,8 +111,8 @@ no_more : (end image size : ℕ) → end ≡ 5 + size → image ≡ size → 2 ^
 no_more end image size ends same much more = let down = mul-div-le end 4 in absurd (omega (arith, ends, same, much, more, down))
 
 -- where no image was spelled since it is too large, there is such an image
-pub too_much : {H : Type 0} (hosting : Hosting H) (server : Seen H) (hooks : List HookFact) (left : List ℕ) (fault : ImageFault) → IsUnspelled hosting server hooks fault → fault ≡ TooLong →
-    ((history : List Event) → StandsFor left history → hooks ≡ hooks_of history) → HasTooMuch hosting server left
+pub too_much : {H : Type 0} (hosting : Hosting H) (server : SeenServer H) (hooks : List HookFact) (left : List ℕ) (fault : ImageFault) → IsUnspelled hosting server hooks fault → fault ≡ TooLong →
+    ((history : List Event) → StandsFor left history → hooks ≡ hooks_set_in history) → HasTooMuch hosting server left
 too_much hosting server hooks left fault unspelled is known =
     let large = subst (λ (f : ImageFault). IsUnspelled hosting server hooks f) is unspelled in
     (large.0, λ rules first history m fits stands. large.1 rules first history m fits (known history stands), large.2)

@@ -10,7 +10,7 @@ use Rattle.hook_chain.specs.Chains.{Named, IsAcceptedCode, IsInstalled, IsRemove
 use Rattle.hook_chain.specs.contracts.chain.ChainHookHost.TheImpl as chain
 use Rattle.hook_host.specs.Versions.{layout_of}
 use Rattle.image_codec.specs.Facts.{HookFact}
-use Rattle.state_file.specs.Hooks.{hooks_after, hooks_of, hooks_with, without_hook}
+use Rattle.state_file.specs.Hooks.{hooks_after, hooks_set_in, hooks_with, without_hook}
 use Rattle.state_file.specs.Resuming.{Installs, Replays}
 use Rattle.verifier.specs.Verdicts.{Checked}
 
@@ -95,5 +95,5 @@ front_run first now (e ∷ front) more run = let rest = front_run run.0 now fron
 pub replays : (history : List Event) (host : List Named) → HostRun IsInstalled IsRemoved [] history host → (front : List Event) → IsFrontOf front history → Replays chain.ghosts [] front
 replays history host run front is other installs =
     let mid = front_run [] host front is.0 (subst (λ (h : List Event). HostRun IsInstalled IsRemoved [] h host) is.1 run) in
-    let same : mid.0 ≡ other = has_one mid.0 other (hooks_of front) (run_has [] mid.0 [] front mid.1 tt) (installs_has [] other [] (hooks_of front) installs tt) in
+    let same : mid.0 ≡ other = has_one mid.0 other (hooks_set_in front) (run_has [] mid.0 [] front mid.1 tt) (installs_has [] other [] (hooks_set_in front) installs tt) in
     subst (λ (h : List Named). HostRun IsInstalled IsRemoved [] front h) same mid.1

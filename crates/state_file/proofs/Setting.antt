@@ -12,13 +12,13 @@ use Rattle.change_codec.specs.Happened.{Happened, all_dated}
 use Rattle.change_codec.specs.HappenedLaws.{Happened-joined}
 use Rattle.change_codec.specs.Keeping.{Crashes, Holds, KeepsEach}
 use Rattle.change_codec.specs.Spelling.{DatedFact, HookSet}
-use Rattle.endpoints.specs.Bounded.{AllRight, IsRight}
+use Rattle.endpoints.specs.Bounded.{AllRight, IsRightChange}
 use Rattle.endpoints.specs.Noting.{with_notes}
-use Rattle.endpoints.specs.Server.{Seen, FitsServer, Notes, NowNotes, AreUnkept, IsNoted}
+use Rattle.endpoints.specs.Server.{SeenServer, FitsServer, Notes, NowNotes, AreUnkept, AreNoted}
 use Rattle.hook_host.specs.declared.host.HookHost.{Ghosts as Hosting}
 use Rattle.image_codec.specs.Facts.{HookFact}
-use Rattle.state_file.specs.Hooks.{AreSet, hooks_of, named, with_hook, with_hooks}
-use Rattle.state_file.specs.Resuming.{Fits, Redoes, Sets, KeepsNoted}
+use Rattle.state_file.specs.Hooks.{AreSet, hooks_set_in, hook_named, with_hook, with_hooks}
+use Rattle.state_file.specs.Resuming.{FitsRestored, RedoesDated, Sets, KeepsNoted}
 use Rattle.state_file.specs.declared.restored.Restored.{Restored}
 use Rattle.state_file.proofs.Hooked.{hooks_of-with}
 
@@ -33,10 +33,10 @@ found_first true hook found rest more later is = is
 found_first false hook found rest more later is = later is
 
 -- what has a name keeps it, where another is set behind it
-pub named_stays : (name : List ℕ) (hooks : List HookFact) (hook found : HookFact) → named name hooks ≡ Some found → named name (hooks ++ hook ∷ []) ≡ Some found
+pub named_stays : (name : List ℕ) (hooks : List HookFact) (hook found : HookFact) → hook_named name hooks ≡ Some found → hook_named name (hooks ++ hook ∷ []) ≡ Some found
 named_stays name [] hook found is = absurd cc
 named_stays name (h ∷ hooks) hook found is =
-    found_first (bytes_eq name h.name) h found (named name hooks) (named name (hooks ++ hook ∷ [])) (named_stays name hooks hook found) is
+    found_first (bytes_eq name h.name) h found (hook_named name hooks) (hook_named name (hooks ++ hook ∷ [])) (named_stays name hooks hook found) is
 
 passed_by : (test : Bool) (hook found : HookFact) (rest more : Option HookFact) → (rest ≡ None → more ≡ Some found) →
     (if test then Some hook else rest) ≡ None → (if test then Some hook else more) ≡ Some found
@@ -44,17 +44,17 @@ passed_by true hook found rest more later is = absurd cc
 passed_by false hook found rest more later is = later is
 
 -- what is set under a new name has it
-pub named_new : (hooks : List HookFact) (hook : HookFact) → named hook.name hooks ≡ None → named hook.name (hooks ++ hook ∷ []) ≡ Some hook
+pub named_new : (hooks : List HookFact) (hook : HookFact) → hook_named hook.name hooks ≡ None → hook_named hook.name (hooks ++ hook ∷ []) ≡ Some hook
 named_new [] hook is = rw (same_name hook.name) refl
 named_new (h ∷ hooks) hook is =
-    passed_by (bytes_eq hook.name h.name) h hook (named hook.name hooks) (named hook.name (hooks ++ hook ∷ [])) (named_new hooks hook) is
+    passed_by (bytes_eq hook.name h.name) h hook (hook_named hook.name hooks) (hook_named hook.name (hooks ++ hook ∷ [])) (named_new hooks hook) is
 
 -- HISTORIES WITH HOOKS
 
-with_hook-old : (moment : ℕ) (history : List Event) (hook found : HookFact) → named hook.name (hooks_of history) ≡ Some found → with_hook moment history hook ≡ history
+with_hook-old : (moment : ℕ) (history : List Event) (hook found : HookFact) → hook_named hook.name (hooks_set_in history) ≡ Some found → with_hook moment history hook ≡ history
 with_hook-old moment history hook found is = rw is refl
 
-with_hook-new : (moment : ℕ) (history : List Event) (hook : HookFact) → named hook.name (hooks_of history) ≡ None →
+with_hook-new : (moment : ℕ) (history : List Event) (hook : HookFact) → hook_named hook.name (hooks_set_in history) ≡ None →
     with_hook moment history hook ≡ with_change history moment (happens.HookSet hook.name hook.version hook.code)
 with_hook-new moment history hook is = rw is refl
 
@@ -63,27 +63,27 @@ with_hooks-then : (moment : ℕ) (history : List Event) (hooks : List HookFact) 
 with_hooks-then moment history [] hook = refl
 with_hooks-then moment history (h ∷ hooks) hook = with_hooks-then moment (with_hook moment history h) hooks hook
 
-hooks_of-set : (moment : ℕ) (history : List Event) (hook : HookFact) → named hook.name (hooks_of history) ≡ None →
-    hooks_of (with_hook moment history hook) ≡ hooks_of history ++ hook ∷ []
+hooks_of-set : (moment : ℕ) (history : List Event) (hook : HookFact) → hook_named hook.name (hooks_set_in history) ≡ None →
+    hooks_set_in (with_hook moment history hook) ≡ hooks_set_in history ++ hook ∷ []
 hooks_of-set moment history hook is =
-    ap hooks_of (with_hook-new moment history hook is) ∙ hooks_of-with history moment (happens.HookSet hook.name hook.version hook.code)
+    ap hooks_set_in (with_hook-new moment history hook is) ∙ hooks_of-with history moment (happens.HookSet hook.name hook.version hook.code)
 
 -- what is set stays set
-stays_set : (moment : ℕ) (history : List Event) (hook other : HookFact) → named other.name (hooks_of history) ≡ Some other →
-    named other.name (hooks_of (with_hook moment history hook)) ≡ Some other
-stays_set moment history hook other is = by (named hook.name (hooks_of history)) refl
+stays_set : (moment : ℕ) (history : List Event) (hook other : HookFact) → hook_named other.name (hooks_set_in history) ≡ Some other →
+    hook_named other.name (hooks_set_in (with_hook moment history hook)) ≡ Some other
+stays_set moment history hook other is = by (hook_named hook.name (hooks_set_in history)) refl
   where
-    by : (found : Option HookFact) → named hook.name (hooks_of history) ≡ found → named other.name (hooks_of (with_hook moment history hook)) ≡ Some other
-    by None none = ap (named other.name) (hooks_of-set moment history hook none) ∙ named_stays other.name (hooks_of history) hook other is
-    by (Some found) there = ap (λ (h : List Event). named other.name (hooks_of h)) (with_hook-old moment history hook found there) ∙ is
+    by : (found : Option HookFact) → hook_named hook.name (hooks_set_in history) ≡ found → hook_named other.name (hooks_set_in (with_hook moment history hook)) ≡ Some other
+    by None none = ap (hook_named other.name) (hooks_of-set moment history hook none) ∙ named_stays other.name (hooks_set_in history) hook other is
+    by (Some found) there = ap (λ (h : List Event). hook_named other.name (hooks_set_in h)) (with_hook-old moment history hook found there) ∙ is
 
 -- WHAT IS RIGHT, AND WHAT IS NOTED
 
 all_right-push : (rules : RegistryRecord) (before history : List Event) (e : Event) → AllRight rules before history →
-    IsRight rules (before ++ history) e.change → AllRight rules before (history ++ e ∷ [])
-all_right-push rules before [] e all right = (subst (λ (h : List Event). IsRight rules h e.change) (append-nil before) right, tt)
+    IsRightChange rules (before ++ history) e.change → AllRight rules before (history ++ e ∷ [])
+all_right-push rules before [] e all right = (subst (λ (h : List Event). IsRightChange rules h e.change) (append-nil before) right, tt)
 all_right-push rules before (x ∷ later) e all right =
-    (all.0, all_right-push rules (before ++ x ∷ []) later e all.1 (subst (λ (h : List Event). IsRight rules h e.change) (sym (append_assoc before (x ∷ []) later)) right))
+    (all.0, all_right-push rules (before ++ x ∷ []) later e all.1 (subst (λ (h : List Event). IsRightChange rules h e.change) (sym (append_assoc before (x ∷ []) later)) right))
 
 noted_more : (unkept : Option (List DatedFact)) (kept : Option (List Event)) (before after : List Event) (moment : ℕ) (changes : Changes) →
     AreUnkept unkept kept before → Happened before (all_dated moment changes) after → AreUnkept (with_notes unkept moment changes) kept after
@@ -96,23 +96,23 @@ noted_more (Some facts) (Some kept) before after moment changes unkept happened 
 module _ {H : Type 0} (hosting : Hosting H) where
   -- no hook
   pub sets_none : (restored : Restored H) → Sets hosting restored [] restored
-  sets_none restored rules first history fits = (fits, All-nil (λ (h : HookFact). named h.name (hooks_of history) ≡ Some h), λ kept notes. notes)
+  sets_none restored rules first history fits = (fits, All-nil (λ (h : HookFact). hook_named h.name (hooks_set_in history) ≡ Some h), λ kept notes. notes)
 
   -- a hook that is set
-  pub sets_old : (restored : Restored H) (hook : HookFact) → named hook.name restored.hooks ≡ Some hook → Sets hosting restored (hook ∷ []) restored
+  pub sets_old : (restored : Restored H) (hook : HookFact) → hook_named hook.name restored.hooks ≡ Some hook → Sets hosting restored (hook ∷ []) restored
   sets_old restored hook is rules first history fits =
-      let there : named hook.name (hooks_of history) ≡ Some hook = ap (named hook.name) (sym fits.1) ∙ is in
+      let there : hook_named hook.name (hooks_set_in history) ≡ Some hook = ap (hook_named hook.name) (sym fits.1) ∙ is in
       let same : with_hook restored.moment history hook ≡ history = with_hook-old restored.moment history hook hook there in
-      subst (λ (h : List Event). Fits hosting restored rules first h × AreSet (hook ∷ []) h × IsNoted restored.server restored.server history h) (sym same)
-      (fits, All-cons (λ (h : HookFact). named h.name (hooks_of history) ≡ Some h) hook [] there (All-nil (λ (h : HookFact). named h.name (hooks_of history) ≡ Some h)), λ kept notes. notes)
+      subst (λ (h : List Event). FitsRestored hosting restored rules first h × AreSet (hook ∷ []) h × AreNoted restored.server restored.server history h) (sym same)
+      (fits, All-cons (λ (h : HookFact). hook_named h.name (hooks_set_in history) ≡ Some h) hook [] there (All-nil (λ (h : HookFact). hook_named h.name (hooks_set_in history) ≡ Some h)), λ kept notes. notes)
 
   -- a hook of a new name
   pub sets_new : (old new : Restored H) (hook : HookFact) (changes : Changes) →
       all_dated old.moment changes ≡ record { moment = old.moment; fact = HookSet hook.name hook.version hook.code } ∷ [] →
-      Redoes hosting old (all_dated old.moment changes) new → new.server.unkept ≡ with_notes old.server.unkept old.moment changes →
-      named hook.name old.hooks ≡ None → Sets hosting old (hook ∷ []) new
+      RedoesDated hosting old (all_dated old.moment changes) new → new.server.unkept ≡ with_notes old.server.unkept old.moment changes →
+      hook_named hook.name old.hooks ≡ None → Sets hosting old (hook ∷ []) new
   sets_new old new hook changes are redone noted none rules first history fits =
-      let free : named hook.name (hooks_of history) ≡ None = ap (named hook.name) (sym fits.1) ∙ none in
+      let free : hook_named hook.name (hooks_set_in history) ≡ None = ap (hook_named hook.name) (sym fits.1) ∙ none in
       let goes_on : with_hook old.moment history hook ≡ with_change history old.moment (happens.HookSet hook.name hook.version hook.code) =
       with_hook-new old.moment history hook free in
       let after : List Event = with_hook old.moment history hook in
@@ -120,9 +120,9 @@ module _ {H : Type 0} (hosting : Hosting H) where
       subst (λ (ds : List DatedFact). Happened history ds after) (sym are) (happens.HookSet hook.name hook.version hook.code, refl, tt, goes_on) in
       let right : AllRight rules [] after =
       subst (λ (h : List Event). AllRight rules [] h) (sym goes_on) (all_right-push rules [] history (event_at old.moment (happens.HookSet hook.name hook.version hook.code)) fits.0.right tt) in
-      let set : named hook.name (hooks_of after) ≡ Some hook = ap (named hook.name) (hooks_of-set old.moment history hook free) ∙ named_new (hooks_of history) hook free in (
+      let set : hook_named hook.name (hooks_set_in after) ≡ Some hook = ap (hook_named hook.name) (hooks_of-set old.moment history hook free) ∙ named_new (hooks_set_in history) hook free in (
         redone.1 rules first history after fits happened right,
-        All-cons (λ (h : HookFact). named h.name (hooks_of after) ≡ Some h) hook [] set (All-nil (λ (h : HookFact). named h.name (hooks_of after) ≡ Some h)),
+        All-cons (λ (h : HookFact). hook_named h.name (hooks_set_in after) ≡ Some h) hook [] set (All-nil (λ (h : HookFact). hook_named h.name (hooks_set_in after) ≡ Some h)),
         λ kept notes. subst (λ (unkept : Option (List DatedFact)). AreUnkept unkept kept after) (sym noted) (noted_more old.server.unkept kept history after old.moment changes notes happened),
       )
 
@@ -137,20 +137,20 @@ module _ {H : Type 0} (hosting : Hosting H) where
       let at : with_hook mid.moment between hook ≡ after = ap (λ (m : ℕ). with_hook m between hook) same in
       let whole : with_hooks old.moment history (hooks ++ hook ∷ []) ≡ after = with_hooks-then old.moment history hooks hook in
       let each : AreSet hooks after =
-      All-weaker (λ (h : HookFact). named h.name (hooks_of between) ≡ Some h) (λ (h : HookFact). named h.name (hooks_of after) ≡ Some h)
+      All-weaker (λ (h : HookFact). hook_named h.name (hooks_set_in between) ≡ Some h) (λ (h : HookFact). hook_named h.name (hooks_set_in after) ≡ Some h)
       (λ h is. stays_set old.moment between hook h is) hooks some.1 in
       let last : AreSet (hook ∷ []) after = subst (λ (h : List Event). AreSet (hook ∷ []) h) at more.1 in
-      subst (λ (h : List Event). Fits hosting new rules first h × AreSet (hooks ++ hook ∷ []) h × IsNoted old.server new.server history h) (sym whole) (
-        subst (λ (h : List Event). Fits hosting new rules first h) at more.0,
-        All-append (λ (h : HookFact). named h.name (hooks_of after) ≡ Some h) hooks (hook ∷ []) each last,
+      subst (λ (h : List Event). FitsRestored hosting new rules first h × AreSet (hooks ++ hook ∷ []) h × AreNoted old.server new.server history h) (sym whole) (
+        subst (λ (h : List Event). FitsRestored hosting new rules first h) at more.0,
+        All-append (λ (h : HookFact). hook_named h.name (hooks_set_in after) ≡ Some h) hooks (hook ∷ []) each last,
         λ kept notes. subst (λ (h : List Event). Notes new.server kept h) at (more.2 kept (some.2 kept notes)),
       )
 
   -- a server that only notes otherwise fits what it fitted
-  pub fits_noting : (old new : Seen H) (unkept : Option (List DatedFact)) (rules : RegistryRecord) (first : H) (history : List Event) (m : ℕ) → NowNotes old new unkept →
+  pub fits_noting : (old new : SeenServer H) (unkept : Option (List DatedFact)) (rules : RegistryRecord) (first : H) (history : List Event) (m : ℕ) → NowNotes old new unkept →
       FitsServer hosting.installs hosting.removes old rules first history m → FitsServer hosting.installs hosting.removes new rules first history m
   fits_noting old new unkept rules first history m now fits =
-      subst (λ (s : Seen H). FitsServer hosting.installs hosting.removes s rules first history m) (sym now)
+      subst (λ (s : SeenServer H). FitsServer hosting.installs hosting.removes s rules first history m) (sym now)
       (record {
         rules_are = fits.rules_are;
         greatest_is = fits.greatest_is;
@@ -164,12 +164,12 @@ module _ {H : Type 0} (hosting : Hosting H) where
 
 module _ {H K : Type 0} (crashes : Crashes K) (only_now : (keeper : K) (c : List ℕ) → crashes.left_since keeper (crashes.moment keeper) c → crashes.may_leave keeper c) where
   -- nothing is noted at all
-  pub keeps_unnoted : (server : Seen H) (keeper : K) → server.unkept ≡ None → KeepsNoted crashes server server keeper keeper
+  pub keeps_unnoted : (server : SeenServer H) (keeper : K) → server.unkept ≡ None → KeepsNoted crashes server server keeper keeper
   keeps_unnoted server keeper none before after notes holds =
       absurd (subst (λ (unkept : Option (List DatedFact)). AreUnkept unkept (Some before) after) none notes)
 
   -- nothing is unkept
-  pub keeps_all_kept : (server : Seen H) (keeper : K) → server.unkept ≡ Some [] → KeepsNoted crashes server server keeper keeper
+  pub keeps_all_kept : (server : SeenServer H) (keeper : K) → server.unkept ≡ Some [] → KeepsNoted crashes server server keeper keeper
   keeps_all_kept server keeper nothing before after notes holds =
       let same : after ≡ before = subst (λ (unkept : Option (List DatedFact)). AreUnkept unkept (Some before) after) nothing notes in (
         subst (λ (unkept : Option (List DatedFact)). AreUnkept unkept (Some after) after) (sym nothing) refl,
@@ -182,12 +182,12 @@ module _ {H K : Type 0} (crashes : Crashes K) (only_now : (keeper : K) (c : List
       )
 
   -- it was kept, and is forgotten
-  pub keeps_noted : (old new : Seen H) (keeper kept : K) (facts : List DatedFact) → old.unkept ≡ Some facts → NowNotes old new (option_map (λ noted. []) old.unkept) →
+  pub keeps_noted : (old new : SeenServer H) (keeper kept : K) (facts : List DatedFact) → old.unkept ≡ Some facts → NowNotes old new (option_map (λ noted. []) old.unkept) →
       KeepsEach crashes facts keeper kept → KeepsNoted crashes old new keeper kept
   keeps_noted old new keeper kept facts are now keeps before after notes holds =
       let happened : Happened before facts after = subst (λ (unkept : Option (List DatedFact)). AreUnkept unkept (Some before) after) are notes in
       let k = keeps before after happened in
-      let empty : new.unkept ≡ Some [] = ap (λ (s : Seen H). s.unkept) now ∙ ap (option_map (λ (noted : List DatedFact). [])) are in
+      let empty : new.unkept ≡ Some [] = ap (λ (s : SeenServer H). s.unkept) now ∙ ap (option_map (λ (noted : List DatedFact). [])) are in
       (subst (λ (unkept : Option (List DatedFact)). AreUnkept unkept (Some after) after) (sym empty) refl, k.holds holds, k.meanwhile holds)
 
 -- LOOKING UP, for what is found
@@ -199,13 +199,13 @@ found_has true hook found rest name here later is =
 found_has false hook found rest name here later is = later is
 
 -- what is found by a name has it
-pub named_has : (name : List ℕ) (hooks : List HookFact) (found : HookFact) → named name hooks ≡ Some found → name ≡ found.name
+pub named_has : (name : List ℕ) (hooks : List HookFact) (found : HookFact) → hook_named name hooks ≡ Some found → name ≡ found.name
 named_has name [] found is = absurd cc
 named_has name (h ∷ hooks) found is =
-    found_has (bytes_eq name h.name) h found (named name hooks) name (bytes_eq-Decides name h.name).0 (named_has name hooks found) is
+    found_has (bytes_eq name h.name) h found (hook_named name hooks) name (bytes_eq-Decides name h.name).0 (named_has name hooks found) is
 
 -- where it has the version and the code, it is the hook
-pub named_is : (hook : HookFact) (hooks : List HookFact) (found : HookFact) → named hook.name hooks ≡ Some found → found.version ≡ hook.version → found.code ≡ hook.code → found ≡ hook
+pub named_is : (hook : HookFact) (hooks : List HookFact) (found : HookFact) → hook_named hook.name hooks ≡ Some found → found.version ≡ hook.version → found.code ≡ hook.code → found ≡ hook
 named_is hook hooks found is version code =
     let name : found.name ≡ hook.name = sym (named_has hook.name hooks found is) in
     hook_same found hook name version code

@@ -2,12 +2,12 @@
 use Rattle.std.proofs.Common.{◌≡◌, ◌↔◌, ◌≤◌, ◌^◌, ◌⊎◌, inl, inr, length, ℕ, zero, suc, List, [], ◌∷◌, ◌++◌, Bool, true, false, Option, None, Some, refl, sym, ap, ◌∙◌, subst}
 use Rattle.std.specs.List.{AllByRecursion}
 use Rattle.std.specs.Option.{option_or}
-use Rattle.batch_file.specs.Frames.{recovered, IsBeforeOrAfter, IsSettled}
+use Rattle.batch_file.specs.Frames.{recovered, IsBeforeOrAfter, IsOnDisk}
 use Rattle.batch_file.specs.declared.appending.BatchFile.{BatchFile}
 use Rattle.batch_file.specs.declared.appending.BatchFault.{BatchFault}
 use Rattle.batch_file.specs.declared.appending.BatchFault.TheVariants as batch
 use Rattle.consent.specs.History.{Event}
-use Rattle.change_codec.specs.Spelling.{IsShort, IsText}
+use Rattle.change_codec.specs.Spelling.{FitsFourBytes, IsText}
 use Rattle.image_codec.proofs.Images.{one_rules}
 use Rattle.image_codec.specs.Facts.{ClientFact, ImageFact, RulesFact}
 use Rattle.image_codec.specs.Spelling.{ClientFits, ImageFits, RulesCount, RulesFit, image_spelling, rules_fields, rules_spelling}
@@ -38,7 +38,7 @@ told_last left now batch told is are =
 
 -- all that a settled file leaves tells what it tells
 pub leaves_rules : {D : Type 0} (seen : D → List ℕ) (may_leave : D → List ℕ → Type 0) (file : BatchFile D) (rules : RulesFact) →
-    IsSettled seen may_leave file → TellsRules (seen file.device) rules → LeavesRules seen may_leave file rules
+    IsOnDisk seen may_leave file → TellsRules (seen file.device) rules → LeavesRules seen may_leave file rules
 leaves_rules seen may_leave file rules settled tells c (inl left) = subst (λ (x : List ℕ). TellsRules x rules) (sym (settled.durable c left)) tells
 leaves_rules seen may_leave file rules settled tells c (inr same) = subst (λ (x : List ℕ). TellsRules x rules) (sym same) tells
 
@@ -66,7 +66,7 @@ unwritten bytes batch.TooLong long = long refl
 
 -- all that a settled file leaves stands for what it stands for
 pub leaves_standing : {D : Type 0} (seen : D → List ℕ) (may_leave : D → List ℕ → Type 0) (file : BatchFile D) (history : List Event) →
-    IsSettled seen may_leave file → StandsFor (seen file.device) history → (c : List ℕ) → may_leave file.device c ⊎ (c ≡ seen file.device) → StandsFor c history
+    IsOnDisk seen may_leave file → StandsFor (seen file.device) history → (c : List ℕ) → may_leave file.device c ⊎ (c ≡ seen file.device) → StandsFor c history
 leaves_standing seen may_leave file history settled stands c (inl left) = subst (λ (x : List ℕ). StandsFor x history) (sym (settled.durable c left)) stands
 leaves_standing seen may_leave file history settled stands c (inr same) = subst (λ (x : List ℕ). StandsFor x history) (sym same) stands
 
@@ -96,8 +96,8 @@ each_counts P Q weaker (x ∷ xs) all = (weaker x all.0, each_counts P Q weaker 
 
 pub fit_counts : (rules : RulesFact) → RulesFit rules → RulesCount rules
 fit_counts rules fit = (
-  (fit.0.0, each_counts IsText (λ name. IsShort (length name)) (λ name text. text.1) rules.scopes fit.0.1),
-  (fit.2.0, each_counts ClientFits (λ (c : ClientFact). IsShort (length c.name)) (λ c client. client.0.1) rules.clients fit.2.1),
+  (fit.0.0, each_counts IsText (λ name. FitsFourBytes (length name)) (λ name text. text.1) rules.scopes fit.0.1),
+  (fit.2.0, each_counts ClientFits (λ (c : ClientFact). FitsFourBytes (length c.name)) (λ c client. client.0.1) rules.clients fit.2.1),
 )
 
 -- rules of one spelling are the same

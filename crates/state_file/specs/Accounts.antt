@@ -5,7 +5,7 @@ use Rattle.clients.specs.RegistryRecord.{RegistryRecord}
 use Rattle.endpoints.specs.Widening.{IsWider}
 use Rattle.hook_host.specs.declared.host.HookHost.{Ghosts as Hosting}
 use Rattle.image_codec.specs.Facts.{ImageFact, RulesFact}
-use Rattle.state_file.specs.Resuming.{AnswersFor, OfEach}
+use Rattle.state_file.specs.Resuming.{AnswersFor, OfEachHistory}
 use Rattle.state_file.specs.Standing.{IsImageOf}
 use Rattle.state_file.specs.Telling.{IsOfRules, TellsRules, rules_of}
 use Rattle.state_file.specs.declared.account.Account.{Account}
@@ -21,8 +21,8 @@ pub record IsEndOf (end : ℕ) (left : List ℕ) : Type 0 where
   pub nothing : (n : ℕ) → recovered (take n (drop end left)) ≡ []
 
 -- so many bytes of an unfinished write stand behind the whole frames
-abbrev pub IsTorn : List ℕ → ℕ → Type 0
-IsTorn left torn = (end : ℕ) × IsEndOf end left × (torn ≡ torn_size (drop end left))
+abbrev pub HasTornEnd : List ℕ → ℕ → Type 0
+HasTornEnd left torn = (end : ℕ) × IsEndOf end left × (torn ≡ torn_size (drop end left))
 
 -- the bytes tell just these rules last, if they have a batch
 abbrev pub TellIfAny : List ℕ → RulesFact → Type 0
@@ -36,11 +36,11 @@ pub record IsAccountOf {H : Type 0} (hosting : Hosting H) (left : List ℕ) (fir
   pub rules : IsOfRules account.rules.items (rules_of registry)
   pub answers : AnswersFor hosting left registry first account.restored
   pub batches : account.batches ≡ length (recovered left)
-  pub torn : IsTorn left account.torn
+  pub torn : HasTornEnd left account.torn
 
 -- the image is one of each history that the bytes stand for, under the rules that they tell
 pub record IsImageIn {H : Type 0} (hosting : Hosting H) (left : List ℕ) (first : H) (image : ImageFact) : Type 0 where
-  pub each : OfEach hosting first left (λ history. IsImageOf image history)
+  pub each : OfEachHistory hosting first left (λ history. IsImageOf image history)
   pub told : TellIfAny left image.rules
 
 -- FAULTS

@@ -12,16 +12,16 @@ use Rattle.state_file.specs.declared.fault.StateFault.{StateFault}
 use Rattle.state_file.specs.declared.fault.StateFault.TheVariants.{Memory, Device, Full, TooLong, NoRules, Spelling, ScopeMoved, OwnerMoved, ClientMoved, ClientNarrowed, LifeNarrowed}
 
 -- the first of the names told that does not have its place now
-abbrev pub moved : List (List ℕ) → List (List ℕ) → Option (List ℕ)
-moved [] now = None
-moved (name ∷ names) [] = Some name
-moved (name ∷ names) (other ∷ others) = if bytes_eq name other then moved names others else Some name
+abbrev pub first_moved : List (List ℕ) → List (List ℕ) → Option (List ℕ)
+first_moved [] now = None
+first_moved (name ∷ names) [] = Some name
+first_moved (name ∷ names) (other ∷ others) = if bytes_eq name other then first_moved names others else Some name
 
 -- the first of the clients told that may not be allowed now all that it was
-abbrev pub narrowed : List ClientFact → List ClientFact → Option (List ℕ)
-narrowed [] now = None
-narrowed (c ∷ cs) [] = None
-narrowed (c ∷ cs) (d ∷ ds) = if is_within c.allowed d.allowed then narrowed cs ds else Some c.name
+abbrev pub first_narrowed : List ClientFact → List ClientFact → Option (List ℕ)
+first_narrowed [] now = None
+first_narrowed (c ∷ cs) [] = None
+first_narrowed (c ∷ cs) (d ∷ ds) = if is_within c.allowed d.allowed then first_narrowed cs ds else Some c.name
 
 abbrev pub client_names : List ClientFact → List (List ℕ)
 client_names clients = map (λ c. c.name) clients
@@ -30,26 +30,26 @@ client_names clients = map (λ c. c.name) clients
 
 module _ (told now : RulesFact) where
   abbrev pub KeepScopes : Type 0
-  KeepScopes = moved told.scopes now.scopes ≡ None
+  KeepScopes = first_moved told.scopes now.scopes ≡ None
 
   abbrev pub KeepOwners : Type 0
   KeepOwners = KeepScopes × (told.owners ≤ now.owners)
 
   abbrev pub KeepClients : Type 0
-  KeepClients = KeepOwners × (moved (client_names told.clients) (client_names now.clients) ≡ None)
+  KeepClients = KeepOwners × (first_moved (client_names told.clients) (client_names now.clients) ≡ None)
 
   abbrev pub KeepAllowed : Type 0
-  KeepAllowed = KeepClients × (narrowed told.clients now.clients ≡ None)
+  KeepAllowed = KeepClients × (first_narrowed told.clients now.clients ≡ None)
 
   abbrev pub AreAsWide : Type 0
   AreAsWide = KeepAllowed × (told.access_life ≤ now.access_life) × (told.refresh_life ≤ now.refresh_life)
 
   -- the first of them that does not stay, by its fault
   abbrev pub AreNarrower : StateFault → Type 0
-  AreNarrower (ScopeMoved name) = moved told.scopes now.scopes ≡ Some (string_bytes name)
+  AreNarrower (ScopeMoved name) = first_moved told.scopes now.scopes ≡ Some (string_bytes name)
   AreNarrower OwnerMoved = KeepScopes × (now.owners < told.owners)
-  AreNarrower (ClientMoved name) = KeepOwners × (moved (client_names told.clients) (client_names now.clients) ≡ Some (string_bytes name))
-  AreNarrower (ClientNarrowed name) = KeepClients × (narrowed told.clients now.clients ≡ Some (string_bytes name))
+  AreNarrower (ClientMoved name) = KeepOwners × (first_moved (client_names told.clients) (client_names now.clients) ≡ Some (string_bytes name))
+  AreNarrower (ClientNarrowed name) = KeepClients × (first_narrowed told.clients now.clients ≡ Some (string_bytes name))
   AreNarrower LifeNarrowed = KeepAllowed × ((now.access_life < told.access_life) ⊎ (now.refresh_life < told.refresh_life))
   AreNarrower Memory = Unit {0}
   AreNarrower _ = ⊥
@@ -57,12 +57,12 @@ module _ (told now : RulesFact) where
 -- WHY THEY ARE REFUSED
 
 -- the length of a name, or how many names there are, takes more than four bytes, or the length of all does
-abbrev pub IsTooLong : RulesFact → Type 0
-IsTooLong rules = (¬ RulesCount rules) ⊎ (2 ^ 32 ≤ length (rules_spelling rules))
+abbrev pub AreRulesTooLong : RulesFact → Type 0
+AreRulesTooLong rules = (¬ RulesCount rules) ⊎ (2 ^ 32 ≤ length (rules_spelling rules))
 
 -- why the rules are not told
 abbrev pub IsUntold : RulesFact → StateFault → Type 0
-IsUntold rules TooLong = IsTooLong rules
+IsUntold rules TooLong = AreRulesTooLong rules
 IsUntold rules Memory = Unit {0}
 IsUntold rules _ = ⊥
 
@@ -94,7 +94,7 @@ RefuseBeside batch now fault = (told : RulesFact) × TellsIn batch told × AreNa
 -- why rules are not taken behind the batches
 abbrev pub RefuseRules : List (List ℕ) → RulesFact → StateFault → Type 0
 RefuseRules batches now Memory = Unit {0}
-RefuseRules batches now TooLong = IsTooLong now
+RefuseRules batches now TooLong = AreRulesTooLong now
 RefuseRules batches now NoRules = ¬ BeginWithRules batches
 RefuseRules batches now fault = (batch : List ℕ) × (last_rules batches ≡ Some batch) × RefuseBeside batch now fault
 

@@ -37,9 +37,9 @@ state_fault_text (state.HookDiffers name) = codes "HookDiffers " ++ string_bytes
 state_fault_text (state.Hook name fault) = codes "Hook " ++ string_bytes name ++ codes " " ++ hook_fault_text fault
 
 -- a fault of a part as one of the state file
-abbrev pub of_decoding : DecodeFault → StateFault
-of_decoding decoding.Memory = state.Memory
-of_decoding (decoding.Bytes fault) = state.Spelling fault
+abbrev pub state_fault_of_decoding : DecodeFault → StateFault
+state_fault_of_decoding decoding.Memory = state.Memory
+state_fault_of_decoding (decoding.Bytes fault) = state.Spelling fault
 
 abbrev pub of_encoding : EncodeFault → StateFault
 of_encoding encoding.Memory = state.Memory
@@ -53,9 +53,9 @@ abbrev pub of_restoring : RestoreFault → StateFault
 of_restoring restoring.Memory = state.Memory
 of_restoring fault = state.Image fault
 
-abbrev pub of_device : DeviceFault → StateFault
-of_device device.Memory = state.Memory
-of_device device.Failed = state.Device
+abbrev pub state_fault_of_device : DeviceFault → StateFault
+state_fault_of_device device.Memory = state.Memory
+state_fault_of_device device.Failed = state.Device
 
 abbrev pub of_batch : BatchFault → StateFault
 of_batch batch.Memory = state.Memory

@@ -7,8 +7,8 @@ use Rattle.change_codec.specs.Spelling.{DatedFact, Fact, HookSet, HookGone}
 use Rattle.image_codec.specs.Facts.{HookFact}
 
 -- the hook of the name
-abbrev pub named : List ℕ → List HookFact → Option HookFact
-named name hooks = find (λ hook. bytes_eq name hook.name) hooks
+abbrev pub hook_named : List ℕ → List HookFact → Option HookFact
+hook_named name hooks = find (λ hook. bytes_eq name hook.name) hooks
 
 abbrev pub without_hook : List ℕ → List HookFact → List HookFact
 without_hook name hooks = filter (λ hook. not (bytes_eq name hook.name)) hooks
@@ -35,13 +35,13 @@ abbrev pub hooks_after : List HookFact → List Event → List HookFact
 hooks_after hooks [] = hooks
 hooks_after hooks (e ∷ later) = hooks_after (hooks_with hooks e.change) later
 
-abbrev pub hooks_of : List Event → List HookFact
-hooks_of history = hooks_after [] history
+abbrev pub hooks_set_in : List Event → List HookFact
+hooks_set_in history = hooks_after [] history
 
 -- the history goes on with the hook, set at the moment, unless one of its name is set
 abbrev pub with_hook : ℕ → List Event → HookFact → List Event
 with_hook moment history hook =
-    if is_some (named hook.name (hooks_of history)) then history
+    if is_some (hook_named hook.name (hooks_set_in history)) then history
     else with_change history moment (happens.HookSet hook.name hook.version hook.code)
 
 -- or with some hooks, one after the other
@@ -51,4 +51,4 @@ with_hooks moment history (hook ∷ hooks) = with_hooks moment (with_hook moment
 
 -- each of the hooks is set under its name
 abbrev pub AreSet : List HookFact → List Event → Type 0
-AreSet hooks history = All (λ hook. named hook.name (hooks_of history) ≡ Some hook) hooks
+AreSet hooks history = All (λ hook. hook_named hook.name (hooks_set_in history) ≡ Some hook) hooks

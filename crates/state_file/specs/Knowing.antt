@@ -7,7 +7,7 @@ use Rattle.change_codec.specs.Keeping.{Crashes, crashes}
 use Rattle.consent.specs.History.{Event}
 use Rattle.image_codec.specs.Facts.{HookFact, RulesFact}
 use Rattle.image_codec.specs.Spelling.{rules_spelling}
-use Rattle.state_file.specs.Hooks.{hooks_of}
+use Rattle.state_file.specs.Hooks.{hooks_set_in}
 use Rattle.state_file.specs.Standing.{StandsFor, begins_image}
 use Rattle.state_file.specs.Telling.{TellsRules}
 
@@ -32,5 +32,5 @@ IsLongFile seen file = IsLong file.end (image_size (recovered (seen file.device)
 -- These bytes spell the rules that are told last, these hooks are set, and the image has so many bytes.
 pub record IsKnown (left rules : List ℕ) (hooks : List HookFact) (image : ℕ) : Type 0 where
   pub rules_are : (told : RulesFact) → TellsRules left told → rules ≡ rules_spelling told
-  pub hooks_are : (history : List Event) → StandsFor left history → hooks ≡ hooks_of history
+  pub hooks_are : (history : List Event) → StandsFor left history → hooks ≡ hooks_set_in history
   pub image_is : image ≡ image_size (recovered left)

@@ -8,12 +8,12 @@ use Rattle.clients.specs.RegistryRecord.{RegistryRecord}
 use Rattle.consent.specs.History.{Event}
 use Rattle.endpoints.specs.Bounded.{AllRight}
 use Rattle.endpoints.specs.Hosts.{HostRun}
-use Rattle.endpoints.specs.Server.{Seen, FitsServer, Notes, IsNoted}
+use Rattle.endpoints.specs.Server.{SeenServer, FitsServer, Notes, AreNoted}
 use Rattle.hook_host.specs.Versions.{layout_of}
 use Rattle.hook_host.specs.declared.host.HookHost.{Ghosts as Hosting}
 use Rattle.image_codec.specs.Facts.{RulesFact, HookFact, ImageFact}
 use Rattle.state_file.specs.Comparing.{RefuseRules, TakesRules}
-use Rattle.state_file.specs.Hooks.{AreSet, hooks_behind, hooks_of, named, with_hooks}
+use Rattle.state_file.specs.Hooks.{AreSet, hooks_behind, hooks_set_in, hook_named, with_hooks}
 use Rattle.state_file.specs.Standing.{AreTold, BeginWithImage, IsImageOf, StandsFor, begins_image}
 use Rattle.state_file.specs.Telling.{TellsRules, rules_of}
 use Rattle.state_file.specs.declared.fault.StateFault.{StateFault}
@@ -24,24 +24,24 @@ use Rattle.state_file.specs.declared.starting.Started.{Started}
 -- CHANGES MADE AGAIN
 
 -- the server fits the history from its moment on, and its hooks are that history's
-abbrev pub Fits : {H : Type 0} → Hosting H → Restored H → RegistryRecord → H → List Event → Type 0
-Fits hosting restored rules first history =
+abbrev pub FitsRestored : {H : Type 0} → Hosting H → Restored H → RegistryRecord → H → List Event → Type 0
+FitsRestored hosting restored rules first history =
     FitsServer hosting.installs hosting.removes restored.server rules first history restored.moment
-    × (restored.hooks ≡ hooks_of history)
+    × (restored.hooks ≡ hooks_set_in history)
 
 -- Whatever history the old one fits: where the dated changes lead on to one that is right, the new one fits that.
 abbrev pub FitsOn : {H : Type 0} → Hosting H → Restored H → List DatedFact → Restored H → Type 0
 FitsOn {H = H} hosting old facts new =
-    (rules : RegistryRecord) (first : H) (history after : List Event) → Fits hosting old rules first history →
-    Happened history facts after → AllRight rules [] after → Fits hosting new rules first after
+    (rules : RegistryRecord) (first : H) (history after : List Event) → FitsRestored hosting old rules first history →
+    Happened history facts after → AllRight rules [] after → FitsRestored hosting new rules first after
 
 -- and its hooks are those that the changes leave
-abbrev pub Redoes : {H : Type 0} → Hosting H → Restored H → List DatedFact → Restored H → Type 0
-Redoes hosting old facts new = (new.hooks ≡ hooks_behind old.hooks facts) × FitsOn hosting old facts new
+abbrev pub RedoesDated : {H : Type 0} → Hosting H → Restored H → List DatedFact → Restored H → Type 0
+RedoesDated hosting old facts new = (new.hooks ≡ hooks_behind old.hooks facts) × FitsOn hosting old facts new
 
 -- so it is of the dated changes that the batches have
 abbrev pub RedoesBatches : {H : Type 0} → Hosting H → Restored H → List (List ℕ) → Restored H → Type 0
-RedoesBatches hosting old batches new = (facts : List DatedFact) → AreTold batches facts → Redoes hosting old facts new
+RedoesBatches hosting old batches new = (facts : List DatedFact) → AreTold batches facts → RedoesDated hosting old facts new
 
 -- A HOST MADE AGAIN
 
@@ -54,7 +54,7 @@ Installs {H = H} hosting old (hook ∷ hooks) new =
 -- the first host comes by the history to what it comes to when the hooks that the history sets are installed on it
 abbrev pub Replays : {H : Type 0} → Hosting H → H → List Event → Type 0
 Replays {H = H} hosting first history =
-    (host : H) → Installs hosting first (hooks_of history) host → HostRun hosting.installs hosting.removes first history host
+    (host : H) → Installs hosting first (hooks_set_in history) host → HostRun hosting.installs hosting.removes first history host
 
 -- the first batch, if there is one, is none
 abbrev pub HaveNoImage : List (List ℕ) → Type 0
@@ -73,11 +73,12 @@ abbrev pub IsMadeOf : {H : Type 0} → Hosting H → ImageFact → RegistryRecor
 IsMadeOf hosting image rules first restored =
     (restored.hooks ≡ image.hooks)
     × ((history : List Event) → IsImageOf image history → AllRight rules [] history → Replays hosting first history →
-    Fits hosting restored rules first history)
+    FitsRestored hosting restored rules first history)
 
 -- the server is made of the first batch, where that is an image, and else anew; the later batches are the others
-pub record Begins {H : Type 0} (hosting : Hosting H) (rules : RegistryRecord) (first : H) (batches later : List (List ℕ)) (restored : Restored H) : Type 0 where
-  pub anew : HaveNoImage batches → (later ≡ batches) × Fits hosting restored rules first []
+pub record BeginsByBatches {H : Type 0} (hosting : Hosting H) (rules : RegistryRecord) (first : H) (batches later : List (List ℕ))
+    (restored : Restored H) : Type 0 where
+  pub anew : HaveNoImage batches → (later ≡ batches) × FitsRestored hosting restored rules first []
   pub of_image : (image : ImageFact) (behind : List (List ℕ)) → BeginWithImage batches image behind →
       (later ≡ behind) × IsMadeOf hosting image rules first restored
 
@@ -88,7 +89,7 @@ OfRight hosting left rules first claim =
 
 -- it fits each of them
 abbrev pub AnswersFor : {H : Type 0} → Hosting H → List ℕ → RegistryRecord → H → Restored H → Type 0
-AnswersFor hosting left rules first restored = OfRight hosting left rules first (λ history. Fits hosting restored rules first history)
+AnswersFor hosting left rules first restored = OfRight hosting left rules first (λ history. FitsRestored hosting restored rules first history)
 
 -- it is a fault of an image
 abbrev pub IsOfImage : StateFault → Type 0
@@ -133,36 +134,36 @@ RefusesResume batches now fault = RefuseRules batches now fault
 -- has noted that.
 abbrev pub Sets : {H : Type 0} → Hosting H → Restored H → List HookFact → Restored H → Type 0
 Sets {H = H} hosting old hooks new =
-    (rules : RegistryRecord) (first : H) (history : List Event) → Fits hosting old rules first history →
-    Fits hosting new rules first (with_hooks old.moment history hooks) × AreSet hooks (with_hooks old.moment history hooks)
-    × IsNoted old.server new.server history (with_hooks old.moment history hooks)
+    (rules : RegistryRecord) (first : H) (history : List Event) → FitsRestored hosting old rules first history →
+    FitsRestored hosting new rules first (with_hooks old.moment history hooks) × AreSet hooks (with_hooks old.moment history hooks)
+    × AreNoted old.server new.server history (with_hooks old.moment history hooks)
 
 -- why the hook is not set: another of its name is, or the host refuses it, or no record of its version is handed to hooks
-abbrev pub RefusesHook : {H : Type 0} → Hosting H → Restored H → HookFact → StateFault → Type 0
-RefusesHook hosting restored hook Memory = Unit {0}
-RefusesHook hosting restored hook (HookDiffers name) =
-    (string_bytes name ≡ hook.name) × (other : HookFact) × (named hook.name restored.hooks ≡ Some other) × (other ≢ hook)
-RefusesHook hosting restored hook (Hook name fault) =
-    (string_bytes name ≡ hook.name) × (named hook.name restored.hooks ≡ None)
+abbrev pub RefusesSetting : {H : Type 0} → Hosting H → Restored H → HookFact → StateFault → Type 0
+RefusesSetting hosting restored hook Memory = Unit {0}
+RefusesSetting hosting restored hook (HookDiffers name) =
+    (string_bytes name ≡ hook.name) × (other : HookFact) × (hook_named hook.name restored.hooks ≡ Some other) × (other ≢ hook)
+RefusesSetting hosting restored hook (Hook name fault) =
+    (string_bytes name ≡ hook.name) × (hook_named hook.name restored.hooks ≡ None)
     × hosting.refuses_install restored.server.host hook.name (layout_of hook.version) hook.code fault
-RefusesHook hosting restored hook (Follows fault) = named hook.name restored.hooks ≡ None
-RefusesHook hosting restored hook _ = ⊥
+RefusesSetting hosting restored hook (Follows fault) = hook_named hook.name restored.hooks ≡ None
+RefusesSetting hosting restored hook _ = ⊥
 
 -- one of the hooks is not set, once those before it are
-abbrev pub RefusesHooks : {H : Type 0} → Hosting H → Restored H → List HookFact → StateFault → Type 0
-RefusesHooks {H = H} hosting old hooks fault =
+abbrev pub RefusesSettings : {H : Type 0} → Hosting H → Restored H → List HookFact → StateFault → Type 0
+RefusesSettings {H = H} hosting old hooks fault =
     (before later : List HookFact) × (hook : HookFact) × (mid : Restored H) × (hooks ≡ before ++ hook ∷ later)
-    × Sets hosting old before mid × RefusesHook hosting mid hook fault
+    × Sets hosting old before mid × RefusesSetting hosting mid hook fault
 
 -- so it is of some server of these
 abbrev pub RefusesSome : {H : Type 0} → Hosting H → (Restored H → Type 0) → List HookFact → StateFault → Type 0
-RefusesSome {H = H} hosting These hooks fault = (restored : Restored H) × These restored × RefusesHooks hosting restored hooks fault
+RefusesSome {H = H} hosting These hooks fault = (restored : Restored H) × These restored × RefusesSettings hosting restored hooks fault
 
 -- KEEPING
 
 -- Wherever the server has noted all from a history that the keeper holds: it has noted nothing from the one that it is at,
 -- and the keeper holds that; a crash meanwhile left the one or the other.
-abbrev pub KeepsNoted : {H K : Type 0} → Crashes K → Seen H → Seen H → K → K → Type 0
+abbrev pub KeepsNoted : {H K : Type 0} → Crashes K → SeenServer H → SeenServer H → K → K → Type 0
 KeepsNoted crashes old new keeper kept =
     (before after : List Event) → Notes old (Some before) after → Holds crashes keeper before →
     Notes new (Some after) after × Holds crashes kept after × LeavesEither crashes before after keeper kept
@@ -174,8 +175,8 @@ abbrev pub WasRight : List ℕ → List Event → Type 0
 WasRight left history = (recovered left ≡ []) ⊎ ((old : RegistryRecord) × TellsRules left (rules_of old) × AllRight old [] history)
 
 -- so it is of each history that the bytes stand for, that was right and that was run
-abbrev pub OfEach : {H : Type 0} → Hosting H → H → List ℕ → (List Event → Type 0) → Type 0
-OfEach hosting first left claim =
+abbrev pub OfEachHistory : {H : Type 0} → Hosting H → H → List ℕ → (List Event → Type 0) → Type 0
+OfEachHistory hosting first left claim =
     (history : List Event) → StandsFor left history → WasRight left history → WasRun hosting first left history → claim history
 
 -- from its moment on the server answers as the history says, and it notes what happens from there on

@@ -3,20 +3,20 @@ use Rattle.std.specs.Prelude.{◌≡◌, ◌⊎◌, ◌++◌, ℕ, zero, suc, Li
 use Rattle.batch_file.specs.Frames.{recovered}
 use Rattle.consent.specs.Consents.{FitsConsents, kept_consents}
 use Rattle.consent.specs.History.{Event}
-use Rattle.change_codec.specs.Spelling.{DatedFact, HaveSpelling, spelling}
+use Rattle.change_codec.specs.Spelling.{DatedFact, HaveSpelling, batch_spelling}
 use Rattle.change_codec.specs.Happened.{Happened}
 use Rattle.image_codec.specs.Facts.{ImageFact}
 use Rattle.image_codec.specs.Kept.{kept_told}
 use Rattle.image_codec.specs.Spelling.{ImageFits, image_spelling}
 use Rattle.token_store.specs.Fits.{FitsHistory}
-use Rattle.state_file.specs.Hooks.{hooks_of}
+use Rattle.state_file.specs.Hooks.{hooks_set_in}
 
 -- The image is one of the history, from its moment on: its records answer as the history does, its consents are the owners'
 -- last ones, and its hooks are those that the history sets. Nothing in the history is later.
 pub record IsImageOf (image : ImageFact) (history : List Event) : Type 0 where
   pub records : FitsHistory (map kept_told image.records) history image.greatest
   pub consents : FitsConsents (kept_consents image.consents) history
-  pub hooks : image.hooks ≡ hooks_of history
+  pub hooks : image.hooks ≡ hooks_set_in history
 
 -- an image begins with a byte 2
 abbrev pub begins_image : List ℕ → Bool
@@ -37,7 +37,7 @@ abbrev pub AreTold : List (List ℕ) → List DatedFact → Type 0
 AreTold [] facts = facts ≡ []
 AreTold ((zero ∷ rules) ∷ batches) facts = AreTold batches facts
 AreTold (batch ∷ batches) facts =
-    (first later : List DatedFact) × HaveSpelling first × (batch ≡ spelling first) × AreTold batches later × (facts ≡ first ++ later)
+    (first later : List DatedFact) × HaveSpelling first × (batch ≡ batch_spelling first) × AreTold batches later × (facts ≡ first ++ later)
 
 -- the bytes stand for the history: from where their whole batches begin, the dated changes of the others lead to it
 pub record StandsFor (left : List ℕ) (history : List Event) : Type 0 where

@@ -3,7 +3,7 @@ use Rattle.std.proofs.Common.{◌≡◌, inl, inr, ℕ, zero, suc, List, [], ◌
 use Rattle.std.proofs.lemmas.List.{append-nil}
 use Rattle.batch_file.specs.Frames.{recovered}
 use Rattle.consent.specs.History.{Event}
-use Rattle.change_codec.specs.Spelling.{DatedFact, HaveSpelling, spelling}
+use Rattle.change_codec.specs.Spelling.{DatedFact, HaveSpelling, batch_spelling}
 use Rattle.change_codec.specs.Happened.{Happened}
 use Rattle.change_codec.specs.HappenedLaws.{Happened-joined}
 use Rattle.image_codec.specs.Facts.{ImageFact}
@@ -12,7 +12,7 @@ use Rattle.state_file.specs.Standing.{AreTold, Begin, IsImageOf, StandsFor}
 
 -- a batch of dated changes more
 pub AreTold-more : (batches : List (List ℕ)) (facts more : List DatedFact) → AreTold batches facts → HaveSpelling more →
-    AreTold (batches ++ spelling more ∷ []) (facts ++ more)
+    AreTold (batches ++ batch_spelling more ∷ []) (facts ++ more)
 AreTold-more [] facts more told fits =
     (more, [], fits, refl, refl, ap (λ (ds : List DatedFact). ds ++ more) told ∙ sym (append-nil more))
 AreTold-more ([] ∷ batches) facts more told fits =
@@ -29,12 +29,12 @@ begin-more batches history later batch (inr of) = inr (of.0, of.1, (of.2.0, ap (
 
 -- what the file stood for, with what happened then
 pub StandsFor-more : (left now : List ℕ) (before after : List Event) (more : List DatedFact) → StandsFor left before →
-    HaveSpelling more → recovered now ≡ recovered left ++ spelling more ∷ [] → Happened before more after → StandsFor now after
+    HaveSpelling more → recovered now ≡ recovered left ++ batch_spelling more ∷ [] → Happened before more after → StandsFor now after
 StandsFor-more left now before after more stands fits are happened = record {
   base = stands.base;
-  later = stands.later ++ spelling more ∷ [];
+  later = stands.later ++ batch_spelling more ∷ [];
   facts = stands.facts ++ more;
-  begins = subst (λ (batches : List (List ℕ)). Begin batches stands.base (stands.later ++ spelling more ∷ [])) (sym are) (begin-more (recovered left) stands.base stands.later (spelling more) stands.begins);
+  begins = subst (λ (batches : List (List ℕ)). Begin batches stands.base (stands.later ++ batch_spelling more ∷ [])) (sym are) (begin-more (recovered left) stands.base stands.later (batch_spelling more) stands.begins);
   told = AreTold-more stands.later stands.facts more stands.told fits;
   happened = Happened-joined stands.base before after stands.facts more stands.happened happened;
 }

@@ -9,15 +9,15 @@ use Rattle.image_codec.specs.Facts.{ClientFact, RulesFact, ImageFact}
 use Rattle.image_codec.specs.Spelling.{RulesFit, ImageFits, rules_spelling, image_spelling}
 
 -- what is told of a client
-abbrev pub client_of : ClientRecord → ClientFact
-client_of client = record { name = client.id; allowed = client.allowed }
+abbrev pub client_told : ClientRecord → ClientFact
+client_told client = record { name = client.id; allowed = client.allowed }
 
 -- what is told of a registry
 abbrev pub rules_of : RegistryRecord → RulesFact
 rules_of registry = record {
   scopes = registry.scopes;
   owners = length registry.owners;
-  clients = map client_of registry.clients;
+  clients = map client_told registry.clients;
   access_life = registry.access_life;
   refresh_life = registry.refresh_life;
 }

@@ -2,7 +2,7 @@
 use Rattle.std.proofs.Common.{◌≡◌, inl, inr, ℕ, List, [], ◌∷◌, ◌++◌, Option, None, Some, refl, sym, ap, ◌∙◌}
 use Rattle.std.specs.Option.{option_or}
 use Rattle.batch_file.specs.Frames.{recovered}
-use Rattle.change_codec.specs.Spelling.{DatedFact, spelling}
+use Rattle.change_codec.specs.Spelling.{DatedFact, batch_spelling}
 use Rattle.image_codec.specs.Facts.{ImageFact, RulesFact}
 use Rattle.image_codec.specs.Spelling.{ImageFits, RulesFit, image_spelling, rules_spelling}
 use Rattle.state_file.specs.Telling.{rules_in, last_rules, TellsRules}
@@ -22,10 +22,10 @@ last_rules-push (b ∷ batches) batch =
     ap (λ (o : Option (List ℕ)). option_or o (rules_in b)) (last_rules-push batches batch) ∙ or_assoc (rules_in batch) (last_rules batches) (rules_in b)
 
 -- a batch of changes more, which tells no rules
-pub TellsRules-more : (left now : List ℕ) (more : List DatedFact) (rules : RulesFact) → recovered now ≡ recovered left ++ spelling more ∷ [] →
+pub TellsRules-more : (left now : List ℕ) (more : List DatedFact) (rules : RulesFact) → recovered now ≡ recovered left ++ batch_spelling more ∷ [] →
     TellsRules left rules → TellsRules now rules
 TellsRules-more left now more rules are tells =
-    (tells.0, ap last_rules are ∙ last_rules-push (recovered left) (spelling more) ∙ tells.1, tells.2)
+    (tells.0, ap last_rules are ∙ last_rules-push (recovered left) (batch_spelling more) ∙ tells.1, tells.2)
 
 -- a batch of rules more
 pub TellsRules-told : (left now : List ℕ) (rules : RulesFact) → RulesFit rules → recovered now ≡ recovered left ++ rules_spelling rules ∷ [] → TellsRules now rules

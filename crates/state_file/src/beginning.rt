@@ -3,7 +3,7 @@
 ghost use Rattle.std.specs.Prelude.{◌≡◌, ◌∷◌, true, IfOk, IfErr, IfSome, IfNone};
 ghost use Rattle.batch_file.specs.Frames.{lists};
 ghost use Rattle.state_file.specs.Knowing.{image_size};
-ghost use Rattle.state_file.specs.Resuming.{Begins, HaveNoImage, RefusesImage};
+ghost use Rattle.state_file.specs.Resuming.{BeginsByBatches, HaveNoImage, RefusesImage};
 ghost use Rattle.state_file.specs.Standing.{begins_image};
 
 use crate::fault::StateFault;
@@ -54,7 +54,7 @@ pub(crate) fn begin<'b, H: HookHost>(
     host: H,
     batches: &'b [Vec<u8>],
 ) -> Result<Beginning<'b, H>, StateFault>
-    ensures begins { IfOk result (λ begun. Begins H.HookHost registry host (lists batches.now) (lists begun.later.now) begun.restored) }
+    ensures begins { IfOk result (λ begun. BeginsByBatches H.HookHost registry host (lists batches.now) (lists begun.later.now) begun.restored) }
     ensures image { IfOk result (λ begun. begun.image ≡ image_size (lists batches.now)) }
     ensures refused { IfErr result (RefusesImage (lists batches.now)) }
 {

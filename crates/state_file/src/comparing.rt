@@ -2,7 +2,7 @@
 
 ghost use Rattle.std.specs.Prelude.{◌≡◌, OnOk, IfErr, map, option_copied};
 ghost use Rattle.image_codec.specs.Facts.{client_fact, rules_fact};
-ghost use Rattle.state_file.specs.Comparing.{AreAsWide, AreNarrower, client_names, moved, narrowed};
+ghost use Rattle.state_file.specs.Comparing.{AreAsWide, AreNarrower, client_names, first_moved, first_narrowed};
 
 use crate::fault::StateFault;
 use image_codec::{ClientRules, Rules};
@@ -10,7 +10,7 @@ use std::alloc::Global;
 
 /// The first of the names that does not have its place now.
 fn moved_scope<'b>(told: &[&'b str], now: &[&str]) -> Option<&'b str>
-    ensures { option_copied result ≡ moved (map (λ s. s.now) told.now) (map (λ s. s.now) now.now) }
+    ensures { option_copied result ≡ first_moved (map (λ s. s.now) told.now) (map (λ s. s.now) now.now) }
 {
     for i in 0..told.len() {
         if i >= now.len() || told[i] != now[i] {
@@ -22,7 +22,7 @@ fn moved_scope<'b>(told: &[&'b str], now: &[&str]) -> Option<&'b str>
 
 /// The first of the clients whose name does not have its place now.
 fn moved_client<'b>(told: &[ClientRules<'b>], now: &[ClientRules]) -> Option<&'b str>
-    ensures { option_copied result ≡ moved (client_names (map client_fact told.now)) (client_names (map client_fact now.now)) }
+    ensures { option_copied result ≡ first_moved (client_names (map client_fact told.now)) (client_names (map client_fact now.now)) }
 {
     for i in 0..told.len() {
         if i >= now.len() || told[i].name != now[i].name {
@@ -34,7 +34,7 @@ fn moved_client<'b>(told: &[ClientRules<'b>], now: &[ClientRules]) -> Option<&'b
 
 /// The first of the clients that may not be allowed now all that it was.
 fn narrowed_client<'b>(told: &[ClientRules<'b>], now: &[ClientRules]) -> Option<&'b str>
-    ensures { option_copied result ≡ narrowed (map client_fact told.now) (map client_fact now.now) }
+    ensures { option_copied result ≡ first_narrowed (map client_fact told.now) (map client_fact now.now) }
 {
     for i in 0..told.len() {
         if i < now.len() && told[i].allowed & now[i].allowed != told[i].allowed {

@@ -1,7 +1,7 @@
 //! Why a server is not started on a state file.
 
 ghost use Rattle.std.specs.Prelude.{◌≡◌, Some};
-ghost use Rattle.state_file.specs.FaultTexts.{of_batch, of_decoding, of_device, of_encoding, of_redoing, of_restoring, state_fault_text};
+ghost use Rattle.state_file.specs.FaultTexts.{of_batch, state_fault_of_decoding, state_fault_of_device, of_encoding, of_redoing, of_restoring, state_fault_text};
 ghost use Rattle.state_file.specs.declared.fault.StateFault.TheVariants.{Device, Memory};
 
 use batch_file::appending::BatchFault;
@@ -89,7 +89,7 @@ impl<T: Drop> From<AllocFailed<T>> for StateFault {
 }
 
 impl From<DecodeFault> for StateFault {
-    ghost from_gives = { λ decoding fault. fault ≡ of_decoding decoding };
+    ghost from_gives = { λ decoding fault. fault ≡ state_fault_of_decoding decoding };
 
     fn from(decoding: DecodeFault) -> StateFault {
         match decoding {
@@ -133,7 +133,7 @@ impl From<RestoreFault> for StateFault {
 }
 
 impl From<DeviceFault> for StateFault {
-    ghost from_gives = { λ device fault. fault ≡ of_device device };
+    ghost from_gives = { λ device fault. fault ≡ state_fault_of_device device };
 
     fn from(device: DeviceFault) -> StateFault {
         match device {

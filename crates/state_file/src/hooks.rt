@@ -1,9 +1,9 @@
 //! The hooks that the changes of a state file set.
 
 ghost use Rattle.std.specs.Prelude.{◌≡◌, ◌↔◌, ◌++◌, ◌∷◌, [], List, IsTrue, IfOk, OnOk, map, option_copied};
-ghost use Rattle.change_codec.specs.Spelling.{DatedFact, HaveSpelling, dated_facts, fact_of, spelling};
+ghost use Rattle.change_codec.specs.Spelling.{DatedFact, HaveSpelling, dated_facts, fact_of, batch_spelling};
 ghost use Rattle.image_codec.specs.Facts.{hook_fact};
-ghost use Rattle.state_file.specs.Hooks.{hooks_behind, hooks_by, named, without_hook};
+ghost use Rattle.state_file.specs.Hooks.{hooks_behind, hooks_by, hook_named, without_hook};
 
 use change_codec::{DatedChange, decode};
 use consent::Change;
@@ -77,7 +77,7 @@ impl SetHooks {
 
     /// The hook of this name.
     pub fn named(&self, name: &str) -> Option<&SetHook>
-        ensures { option_copied result ≡ named name.now self.now }
+        ensures { option_copied result ≡ hook_named name.now self.now }
     {
         self.hooks.iter().find(|hook| name == hook.name.as_str())
     }
@@ -133,7 +133,7 @@ impl SetHooks {
 
     /// Those that are set behind the dated changes that a batch spells.
     pub(crate) fn follow_batch(&mut self, batch: &[u8]) -> Result<(), AllocError>
-        ensures { OnOk result ((facts : List DatedFact) → HaveSpelling facts → batch.now ≡ spelling facts →
+        ensures { OnOk result ((facts : List DatedFact) → HaveSpelling facts → batch.now ≡ batch_spelling facts →
             self.new ≡ hooks_behind self.old facts) }
     {
         let Ok(changes) = decode(self.alloc, batch) else {

@@ -28,7 +28,7 @@ pub struct StateKeeper<D: Device> {
 
 impl<D: Device> Model for StateKeeper<D> {
     ghost use Rattle.std.specs.Prelude.{IsTrue};
-    ghost use Rattle.batch_file.specs.Frames.{IsSettled};
+    ghost use Rattle.batch_file.specs.Frames.{IsOnDisk};
     ghost use Rattle.batch_file.specs.declared.appending.BatchFile.{BatchFile};
     ghost use Rattle.state_file.specs.Knowing.{IsKnown};
 
@@ -37,13 +37,13 @@ impl<D: Device> Model for StateKeeper<D> {
     ghost view = { λ keeper. keeper.file };
 
     ghost invariant = { λ keeper. IsTrue keeper.settled →
-        IsSettled D.seen D.may_leave keeper.file
+        IsOnDisk D.seen D.may_leave keeper.file
         × IsKnown (D.seen keeper.file.device) keeper.rules.items keeper.hooks keeper.image };
 }
 
 impl<D: Device> StateKeeper<D> {
     ghost use Rattle.std.specs.Prelude.{◌≡◌, OnOk, OnErr};
-    ghost use Rattle.batch_file.specs.Frames.{IsSettled};
+    ghost use Rattle.batch_file.specs.Frames.{IsOnDisk};
     ghost use Rattle.change_codec.specs.Keeping.{KeepsEach, KeepsNone};
     ghost use Rattle.state_file.specs.Knowing.{IsKnown, file_crashes};
     ghost use Rattle.state_file.specs.Telling.{KeepRules};
@@ -56,7 +56,7 @@ impl<D: Device> StateKeeper<D> {
         hooks: SetHooks,
         image: usize,
     ) -> StateKeeper<D>
-        requires settled { IsSettled D.seen D.may_leave file }
+        requires settled { IsOnDisk D.seen D.may_leave file }
         requires known { IsKnown (D.seen file.device) rules.items hooks image }
         ensures { result ≡ file }
     {

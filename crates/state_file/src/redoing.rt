@@ -3,7 +3,7 @@
 ghost use Rattle.std.specs.Prelude.{OnOk, IfErr, [], ◌∷◌};
 ghost use Rattle.batch_file.specs.Frames.{lists};
 ghost use Rattle.change_codec.specs.Spelling.{dated_facts};
-ghost use Rattle.state_file.specs.Resuming.{IsOfChanges, Redoes, RedoesBatches};
+ghost use Rattle.state_file.specs.Resuming.{IsOfChanges, RedoesDated, RedoesBatches};
 
 use crate::fault::StateFault;
 use crate::restored::Restored;
@@ -17,7 +17,7 @@ fn redo_each<H: HookHost>(
     restored: &mut Restored<H>,
     changes: &[DatedChange],
 ) -> Result<(), RedoFault>
-    ensures { OnOk result (Redoes H.HookHost restored.old (dated_facts changes.now) restored.new) }
+    ensures { OnOk result (RedoesDated H.HookHost restored.old (dated_facts changes.now) restored.new) }
 {
     for dated in changes {
         restored.redo(dated)?;

@@ -8,8 +8,8 @@ ghost use Rattle.endpoints.specs.Noting.{with_notes};
 ghost use Rattle.endpoints.specs.Redo.{RefusesRedo};
 ghost use Rattle.endpoints.specs.Server.{Notes};
 ghost use Rattle.image_codec.specs.Facts.{hook_fact};
-ghost use Rattle.state_file.specs.Hooks.{named};
-ghost use Rattle.state_file.specs.Resuming.{Fits, Redoes, RefusesHook, RefusesHooks, Sets};
+ghost use Rattle.state_file.specs.Hooks.{hook_named};
+ghost use Rattle.state_file.specs.Resuming.{FitsRestored, RedoesDated, RefusesSetting, RefusesSettings, Sets};
 
 use crate::fault::StateFault;
 use crate::hooks::SetHooks;
@@ -34,7 +34,7 @@ pub struct Restored<H> {
 impl<H: HookHost> Restored<H> {
     /// A server under the rules, to which nothing has happened.
     pub(crate) fn new(alloc: Global, registry: Registry, host: H) -> Restored<H>
-        ensures fits { Fits H.HookHost result registry host [] }
+        ensures fits { FitsRestored H.HookHost result registry host [] }
         ensures notes { Notes result.server None [] }
     {
         Restored {
@@ -46,7 +46,7 @@ impl<H: HookHost> Restored<H> {
 
     /// Makes a change again.
     pub(crate) fn redo(&mut self, dated: &DatedChange<'_>) -> Result<(), RedoFault>
-        ensures redone { OnOk result (Redoes H.HookHost self.old (dated_fact dated.now ∷ []) self.new) }
+        ensures redone { OnOk result (RedoesDated H.HookHost self.old (dated_fact dated.now ∷ []) self.new) }
         ensures noted { OnOk result (self.new.server.unkept ≡ with_notes self.old.server.unkept dated.now.moment (One dated.now.change)) }
         ensures moment { OnOk result (self.new.moment ≡ dated.now.moment) }
         ensures refused { IfErr result (RefusesRedo H.HookHost self.old.server dated.now.moment dated.now.change) }
@@ -62,8 +62,8 @@ impl<H: HookHost> Restored<H> {
     // Whether the hook is set. Where one of its name is set that is another, it is refused.
     fn has(&self, alloc: Global, hook: &KeptHook<'_>) -> Result<bool, StateFault>
         ensures there { IfOk result (λ there.
-            named hook.now.name.now self.now.hooks ≡ (if there then Some (hook_fact hook.now) else None)) }
-        ensures refused { IfErr result (RefusesHook H.HookHost self.now (hook_fact hook.now)) }
+            hook_named hook.now.name.now self.now.hooks ≡ (if there then Some (hook_fact hook.now) else None)) }
+        ensures refused { IfErr result (RefusesSetting H.HookHost self.now (hook_fact hook.now)) }
     {
         match self.hooks.named(hook.name) {
             None => Ok(false),
@@ -78,7 +78,7 @@ impl<H: HookHost> Restored<H> {
 
     // Sets a hook of a new name, at the moment of the last change.
     fn install(&mut self, hook: &KeptHook<'_>) -> Result<(), RedoFault>
-        requires new { named hook.now.name.now self.old.hooks ≡ None }
+        requires new { hook_named hook.now.name.now self.old.hooks ≡ None }
         ensures set { OnOk result (Sets H.HookHost self.old (hook_fact hook.now ∷ []) self.new) }
         ensures moment { OnOk result (self.new.moment ≡ self.old.moment) }
         ensures refused { IfErr result (RefusesRedo H.HookHost self.old.server self.old.moment
@@ -99,7 +99,7 @@ impl<H: HookHost> Restored<H> {
     pub fn set_hook(&mut self, alloc: Global, hook: &KeptHook<'_>) -> Result<(), StateFault>
         ensures set { OnOk result (Sets H.HookHost self.old (hook_fact hook.now ∷ []) self.new) }
         ensures moment { OnOk result (self.new.moment ≡ self.old.moment) }
-        ensures refused { IfErr result (RefusesHook H.HookHost self.old (hook_fact hook.now)) }
+        ensures refused { IfErr result (RefusesSetting H.HookHost self.old (hook_fact hook.now)) }
     {
         if self.has(alloc, hook)? {
             return Ok(());
@@ -117,7 +117,7 @@ impl<H: HookHost> Restored<H> {
     pub fn set_hooks(&mut self, alloc: Global, hooks: &[KeptHook<'_>]) -> Result<(), StateFault>
         ensures set { OnOk result (Sets H.HookHost self.old (map hook_fact hooks.now) self.new) }
         ensures moment { OnOk result (self.new.moment ≡ self.old.moment) }
-        ensures refused { IfErr result (RefusesHooks H.HookHost self.old (map hook_fact hooks.now)) }
+        ensures refused { IfErr result (RefusesSettings H.HookHost self.old (map hook_fact hooks.now)) }
     {
         for hook in hooks {
             self.set_hook(alloc, hook)?;

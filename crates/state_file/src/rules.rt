@@ -2,7 +2,7 @@
 
 ghost use Rattle.std.specs.Prelude.{◌≡◌, IfOk, IfErr, length, map};
 ghost use Rattle.image_codec.specs.Facts.{client_fact, rules_fact};
-ghost use Rattle.state_file.specs.Telling.{client_of, rules_of};
+ghost use Rattle.state_file.specs.Telling.{client_told, rules_of};
 ghost use Rattle.state_file.specs.Comparing.{IsUntold};
 
 use crate::fault::StateFault;
@@ -28,7 +28,7 @@ fn first_clients(
     count: u32,
 ) -> Result<Vec<ClientRules<'_>>, AllocError>
     requires there { count ≡ length registry.now.clients }
-    ensures { IfOk result (λ clients. map client_fact clients.items ≡ map client_of registry.now.clients) }
+    ensures { IfOk result (λ clients. map client_fact clients.items ≡ map client_told registry.now.clients) }
 {
     let mut clients = Vec::new(alloc);
     for i in 0..count {

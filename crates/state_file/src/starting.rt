@@ -12,7 +12,7 @@ ghost use Rattle.image_keeper.specs.Imaging.{KeepsImage};
 ghost use Rattle.state_file.specs.Hooks.{AreSet, with_hooks};
 ghost use Rattle.state_file.specs.Knowing.{IsLongFile, file_crashes};
 ghost use Rattle.state_file.specs.Renewing.{HasTooMuch, IsOfDisk};
-ghost use Rattle.state_file.specs.Resuming.{AnswersFor, KeepsNoted, OfEach, RefusesResume, RefusesSome, ServesOn};
+ghost use Rattle.state_file.specs.Resuming.{AnswersFor, KeepsNoted, OfEachHistory, RefusesResume, RefusesSome, ServesOn};
 ghost use Rattle.state_file.specs.Standing.{StandsFor};
 ghost use Rattle.state_file.specs.Telling.{KeepRules, LeavesRules, TellsRules, rules_of};
 
@@ -91,15 +91,15 @@ pub fn start_on<D: Device + Drop, H: HookHost>(
     requires same { bytes.now ≡ D.seen device }
     // After a restart, what is read is what is on the disk.
     requires durable { Only (D.seen device) (D.may_leave device) }
-    ensures serves { IfOk result (λ started. OfEach H.HookHost host bytes.now (λ history.
+    ensures serves { IfOk result (λ started. OfEachHistory H.HookHost host bytes.now (λ history.
         ServesOn H.HookHost started registry host (with_hooks started.moment history (map hook_fact hooks.now)))) }
-    ensures hooks { IfOk result (λ started. OfEach H.HookHost host bytes.now (λ history.
+    ensures hooks { IfOk result (λ started. OfEachHistory H.HookHost host bytes.now (λ history.
         AreSet (map hook_fact hooks.now) (with_hooks started.moment history (map hook_fact hooks.now)))) }
     // All that a crash may leave from then on stands for the history with these hooks.
-    ensures held { IfOk result (λ started. OfEach H.HookHost host bytes.now (λ history.
+    ensures held { IfOk result (λ started. OfEachHistory H.HookHost host bytes.now (λ history.
         Holds (file_crashes D.Device) started.keeper (with_hooks started.moment history (map hook_fact hooks.now)))) }
     // What a crash meanwhile left stands for the history with these hooks, or without them.
-    ensures any_moment { IfOk result (λ started. OfEach H.HookHost host bytes.now (λ history. LeavesOnly D.moment D.left_since device started.keeper.device
+    ensures any_moment { IfOk result (λ started. OfEachHistory H.HookHost host bytes.now (λ history. LeavesOnly D.moment D.left_since device started.keeper.device
         (λ left. StandsFor left history ⊎ StandsFor left (with_hooks started.moment history (map hook_fact hooks.now))))) }
     // The registry's rules are as wide as those that the file told.
     ensures wider { IfOk result (λ _. (old : RegistryRecord) → TellsRules bytes.now (rules_of old) → IsWider old registry) }

@@ -2,7 +2,7 @@
 
 ghost use Rattle.std.specs.Prelude.{◌++◌, ◌∷◌, [], ◌≡◌, ◌↔◌, Some, true, false, IsTrue, IfOk, IfErr, OnOk, List, is_some, option_copied};
 ghost use Rattle.batch_file.specs.Crashes.{LeavesOnly};
-ghost use Rattle.batch_file.specs.Frames.{IsSettled, lists, recovered};
+ghost use Rattle.batch_file.specs.Frames.{IsOnDisk, lists, recovered};
 ghost use Rattle.consent.specs.History.{Event};
 ghost use Rattle.image_codec.specs.Facts.{RulesFact, rules_fact};
 ghost use Rattle.image_codec.specs.Spelling.{RulesCount, RulesFit, rules_spelling};
@@ -166,9 +166,9 @@ pub(crate) fn tell<D: Device>(
     file: &mut BatchFile<D>,
     rules: &Spelled,
 ) -> Result<(), StateFault>
-    requires settled { IsSettled D.seen D.may_leave file.old }
+    requires settled { IsOnDisk D.seen D.may_leave file.old }
     requires of_rules { (told : RulesFact) × (rules.now.bytes.items ≡ rules_spelling told) }
-    ensures settled { OnOk result (IsSettled D.seen D.may_leave file.new) }
+    ensures settled { OnOk result (IsOnDisk D.seen D.may_leave file.new) }
     ensures told { OnOk result (rules.now.told ≡ false → last_rules (recovered (D.seen file.new.device)) ≡ Some rules.now.bytes.items) }
     ensures added { OnOk result (rules.now.told ≡ false →
         recovered (D.seen file.new.device) ≡ recovered (D.seen file.old.device) ++ rules.now.bytes.items ∷ []) }

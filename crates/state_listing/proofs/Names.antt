@@ -4,29 +4,29 @@ use Rattle.std.proofs.Math.Seq.{drop-cons}
 use Rattle.std.proofs.lemmas.List.{append-nil, drop_all, drop-map}
 use Rattle.std.proofs.lemmas.Bool.{eq-eqb, ne_eqb}
 use Rattle.json.specs.Token.{string}
-use Rattle.params.specs.Scope.{names_of}
+use Rattle.params.specs.Scope.{names_in_mask}
 
 -- one more name, where the bit is set
 pub names_odd : (done names whole : List (List ℕ)) (i left : ℕ) (name : List ℕ) → drop i names ≡ name ∷ drop (i + 1) names → left % 2 ≡ 1
-    → done ++ names_of (drop i names) left ≡ whole → (done ++ name ∷ []) ++ names_of (drop (i + 1) names) (left / 2) ≡ whole
+    → done ++ names_in_mask (drop i names) left ≡ whole → (done ++ name ∷ []) ++ names_in_mask (drop (i + 1) names) (left / 2) ≡ whole
 names_odd done names whole i left name at odd so_far =
-    let here : names_of (drop i names) left ≡ name ∷ names_of (drop (i + 1) names) (left / 2) =
-    ap (λ l. names_of l left) at
-    ∙ ap (λ b. if b then name ∷ names_of (drop (i + 1) names) (left / 2) else names_of (drop (i + 1) names) (left / 2)) (eq-eqb (left % 2) 1 odd) in
-    append_assoc done (name ∷ []) (names_of (drop (i + 1) names) (left / 2)) ∙ ap (λ l. done ++ l) (sym here) ∙ so_far
+    let here : names_in_mask (drop i names) left ≡ name ∷ names_in_mask (drop (i + 1) names) (left / 2) =
+    ap (λ l. names_in_mask l left) at
+    ∙ ap (λ b. if b then name ∷ names_in_mask (drop (i + 1) names) (left / 2) else names_in_mask (drop (i + 1) names) (left / 2)) (eq-eqb (left % 2) 1 odd) in
+    append_assoc done (name ∷ []) (names_in_mask (drop (i + 1) names) (left / 2)) ∙ ap (λ l. done ++ l) (sym here) ∙ so_far
 
 -- and where it is not
 pub names_even : (done names whole : List (List ℕ)) (i left : ℕ) (name : List ℕ) → drop i names ≡ name ∷ drop (i + 1) names → left % 2 ≢ 1
-    → done ++ names_of (drop i names) left ≡ whole → done ++ names_of (drop (i + 1) names) (left / 2) ≡ whole
+    → done ++ names_in_mask (drop i names) left ≡ whole → done ++ names_in_mask (drop (i + 1) names) (left / 2) ≡ whole
 names_even done names whole i left name at even so_far =
-    let here : names_of (drop i names) left ≡ names_of (drop (i + 1) names) (left / 2) =
-    ap (λ l. names_of l left) at
-    ∙ ap (λ b. if b then name ∷ names_of (drop (i + 1) names) (left / 2) else names_of (drop (i + 1) names) (left / 2)) (ne_eqb (left % 2) 1 even) in
+    let here : names_in_mask (drop i names) left ≡ names_in_mask (drop (i + 1) names) (left / 2) =
+    ap (λ l. names_in_mask l left) at
+    ∙ ap (λ b. if b then name ∷ names_in_mask (drop (i + 1) names) (left / 2) else names_in_mask (drop (i + 1) names) (left / 2)) (ne_eqb (left % 2) 1 even) in
     ap (λ l. done ++ l) (sym here) ∙ so_far
 
 -- past the last one they are all there
-pub names_end : (done names whole : List (List ℕ)) (i left : ℕ) → length names ≤ i → done ++ names_of (drop i names) left ≡ whole → done ≡ whole
-names_end done names whole i left past is = sym (append-nil done) ∙ ap (λ l. done ++ names_of l left) (sym (drop_all i names past)) ∙ is
+pub names_end : (done names whole : List (List ℕ)) (i left : ℕ) → length names ≤ i → done ++ names_in_mask (drop i names) left ≡ whole → done ≡ whole
+names_end done names whole i left past is = sym (append-nil done) ∙ ap (λ l. done ++ names_in_mask l left) (sym (drop_all i names past)) ∙ is
 
 -- the next name of a list of texts
 abbrev pub no_text : Bor (List ℕ)

@@ -7,7 +7,7 @@ use Rattle.hex.specs.Hex.{encode_lower}
 use Rattle.image_codec.specs.Facts.{ClientFact, Code, HookFact, ImageFact, KindFact, RecordFact, RulesFact, Token as TokenFact}
 use Rattle.json.specs.Print.{print}
 use Rattle.json.specs.Token.{Token, begin_array, begin_object, boolean, end_array, end_object, key, number, string}
-use Rattle.params.specs.Scope.{names_of}
+use Rattle.params.specs.Scope.{names_in_mask}
 use Rattle.state_listing.specs.declared.facts.FileFacts.{FileFacts}
 
 -- MEMBERS
@@ -17,37 +17,37 @@ abbrev pub opened : List ℕ → List Token
 opened kind = begin_object ∷ key (codes "kind") ∷ string kind ∷ []
 
 -- the object of these tokens, closed, in a line
-abbrev pub line_text : List Token → List ℕ
-line_text tokens = print (tokens ++ end_object ∷ []) ++ codes "\n"
+abbrev pub object_line : List Token → List ℕ
+object_line tokens = print (tokens ++ end_object ∷ []) ++ codes "\n"
 
-abbrev pub text_member : List ℕ → List ℕ → List Token
-text_member name text = key name ∷ string text ∷ []
+abbrev pub text_tokens : List ℕ → List ℕ → List Token
+text_tokens name text = key name ∷ string text ∷ []
 
-abbrev pub number_member : List ℕ → ℕ → List Token
-number_member name n = key name ∷ number (decimal n) ∷ []
+abbrev pub number_tokens : List ℕ → ℕ → List Token
+number_tokens name n = key name ∷ number (decimal n) ∷ []
 
 abbrev pub boolean_member : List ℕ → Bool → List Token
 boolean_member name b = key name ∷ boolean b ∷ []
 
 -- the name of the client with the number, if there is one
-abbrev pub name_of : List ClientFact → ℕ → Option (List ℕ)
-name_of clients client = if client == 0 then None else option_map (λ c. c.name) (slice_get clients (client - 1))
+abbrev pub client_name : List ClientFact → ℕ → Option (List ℕ)
+client_name clients client = if client == 0 then None else option_map (λ c. c.name) (slice_get clients (client - 1))
 
 -- the client by its name, or by its number where it has none
 abbrev pub client_by : Option (List ℕ) → ℕ → List Token
-client_by (Some name) client = text_member (codes "client") name
-client_by None client = number_member (codes "client") client
+client_by (Some name) client = text_tokens (codes "client") name
+client_by None client = number_tokens (codes "client") client
 
 abbrev pub client_members : RulesFact → ℕ → List Token
-client_members rules client = client_by (name_of rules.clients client) client
+client_members rules client = client_by (client_name rules.clients client) client
 
 -- the names of the scope, in the order of the rules
 abbrev pub scope_members : RulesFact → ℕ → List Token
-scope_members rules scope = key (codes "scope") ∷ begin_array ∷ map string (names_of rules.scopes scope) ++ end_array ∷ []
+scope_members rules scope = key (codes "scope") ∷ begin_array ∷ map string (names_in_mask rules.scopes scope) ++ end_array ∷ []
 
 -- an owner; a family of the client's own has none
 abbrev pub owner_members : ℕ → List Token
-owner_members owner = if owner == 0 then [] else number_member (codes "owner") owner
+owner_members owner = if owner == 0 then [] else number_tokens (codes "owner") owner
 
 -- the scope of a family's code, if one opened it
 abbrev pub code_scope_members : RulesFact → Option ℕ → List Token
@@ -56,23 +56,23 @@ code_scope_members rules None = []
 
 -- how many seconds lie between the last change and now, where that is known
 abbrev pub age_members : ℕ → Option ℕ → List Token
-age_members last (Some now) = number_member (codes "age") (now - last)
+age_members last (Some now) = number_tokens (codes "age") (now - last)
 age_members last None = []
 
 -- LINES
 
 abbrev pub consent_line : RulesFact → KeptConsent → List ℕ
 consent_line rules c =
-    line_text (opened (codes "consent")
-    ++ number_member (codes "owner") c.owner
+    object_line (opened (codes "consent")
+    ++ number_tokens (codes "owner") c.owner
     ++ client_members rules c.client
     ++ scope_members rules c.mask)
 
 -- the family of a code or token
 abbrev pub family_line : RulesFact → RecordFact → List ℕ
 family_line rules r =
-    line_text (opened (codes "family")
-    ++ number_member (codes "family") r.family
+    object_line (opened (codes "family")
+    ++ number_tokens (codes "family") r.family
     ++ client_members rules r.client
     ++ owner_members r.owner
     ++ code_scope_members rules r.code_scope
@@ -86,29 +86,29 @@ kind_name (TokenFact Refresh) = codes "refresh"
 -- a code or token; of its digest the first four bytes are told
 abbrev pub token_line : RulesFact → RecordFact → List ℕ
 token_line rules r =
-    line_text (opened (kind_name r.kind)
-    ++ text_member (codes "digest") (encode_lower (take 4 r.digest))
-    ++ number_member (codes "family") r.family
+    object_line (opened (kind_name r.kind)
+    ++ text_tokens (codes "digest") (encode_lower (take 4 r.digest))
+    ++ number_tokens (codes "family") r.family
     ++ scope_members rules r.scope
-    ++ number_member (codes "moment") r.moment
-    ++ number_member (codes "life") r.life
+    ++ number_tokens (codes "moment") r.moment
+    ++ number_tokens (codes "life") r.life
     ++ boolean_member (codes "spent") r.spent)
 
 abbrev pub hook_line : HookFact → List ℕ
 hook_line h =
-    line_text (opened (codes "hook")
-    ++ text_member (codes "name") h.name
-    ++ number_member (codes "version") h.version
-    ++ number_member (codes "bytes") (length h.code))
+    object_line (opened (codes "hook")
+    ++ text_tokens (codes "name") h.name
+    ++ number_tokens (codes "version") h.version
+    ++ number_tokens (codes "bytes") (length h.code))
 
 -- the file as a whole; `last` is the greatest moment that it tells
 abbrev pub file_line : ℕ → FileFacts → List ℕ
 file_line last file =
-    line_text (opened (codes "file")
-    ++ number_member (codes "bytes") file.bytes
-    ++ number_member (codes "batches") file.batches
-    ++ number_member (codes "torn") file.torn
-    ++ number_member (codes "last") last
+    object_line (opened (codes "file")
+    ++ number_tokens (codes "bytes") file.bytes
+    ++ number_tokens (codes "batches") file.batches
+    ++ number_tokens (codes "torn") file.torn
+    ++ number_tokens (codes "last") last
     ++ age_members last file.looked_at)
 
 -- ALL LINES

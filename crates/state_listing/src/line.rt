@@ -2,7 +2,7 @@
 
 ghost use Rattle.std.specs.Prelude.{◌≡◌, [], ◌∷◌, ◌++◌, IfOk, OnOk, codes, decimal, map};
 ghost use Rattle.json.specs.Token.{begin_array, end_array, key, string, number, boolean};
-ghost use Rattle.state_listing.specs.Lines.{line_text, opened};
+ghost use Rattle.state_listing.specs.Lines.{object_line, opened};
 
 use json::Writer;
 use std::alloc::{AllocError, Global};
@@ -64,7 +64,7 @@ impl Line {
 
     // Puts the line behind others.
     pub(crate) fn end(self, lines: &mut Vec<u8>) -> Result<(), AllocError>
-        ensures { OnOk result (lines.new.items ≡ lines.old.items ++ line_text self.json.tokens) }
+        ensures { OnOk result (lines.new.items ≡ lines.old.items ++ object_line self.json.tokens) }
     {
         let mut json = self.json;
         json.end_object()?;

@@ -3,9 +3,9 @@
 ghost use Rattle.std.specs.Prelude.{◌≡◌, ◌++◌, ◌∷◌, [], OnOk, IfOk, map, option_copied};
 ghost use Rattle.consent.specs.declared.kept_consent.KeptConsent.{KeptConsent};
 ghost use Rattle.image_codec.specs.Facts.{hook_fact, kind_fact, record_fact, rules_fact};
-ghost use Rattle.params.specs.Scope.{names_of};
+ghost use Rattle.params.specs.Scope.{names_in_mask};
 ghost use Rattle.json.specs.Token.{key};
-ghost use Rattle.state_listing.specs.Lines.{client_members, code_scope_members, consent_line, family_line, file_line, hook_line, kind_name, name_of, owner_members, age_members, scope_members, token_line};
+ghost use Rattle.state_listing.specs.Lines.{client_members, code_scope_members, consent_line, family_line, file_line, hook_line, kind_name, client_name, owner_members, age_members, scope_members, token_line};
 
 use crate::facts::FileFacts;
 use crate::line::Line;
@@ -15,8 +15,8 @@ use std::alloc::{AllocError, Global};
 use token_store::{KeptKind, KeptRecord};
 
 // The name of the client, if the rules have one.
-fn name_of<'a>(rules: &Rules<'a>, client: ClientNo) -> Option<&'a str>
-    ensures { option_copied result ≡ name_of (rules_fact rules.now).clients client }
+fn client_name<'a>(rules: &Rules<'a>, client: ClientNo) -> Option<&'a str>
+    ensures { option_copied result ≡ client_name (rules_fact rules.now).clients client }
 {
     let place = client.get() as usize - 1;
     if place < rules.clients.len() {
@@ -27,7 +27,7 @@ fn name_of<'a>(rules: &Rules<'a>, client: ClientNo) -> Option<&'a str>
 
 // The names of a scope, in the order of the rules.
 fn names_of<'a>(alloc: Global, rules: &Rules<'a>, scope: u64) -> Result<Vec<&'a str>, AllocError>
-    ensures { IfOk result (λ names. map (λ s. s.now) names.items ≡ names_of (rules_fact rules.now).scopes scope) }
+    ensures { IfOk result (λ names. map (λ s. s.now) names.items ≡ names_in_mask (rules_fact rules.now).scopes scope) }
 {
     let mut names = Vec::new(alloc);
     let mut left = scope;
@@ -44,7 +44,7 @@ fn names_of<'a>(alloc: Global, rules: &Rules<'a>, scope: u64) -> Result<Vec<&'a 
 fn push_client(line: &mut Line, rules: &Rules<'_>, client: ClientNo) -> Result<(), AllocError>
     ensures { OnOk result (line.new.json.tokens ≡ line.old.json.tokens ++ client_members (rules_fact rules.now) client) }
 {
-    match name_of(rules, client) {
+    match client_name(rules, client) {
         Some(name) => line.text("client", name),
         None => line.number("client", u64::from(client.get())),
     }

@@ -12,7 +12,7 @@ use Rattle.messages.specs.declared.request.Draws.{Draws}
 use Rattle.answers.specs.Outcomes.{Outcome, need, refuse, unless_taken}
 use Rattle.answers.specs.Requesters.{Parameters, KnownClient, scope_within}
 use Rattle.answers.specs.Replies.{access_reply}
-use Rattle.token_endpoint.specs.Grants.{ask_for, left_of, access_issued}
+use Rattle.token_endpoint.specs.Grants.{ask_for, left_by_host, access_issued}
 
 -- 4. by what the host leaves: a token in a family of its own
 abbrev pub granted : RegistryRecord → List Event → ℕ → Draws → ℕ → Narrowed → Outcome
@@ -32,4 +32,4 @@ credentials_ask rules m known scope = ask_for rules kind.ClientCredentials m kno
 abbrev pub client_credentials : RegistryRecord → List Event → (Ask → Narrowed) → ℕ → Draws → Parameters → KnownClient → Outcome
 client_credentials rules history answer m draws params known =
     need (scope_within rules known.client.allowed params) (refuse InvalidScope) (λ scope.
-    granted rules history m draws known.number (left_of answer (credentials_ask rules m known scope)))
+    granted rules history m draws known.number (left_by_host answer (credentials_ask rules m known scope)))

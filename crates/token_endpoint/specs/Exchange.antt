@@ -1,7 +1,7 @@
 -- POST /token with grant_type authorization_code (RFC 6749, section 4.1.3; RFC 7636, section 4.6)
 use Rattle.std.specs.Prelude.{ℕ, List, [], ◌∷◌, Bool, true, false, not, codes, bytes_eq}
 use Rattle.sha2.specs.Sha256.{sha256}
-use Rattle.params.specs.Form.{value_of}
+use Rattle.params.specs.Form.{value_sent}
 use Rattle.clients.specs.RegistryRecord.{RegistryRecord}
 use Rattle.clients.specs.ClientRecord.{ClientRecord}
 use Rattle.clients.specs.Grants.{has_grant}
@@ -23,7 +23,7 @@ use Rattle.pkce.specs.Proof.{proves}
 use Rattle.answers.specs.Texts.{digest_told}
 use Rattle.answers.specs.Tokens.{code_of_client}
 use Rattle.answers.specs.Replies.{access_reply, both_reply}
-use Rattle.token_endpoint.specs.Grants.{ask_for, left_of, access_issued, refresh_issued, both_digests}
+use Rattle.token_endpoint.specs.Grants.{ask_for, left_by_host, access_issued, refresh_issued, both_digests}
 
 -- invalid_grant, and the family of the code or token ends with it
 abbrev pub ends_family : Grant → Outcome
@@ -63,8 +63,8 @@ exchange_ask rules history m client code =
     ask_for rules Code m code.client client code.owner code.scope (consented_scope history code.owner code.client)
 
 -- 5 and 6, of an unexpired code of the client, and then the host's
-abbrev pub checked : List Event → ℕ → List ℕ → List ℕ → List ℕ → (Grant → Outcome) → Grant → Outcome
-checked history m uri verifier digest next code =
+abbrev pub code_checked : List Event → ℕ → List ℕ → List ℕ → List ℕ → (Grant → Outcome) → Grant → Outcome
+code_checked history m uri verifier digest next code =
     point (is_spent history digest m) (ends_family code)
     (point (has_ended history code.family) (refuse InvalidGrant)
     (point (not (bytes_eq uri code.redirect)) (refuse InvalidGrant)
@@ -74,18 +74,18 @@ checked history m uri verifier digest next code =
 -- 4 to 6
 abbrev pub code_points : List Event → ℕ → ℕ → List ℕ → List ℕ → List ℕ → (Grant → Outcome) → Outcome
 code_points history m number uri verifier digest next =
-    need (code_of_client history m number digest) (refuse InvalidGrant) (checked history m uri verifier digest next)
+    need (code_of_client history m number digest) (refuse InvalidGrant) (code_checked history m uri verifier digest next)
 
 -- 7. the host decides
 abbrev pub exchange_code : RegistryRecord → List Event → (Ask → Narrowed) → ℕ → Draws → ClientRecord → List ℕ → Grant → Outcome
 exchange_code rules history answer m draws client digest code =
-    exchanged rules history m draws client digest code (left_of answer (exchange_ask rules history m client code))
+    exchanged rules history m draws client digest code (left_by_host answer (exchange_ask rules history m client code))
 
 -- 3 to 7
 abbrev pub exchange : RegistryRecord → List Event → (Ask → Narrowed) → ℕ → Draws → Parameters → KnownClient → Outcome
 exchange rules history answer m draws params known =
-    need (value_of (codes "code") params) (refuse InvalidRequest) (λ text.
-    need (value_of (codes "redirect_uri") params) (refuse InvalidRequest) (λ uri.
-    need (value_of (codes "code_verifier") params) (refuse InvalidRequest) (λ verifier.
+    need (value_sent (codes "code") params) (refuse InvalidRequest) (λ text.
+    need (value_sent (codes "redirect_uri") params) (refuse InvalidRequest) (λ uri.
+    need (value_sent (codes "code_verifier") params) (refuse InvalidRequest) (λ verifier.
     need (digest_told text) (refuse InvalidGrant) (λ digest.
     code_points history m known.number uri verifier digest (exchange_code rules history answer m draws known.client digest)))))

@@ -29,8 +29,8 @@ ask_for rules kind m number client owner scope consented = record {
 }
 
 -- what the host's answer leaves of an ask
-abbrev pub left_of : (Ask → Narrowed) → Ask → Narrowed
-left_of answer ask = met_with ask (answer ask)
+abbrev pub left_by_host : (Ask → Narrowed) → Ask → Narrowed
+left_by_host answer ask = met_with ask (answer ask)
 
 -- a token of the draw is issued
 abbrev pub access_issued : ℕ → ℕ → ℕ → List ℕ → ℕ → ℕ → Change

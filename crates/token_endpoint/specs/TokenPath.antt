@@ -1,6 +1,6 @@
 -- POST /token (RFC 6749, section 3.2)
 use Rattle.std.specs.Prelude.{ℕ, List, not, codes}
-use Rattle.params.specs.Form.{value_of}
+use Rattle.params.specs.Form.{value_sent}
 use Rattle.clients.specs.RegistryRecord.{RegistryRecord}
 use Rattle.clients.specs.ClientRecord.{ClientRecord}
 use Rattle.clients.specs.Grants.{grant_named, has_grant}
@@ -28,7 +28,7 @@ grant_points ClientCredentials rules history answer m draws params known =
 -- 2. the grant type, which the client may use
 abbrev pub type_points : Parameters → ClientRecord → (GrantType → Outcome) → Outcome
 type_points params client next =
-    need (value_of (codes "grant_type") params) (refuse InvalidRequest) (λ name.
+    need (value_sent (codes "grant_type") params) (refuse InvalidRequest) (λ name.
     need (grant_named name) (refuse UnsupportedGrantType) (λ grant.
     point (not (has_grant grant client.grants)) (refuse UnauthorizedClient) (next grant)))
 

@@ -1,6 +1,6 @@
 //! POST /token with grant_type client_credentials (RFC 6749, section 4.4).
 ghost use Rattle.std.specs.Prelude.{Ok, IfOk};
-ghost use Rattle.answers.specs.Scene.{known_of};
+ghost use Rattle.answers.specs.Setting.{known_of};
 ghost use Rattle.answers.specs.Short.{IsShortAnswer};
 ghost use Rattle.answers.specs.Told.{DecidesBy};
 ghost use Rattle.token_endpoint.specs.Points.{credentials_in, granted_in};

@@ -1,7 +1,7 @@
 //! What a host is asked, and the tokens that are issued.
 ghost use Rattle.std.specs.Prelude.{◌≡◌, List, Ok};
 ghost use Rattle.consent.specs.History.{Event};
-ghost use Rattle.answers.specs.Scene.{Shows, known_of};
+ghost use Rattle.answers.specs.Setting.{Shows, known_of};
 ghost use Rattle.answers.specs.Short.{IsShortAnswer};
 ghost use Rattle.answers.specs.Told.{DecidesOf};
 ghost use Rattle.token_endpoint.specs.Issuing.{access_token, refresh_token};

@@ -2,7 +2,7 @@
 ghost use Rattle.std.specs.Prelude.{◌≡◌, List, IfSome, IfOk};
 ghost use Rattle.consent.specs.History.{Event};
 ghost use Rattle.answers.specs.Found.{IsFound};
-ghost use Rattle.answers.specs.Scene.{Finds, Shows, known_of};
+ghost use Rattle.answers.specs.Setting.{Finds, Shows, known_of};
 ghost use Rattle.answers.specs.Short.{IsShortAnswer};
 ghost use Rattle.answers.specs.Told.{DecidesBy, DecidesOf};
 ghost use Rattle.answers.specs.Tokens.{refresh_of_client};

@@ -2,9 +2,9 @@
 ghost use Rattle.std.specs.Prelude.{IfOk};
 ghost use Rattle.clients.specs.declared.grant.GrantType.{GrantType};
 ghost use Rattle.messages.specs.Asked.{asked_of};
-ghost use Rattle.answers.specs.Halts.{Leads};
+ghost use Rattle.answers.specs.Halts.{LeadsOrHalts};
 ghost use Rattle.answers.specs.Outcomes.{Outcome};
-ghost use Rattle.answers.specs.Scene.{known_of};
+ghost use Rattle.answers.specs.Setting.{known_of};
 ghost use Rattle.answers.specs.Short.{IsShortAnswer};
 ghost use Rattle.answers.specs.Told.{DecidesBy};
 ghost use Rattle.token_endpoint.specs.TokenPath.{type_points};
@@ -22,7 +22,7 @@ use std::alloc::Global;
 
 // The grant type, which the client may use.
 fn grant_type(params: &Params, client: &Client) -> Result<GrantType, Halt>
-    ensures { (next : GrantType → Outcome) → Leads result (type_points params.now client.now next) next }
+    ensures { (next : GrantType → Outcome) → LeadsOrHalts result (type_points params.now client.now next) next }
 {
     let Some(name) = params.get("grant_type") else {
         return Err(Halt::Refuse(ErrorName::InvalidRequest));

@@ -13,7 +13,7 @@ use Rattle.consent.specs.Growth.{may_end}
 use Rattle.consent.specs.GrowthLaws.{grant_at-push, unexpired_count-push, is_spent-push_other, is_spent-unnamed, has_ended-push_other}
 use Rattle.consent.specs.HistoryLaws.{grant_at-placed}
 use Rattle.token_store.specs.Kept.{Kept, kept_at, kept_unexpired}
-use Rattle.token_store.specs.Fits.{FitsBy, seen, named}
+use Rattle.token_store.specs.Fits.{FitsBy, to_keep, with_family_number}
 
 -- one more is kept: what look-ups find and what counts say
 pub record KeepsOneMore (kept kept' : List Kept) (moment : ℕ) (k : Kept) : Type 0 where
@@ -37,13 +37,13 @@ le_self n = omega arith
 
 -- where the history names nothing, nothing is kept
 pub unkept : (kept : List Kept) (history : List Event) (number : ℕ → ℕ) (moment : ℕ) (digest : List ℕ) → FitsBy kept history moment number → grant_at history digest moment ≡ None → kept_at kept digest moment ≡ None
-unkept kept history number moment digest fits none = fits.answers digest moment (le_self moment) ∙ ap (option_map (seen history number digest moment)) none
+unkept kept history number moment digest fits none = fits.answers digest moment (le_self moment) ∙ ap (option_map (to_keep history number digest moment)) none
 
 -- and the other way round
 pub untaken : (kept : List Kept) (history : List Event) (number : ℕ → ℕ) (moment : ℕ) (digest : List ℕ) → FitsBy kept history moment number → kept_at kept digest moment ≡ None → grant_at history digest moment ≡ None
 untaken kept history number moment digest fits none = none_step (grant_at history digest moment) (sym (fits.answers digest moment (le_self moment)) ∙ none)
   where
-    none_step : (o : Option Grant) → option_map (seen history number digest moment) o ≡ None → o ≡ None
+    none_step : (o : Option Grant) → option_map (to_keep history number digest moment) o ≡ None → o ≡ None
     none_step None h = refl
     none_step (Some g) h = cc
 
@@ -83,16 +83,16 @@ abbrev pub new_kept : List Event → (ℕ → ℕ) → Grant → Kept
 new_kept history number g = record { grant = record g { family = number g.family }; terms = code_terms history g.family; spent = false; ended = has_ended history g.family }
 
 seen_older : (history : List Event) (number : ℕ → ℕ) (moment : ℕ) (e : Event) (g h : Grant) (d : List ℕ) (t : ℕ) → Gives history number moment e g → grant_at history d t ≡ Some h →
-    seen history number d t h ≡ seen (history ++ e ∷ []) number d t h
+    to_keep history number d t h ≡ to_keep (history ++ e ∷ []) number d t h
 seen_older history number moment e g h d t gives at =
-    ap (λ x. record (seen history number d t h) { terms = x }) (sym (gives.same_terms d t h at))
-    ∙ ap (λ x. record (seen history number d t h) { terms = code_terms (history ++ e ∷ []) h.family; spent = x }) (sym (is_spent-push_other history e d t (gives.spends_none d)))
-    ∙ ap (λ x. record (seen (history ++ e ∷ []) number d t h) { ended = x }) (sym (has_ended-push_other history e h.family gives.ends_none))
+    ap (λ x. record (to_keep history number d t h) { terms = x }) (sym (gives.same_terms d t h at))
+    ∙ ap (λ x. record (to_keep history number d t h) { terms = code_terms (history ++ e ∷ []) h.family; spent = x }) (sym (is_spent-push_other history e d t (gives.spends_none d)))
+    ∙ ap (λ x. record (to_keep (history ++ e ∷ []) number d t h) { ended = x }) (sym (has_ended-push_other history e h.family gives.ends_none))
 
 seen_new : (history : List Event) (number : ℕ → ℕ) (moment : ℕ) (e : Event) (g : Grant) (d : List ℕ) (t : ℕ) → Gives history number moment e g → grant_at history d t ≡ None →
-    new_kept (history ++ e ∷ []) number g ≡ seen (history ++ e ∷ []) number d t g
+    new_kept (history ++ e ∷ []) number g ≡ to_keep (history ++ e ∷ []) number d t g
 seen_new history number moment e g d t gives none =
-    ap (λ x. record (seen (history ++ e ∷ []) number d t g) { spent = x })
+    ap (λ x. record (to_keep (history ++ e ∷ []) number d t g) { spent = x })
     (sym (is_spent-push_other history e d t (gives.spends_none d) ∙ is_spent-unnamed history d t none))
 
 -- the store fits the history with the event
@@ -118,16 +118,16 @@ fits_given kept kept' history number moment e g k gives is_kept keeps fits = rec
 }
   where
     given_cases : (d : List ℕ) (t : ℕ) → moment ≤ t → (o : Option Grant) → grant_at history d t ≡ o →
-        option_or (kept_at kept d t) (cond (is_named d t g) (Some (new_kept (history ++ e ∷ []) number g)) None) ≡ option_map (seen (history ++ e ∷ []) number d t) (grant_at (history ++ e ∷ []) d t)
+        option_or (kept_at kept d t) (cond (is_named d t g) (Some (new_kept (history ++ e ∷ []) number g)) None) ≡ option_map (to_keep (history ++ e ∷ []) number d t) (grant_at (history ++ e ∷ []) d t)
     given_cases d t le (Some h) at =
-        ap (λ o. option_or o (cond (is_named d t g) (Some (new_kept (history ++ e ∷ []) number g)) None)) (fits.answers d t le ∙ ap (option_map (seen history number d t)) at)
+        ap (λ o. option_or o (cond (is_named d t g) (Some (new_kept (history ++ e ∷ []) number g)) None)) (fits.answers d t le ∙ ap (option_map (to_keep history number d t)) at)
         ∙ ap (λ k. Some k) (seen_older history number moment e g h d t gives at)
-        ∙ sym (ap (option_map (seen (history ++ e ∷ []) number d t)) (grant_at-push history e g d t gives.gives_it ∙ ap (λ o. option_or o (cond (is_named d t g) (Some g) None)) at))
+        ∙ sym (ap (option_map (to_keep (history ++ e ∷ []) number d t)) (grant_at-push history e g d t gives.gives_it ∙ ap (λ o. option_or o (cond (is_named d t g) (Some g) None)) at))
     given_cases d t le None at =
-        ap (λ o. option_or o (cond (is_named d t g) (Some (new_kept (history ++ e ∷ []) number g)) None)) (fits.answers d t le ∙ ap (option_map (seen history number d t)) at)
+        ap (λ o. option_or o (cond (is_named d t g) (Some (new_kept (history ++ e ∷ []) number g)) None)) (fits.answers d t le ∙ ap (option_map (to_keep history number d t)) at)
         ∙ ap (λ k. cond (is_named d t g) (Some k) None) (seen_new history number moment e g d t gives at)
-        ∙ sym (map_cond (seen (history ++ e ∷ []) number d t) (is_named d t g) g)
-        ∙ sym (ap (option_map (seen (history ++ e ∷ []) number d t)) (grant_at-push history e g d t gives.gives_it ∙ ap (λ o. option_or o (cond (is_named d t g) (Some g) None)) at))
+        ∙ sym (map_cond (to_keep (history ++ e ∷ []) number d t) (is_named d t g) g)
+        ∙ sym (ap (option_map (to_keep (history ++ e ∷ []) number d t)) (grant_at-push history e g d t gives.gives_it ∙ ap (λ o. option_or o (cond (is_named d t g) (Some g) None)) at))
 
     apart_cases : (d d' : List ℕ) (h i : Grant) → (grant_at history d moment ≡ Some h) ⊎ (h ≡ g) → (grant_at history d' moment ≡ Some i) ⊎ (i ≡ g) →
         number h.family ≡ number i.family → h.family ≡ i.family
@@ -139,13 +139,13 @@ fits_given kept kept' history number moment e g k gives is_kept keeps fits = rec
 -- NUMBERS
 
 -- a family so far keeps its number when a new one gets one
-pub named_older : (history : List Event) (number : ℕ → ℕ) (n : ℕ) (digest : List ℕ) (t : ℕ) (g : Grant) → IsHistory history t → grant_at history digest t ≡ Some g → named number (length history) n g.family ≡ number g.family
+pub named_older : (history : List Event) (number : ℕ → ℕ) (n : ℕ) (digest : List ℕ) (t : ℕ) (g : Grant) → IsHistory history t → grant_at history digest t ≡ Some g → with_family_number number (length history) n g.family ≡ number g.family
 named_older history number n digest t g is at =
     let before = grant_at-placed history digest t g is.placed at in
     ap (λ b. cond b n (number g.family)) (ne_eqb g.family (length history) (λ same. let e : g.family ≡ length history = same in omega (arith, before, e)))
 
 -- so the store fits with a number for the family that comes next
-pub fits_named : (kept : List Kept) (history : List Event) (number : ℕ → ℕ) (n moment : ℕ) → FitsBy kept history moment number → FitsBy kept history moment (named number (length history) n)
+pub fits_named : (kept : List Kept) (history : List Event) (number : ℕ → ℕ) (n moment : ℕ) → FitsBy kept history moment number → FitsBy kept history moment (with_family_number number (length history) n)
 fits_named kept history number n moment fits = record {
   answers = λ d t le. fits.answers d t le ∙ seen_named d t (grant_at history d t) refl;
   count = fits.count;
@@ -155,9 +155,9 @@ fits_named kept history number n moment fits = record {
 }
   where
     seen_named : (d : List ℕ) (t : ℕ) (o : Option Grant) → grant_at history d t ≡ o →
-        option_map (seen history number d t) o ≡ option_map (seen history (named number (length history) n) d t) o
+        option_map (to_keep history number d t) o ≡ option_map (to_keep history (with_family_number number (length history) n) d t) o
     seen_named d t None at = refl
     seen_named d t (Some g) at =
         let before = grant_at-placed history d t g fits.is_history.placed at in
         let other = ne_eqb g.family (length history) (λ same. let e : g.family ≡ length history = same in omega (arith, before, e)) in
-        ap (λ b. Some (record (seen history number d t g) { grant = record g { family = cond b n (number g.family) } })) (sym other)
+        ap (λ b. Some (record (to_keep history number d t g) { grant = record g { family = cond b n (number g.family) } })) (sym other)

@@ -18,8 +18,8 @@ use Rattle.consent.specs.declared.change.Change.{Change as Made}
 use Rattle.token_store.specs.declared.record.Record.{Record}
 use Rattle.token_store.specs.declared.record.Shared.{Shared}
 use Rattle.token_store.specs.Kept.{Kept, kept_at, is_in, HasFamily}
-use Rattle.token_store.specs.Fits.{FitsBy, FitsHistory, seen}
-use Rattle.token_store.specs.Records.{shared_at, or_nothing, is_coded, is_live_at, kept_in, all_kept, IsCounted, Tied, TellsSame, Mark, marked}
+use Rattle.token_store.specs.Fits.{FitsBy, FitsHistory, to_keep}
+use Rattle.token_store.specs.Records.{shared_at, or_nothing, is_coded, is_live_at, kept_in, all_kept, IsCounted, Tied, TellsSame, RecordMark, marked}
 use Rattle.token_store.specs.Room.{Waits}
 use Rattle.token_store.proofs.Looking.{shown, found}
 use Rattle.token_store.proofs.Families.{unseen, vacant_count}
@@ -38,8 +38,8 @@ kept_has_family kept digest m k found =
 pub family_found : (kept : List Kept) (history : List Event) (number : ℕ → ℕ) (m : ℕ) (digest : List ℕ) (g : Grant) (k : Kept) → FitsBy kept history m number →
     kept_at kept digest m ≡ Some k → grant_at history digest m ≡ Some g → number g.family ≡ k.grant.family
 family_found kept history number m digest g k fits at named =
-    let both : Some k ≡ Some (seen history number digest m g) = sym at ∙ fits.answers digest m (omega arith) ∙ ap (option_map (seen history number digest m)) named in
-    let same : seen history number digest m g ≡ k = cc in
+    let both : Some k ≡ Some (to_keep history number digest m g) = sym at ∙ fits.answers digest m (omega arith) ∙ ap (option_map (to_keep history number digest m)) named in
+    let same : to_keep history number digest m g ≡ k = cc in
     ap (λ (x : Kept). x.grant.family) same
 
 -- and records
@@ -65,12 +65,12 @@ not_waiting families n k s some waits same =
     let none : (shared_at families n).count ≡ 0 = ap (λ i. (shared_at families i).count) (sym same) ∙ waits.empty in omega (arith, some, none)
 
 -- where nothing has the digest nothing is marked
-pub unspent_same : (kept : List Kept) (digest : List ℕ) (m : ℕ) → kept_at kept digest m ≡ None → map (marked (Mark.Spent digest m)) kept ≡ kept
+pub unspent_same : (kept : List Kept) (digest : List ℕ) (m : ℕ) → kept_at kept digest m ≡ None → map (marked (RecordMark.Spent digest m)) kept ≡ kept
 unspent_same [] digest m none = refl
 unspent_same (k ∷ ks) digest m none = none_cases (is_named digest m k.grant) refl none (unspent_same ks digest m)
   where
     none_cases : (b : Bool) → is_named digest m k.grant ≡ b → cond b (Some k) (kept_at ks digest m) ≡ None →
-        (kept_at ks digest m ≡ None → map (marked (Mark.Spent digest m)) ks ≡ ks) → map (marked (Mark.Spent digest m)) (k ∷ ks) ≡ k ∷ ks
+        (kept_at ks digest m ≡ None → map (marked (RecordMark.Spent digest m)) ks ≡ ks) → map (marked (RecordMark.Spent digest m)) (k ∷ ks) ≡ k ∷ ks
     none_cases true is h more = cc
     none_cases false is h more = λ i. ap (λ b. cond {A = Kept} b (record k { spent = true }) k) is i ∷ more h i
 
@@ -107,7 +107,7 @@ tells_put a b x y new m same is tells = subst (λ (ks : List Kept). TellsSame ks
 
 same_seen : (history : List Event) (number : ℕ → ℕ) (e : Event) → grant_of e ≡ None → may_end e.change ≡ false →
     (digest : List ℕ) → spends digest e.change ≡ false → (t : ℕ) (o : Option Grant) →
-    option_map (seen history number digest t) o ≡ option_map (seen (history ++ e ∷ []) number digest t) o
+    option_map (to_keep history number digest t) o ≡ option_map (to_keep (history ++ e ∷ []) number digest t) o
 same_seen history number e none lasting digest unspent t None = refl
 same_seen history number e none lasting digest unspent t (Some g) =
     rw (code_terms-push_none history e g.family none, is_spent-push_other history e digest t unspent, has_ended-push_other history e g.family lasting) refl
@@ -123,7 +123,7 @@ unmoved kept history m number change none lasting unspent is fits =
       answers = λ digest t later.
           fits.answers digest t later
           ∙ same_seen history number e none lasting digest (unspent digest) t (grant_at history digest t)
-          ∙ ap (option_map (seen (history ++ e ∷ []) number digest t)) (sym (same_at digest t));
+          ∙ ap (option_map (to_keep (history ++ e ∷ []) number digest t)) (sym (same_at digest t));
       count = λ t later. fits.count t later ∙ sym (unexpired_count-push_none history e t none);
       once = fits.once;
       apart = λ d f g h at_d at_f numbers. fits.apart d f g h (sym (same_at d m) ∙ at_d) (sym (same_at f m) ∙ at_f) numbers;

@@ -12,7 +12,7 @@ use Rattle.consent.specs.ListLaws.{count_by-cons}
 use Rattle.token_store.specs.declared.record.Record.{Record}
 use Rattle.token_store.specs.declared.record.Shared.{Shared}
 use Rattle.token_store.specs.Kept.{Kept, kept_at, kept_unexpired}
-use Rattle.token_store.specs.Records.{shared_at, or_nothing, is_live_at, kept_in, kept_by, all_kept, member_count, IsCounted, HasLeft, TellsSame}
+use Rattle.token_store.specs.Records.{shared_at, or_nothing, is_live_at, kept_in, kept_under, all_kept, member_count, IsCounted, HasLeft, TellsSame}
 use Rattle.token_store.proofs.Looking.{shown, found}
 
 -- a count of the others
@@ -89,31 +89,31 @@ counted_without families families' es es' coming digest r counted at taken left 
 
 -- a family that is there still shares what it did
 pub same_shared : (families families' : List (Option Shared)) (n k : ℕ) (digest : List ℕ) (x : Record) → HasLeft families families' n →
-    0 < (shared_at families' k).count → kept_by (shared_at families' k) digest x ≡ kept_by (shared_at families k) digest x
+    0 < (shared_at families' k).count → kept_under (shared_at families' k) digest x ≡ kept_under (shared_at families k) digest x
 same_shared families families' n k digest x left some = number_cases (eqb k n) refl
   where
-    number_cases : (b : Bool) → eqb k n ≡ b → kept_by (shared_at families' k) digest x ≡ kept_by (shared_at families k) digest x
+    number_cases : (b : Bool) → eqb k n ≡ b → kept_under (shared_at families' k) digest x ≡ kept_under (shared_at families k) digest x
     number_cases false other =
-        ap (λ o. kept_by (or_nothing o) digest x) (left.others k (λ same. false≢true (sym other ∙ eq-eqb k n same)))
+        ap (λ o. kept_under (or_nothing o) digest x) (left.others k (λ same. false≢true (sym other ∙ eq-eqb k n same)))
     number_cases true is =
         let number : k ≡ n = eqb-true k n is in
         here_cases number (slice_index_or families n None) refl
       where
         last_cases : (s : Shared) (b : Bool) → 0 < (or_nothing (cond b None (Some (record s { count = s.count - 1 })))).count →
-            kept_by (or_nothing (cond b None (Some (record s { count = s.count - 1 })))) digest x ≡ kept_by s digest x
+            kept_under (or_nothing (cond b None (Some (record s { count = s.count - 1 })))) digest x ≡ kept_under s digest x
         last_cases s true some = absurd (omega (arith, some))
         last_cases s false some = refl
 
-        here_cases : k ≡ n → (o : Option Shared) → slice_index_or families n None ≡ o → kept_by (shared_at families' k) digest x ≡ kept_by (shared_at families k) digest x
+        here_cases : k ≡ n → (o : Option Shared) → slice_index_or families n None ≡ o → kept_under (shared_at families' k) digest x ≡ kept_under (shared_at families k) digest x
         here_cases number None was =
             let now : slice_index_or families' n None ≡ None = left.gone was in
             absurd (let none : (shared_at families' k).count ≡ 0 = ap (λ i. (shared_at families' i).count) number ∙ ap (λ o. (or_nothing o).count) now in omega (arith, some, none))
         here_cases number (Some s) was =
             let now : slice_index_or families' k None ≡ cond (nat_le s.count 1) None (Some (record s { count = s.count - 1 })) = ap (λ i. slice_index_or families' i None) number ∙ left.here s was in
             let before : shared_at families k ≡ s = ap (shared_at families) number ∙ ap or_nothing was in
-            ap (λ o. kept_by (or_nothing o) digest x) now
+            ap (λ o. kept_under (or_nothing o) digest x) now
             ∙ last_cases s (nat_le s.count 1) (rw (ap (λ o. (or_nothing o).count) now) at some)
-            ∙ ap (λ y. kept_by y digest x) (sym before)
+            ∙ ap (λ y. kept_under y digest x) (sym before)
 
 -- counts of what is seen are counts of the records
 pub count_seen : (families : List (Option Shared)) (es : List (List ℕ × Record)) (t : ℕ) → kept_unexpired (all_kept families es) t ≡ count_by (is_live_at t) (values_of es)

@@ -12,7 +12,7 @@ use Rattle.consent.specs.History.Change.{Consented}
 use Rattle.token_store.specs.declared.record.Record.{Record}
 use Rattle.token_store.specs.declared.record.Shared.{Shared}
 use Rattle.token_store.specs.Kept.{Kept}
-use Rattle.token_store.specs.Records.{Mark, marked, shared_at, or_nothing, kept_in, kept_by, all_kept, member_count, is_coded, Tied, HasEnded, HasLowered, HasOpened, HasClosed, IsOwned, IsAfter, IsNextOwned, owner_cmp, lowered_by, lowered_shared, is_beyond_mask, terms_by}
+use Rattle.token_store.specs.Records.{RecordMark, marked, shared_at, or_nothing, kept_in, kept_under, all_kept, member_count, is_coded, Tied, HasEnded, HasLowered, HasOpened, HasClosed, IsOwned, IsAfter, IsNextOwned, owner_cmp, lowered_by, lowered_shared, is_beyond_mask, terms_by}
 
 -- ENDING
 
@@ -44,7 +44,7 @@ tied_ended old new n es order owners ended tied = record {
 
 -- the mark of a family is seen on all its records, and no visit to them is needed
 pub view_ended : (old new : List (Option Shared)) (n : ℕ) (es : List (List ℕ × Record)) → HasEnded old new n → ((k : ℕ) → member_count es k ≤ (shared_at old k).count) →
-    all_kept new es ≡ map (marked (Mark.Ended n)) (all_kept old es)
+    all_kept new es ≡ map (marked (RecordMark.Ended n)) (all_kept old es)
 view_ended old new n [] ended counted = refl
 view_ended old new n (e ∷ es) ended counted =
     let tail = view_ended old new n es ended (λ k. (let sums = count_by-cons (λ x. eqb x.family k) e.1 (values_of es) in let le = counted k in omega (arith, sums, le))) in
@@ -54,17 +54,17 @@ view_ended old new n (e ∷ es) ended counted =
     λ i. head (slice_index_or old e.1.family None) refl (omega (arith, sums, one, le)) (eqb e.1.family n) refl i ∷ tail i
   where
     head : (o : Option Shared) → slice_index_or old e.1.family None ≡ o → 0 < (or_nothing o).count → (b : Bool) → eqb e.1.family n ≡ b →
-        kept_in new e ≡ marked (Mark.Ended n) (kept_in old e)
+        kept_in new e ≡ marked (RecordMark.Ended n) (kept_in old e)
     head None is some b same = absurd (omega (arith, some))
     head (Some s) is some false other =
-        ap (λ o. kept_by (or_nothing o) e.0 e.1) (ended.others e.1.family (λ x. false≢true (sym other ∙ eq-eqb e.1.family n x)))
+        ap (λ o. kept_under (or_nothing o) e.0 e.1) (ended.others e.1.family (λ x. false≢true (sym other ∙ eq-eqb e.1.family n x)))
         ∙ ap (λ b. cond {A = Kept} b (record (kept_in old e) { ended = true }) (kept_in old e)) (sym other)
     head (Some s) is some true here =
         let number : e.1.family ≡ n = eqb-true e.1.family n here in
         let slot : slice_index_or new e.1.family None ≡ Some (record s { ended = true }) =
         ap (λ k. slice_index_or new k None) number ∙ ended.here ∙ ap (λ k. option_map (λ (x : Shared). record x { ended = true }) (slice_index_or old k None)) (sym number) ∙ ap (option_map (λ (x : Shared). record x { ended = true })) is in
-        ap (λ o. kept_by (or_nothing o) e.0 e.1) slot
-        ∙ ap (λ o. record (kept_by (or_nothing o) e.0 e.1) { ended = true }) (sym is)
+        ap (λ o. kept_under (or_nothing o) e.0 e.1) slot
+        ∙ ap (λ o. record (kept_under (or_nothing o) e.0 e.1) { ended = true }) (sym is)
         ∙ ap (λ b. cond {A = Kept} b (record (kept_in old e) { ended = true }) (kept_in old e)) (sym here)
 
 -- LOWERING
@@ -151,16 +151,16 @@ lowered_all old new owners owner client mask after owned below none k = all_case
 
 -- a mark on a family's state is seen on each of its records
 pub view_lowered : (old new : List (Option Shared)) (es : List (List ℕ × Record)) (owner client mask : ℕ) → HasLowered old new owner client mask →
-    all_kept new es ≡ map (marked (Mark.Lowered owner client mask)) (all_kept old es)
+    all_kept new es ≡ map (marked (RecordMark.Lowered owner client mask)) (all_kept old es)
 view_lowered old new [] owner client mask lowered = refl
 view_lowered old new (e ∷ es) owner client mask lowered = λ i.
-    (ap (λ o. kept_by (or_nothing o) e.0 e.1) (lowered e.1.family) ∙ head (slice_index_or old e.1.family None)) i ∷ view_lowered old new es owner client mask lowered i
+    (ap (λ o. kept_under (or_nothing o) e.0 e.1) (lowered e.1.family) ∙ head (slice_index_or old e.1.family None)) i ∷ view_lowered old new es owner client mask lowered i
   where
-    split : (s : Shared) (b : Bool) → kept_by (cond {A = Shared} b (record s { ended = true }) s) e.0 e.1 ≡ cond {A = Kept} b (record (kept_by s e.0 e.1) { ended = true }) (kept_by s e.0 e.1)
+    split : (s : Shared) (b : Bool) → kept_under (cond {A = Shared} b (record s { ended = true }) s) e.0 e.1 ≡ cond {A = Kept} b (record (kept_under s e.0 e.1) { ended = true }) (kept_under s e.0 e.1)
     split s true = refl
     split s false = refl
 
-    head : (o : Option Shared) → kept_by (or_nothing (option_map (lowered_shared owner client mask) o)) e.0 e.1 ≡ marked (Mark.Lowered owner client mask) (kept_by (or_nothing o) e.0 e.1)
+    head : (o : Option Shared) → kept_under (or_nothing (option_map (lowered_shared owner client mask) o)) e.0 e.1 ≡ marked (RecordMark.Lowered owner client mask) (kept_under (or_nothing o) e.0 e.1)
     head None = refl
     head (Some s) = split s (is_beyond (Consented owner client mask) (option_map (terms_by s.client s.owner) s.code_scope))
 
@@ -202,7 +202,7 @@ unseen old new n (e ∷ es) others none =
     number_cases false is sums more =
         let same = others e.1.family (λ x. false≢true (sym is ∙ eq-eqb e.1.family n x)) in
         let tail = more (omega (arith, sums, none)) in
-        λ i. kept_by (or_nothing (same i)) e.0 e.1 ∷ tail i
+        λ i. kept_under (or_nothing (same i)) e.0 e.1 ∷ tail i
 
 pub vacant_count : (families : List (Option Shared)) (es : List (List ℕ × Record)) (order : List (Reverse (ℕ × List ℕ))) (owners : List ((ℕ × ℕ) × ℕ)) (n : ℕ) → Tied families es order owners [] →
     (shared_at families n).count ≡ 0 → member_count es n ≡ 0

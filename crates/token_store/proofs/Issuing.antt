@@ -18,9 +18,9 @@ use Rattle.token_store.specs.declared.record.Shared.{Shared}
 use Rattle.token_store.specs.declared.record.Given.{Given}
 use Rattle.token_store.specs.declared.record.Given.TheVariants.{Code, Token}
 use Rattle.token_store.specs.Kept.{Kept, kept_at, kept_unexpired, is_in, HasFamily}
-use Rattle.token_store.specs.Fits.{FitsBy, IsMember, seen, named, refusal_by, refusal}
+use Rattle.token_store.specs.Fits.{FitsBy, IsMember, to_keep, with_family_number, refusal_by, refusal}
 use Rattle.consent.specs.Changes.{token_issued, issued_with}
-use Rattle.token_store.specs.Records.{Place, kind_in, owner_in, kept_in, member_count, terms_by, place_of, own_place, shared_at, kept_by, all_kept, token_kept, IsUnused}
+use Rattle.token_store.specs.Records.{Place, kind_in, owner_in, kept_in, member_count, terms_by, family_place, own_place, shared_at, kept_under, all_kept, token_kept, IsUnused}
 use Rattle.token_store.proofs.Adding.{Gives, keeps_push, fits_given, fits_named}
 use Rattle.token_store.proofs.Opening.{own_unused}
 
@@ -44,7 +44,7 @@ same_refusal kept history number moment n digests fits len =
     ∙ ap (λ x. refusal_by (nat_le (x + length digests) record_limit) (are_taken (λ d. is_some (kept_at kept d moment)) digests)) (fits.count moment (omega arith))
     ∙ ap (refusal_by (has_room history moment digests))
     (are_taken-same (λ d. is_some (kept_at kept d moment)) (λ d. is_some (grant_at history d moment)) (λ d.
-    ap is_some (fits.answers d moment (omega arith)) ∙ is_some-map (seen history number d moment) (grant_at history d moment)) digests)
+    ap is_some (fits.answers d moment (omega arith)) ∙ is_some-map (to_keep history number d moment) (grant_at history d moment)) digests)
 
 -- ONE TOKEN
 
@@ -86,16 +86,16 @@ fits_token kept history number moment family place token ready untaken fits =
 
 pub fits_alone : (kept : List Kept) (history : List Event) (number : ℕ → ℕ) (moment client n : ℕ) (token : NewToken) →
     IsUnused kept moment n → grant_at history token.digest moment ≡ None → FitsBy kept history moment number →
-    FitsBy (kept ++ token_kept (own_place n client) moment token ∷ []) (with_change history moment (token_issued (length history) client 0 token)) moment (named number (length history) n)
+    FitsBy (kept ++ token_kept (own_place n client) moment token ∷ []) (with_change history moment (token_issued (length history) client 0 token)) moment (with_family_number number (length history) n)
 fits_alone kept history number moment client n token unused untaken fits =
-    let ready : IsReady history (named number (length history) n) moment (length history) (own_place n client) = record {
+    let ready : IsReady history (with_family_number number (length history) n) moment (length history) (own_place n client) = record {
       number_is = ap (λ b. cond b n (number (length history))) (eq-eqb (length history) (length history) refl);
       home = inl refl;
       own = λ d h at same_number. own_unused kept history number n moment d h fits unused at same_number;
       terms = code_terms-fresh history fits.is_history.placed;
       ended = has_ended-fresh history fits.is_history.placed;
     } in
-    fits_token kept history (named number (length history) n) moment (length history) (own_place n client) token ready untaken (fits_named kept history number n moment fits)
+    fits_token kept history (with_family_number number (length history) n) moment (length history) (own_place n client) token ready untaken (fits_named kept history number n moment fits)
 
 -- IN A FAMILY THAT THERE IS
 
@@ -104,7 +104,7 @@ record Behind (history : List Event) (number : ℕ → ℕ) (moment : ℕ) (k : 
   digest : List ℕ
   grant : Grant
   is_named_too : grant_at history digest moment ≡ Some grant
-  is_seen : seen history number digest moment grant ≡ k
+  is_seen : to_keep history number digest moment grant ≡ k
 
 behind : (kept : List Kept) (history : List Event) (number : ℕ → ℕ) (moment family : ℕ) (k : Kept) → FitsBy kept history moment number →
     find (is_in family moment) kept ≡ Some k → Behind history number moment k
@@ -114,7 +114,7 @@ behind kept history number moment family k fits found =
     let at = find-one (λ x. is_named k.grant.digest moment x.grant) (is_in family moment) kept k (fits.once k.grant.digest) found named_itself in
     behind_cases (grant_at history k.grant.digest moment) refl (sym (fits.answers k.grant.digest moment (omega arith)) ∙ at)
   where
-    behind_cases : (o : Option Grant) → grant_at history k.grant.digest moment ≡ o → option_map (seen history number k.grant.digest moment) o ≡ Some k → Behind history number moment k
+    behind_cases : (o : Option Grant) → grant_at history k.grant.digest moment ≡ o → option_map (to_keep history number k.grant.digest moment) o ≡ Some k → Behind history number moment k
     behind_cases None is h = cc
     behind_cases (Some g) is h = record { digest = k.grant.digest; grant = g; is_named_too = is; is_seen = cc }
 
@@ -130,10 +130,10 @@ code_has_terms history digest moment h at code none =
 
 -- its place is its family's
 ready_joined : (kept : List Kept) (history : List Event) (number : ℕ → ℕ) (moment family : ℕ) (g : Grant) (s : Shared) (digest : List ℕ) (r : Record) → FitsBy kept history moment number → IsMember history number moment family g →
-    find (is_in family moment) kept ≡ Some (kept_by s digest r) →
-    IsReady history number moment g.family (place_of family s) × ((s.client ≡ g.client) × (s.owner ≡ g.owner))
+    find (is_in family moment) kept ≡ Some (kept_under s digest r) →
+    IsReady history number moment g.family (family_place family s) × ((s.client ≡ g.client) × (s.owner ≡ g.owner))
 ready_joined kept history number moment family g s digest r fits member found =
-    let k = kept_by s digest r in
+    let k = kept_under s digest r in
     let of = behind kept history number moment family k fits found in
     let h = of.grant in
     let number_h : number h.family ≡ k.grant.family = ap (λ x. x.grant.family) of.is_seen in
@@ -166,7 +166,7 @@ ready_joined kept history number moment family g s digest r fits member found =
 pub record FoundIn (families : List (Option Shared)) (es : List (List ℕ × Record)) (n : ℕ) (k : Kept) : Type 0 where
   pub digest : List ℕ
   pub item : Record
-  pub is : k ≡ kept_by (shared_at families n) digest item
+  pub is : k ≡ kept_under (shared_at families n) digest item
   pub counted : 0 < member_count es n
 
 pub found_in : (families : List (Option Shared)) (es : List (List ℕ × Record)) (n m : ℕ) (k : Kept) → find (is_in n m) (all_kept families es) ≡ Some k → FoundIn families es n k
@@ -183,22 +183,22 @@ found_in families (e ∷ es) n m k found = in_cases (is_in n m (kept_in families
         let same = (and_parts (eqb e.1.family n) (is_unexpired m (kept_in families e).grant) is).0 in
         let number : e.1.family ≡ n = eqb-true e.1.family n same in
         let one = ap (λ b. cond {A = ℕ} b 1 0) same in
-        record { digest = e.0; item = e.1; is = sym first ∙ ap (λ i. kept_by (shared_at families i) e.0 e.1) number; counted = omega (arith, sums, one) }
+        record { digest = e.0; item = e.1; is = sym first ∙ ap (λ i. kept_under (shared_at families i) e.0 e.1) number; counted = omega (arith, sums, one) }
     in_cases false is h more = let rest = more h in record { digest = rest.digest; item = rest.item; is = rest.is; counted = (let some = rest.counted in omega (arith, sums, some)) }
 
 pub fits_joined : (families : List (Option Shared)) (es : List (List ℕ × Record)) (history : List Event) (number : ℕ → ℕ) (moment family : ℕ) (g : Grant) (token : NewToken) →
     HasFamily (all_kept families es) family moment → IsMember history number moment family g → grant_at history token.digest moment ≡ None → FitsBy (all_kept families es) history moment number →
-    FitsBy (all_kept families es ++ token_kept (place_of family (shared_at families family)) moment token ∷ []) (with_change history moment (issued_with token g)) moment number
+    FitsBy (all_kept families es ++ token_kept (family_place family (shared_at families family)) moment token ∷ []) (with_change history moment (issued_with token g)) moment number
 fits_joined families es history number moment family g token there member untaken fits = joined_cases (find (is_in family moment) (all_kept families es)) refl there
   where
     s : Shared
     s = shared_at families family
 
     joined_cases : (o : Option Kept) → find (is_in family moment) (all_kept families es) ≡ o → is_some o ≡ true →
-        FitsBy (all_kept families es ++ token_kept (place_of family s) moment token ∷ []) (with_change history moment (issued_with token g)) moment number
+        FitsBy (all_kept families es ++ token_kept (family_place family s) moment token ∷ []) (with_change history moment (issued_with token g)) moment number
     joined_cases None found h = absurd (false≢true h)
     joined_cases (Some k) found h =
         let of = found_in families es family moment k found in
         let ready = ready_joined (all_kept families es) history number moment family g s of.digest of.item fits member (found ∙ ap (λ x. Some x) of.is) in
-        let all = fits_token (all_kept families es) history number moment g.family (place_of family s) token ready.0 untaken fits in
+        let all = fits_token (all_kept families es) history number moment g.family (family_place family s) token ready.0 untaken fits in
         rw (← ready.1.0, ← ready.1.1) all

@@ -10,8 +10,8 @@ use Rattle.consent.specs.History.Change.{Consented, Spent, FamilyEnded}
 use Rattle.consent.specs.GrowthLaws.{grant_at-push_none, unexpired_count-push_none, code_terms-push_none, is_spent-push, is_spent-push_other, has_ended-push, has_ended-push_other}
 use Rattle.consent.specs.HistoryLaws.{grant_at-now, grant_at-placed, is_history-push_none}
 use Rattle.token_store.specs.Kept.{Kept}
-use Rattle.token_store.specs.Records.{Mark, marked}
-use Rattle.token_store.specs.Fits.{FitsBy, seen}
+use Rattle.token_store.specs.Records.{RecordMark, marked}
+use Rattle.token_store.specs.Fits.{FitsBy, to_keep}
 use Rattle.token_store.proofs.Marked.{find-changed, count-changed, marked-grant}
 
 or_true : (b : Bool) → (b || true) ≡ true
@@ -26,15 +26,15 @@ le_self : (n : ℕ) → n ≤ n
 le_self n = omega arith
 
 -- where the mark does to each record what the event does to its grant
-fits_marked : (kept : List Kept) (history : List Event) (number : ℕ → ℕ) (moment : ℕ) (e : Event) (m : Mark) →
+fits_marked : (kept : List Kept) (history : List Event) (number : ℕ → ℕ) (moment : ℕ) (e : Event) (m : RecordMark) →
     e.moment ≤ moment → grant_of e ≡ None → is_placed (length history + 1) e.change ≡ true →
-    ((d : List ℕ) (t : ℕ) (g : Grant) → moment ≤ t → grant_at history d t ≡ Some g → marked m (seen history number d t g) ≡ seen (history ++ e ∷ []) number d t g) →
+    ((d : List ℕ) (t : ℕ) (g : Grant) → moment ≤ t → grant_at history d t ≡ Some g → marked m (to_keep history number d t g) ≡ to_keep (history ++ e ∷ []) number d t g) →
     FitsBy kept history moment number → FitsBy (map (marked m) kept) (history ++ e ∷ []) moment number
 fits_marked kept history number moment e m now none placed same fits = record {
   answers = λ d t le.
       find-changed (marked m) (is_named d t) kept (marked-grant m) ∙ ap (option_map (marked m)) (fits.answers d t le)
-      ∙ all_marked (seen history number d t) (seen (history ++ e ∷ []) number d t) (grant_at history d t) (λ g at. same d t g le at)
-      ∙ ap (option_map (seen (history ++ e ∷ []) number d t)) (sym (grant_at-push_none history e d t none));
+      ∙ all_marked (to_keep history number d t) (to_keep (history ++ e ∷ []) number d t) (grant_at history d t) (λ g at. same d t g le at)
+      ∙ ap (option_map (to_keep (history ++ e ∷ []) number d t)) (sym (grant_at-push_none history e d t none));
   count = λ t le. count-changed (marked m) (is_unexpired t) kept (marked-grant m) ∙ fits.count t le ∙ sym (unexpired_count-push_none history e t none);
   once = λ d. rw (count-changed (marked m) (is_named d moment) kept (marked-grant m)) (fits.once d);
   apart = λ d d' g h a b. fits.apart d d' g h (sym (grant_at-push_none history e d moment none) ∙ a) (sym (grant_at-push_none history e d' moment none) ∙ b);
@@ -80,25 +80,25 @@ spent_test kept history number moment digest d t h fits le found = test_cases (b
 -- the spent one is marked
 pub fits_spent : (kept : List Kept) (history : List Event) (number : ℕ → ℕ) (moment : ℕ) (digest : List ℕ) →
     FitsBy kept history moment number →
-    FitsBy (map (marked (Mark.Spent digest moment)) kept) (with_change history moment (Spent digest)) moment number
+    FitsBy (map (marked (RecordMark.Spent digest moment)) kept) (with_change history moment (Spent digest)) moment number
 fits_spent kept history number moment digest fits =
     let e : Event = record { moment = moment; change = Spent digest } in
-    fits_marked kept history number moment e (Mark.Spent digest moment) (le_self moment) refl refl (λ d t h le found.
-    ap (λ b. cond {A = Kept} b (record (seen history number d t h) { spent = true }) (seen history number d t h)) (spent_test kept history number moment digest d t h fits le found)
-    ∙ spent_if (bytes_eq d digest) (seen history number d t h)
-    ∙ ap (λ b. record (seen history number d t h) { spent = b }) (sym (is_spent-push history e d t ∙ ap (λ o. is_spent history d t || (is_some o && bytes_eq d digest)) found))
-    ∙ ap (λ b. record (seen history number d t h) { spent = is_spent (history ++ e ∷ []) d t; ended = b }) (sym (has_ended-push_other history e h.family refl))
-    ∙ ap (λ x. record (seen (history ++ e ∷ []) number d t h) { terms = x }) (sym (code_terms-push_none history e h.family refl))) fits
+    fits_marked kept history number moment e (RecordMark.Spent digest moment) (le_self moment) refl refl (λ d t h le found.
+    ap (λ b. cond {A = Kept} b (record (to_keep history number d t h) { spent = true }) (to_keep history number d t h)) (spent_test kept history number moment digest d t h fits le found)
+    ∙ spent_if (bytes_eq d digest) (to_keep history number d t h)
+    ∙ ap (λ b. record (to_keep history number d t h) { spent = b }) (sym (is_spent-push history e d t ∙ ap (λ o. is_spent history d t || (is_some o && bytes_eq d digest)) found))
+    ∙ ap (λ b. record (to_keep history number d t h) { spent = is_spent (history ++ e ∷ []) d t; ended = b }) (sym (has_ended-push_other history e h.family refl))
+    ∙ ap (λ x. record (to_keep (history ++ e ∷ []) number d t h) { terms = x }) (sym (code_terms-push_none history e h.family refl))) fits
 
 -- ENDING
 
 ended_seen : (history : List Event) (number : ℕ → ℕ) (e : Event) (d : List ℕ) (t : ℕ) (h : Grant) (b : Bool) → grant_of e ≡ None → is_spent (history ++ e ∷ []) d t ≡ is_spent history d t →
     has_ended (history ++ e ∷ []) h.family ≡ (has_ended history h.family || b) →
-    cond {A = Kept} b (record (seen history number d t h) { ended = true }) (seen history number d t h) ≡ seen (history ++ e ∷ []) number d t h
+    cond {A = Kept} b (record (to_keep history number d t h) { ended = true }) (to_keep history number d t h) ≡ to_keep (history ++ e ∷ []) number d t h
 ended_seen history number e d t h b none spent ended =
-    ended_if b (seen history number d t h) ∙ ap (λ x. record (seen history number d t h) { ended = x }) (sym ended)
-    ∙ ap (λ x. record (seen history number d t h) { ended = has_ended (history ++ e ∷ []) h.family; spent = x }) (sym spent)
-    ∙ ap (λ x. record (seen (history ++ e ∷ []) number d t h) { terms = x }) (sym (code_terms-push_none history e h.family none))
+    ended_if b (to_keep history number d t h) ∙ ap (λ x. record (to_keep history number d t h) { ended = x }) (sym ended)
+    ∙ ap (λ x. record (to_keep history number d t h) { ended = has_ended (history ++ e ∷ []) h.family; spent = x }) (sym spent)
+    ∙ ap (λ x. record (to_keep (history ++ e ∷ []) number d t h) { terms = x }) (sym (code_terms-push_none history e h.family none))
 
 end_beyond_none : (family : ℕ) (o : Option Terms) → is_beyond (FamilyEnded family) o ≡ false
 end_beyond_none family None = refl
@@ -107,11 +107,11 @@ end_beyond_none family (Some terms) = refl
 -- those of the ended family are marked
 pub fits_ended : (kept : List Kept) (history : List Event) (number : ℕ → ℕ) (moment : ℕ) (digest : List ℕ) (g : Grant) →
     FitsBy kept history moment number → grant_at history digest moment ≡ Some g →
-    FitsBy (map (marked (Mark.Ended (number g.family))) kept) (with_change history moment (FamilyEnded g.family)) moment number
+    FitsBy (map (marked (RecordMark.Ended (number g.family))) kept) (with_change history moment (FamilyEnded g.family)) moment number
 fits_ended kept history number moment digest g fits at =
     let e : Event = record { moment = moment; change = FamilyEnded g.family } in
     let before = grant_at-placed history digest moment g fits.is_history.placed at in
-    fits_marked kept history number moment e (Mark.Ended (number g.family)) (le_self moment) refl (lt-ltb g.family (length history + 1) (omega (arith, before))) (λ d t h le found.
+    fits_marked kept history number moment e (RecordMark.Ended (number g.family)) (le_self moment) refl (lt-ltb g.family (length history + 1) (omega (arith, before))) (λ d t h le found.
     ended_seen history number e d t h (eqb (number h.family) (number g.family)) refl (is_spent-push_other history e d t refl)
     (has_ended-push history e h.family (fits.is_history.one_code h.family)
     ∙ ap (λ b. has_ended history h.family || (eqb g.family h.family || b)) (end_beyond_none g.family (code_terms history h.family))
@@ -129,9 +129,9 @@ fits_ended kept history number moment digest g fits at =
 -- those of the families whose code goes beyond the consent are marked
 pub fits_consented : (kept : List Kept) (history : List Event) (number : ℕ → ℕ) (moment owner client mask : ℕ) →
     FitsBy kept history moment number →
-    FitsBy (map (marked (Mark.Lowered owner client mask)) kept) (with_change history moment (Consented owner client mask)) moment number
+    FitsBy (map (marked (RecordMark.Lowered owner client mask)) kept) (with_change history moment (Consented owner client mask)) moment number
 fits_consented kept history number moment owner client mask fits =
     let e : Event = record { moment = moment; change = Consented owner client mask } in
-    fits_marked kept history number moment e (Mark.Lowered owner client mask) (le_self moment) refl refl (λ d t h le found.
+    fits_marked kept history number moment e (RecordMark.Lowered owner client mask) (le_self moment) refl refl (λ d t h le found.
     ended_seen history number e d t h (is_beyond (Consented owner client mask) (code_terms history h.family)) refl (is_spent-push_other history e d t refl)
     (has_ended-push history e h.family (fits.is_history.one_code h.family))) fits

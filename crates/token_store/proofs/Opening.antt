@@ -8,33 +8,33 @@ use Rattle.consent.specs.GrowthLaws.{code_terms-push, code_terms-push_other, has
 use Rattle.consent.specs.HistoryLaws.{grant_at-placed, code_terms-fresh, has_ended-fresh, is_history-push}
 use Rattle.consent.specs.declared.change.CodeFacts.{CodeFacts}
 use Rattle.token_store.specs.Kept.{Kept}
-use Rattle.token_store.specs.Fits.{FitsBy, seen, named}
+use Rattle.token_store.specs.Fits.{FitsBy, to_keep, with_family_number}
 use Rattle.consent.specs.Changes.{code_given}
 use Rattle.token_store.specs.Records.{code_kept, IsUnused}
 use Rattle.token_store.proofs.Adding.{KeepsOneMore, Gives, fits_given, fits_named, named_older}
 
 -- no family so far has an unused number
 pub own_unused : (kept : List Kept) (history : List Event) (number : ℕ → ℕ) (n moment : ℕ) (digest : List ℕ) (h : Grant) → FitsBy kept history moment number → IsUnused kept moment n →
-    grant_at history digest moment ≡ Some h → named number (length history) n h.family ≡ named number (length history) n (length history) → h.family ≡ length history
+    grant_at history digest moment ≡ Some h → with_family_number number (length history) n h.family ≡ with_family_number number (length history) n (length history) → h.family ≡ length history
 own_unused kept history number n moment digest h fits unused at same =
     let is : number h.family ≡ n =
     sym (named_older history number n digest moment h fits.is_history at) ∙ same ∙ ap (λ b. cond b n (number (length history))) (eq-eqb (length history) (length history) refl) in
-    absurd (unused digest (seen history number digest moment h) (fits.answers digest moment (omega arith) ∙ ap (option_map (seen history number digest moment)) at) is)
+    absurd (unused digest (to_keep history number digest moment h) (fits.answers digest moment (omega arith) ∙ ap (option_map (to_keep history number digest moment)) at) is)
 
 pub fits_opened : (kept kept' : List Kept) (history : List Event) (number : ℕ → ℕ) (n moment : ℕ) (facts : CodeFacts) (digest : List ℕ) (k : Kept) →
     k ≡ code_kept n digest facts moment → KeepsOneMore kept kept' moment k → IsUnused kept moment n → grant_at history digest moment ≡ None →
     FitsBy kept history moment number →
-    FitsBy kept' (with_change history moment (code_given (length history) facts digest)) moment (named number (length history) n)
+    FitsBy kept' (with_change history moment (code_given (length history) facts digest)) moment (with_family_number number (length history) n)
 fits_opened kept kept' history number n moment facts digest k is_code keeps unused untaken fits =
     let place = length history in
     let e : Event = record { moment = moment; change = code_given place facts digest } in
     let g : Grant = record (code_kept place digest facts moment).grant { family = place } in
-    let own_number : named number place n place ≡ n = ap (λ b. cond b n (number place)) (eq-eqb place place refl) in
+    let own_number : with_family_number number place n place ≡ n = ap (λ b. cond b n (number place)) (eq-eqb place place refl) in
     let terms : code_terms (history ++ e ∷ []) place ≡ Some (terms_of g) =
     code_terms-push history e g place refl ∙ ap (λ o. option_or o (cond (eqb place place) (Some (terms_of g)) None)) (code_terms-fresh history fits.is_history.placed)
     ∙ ap (λ b. cond b (Some (terms_of g)) None) (eq-eqb place place refl) in
     let open_yet : has_ended (history ++ e ∷ []) place ≡ false = has_ended-push_other history e place refl ∙ has_ended-fresh history fits.is_history.placed in
-    let gives : Gives history (named number place n) moment e g = record {
+    let gives : Gives history (with_family_number number place n) moment e g = record {
       gives_it = refl;
       ends_none = refl;
       spends_none = λ d. refl;
@@ -44,5 +44,5 @@ fits_opened kept kept' history number n moment facts digest k is_code keeps unus
       untaken = untaken;
       is_history = is_history-push history moment (code_given place facts digest) fits.is_history (refl, untaken);
     } in
-    fits_given kept kept' history (named number place n) moment e g k gives
+    fits_given kept kept' history (with_family_number number place n) moment e g k gives
     (is_code ∙ sym (rw (own_number, terms, open_yet) refl)) keeps (fits_named kept history number n moment fits)

@@ -14,9 +14,9 @@ use Rattle.token_store.specs.declared.record.Record.{Record}
 use Rattle.token_store.specs.declared.record.Shared.{Shared}
 use Rattle.token_store.specs.declared.tables.Tables.{Tables}
 use Rattle.token_store.specs.Kept.{Kept, kept_at, kept_unexpired}
-use Rattle.token_store.specs.Fits.{FitsBy, seen}
-use Rattle.token_store.specs.Image.{HasTwo, image_of, kept_record, is_unexpired_record, renumbered, IsRestored}
-use Rattle.token_store.specs.Homes.{AreHomes, IsHome, AllHome, HasGrown, number_of, renumber_by}
+use Rattle.token_store.specs.Fits.{FitsBy, to_keep}
+use Rattle.token_store.specs.Image.{HasDigestTwice, as_kept, kept_record, is_unexpired_record, renumbered, IsRestored}
+use Rattle.token_store.specs.Homes.{AreHomes, HasHome, AllHome, HasGrown, number_of_family, renumber_by}
 use Rattle.token_store.specs.Records.{HasEntered, HasOpened, TellsSame, IsTied, kept_of, kept_in, all_kept, is_live_at}
 use Rattle.token_store.proofs.Looking.{count-push, same_push, same_on}
 use Rattle.token_store.proofs.Telling.{fits_same}
@@ -24,7 +24,7 @@ use Rattle.token_store.proofs.Telling.{fits_same}
 -- FAMILIES
 
 pub homes_opened : (numbers numbers' : List (ℕ × ℕ)) (old new : List (Option Shared)) (f n : ℕ) (s : Shared) → AreHomes numbers old → HasOpened old new n s →
-    ((q : ℕ) → number_of numbers' q ≡ cond (nat_eq f q) (Some n) (number_of numbers q)) → AreHomes numbers' new
+    ((q : ℕ) → number_of_family numbers' q ≡ cond (nat_eq f q) (Some n) (number_of_family numbers q)) → AreHomes numbers' new
 homes_opened numbers numbers' old new f n s homes opened updates = record {
   there = λ q k at. there_cases q k (nat_eq f q) (sym (updates q) ∙ at);
   apart = λ q r k at bt. apart_cases q r k (nat_eq f q) refl (nat_eq f r) refl (sym (updates q) ∙ at) (sym (updates r) ∙ bt);
@@ -33,11 +33,11 @@ homes_opened numbers numbers' old new f n s homes opened updates = record {
     not_new : (k : ℕ) → is_some (slice_index_or old k None) ≡ true → k ≢ n
     not_new k some same = false≢true (sym (ap is_some opened.vacant) ∙ ap (λ x. is_some (slice_index_or old x None)) (sym same) ∙ some)
 
-    there_cases : (q k : ℕ) (b : Bool) → cond b (Some n) (number_of numbers q) ≡ Some k → is_some (slice_index_or new k None) ≡ true
+    there_cases : (q k : ℕ) (b : Bool) → cond b (Some n) (number_of_family numbers q) ≡ Some k → is_some (slice_index_or new k None) ≡ true
     there_cases q k true h = let same : n ≡ k = cc in ap (λ x. is_some (slice_index_or new x None)) (sym same) ∙ ap is_some opened.here
     there_cases q k false h = let there = homes.there q k h in ap is_some (opened.others k (not_new k there)) ∙ there
 
-    apart_cases : (q r k : ℕ) (a : Bool) → nat_eq f q ≡ a → (b : Bool) → nat_eq f r ≡ b → cond a (Some n) (number_of numbers q) ≡ Some k → cond b (Some n) (number_of numbers r) ≡ Some k → q ≡ r
+    apart_cases : (q r k : ℕ) (a : Bool) → nat_eq f q ≡ a → (b : Bool) → nat_eq f r ≡ b → cond a (Some n) (number_of_family numbers q) ≡ Some k → cond b (Some n) (number_of_family numbers r) ≡ Some k → q ≡ r
     apart_cases q r k true e true e' h h' = sym (eqb-true f q e) ∙ eqb-true f r e'
     apart_cases q r k true e false e' h h' = let same : n ≡ k = cc in absurd (not_new k (homes.there r k h') (sym same))
     apart_cases q r k false e true e' h h' = let same : n ≡ k = cc in absurd (not_new k (homes.there q k h) (sym same))
@@ -53,7 +53,7 @@ no_homes families = record {
     none_some n h = cc
 
 -- a family's home stays
-pub home_grown : (numbers numbers' : List (ℕ × ℕ)) (families families' : List (Option Shared)) (r : KeptRecord) → HasGrown numbers families numbers' families' → IsHome numbers families r → IsHome numbers' families' r
+pub home_grown : (numbers numbers' : List (ℕ × ℕ)) (families families' : List (Option Shared)) (r : KeptRecord) → HasGrown numbers families numbers' families' → HasHome numbers families r → HasHome numbers' families' r
 home_grown numbers numbers' families families' r grown home = record {
   number = home.number;
   number_is = grown.numbers_stay r.family home.number home.number_is;
@@ -62,10 +62,10 @@ home_grown numbers numbers' families families' r grown home = record {
   agrees = home.agrees;
 }
 
-pub home_entered : (numbers : List (ℕ × ℕ)) (families families' : List (Option Shared)) (n : ℕ) (r : KeptRecord) → HasEntered families families' n 1 → IsHome numbers families r → IsHome numbers families' r
+pub home_entered : (numbers : List (ℕ × ℕ)) (families families' : List (Option Shared)) (n : ℕ) (r : KeptRecord) → HasEntered families families' n 1 → HasHome numbers families r → HasHome numbers families' r
 home_entered numbers families families' n r entered home = entered_cases (eqb home.number n) refl
   where
-    entered_cases : (b : Bool) → eqb home.number n ≡ b → IsHome numbers families' r
+    entered_cases : (b : Bool) → eqb home.number n ≡ b → HasHome numbers families' r
     entered_cases true is = let same = eqb-true home.number n is in record {
       number = home.number;
       number_is = home.number_is;
@@ -83,17 +83,17 @@ home_entered numbers families families' n r entered home = entered_cases (eqb ho
     }
 
 pub all_mapped : (numbers numbers' : List (ℕ × ℕ)) (families families' : List (Option Shared)) (m : ℕ) (rs : List KeptRecord) →
-    ((r : KeptRecord) → IsHome numbers families r → IsHome numbers' families' r) → AllHome numbers families m rs → AllHome numbers' families' m rs
+    ((r : KeptRecord) → HasHome numbers families r → HasHome numbers' families' r) → AllHome numbers families m rs → AllHome numbers' families' m rs
 all_mapped numbers numbers' families families' m [] f all = tt
 all_mapped numbers numbers' families families' m (r ∷ rs) f all = (λ live. f r (all.0 live), all_mapped numbers numbers' families families' m rs f all.1)
 
 pub all_push : (numbers : List (ℕ × ℕ)) (families : List (Option Shared)) (m : ℕ) (rs : List KeptRecord) (r : KeptRecord) →
-    AllHome numbers families m rs → (is_unexpired_record m r ≡ true → IsHome numbers families r) → AllHome numbers families m (rs ++ r ∷ [])
+    AllHome numbers families m rs → (is_unexpired_record m r ≡ true → HasHome numbers families r) → AllHome numbers families m (rs ++ r ∷ [])
 all_push numbers families m [] r all home = (home, tt)
 all_push numbers families m (x ∷ rs) r all home = (all.0, all_push numbers families m rs r all.1 home)
 
 pub all_split : (numbers : List (ℕ × ℕ)) (families : List (Option Shared)) (m : ℕ) (rs : List KeptRecord) (r : KeptRecord) (later : List KeptRecord) →
-    AllHome numbers families m (rs ++ r ∷ later) → is_unexpired_record m r ≡ true → IsHome numbers families r
+    AllHome numbers families m (rs ++ r ∷ later) → is_unexpired_record m r ≡ true → HasHome numbers families r
 all_split numbers families m [] r later all live = all.0 live
 all_split numbers families m (x ∷ rs) r later all live = all_split numbers families m rs r later all.1 live
 
@@ -130,11 +130,11 @@ map-push f [] x = refl
 map-push f (y ∷ xs) x = ap (λ zs. f y ∷ zs) (map-push f xs x)
 
 -- the image goes on
-pub tells_push : (f : Kept → Kept) (rs : List KeptRecord) (r : KeptRecord) (kept kept' : List Kept) (m : ℕ) → TellsSame (map f (image_of rs)) kept m →
-    TellsSame (kept ++ f (kept_record r) ∷ []) kept' m → TellsSame (map f (image_of (rs ++ r ∷ []))) kept' m
+pub tells_push : (f : Kept → Kept) (rs : List KeptRecord) (r : KeptRecord) (kept kept' : List Kept) (m : ℕ) → TellsSame (map f (as_kept rs)) kept m →
+    TellsSame (kept ++ f (kept_record r) ∷ []) kept' m → TellsSame (map f (as_kept (rs ++ r ∷ []))) kept' m
 tells_push f rs r kept kept' m so_far more =
-    rw (map-push kept_record rs r, map-push f (image_of rs) (kept_record r))
-    (same_on _ _ _ m (same_push (map f (image_of rs)) kept (f (kept_record r)) m so_far) more)
+    rw (map-push kept_record rs r, map-push f (as_kept rs) (kept_record r))
+    (same_on _ _ _ m (same_push (map f (as_kept rs)) kept (f (kept_record r)) m so_far) more)
 
 pub map_empty : {A B : Type 0} (f : A → B) (xs : List A) → map f xs ≡ [] → xs ≡ []
 map_empty f [] h = refl
@@ -165,13 +165,13 @@ fits_restored image t ren history m number tied is fits =
       answers = λ d u le. found_renumbered ren image d u ∙ ap (option_map (renumbered ren)) (fits.answers d u le) ∙ twice d u (grant_at history d u);
       count = λ u le. count_renumbered ren image u ∙ fits.count u le;
       once = λ d. rw (named_renumbered image d) (fits.once d);
-      apart = λ d e g h a b same. fits.apart d e g h a b (is.apart d e (seen history number d m g) (seen history number e m h)
-          (fits.answers d m (omega arith) ∙ ap (option_map (seen history number d m)) a)
-          (fits.answers e m (omega arith) ∙ ap (option_map (seen history number e m)) b) same);
+      apart = λ d e g h a b same. fits.apart d e g h a b (is.apart d e (to_keep history number d m g) (to_keep history number e m h)
+          (fits.answers d m (omega arith) ∙ ap (option_map (to_keep history number d m)) a)
+          (fits.answers e m (omega arith) ∙ ap (option_map (to_keep history number e m)) b) same);
       is_history = fits.is_history;
     })
   where
-    twice : (d : List ℕ) (u : ℕ) (o : Option Grant) → option_map (renumbered ren) (option_map (seen history number d u) o) ≡ option_map (seen history (λ f. ren (number f)) d u) o
+    twice : (d : List ℕ) (u : ℕ) (o : Option Grant) → option_map (renumbered ren) (option_map (to_keep history number d u) o) ≡ option_map (to_keep history (λ f. ren (number f)) d u) o
     twice d u None = refl
     twice d u (Some g) = refl
 
@@ -183,8 +183,8 @@ fits_restored image t ren history m number tied is fits =
 
 -- families of the image have numbers of their own
 pub restored_from : (numbers : List (ℕ × ℕ)) (families : List (Option Shared)) (records : List KeptRecord) (kept : List Kept) (m : ℕ) →
-    AreHomes numbers families → AllHome numbers families m records → TellsSame (map (renumbered (renumber_by numbers)) (image_of records)) kept m →
-    IsRestored (image_of records) kept m (renumber_by numbers)
+    AreHomes numbers families → AllHome numbers families m records → TellsSame (map (renumbered (renumber_by numbers)) (as_kept records)) kept m →
+    IsRestored (as_kept records) kept m (renumber_by numbers)
 restored_from numbers families records kept m homes all tells = record {
   tells = tells;
   apart = λ d e j k a b same. (let x = numbered records all d j a in let y = numbered records all e k b in
@@ -192,18 +192,18 @@ restored_from numbers families records kept m homes all tells = record {
       (y.1 ∙ ap (λ n. Some n) (sym (ap (λ o. unwrap_or o 0) y.1) ∙ sym same ∙ ap (λ o. unwrap_or o 0) x.1)));
 }
   where
-    numbered : (rs : List KeptRecord) → AllHome numbers families m rs → (d : List ℕ) (j : Kept) → kept_at (image_of rs) d m ≡ Some j → (n : ℕ) × (number_of numbers j.grant.family ≡ Some n)
+    numbered : (rs : List KeptRecord) → AllHome numbers families m rs → (d : List ℕ) (j : Kept) → kept_at (as_kept rs) d m ≡ Some j → (n : ℕ) × (number_of_family numbers j.grant.family ≡ Some n)
     numbered [] none d j h = cc
     numbered (r ∷ rs) homes_of d j h = numbered_cases (bytes_eq d r.digest) (is_unexpired_record m r) refl h (numbered rs homes_of.1 d j)
       where
-        here : is_unexpired_record m r ≡ true → Some (kept_record r) ≡ Some j → (n : ℕ) × (number_of numbers j.grant.family ≡ Some n)
+        here : is_unexpired_record m r ≡ true → Some (kept_record r) ≡ Some j → (n : ℕ) × (number_of_family numbers j.grant.family ≡ Some n)
         here live is =
             let home = homes_of.0 live in
             let same : kept_record r ≡ j = cc in
-            (home.number, ap (λ (x : Kept). number_of numbers x.grant.family) (sym same) ∙ home.number_is)
+            (home.number, ap (λ (x : Kept). number_of_family numbers x.grant.family) (sym same) ∙ home.number_is)
 
-        numbered_cases : (a b : Bool) → is_unexpired_record m r ≡ b → cond (a && b) (Some (kept_record r)) (kept_at (image_of rs) d m) ≡ Some j →
-            (kept_at (image_of rs) d m ≡ Some j → (n : ℕ) × (number_of numbers j.grant.family ≡ Some n)) → (n : ℕ) × (number_of numbers j.grant.family ≡ Some n)
+        numbered_cases : (a b : Bool) → is_unexpired_record m r ≡ b → cond (a && b) (Some (kept_record r)) (kept_at (as_kept rs) d m) ≡ Some j →
+            (kept_at (as_kept rs) d m ≡ Some j → (n : ℕ) × (number_of_family numbers j.grant.family ≡ Some n)) → (n : ℕ) × (number_of_family numbers j.grant.family ≡ Some n)
         numbered_cases true true live is more = here live is
         numbered_cases true false live is more = more is
         numbered_cases false b live is more = more is
@@ -214,28 +214,28 @@ pub parts_at : (rs : List KeptRecord) (i : ℕ) (d : KeptRecord) → i < length 
 parts_at rs i d lt = sym (take-append-drop i rs) ∙ ap (λ xs. take i rs ++ xs) (rw add-one (drop-cons rs i d lt))
 
 pub all_at : (numbers : List (ℕ × ℕ)) (families : List (Option Shared)) (m : ℕ) (whole rs : List KeptRecord) (r : KeptRecord) (later : List KeptRecord) → whole ≡ rs ++ r ∷ later →
-    AllHome numbers families m whole → is_unexpired_record m r ≡ true → IsHome numbers families r
+    AllHome numbers families m whole → is_unexpired_record m r ≡ true → HasHome numbers families r
 all_at numbers families m whole rs r later is all live = all_split numbers families m rs r later (subst (AllHome numbers families m) is all) live
 
-count_past : (p : Kept → Bool) (rs : List KeptRecord) (r : KeptRecord) (later : List KeptRecord) → p (kept_record r) ≡ true → count_by p (image_of rs) + 1 ≤ count_by p (image_of (rs ++ r ∷ later))
+count_past : (p : Kept → Bool) (rs : List KeptRecord) (r : KeptRecord) (later : List KeptRecord) → p (kept_record r) ≡ true → count_by p (as_kept rs) + 1 ≤ count_by p (as_kept (rs ++ r ∷ later))
 count_past p [] r later is =
-    let sums = count_by-cons p (kept_record r) (image_of later) in
+    let sums = count_by-cons p (kept_record r) (as_kept later) in
     let one = ap (λ b. cond {A = ℕ} b 1 0) is in
     let none : count_by p [] ≡ 0 = refl in
     omega (arith, sums, one, none)
 count_past p (x ∷ rs) r later is =
-    let before = count_by-cons p (kept_record x) (image_of rs) in
-    let after = count_by-cons p (kept_record x) (image_of (rs ++ r ∷ later)) in
+    let before = count_by-cons p (kept_record x) (as_kept rs) in
+    let after = count_by-cons p (kept_record x) (as_kept (rs ++ r ∷ later)) in
     let more = count_past p rs r later is in
     omega (arith, before, after, more)
 
 pub full_from : (ren : ℕ → ℕ) (whole rs : List KeptRecord) (r : KeptRecord) (later : List KeptRecord) (kept : List Kept) (m limit : ℕ) → whole ≡ rs ++ r ∷ later →
-    TellsSame (map (renumbered ren) (image_of rs)) kept m → is_unexpired_record m r ≡ true → limit < kept_unexpired kept m + 1 → limit < kept_unexpired (image_of whole) m
+    TellsSame (map (renumbered ren) (as_kept rs)) kept m → is_unexpired_record m r ≡ true → limit < kept_unexpired kept m + 1 → limit < kept_unexpired (as_kept whole) m
 full_from ren whole rs r later kept m limit is tells live full =
     let same = tells.counts m (omega arith) in
-    let count = count_renumbered ren (image_of rs) m in
+    let count = count_renumbered ren (as_kept rs) m in
     let more = count_past (λ k. is_unexpired m k.grant) rs r later live in
-    let all : kept_unexpired (image_of whole) m ≡ kept_unexpired (image_of (rs ++ r ∷ later)) m = ap (λ xs. kept_unexpired (image_of xs) m) is in
+    let all : kept_unexpired (as_kept whole) m ≡ kept_unexpired (as_kept (rs ++ r ∷ later)) m = ap (λ xs. kept_unexpired (as_kept xs) m) is in
     omega (arith, same, count, more, all, full)
 
 some_counted : (p : Kept → Bool) (ks : List Kept) → is_some (find p ks) ≡ true → 0 < count_by p ks
@@ -247,23 +247,23 @@ some_counted p (k ∷ ks) h = some_cases (p k) (count_by-cons p k ks) h (some_co
     some_cases false sums h more = let rest = more h in omega (arith, sums, rest)
 
 pub two_from : (whole rs : List KeptRecord) (r : KeptRecord) (later : List KeptRecord) (m : ℕ) → whole ≡ rs ++ r ∷ later →
-    is_unexpired_record m r ≡ true → is_some (kept_at (image_of rs) r.digest m) ≡ true → HasTwo (image_of whole) m
+    is_unexpired_record m r ≡ true → is_some (kept_at (as_kept rs) r.digest m) ≡ true → HasDigestTwice (as_kept whole) m
 two_from whole rs r later m is live there =
     let p = λ (k : Kept). is_named r.digest m k.grant in
-    let one = some_counted p (image_of rs) there in
+    let one = some_counted p (as_kept rs) there in
     let more = count_past p rs r later (and_from (bytes_eq r.digest r.digest) (is_unexpired_record m r) ((bytes_eq-Decides r.digest r.digest).1 refl) live) in
-    let all : count_by p (image_of whole) ≡ count_by p (image_of (rs ++ r ∷ later)) = ap (λ xs. count_by p (image_of xs)) is in
+    let all : count_by p (as_kept whole) ≡ count_by p (as_kept (rs ++ r ∷ later)) = ap (λ xs. count_by p (as_kept xs)) is in
     (r.digest, omega (arith, one, more, all))
 
-pub known_push : (rs : List KeptRecord) (r : KeptRecord) (d : List ℕ) (m : ℕ) → (is_some (kept_at (image_of rs) d m) ≡ true) ⊎ (is_named d m (kept_record r).grant ≡ true) →
-    is_some (kept_at (image_of (rs ++ r ∷ [])) d m) ≡ true
+pub known_push : (rs : List KeptRecord) (r : KeptRecord) (d : List ℕ) (m : ℕ) → (is_some (kept_at (as_kept rs) d m) ≡ true) ⊎ (is_named d m (kept_record r).grant ≡ true) →
+    is_some (kept_at (as_kept (rs ++ r ∷ [])) d m) ≡ true
 known_push [] r d m (inl h) = absurd (false≢true h)
 known_push [] r d m (inr h) = ap (λ b. is_some (cond b (Some (kept_record r)) None)) h
 known_push (x ∷ rs) r d m h = known_cases (is_named d m (kept_record x).grant) h (known_push rs r d m)
   where
-    known_cases : (b : Bool) → (is_some (cond b (Some (kept_record x)) (kept_at (image_of rs) d m)) ≡ true) ⊎ (is_named d m (kept_record r).grant ≡ true) →
-        ((is_some (kept_at (image_of rs) d m) ≡ true) ⊎ (is_named d m (kept_record r).grant ≡ true) → is_some (kept_at (image_of (rs ++ r ∷ [])) d m) ≡ true) →
-        is_some (cond b (Some (kept_record x)) (kept_at (image_of (rs ++ r ∷ [])) d m)) ≡ true
+    known_cases : (b : Bool) → (is_some (cond b (Some (kept_record x)) (kept_at (as_kept rs) d m)) ≡ true) ⊎ (is_named d m (kept_record r).grant ≡ true) →
+        ((is_some (kept_at (as_kept rs) d m) ≡ true) ⊎ (is_named d m (kept_record r).grant ≡ true) → is_some (kept_at (as_kept (rs ++ r ∷ [])) d m) ≡ true) →
+        is_some (cond b (Some (kept_record x)) (kept_at (as_kept (rs ++ r ∷ [])) d m)) ≡ true
     known_cases true h more = refl
     known_cases false h more = more h
 
@@ -332,12 +332,12 @@ step_expired families m front whole it rest e is expired so_far =
 
 pub step_kept : (families : List (Option Shared)) (m : ℕ) (items items' : List KeptRecord) (r : KeptRecord) (whole : List Kept) (it rest : List (List ℕ × Record)) (e : List ℕ × Record) → it ≡ e ∷ rest → is_live_at m e.1 ≡ true →
     kept_record r ≡ kept_in families e → items' ≡ items ++ r ∷ [] →
-    image_of items ++ filter (λ (k : Kept). is_unexpired m k.grant) (all_kept families it) ≡ whole → image_of items' ++ filter (λ (k : Kept). is_unexpired m k.grant) (all_kept families rest) ≡ whole
+    as_kept items ++ filter (λ (k : Kept). is_unexpired m k.grant) (all_kept families it) ≡ whole → as_kept items' ++ filter (λ (k : Kept). is_unexpired m k.grant) (all_kept families rest) ≡ whole
 step_kept families m items items' r whole it rest e is live same pushed so_far =
-    ap (λ xs. image_of xs ++ tail) pushed ∙ ap (λ xs. xs ++ tail) (map-push kept_record items r) ∙ append_assoc (image_of items) (kept_record r ∷ []) tail
-    ∙ ap (λ k. image_of items ++ k ∷ tail) same
-    ∙ ap (λ b. image_of items ++ cond b (kept_in families e ∷ tail) tail) (sym live)
-    ∙ ap (λ es. image_of items ++ filter (λ (k : Kept). is_unexpired m k.grant) (all_kept families es)) (sym is) ∙ so_far
+    ap (λ xs. as_kept xs ++ tail) pushed ∙ ap (λ xs. xs ++ tail) (map-push kept_record items r) ∙ append_assoc (as_kept items) (kept_record r ∷ []) tail
+    ∙ ap (λ k. as_kept items ++ k ∷ tail) same
+    ∙ ap (λ b. as_kept items ++ cond b (kept_in families e ∷ tail) tail) (sym live)
+    ∙ ap (λ es. as_kept items ++ filter (λ (k : Kept). is_unexpired m k.grant) (all_kept families es)) (sym is) ∙ so_far
   where
     tail : List Kept
     tail = filter (λ (k : Kept). is_unexpired m k.grant) (all_kept families rest)

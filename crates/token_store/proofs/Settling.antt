@@ -25,7 +25,7 @@ use Rattle.token_store.specs.declared.record.Record.{Record}
 use Rattle.token_store.specs.declared.record.Shared.{Shared}
 use Rattle.token_store.specs.declared.tables.Tables.{Tables}
 use Rattle.token_store.specs.Kept.{Kept, kept_at}
-use Rattle.token_store.specs.Records.{shared_at, or_nothing, expiry, expiry_of, is_coded, is_live_at, kept_in, kept_by, kept_of, all_kept, IsOrderOf, IsCounted, IsOwned, Tied, IsTied, HasLeft, HasEntered, TellsSame, SharesSame, Forgets}
+use Rattle.token_store.specs.Records.{shared_at, or_nothing, expiry, expiry_of, is_coded, is_live_at, kept_in, kept_under, kept_of, all_kept, IsOrderOf, IsCounted, IsOwned, Tied, IsTied, HasLeft, HasEntered, TellsSame, SharesSame, ForgetsExpired}
 use Rattle.token_store.specs.Room.{Waits}
 use Rattle.token_store.proofs.Looking.{shown, found, count-push, same_as_is}
 use Rattle.token_store.proofs.Waiting.{waits_other}
@@ -54,7 +54,7 @@ ordered_fewer es es' order digest taken ordered d t at = fewer_cases (bytes_eq d
 pub forgotten : (t t' : Tables) (digest : List ℕ) (n : ℕ) (r : Record) → IsTied t (n ∷ []) → lookup (bytes_eq digest) t.records.entries ≡ Some r → IsDistinct bytes_eq (keys_of t'.records.entries) →
     IsPermutation (remove_entry (bytes_eq digest) t.records.entries) t'.records.entries →
     ((d : List ℕ) → lookup (bytes_eq d) t'.records.entries ≡ cond (bytes_eq digest d) None (lookup (bytes_eq d) t.records.entries)) →
-    HasLeft t.families.slots t'.families.slots r.family → IsOwned t'.families.slots t'.owners.keys → heap_items t'.order ≡ heap_items t.order → lookup (bytes_eq digest) t'.records.entries ≡ None → Forgets t t' digest n
+    HasLeft t.families.slots t'.families.slots r.family → IsOwned t'.families.slots t'.owners.keys → heap_items t'.order ≡ heap_items t.order → lookup (bytes_eq digest) t'.records.entries ≡ None → ForgetsExpired t t' digest n
 forgotten t t' digest n r tied at once' moved taken left owned order absent =
     let counted' = counted_without t.families.slots t'.families.slots t.records.entries t'.records.entries (n ∷ []) digest r tied.counted at moved left in
     record {
@@ -78,7 +78,7 @@ forgotten t t' digest n r tied at once' moved taken left owned order absent =
         omega (arith, same, sums, one)
 
 -- where nothing has the digest there is nothing to forget
-pub forgot_none : (t : Tables) (digest : List ℕ) (n : ℕ) → IsTied t (n ∷ []) → lookup (bytes_eq digest) t.records.entries ≡ None → Forgets t t digest n
+pub forgot_none : (t : Tables) (digest : List ℕ) (n : ℕ) → IsTied t (n ∷ []) → lookup (bytes_eq digest) t.records.entries ≡ None → ForgetsExpired t t digest n
 forgot_none t digest n tied absent = record { tied = tied; absent = absent; same = λ m none. same_as_is (kept_of t) m; shares = λ d x. refl }
 
 -- a family that waits still does
@@ -124,7 +124,7 @@ counted_settled families es es' digest r moved counted n =
 -- what is seen is one more
 pub settled_tells : (families : List (Option Shared)) (es es' : List (List ℕ × Record)) (digest : List ℕ) (r : Record) (m : ℕ) → IsDistinct bytes_eq (keys_of es) → IsDistinct bytes_eq (keys_of es') →
     lookup (bytes_eq digest) es ≡ None → IsPermutation ((digest, r) ∷ es) es' → ((d : List ℕ) → lookup (bytes_eq d) es' ≡ cond (bytes_eq digest d) (Some r) (lookup (bytes_eq d) es)) →
-    TellsSame (all_kept families es ++ kept_by (shared_at families r.family) digest r ∷ []) (all_kept families es') m
+    TellsSame (all_kept families es ++ kept_under (shared_at families r.family) digest r ∷ []) (all_kept families es') m
 settled_tells families es es' digest r m once once' absent moved finds = record {
   finds = λ d t le.
       found families es' d t once' ∙ ap (shown families d t) (finds d) ∙ find_cases d t (bytes_eq digest d) refl
@@ -135,7 +135,7 @@ settled_tells families es es' digest r m once once' absent moved finds = record 
 }
   where
     k : Kept
-    k = kept_by (shared_at families r.family) digest r
+    k = kept_under (shared_at families r.family) digest r
 
     swapped : (a b : ℕ) → a + b ≡ b + a
     swapped a b = omega arith
@@ -177,7 +177,7 @@ entered_same g old new n more entered same k = number_cases (eqb k n) refl
         ∙ ap (λ i. g (slice_index_or old i None)) (sym number)
 
 pub entered_shares : (old new : List (Option Shared)) (n more k : ℕ) → HasEntered old new n more → SharesSame old new k
-entered_shares old new n more k entered d x = entered_same (λ o. kept_by (or_nothing o) d x) old new n more entered (λ s. refl) k
+entered_shares old new n more k entered d x = entered_same (λ o. kept_under (or_nothing o) d x) old new n more entered (λ s. refl) k
 
 entered_count : (old new : List (Option Shared)) (n more k : ℕ) → HasEntered old new n more → is_some (slice_index_or old n None) ≡ true →
     (shared_at new k).count ≡ (shared_at old k).count + cond {A = ℕ} (eqb n k) more 0

@@ -19,7 +19,7 @@ use Rattle.token_store.specs.declared.record.Record.{Record}
 use Rattle.token_store.specs.declared.record.Shared.{Shared}
 use Rattle.token_store.specs.declared.tables.Tables.{Tables}
 use Rattle.token_store.specs.Kept.{Kept, kept_at, kept_unexpired}
-use Rattle.token_store.specs.Fits.{FitsBy, seen}
+use Rattle.token_store.specs.Fits.{FitsBy, to_keep}
 use Rattle.token_store.specs.Records.{shared_at, is_live_at, expiry, kept_in, kept_of, all_kept, IsTied, IsUnused, AllLive, TellsSame}
 use Rattle.token_store.proofs.Looking.{shown, found}
 use Rattle.token_store.proofs.Dropping.{count_seen, member_counted}
@@ -117,6 +117,6 @@ pub seen_kept : (kept : List Kept) (history : List Event) (number : ℕ → ℕ)
 seen_kept kept history number digest m k fits at =
     grant_cases (grant_at history digest m) (sym at ∙ fits.answers digest m (omega arith))
   where
-    grant_cases : (o : Option Grant) → Some k ≡ option_map (seen history number digest m) o → Some (kept_seen k) ≡ option_map (seen_in history digest m) o
+    grant_cases : (o : Option Grant) → Some k ≡ option_map (to_keep history number digest m) o → Some (kept_seen k) ≡ option_map (seen_in history digest m) o
     grant_cases None h = cc
-    grant_cases (Some g) h = let same : k ≡ seen history number digest m g = cc in ap (λ x. Some (kept_seen x)) same
+    grant_cases (Some g) h = let same : k ≡ to_keep history number digest m g = cc in ap (λ x. Some (kept_seen x)) same

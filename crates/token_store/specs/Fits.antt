@@ -6,8 +6,8 @@ use Rattle.token_store.specs.declared.fault.StoreFault.TheVariants.{Full, DrawTa
 use Rattle.token_store.specs.Kept.{Kept, Held, kept_at, kept_unexpired}
 
 -- what is to be kept of what the digest names, with its family under the store's number
-abbrev pub seen : List Event → (ℕ → ℕ) → List ℕ → ℕ → Grant → Kept
-seen history number digest moment g = record {
+abbrev pub to_keep : List Event → (ℕ → ℕ) → List ℕ → ℕ → Grant → Kept
+to_keep history number digest moment g = record {
   grant = record g { family = number g.family };
   terms = code_terms history g.family;
   spent = is_spent history digest moment;
@@ -17,7 +17,7 @@ seen history number digest moment g = record {
 -- From the moment on what is kept answers as the history does. `number` has the store's number of each family.
 pub record FitsBy (kept : List Kept) (history : List Event) (moment : ℕ) (number : ℕ → ℕ) : Type 0 where
   -- each digest is answered for as in the history
-  pub answers : (digest : List ℕ) (t : ℕ) → moment ≤ t → kept_at kept digest t ≡ option_map (seen history number digest t) (grant_at history digest t)
+  pub answers : (digest : List ℕ) (t : ℕ) → moment ≤ t → kept_at kept digest t ≡ option_map (to_keep history number digest t) (grant_at history digest t)
   -- as many are unexpired
   pub count : (t : ℕ) → moment ≤ t → kept_unexpired kept t ≡ unexpired_count history t
   -- no two unexpired records have one digest
@@ -36,8 +36,8 @@ abbrev pub FitsStore : Held → List Event → ℕ → Type 0
 FitsStore store history moment = FitsHistory store.kept history moment
 
 -- the numbers of the families, with that of one more
-abbrev pub named : (ℕ → ℕ) → ℕ → ℕ → ℕ → ℕ
-named number place n family = if family == place then n else number family
+abbrev pub with_family_number : (ℕ → ℕ) → ℕ → ℕ → ℕ → ℕ
+with_family_number number place n family = if family == place then n else number family
 
 -- why codes or tokens are refused: they have no room, or a digest is taken
 abbrev pub refusal_by : (has_room is_taken : Bool) → Option StoreFault

@@ -47,8 +47,8 @@ kept_record r = record {
 }
 
 -- what the records say is kept
-abbrev pub image_of : List KeptRecord → List Kept
-image_of records = map kept_record records
+abbrev pub as_kept : List KeptRecord → List Kept
+as_kept records = map kept_record records
 
 abbrev pub is_unexpired_record : ℕ → KeptRecord → Bool
 is_unexpired_record moment r = nat_lt moment (r.moment + r.life)
@@ -58,7 +58,7 @@ abbrev pub shared_of : KeptRecord → Shared
 shared_of r = record { client = r.client; owner = r.owner; code_scope = r.code_scope; ended = r.ended; count = 0 }
 
 -- the family shares what the record says
-pub record Agrees (s : Shared) (r : KeptRecord) : Type 0 where
+pub record AgreesWithRecord (s : Shared) (r : KeptRecord) : Type 0 where
   pub client : s.client ≡ r.client
   pub owner : s.owner ≡ r.owner
   pub code_scope : s.code_scope ≡ r.code_scope
@@ -78,5 +78,5 @@ pub record IsRestored (image kept : List Kept) (moment : ℕ) (renumber : ℕ �
       renumber j.grant.family ≡ renumber k.grant.family → j.grant.family ≡ k.grant.family
 
 -- two that are unexpired have one digest
-abbrev pub HasTwo : List Kept → ℕ → Type 0
-HasTwo image moment = (digest : List ℕ) × (2 ≤ count_by (λ k. is_named digest moment k.grant) image)
+abbrev pub HasDigestTwice : List Kept → ℕ → Type 0
+HasDigestTwice image moment = (digest : List ℕ) × (2 ≤ count_by (λ k. is_named digest moment k.grant) image)

@@ -55,8 +55,8 @@ abbrev pub is_live_at : ℕ → Record → Bool
 is_live_at moment r = nat_lt moment (r.moment + r.life)
 
 -- a record under its digest as it is seen, by what its family shares
-abbrev pub kept_by : Shared → List ℕ → Record → Kept
-kept_by s digest r = record {
+abbrev pub kept_under : Shared → List ℕ → Record → Kept
+kept_under s digest r = record {
   grant = record {
     digest = digest;
     kind = kind_in r.given;
@@ -90,7 +90,7 @@ shared_at families n = or_nothing (slice_index_or families n None)
 -- THE VIEW
 
 abbrev pub kept_in : List (Option Shared) → List ℕ × Record → Kept
-kept_in families e = kept_by (shared_at families e.1.family) e.0 e.1
+kept_in families e = kept_under (shared_at families e.1.family) e.0 e.1
 
 abbrev pub all_kept : List (Option Shared) → List (List ℕ × Record) → List Kept
 all_kept families records = map (kept_in families) records
@@ -192,26 +192,26 @@ pub record HasClosed (old new : List (Option Shared)) (n : ℕ) : Type 0 where
 
 -- each of the family looks as it did
 abbrev pub SharesSame : List (Option Shared) → List (Option Shared) → ℕ → Type 0
-SharesSame old new n = (digest : List ℕ) (r : Record) → kept_by (shared_at new n) digest r ≡ kept_by (shared_at old n) digest r
+SharesSame old new n = (digest : List ℕ) (r : Record) → kept_under (shared_at new n) digest r ≡ kept_under (shared_at old n) digest r
 
 -- nothing is kept under the digest any more, where only something expired was
-pub record Forgets (t t' : Tables) (digest : List ℕ) (n : ℕ) : Type 0 where
+pub record ForgetsExpired (t t' : Tables) (digest : List ℕ) (n : ℕ) : Type 0 where
   pub tied : IsTied t' (n ∷ [])
   pub absent : lookup (bytes_eq digest) t'.records.entries ≡ None
   pub same : (moment : ℕ) → kept_at (kept_of t) digest moment ≡ None → TellsSame (kept_of t) (kept_of t') moment
   pub shares : SharesSame t.families.slots t'.families.slots n
 
 -- a mark, and which records it is meant for
-pub data Mark : Type 0 where
-  Spent : (digest : List ℕ) → (moment : ℕ) → Mark
-  Ended : (family : ℕ) → Mark
-  Lowered : (owner client mask : ℕ) → Mark
+pub data RecordMark : Type 0 where
+  Spent : (digest : List ℕ) → (moment : ℕ) → RecordMark
+  Ended : (family : ℕ) → RecordMark
+  Lowered : (owner client mask : ℕ) → RecordMark
 
 -- what is kept of a record, with such a mark
-abbrev pub marked : Mark → Kept → Kept
-marked (Mark.Spent digest moment) k = if is_named digest moment k.grant then record k { spent = true } else k
-marked (Mark.Ended family) k = if k.grant.family == family then record k { ended = true } else k
-marked (Mark.Lowered owner client mask) k =
+abbrev pub marked : RecordMark → Kept → Kept
+marked (RecordMark.Spent digest moment) k = if is_named digest moment k.grant then record k { spent = true } else k
+marked (RecordMark.Ended family) k = if k.grant.family == family then record k { ended = true } else k
+marked (RecordMark.Lowered owner client mask) k =
     if is_beyond (Consented owner client mask) k.terms then record k { ended = true } else k
 
 -- the family has the mark, if it is there
@@ -317,8 +317,8 @@ pub record Place : Type 0 where
   pub code_scope : Option ℕ
   pub ended : Bool
 
-abbrev pub place_of : ℕ → Shared → Place
-place_of n s = record { family = n; client = s.client; owner = s.owner; code_scope = s.code_scope; ended = s.ended }
+abbrev pub family_place : ℕ → Shared → Place
+family_place n s = record { family = n; client = s.client; owner = s.owner; code_scope = s.code_scope; ended = s.ended }
 
 -- that of a family of the client's own
 abbrev pub own_place : ℕ → ℕ → Place

@@ -1,7 +1,7 @@
 //! Changes are made.
 ghost use Rattle.std.specs.Prelude.{◌≡◌, ◌+◌, ℕ, List, [], ◌∷◌, Some, None, length};
 ghost use Rattle.consent.specs.History.{Change as told, Event, Grant, CanFollow, grant_at, with_change, with_changes};
-ghost use Rattle.consent.specs.Changes.{change_of, changes_of, listed, code_given, token_issued, issued_with, family_ended, AllFollow};
+ghost use Rattle.consent.specs.Changes.{change_of, changes_of, as_list, code_given, token_issued, issued_with, family_ended, AllFollow};
 ghost use Rattle.consent.specs.declared.change.Change.{Change};
 ghost use Rattle.token_store.specs.Fits.{FitsHistory};
 ghost use Rattle.token_store.specs.Records.{IsTied, kept_of};
@@ -123,10 +123,10 @@ impl Tables {
     /// Makes the changes, which room was made for.
     pub(crate) fn apply(&mut self, changes: &Changes<'_>, moment: Moment)
         requires tied { IsTied self.old [] }
-        requires room { HasRoomFor (room_of self.old) (listed changes.now) }
+        requires room { HasRoomFor (room_of self.old) (as_list changes.now) }
         ensures tied { IsTied self.new [] }
         ensures fits { (history : List Event) (next : List told) → FitsHistory (kept_of self.old) history moment →
-            changes_of history moment (listed changes.now) ≡ Some next → AllFollow history moment next →
+            changes_of history moment (as_list changes.now) ≡ Some next → AllFollow history moment next →
             FitsHistory (kept_of self.new) (with_changes history moment next) moment }
     {
         match changes {

@@ -1,8 +1,8 @@
 //! A store's codes and tokens as values, from which a store is made again.
 
 ghost use Rattle.std.specs.Prelude.{◌≡◌, ◌+◌, ℕ, true, false, IfOk};
-ghost use Rattle.token_store.specs.Image.{Agrees, is_unexpired_record, kept_record, renumbered_to, shared_of};
-ghost use Rattle.token_store.specs.Records.{kept_by};
+ghost use Rattle.token_store.specs.Image.{AgreesWithRecord, is_unexpired_record, kept_record, renumbered_to, shared_of};
+ghost use Rattle.token_store.specs.Records.{kept_under};
 
 use crate::record::{CodeTexts, Given, Record, Shared};
 use consent::{ClientNo, Moment, OwnerNo, TokenKind};
@@ -60,8 +60,8 @@ impl KeptRecord<'_> {
 
     // Whether the family shares what the record says.
     pub(crate) fn is_of(&self, shared: &Shared) -> bool
-        ensures agrees { result ≡ true → Agrees shared.now self.now }
-        ensures differs { result ≡ false → ¬ Agrees shared.now self.now }
+        ensures agrees { result ≡ true → AgreesWithRecord shared.now self.now }
+        ensures differs { result ≡ false → ¬ AgreesWithRecord shared.now self.now }
     {
         self.client == shared.client
             && self.owner == shared.owner
@@ -71,8 +71,8 @@ impl KeptRecord<'_> {
 
     // The record in the family with the number.
     pub(crate) fn record(&self, alloc: Global, number: usize) -> Result<Record, AllocError>
-        ensures kept { IfOk result (λ r. (s : Shared) → Agrees s self.now →
-            kept_by s self.now.digest r ≡ renumbered_to number (kept_record self.now)) }
+        ensures kept { IfOk result (λ r. (s : Shared) → AgreesWithRecord s self.now →
+            kept_under s self.now.digest r ≡ renumbered_to number (kept_record self.now)) }
         ensures family { IfOk result (λ r. r.family ≡ number) }
     {
         let given = match self.kind {
@@ -104,7 +104,7 @@ impl KeptRecord<'_> {
 impl Record {
     // What the record is under the digest, with what its family shares.
     pub(crate) fn kept(&self, digest: &[u8; 32], shared: &Shared) -> KeptRecord<'_>
-        ensures { kept_record result ≡ kept_by shared.now digest.now self.now }
+        ensures { kept_record result ≡ kept_under shared.now digest.now self.now }
     {
         let kind = match &self.given {
             Given::Code(texts) => KeptKind::Code {

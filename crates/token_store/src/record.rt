@@ -1,7 +1,7 @@
 //! A code or token as the store keeps it, and what those of a family share.
 ghost use Rattle.std.specs.Prelude.{◌≡◌, ◌+◌, ℕ, List, IfOk};
 ghost use Rattle.token_store.specs.Found.{found_seen, kept_seen};
-ghost use Rattle.token_store.specs.Records.{is_live_at, kept_by, place_of, code_shared, own_shared, code_kept, token_kept, owner_no, texts_seen, texts_given};
+ghost use Rattle.token_store.specs.Records.{is_live_at, kept_under, family_place, code_shared, own_shared, code_kept, token_kept, owner_no, texts_seen, texts_given};
 
 use crate::found::Found;
 use consent::{CODE_LIFE, ClientNo, CodeFacts, Kind, Moment, NewToken, OwnerNo, TokenKind};
@@ -114,7 +114,7 @@ impl Record {
 
     /// What is answered of it.
     pub(crate) fn found(&self, shared: &Shared) -> Found<'_>
-        ensures { (digest : List ℕ) → found_seen result ≡ kept_seen (kept_by shared.now digest self.now) }
+        ensures { (digest : List ℕ) → found_seen result ≡ kept_seen (kept_under shared.now digest self.now) }
     {
         let (kind, owner, redirect, challenge) = match &self.given {
             Given::Code(texts) => (
@@ -148,7 +148,7 @@ impl Record {
     ) -> Record
         requires { texts_seen texts ≡ texts_given facts.now }
         ensures kept { (digest : List ℕ) (count : ℕ) →
-            kept_by (code_shared facts.now count) digest result ≡ code_kept number digest facts.now moment }
+            kept_under (code_shared facts.now count) digest result ≡ code_kept number digest facts.now moment }
         ensures family { result.family ≡ number }
     {
         Record {
@@ -163,7 +163,7 @@ impl Record {
 
     /// That of a token, in the family with the number.
     pub(crate) fn of_token(token: &NewToken, moment: Moment, number: usize) -> Record
-        ensures kept { (shared : Shared) → kept_by shared token.now.digest result ≡ token_kept (place_of number shared) moment token.now }
+        ensures kept { (shared : Shared) → kept_under shared token.now.digest result ≡ token_kept (family_place number shared) moment token.now }
         ensures family { result.family ≡ number }
     {
         Record {

@@ -1,6 +1,6 @@
 //! Room for changes.
 ghost use Rattle.std.specs.Prelude.{◌≡◌, ◌+◌, ℕ, List, [], ◌∷◌, OnOk, option_map};
-ghost use Rattle.consent.specs.Changes.{listed};
+ghost use Rattle.consent.specs.Changes.{as_list};
 ghost use Rattle.consent.specs.declared.change.Change.{Change};
 ghost use Rattle.token_store.specs.Records.{IsTied, TellsSame, kept_of, texts_seen};
 ghost use Rattle.token_store.specs.Room.{records_by, records_of, AreReady, Expects, HasRoomFor, room_of};
@@ -26,7 +26,7 @@ fn records_by(change: &Change<'_>) -> usize
 
 // How many codes and tokens the changes give.
 fn records_of(changes: &Changes<'_>) -> usize
-    ensures { result ≡ records_of (listed changes.now) }
+    ensures { result ≡ records_of (as_list changes.now) }
 {
     match changes {
         Changes::Nothing => 0,
@@ -101,7 +101,7 @@ impl Tables {
         ensures same { kept_of self.new ≡ kept_of self.old }
         ensures records { self.new.records ≡ self.old.records }
         ensures order { self.new.order ≡ self.old.order }
-        ensures ready { OnOk result (AreReady self.new.families.slots (room_of self.new).coming (listed changes.now)) }
+        ensures ready { OnOk result (AreReady self.new.families.slots (room_of self.new).coming (as_list changes.now)) }
     {
         match changes {
             Changes::Nothing => Ok(()),
@@ -123,7 +123,7 @@ impl Tables {
         requires tied { IsTied self.old [] }
         ensures tied { IsTied self.new [] }
         ensures same { (moment : ℕ) → TellsSame (kept_of self.old) (kept_of self.new) moment }
-        ensures room { OnOk result (HasRoomFor (room_of self.new) (listed changes.now)) }
+        ensures room { OnOk result (HasRoomFor (room_of self.new) (as_list changes.now)) }
     {
         let count = records_of(changes);
         self.forget_coming();

@@ -5,9 +5,9 @@ ghost use Rattle.std.specs.Map.{lookup};
 ghost use Rattle.consent.specs.Limits.{record_limit};
 ghost use Rattle.consent.specs.History.{is_named, is_unexpired};
 ghost use Rattle.token_store.specs.Kept.{kept_unexpired};
-ghost use Rattle.token_store.specs.Records.{kept_by, kept_of, shared_at, HasEntered, TellsSame, IsTied};
-ghost use Rattle.token_store.specs.Image.{image_of, IsRestored, HasTwo, is_unexpired_record, kept_record, renumbered};
-ghost use Rattle.token_store.specs.Homes.{AreHomes, IsHome, AllHome, HasGrown, renumber_by};
+ghost use Rattle.token_store.specs.Records.{kept_under, kept_of, shared_at, HasEntered, TellsSame, IsTied};
+ghost use Rattle.token_store.specs.Image.{as_kept, IsRestored, HasDigestTwice, is_unexpired_record, kept_record, renumbered};
+ghost use Rattle.token_store.specs.Homes.{AreHomes, HasHome, AllHome, HasGrown, renumber_by};
 
 use crate::image::KeptRecord;
 use crate::record::Record;
@@ -38,7 +38,7 @@ impl Tables {
         requires absent { lookup (bytes_eq digest.now) self.old.records.entries ≡ None }
         ensures tied { OnOk result (IsTied self.new []) }
         ensures tells { OnOk result ((moment : ℕ) → TellsSame
-            (kept_of self.old ++ kept_by (shared_at self.old.families.slots new.family) digest.now new ∷ []) (kept_of self.new) moment) }
+            (kept_of self.old ++ kept_under (shared_at self.old.families.slots new.family) digest.now new ∷ []) (kept_of self.new) moment) }
         ensures entered { OnOk result (HasEntered self.old.families.slots self.new.families.slots new.family 1) }
         ensures found { OnOk result ((d : List ℕ) → lookup (bytes_eq d) self.new.records.entries
             ≡ (if bytes_eq digest.now d then Some new else lookup (bytes_eq d) self.old.records.entries)) }
@@ -71,7 +71,7 @@ impl Tables {
         ensures records { OnOk result (self.new.records.entries ≡ self.old.records.entries) }
         ensures homes { OnOk result (AreHomes numbers.new.entries self.new.families.slots) }
         ensures grown { OnOk result (HasGrown numbers.old.entries self.old.families.slots numbers.new.entries self.new.families.slots) }
-        ensures here { OnOk result (is_unexpired_record moment kept.now ≡ true → IsHome numbers.new.entries self.new.families.slots kept.now) }
+        ensures here { OnOk result (is_unexpired_record moment kept.now ≡ true → HasHome numbers.new.entries self.new.families.slots kept.now) }
         ensures full { IsErrOf result RestoreFault.Full → ⊥ }
         ensures twice { IsErrOf result RestoreFault.DigestTwice → ⊥ }
     {
@@ -129,10 +129,10 @@ impl Tables {
         moment: Moment,
     ) -> Result<(), RestoreFault>
         requires tied { IsTied self.old [] }
-        requires home { is_unexpired_record moment kept.now ≡ true → IsHome numbers.now.entries self.old.families.slots kept.now }
+        requires home { is_unexpired_record moment kept.now ≡ true → HasHome numbers.now.entries self.old.families.slots kept.now }
         ensures tied { OnOk result (IsTied self.new []) }
         ensures tells { OnOk result (TellsSame (kept_of self.old ++ renumbered (renumber_by numbers.now.entries) (kept_record kept.now) ∷ []) (kept_of self.new) moment) }
-        ensures homes { OnOk result ((r : KeptRecord) → IsHome numbers.now.entries self.old.families.slots r → IsHome numbers.now.entries self.new.families.slots r) }
+        ensures homes { OnOk result ((r : KeptRecord) → HasHome numbers.now.entries self.old.families.slots r → HasHome numbers.now.entries self.new.families.slots r) }
         ensures found { OnOk result ((d : List ℕ) → is_some (lookup (bytes_eq d) self.new.records.entries) ≡ true →
             (is_some (lookup (bytes_eq d) self.old.records.entries) ≡ true) ⊎ (is_named d moment (kept_record kept.now).grant ≡ true)) }
         ensures full { IsErrOf result RestoreFault.Full →
@@ -173,9 +173,9 @@ impl Tables {
         requires empty { self.old.records.entries ≡ [] }
         requires all { AllHome numbers.now.entries self.old.families.slots moment records.now }
         ensures tied { OnOk result (IsTied self.new []) }
-        ensures tells { OnOk result (TellsSame (map (renumbered (renumber_by numbers.now.entries)) (image_of records.now)) (kept_of self.new) moment) }
-        ensures full { IsErrOf result RestoreFault.Full → record_limit < kept_unexpired (image_of records.now) moment }
-        ensures twice { IsErrOf result RestoreFault.DigestTwice → HasTwo (image_of records.now) moment }
+        ensures tells { OnOk result (TellsSame (map (renumbered (renumber_by numbers.now.entries)) (as_kept records.now)) (kept_of self.new) moment) }
+        ensures full { IsErrOf result RestoreFault.Full → record_limit < kept_unexpired (as_kept records.now) moment }
+        ensures twice { IsErrOf result RestoreFault.DigestTwice → HasDigestTwice (as_kept records.now) moment }
     {
         for kept in records {
             if let Err(fault) = self.put_home(alloc, numbers, kept, moment) {
@@ -192,7 +192,7 @@ impl Tables {
         moment: Moment,
     ) -> Result<Vec<KeptRecord<'_>>, AllocError>
         requires tied { IsTied self.now [] }
-        ensures { IfOk result (λ v. image_of v.items ≡ filter (λ k. is_unexpired moment k.grant) (kept_of self.now)) }
+        ensures { IfOk result (λ v. as_kept v.items ≡ filter (λ k. is_unexpired moment k.grant) (kept_of self.now)) }
     {
         let mut kept = Vec::new(alloc);
         for (digest, record) in self.records.iter() {
@@ -216,9 +216,9 @@ impl Tables {
         moment: Moment,
     ) -> Result<Tables, RestoreFault>
         ensures tied { IfOk result (λ t. IsTied t []) }
-        ensures restored { IfOk result (λ t. (renumber : ℕ → ℕ) × IsRestored (image_of records.now) (kept_of t) moment renumber) }
-        ensures full { IsErrOf result RestoreFault.Full → record_limit < kept_unexpired (image_of records.now) moment }
-        ensures twice { IsErrOf result RestoreFault.DigestTwice → HasTwo (image_of records.now) moment }
+        ensures restored { IfOk result (λ t. (renumber : ℕ → ℕ) × IsRestored (as_kept records.now) (kept_of t) moment renumber) }
+        ensures full { IsErrOf result RestoreFault.Full → record_limit < kept_unexpired (as_kept records.now) moment }
+        ensures twice { IsErrOf result RestoreFault.DigestTwice → HasDigestTwice (as_kept records.now) moment }
     {
         let mut tables = Tables::new(alloc);
         let mut numbers = HashMap::new(alloc);

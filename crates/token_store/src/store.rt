@@ -2,7 +2,7 @@
 ghost use Rattle.std.specs.Prelude.{◌≡◌, ◌<◌, ℕ, List, [], Some, length, option_map, OnOk, IfOk, IsErrOf};
 ghost use Rattle.consent.specs.Limits.{record_limit};
 ghost use Rattle.consent.specs.History.{Event, Change, unexpired_count, with_changes};
-ghost use Rattle.consent.specs.Changes.{changes_of, listed, AllFollow};
+ghost use Rattle.consent.specs.Changes.{changes_of, as_list, AllFollow};
 ghost use Rattle.consent.specs.Seen.{seen_at};
 
 use crate::fault::StoreFault;
@@ -36,7 +36,7 @@ impl Model for Store {
 
 impl Store {
     ghost use Rattle.token_store.specs.Fits.{FitsHistory, FitsStore, refusal};
-    ghost use Rattle.token_store.specs.Image.{image_of, HasTwo};
+    ghost use Rattle.token_store.specs.Image.{as_kept, HasDigestTwice};
     ghost use Rattle.token_store.specs.Kept.{kept_unexpired};
     ghost use Rattle.token_store.specs.Found.{found_seen};
     ghost use Rattle.token_store.specs.Room.{HasRoom};
@@ -54,7 +54,7 @@ impl Store {
     /// The unexpired codes and tokens, of which a store can be made again.
     pub fn records(&self, alloc: Global, moment: Moment) -> Result<Vec<KeptRecord<'_>>, AllocError>
         ensures { IfOk result (λ records. (history : List Event) → FitsStore self.now history moment →
-            FitsHistory (image_of records.items) history moment) }
+            FitsHistory (as_kept records.items) history moment) }
     {
         self.tables.kept_records(alloc, moment)
     }
@@ -66,10 +66,10 @@ impl Store {
         records: &[KeptRecord<'_>],
         moment: Moment,
     ) -> Result<Self, RestoreFault>
-        ensures fits { IfOk result (λ store. (history : List Event) → FitsHistory (image_of records.now) history moment →
+        ensures fits { IfOk result (λ store. (history : List Event) → FitsHistory (as_kept records.now) history moment →
             FitsStore store history moment) }
-        ensures full { IsErrOf result RestoreFault.Full → record_limit < kept_unexpired (image_of records.now) moment }
-        ensures twice { IsErrOf result RestoreFault.DigestTwice → HasTwo (image_of records.now) moment }
+        ensures full { IsErrOf result RestoreFault.Full → record_limit < kept_unexpired (as_kept records.now) moment }
+        ensures twice { IsErrOf result RestoreFault.DigestTwice → HasDigestTwice (as_kept records.now) moment }
     {
         let tables = match Tables::restored(alloc, records, moment) {
             Ok(tables) => tables,
@@ -97,7 +97,7 @@ impl Store {
 
     /// Takes the memory that the changes need, which changes no answer.
     pub fn reserve(&mut self, changes: &Changes<'_>) -> Result<(), AllocError>
-        ensures room { OnOk result (HasRoom self.new (listed changes.now)) }
+        ensures room { OnOk result (HasRoom self.new (as_list changes.now)) }
         ensures fits { (history : List Event) (moment : ℕ) → FitsStore self.old history moment → FitsStore self.new history moment }
     {
         self.tables.reserve(self.alloc, changes)
@@ -105,9 +105,9 @@ impl Store {
 
     /// Makes the changes, which room was made for.
     pub fn apply(&mut self, changes: &Changes<'_>, moment: Moment)
-        requires { HasRoom self.old (listed changes.now) }
+        requires { HasRoom self.old (as_list changes.now) }
         ensures { (history : List Event) (next : List Change) → FitsStore self.old history moment →
-            changes_of history moment (listed changes.now) ≡ Some next → AllFollow history moment next →
+            changes_of history moment (as_list changes.now) ≡ Some next → AllFollow history moment next →
             FitsStore self.new (with_changes history moment next) moment }
     {
         self.tables.apply(changes, moment);

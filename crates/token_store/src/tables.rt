@@ -12,7 +12,7 @@ ghost use Rattle.consent.specs.declared.change.Change.{Change};
 ghost use Rattle.token_store.specs.Kept.{kept_at, kept_unexpired};
 ghost use Rattle.token_store.specs.Fits.{refusal_by};
 ghost use Rattle.token_store.specs.Room.{Waits, HasSpare, HasRoomFor, room_of};
-ghost use Rattle.token_store.specs.Records.{is_live_at, kept_by, kept_of, kept_in, shared_at, IsOwned, IsNextOwned, start_of, owner_cmp, HasEntered, HasLeft, HasEnded, HasOpened, HasClosed, HasLowered, lowered_by, TellsSame, IsTied, AllLive, IsLate, Forgets, Mark, marked, spent_in};
+ghost use Rattle.token_store.specs.Records.{is_live_at, kept_under, kept_of, kept_in, shared_at, IsOwned, IsNextOwned, start_of, owner_cmp, HasEntered, HasLeft, HasEnded, HasOpened, HasClosed, HasLowered, lowered_by, TellsSame, IsTied, AllLive, IsLate, ForgetsExpired, RecordMark, marked, spent_in};
 
 use crate::fault::StoreFault;
 use crate::record::{CodeTexts, Record, Shared};
@@ -81,7 +81,7 @@ impl Tables {
     /// The unexpired record of the digest, and what its family shares.
     pub(crate) fn at(&self, digest: &[u8; 32], moment: Moment) -> Option<(&Record, &Shared)>
         requires { IsTied self.now [] }
-        ensures { option_map (λ p. kept_by p.1.now digest.now p.0.now) result ≡ kept_at (kept_of self.now) digest.now moment }
+        ensures { option_map (λ p. kept_under p.1.now digest.now p.0.now) result ≡ kept_at (kept_of self.now) digest.now moment }
     {
         let record = self.record_at(digest, moment)?;
         let shared = self.families.get(record.family)?;
@@ -199,7 +199,7 @@ impl Tables {
     pub(crate) fn end(&mut self, number: usize)
         requires { IsTied self.old [] }
         ensures tied { IsTied self.new [] }
-        ensures marked { kept_of self.new ≡ map (marked (Mark.Ended number)) (kept_of self.old) }
+        ensures marked { kept_of self.new ≡ map (marked (RecordMark.Ended number)) (kept_of self.old) }
         ensures room { (changes : List Change) → HasRoomFor (room_of self.old) changes → HasRoomFor (room_of self.new) changes }
     {
         end_one(&mut self.families, number);
@@ -209,7 +209,7 @@ impl Tables {
     pub(crate) fn lower(&mut self, owner: OwnerNo, client: ClientNo, mask: u64)
         requires { IsTied self.old [] }
         ensures tied { IsTied self.new [] }
-        ensures marked { kept_of self.new ≡ map (marked (Mark.Lowered owner client mask)) (kept_of self.old) }
+        ensures marked { kept_of self.new ≡ map (marked (RecordMark.Lowered owner client mask)) (kept_of self.old) }
         ensures room { (changes : List Change) → HasRoomFor (room_of self.old) changes → HasRoomFor (room_of self.new) changes }
     {
         lower_all(
@@ -226,7 +226,7 @@ impl Tables {
         requires { IsTied self.old [] }
         ensures tied { IsTied self.new [] }
         ensures marked { (moment : ℕ) → is_some (kept_at (kept_of self.old) digest.now moment) ≡ true →
-            kept_of self.new ≡ map (marked (Mark.Spent digest.now moment)) (kept_of self.old) }
+            kept_of self.new ≡ map (marked (RecordMark.Spent digest.now moment)) (kept_of self.old) }
         ensures room { room_of self.new ≡ room_of self.old }
     {
         spend_one(&mut self.records, digest);
@@ -282,7 +282,7 @@ impl Tables {
 
     // Lets go of what has expired under the digest of a record that is about to come.
     fn forget(&mut self, digest: &[u8; 32])
-        ensures forgotten { (n : ℕ) → IsTied self.old (n ∷ []) → Forgets self.old self.new digest.now n }
+        ensures forgotten { (n : ℕ) → IsTied self.old (n ∷ []) → ForgetsExpired self.old self.new digest.now n }
         ensures waiting { (n k : ℕ) (s : Shared) → IsTied self.old (k ∷ []) → Waits self.old.families.slots n s → Waits self.new.families.slots n s }
         ensures spare { spare self.old.records ≤ spare self.new.records }
         ensures order { self.new.order ≡ self.old.order }
@@ -300,7 +300,7 @@ impl Tables {
         requires room { HasSpare (room_of self.old) 1 }
         ensures tied { IsTied self.new [] }
         ensures tells { (moment : ℕ) → kept_at (kept_of self.old) digest.now moment ≡ None →
-            TellsSame (kept_of self.old ++ kept_by (shared_at self.old.families.slots new.family) digest.now new ∷ []) (kept_of self.new) moment }
+            TellsSame (kept_of self.old ++ kept_under (shared_at self.old.families.slots new.family) digest.now new ∷ []) (kept_of self.new) moment }
         ensures room { (n : ℕ) → HasSpare (room_of self.old) (n + 1) → HasSpare (room_of self.new) n }
         ensures waiting { (n : ℕ) (s : Shared) → n ≢ new.family → Waits self.old.families.slots n s → Waits self.new.families.slots n s }
         ensures coming { self.new.coming ≡ self.old.coming }

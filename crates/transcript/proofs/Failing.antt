@@ -2,11 +2,11 @@
 use Rattle.std.proofs.Common.{◌≢◌, ℕ, List, [], Result, Ok, Err, IfErr, inr}
 use Rattle.hook_host.specs.declared.host.HookHost.{Ghosts as Hosting}
 use Rattle.clients.specs.RegistryRecord.{RegistryRecord}
-use Rattle.http_edge.specs.Schedule.{start}
+use Rattle.http_edge.specs.Schedule.{first_world}
 use Rattle.http_edge.specs.Edges.{SeenEdge}
 use Rattle.http_edge.specs.Reached.{Reached}
 use Rattle.transcript.specs.Replays.{Configures, Stops, IsReplayFault}
-use Rattle.transcript.specs.Running.{Fails}
+use Rattle.transcript.specs.Running.{LinesFail}
 use Rattle.transcript.specs.declared.fault.ReplayFault.{ReplayFault}
 use Rattle.transcript.specs.declared.fault.ReplayFault.TheVariants.{Config, BadLine, Refused, Memory}
 
@@ -18,7 +18,7 @@ later_fault hosting first text rules later (Refused line fault) configures stops
 later_fault hosting first text rules later Memory configures stops = tt {0}
 
 pub fails_later : {H T : Type 0} (hosting : Hosting H) (edge : SeenEdge H) (first : H) (text : List ℕ) (rules : RegistryRecord) (later : List (List ℕ)) (r : Result T ReplayFault) → Configures text rules later
-    → Reached hosting edge rules first [] start → IfErr r (Fails hosting edge later) → IfErr r (IsReplayFault hosting first text)
+    → Reached hosting edge rules first [] first_world → IfErr r (LinesFail hosting edge later) → IfErr r (IsReplayFault hosting first text)
 fails_later hosting edge first text rules later (Ok x) configures reached fails = fails
 fails_later hosting edge first text rules later (Err fault) configures reached fails =
     later_fault hosting first text rules later fault configures (λ not_memory. fails not_memory rules first reached)

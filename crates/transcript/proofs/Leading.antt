@@ -2,12 +2,12 @@
 use Rattle.std.proofs.Common.{◌≡◌, ◌<◌, ◌≤◌, ◌+◌, ℕ, suc, zero, List, [], ◌∷◌, ◌++◌, false, Bor, map, take, drop, get_or, length, flat_map, Result, Err, IfErr, refl, sym, ap, ◌∙◌, subst, append_assoc, append-nil, arith, rules}
 use Rattle.std.proofs.lemmas.List.{take_all}
 use Rattle.hook_host.specs.declared.host.HookHost.{Ghosts as Hosting}
-use Rattle.http_edge.specs.Schedule.{Happening, Opened, Came, HasEnded, start}
+use Rattle.http_edge.specs.Schedule.{Happening, Opened, Came, HasEnded, first_world}
 use Rattle.http_edge.specs.Edges.{SeenEdge}
 use Rattle.transcript.specs.Lines.{Statement, Opens, Brings, Ends, States}
-use Rattle.transcript.specs.Events.{StandsFor, StandFor}
+use Rattle.transcript.specs.Events.{LineStandsFor, StandFor}
 use Rattle.transcript.specs.Faults.{IsLineFault}
-use Rattle.transcript.specs.Running.{StatementLeads, LineLeads, LineFails, RunTo, Runs, Fails, opened_at, opened_by}
+use Rattle.transcript.specs.Running.{StatementLeads, LineLeads, LineFails, RunTo, RunsLines, LinesFail, opened_at, opened_by}
 use Rattle.transcript.specs.declared.fault.ReplayFault.{ReplayFault}
 
 abbrev pub texts : List (Bor (List ℕ)) → List (List ℕ)
@@ -38,7 +38,7 @@ opened_on : (schedule : List Happening) (e : Happening) → flat_map opened_at (
 opened_on [] e = append-nil (opened_at e)
 opened_on (f ∷ schedule) e = ap (λ (rest : List ℕ). opened_at f ++ rest) (opened_on schedule e) ∙ sym (append_assoc (opened_at f) (flat_map opened_at schedule) (opened_at e))
 
-stand_on : (lines : List (List ℕ)) (schedule : List Happening) (line : List ℕ) (e : Happening) → StandFor lines schedule → StandsFor line e
+stand_on : (lines : List (List ℕ)) (schedule : List Happening) (line : List ℕ) (e : Happening) → StandFor lines schedule → LineStandsFor line e
     → StandFor (lines ++ line ∷ []) (schedule ++ e ∷ [])
 stand_on [] [] line e h one = (one, tt {0})
 stand_on [] (f ∷ schedule) line e h one = absurd h
@@ -47,11 +47,11 @@ stand_on (l ∷ lines) (f ∷ schedule) line e h one = (h.0, stand_on lines sche
 
 -- ---- runs
 
-pub nothing_run : {H : Type 0} (hosting : Hosting H) (edge : SeenEdge H) → Runs hosting edge edge [] []
-nothing_run hosting edge = λ rules first reached. record { schedule = []; stand_for = tt {0}; world = start; reached = reached; opened_are = refl }
+pub nothing_run : {H : Type 0} (hosting : Hosting H) (edge : SeenEdge H) → RunsLines hosting edge edge [] []
+nothing_run hosting edge = λ rules first reached. record { schedule = []; stand_for = tt {0}; world = first_world; reached = reached; opened_are = refl }
 
 pub run_on : {H : Type 0} (hosting : Hosting H) (old middle new : SeenEdge H) (lines : List (List ℕ)) (line opened opened' : List ℕ)
-    → Runs hosting old middle lines opened → LineLeads hosting middle new opened opened' line → Runs hosting old new (lines ++ line ∷ []) opened'
+    → RunsLines hosting old middle lines opened → LineLeads hosting middle new opened opened' line → RunsLines hosting old new (lines ++ line ∷ []) opened'
 run_on hosting old middle new lines line opened opened' before step = λ rules first reached. by_statement rules first (before rules first reached) step.statement step.states step.leads step.opened_are
   where
     by_statement : (rules : _) (first : _) (run : RunTo hosting rules first lines middle opened) (statement : Statement) → States line statement → StatementLeads hosting middle new statement
@@ -86,14 +86,14 @@ run_on hosting old middle new lines line opened opened' before step = λ rules f
 
 -- one line more was run
 pub run_line_on : {H : Type 0} (hosting : Hosting H) (old middle new : SeenEdge H) (lines : List (Bor (List ℕ))) (i : ℕ) (d : Bor (List ℕ)) (opened opened' : List ℕ) → i < length lines
-    → Runs hosting old middle (texts (take i lines)) opened → LineLeads hosting middle new opened opened' (get_or lines i d).now → Runs hosting old new (texts (take (i + 1) lines)) opened'
+    → RunsLines hosting old middle (texts (take i lines)) opened → LineLeads hosting middle new opened opened' (get_or lines i d).now → RunsLines hosting old new (texts (take (i + 1) lines)) opened'
 run_line_on hosting old middle new lines i d opened opened' below before step =
-    subst (λ (front : List (List ℕ)). Runs hosting old new front opened') (sym (ap (λ (n : ℕ). texts (take n lines)) (next i) ∙ texts_to lines i d below))
+    subst (λ (front : List (List ℕ)). RunsLines hosting old new front opened') (sym (ap (λ (n : ℕ). texts (take n lines)) (next i) ∙ texts_to lines i d below))
     (run_on hosting old middle new (texts (take i lines)) (get_or lines i d).now opened opened' before step)
 
 -- a line has a fault behind those that were run
 pub stops_at : {H : Type 0} (hosting : Hosting H) (old middle : SeenEdge H) (lines : List (Bor (List ℕ))) (i : ℕ) (d : Bor (List ℕ)) (opened : List ℕ) (number : ℕ) (fault : ReplayFault) → i < length lines
-    → number ≡ i + 2 → Runs hosting old middle (texts (take i lines)) opened → LineFails hosting middle number (get_or lines i d).now fault → Fails hosting old (texts lines) fault
+    → number ≡ i + 2 → RunsLines hosting old middle (texts (take i lines)) opened → LineFails hosting middle number (get_or lines i d).now fault → LinesFail hosting old (texts lines) fault
 stops_at hosting old middle lines i d opened number fault below number_is before fails = λ not_memory rules first reached.
     let run = before rules first reached in
     let count : number ≡ length (texts (take i lines)) + 2 = let l = texts_length lines i below in omega arith in
@@ -109,8 +109,8 @@ stops_at hosting old middle lines i d opened number fault below number_is before
 
 -- all lines were run
 pub run_all : {H : Type 0} (hosting : Hosting H) (old new : SeenEdge H) (lines : List (Bor (List ℕ))) (i : ℕ) (opened : List ℕ) → length lines ≤ i
-    → Runs hosting old new (texts (take i lines)) opened → Runs hosting old new (texts lines) opened
-run_all hosting old new lines i opened past runs = subst (λ (front : List (Bor (List ℕ))). Runs hosting old new (texts front) opened) (take_all i lines past) runs
+    → RunsLines hosting old new (texts (take i lines)) opened → RunsLines hosting old new (texts lines) opened
+run_all hosting old new lines i opened past runs = subst (λ (front : List (Bor (List ℕ))). RunsLines hosting old new (texts front) opened) (take_all i lines past) runs
 
 pub if_err : {T E : Type 0} (r : Result T E) (P : E → Type 0) (fault : E) → r ≡ Err fault → P fault → IfErr r P
 if_err r P fault same p = rw same p

@@ -4,14 +4,14 @@ use Rattle.std.specs.List.{AllByRecursion}
 use Rattle.std.proofs.lemmas.Bool.Decides.{nat_tests}
 use Rattle.hook_host.specs.declared.host.HookHost.{Ghosts as Hosting}
 use Rattle.clients.specs.RegistryRecord.{RegistryRecord}
-use Rattle.http_edge.specs.Answers.{Mark}
-use Rattle.http_edge.specs.Schedule.{ended, World, Connection, Happening, Opened, Came, HasEnded, Taken, Forgotten, Kept, Resumed, Comes, Passes, Happens, Run, start, fresh, heard, connection_at, with_connection}
+use Rattle.http_edge.specs.Answers.{AnswerMark}
+use Rattle.http_edge.specs.Schedule.{ended, World, Connection, Happening, Opened, Came, HasEnded, Taken, Forgotten, Kept, Resumed, PieceComes, PiecePasses, Happens, Run, first_world, fresh, heard, connection_at, with_connection}
 use Rattle.http_edge.specs.Lanes.{SeenLane, lane_at, output_in, ShowsConnections}
 use Rattle.http_edge.specs.Edges.{SeenEdge}
 use Rattle.transcript.specs.Lines.{Statement, Opens, Brings, Ends}
-use Rattle.transcript.specs.Events.{happening, StandsFor, StandFor}
-use Rattle.transcript.specs.Replays.{printed, IsAnswer}
-use Rattle.transcript.specs.Running.{RunTo, Runs, Answers, opened_at, printed_from}
+use Rattle.transcript.specs.Events.{happening, LineStandsFor, StandFor}
+use Rattle.transcript.specs.Replays.{printed, IsOutputOfLines}
+use Rattle.transcript.specs.Running.{RunTo, RunsLines, AnswersLines, opened_at, printed_from}
 
 abbrev pub numbers : List Connection → List ℕ
 numbers connections = map (λ k. k.number) connections
@@ -102,21 +102,21 @@ IsStated (Forgotten c) = ⊥
 IsStated Kept = ⊥
 IsStated (Resumed history greatest) = ⊥
 
-all_stated : (statement : Statement) (marks : List Mark) (closes : Bool) → IsStated (happening statement marks closes)
+all_stated : (statement : Statement) (marks : List AnswerMark) (closes : Bool) → IsStated (happening statement marks closes)
 all_stated (Opens c) marks closes = tt
 all_stated (Brings c moment draws piece) marks closes = tt
 all_stated (Ends c) marks closes = tt
 
-is_stated : (line : List ℕ) (e : Happening) → StandsFor line e → IsStated e
+is_stated : (line : List ℕ) (e : Happening) → LineStandsFor line e → IsStated e
 is_stated line e stands = subst IsStated (sym stands.event_is) (all_stated stands.statement stands.marks stands.closes)
 
-happens_whole : {H : Type 0} (hosting : Hosting H) (rules : RegistryRecord) (first : H) (old new : World) (line : List ℕ) (e : Happening) (ns : List ℕ) → StandsFor line e
+happens_whole : {H : Type 0} (hosting : Hosting H) (rules : RegistryRecord) (first : H) (old new : World) (line : List ℕ) (e : Happening) (ns : List ℕ) → LineStandsFor line e
     → Happens hosting rules first old e new → AreWhole old.connections ns → AreWhole new.connections (ns ++ opened_at e)
 happens_whole hosting rules first old new line (Opened c) ns stands h whole =
     subst (λ (ks : List Connection). AreWhole ks (ns ++ c ∷ [])) (sym h.connections) (added_whole old.connections ns c h.absent whole)
 happens_whole hosting rules first old new line (Came c piece moment draws marks closes) ns stands h whole = same_numbers new.connections ns (by_way h.1)
   where
-    by_way : (Comes hosting rules first old new c piece moment draws marks closes ⊎ Passes old new c marks closes) → AreWhole new.connections ns
+    by_way : (PieceComes hosting rules first old new c piece moment draws marks closes ⊎ PiecePasses old new c marks closes) → AreWhole new.connections ns
     by_way (inl comes) = subst (λ (ks : List Connection). AreWhole ks ns) (sym comes.connections)
         (with_whole old.connections ns c comes.before (heard comes.before piece comes.messages comes.outcomes closes) comes.here refl refl whole)
     by_way (inr passes) = subst (λ (w : World). AreWhole w.connections ns) (sym passes.same) whole
@@ -176,13 +176,13 @@ shown_printed (lane ∷ lanes) (k ∷ ks) shows untaken differ =
 
 -- lines that were run are answered by what is printed of the edge
 pub answered : {H : Type 0} (hosting : Hosting H) (old new : SeenEdge H) (lines : List (List ℕ)) (opened output : List ℕ)
-    → Runs hosting old new lines opened → output ≡ printed_from new opened → Answers hosting old lines output
+    → RunsLines hosting old new lines opened → output ≡ printed_from new opened → AnswersLines hosting old lines output
 answered hosting old new lines opened output runs is = λ rules first reached. from_run rules first (runs rules first reached)
   where
-    from_run : (rules : RegistryRecord) (first : _) → RunTo hosting rules first lines new opened → IsAnswer hosting rules first lines output
+    from_run : (rules : RegistryRecord) (first : _) → RunTo hosting rules first lines new opened → IsOutputOfLines hosting rules first lines output
     from_run rules first run =
         let whole : AreWhole run.world.connections (flat_map opened_at run.schedule) =
-        run_whole hosting rules first lines run.schedule start run.world [] run.stand_for run.reached.run (record { numbers_are = refl; untaken = tt {0}; differ = tt {0} }) in
+        run_whole hosting rules first lines run.schedule first_world run.world [] run.stand_for run.reached.run (record { numbers_are = refl; untaken = tt {0}; differ = tt {0} }) in
         let opened_are : opened ≡ numbers run.world.connections = run.opened_are ∙ sym whole.numbers_are in
         let differ : Differ (numbers run.world.connections) = subst Differ (sym whole.numbers_are) whole.differ in
         record {

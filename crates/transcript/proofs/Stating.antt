@@ -2,7 +2,7 @@
 use Rattle.std.proofs.Common.{◌≡◌, ℕ, List, [], ◌∷◌, codes, Option, Some, None, Result, IfOk, Bor, ◌≤◌, ◌<◌, length, get_or, map, refl, subst, arith}
 use Rattle.std.specs.Option.{option_map}
 use Rattle.messages.specs.declared.request.Draws.{Draws}
-use Rattle.transcript.specs.Numbers.{IsConnection, IsMoment}
+use Rattle.transcript.specs.Numbers.{IsConnection, IsMomentWord}
 use Rattle.transcript.specs.Pieces.{SpellsDraws, SpellsPiece}
 use Rattle.transcript.specs.declared.line.Line.{Line}
 use Rattle.transcript.specs.Seen.{stated}
@@ -20,7 +20,7 @@ pub record IsPiece (name number seconds drawn hex : List ℕ) (other : Statement
   pub named : name ≡ codes "bytes"
   pub is : other ≡ Brings c moment draws piece
   pub connection_is : IsConnection number c
-  pub moment_is : IsMoment seconds moment
+  pub moment_is : IsMomentWord seconds moment
   pub draws_are : SpellsDraws drawn draws
   pub piece_is : SpellsPiece hex piece
 
@@ -41,7 +41,7 @@ is_piece name number seconds drawn hex (Brings c moment draws piece) h =
       named = cc;
       is = refl;
       connection_is = subst (λ w. IsConnection w c) n h.connection_is;
-      moment_is = subst (λ w. IsMoment w moment) s h.moment_is;
+      moment_is = subst (λ w. IsMomentWord w moment) s h.moment_is;
       draws_are = subst (λ w. SpellsDraws w draws) d h.draws_are;
       piece_is = subst (λ w. SpellsPiece w piece) x h.piece_is;
     }
@@ -54,7 +54,7 @@ pub no_connection : (name number seconds drawn hex : List ℕ) (other : Statemen
     → WordsState (piece_words name number seconds drawn hex) other → None ≡ Some other
 no_connection name number seconds drawn hex other none h = let p = is_piece name number seconds drawn hex other h in let e = none p.c p.connection_is in cc
 
-pub no_moment : (name number seconds drawn hex : List ℕ) (other : Statement) → ((m : ℕ) → IsMoment seconds m → None ≡ Some m)
+pub no_moment : (name number seconds drawn hex : List ℕ) (other : Statement) → ((m : ℕ) → IsMomentWord seconds m → None ≡ Some m)
     → WordsState (piece_words name number seconds drawn hex) other → None ≡ Some other
 no_moment name number seconds drawn hex other none h = let p = is_piece name number seconds drawn hex other h in let e = none p.moment p.moment_is in cc
 
@@ -67,7 +67,7 @@ pub no_piece : (name number seconds drawn hex : List ℕ) (other : Statement) �
 no_piece name number seconds drawn hex other none h = let p = is_piece name number seconds drawn hex other h in let e = none p.piece p.piece_is in cc
 
 pub same_piece : (name number seconds drawn hex : List ℕ) (c moment : ℕ) (draws : List Draws) (piece : List ℕ) (other : Statement)
-    → ((c' : ℕ) → IsConnection number c' → Some c ≡ Some c') → ((m : ℕ) → IsMoment seconds m → Some moment ≡ Some m)
+    → ((c' : ℕ) → IsConnection number c' → Some c ≡ Some c') → ((m : ℕ) → IsMomentWord seconds m → Some moment ≡ Some m)
     → ((d : List Draws) → SpellsDraws drawn d → Some draws ≡ Some d) → ((x : List ℕ) → SpellsPiece hex x → Some piece ≡ Some x)
     → WordsState (piece_words name number seconds drawn hex) other → Some (Brings c moment draws piece) ≡ Some other
 same_piece name number seconds drawn hex c moment draws piece other only_c only_m only_d only_x h =

@@ -1,29 +1,29 @@
 -- What the lines of a transcript stand for.
 use Rattle.std.specs.Prelude.{◌≡◌, ℕ, List, [], ◌∷◌, Bool, ⊤}
-use Rattle.http_edge.specs.Answers.{Mark}
+use Rattle.http_edge.specs.Answers.{AnswerMark}
 use Rattle.http_edge.specs.Schedule.{Connection, Happening, Opened, Came, HasEnded}
 use Rattle.http_edge.specs.Refusals.{IsOpeningRefusal, IsPieceRefusal, IsEndingRefusal}
 use Rattle.http_edge.specs.declared.fault.EdgeFault.{EdgeFault}
 use Rattle.transcript.specs.Lines.{Statement, Opens, Brings, Ends, States}
 
 -- the event that a statement is, with what was free in it
-abbrev pub happening : Statement → List Mark → Bool → Happening
+abbrev pub happening : Statement → List AnswerMark → Bool → Happening
 happening (Opens c) marks closes = Opened c
 happening (Brings c moment draws piece) marks closes = Came c piece moment draws marks closes
 happening (Ends c) marks closes = HasEnded c
 
 -- a line stands for an event
-pub record StandsFor (line : List ℕ) (event : Happening) : Type 0 where
+pub record LineStandsFor (line : List ℕ) (event : Happening) : Type 0 where
   pub statement : Statement
   pub states : States line statement
-  pub marks : List Mark
+  pub marks : List AnswerMark
   pub closes : Bool
   pub event_is : event ≡ happening statement marks closes
 
 -- each line stands for the event at its place
 abbrev pub StandFor : List (List ℕ) → List Happening → Type 0
 StandFor [] [] = ⊤
-StandFor (line ∷ lines) (event ∷ schedule) = StandsFor line event × StandFor lines schedule
+StandFor (line ∷ lines) (event ∷ schedule) = LineStandsFor line event × StandFor lines schedule
 StandFor lines schedule = ⊥
 
 -- why a statement's event is refused, where these connections are

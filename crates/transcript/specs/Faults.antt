@@ -29,7 +29,7 @@ replay_fault_text (Refused line fault) = codes "line " ++ decimal line ++ codes 
 replay_fault_text Memory = codes "Memory"
 
 -- a line states what comes, and its event is refused where these connections are, not for memory
-pub record IsRefused (connections : List Connection) (line : List ℕ) (fault : EdgeFault) : Type 0 where
+pub record IsLineRefused (connections : List Connection) (line : List ℕ) (fault : EdgeFault) : Type 0 where
   pub statement : Statement
   pub states : States line statement
   pub refusal : IsStatementRefusal fault connections statement
@@ -38,6 +38,6 @@ pub record IsRefused (connections : List Connection) (line : List ℕ) (fault : 
 -- the fault of the line with this number: it states nothing, or its event is refused
 abbrev pub IsLineFault : List Connection → ℕ → List ℕ → ReplayFault → Type 0
 IsLineFault connections number line (BadLine n) = (n ≡ number) × ((statement : Statement) → States line statement → ⊥)
-IsLineFault connections number line (Refused n fault) = (n ≡ number) × IsRefused connections line fault
+IsLineFault connections number line (Refused n fault) = (n ≡ number) × IsLineRefused connections line fault
 IsLineFault connections number line Memory = ⊤
 IsLineFault connections number line (Config fault) = ⊥

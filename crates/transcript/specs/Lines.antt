@@ -3,12 +3,12 @@ use Rattle.std.specs.Prelude.{◌≡◌, ◌==◌, ℕ, List, [], ◌∷◌, ◌
 use Rattle.std.specs.Io.BufRead.{strip_last}
 use Rattle.std.specs.List.{slice_split}
 use Rattle.messages.specs.declared.request.Draws.{Draws}
-use Rattle.transcript.specs.Numbers.{IsConnection, IsMoment}
+use Rattle.transcript.specs.Numbers.{IsConnection, IsMomentWord}
 use Rattle.transcript.specs.Pieces.{SpellsDraws, SpellsPiece}
 
 -- the lines of a text: each ends with a line feed, the last one may do without
-abbrev pub lines_in : List ℕ → List (List ℕ)
-lines_in text = slice_split (λ c. c == 10) (strip_last 10 text)
+abbrev pub transcript_lines : List ℕ → List (List ℕ)
+transcript_lines text = slice_split (λ c. c == 10) (strip_last 10 text)
 
 -- a line hands in the JSON text of a registry: all that stands behind the space
 abbrev pub HandsIn : List ℕ → List ℕ → Type 0
@@ -21,8 +21,8 @@ pub data Statement : Type 0 where
   Ends : (c : ℕ) → Statement
 
 -- the words of a line, with a single space between two
-abbrev pub words_in : List ℕ → List (List ℕ)
-words_in line = slice_split (λ c. c == 32) line
+abbrev pub line_words : List ℕ → List (List ℕ)
+line_words line = slice_split (λ c. c == 32) line
 
 -- two words, of which the second is the connection's number
 pub record NamesConnection (words : List (List ℕ)) (name : List ℕ) (c : ℕ) : Type 0 where
@@ -38,7 +38,7 @@ pub record NamesPiece (words : List (List ℕ)) (c moment : ℕ) (draws : List D
   pub hex : List ℕ
   pub words_are : words ≡ codes "bytes" ∷ number ∷ seconds ∷ drawn ∷ hex ∷ []
   pub connection_is : IsConnection number c
-  pub moment_is : IsMoment seconds moment
+  pub moment_is : IsMomentWord seconds moment
   pub draws_are : SpellsDraws drawn draws
   pub piece_is : SpellsPiece hex piece
 
@@ -50,4 +50,4 @@ WordsState words (Ends c) = NamesConnection words (codes "end") c
 
 -- a line states what comes
 abbrev pub States : List ℕ → Statement → Type 0
-States line statement = WordsState (words_in line) statement
+States line statement = WordsState (line_words line) statement

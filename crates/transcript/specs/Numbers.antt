@@ -7,5 +7,5 @@ abbrev pub IsConnection : List ℕ → ℕ → Type 0
 IsConnection word c = (word ≡ decimal c) × (c < 2 ^ 32)
 
 -- a word is a moment, in seconds
-abbrev pub IsMoment : List ℕ → ℕ → Type 0
-IsMoment word moment = (word ≡ decimal moment) × (moment < 2 ^ 63)
+abbrev pub IsMomentWord : List ℕ → ℕ → Type 0
+IsMomentWord word moment = (word ≡ decimal moment) × (moment < 2 ^ 63)

@@ -6,8 +6,8 @@ use Rattle.hook_host.specs.declared.host.HookHost.{Ghosts as Hosting}
 use Rattle.clients.specs.Registry.{registry_in}
 use Rattle.clients.specs.RegistryRecord.{RegistryRecord}
 use Rattle.clients.specs.declared.fault.ConfigFault.TheVariants as config
-use Rattle.http_edge.specs.Schedule.{World, Happening, Run, start}
-use Rattle.transcript.specs.Lines.{lines_in, HandsIn}
+use Rattle.http_edge.specs.Schedule.{World, Happening, Run, first_world}
+use Rattle.transcript.specs.Lines.{transcript_lines, HandsIn}
 use Rattle.transcript.specs.Events.{StandFor}
 use Rattle.transcript.specs.Faults.{IsLineFault}
 use Rattle.transcript.specs.declared.fault.ReplayFault.{ReplayFault}
@@ -22,29 +22,29 @@ abbrev pub printed_all : World → List ℕ
 printed_all world = flat_map (λ k. printed k.number k.output) world.connections
 
 -- the first line of a text hands in JSON text, and these lines follow
-pub record BeginsWith (text json : List ℕ) (later : List (List ℕ)) : Type 0 where
+pub record BeginsWithConfig (text json : List ℕ) (later : List (List ℕ)) : Type 0 where
   pub first : List ℕ
-  pub lines_are : lines_in text ≡ first ∷ later
+  pub lines_are : transcript_lines text ≡ first ∷ later
   pub hands_in : HandsIn first json
 
 -- no line hands in JSON text before all others
 abbrev pub HasNoConfig : List ℕ → Type 0
-HasNoConfig text = (json : List ℕ) (later : List (List ℕ)) → BeginsWith text json later → ⊥
+HasNoConfig text = (json : List ℕ) (later : List (List ℕ)) → BeginsWithConfig text json later → ⊥
 
 -- the first line of a text hands in this registry, and these lines follow
 pub record Configures (text : List ℕ) (rules : RegistryRecord) (later : List (List ℕ)) : Type 0 where
   pub json : List ℕ
-  pub begins : BeginsWith text json later
+  pub begins : BeginsWithConfig text json later
   pub registry : registry_in json ≡ Ok rules
 
 -- the events that lines stand for are accepted one after the other, and lead to this world
 pub record LeadTo {H : Type 0} (hosting : Hosting H) (rules : RegistryRecord) (first : H) (lines : List (List ℕ)) (world : World) : Type 0 where
   pub schedule : List Happening
   pub stand_for : StandFor lines schedule
-  pub run : Run hosting rules first start schedule world
+  pub run : Run hosting rules first first_world schedule world
 
 -- lines are answered by all that went to all connections, after the last line
-pub record IsAnswer {H : Type 0} (hosting : Hosting H) (rules : RegistryRecord) (first : H) (lines : List (List ℕ)) (output : List ℕ) : Type 0 where
+pub record IsOutputOfLines {H : Type 0} (hosting : Hosting H) (rules : RegistryRecord) (first : H) (lines : List (List ℕ)) (output : List ℕ) : Type 0 where
   pub world : World
   pub lead : LeadTo hosting rules first lines world
   pub output_is : output ≡ printed_all world
@@ -64,7 +64,7 @@ pub record IsReplay {H : Type 0} (hosting : Hosting H) (first : H) (text output 
   pub rules : RegistryRecord
   pub later : List (List ℕ)
   pub configures : Configures text rules later
-  pub answer : IsAnswer hosting rules first later output
+  pub answer : IsOutputOfLines hosting rules first later output
 
 -- a transcript stops behind its first line
 pub record StopsLater {H : Type 0} (hosting : Hosting H) (first : H) (text : List ℕ) (fault : ReplayFault) : Type 0 where
@@ -76,7 +76,7 @@ pub record StopsLater {H : Type 0} (hosting : Hosting H) (first : H) (text : Lis
 -- why a transcript has no answer
 abbrev pub IsReplayFault : {H : Type 0} → Hosting H → H → List ℕ → ReplayFault → Type 0
 IsReplayFault hosting first text (Config fault) =
-    (fault ≢ config.Memory) × (json : List ℕ) × (later : List (List ℕ)) × BeginsWith text json later × (registry_in json ≡ Err fault)
+    (fault ≢ config.Memory) × (json : List ℕ) × (later : List (List ℕ)) × BeginsWithConfig text json later × (registry_in json ≡ Err fault)
 IsReplayFault hosting first text (BadLine line) = ((line ≡ 1) × HasNoConfig text) ⊎ StopsLater hosting first text (BadLine line)
 IsReplayFault hosting first text (Refused line fault) = StopsLater hosting first text (Refused line fault)
 IsReplayFault hosting first text Memory = ⊤

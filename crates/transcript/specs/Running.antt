@@ -3,22 +3,22 @@ use Rattle.std.specs.Prelude.{◌≡◌, ◌≢◌, ◌++◌, ℕ, List, [], ◌
 use Rattle.std.specs.List.{flat_map}
 use Rattle.hook_host.specs.declared.host.HookHost.{Ghosts as Hosting}
 use Rattle.clients.specs.RegistryRecord.{RegistryRecord}
-use Rattle.http_edge.specs.Schedule.{World, Happening, Opened, Came, HasEnded, Taken, Forgotten, Kept, Resumed, start}
+use Rattle.http_edge.specs.Schedule.{World, Happening, Opened, Came, HasEnded, Taken, Forgotten, Kept, Resumed, first_world}
 use Rattle.http_edge.specs.Edges.{SeenEdge, output_of}
-use Rattle.http_edge.specs.Reached.{Reached, Leads, PieceLeads}
+use Rattle.http_edge.specs.Reached.{Reached, HappeningLeads, PieceLeads}
 use Rattle.http_edge.specs.declared.fault.EdgeFault.{EdgeFault}
 use Rattle.transcript.specs.Lines.{Statement, Opens, Brings, Ends, States}
 use Rattle.transcript.specs.Events.{StandFor, IsStatementRefusal}
 use Rattle.transcript.specs.Faults.{IsLineFault}
-use Rattle.transcript.specs.Replays.{printed, IsAnswer, Stops}
+use Rattle.transcript.specs.Replays.{printed, IsOutputOfLines, Stops}
 use Rattle.transcript.specs.declared.fault.ReplayFault.{ReplayFault}
 use Rattle.transcript.specs.declared.fault.ReplayFault.TheVariants.{Memory}
 
 -- wherever the one edge was reached, the statement's event leads to the other
 abbrev pub StatementLeads : {H : Type 0} → Hosting H → SeenEdge H → SeenEdge H → Statement → Type 0
-StatementLeads hosting old new (Opens c) = Leads hosting old new (Opened c)
+StatementLeads hosting old new (Opens c) = HappeningLeads hosting old new (Opened c)
 StatementLeads hosting old new (Brings c moment draws piece) = PieceLeads hosting old new c piece moment draws
-StatementLeads hosting old new (Ends c) = Leads hosting old new (HasEnded c)
+StatementLeads hosting old new (Ends c) = HappeningLeads hosting old new (HasEnded c)
 
 -- the fault is that of the statement's event, wherever the edge was reached
 abbrev pub StatementRefuses : {H : Type 0} → Hosting H → SeenEdge H → Statement → EdgeFault → Type 0
@@ -65,19 +65,19 @@ pub record RunTo {H : Type 0} (hosting : Hosting H) (rules : RegistryRecord) (fi
   pub opened_are : opened ≡ flat_map opened_at schedule
 
 -- from a new edge on the lines were run
-abbrev pub Runs : {H : Type 0} → Hosting H → SeenEdge H → SeenEdge H → List (List ℕ) → List ℕ → Type 0
-Runs hosting old new lines opened =
-    (rules : RegistryRecord) (first : _) → Reached hosting old rules first [] start → RunTo hosting rules first lines new opened
+abbrev pub RunsLines : {H : Type 0} → Hosting H → SeenEdge H → SeenEdge H → List (List ℕ) → List ℕ → Type 0
+RunsLines hosting old new lines opened =
+    (rules : RegistryRecord) (first : _) → Reached hosting old rules first [] first_world → RunTo hosting rules first lines new opened
 
 -- from a new edge on the lines have this answer
-abbrev pub Answers : {H : Type 0} → Hosting H → SeenEdge H → List (List ℕ) → List ℕ → Type 0
-Answers hosting edge lines output =
-    (rules : RegistryRecord) (first : _) → Reached hosting edge rules first [] start → IsAnswer hosting rules first lines output
+abbrev pub AnswersLines : {H : Type 0} → Hosting H → SeenEdge H → List (List ℕ) → List ℕ → Type 0
+AnswersLines hosting edge lines output =
+    (rules : RegistryRecord) (first : _) → Reached hosting edge rules first [] first_world → IsOutputOfLines hosting rules first lines output
 
 -- from a new edge on one of the lines has this fault, unless memory was refused
-abbrev pub Fails : {H : Type 0} → Hosting H → SeenEdge H → List (List ℕ) → ReplayFault → Type 0
-Fails hosting edge lines fault =
-    fault ≢ Memory → (rules : RegistryRecord) (first : _) → Reached hosting edge rules first [] start → Stops hosting rules first lines fault
+abbrev pub LinesFail : {H : Type 0} → Hosting H → SeenEdge H → List (List ℕ) → ReplayFault → Type 0
+LinesFail hosting edge lines fault =
+    fault ≢ Memory → (rules : RegistryRecord) (first : _) → Reached hosting edge rules first [] first_world → Stops hosting rules first lines fault
 
 -- the output of all these connections
 abbrev pub printed_from : {H : Type 0} → SeenEdge H → List ℕ → List ℕ

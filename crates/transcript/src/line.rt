@@ -3,7 +3,7 @@
 ghost use Rattle.std.specs.Prelude.{◌≡◌, ◌==◌, ◌∷◌, [], ℕ, List, map, codes, Some, IfOk, IfSome};
 ghost use Rattle.std.specs.List.{slice_split};
 ghost use Rattle.std.specs.Option.{option_copied, option_map};
-ghost use Rattle.transcript.specs.Lines.{lines_in, words_in, HandsIn, States, Statement, WordsState};
+ghost use Rattle.transcript.specs.Lines.{transcript_lines, line_words, HandsIn, States, Statement, WordsState};
 ghost use Rattle.transcript.specs.Seen.{stated};
 
 use crate::number::{connection, moment};
@@ -30,7 +30,7 @@ pub enum Line {
 
 /// The lines of a text.
 pub fn lines(alloc: Global, text: &str) -> Result<Vec<&str>, AllocError>
-    ensures { IfOk result (λ lines. map (λ line. line.now) lines.items ≡ lines_in text.now) }
+    ensures { IfOk result (λ lines. map (λ line. line.now) lines.items ≡ transcript_lines text.now) }
 {
     text.strip_suffix('\n')
         .unwrap_or(text)
@@ -51,7 +51,7 @@ pub fn json(line: &str) -> Option<&str>
 
 /// The words of a line.
 fn words(alloc: Global, line: &str) -> Result<Vec<&str>, AllocError>
-    ensures { IfOk result (λ words. map (λ word. word.now) words.items ≡ words_in line.now) }
+    ensures { IfOk result (λ words. map (λ word. word.now) words.items ≡ line_words line.now) }
 {
     line.split(' ').collect(alloc)
 }

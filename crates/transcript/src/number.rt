@@ -2,7 +2,7 @@
 
 ghost use Rattle.std.specs.Prelude.{◌≡◌, ◌<◌, ◌^◌, ℕ, Some, IfSome};
 ghost use Rattle.std.specs.Fmt.{decimal};
-ghost use Rattle.transcript.specs.Numbers.{IsConnection, IsMoment};
+ghost use Rattle.transcript.specs.Numbers.{IsConnection, IsMomentWord};
 
 use consent::Moment;
 use itoa::Buffer;
@@ -31,8 +31,8 @@ pub fn connection(word: &str) -> Option<u32>
 
 /// A moment, in seconds.
 pub fn moment(word: &str) -> Option<Moment>
-    ensures some { IfSome result (IsMoment word.now) }
-    ensures only { (m : ℕ) → IsMoment word.now m → result ≡ Some m }
+    ensures some { IfSome result (IsMomentWord word.now) }
+    ensures only { (m : ℕ) → IsMomentWord word.now m → result ≡ Some m }
 {
     let seconds = natural(word)?;
     if seconds < 1 << 63 {

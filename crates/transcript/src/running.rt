@@ -4,7 +4,7 @@ ghost use Rattle.std.specs.Prelude.{◌≡◌, ◌++◌, [], codes, map, IfOk, I
 ghost use Rattle.std.specs.Fmt.{decimal};
 ghost use Rattle.transcript.specs.Seen.{stated};
 ghost use Rattle.transcript.specs.Replays.{printed, IsReplay, IsReplayFault};
-ghost use Rattle.transcript.specs.Running.{opened_by, printed_from, Answers, Fails, LineFails, LineLeads, Runs, StatementLeads, StatementRefuses};
+ghost use Rattle.transcript.specs.Running.{opened_by, printed_from, AnswersLines, LinesFail, LineFails, LineLeads, RunsLines, StatementLeads, StatementRefuses};
 
 use crate::fault::ReplayFault;
 use crate::line::{Line, json, lines, statement};
@@ -75,8 +75,8 @@ fn run_lines<H: HookHost>(
     edge: &mut Edge<H>,
     lines: &[&str],
 ) -> Result<Vec<u32>, ReplayFault>
-    ensures done { IfOk result (λ opened. Runs H.HookHost edge.old edge.new (map (λ line. line.now) lines.now) opened.items) }
-    ensures fault { IfErr result (Fails H.HookHost edge.old (map (λ line. line.now) lines.now)) }
+    ensures done { IfOk result (λ opened. RunsLines H.HookHost edge.old edge.new (map (λ line. line.now) lines.now) opened.items) }
+    ensures fault { IfErr result (LinesFail H.HookHost edge.old (map (λ line. line.now) lines.now)) }
 {
     let mut opened = Vec::new(alloc);
     let mut number = 1;
@@ -139,8 +139,8 @@ fn answer<H: HookHost + Drop>(
     mut edge: Edge<H>,
     lines: &[&str],
 ) -> Result<Vec<u8>, ReplayFault>
-    ensures done { IfOk result (λ out. Answers H.HookHost edge (map (λ line. line.now) lines.now) out.items) }
-    ensures fault { IfErr result (Fails H.HookHost edge (map (λ line. line.now) lines.now)) }
+    ensures done { IfOk result (λ out. AnswersLines H.HookHost edge (map (λ line. line.now) lines.now) out.items) }
+    ensures fault { IfErr result (LinesFail H.HookHost edge (map (λ line. line.now) lines.now)) }
 {
     let opened = run_lines(alloc, &mut edge, lines)?;
     let out = print_outputs(alloc, &edge, &opened)?;

@@ -1,13 +1,13 @@
 //! `help`, `help NAME` and `--version`: the commands, and what each command and each fault means.
 
-ghost use Rattle.oauthd.specs.Help.{IsExplained};
+ghost use Rattle.oauthd.specs.Help.{IsNameExplained};
 
 use crate::answer::Answer;
 use crate::fault::PerformFault;
 
 /// What the manual says of a name.
 pub fn explained(name: &str) -> Result<Answer, PerformFault<'static>>
-    ensures { IsExplained name.now result }
+    ensures { IsNameExplained name.now result }
 {
     match manual::explained(name) {
         Some(text) => Ok(Answer::Page(text)),

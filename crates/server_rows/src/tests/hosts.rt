@@ -13,11 +13,11 @@ struct Answering {
 }
 
 impl HookHost for Answering {
-    ghost use Rattle.hook_chain.specs.Chains.{Accepts, IsInstalled, IsRemoved, RefusesInstall, RefusesRemove, names_of};
+    ghost use Rattle.hook_chain.specs.Chains.{Accepts, IsInstalled, IsRemoved, RefusesInstall, RefusesRemove, hook_names};
 
     ghost answer = { λ host _. host.answer };
 
-    ghost names = { λ host. names_of host.hooks };
+    ghost names = { λ host. hook_names host.hooks };
 
     ghost accepts = { λ old name layout code checked. Accepts old.hooks name layout code checked.hooks };
 

@@ -1,6 +1,6 @@
 use Rattle.std.proofs.Common.{ap, sym, Some, ◌∙◌}
-use Rattle.answers.specs.Scene.{scene_of}
-use Rattle.answers.specs.Told.{told}
+use Rattle.answers.specs.Setting.{setting_of}
+use Rattle.answers.specs.Told.{outcome_told}
 use Rattle.endpoints.proofs.Telling.{halts_by, consent_room, no_consent_room}
 use Rattle.endpoints.proofs.consenting.consent.Goals as goal
 
@@ -11,7 +11,7 @@ returns-in-Err-consented-clause-decides c = λ history names shows.
 pub returns-then-not-has_room-clause-decides : goal.returns-then-not-has_room-clause-decides
 returns-then-not-has_room-clause-decides c = λ history names shows.
     let full = sym (c.has_room.ensures history shows.consents) ∙ c.if-not-has_room.true in
-    ap (told (scene_of c.args.view.now history names)) c.unavailable.ensures
+    ap (outcome_told (setting_of c.args.view.now history names)) c.unavailable.ensures
     ∙ ap Some (sym (c.in-Ok.ensures _ ∙ c.in-Ok-consented.ensures history names shows ∙ no_consent_room c.args.view.now.rules.now history _ _ _ full))
 
 pub returns-clause-decides : goal.returns-clause-decides

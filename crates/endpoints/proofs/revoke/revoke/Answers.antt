@@ -1,8 +1,8 @@
 use Rattle.std.proofs.Common.{ap, sym, Some, None, ◌∙◌}
 use Rattle.messages.specs.Asked.{asked_of}
 use Rattle.answers.specs.Found.{grant_found}
-use Rattle.answers.specs.Scene.{scene_of}
-use Rattle.answers.specs.Told.{told}
+use Rattle.answers.specs.Setting.{setting_of}
+use Rattle.answers.specs.Told.{outcome_told}
 use Rattle.endpoints.specs.Presented.{live_of}
 use Rattle.endpoints.specs.Revoke.{revoked}
 use Rattle.endpoints.proofs.Telling.{revoked_as, own_revoked, other_refused, live_named, revoked_told, agrees, differs}
@@ -14,12 +14,12 @@ returns-in-Err-clause-decides c = λ history names shows.
 
 pub returns-in_default-clause-decides : goal.returns-in_default-clause-decides
 returns-in_default-clause-decides c = λ history names shows.
-    ap (told (scene_of c.args.view.now history names)) c.done.ensures
+    ap (outcome_told (setting_of c.args.view.now history names)) c.done.ensures
     ∙ ap Some (sym (revoked_as c.args.view.now.rules.now history c.args.view.now.moment (asked_of c.args.request.now) c.in-Ok.presented.client _ None c.in-Ok.ensures (ap (live_of history c.args.view.now.moment) c.in_default.is)))
 
 pub returns-in_default-live_token-clause-decides : goal.returns-in_default-live_token-clause-decides
 returns-in_default-live_token-clause-decides c = λ history names shows.
-    ap (told (scene_of c.args.view.now history names)) c.done-in_default-live_token.ensures
+    ap (outcome_told (setting_of c.args.view.now history names)) c.done-in_default-live_token.ensures
     ∙ ap Some (sym (revoked_as c.args.view.now.rules.now history c.args.view.now.moment (asked_of c.args.request.now) c.in-Ok.presented.client _ None c.in-Ok.ensures
     (ap (live_of history c.args.view.now.moment) c.in-Some.is ∙ sym (c.in_default-live_token.ensures history names shows))))
 
@@ -31,6 +31,6 @@ returns-then-ne-clause-decides c = λ history names shows.
 pub returns-clause-decides : goal.returns-clause-decides
 returns-clause-decides c = λ history names shows.
     let live = ap (live_of history c.args.view.now.moment) c.in-Some.is ∙ sym (c.in-Some-live_token.ensures history names shows) in
-    revoked_told (scene_of c.args.view.now history names) c.in-Some.digest (grant_found history c.in-Some.digest c.args.view.now.moment c.in-Some-live_token.token)
+    revoked_told (setting_of c.args.view.now history names) c.in-Some.digest (grant_found history c.in-Some.digest c.args.view.now.moment c.in-Some-live_token.token)
     (live_named history c.in-Some.digest c.args.view.now.moment (grant_found history c.in-Some.digest c.args.view.now.moment c.in-Some-live_token.token) (sym (c.in-Some-live_token.ensures history names shows)))
     ∙ ap Some (sym (revoked_as c.args.view.now.rules.now history c.args.view.now.moment (asked_of c.args.request.now) c.in-Ok.presented.client _ _ c.in-Ok.ensures live ∙ own_revoked c.in-Ok.presented.client (grant_found history c.in-Some.digest c.args.view.now.moment c.in-Some-live_token.token) (agrees _ _ _ c.ne.ensures c.if-ne.false)))

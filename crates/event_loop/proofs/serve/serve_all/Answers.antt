@@ -1,12 +1,12 @@
 use Rattle.std.proofs.Common.{[], None, Some, ap, inl, inr, refl, sym, subst, ◌∙◌, ℕ, ◌≡◌}
 use Rattle.event_loop.specs.declared.clocks.Times.{Times}
 use Rattle.event_loop.specs.declared.queue.Queue.TheVariants.{Told, Empty, Barred}
-use Rattle.event_loop.specs.Places.{IsTaken}
+use Rattle.event_loop.specs.Places.{IsOccupied}
 use Rattle.event_loop.specs.Closing.{AreWithin}
 use Rattle.event_loop.specs.Scenes.{Scene, promises}
 use Rattle.image_keeper.specs.Keeping.{keeping}
 use Rattle.event_loop.specs.Served.{IsFirst, begins, stops}
-use Rattle.event_loop.specs.Goes.{Past, IsReady, scene_of}
+use Rattle.event_loop.specs.Goes.{Past, IsReadyToWait, scene_of}
 use Rattle.event_loop.proofs.Answering.{served_answered}
 use Rattle.event_loop.proofs.Resting.{free_rests}
 use Rattle.event_loop.proofs.Leading.{rested_settled}
@@ -24,8 +24,8 @@ returns g c = λ rules host schedule world reached.
     let first : Scene g.row.N.Denot g.row.C.Denot g.row.J.Denot g.row.K.Denot g.row.H.Denot = scene_of c.new-service.result (record c.args.tools.now { clocks = c.read.new.self }) [] past in
     let is_first : IsFirst p rules host first =
     record { size = c.new-service.ensures.size; free = c.new-service.ensures.free; found = refl; noted = c.new-service.ensures.noted; told = c.new-service.ensures.told ∙ sym (ap (λ (t : Times). record { report = t.steady; full = None }) c.new-service.ensures.times); refused = c.new-service.ensures.refused; queue = c.new-service.ensures.queue; deeds = refl; reached = reached } in
-    let nobody : (limit : ℕ) → AreWithin limit c.new-service.result.times c.new-service.result.places = λ limit k place here taken. absurd (subst IsTaken (c.new-service.ensures.free k place here) taken) in
-    let ready : IsReady c.new-service.result past = record {
+    let nobody : (limit : ℕ) → AreWithin limit c.new-service.result.times c.new-service.result.places = λ limit k place here taken. absurd (subst IsOccupied (c.new-service.ensures.free k place here) taken) in
+    let ready : IsReadyToWait c.new-service.result past = record {
       settled = λ k less. rested_settled k c.new-service.result past (λ none place here. free_rests place _ (c.new-service.ensures.free k place here)) (c.new-service.ensures.due k less);
       queue = inl (λ told. (let not : Empty ≡ Told = sym c.new-service.ensures.queue ∙ told in absurd (cc)));
       quick = record { idle = nobody _; crowded = λ waits. nobody _; tried = λ since barred. (let not : Empty ≡ Barred since = sym c.new-service.ensures.queue ∙ barred in absurd (cc)) };

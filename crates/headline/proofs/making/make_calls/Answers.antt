@@ -2,7 +2,7 @@ use Rattle.std.proofs.Common.{◌≡◌, ◌+◌, [], ◌∷◌, ◌++◌, take,
 use Rattle.std.proofs.lemmas.List.{take_all, take_more}
 use Rattle.hook_chain.specs.contracts.chain.ChainHookHost.TheImpl as chain
 use Rattle.http_edge.specs.Reached.{Reached}
-use Rattle.http_edge.specs.Schedule.{start}
+use Rattle.http_edge.specs.Schedule.{first_world}
 use Rattle.headline.proofs.Leading.{Progress, nothing_made, one_more}
 use Rattle.headline.proofs.Chaining.{all_made}
 use Rattle.headline.proofs.making.make_calls.Goals as goal
@@ -12,7 +12,7 @@ loop-call-init c =
     let edge = c.new-edge.result in
     subst (λ upshots. Progress chain.ghosts c.args.rules [] [] upshots edge) (sym c.new-upshots.ensures.items)
     (nothing_made chain.ghosts c.args.rules [] edge
-    (subst (λ host. Reached chain.ghosts edge c.args.rules host [] start) c.new.ensures (c.new-edge.ensures.begun c.args.rules c.new.result c.new-2.ensures.fits c.new-2.ensures.notes)))
+    (subst (λ host. Reached chain.ghosts edge c.args.rules host [] first_world) c.new.ensures (c.new-edge.ensures.begun c.args.rules c.new.result c.new-2.ensures.fits c.new-2.ensures.notes)))
 
 pub loop-call-preserved : goal.loop-call-preserved
 loop-call-preserved c =

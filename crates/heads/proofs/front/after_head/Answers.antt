@@ -2,7 +2,7 @@ use Rattle.std.proofs.Common.{◌≡◌, ◌+◌, ◌-◌, arith, ◌∙◌, sym
 use Rattle.httparse.specs.Spans.{header_bytes}
 use Rattle.heads.specs.Fields.{AreGoodFields}
 use Rattle.heads.specs.Places.{AreFieldsIn}
-use Rattle.heads.specs.Message.{IsGood, fields_of}
+use Rattle.heads.specs.Message.{IsGood, head_fields}
 use Rattle.heads.specs.ReadingLaws.{some_head}
 use Rattle.heads.proofs.Heads.{hopeless_head, wants_body, begins_whole, few_lines, good_fields, within_more}
 use Rattle.heads.proofs.front.after_head.Goals as goal
@@ -29,7 +29,7 @@ returns-then-end-bytes c =
     let at = c.requires.head.1 in
     let len = at.len in
     let n = c.in-Some.fields.body_length in
-    let fields : AreFieldsIn c.args.bytes.now (fields_of h) c.in-Some.fields = rw (← at.fields) c.in-Some.ensures in
+    let fields : AreFieldsIn c.args.bytes.now (head_fields h) c.in-Some.fields = rw (← at.fields) c.in-Some.ensures in
     let good : IsGood h = record {
       version = sym at.version ∙ c.if-head-ne-MINOR_VERSION.false;
       lines = few_lines _ _ _ _ at.fields c.requires.room;
@@ -46,7 +46,7 @@ returns c =
     let n = c.in-Some.fields.body_length in
     let len = at.len in
     let some = some_head h in
-    let fields : AreFieldsIn c.args.bytes.now (fields_of h) c.in-Some.fields = rw (← at.fields) c.in-Some.ensures in
+    let fields : AreFieldsIn c.args.bytes.now (head_fields h) c.in-Some.fields = rw (← at.fields) c.in-Some.ensures in
     let good : IsGood h = record {
       version = sym at.version ∙ c.if-head-ne-MINOR_VERSION.false;
       lines = few_lines _ _ _ _ at.fields c.requires.room;

@@ -1,7 +1,7 @@
 use Rattle.std.proofs.Common.{◌≡◌, ℕ, List, ◌+◌, ◌-◌, length, take, drop, [], ◌∷◌, ◌++◌, refl, arith, length-append}
 use Rattle.std.proofs.lemmas.Bool.{true≢false, false≢true}
 use Rattle.std.proofs.lemmas.List.{take_all, length-drop, drop-drop}
-use Rattle.heads.specs.Message.{Message, BeginsWith, IsHopeless}
+use Rattle.heads.specs.Message.{Message, BeginsWithMessage, IsHopeless}
 use Rattle.heads.specs.Waiting.{Wants}
 use Rattle.heads.specs.Front.{IsFoundWithin, IsWholeAt}
 use Rattle.heads.specs.ReadingLaws.{reads_push, hopeless_has_none}
@@ -22,7 +22,7 @@ requests-preserved c =
     let fits = whole.0.end in
     let some = whole.0.some in
     let before = c.requests.invariant in
-    let begins : BeginsWith rest whole.1.0 (drop (end + f.end) bytes) = rw (← drop-drop f.end end bytes) whole.1.1.begins in
+    let begins : BeginsWithMessage rest whole.1.0 (drop (end + f.end) bytes) = rw (← drop-drop f.end end bytes) whole.1.1.begins in
     let n = length-append before.messages (whole.1.0 ∷ []) in
     let count = before.count in
     let few = before.few in

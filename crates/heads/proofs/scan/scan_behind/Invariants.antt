@@ -1,5 +1,5 @@
 use Rattle.std.proofs.Common.{◌≡◌, ◌≤◌, ◌-◌, List, length, drop}
-use Rattle.heads.specs.Message.{Message, Reads}
+use Rattle.heads.specs.Message.{Message, ReadsMessages}
 use Rattle.heads.proofs.scan.scan_behind.Given as goal
 
 abbrev pub invariant-requests : goal.invariant-requests
@@ -9,7 +9,7 @@ invariant-requests l = record {
   few : l.count ≤ l.end;
   end : l.end ≤ length l.bytes;
   front : l.count ≡ 0 → l.end ≡ 0;
-  reads : Reads l.bytes messages (drop l.end l.bytes);
+  reads : ReadsMessages l.bytes messages (drop l.end l.bytes);
 }
 
 abbrev pub decreases-requests : goal.decreases-requests

@@ -2,7 +2,7 @@ use Rattle.std.proofs.Common.{◌≡◌, ◌∙◌, Option, Some, None, refl, ap
 use Rattle.insn.specs.Program.{begins_at, places, slot_count}
 use Rattle.insn.specs.SlotLaws.{length-places}
 use Rattle.hook_trial.specs.declared.way.Step.{Step}
-use Rattle.hook_trial.specs.WaySteps.{step_of, AreSteps}
+use Rattle.hook_trial.specs.WaySteps.{step_of, AreWaySteps}
 use Rattle.hook_trial.proofs.Ways.{begins_as, no_steps, none_behind, step_set}
 use Rattle.hook_trial.proofs.way.steps_to.Goals as goal
 
@@ -21,8 +21,8 @@ loop-slot-init c =
     h.items_if_clones_equal (none_alone _ (λ x e. e)) ∙ ap no_steps long in
     record {
       inside = omega arith;
-      table = subst (λ k. AreSteps c.args.program.now c.args.unwritten c.args.goal k c.in_ok-steps.steps.items) (sym long)
-          (subst (AreSteps c.args.program.now c.args.unwritten c.args.goal (slot_count c.args.program.now)) (sym steps)
+      table = subst (λ k. AreWaySteps c.args.program.now c.args.unwritten c.args.goal k c.in_ok-steps.steps.items) (sym long)
+          (subst (AreWaySteps c.args.program.now c.args.unwritten c.args.goal (slot_count c.args.program.now)) (sym steps)
           (none_behind c.args.program.now c.args.unwritten c.args.goal));
     }
 
@@ -48,9 +48,9 @@ loop-slot-preserved c =
     c.step_of-step.ensures ∙ ap (λ xs. step_of xs c.args.unwritten c.args.goal slot c.index.result.now) c.deref.ensures.value
     ∙ ap (step_of c.loop-slot.steps.items c.args.unwritten c.args.goal slot) (sym here) in
     let one : c.loop-slot.slot ≡ slot + 1 = omega arith in
-    let table = subst (λ k. AreSteps c.args.program.now c.args.unwritten c.args.goal k c.loop-slot.steps.items) one c.loop-slot.invariant.table in
+    let table = subst (λ k. AreWaySteps c.args.program.now c.args.unwritten c.args.goal k c.loop-slot.steps.items) one c.loop-slot.invariant.table in
     let set = step_set c.args.program.now c.args.unwritten c.args.goal slot c.loop-slot.steps.items (omega arith) table in
     record {
       inside = omega arith;
-      table = subst (λ x. AreSteps c.args.program.now c.args.unwritten c.args.goal slot (slice_set c.loop-slot.steps.items slot x)) (sym step) set;
+      table = subst (λ x. AreWaySteps c.args.program.now c.args.unwritten c.args.goal slot (slice_set c.loop-slot.steps.items slot x)) (sym step) set;
     }

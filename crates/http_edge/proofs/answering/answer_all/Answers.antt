@@ -2,7 +2,7 @@ use Rattle.std.proofs.Common.{◌≡◌, ◌≤◌, ◌+◌, ◌-◌, ℕ, List,
 use Rattle.std.proofs.lemmas.List.{length-drop, drop-drop}
 use Rattle.messages.specs.Asked.{Asked, asked_of}
 use Rattle.messages.specs.Written.{reply_bytes}
-use Rattle.heads.specs.Message.{Message, BeginsWith, HasNone, asked_of_message}
+use Rattle.heads.specs.Message.{Message, BeginsWithMessage, HasNone, asked_of_message}
 use Rattle.heads.specs.Front.{IsFront, IsFoundWithin, IsWholeAt}
 use Rattle.heads.specs.declared.front.Found.{Found}
 use Rattle.heads.specs.ReadingLaws.{reads_push, reads_next, reads_same}
@@ -70,7 +70,7 @@ loop-i-preserved g c =
     let here = length-drop start bytes in
     let fits : f.end ≤ length rest = rw (ap length (sym (tail_is start bytes))) whole.0.end in
     let before = c.loop-i.invariant in
-    let begins : BeginsWith rest message (drop (start + f.end) bytes) = rw (← drop-drop f.end start bytes) at.begins in
+    let begins : BeginsWithMessage rest message (drop (start + f.end) bytes) = rw (← drop-drop f.end start bytes) at.begins in
     let n = length-append before.messages (message ∷ []) in
     let count = before.count in
     let begun = before.begun in

@@ -1,16 +1,16 @@
 use Rattle.std.proofs.Common.{◌≡◌, ◌≤◌, ◌+◌, ◌*◌, List, drop, length, vec_len, vec_capacity}
-use Rattle.heads.specs.Message.{Message, Reads}
-use Rattle.http_edge.specs.Heard.{Serves}
+use Rattle.heads.specs.Message.{Message, ReadsMessages}
+use Rattle.http_edge.specs.Heard.{ServesMessages}
 use Rattle.http_edge.proofs.answering.answer_all.Given as goal
 
 abbrev pub invariant-loop-i : goal.invariant-loop-i
 invariant-loop-i g l = record {
   messages : List Message;
   count : length messages ≡ l.i;
-  reads : Reads l.bytes messages (drop l.start l.bytes);
+  reads : ReadsMessages l.bytes messages (drop l.start l.bytes);
   begun : l.start ≤ length l.bytes;
   front : l.i ≡ 0 → l.start ≡ 0;
-  served : Serves g.H.HookHost l.fn.server l.server l.fn.output.items l.output.items messages l.moment l.draws;
+  served : ServesMessages g.H.HookHost l.fn.server l.server l.fn.output.items l.output.items messages l.moment l.draws;
   len : vec_len l.output ≤ vec_len l.fn.output + l.i * 32768;
   room : vec_capacity l.fn.output ≤ vec_capacity l.output;
 }

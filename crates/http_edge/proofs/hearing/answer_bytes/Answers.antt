@@ -1,6 +1,6 @@
 use Rattle.std.proofs.Common.{ℕ, List, drop, ◌∙◌, arith}
 use Rattle.heads.specs.Scan.{IsScan}
-use Rattle.http_edge.specs.Heard.{Serves}
+use Rattle.http_edge.specs.Heard.{ServesMessages}
 use Rattle.http_edge.proofs.hearing.answer_bytes.Goals as goal
 
 pub returns-clause-heard : goal.returns-clause-heard
@@ -8,7 +8,7 @@ returns-clause-heard g c =
     let bytes : List ℕ = c.args.bytes.now in
     let scan = c.scan_behind-scan.result in
     let all : IsScan bytes scan = c.scan_behind-scan.ensures in
-    let serves : Serves g.H.HookHost c.args.server.now c.answer_all.new.server c.make_room.new.output.items c.answer_all.new.output.items all.messages c.args.moment c.args.draws.now =
+    let serves : ServesMessages g.H.HookHost c.args.server.now c.answer_all.new.server c.make_room.new.output.items c.answer_all.new.output.items all.messages c.args.moment c.args.draws.now =
     c.answer_all.ensures.served all.messages (drop scan.end bytes) all.reads.reads all.count in
     let count = all.count in
     let few = c.in_default.ensures.few in

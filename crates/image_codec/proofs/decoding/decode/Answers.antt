@@ -1,5 +1,5 @@
 use Rattle.std.proofs.Common.{◌≡◌, ap, subst, ◌∙◌, arith}
-use Rattle.change_codec.specs.Reading.{Gives}
+use Rattle.change_codec.specs.Reading.{GivesReading}
 use Rattle.image_codec.specs.Facts.{image_fact}
 use Rattle.image_codec.specs.Spelling.{ImageFits, image_spelling}
 use Rattle.image_codec.specs.Reading.{image_reading}
@@ -15,4 +15,4 @@ returns-clause-fits c =
     read_is image_fact ImageFits (image_reading c.args.bytes.now) c.read_image.result (λ f e. (image_whole c.args.bytes.now f (λ i. omega (arith, c.type_inv.bytes i)) e).1) c.read_image.ensures
 
 pub returns-clause-again : goal.returns-clause-again
-returns-clause-again c = λ f fits e. subst (λ read. Gives image_fact c.read_image.result read) (ap image_reading e ∙ image_reading_again f fits) c.read_image.ensures
+returns-clause-again c = λ f fits e. subst (λ read. GivesReading image_fact c.read_image.result read) (ap image_reading e ∙ image_reading_again f fits) c.read_image.ensures

@@ -2,7 +2,7 @@ use Rattle.std.proofs.Common.{rules, ◌<◌, ◌^◌, length, map, arith}
 use Rattle.std.specs.Prelude.{IsTrue}
 use Rattle.std.proofs.lemmas.List.{length-map}
 use Rattle.std.proofs.lemmas.List.Elements.{All-more}
-use Rattle.change_codec.specs.Spelling.{IsShort}
+use Rattle.change_codec.specs.Spelling.{FitsFourBytes}
 use Rattle.image_codec.specs.Facts.{client_fact}
 use Rattle.image_codec.proofs.Loops.{facts_after, each_of}
 use Rattle.image_codec.proofs.encoding.clients_count.Goals as goal
@@ -11,15 +11,15 @@ pub returns-then-not-client_counts : goal.returns-then-not-client_counts
 returns-then-not-client_counts c = (
   λ f. absurd cc,
   λ all.
-      let yes : IsTrue c.client_counts.result = c.client_counts.ensures.1 (each_of client_fact (λ c. IsShort (length c.name)) c.args.clients.now all.1 c.loop-client.client-index _ c.loop-client-test.true) in
+      let yes : IsTrue c.client_counts.result = c.client_counts.ensures.1 (each_of client_fact (λ c. FitsFourBytes (length c.name)) c.args.clients.now all.1 c.loop-client.client-index _ c.loop-client-test.true) in
       search rules,
 )
 
 pub loop-client-preserved : goal.loop-client-preserved
 loop-client-preserved c =
-    All-more (λ x. IsShort (length (client_fact x).name)) c.args.clients.now c.loop-client.client-index _ c.loop-client-test.true c.loop-client.invariant (c.client_counts.ensures.0 c.if-not-client_counts.false)
+    All-more (λ x. FitsFourBytes (length (client_fact x).name)) c.args.clients.now c.loop-client.client-index _ c.loop-client-test.true c.loop-client.invariant (c.client_counts.ensures.0 c.if-not-client_counts.false)
 
 pub returns : goal.returns
 returns c =
     let few : length (map client_fact c.args.clients.now) < 2 ^ 32 = rw length-map (omega arith) in
-    (λ t. (few, facts_after client_fact (λ c. IsShort (length c.name)) c.args.clients.now c.loop-client.client-index c.loop-client-test.false c.loop-client.invariant), λ s. search rules)
+    (λ t. (few, facts_after client_fact (λ c. FitsFourBytes (length c.name)) c.args.clients.now c.loop-client.client-index c.loop-client-test.false c.loop-client.invariant), λ s. search rules)

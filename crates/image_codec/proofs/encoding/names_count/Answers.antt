@@ -2,7 +2,7 @@ use Rattle.std.proofs.Common.{rules, ◌<◌, ◌^◌, length, map, arith}
 use Rattle.std.specs.Prelude.{IsTrue}
 use Rattle.std.proofs.lemmas.List.{length-map}
 use Rattle.std.proofs.lemmas.List.Elements.{All-more}
-use Rattle.change_codec.specs.Spelling.{IsShort}
+use Rattle.change_codec.specs.Spelling.{FitsFourBytes}
 use Rattle.image_codec.proofs.Loops.{facts_after, each_of}
 use Rattle.image_codec.proofs.encoding.names_count.Goals as goal
 
@@ -10,15 +10,15 @@ pub returns-then-not-name_counts : goal.returns-then-not-name_counts
 returns-then-not-name_counts c = (
   λ f. absurd cc,
   λ all.
-      let yes : IsTrue c.name_counts.result = c.name_counts.ensures.1 (each_of (λ s. s.now) (λ name. IsShort (length name)) c.args.names.now all.1 c.loop-name.name-index _ c.loop-name-test.true) in
+      let yes : IsTrue c.name_counts.result = c.name_counts.ensures.1 (each_of (λ s. s.now) (λ name. FitsFourBytes (length name)) c.args.names.now all.1 c.loop-name.name-index _ c.loop-name-test.true) in
       search rules,
 )
 
 pub loop-name-preserved : goal.loop-name-preserved
 loop-name-preserved c =
-    All-more (λ x. IsShort (length x.now)) c.args.names.now c.loop-name.name-index _ c.loop-name-test.true c.loop-name.invariant (c.name_counts.ensures.0 c.if-not-name_counts.false)
+    All-more (λ x. FitsFourBytes (length x.now)) c.args.names.now c.loop-name.name-index _ c.loop-name-test.true c.loop-name.invariant (c.name_counts.ensures.0 c.if-not-name_counts.false)
 
 pub returns : goal.returns
 returns c =
     let few : length (map (λ s. s.now) c.args.names.now) < 2 ^ 32 = rw length-map (omega arith) in
-    (λ t. (few, facts_after (λ s. s.now) (λ name. IsShort (length name)) c.args.names.now c.loop-name.name-index c.loop-name-test.false c.loop-name.invariant), λ s. search rules)
+    (λ t. (few, facts_after (λ s. s.now) (λ name. FitsFourBytes (length name)) c.args.names.now c.loop-name.name-index c.loop-name-test.false c.loop-name.invariant), λ s. search rules)

@@ -1,13 +1,13 @@
 use Rattle.std.proofs.Common.{◌<◌, ◌^◌, length, map}
 use Rattle.std.proofs.lemmas.List.Elements.{All-more}
-use Rattle.change_codec.specs.Spelling.{short, IsShort}
+use Rattle.change_codec.specs.Spelling.{short, FitsFourBytes}
 use Rattle.image_codec.specs.Spelling.{client_spelling, ClientFits}
 use Rattle.image_codec.specs.Facts.{client_fact}
 use Rattle.image_codec.proofs.Loops.{facts_after, each_of, written_at, written_all}
 use Rattle.image_codec.proofs.encoding.put_clients.Goals as goal
 
 pub put_client_rules-requires : goal.put_client_rules-requires
-put_client_rules-requires c = each_of client_fact (λ c. IsShort (length c.name)) c.args.clients.now c.requires.1 c.loop-client.client-index _ c.loop-client-test.true
+put_client_rules-requires c = each_of client_fact (λ c. FitsFourBytes (length c.name)) c.args.clients.now c.requires.1 c.loop-client.client-index _ c.loop-client-test.true
 
 pub loop-client-preserved : goal.loop-client-preserved
 loop-client-preserved c = record {

@@ -1,11 +1,11 @@
 use Rattle.std.proofs.Common.{◌<◌, ◌^◌, length, map}
 use Rattle.std.proofs.lemmas.List.Elements.{All-more}
-use Rattle.change_codec.specs.Spelling.{short, counted, IsShort, IsText}
+use Rattle.change_codec.specs.Spelling.{short, counted, FitsFourBytes, IsText}
 use Rattle.image_codec.proofs.Loops.{facts_after, each_of, written_at, written_all}
 use Rattle.image_codec.proofs.encoding.put_names.Goals as goal
 
 pub put_text-requires : goal.put_text-requires
-put_text-requires c = each_of (λ s. s.now) (λ name. IsShort (length name)) c.args.names.now c.requires.1 c.loop-name.name-index _ c.loop-name-test.true
+put_text-requires c = each_of (λ s. s.now) (λ name. FitsFourBytes (length name)) c.args.names.now c.requires.1 c.loop-name.name-index _ c.loop-name-test.true
 
 pub loop-name-preserved : goal.loop-name-preserved
 loop-name-preserved c = record {

@@ -1,7 +1,7 @@
 use Rattle.std.proofs.Common.{◌≡◌, ◌∷◌, ◌+◌, ◌∙◌, [], List, add-one, append-nil, ap, drop, drop-cons, map, subst, suc, sym}
 use Rattle.std.proofs.lemmas.List.{drop_all}
 use Rattle.oauthd.specs.declared.hook_files.HookRead.{HookRead}
-use Rattle.oauthd.specs.Hooks.{AreFactsOf, fact_of, in_file}
+use Rattle.oauthd.specs.Hooks.{AreFactsOf, hook_fact_of, in_file}
 use Rattle.oauthd.proofs.Hooking.{LeadsHooks, leads_all, leads_on}
 use Rattle.oauthd.proofs.hook_files.take_hooks.Goals as goal
 
@@ -22,4 +22,4 @@ returns-clause-coded c =
     let all = c.args.hooks.now in
     let codes = c.loop-read.codes.items in
     let led = subst (λ (rest : List HookRead). LeadsHooks all c.loop-read.chain codes rest) (drop_all c.loop-read.read-index all c.loop-read-test.false) c.loop-read.invariant in
-    subst (λ facts. AreFactsOf (map in_file all) facts) (append-nil (map fact_of codes)) (led.coded [] tt)
+    subst (λ facts. AreFactsOf (map in_file all) facts) (append-nil (map hook_fact_of codes)) (led.coded [] tt)

@@ -1,6 +1,6 @@
 use Rattle.std.proofs.Common.{◌≡◌, [], Err, IsSome, None, Some, inl, inr, map, refl, rules, subst}
 use Rattle.oauthd.specs.Config.{HoldsRegistry}
-use Rattle.oauthd.specs.Hooks.{AreFactsOf, fact_of, in_file, TakesHooks}
+use Rattle.oauthd.specs.Hooks.{AreFactsOf, hook_fact_of, in_file, TakesHooks}
 use Rattle.oauthd.proofs.Beginning.{anew, comes_of, on_state, refused_of}
 use Rattle.oauthd.proofs.perform.serve_as.Goals.{in-None+in_ok-fault-in-None, in-Some+in_ok-server-in-Some+in_ok-fault-in-Some}
 use Rattle.oauthd.proofs.perform.serve_as.Goals as goal
@@ -27,8 +27,8 @@ returns-in_err-server-in-Some-clause-fault g c =
         service_is = c.in-Start.is;
         hooks = c.in_ok-chain.field-0.chain;
         taken = subst (λ hooks. TakesHooks [] (map in_file hooks) c.in_ok-chain.field-0.chain) c.deref.ensures.value c.in_ok-chain.ensures.taken;
-        codes = map fact_of c.in_ok-chain.field-0.codes.items;
-        coded = subst (λ hooks. AreFactsOf (map in_file hooks) (map fact_of c.in_ok-chain.field-0.codes.items)) c.deref.ensures.value c.in_ok-chain.ensures.coded;
+        codes = map hook_fact_of c.in_ok-chain.field-0.codes.items;
+        coded = subst (λ hooks. AreFactsOf (map in_file hooks) (map hook_fact_of c.in_ok-chain.field-0.codes.items)) c.deref.ensures.value c.in_ok-chain.ensures.coded;
         named = named;
         refused = refused_of c.in_ok-registry.registry fault c.deref-in-Some.result.now c.in_ok-chain.field-0.codes.items same c.in_err-server-in-Some.ensures.refused;
       }))),
@@ -38,7 +38,7 @@ pub returns-clause-fault : goal.returns-clause-fault
 returns-clause-fault g c =
     let held = c.in_ok-registry.ensures.found in
     let taken = subst (λ hooks. TakesHooks [] (map in_file hooks) c.in_ok-chain.field-0.chain) c.deref.ensures.value c.in_ok-chain.ensures.taken in
-    let coded = subst (λ hooks. AreFactsOf (map in_file hooks) (map fact_of c.in_ok-chain.field-0.codes.items)) c.deref.ensures.value c.in_ok-chain.ensures.coded in
+    let coded = subst (λ hooks. AreFactsOf (map in_file hooks) (map hook_fact_of c.in_ok-chain.field-0.codes.items)) c.deref.ensures.value c.in_ok-chain.ensures.coded in
     elim c.match-state.branch [
       | in-None+in_ok-fault-in-None w ↦
           let none : c.in-Start.given.options.state ≡ None = search rules in
@@ -48,7 +48,7 @@ returns-clause-fault g c =
             service_is = c.in-Start.is;
             hooks = c.in_ok-chain.field-0.chain;
             taken = taken;
-            codes = map fact_of c.in_ok-chain.field-0.codes.items;
+            codes = map hook_fact_of c.in_ok-chain.field-0.codes.items;
             coded = coded;
             cause = c.match-state.fault;
             started = anew _ _ _ _ none (rw w.fault-is (rw (c.silence.ensures, c.full.ensures, c.report.ensures) at w.in_ok-fault-in-None.ensures.serves));
@@ -63,7 +63,7 @@ returns-clause-fault g c =
             service_is = c.in-Start.is;
             hooks = c.in_ok-chain.field-0.chain;
             taken = taken;
-            codes = map fact_of c.in_ok-chain.field-0.codes.items;
+            codes = map hook_fact_of c.in_ok-chain.field-0.codes.items;
             coded = coded;
             cause = c.match-state.fault;
             started = on_state _ _ _ _ _ named (record {

@@ -1,11 +1,11 @@
 use Rattle.std.proofs.Common.{◌≡◌, ◌∙◌, Some, ap}
 use Rattle.std.specs.String.{string_bytes}
-use Rattle.start_words.specs.Numbers.{number_of}
+use Rattle.start_words.specs.Numbers.{number_said}
 use Rattle.oauthd.proofs.Naming.{fourth_read}
 use Rattle.oauthd.proofs.service.serve_given.Goals as goal
 
-pub returns-in_default-number_of-clause-none : goal.returns-in_default-number_of-clause-none
-returns-in_default-number_of-clause-none c given gives =
+pub returns-in_default-number_said-clause-none : goal.returns-in_default-number_said-clause-none
+returns-in_default-number_said-clause-none c given gives =
     let same = fourth_read string_bytes c.args.words.now c.count-item.result _ _ _ _ gives.words_are c.count-item.is in
-    let told : c.number_of.result ≡ Some given.count = c.number_of.ensures ∙ ap number_of (c.as_str-2.ensures.value ∙ same) ∙ gives.count_is in
+    let told : c.number_said.result ≡ Some given.count = c.number_said.ensures ∙ ap number_said (c.as_str-2.ensures.value ∙ same) ∙ gives.count_is in
     cc

@@ -1,7 +1,7 @@
 use Rattle.std.proofs.Common.{◌≡◌, ◌∙◌, Err, ap, inr, map, refl, rules}
 use Rattle.image_codec.specs.Facts.{hook_fact}
 use Rattle.oauthd.specs.Faults.{of_state}
-use Rattle.oauthd.specs.Hooks.{fact_of}
+use Rattle.oauthd.specs.Hooks.{hook_fact_of}
 use Rattle.oauthd.specs.Startings.{RefusesState}
 use Rattle.oauthd.proofs.Resuming.{comes}
 use Rattle.oauthd.proofs.state.start_at.Goals as goal
@@ -10,7 +10,7 @@ pub returns-in_err-started-clause-refused : goal.returns-in_err-started-clause-r
 returns-in_err-started-clause-refused g c =
     let cause = c.in_err-started.field-0.0 in
     let is : c.from_residual-in_err-started.result ≡ Err (of_state cause) = search rules in
-    let refused : RefusesState c.args.registry (map fact_of c.args.codes.now) (of_state cause) = inr (record {
+    let refused : RefusesState c.args.registry (map hook_fact_of c.args.codes.now) (of_state cause) = inr (record {
       bytes = _;
       cause = cause;
       fault_is = refl;
@@ -21,7 +21,7 @@ returns-in_err-started-clause-refused g c =
 pub returns-clause-started : goal.returns-clause-started
 returns-clause-started g c =
     let same : c.deref-2.result.now ≡ c.in_ok-device.field-0.bytes.items = search rules in
-    let are : map hook_fact c.deref-3.result.now ≡ map fact_of c.args.codes.now = ap (λ hooks. map hook_fact hooks) c.deref-3.ensures.value ∙ c.in_ok-hooks.ensures in
-    comes _ c.args.registry c.in_ok-started.started c.in_ok-device.field-0 c.deref-2.result.now (map hook_fact c.deref-3.result.now) (map fact_of c.args.codes.now) c.new.result
+    let are : map hook_fact c.deref-3.result.now ≡ map hook_fact_of c.args.codes.now = ap (λ hooks. map hook_fact hooks) c.deref-3.ensures.value ∙ c.in_ok-hooks.ensures in
+    comes _ c.args.registry c.in_ok-started.started c.in_ok-device.field-0 c.deref-2.result.now (map hook_fact c.deref-3.result.now) (map hook_fact_of c.args.codes.now) c.new.result
     same are c.new.ensures c.in_ok-device.ensures.same
     c.in_ok-started.ensures.serves c.in_ok-started.ensures.held c.in_ok-started.ensures.any_moment

@@ -3,7 +3,7 @@ use Rattle.std.specs.BTreeMap.{get_by}
 use Rattle.std.specs.Cmp.Lexicographic.{slice_cmp}
 use Rattle.std.specs.Ordering.{nat_cmp}
 use Rattle.std.proofs.lemmas.Map.Text.{btree_map_updates_str}
-use Rattle.params.specs.Form.{any_twice, names_in, texts_of}
+use Rattle.params.specs.Form.{any_twice, names_of_pairs, texts_of}
 use Rattle.params.specs.FormLaws.{any_twice-append}
 use Rattle.params.proofs.Reading.{any_twice-later, few_once}
 use Rattle.params.proofs.Taken.{next_item, taken_with}
@@ -16,9 +16,9 @@ pub returns-then-is_some-clause-ok : goal.returns-then-is_some-clause-ok
 returns-then-is_some-clause-ok c =
     let inv = c.loop-name.invariant in
     let name = string_bytes c.loop-name-item.result.0 in
-    let left = names_in (texts_of (drop (c.loop-name.name-index + 1) c.args.pairs.now)) in
+    let left = names_of_pairs (texts_of (drop (c.loop-name.name-index + 1) c.args.pairs.now)) in
     let next = next_item c.args.pairs.now c.loop-name.name-index c.loop-name-item.result (search rules) (search rules) in
-    let whole : inv.0 ++ name ∷ left ≡ names_in (texts_of c.args.pairs.now) = ap (λ ps. inv.0 ++ names_in (texts_of ps)) (sym next) ∙ inv.1 in
+    let whole : inv.0 ++ name ∷ left ≡ names_of_pairs (texts_of c.args.pairs.now) = ap (λ ps. inv.0 ++ names_of_pairs (texts_of ps)) (sym next) ∙ inv.1 in
     let stood : is_some (get_by (λ k. slice_cmp nat_cmp name k.now) c.loop-name.names) ≡ true = search rules in
     sym (ap any_twice (sym whole) ∙ any_twice-later inv.0 name left (sym (inv.3 name) ∙ stood))
 
@@ -26,9 +26,9 @@ pub loop-name-preserved : goal.loop-name-preserved
 loop-name-preserved c =
     let inv = c.loop-name.invariant in
     let name = string_bytes c.loop-name-item.result.0 in
-    let left = names_in (texts_of (drop (c.loop-name.name-index + 1) c.args.pairs.now)) in
+    let left = names_of_pairs (texts_of (drop (c.loop-name.name-index + 1) c.args.pairs.now)) in
     let next = next_item c.args.pairs.now c.loop-name.name-index c.loop-name-item.result (search rules) (search rules) in
-    let whole : inv.0 ++ name ∷ left ≡ names_in (texts_of c.args.pairs.now) = ap (λ ps. inv.0 ++ names_in (texts_of ps)) (sym next) ∙ inv.1 in
+    let whole : inv.0 ++ name ∷ left ≡ names_of_pairs (texts_of c.args.pairs.now) = ap (λ ps. inv.0 ++ names_of_pairs (texts_of ps)) (sym next) ∙ inv.1 in
     let key = c.as_str.result.now in
     let same : key ≡ name = search rules in
     let new : is_some (get_by (λ k. slice_cmp nat_cmp name k.now) c.loop-name.names) ≡ false = search rules in (

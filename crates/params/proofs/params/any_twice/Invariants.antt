@@ -4,11 +4,11 @@ use Rattle.std.specs.List.{list_any}
 use Rattle.std.specs.BTreeMap.{get_by}
 use Rattle.std.specs.Cmp.Lexicographic.{slice_cmp}
 use Rattle.std.specs.Ordering.{nat_cmp}
-use Rattle.params.specs.Form.{any_twice, names_in, texts_of}
+use Rattle.params.specs.Form.{any_twice, names_of_pairs, texts_of}
 use Rattle.params.proofs.params.any_twice.Given as goal
 
 abbrev pub invariant-loop-name : goal.invariant-loop-name
 invariant-loop-name l =
-    (taken : List (List ℕ)) × (taken ++ names_in (texts_of (drop l.name-index l.pairs)) ≡ names_in (texts_of l.pairs))
+    (taken : List (List ℕ)) × (taken ++ names_of_pairs (texts_of (drop l.name-index l.pairs)) ≡ names_of_pairs (texts_of l.pairs))
     × (any_twice taken ≡ false)
     × ((q : List ℕ) → is_some (get_by (λ k. slice_cmp nat_cmp q k.now) l.names) ≡ list_any (bytes_eq q) taken)

@@ -1,4 +1,4 @@
-use Rattle.serving.specs.Served.{Coming, at, begins, goes, opens, denies, forgets}
+use Rattle.serving.specs.Served.{Coming, serving_scene, begins, goes, opens, denies, forgets}
 use Rattle.serving.proofs.Following.{leads_on}
 use Rattle.serving.proofs.Exchanging.{answers}
 use Rattle.serving.proofs.serve.serve_one.Goals as goal
@@ -12,7 +12,7 @@ returns-in-Err-clause-reached g c = leads_on g.H.HookHost g.S.Stream.does g.C.Cl
 pub returns-clause-served : goal.returns-clause-served
 returns-clause-served g c =
     goes
-    (c.attend-result.ensures Coming (at c.args.edge.now c.args.stream.now c.args.clock.now c.args.rng.now) (goes begins (opens c.in_default.ensures.done)))
+    (c.attend-result.ensures Coming (serving_scene c.args.edge.now c.args.stream.now c.args.clock.now c.args.rng.now) (goes begins (opens c.in_default.ensures.done)))
     (forgets _ c.forget.ensures.forgotten c.forget.ensures.gone)
 
 pub returns-clause-reached : goal.returns-clause-reached

@@ -1,14 +1,14 @@
 use Rattle.std.proofs.Common.{◌≡◌, List, subst}
 use Rattle.change_codec.specs.declared.dated.DatedChange.{DatedChange}
 use Rattle.change_codec.specs.FieldLaws.{ok_is}
-use Rattle.change_codec.specs.Spelling.{DatedFact, HaveSpelling, dated_facts, spelling}
-use Rattle.state_file.specs.Resuming.{Redoes}
+use Rattle.change_codec.specs.Spelling.{DatedFact, HaveSpelling, dated_facts, batch_spelling}
+use Rattle.state_file.specs.Resuming.{RedoesDated}
 use Rattle.state_file.proofs.Redone.{redoes_batch}
 use Rattle.state_file.proofs.redoing.redo_batch.Goals as goal
 
 pub returns-clause-redone : goal.returns-clause-redone
 returns-clause-redone g c =
     let ds = dated_facts c.in_ok-changes.changes.items in
-    let one : (others : List DatedFact) → HaveSpelling others → c.args.batch.now ≡ spelling others → others ≡ ds = λ others fits is. ok_is others ds (c.in_ok-changes.ensures.again others fits is) in
+    let one : (others : List DatedFact) → HaveSpelling others → c.args.batch.now ≡ batch_spelling others → others ≡ ds = λ others fits is. ok_is others ds (c.in_ok-changes.ensures.again others fits is) in
     redoes_batch g.H.HookHost c.args.restored.now c.redo_each.new.restored c.args.batch.now ds c.in_ok-changes.ensures.spelled one
-    (subst (λ (xs : List DatedChange). Redoes g.H.HookHost c.args.restored.now (dated_facts xs) c.redo_each.new.restored) c.deref.ensures.value c.in_ok-redo_each.ensures)
+    (subst (λ (xs : List DatedChange). RedoesDated g.H.HookHost c.args.restored.now (dated_facts xs) c.redo_each.new.restored) c.deref.ensures.value c.in_ok-redo_each.ensures)

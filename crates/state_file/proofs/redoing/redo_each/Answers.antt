@@ -3,7 +3,7 @@ use Rattle.std.proofs.lemmas.Grind.{common_steps}
 use Rattle.std.proofs.lemmas.List.{take_all}
 use Rattle.change_codec.specs.declared.dated.DatedChange.{DatedChange}
 use Rattle.change_codec.specs.Spelling.{DatedFact, dated_fact, dated_facts}
-use Rattle.state_file.specs.Resuming.{Redoes}
+use Rattle.state_file.specs.Resuming.{RedoesDated}
 use Rattle.state_file.proofs.Redone.{redoes_then}
 use Rattle.state_file.proofs.redoing.redo_each.Goals as goal
 
@@ -12,9 +12,9 @@ loop-dated-preserved g c =
     let item = c.dated-item.result in
     let before = take c.loop-dated.dated-index c.args.changes.now in
     let more : dated_facts (take (c.loop-dated.dated-index + 1) c.args.changes.now) ≡ dated_facts before ++ dated_fact item ∷ [] = grind (arith, common_steps) in
-    subst (λ (ds : List DatedFact). Redoes g.H.HookHost c.args.restored.now ds c.redo.new.self) (sym more)
+    subst (λ (ds : List DatedFact). RedoesDated g.H.HookHost c.args.restored.now ds c.redo.new.self) (sym more)
     (redoes_then g.H.HookHost c.args.restored.now c.loop-dated.restored c.redo.new.self (dated_facts before) (dated_fact item ∷ []) c.loop-dated.invariant c.in_ok-redo.ensures.redone)
 
 pub returns : goal.returns
 returns g c =
-    subst (λ (xs : List DatedChange). Redoes g.H.HookHost c.args.restored.now (dated_facts xs) c.loop-dated.restored) (take_all c.loop-dated.dated-index c.args.changes.now c.loop-dated-test.false) c.loop-dated.invariant
+    subst (λ (xs : List DatedChange). RedoesDated g.H.HookHost c.args.restored.now (dated_facts xs) c.loop-dated.restored) (take_all c.loop-dated.dated-index c.args.changes.now c.loop-dated-test.false) c.loop-dated.invariant

@@ -6,7 +6,7 @@ use Rattle.batch_file.specs.declared.appending.BatchFile.{BatchFile}
 use Rattle.consent.specs.History.{Event}
 use Rattle.state_file.specs.Comparing.{TakesRules}
 use Rattle.image_codec.specs.Facts.{HookFact}
-use Rattle.state_file.specs.Hooks.{hooks_behind, hooks_of}
+use Rattle.state_file.specs.Hooks.{hooks_behind, hooks_set_in}
 use Rattle.state_file.specs.Knowing.{image_size}
 use Rattle.state_file.specs.Resuming.{RefusesImage, RefusesResume}
 use Rattle.state_file.specs.Standing.{AreTold, StandsFor}
@@ -127,7 +127,7 @@ new-requires-clause-known g c =
     let told : TellsRules (seen c.tell.new.file.device) now =
     told_either c.in_ok-rules.rules.told (seen mid) (seen c.tell.new.file.device) now c.in_ok-rules.rules.bytes.items (c.in_ok-rules.ensures.fit, c.in_ok-rules.ensures.spelled) tells
     (λ told. ap (λ (f : BatchFile g.row.D.Denot). seen f.device) (c.in_ok-tell.ensures.unwritten told)) c.in_ok-tell.ensures.told in
-    let set : (history : List Event) → StandsFor (seen mid) history → c.in_ok-hooks.hooks ≡ hooks_of history = λ history stands.
+    let set : (history : List Event) → StandsFor (seen mid) history → c.in_ok-hooks.hooks ≡ hooks_set_in history = λ history stands.
     (let begun = begun_hooks g.H.HookHost c.args.registry c.args.host (seen mid) (lists c.deref-2.result.now) (lists c.in_ok-restored.field-0.later.now) c.in_ok-restored.field-0.restored history stands are_too c.in_ok-restored.ensures.begins in
     let later : AreTold (lists c.in_ok-restored.field-0.later.now) stands.facts = subst (λ (bs : List (List ℕ)). AreTold bs stands.facts) begun.0 stands.told in
     c.in_ok-hooks.ensures ∙ (c.in_ok-redo_all.ensures.redone stands.facts later).0 ∙ ap (λ (hs : List HookFact). hooks_behind hs stands.facts) begun.1

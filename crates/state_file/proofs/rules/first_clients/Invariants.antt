@@ -1,7 +1,7 @@
 use Rattle.std.proofs.Common.{◌≡◌, map, take}
 use Rattle.image_codec.specs.Facts.{client_fact}
-use Rattle.state_file.specs.Telling.{client_of}
+use Rattle.state_file.specs.Telling.{client_told}
 use Rattle.state_file.proofs.rules.first_clients.Given as goal
 
 abbrev pub invariant-loop-i : goal.invariant-loop-i
-invariant-loop-i l = map client_fact l.clients.items ≡ map client_of (take l.i l.registry.clients)
+invariant-loop-i l = map client_fact l.clients.items ≡ map client_told (take l.i l.registry.clients)

@@ -1,12 +1,12 @@
 use Rattle.std.proofs.Common.{◌≡◌, rules, sym}
 use Rattle.std.specs.Str.{IsUtf8}
-use Rattle.clients.specs.Numbers.{number_of}
+use Rattle.clients.specs.Numbers.{number_among}
 use Rattle.clients.proofs.Places.{number_of-listed, number_of-none}
 use Rattle.clients.proofs.numbering.Numbering.number.Goals as goal
 
 pub returns-in-Ok-clause-listed : goal.returns-in-Ok-clause-listed
 returns-in-Ok-clause-listed c =
-    let is : c.copied.result ≡ number_of c.args.text.now c.args.self.now = search rules in
+    let is : c.copied.result ≡ number_among c.args.text.now c.args.self.now = search rules in
     rw is (number_of-listed c.args.text.now c.args.self.now)
 
 pub returns-in-Err-clause-value : goal.returns-in-Err-clause-value

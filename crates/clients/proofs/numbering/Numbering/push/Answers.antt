@@ -2,7 +2,7 @@ use Rattle.std.proofs.Common.{◌≡◌, ◌+◌, ◌++◌, ◌∷◌, [], map, 
 use Rattle.std.specs.String.{string_cmp}
 use Rattle.std.specs.BTreeMap.{Updates}
 use Rattle.std.proofs.lemmas.Grind.{common_steps}
-use Rattle.clients.specs.Numbers.{number_of}
+use Rattle.clients.specs.Numbers.{number_among}
 use Rattle.clients.proofs.Places.{IsIndex-push}
 use Rattle.clients.proofs.numbering.Numbering.push.Goals as goal
 
@@ -12,7 +12,7 @@ invariant_of-self-2 c =
     let key = c.in_ok-from_str.field-0 in
     let same : string_bytes key ≡ c.args.text.now = search rules in
     let listed : string_bytes c.in_ok-listed.listed ≡ c.args.text.now = search rules in
-    let absent : number_of (string_bytes key) old ≡ None = rw (same, c.self.view_is) c.requires.new in
+    let absent : number_among (string_bytes key) old ≡ None = rw (same, c.self.view_is) c.requires.new in
     let told = c.in_ok-insert.ensures.updates in
     let count : length old ≡ c.len.result = grind (arith, common_steps) in
     let updates : Updates string_cmp c.self.inside.numbers c.insert.new.self key (Some (length old + 1)) = rw count told in

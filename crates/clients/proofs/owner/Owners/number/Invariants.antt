@@ -3,7 +3,7 @@ use Rattle.std.specs.Prelude.{IfSome}
 use Rattle.std.specs.List.{position_from}
 use Rattle.std.specs.Str.{bytes_eq}
 use Rattle.std.specs.Option.{option_or}
-use Rattle.clients.specs.Numbers.{number_of}
+use Rattle.clients.specs.Numbers.{number_among}
 use Rattle.clients.specs.Owners.{keys}
 use Rattle.clients.proofs.owner.Owners.number.Given as goal
 
@@ -11,4 +11,4 @@ abbrev pub invariant-loop-owner : goal.invariant-loop-owner
 invariant-loop-owner l =
     (l.number ≡ l.owner-index)
     × IfSome l.found (λ number. (1 ≤ number) × (number ≤ l.number))
-    × (number_of l.digest (keys l.self) ≡ option_or l.found (position_from (bytes_eq l.digest) (l.number + 1) (keys (drop l.number l.self))))
+    × (number_among l.digest (keys l.self) ≡ option_or l.found (position_from (bytes_eq l.digest) (l.number + 1) (keys (drop l.number l.self))))

@@ -1,5 +1,5 @@
 use Rattle.std.proofs.Common.{◌≡◌, sym, subst, ◌∙◌}
-use Rattle.messages.specs.Written.{written}
+use Rattle.messages.specs.Written.{in_writing}
 use Rattle.answers.specs.Replies.{reply_of}
 use Rattle.endpoints.specs.Making.{HasRooms}
 use Rattle.endpoints.proofs.Answering.{answered}
@@ -22,7 +22,7 @@ apply-requires g c =
 
 pub returns-clause-replies : goal.returns-clause-replies
 returns-clause-replies g c = λ first history fits.
-    let value : c.in_ok-reply.reply ≡ written (reply_of c.args.self.now.rules (g.H.HookHost.names c.args.self.now.host) c.in-Ok-decide.ruling.decision.answer) =
+    let value : c.in_ok-reply.reply ≡ in_writing (reply_of c.args.self.now.rules (g.H.HookHost.names c.args.self.now.host) c.in-Ok-decide.ruling.decision.answer) =
     rw (← c.self.view_is) c.in_ok-reply.ensures.value in
     rw (← c.in-Ok.ensures.endpoint) (answered g.H.HookHost c.args.self.now c.reserve.new.self _ first history _ c.in-Ok-decide.ruling c.in_ok-reply.reply
     (c.in-Ok-decide.ensures.rules c.in-Ok.ensures.read first history fits) c.in_ok-reserve.ensures.same c.apply.ensures.makes c.apply.ensures.notes value fits)

@@ -1,10 +1,10 @@
 use Rattle.std.proofs.Common.{ap, subst, sym, List}
-use Rattle.consent.specs.Changes.{listed}
+use Rattle.consent.specs.Changes.{as_list}
 use Rattle.consent.specs.History.{Event}
 use Rattle.token_store.specs.Fits.{FitsStore}
 use Rattle.endpoints.specs.Making.{Makes}
-use Rattle.endpoints.specs.Redo.{Redoes}
-use Rattle.endpoints.specs.Server.{Seen}
+use Rattle.endpoints.specs.Redo.{RedoesChange}
+use Rattle.endpoints.specs.Server.{SeenServer}
 use Rattle.endpoints.proofs.Redoing.{not_back, redone}
 use Rattle.endpoints.proofs.server.Server.redo.Goals as goal
 
@@ -15,9 +15,9 @@ returns-clause-redone g c =
     let change = c.args.change.now in
     let checked = c.in_ok-checked.checked in
     let later = not_back checked moment c.args.self.now.greatest c.in_ok-checked.ensures.back in
-    let made = subst (λ s. Makes hosting s (listed c.alone-changes.result) checked c.apply.new.self) (ap (λ (s : Seen g.row.H.Denot). record s { greatest = moment }) c.self.view_is) c.apply.ensures.makes in
-    let dropped = subst (λ (s : Seen g.row.H.Denot). (history : List Event) → FitsStore s.store history moment → FitsStore c.drop_expired.new.self history moment)
+    let made = subst (λ s. Makes hosting s (as_list c.alone-changes.result) checked c.apply.new.self) (ap (λ (s : SeenServer g.row.H.Denot). record s { greatest = moment }) c.self.view_is) c.apply.ensures.makes in
+    let dropped = subst (λ (s : SeenServer g.row.H.Denot). (history : List Event) → FitsStore s.store history moment → FitsStore c.drop_expired.new.self history moment)
     c.self-2.view_is c.drop_expired.ensures.fits in
-    subst (λ s. Redoes hosting c.args.self.now moment change s) (ap (λ (s : Seen g.row.H.Denot). record s { store = c.drop_expired.new.self }) (sym c.self-2.view_is))
-    (redone hosting c.args.self.now c.reserve.new.self c.apply.new.self c.drop_expired.new.self moment change (listed c.alone-changes.result) checked c.alone-changes.ensures later
+    subst (λ s. RedoesChange hosting c.args.self.now moment change s) (ap (λ (s : SeenServer g.row.H.Denot). record s { store = c.drop_expired.new.self }) (sym c.self-2.view_is))
+    (redone hosting c.args.self.now c.reserve.new.self c.apply.new.self c.drop_expired.new.self moment change (as_list c.alone-changes.result) checked c.alone-changes.ensures later
     c.in_ok-checked.ensures.follows c.in_ok-checked.ensures.can c.in-Ok.ensures.same made dropped)

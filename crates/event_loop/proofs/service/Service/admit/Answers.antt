@@ -3,7 +3,7 @@ use Rattle.http_edge.specs.Schedule.{Opened, connection_at, fresh}
 use Rattle.std.specs.Prelude.{slice_set}
 use Rattle.event_loop.specs.declared.service.Service.{Service}
 use Rattle.event_loop.specs.Deeds as deed
-use Rattle.event_loop.specs.Places.{IsAtRest}
+use Rattle.event_loop.specs.Places.{IsPlaceAtRest}
 use Rattle.event_loop.specs.Coming.{opens, denies, finds_nobody, fails, fresh_place}
 use Rattle.event_loop.specs.Served.{goes, comes}
 use Rattle.event_loop.specs.Goes.{Past}
@@ -25,7 +25,7 @@ returns-in-Ok-clause-leads g c = λ found rules host first past h settled.
     let place = fresh_place c.args.self.now.times.steady in
     let on = c.in-Ok.ensures.done rules host past.schedule past.world reached in
     let here : connection_at on.world.connections k ≡ Some (fresh k) = opened_here past.world on.world k on.happens in
-    let rests : IsAtRest place (connection_at on.world.connections k) = subst (λ o. IsAtRest place o) (sym here) (fresh_rests c.args.self.now.times.steady (fresh k) refl refl) in
+    let rests : IsPlaceAtRest place (connection_at on.world.connections k) = subst (λ o. IsPlaceAtRest place o) (sym here) (fresh_rests c.args.self.now.times.steady (fresh k) refl refl) in
     let next : Past = record { deeds = deed.Came k ∷ past.deeds; schedule = past.schedule ++ Opened k ∷ []; world = on.world } in
     let service : Service = record c.args.self.now { places = slice_set c.args.self.now.places k place; accepted = c.saturating_add-self.result } in
     record {

@@ -3,7 +3,7 @@ use Rattle.std.specs.Prelude.{slice_get, slice_set}
 use Rattle.std.proofs.lemmas.List.{length-set}
 use Rattle.event_loop.specs.declared.place.Place.{Place}
 use Rattle.event_loop.specs.declared.place.Stage.TheVariants.{Free}
-use Rattle.event_loop.specs.Places.{IsTaken}
+use Rattle.event_loop.specs.Places.{IsOccupied}
 use Rattle.event_loop.proofs.Putting.{same_some, set_same, set_other}
 use Rattle.event_loop.specs.declared.service.Service.{Service}
 use Rattle.event_loop.specs.Closing.{is_silent}
@@ -30,7 +30,7 @@ returns-clause-leads g c =
 pub returns-then-not-is_taken-clause-within : goal.returns-then-not-is_taken-clause-within
 returns-then-not-is_taken-clause-within g c = λ place here taken.
     let free : place.stage ≡ Free = ap (λ (q : Place). q.stage) (same_some place c.place_at-place.result (sym here ∙ c.place_at-place.ensures)) ∙ c.is_taken.ensures.free c.if-not-is_taken.true in
-    absurd (subst IsTaken free taken)
+    absurd (subst IsOccupied free taken)
 
 pub returns-then-saturating_sub-self-clause-within : goal.returns-then-saturating_sub-self-clause-within
 returns-then-saturating_sub-self-clause-within g c = λ place here taken.
@@ -41,7 +41,7 @@ pub returns-clause-within : goal.returns-clause-within
 returns-clause-within g c = λ place here taken.
     let put : c.leave.new.self.places ≡ slice_set c.args.self.now.places c.args.k (record c.place_at-place.result { stage = Free }) = ap (λ (s : Service). s.places) c.leave.ensures.rest in
     let is = set_same c.args.self.now.places c.args.k (record c.place_at-place.result { stage = Free }) place (ap (λ places. slice_get places c.args.k) (sym put) ∙ here) in
-    absurd (subst (λ (q : Place). IsTaken q.stage) is taken)
+    absurd (subst (λ (q : Place). IsOccupied q.stage) is taken)
 
 pub returns-clause-others : goal.returns-clause-others
 returns-clause-others g c = λ j other.

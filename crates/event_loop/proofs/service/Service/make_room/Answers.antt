@@ -1,7 +1,7 @@
 use Rattle.std.proofs.Common.{◌≡◌, ◌-◌, ap, sym, subst, ◌∙◌, arith, ◌<◌}
 use Rattle.event_loop.specs.declared.place.Place.{Place}
 use Rattle.event_loop.specs.declared.service.Service.{Service}
-use Rattle.event_loop.specs.Places.{IsTaken}
+use Rattle.event_loop.specs.Places.{IsOccupied}
 use Rattle.std.specs.Prelude.{slice_set}
 use Rattle.event_loop.specs.declared.place.Stage.TheVariants.{Free}
 use Rattle.event_loop.specs.declared.queue.Queue.TheVariants.{Told, Waits}
@@ -17,7 +17,7 @@ returns-clause-leads g c =
     let place = c.place_at-place.result in
     let longest = c.in-Some.ensures.longest.1 in
     let same : longest.place ≡ place = same_some longest.place place (sym longest.here ∙ c.place_at-place.ensures) in
-    let taken : IsTaken place.stage = subst (λ (q : Place). IsTaken q.stage) same longest.taken in
+    let taken : IsOccupied place.stage = subst (λ (q : Place). IsOccupied q.stage) same longest.taken in
     let is_longest : IsSilentLongest c.args.self.now.places place = subst (λ q. IsSilentLongest c.args.self.now.places q) same longest.longest in
     let long : c.args.self.now.limits.crowded < c.args.self.now.times.steady - place.since = omega (arith, c.saturating_sub.ensures, c.if-saturating_sub-self.false) in
     leaves_to (promises g.N.Sockets g.C.Clocks g.J.Journal (keeping g.K.Keeper g.K.ImageKeeper) g.H.HookHost) c.in-Some.k place c.args.self.now c.args.tools.now c.leave.new.self c.leave.new.tools c.place_at-place.ensures

@@ -1,6 +1,6 @@
 use Rattle.std.proofs.Common.{rules, ◌≡◌, true, false, Err, Some, refl, sym, ap, subst}
 use Rattle.image_keeper.specs.declared.keeper.ImageFault.{ImageFault}
-use Rattle.endpoints.specs.Server.{Seen, FitsServer}
+use Rattle.endpoints.specs.Server.{SeenServer, FitsServer}
 use Rattle.event_loop.specs.declared.service.Service.{Service}
 use Rattle.event_loop.specs.Ends.{not_imaged}
 use Rattle.event_loop.specs.Goes.{scene_of}
@@ -23,7 +23,7 @@ returns-in-Ok-clause-put g c = λ rules host first found past h.
     let kept : c.is_all_kept.result ≡ true = search rules in
     let all : IsAllKept past.world = c.is_all_kept.ensures.kept kept rules host past.schedule past.world reached in
     let fits : FitsServer g.H.HookHost.installs g.H.HookHost.removes c.server.result.now rules host past.world.history past.world.greatest =
-    subst (λ (s : Seen g.row.H.Denot). FitsServer g.H.HookHost.installs g.H.HookHost.removes s rules host past.world.history past.world.greatest) (sym c.server.ensures) reached.server in
+    subst (λ (s : SeenServer g.row.H.Denot). FitsServer g.H.HookHost.installs g.H.HookHost.removes s rules host past.world.history past.world.greatest) (sym c.server.ensures) reached.server in
     (goes h (puts_image c.put_image.new.self all (c.in-Ok.ensures.kept rules host past.world.history past.world.greatest fits)), λ still long. absurd (c.in-Ok.ensures.short long))
 
 pub returns-in-Err-Failed-clause-failed : goal.returns-in-Err-Failed-clause-failed
@@ -32,7 +32,7 @@ returns-in-Err-Failed-clause-failed g c = λ rules host first found past h.
     let kept : c.is_all_kept.result ≡ true = search rules in
     let all : IsAllKept past.world = c.is_all_kept.ensures.kept kept rules host past.schedule past.world reached in
     let fits : FitsServer g.H.HookHost.installs g.H.HookHost.removes c.server.result.now rules host past.world.history past.world.greatest =
-    subst (λ (s : Seen g.row.H.Denot). FitsServer g.H.HookHost.installs g.H.HookHost.removes s rules host past.world.history past.world.greatest) (sym c.server.ensures) reached.server in
+    subst (λ (s : SeenServer g.row.H.Denot). FitsServer g.H.HookHost.installs g.H.HookHost.removes s rules host past.world.history past.world.greatest) (sym c.server.ensures) reached.server in
     not_imaged c.put_image.new.self all (c.in-Err-Failed.ensures.failed (ap (λ (fault : ImageFault). Err fault) c.in-Err-Failed.field-0-is) rules host past.world.history past.world.greatest fits)
 
 pub returns-in-Err-Memory-clause-put : goal.returns-in-Err-Memory-clause-put

@@ -1,6 +1,6 @@
 use Rattle.std.proofs.Common.{refl, sym, subst, ◌∙◌, inl}
 use Rattle.http_edge.specs.Schedule.{connection_at}
-use Rattle.event_loop.specs.Places.{IsUnread}
+use Rattle.event_loop.specs.Places.{NeedsNoRead}
 use Rattle.event_loop.specs.Scenes.{promises}
 use Rattle.image_keeper.specs.Keeping.{keeping}
 use Rattle.event_loop.proofs.Answering.{served_answered}
@@ -18,7 +18,7 @@ returns-else-may_read g c = λ rules host first found past undone ready h. recor
     world_is = refl;
     rests = λ place here.
         let reached = (served_answered (promises g.N.Sockets g.C.Clocks g.J.Journal (keeping g.K.Keeper g.K.ImageKeeper) g.H.HookHost) rules host first _ h).reached in
-        let unread : IsUnread c.place_at-place.result (connection_at past.world.connections c.args.k) = λ readable. c.may_read.ensures.rests c.if-may_read.false readable rules host past.schedule past.world reached in
-        subst (λ q. IsUnread q (connection_at past.world.connections c.args.k)) (same_some c.place_at-place.result place (sym c.place_at-place.ensures ∙ here)) unread;
+        let unread : NeedsNoRead c.place_at-place.result (connection_at past.world.connections c.args.k) = λ readable. c.may_read.ensures.rests c.if-may_read.false readable rules host past.schedule past.world reached in
+        subst (λ q. NeedsNoRead q (connection_at past.world.connections c.args.k)) (same_some c.place_at-place.result place (sym c.place_at-place.ensures ∙ here)) unread;
   });
 }

@@ -4,7 +4,7 @@ use Rattle.event_loop.specs.declared.fault.ConnectionFault.TheVariants.{Write}
 use Rattle.event_loop.specs.declared.place.Stage.TheVariants.{Broken}
 use Rattle.event_loop.specs.Deeds as deed
 use Rattle.event_loop.specs.Deeds.{Writing}
-use Rattle.event_loop.specs.Places.{IsUnwritten}
+use Rattle.event_loop.specs.Places.{NeedsNoWrite}
 use Rattle.event_loop.specs.Writing.{sends, finds_no_room, fails}
 use Rattle.event_loop.specs.Served.{goes, writes}
 use Rattle.event_loop.specs.Scenes.{promises}
@@ -87,7 +87,7 @@ returns-then-not-may_write g c = λ rules host first found past undone kept h. r
     world_is = refl;
     rests = λ place here.
         let reached = (served_answered (promises g.N.Sockets g.C.Clocks g.J.Journal (keeping g.K.Keeper g.K.ImageKeeper) g.H.HookHost) rules host first _ h).reached in
-        let unwritten : IsUnwritten c.place_at-place.result (connection_at past.world.connections c.args.k) = λ writable. c.may_write.ensures.rests c.if-not-may_write.true writable rules host past.schedule past.world reached in
-        subst (λ q. IsUnwritten q (connection_at past.world.connections c.args.k)) (same_some c.place_at-place.result place (sym c.place_at-place.ensures ∙ here)) unwritten;
+        let unwritten : NeedsNoWrite c.place_at-place.result (connection_at past.world.connections c.args.k) = λ writable. c.may_write.ensures.rests c.if-not-may_write.true writable rules host past.schedule past.world reached in
+        subst (λ q. NeedsNoWrite q (connection_at past.world.connections c.args.k)) (same_some c.place_at-place.result place (sym c.place_at-place.ensures ∙ here)) unwritten;
   });
 }

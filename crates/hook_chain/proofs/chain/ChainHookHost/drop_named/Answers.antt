@@ -1,7 +1,7 @@
 use Rattle.std.proofs.Common.{rules, ◌≡◌, not, ap, ◌∙◌}
 use Rattle.std.specs.Str.{bytes_eq}
 use Rattle.std.proofs.lemmas.Fn.{filter_same}
-use Rattle.hook_chain.specs.Chains.{Named, names_of, without_name}
+use Rattle.hook_chain.specs.Chains.{Named, hook_names, without_name}
 use Rattle.hook_chain.specs.ChainLaws.{named_of_contains, names_without, holds_without}
 use Rattle.hook_chain.proofs.chain.ChainHookHost.drop_named.Goals as goal
 
@@ -18,4 +18,4 @@ returns-clause-done c =
 pub returns-clause-alone : goal.returns-clause-alone
 returns-clause-alone c =
     let left : c.retain.new.self.items ≡ without_name c.args.name.now c.self.inside.hooks.items = filter_same _ (λ (h : Named). not (bytes_eq c.args.name.now h.name)) _ (λ x b f' k. search rules) _ _ c.retain.ensures.filtered in
-    ap names_of (left ∙ ap (without_name c.args.name.now) c.self.view_is) ∙ names_without c.args.name.now c.args.self.now
+    ap hook_names (left ∙ ap (without_name c.args.name.now) c.self.view_is) ∙ names_without c.args.name.now c.args.self.now

@@ -1,7 +1,7 @@
 use Rattle.std.proofs.Common.{◌≡◌, ◌∙◌, [], false, sym, ap, refl}
 use Rattle.http_edge.specs.Lanes.{SeenLane}
 use Rattle.http_edge.specs.Places.{IsPlace}
-use Rattle.http_edge.specs.Schedule.{ended, has_ended}
+use Rattle.http_edge.specs.Schedule.{ended, has_stream_ended}
 use Rattle.http_edge.proofs.Placing.{lane_is, put_at}
 use Rattle.http_edge.proofs.Going.{on_ended}
 use Rattle.http_edge.proofs.edge.Edge.end.Goals as goal
@@ -14,6 +14,6 @@ returns-clause-done g c = λ rules first schedule world reached.
     let same = lane_is lanes c.args.c c.in-Some.i c.index_mut.result.now place c.index_mut.ensures.value in
     let read = lane_is lanes c.args.c c.in-Some.i c.index.result.now place c.index.ensures in
     let seen : c.behind-self.inside.phase ≡ place.lane.phase = ap (λ (l : SeenLane). l.phase) c.behind-self.view_is ∙ ap (λ (l : SeenLane). l.phase) (sym read) in
-    let not_ended : has_ended place.lane.phase ≡ false = rw seen at (sym c.has_ended.ensures ∙ c.if-has_ended.false) in
+    let not_ended : has_stream_ended place.lane.phase ≡ false = rw seen at (sym c.has_ended.ensures ∙ c.if-has_ended.false) in
     let new = c.end_lane.ensures ∙ ap (λ (l : SeenLane). record { number = l.number; phase = ended l.phase; rest = []; output = l.output }) (sym same) in
     on_ended g.H.HookHost _ _ c.args.c place.lane refl place.here not_ended (put_at lanes c.args.c c.in-Some.i place _ _ new) rules first schedule world now

@@ -3,7 +3,7 @@ use Rattle.std.specs.Str.Iter.{split_steps, split_text, split_has_more, split_pa
 use Rattle.std.specs.Str.Pattern.{FindsChar}
 use Rattle.std.proofs.lemmas.Iterator.Splits.{YieldsList-from_str_split}
 use Rattle.params.specs.Form.{any_twice}
-use Rattle.params.specs.Scope.{place_of, tokens_of}
+use Rattle.params.specs.Scope.{place_among, tokens_of}
 use Rattle.params.specs.ScopeLaws.{scope_mask-within}
 use Rattle.params.proofs.Masks.{place-lt}
 use Rattle.params.proofs.Tokens.{scope_after, scope_after-nil, scope_after-cons, scope_after-none, left-some, left-none}
@@ -20,20 +20,20 @@ pub returns-in_err-mask-clause-mask : goal.returns-in_err-mask-clause-mask
 returns-in_err-mask-clause-mask c =
     let step : split_steps FindsChar (λ a b. b ≡ a) c.loop-token.token-iterator (Some c.in-Some.token) c.next.new.self = search rules in
     let next = left-some c.loop-token.token-iterator c.next.new.self c.in-Some.token c.loop-token.invariant.0 c.loop-token.invariant.1 step in
-    let none : place_of c.in-Some.token.now c.args.self.now ≡ None = search rules in
+    let none : place_among c.in-Some.token.now c.args.self.now ≡ None = search rules in
     c.from_residual.ensures ∙ sym (scope_after-none c.args.self.now c.loop-token.mask c.in-Some.token.now next.0 none)
     ∙ ap (λ left. scope_after c.args.self.now c.loop-token.mask left) (sym next.2) ∙ c.loop-token.invariant.2
 
 pub overflow_shl-mask : goal.overflow_shl-mask
 overflow_shl-mask c =
-    let place : place_of c.in-Some.token.now (map string_bytes c.self.inside.names.items) ≡ Some c.in_ok-mask.field-0 = search rules in
+    let place : place_among c.in-Some.token.now (map string_bytes c.self.inside.names.items) ≡ Some c.in_ok-mask.field-0 = search rules in
     omega (arith, c.self.invariant.count, place-lt (map string_bytes c.self.inside.names.items) c.in-Some.token.now c.in_ok-mask.field-0 place)
 
 pub loop-token-preserved : goal.loop-token-preserved
 loop-token-preserved c =
     let step : split_steps FindsChar (λ a b. b ≡ a) c.loop-token.token-iterator (Some c.in-Some.token) c.next.new.self = search rules in
     let next = left-some c.loop-token.token-iterator c.next.new.self c.in-Some.token c.loop-token.invariant.0 c.loop-token.invariant.1 step in
-    let place : place_of c.in-Some.token.now c.args.self.now ≡ Some c.in_ok-mask.field-0 = search rules in
+    let place : place_among c.in-Some.token.now c.args.self.now ≡ Some c.in_ok-mask.field-0 = search rules in
     let once : any_twice c.args.self.now ≡ false = search rules in
     let small : c.in_ok-mask.field-0 < 64 = overflow_shl-mask c in (
       next.0,

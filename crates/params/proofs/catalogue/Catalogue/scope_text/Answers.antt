@@ -1,6 +1,6 @@
 use Rattle.std.proofs.Common.{◌≡◌, ◌+◌, ◌/◌, ◌<◌, ◌≤◌, ◌∙◌, sym, rules, arith, drop, map, string_bytes, length, subst}
 use Rattle.std.proofs.lemmas.List.{length-map}
-use Rattle.params.specs.Scope.{names_of, scope_text, with_name}
+use Rattle.params.specs.Scope.{names_in_mask, scope_text, text_with_name}
 use Rattle.params.specs.ScopeLaws.{length-scope_text}
 use Rattle.params.proofs.Taken.{next_mapped}
 use Rattle.params.proofs.Written.{text_after, text_after-odd, text_after-even, text_after-some, text_after-end, read_back}
@@ -16,16 +16,16 @@ loop-name-preserved c =
     let at = next_mapped string_bytes items i c.name-item.result (search rules) (search rules) in
     let text = string_bytes c.loop-name.text in
     let left = c.loop-name.left in
-    let before : text_after text (names_of (drop i names) left) ≡ scope_text names c.args.mask = search rules in
+    let before : text_after text (names_in_mask (drop i names) left) ≡ scope_text names c.args.mask = search rules in
     elim c.if-left-eq1.branch [
       | then-left-eq1+in_ok-append_name w ↦
-          let now : string_bytes c.if-left-eq1.text ≡ with_name text name = search rules in
+          let now : string_bytes c.if-left-eq1.text ≡ text_with_name text name = search rules in
           let after = sym (text_after-odd text names i left name c.self.invariant.scope_names at w.if-left-eq1.true) ∙ before in
-          subst (λ self. text_after (string_bytes c.if-left-eq1.text) (names_of (drop (i + 1) self) (left / 2)) ≡ scope_text self c.args.mask) c.self.view_is (rw now after)
+          subst (λ self. text_after (string_bytes c.if-left-eq1.text) (names_in_mask (drop (i + 1) self) (left / 2)) ≡ scope_text self c.args.mask) c.self.view_is (rw now after)
       | else-left-eq1 w ↦
           let now : string_bytes c.if-left-eq1.text ≡ text = search rules in
           let after = sym (text_after-even text names i left name at w.if-left-eq1.false) ∙ before in
-          subst (λ self. text_after (string_bytes c.if-left-eq1.text) (names_of (drop (i + 1) self) (left / 2)) ≡ scope_text self c.args.mask) c.self.view_is (rw now after)
+          subst (λ self. text_after (string_bytes c.if-left-eq1.text) (names_in_mask (drop (i + 1) self) (left / 2)) ≡ scope_text self c.args.mask) c.self.view_is (rw now after)
     ]
 
 pub returns-in_err-append_name-clause-err : goal.returns-in_err-append_name-clause-err

@@ -1,6 +1,6 @@
 use Rattle.std.proofs.Common.{◌≡◌, drop}
-use Rattle.params.specs.Form.{value_of}
+use Rattle.params.specs.Form.{value_sent}
 use Rattle.params.proofs.params.Params.get.Given as goal
 
 abbrev pub invariant-loop-known : goal.invariant-loop-known
-invariant-loop-known l = value_of l.fn.name l.self ≡ value_of l.fn.name (drop l.known-index l.self)
+invariant-loop-known l = value_sent l.fn.name l.self ≡ value_sent l.fn.name (drop l.known-index l.self)

@@ -3,7 +3,7 @@ use Rattle.std.specs.Prelude.{IfErr}
 use Rattle.std.proofs.lemmas.List.{map_push, take_all, take_more}
 use Rattle.image_codec.specs.Facts.{HookFact, hook_fact}
 use Rattle.image_codec.specs.declared.image.KeptHook.{KeptHook}
-use Rattle.state_file.specs.Resuming.{RefusesHooks, Sets}
+use Rattle.state_file.specs.Resuming.{RefusesSettings, Sets}
 use Rattle.state_file.proofs.Refused.{parted}
 use Rattle.state_file.proofs.Setting.{sets_then}
 use Rattle.state_file.proofs.restored.Restored.set_hooks.Goals as goal
@@ -16,7 +16,7 @@ returns-in_err-set_hook-clause-refused g c =
     let hooks = c.args.hooks.now in
     let i = c.loop-hook.hook-index in
     let is : c.from_residual.result ≡ Err c.in_err-set_hook.field-0.0 = search rules in
-    subst (λ r. IfErr r (RefusesHooks g.H.HookHost c.args.self.now (map hook_fact hooks))) (sym is) (
+    subst (λ r. IfErr r (RefusesSettings g.H.HookHost c.args.self.now (map hook_fact hooks))) (sym is) (
       map hook_fact (take i hooks),
       map hook_fact (drop (i + 1) hooks),
       hook_fact (get_or hooks i no_hook),

@@ -2,7 +2,7 @@ use Rattle.std.proofs.Common.{◌≡◌, ap, ◌∙◌, sym, subst, Some}
 use Rattle.std.specs.Option.{option_map}
 use Rattle.token_store.specs.Kept.{Held, kept_at}
 use Rattle.token_store.specs.Fits.{FitsHistory}
-use Rattle.token_store.specs.Records.{kept_by, kept_of}
+use Rattle.token_store.specs.Records.{kept_under, kept_of}
 use Rattle.token_store.proofs.Telling.{seen_kept}
 use Rattle.token_store.proofs.store.Store.at.Goals as goal
 
@@ -11,7 +11,7 @@ returns c = λ history fits.
     let t = c.self.inside.tables in
     let d = c.args.digest.now in
     let m = c.args.moment in
-    let k = kept_by c.in_ok-record.shared.now d c.in_ok-record.record.now in
-    let found : kept_at (kept_of t) d m ≡ Some k = sym c.at.ensures ∙ ap (option_map (λ p. kept_by p.1.now d p.0.now)) c.in_ok-record.was in
+    let k = kept_under c.in_ok-record.shared.now d c.in_ok-record.record.now in
+    let found : kept_at (kept_of t) d m ≡ Some k = sym c.at.ensures ∙ ap (option_map (λ p. kept_under p.1.now d p.0.now)) c.in_ok-record.was in
     let of : FitsHistory (kept_of t) history m = subst (λ (h : Held). FitsHistory h.kept history m) (sym c.self.view_is) fits in
     ap (λ x. Some x) (c.found.ensures d) ∙ seen_kept (kept_of t) history of.number d m k of.fits found

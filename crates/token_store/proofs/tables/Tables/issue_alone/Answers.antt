@@ -6,9 +6,9 @@ use Rattle.consent.specs.History.{with_change}
 use Rattle.token_store.specs.declared.record.Shared.{Shared}
 use Rattle.token_store.specs.declared.tables.Tables.{Tables}
 use Rattle.token_store.specs.Kept.{Kept, kept_at}
-use Rattle.token_store.specs.Fits.{named}
+use Rattle.token_store.specs.Fits.{with_family_number}
 use Rattle.token_store.specs.Room.{Waits, records_of}
-use Rattle.token_store.specs.Records.{or_nothing, shared_at, kept_of, kept_by, own_shared, token_kept, own_place}
+use Rattle.token_store.specs.Records.{or_nothing, shared_at, kept_of, kept_under, own_shared, token_kept, own_place}
 use Rattle.token_store.proofs.Adding.{unkept}
 use Rattle.token_store.proofs.Issuing.{fits_alone}
 use Rattle.token_store.proofs.Telling.{fits_same, unused_empty}
@@ -42,14 +42,14 @@ returns-clause-fits c = λ history fits none.
     let k : Kept = token_kept (own_place n c.args.client) m c.args.token.now in
     let t1 : Tables = record t { families = c.renew.new.families; coming = c.pop.new.self } in
     let same : kept_of t1 ≡ kept_of t = renewed_same t.families.slots slots' t.records.entries (heap_items t.order) t.owners.keys n s c.requires.tied waits c.renew.ensures.others in
-    let is : kept_by (shared_at slots' r.family) d r ≡ k =
-    ap (λ i. kept_by (shared_at slots' i) d r) c.of_token.ensures.family ∙ ap (λ o. kept_by (or_nothing o) d r) here ∙ c.of_token.ensures.kept s in
-    let tells = tells_put (kept_of t1) (kept_of t) (kept_by (shared_at slots' r.family) d r) k (kept_of c.put.new.self) m same is
+    let is : kept_under (shared_at slots' r.family) d r ≡ k =
+    ap (λ i. kept_under (shared_at slots' i) d r) c.of_token.ensures.family ∙ ap (λ o. kept_under (or_nothing o) d r) here ∙ c.of_token.ensures.kept s in
+    let tells = tells_put (kept_of t1) (kept_of t) (kept_under (shared_at slots' r.family) d r) k (kept_of c.put.new.self) m same is
     (c.put.ensures.tells m (ap (λ ks. kept_at ks d m) same ∙ unkept (kept_of t) history fits.number m d fits.fits none)) in
     let unused = unused_empty t n m c.requires.tied waits.empty in
     record {
-      number = named fits.number (length history) n;
-      fits = fits_same (kept_of t ++ k ∷ []) c.put.new.self (with_change history m (token_issued (length history) c.args.client 0 c.args.token.now)) m (named fits.number (length history) n) c.put.ensures.tied tells
+      number = with_family_number fits.number (length history) n;
+      fits = fits_same (kept_of t ++ k ∷ []) c.put.new.self (with_change history m (token_issued (length history) c.args.client 0 c.args.token.now)) m (with_family_number fits.number (length history) n) c.put.ensures.tied tells
           (fits_alone (kept_of t) history fits.number m c.args.client n c.args.token.now unused none fits.fits);
     }
 

@@ -5,7 +5,7 @@ use Rattle.consent.specs.Changes.{issued_with}
 use Rattle.consent.specs.History.{with_change}
 use Rattle.token_store.specs.Kept.{Kept, kept_at}
 use Rattle.token_store.specs.Room.{records_of}
-use Rattle.token_store.specs.Records.{shared_at, kept_of, kept_by, kept_in, token_kept, place_of}
+use Rattle.token_store.specs.Records.{shared_at, kept_of, kept_under, kept_in, token_kept, family_place}
 use Rattle.token_store.proofs.Adding.{unkept}
 use Rattle.token_store.proofs.Issuing.{fits_joined}
 use Rattle.token_store.proofs.Telling.{fits_same}
@@ -32,11 +32,11 @@ returns-clause-fits c = λ history g fits at none.
     let n : ℕ = c.in-Some.record.now.family in
     let r = c.of_token.result in
     let k = kept_in t.families.slots (d, c.in-Some.record.now) in
-    let x : Kept = token_kept (place_of n (shared_at t.families.slots n)) m token in
+    let x : Kept = token_kept (family_place n (shared_at t.families.slots n)) m token in
     let kept : kept_at (kept_of t) d m ≡ Some k = sym c.record_at.ensures ∙ ap (λ o. option_map (λ x. kept_in t.families.slots (d, x)) (option_copied o)) c.in-Some.is in
-    let is : kept_by (shared_at t.families.slots r.family) token.digest r ≡ x =
-    ap (λ i. kept_by (shared_at t.families.slots i) token.digest r) c.of_token.ensures.family ∙ c.of_token.ensures.kept (shared_at t.families.slots n) in
-    let tells = tells_put (kept_of t) (kept_of t) (kept_by (shared_at t.families.slots r.family) token.digest r) x (kept_of c.put.new.self) m refl is
+    let is : kept_under (shared_at t.families.slots r.family) token.digest r ≡ x =
+    ap (λ i. kept_under (shared_at t.families.slots i) token.digest r) c.of_token.ensures.family ∙ c.of_token.ensures.kept (shared_at t.families.slots n) in
+    let tells = tells_put (kept_of t) (kept_of t) (kept_under (shared_at t.families.slots r.family) token.digest r) x (kept_of c.put.new.self) m refl is
     (c.put.ensures.tells m (unkept (kept_of t) history fits.number m token.digest fits.fits none)) in
     record {
       number = fits.number;

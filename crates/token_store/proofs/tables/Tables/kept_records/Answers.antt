@@ -5,8 +5,8 @@ use Rattle.std.specs.Map.{lookup}
 use Rattle.std.specs.Map.Iter.{deref_pair}
 use Rattle.std.proofs.lemmas.Map.Iter.{rest_more}
 use Rattle.token_store.specs.declared.record.Record.{Record}
-use Rattle.token_store.specs.Image.{image_of, kept_record}
-use Rattle.token_store.specs.Records.{is_live_at, kept_in, kept_by, or_nothing}
+use Rattle.token_store.specs.Image.{as_kept, kept_record}
+use Rattle.token_store.specs.Records.{is_live_at, kept_in, kept_under, or_nothing}
 use Rattle.token_store.proofs.Remaking.{step_expired, step_kept, all_rest}
 use Rattle.token_store.proofs.tables.Tables.kept_records.Goals as goal
 
@@ -19,7 +19,7 @@ loop-digest-preserved-then-not-is_unexpired c =
     let is : it ≡ e ∷ u = rest_more deref_pair it u c.next.result (c.in-Some.digest, c.in-Some.record) c.in-Some.is c.next.ensures.steps in
     let expired : is_live_at c.args.moment c.in-Some.record.now ≡ false = search rules in
     record {
-      so_far = step_expired f c.args.moment (image_of c.loop-digest.kept.items) _ it u e is expired c.loop-digest.invariant.so_far;
+      so_far = step_expired f c.args.moment (as_kept c.loop-digest.kept.items) _ it u e is expired c.loop-digest.invariant.so_far;
       found = all_rest (λ x. lookup (bytes_eq x.0) c.args.self.now.records.entries ≡ Some x.1) it u e is c.loop-digest.invariant.found;
     }
 
@@ -32,7 +32,7 @@ loop-digest-preserved c =
     let is : it ≡ e ∷ u = rest_more deref_pair it u c.next.result (c.in-Some.digest, c.in-Some.record) c.in-Some.is c.next.ensures.steps in
     let live : is_live_at c.args.moment c.in-Some.record.now ≡ true = search rules in
     let slot : slice_index_or f c.in-Some.record.now.family None ≡ Some c.in-Some-get.shared.now = sym c.in-Some-get.ensures in
-    let same : kept_record c.kept.result ≡ kept_in f e = c.kept.ensures ∙ ap (λ o. kept_by (or_nothing o) c.in-Some.digest.now c.in-Some.record.now) (sym slot) in
+    let same : kept_record c.kept.result ≡ kept_in f e = c.kept.ensures ∙ ap (λ o. kept_under (or_nothing o) c.in-Some.digest.now c.in-Some.record.now) (sym slot) in
     record {
       so_far = step_kept f c.args.moment c.loop-digest.kept.items c.push.new.self.items c.kept.result _ it u e is live same c.in-Ok.ensures.items c.loop-digest.invariant.so_far;
       found = all_rest (λ x. lookup (bytes_eq x.0) c.args.self.now.records.entries ≡ Some x.1) it u e is c.loop-digest.invariant.found;

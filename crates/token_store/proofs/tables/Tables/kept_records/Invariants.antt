@@ -4,11 +4,11 @@ use Rattle.std.specs.Str.{bytes_eq}
 use Rattle.std.specs.Map.{lookup}
 use Rattle.consent.specs.History.{is_unexpired}
 use Rattle.token_store.specs.Records.{kept_of, all_kept}
-use Rattle.token_store.specs.Image.{image_of}
+use Rattle.token_store.specs.Image.{as_kept}
 use Rattle.token_store.proofs.tables.Tables.kept_records.Given as goal
 
 abbrev pub invariant-loop-digest : goal.invariant-loop-digest
 invariant-loop-digest l = record {
-  so_far : image_of l.kept.items ++ filter (λ k. is_unexpired l.fn.moment k.grant) (all_kept l.fn.self.families.slots l.digest-iterator) ≡ filter (λ k. is_unexpired l.fn.moment k.grant) (kept_of l.fn.self);
+  so_far : as_kept l.kept.items ++ filter (λ k. is_unexpired l.fn.moment k.grant) (all_kept l.fn.self.families.slots l.digest-iterator) ≡ filter (λ k. is_unexpired l.fn.moment k.grant) (kept_of l.fn.self);
   found : All (λ e. lookup (bytes_eq e.0) l.fn.self.records.entries ≡ Some e.1) l.digest-iterator;
 }

@@ -3,7 +3,7 @@ use Rattle.std.specs.List.Sorted.{IsPermutation}
 use Rattle.std.specs.BinaryHeap.{heap_items}
 use Rattle.std.proofs.lemmas.List.Sorted.{IsPermutation-refl}
 use Rattle.token_store.specs.declared.tables.Tables.{Tables}
-use Rattle.token_store.specs.Records.{IsTied, Forgets, kept_of, kept_by, shared_at}
+use Rattle.token_store.specs.Records.{IsTied, ForgetsExpired, kept_of, kept_under, shared_at}
 use Rattle.token_store.proofs.Looking.{same_push, same_on, absent_on}
 use Rattle.token_store.proofs.Waiting.{waits_other}
 use Rattle.token_store.proofs.Settling.{tied_awaiting, same_awaiting, entered_shares, ordered_with, counted_settled, settled_tells, put_new, count_few}
@@ -22,7 +22,7 @@ returns-clause-tied c =
     let es1 = t1.records.entries in
     let es' = c.insert.new.self.entries in
     let tied : IsTied t0 (r.family ∷ []) = tied_awaiting t.families.slots c.enter.new.families.slots t.records.entries (heap_items t.order) t.owners.keys r.family c.requires.tied c.enter.ensures.entered c.requires.open in
-    let forgets : Forgets t0 t1 d r.family = c.forget.ensures.forgotten r.family tied in
+    let forgets : ForgetsExpired t0 t1 d r.family = c.forget.ensures.forgotten r.family tied in
     let moved : IsPermutation ((d, r) ∷ es1) es' = put_new c.in-Ok-insert.field-0 d r es1 es' (c.in-Ok-insert.ensures.old ∙ forgets.absent) c.in-Ok-insert.ensures.entries in
     record {
       once = c.insert.ensures.unique;
@@ -43,13 +43,13 @@ returns-clause-tells c = λ m none.
     let es1 = t1.records.entries in
     let es' = c.insert.new.self.entries in
     let tied : IsTied t0 (r.family ∷ []) = tied_awaiting t.families.slots slots' t.records.entries (heap_items t.order) t.owners.keys r.family c.requires.tied c.enter.ensures.entered c.requires.open in
-    let forgets : Forgets t0 t1 d r.family = c.forget.ensures.forgotten r.family tied in
+    let forgets : ForgetsExpired t0 t1 d r.family = c.forget.ensures.forgotten r.family tied in
     let moved : IsPermutation ((d, r) ∷ es1) es' = put_new c.in-Ok-insert.field-0 d r es1 es' (c.in-Ok-insert.ensures.old ∙ forgets.absent) c.in-Ok-insert.ensures.entries in
     let shares = λ (k : ℕ). entered_shares t.families.slots slots' r.family 1 k c.enter.ensures.entered in
     let same = same_awaiting t.families.slots slots' t.records.entries t.records.entries m shares c.requires.tied.once c.requires.tied.once (IsPermutation-refl t.records.entries) (λ e. refl) in
     let none' = absent_on (kept_of t) (kept_of t0) d m same none in
     let before = same_on (kept_of t) (kept_of t0) (kept_of t1) m same (forgets.same m none') in
-    let first = same_push (kept_of t) (kept_of t1) (kept_by (shared_at t1.families.slots r.family) d r) m before in
+    let first = same_push (kept_of t) (kept_of t1) (kept_under (shared_at t1.families.slots r.family) d r) m before in
     let more = settled_tells t1.families.slots es1 es' d r m forgets.tied.once c.insert.ensures.unique forgets.absent moved c.in-Ok-insert.ensures.updates.0 in
     rw (← shares r.family d r, ← forgets.shares d r) (same_on _ _ _ m first more)
 

@@ -4,14 +4,14 @@ use Rattle.std.specs.Str.{bytes_eq}
 use Rattle.std.specs.Map.{lookup}
 use Rattle.token_store.specs.Kept.{kept_at}
 use Rattle.token_store.specs.Records.{IsTied, TellsSame, kept_of}
-use Rattle.token_store.specs.Image.{image_of, renumbered}
+use Rattle.token_store.specs.Image.{as_kept, renumbered}
 use Rattle.token_store.specs.Homes.{AllHome, renumber_by}
 use Rattle.token_store.proofs.tables.Tables.put_all.Given as goal
 
 abbrev pub invariant-loop-kept : goal.invariant-loop-kept
 invariant-loop-kept l = record {
   tied : IsTied l.self [];
-  tells : TellsSame (map (renumbered (renumber_by l.numbers.entries)) (image_of (take l.kept-index l.records))) (kept_of l.self) l.moment;
+  tells : TellsSame (map (renumbered (renumber_by l.numbers.entries)) (as_kept (take l.kept-index l.records))) (kept_of l.self) l.moment;
   all : AllHome l.numbers.entries l.self.families.slots l.moment l.records;
-  known : (d : List ℕ) → is_some (lookup (bytes_eq d) l.self.records.entries) ≡ true → is_some (kept_at (image_of (take l.kept-index l.records)) d l.moment) ≡ true;
+  known : (d : List ℕ) → is_some (lookup (bytes_eq d) l.self.records.entries) ≡ true → is_some (kept_at (as_kept (take l.kept-index l.records)) d l.moment) ≡ true;
 }

@@ -3,7 +3,7 @@ use Rattle.std.specs.List.Sorted.{IsPermutation}
 use Rattle.std.specs.Str.{bytes_eq}
 use Rattle.std.specs.Map.{lookup}
 use Rattle.std.specs.BinaryHeap.{heap_items}
-use Rattle.token_store.specs.Records.{Tied, kept_by, shared_at, all_kept}
+use Rattle.token_store.specs.Records.{Tied, kept_under, shared_at, all_kept}
 use Rattle.token_store.proofs.Looking.{same_push, same_on}
 use Rattle.token_store.proofs.Settling.{tied_reordered, tied_awaiting, same_awaiting, entered_shares, ordered_with, counted_settled, settled_tells, put_new, count_few}
 use Rattle.token_store.proofs.tables.Tables.put_new.Goals as goal
@@ -49,7 +49,7 @@ returns-clause-tells c = λ m.
     let kept' = all_kept slots' es1 in
     let same = same_awaiting t.families.slots slots' t.records.entries es1 m shares c.requires.tied.once e.unique e.entries.0 e.entries.2 in
     let more = settled_tells slots' es1 es' d r m e.unique c.insert.ensures.unique absent moved c.in-Ok-insert.ensures.updates.0 in
-    rw (← shares r.family d r) (same_on _ _ _ m (same_push kept kept' (kept_by (shared_at slots' r.family) d r) m same) more)
+    rw (← shares r.family d r) (same_on _ _ _ m (same_push kept kept' (kept_under (shared_at slots' r.family) d r) m same) more)
 
 pub returns-clause-found : goal.returns-clause-found
 returns-clause-found c = λ d. c.in-Ok-insert.ensures.updates.0 d ∙ ap (λ o. cond (bytes_eq c.args.digest.now d) (Some c.args.new) o) (c.reserve.ensures.entries.2 d)
