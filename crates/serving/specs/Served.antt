@@ -95,13 +95,13 @@ pub data ServingStep {H S C : Type 0} (hosting : Hosting H) (does : S → Doing 
   -- a piece was read, and given at the moment that the clock told
   hears : {e e' : SeenEdge H} {s s' : S} {k k' : C} {g behind g' : ChaCha} (n : ℕ) (piece : List ℕ) (moment : ℕ) → n < pieces_limit → IsAttentive hosting e c →
       0 < length piece → length piece ≤ stream_piece_limit → does s (Received piece) s' → tells k (Some moment) k' →
-          PieceGiven hosting e e' c piece moment g behind → g' ≡ moved g 1024 →
+      PieceGiven hosting e e' c piece moment g behind → g' ≡ moved g 1024 →
       ServingStep hosting does tells c (Reading n) (serving_scene e s k g) (Reading (n + 1)) (serving_scene e' s' k' g')
   refuses : {e : SeenEdge H} {s s' : S} {k k' : C} {g behind g' : ChaCha} (n : ℕ) (piece : List ℕ) (moment : ℕ) (fault : EdgeFault) → n < pieces_limit →
       IsAttentive hosting e c →
       0 < length piece → length piece ≤ stream_piece_limit → does s (Received piece) s' → tells k (Some moment) k' →
-          PieceRefused hosting e c piece g behind fault →
-          g' ≡ moved g 1024 →
+      PieceRefused hosting e c piece g behind fault →
+      g' ≡ moved g 1024 →
       ServingStep hosting does tells c (Reading n) (serving_scene e s k g) (Served (Some (Fault.Refused fault))) (serving_scene e s' k' g')
   loses_time : {e : SeenEdge H} {s s' : S} {k k' : C} {g g' : ChaCha} (n : ℕ) (piece : List ℕ) → n < pieces_limit → IsAttentive hosting e c →
       0 < length piece → length piece ≤ stream_piece_limit → does s (Received piece) s' → tells k None k' → g' ≡ moved g 1024 →
@@ -144,7 +144,7 @@ abbrev pub Goes : {H S C : Type 0} → Hosting H → (S → Doing → S → Type
     ServingScene H S C → Type 0
 Goes {H} {S} {C} hosting does tells c stage old stage' new =
     (first_stage : Stage) (first : ServingScene H S C) → Runs hosting does tells c first_stage first stage old →
-        Runs hosting does tells c first_stage first stage' new
+    Runs hosting does tells c first_stage first stage' new
 
 -- the fault, if any
 abbrev pub any_fault : {T : Type 0} → Result T ServeFault → Option ServeFault
