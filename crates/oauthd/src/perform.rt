@@ -147,7 +147,7 @@ fn serve_as<
     ensures done { OnOk result (HasServed service.now (files_in files) (W.contents out.old) (W.contents out.new)) }
     ensures fault { IfErr result (λ fault.
         FailsService (startings ⟦<MachineClocks<'r, R> as Clocks>⟧
-        ⟦<LineJournal<'e, E> as Journal>⟧ (keeping ⟦<StateKeeper<DiskFile<'r, R>> as Keeper>⟧ ⟦<StateKeeper<DiskFile<'r, R>> as ImageKeeper>⟧.own))
+        ⟦<LineJournal<'e, E> as Journal>⟧ (keeping ⟦<StateKeeper<DiskFile<'r, R>> as Keeper>⟧ (record { is_long = ⟦<StateKeeper<DiskFile<'r, R>> as ImageKeeper>⟧.is_long })))
         W.contents service.now (files_in files) fault out.old out.new err.old err.new) }
 {
     let CallFiles { named, hooks } = files;
@@ -190,7 +190,7 @@ pub fn perform_service<
     // Bad use may be that of a fault that could not be told.
     ensures { (result ≡ Status.BadUse)
         ⊎ EndsService (startings ⟦<MachineClocks<'r, R> as Clocks>⟧
-        ⟦<LineJournal<'e, E> as Journal>⟧ (keeping ⟦<StateKeeper<DiskFile<'r, R>> as Keeper>⟧ ⟦<StateKeeper<DiskFile<'r, R>> as ImageKeeper>⟧.own))
+        ⟦<LineJournal<'e, E> as Journal>⟧ (keeping ⟦<StateKeeper<DiskFile<'r, R>> as Keeper>⟧ (record { is_long = ⟦<StateKeeper<DiskFile<'r, R>> as ImageKeeper>⟧.is_long })))
         W.contents E.contents service.now (files_in files) result out.old out.new err.old err.new }
 {
     match serve_as(rt, service, files, out, err) {
@@ -210,7 +210,7 @@ fn perform_call<
     // Bad use may be that of a write that failed.
     ensures { (result ≡ Status.BadUse)
         ⊎ EndsCall (startings ⟦<MachineClocks<'r, R> as Clocks>⟧
-        ⟦<LineJournal<'e, E> as Journal>⟧ (keeping ⟦<StateKeeper<DiskFile<'r, R>> as Keeper>⟧ ⟦<StateKeeper<DiskFile<'r, R>> as ImageKeeper>⟧.own))
+        ⟦<LineJournal<'e, E> as Journal>⟧ (keeping ⟦<StateKeeper<DiskFile<'r, R>> as Keeper>⟧ (record { is_long = ⟦<StateKeeper<DiskFile<'r, R>> as ImageKeeper>⟧.is_long })))
         W.contents E.contents call.now (files_in files) result out.old out.new err.old err.new }
 {
     match call {
@@ -234,7 +234,7 @@ pub fn perform<
     // Bad use may be that of a write that failed.
     ensures { (result ≡ Status.BadUse)
         ⊎ EndsWords (startings ⟦<MachineClocks<'r, R> as Clocks>⟧
-        ⟦<LineJournal<'e, E> as Journal>⟧ (keeping ⟦<StateKeeper<DiskFile<'r, R>> as Keeper>⟧ ⟦<StateKeeper<DiskFile<'r, R>> as ImageKeeper>⟧.own))
+        ⟦<LineJournal<'e, E> as Journal>⟧ (keeping ⟦<StateKeeper<DiskFile<'r, R>> as Keeper>⟧ (record { is_long = ⟦<StateKeeper<DiskFile<'r, R>> as ImageKeeper>⟧.is_long })))
         W.contents E.contents words.now result out.old out.new err.old err.new }
 {
     let call = match Call::from_words(rt.alloc(), words) {
