@@ -26,8 +26,14 @@ limits_of patience = record { idle = patience.silence; crowded = patience.full; 
 
 -- the tools that a server has, by what it was handed and an edge
 abbrev pub tools_of : {N C J K H : Type 0} → Means N C J K → SeenEdge H → Tools N C J K H
-tools_of means edge = record { sockets = means.sockets; edge = edge; clocks = means.clocks; generator = means.generator; journal = means.journal;
-    keeper = means.keeper }
+tools_of means edge = record {
+  sockets = means.sockets;
+  edge = edge;
+  clocks = means.clocks;
+  generator = means.generator;
+  journal = means.journal;
+  keeper = means.keeper;
+}
 
 -- A server, from its beginning on and with what it was handed, served its connections step by step until it could not go on;
 -- or the clocks told nothing, and it served none.
@@ -41,7 +47,7 @@ pub record Serves {N C J K H : Type 0} (p : Promises N C J K H) (beginning : Beg
 abbrev pub ServesFrom : {N C J K H : Type 0} → Promises N C J K H → Seen H → Means N C J K → Ending N C J K H → Type 0
 ServesFrom p server means ending =
     (rules : RegistryRecord) (host : _) (history : List Event) (m : ℕ) → FitsServer p.hosting.installs p.hosting.removes server rules host history m →
-        Notes server (Some history) history →
+    Notes server (Some history) history →
     Serves p (resumed_beginning rules host history m) means ending
 
 -- a new server with these rules, that was so patient, did so, with some sockets, clocks, journal, keeper and draws

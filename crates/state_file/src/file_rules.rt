@@ -18,7 +18,8 @@ use std::alloc::{AllocError, Global};
 const MOST_OWNERS: u32 = 4096;
 
 /// The registry of a server that has nothing, for a file that tells no rules.
-const LEAST: &[u8] = br#"{"operator":"-","access_life":1,"refresh_life":1,"owners":[],"scopes":["-"],"clients":[]}"#;
+const LEAST: &[u8] =
+    br#"{"operator":"-","access_life":1,"refresh_life":1,"owners":[],"scopes":["-"],"clients":[]}"#;
 
 /// The rules that a file tells: a registry that has them, with keys that nobody has, and their spelling.
 #[derive(Drop)]
