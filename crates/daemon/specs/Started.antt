@@ -1,9 +1,11 @@
 -- What comes of a server that is started.
 use Rattle.std.specs.Prelude.{◌≡◌, ◌⊎◌, ℕ, List, Some}
 use Rattle.clients.specs.RegistryRecord.{RegistryRecord}
+use Rattle.change_codec.specs.declared.keeper.Keeper.{Ghosts as Keeper}
 use Rattle.consent.specs.History.{Event}
 use Rattle.endpoints.specs.Server.{Seen, FitsServer, Notes}
 use Rattle.http_edge.specs.Edges.{SeenEdge}
+use Rattle.image_keeper.specs.Keeping.{Keeping, keeping}
 use Rattle.event_loop.specs.declared.fault.LoopFault.{LoopFault}
 use Rattle.event_loop.specs.declared.limits.Limits.{Limits}
 use Rattle.event_loop.specs.declared.tools.Tools.{Tools}
@@ -14,14 +16,24 @@ use Rattle.daemon.specs.declared.means.Means.{Means}
 use Rattle.daemon.specs.declared.patience.Patience.{Patience}
 use Rattle.daemon.specs.Begun.{Beginning, IsAt, new_beginning, resumed_beginning}
 
+-- what a keeper promises, which may put an image in the place of what it keeps once that is long
+abbrev pub keeping_by : {K : Type 0} → Keeper K → (K → Type 0) → Keeping K
+keeping_by keeper is_long = keeping keeper (record { is_long = is_long })
+
 -- the limits of a loop that is so patient, and reports so often
 abbrev pub limits_of : Patience → Limits
 limits_of patience = record { idle = patience.silence; crowded = patience.full; report = patience.report }
 
 -- the tools that a server has, by what it was handed and an edge
 abbrev pub tools_of : {N C J K H : Type 0} → Means N C J K → SeenEdge H → Tools N C J K H
-tools_of means edge = record { sockets = means.sockets; edge = edge; clocks = means.clocks; generator = means.generator; journal = means.journal;
-    keeper = means.keeper }
+tools_of means edge = record {
+  sockets = means.sockets;
+  edge = edge;
+  clocks = means.clocks;
+  generator = means.generator;
+  journal = means.journal;
+  keeper = means.keeper;
+}
 
 -- A server, from its beginning on and with what it was handed, served its connections step by step until it could not go on;
 -- or the clocks told nothing, and it served none.
@@ -35,7 +47,7 @@ pub record Serves {N C J K H : Type 0} (p : Promises N C J K H) (beginning : Beg
 abbrev pub ServesFrom : {N C J K H : Type 0} → Promises N C J K H → Seen H → Means N C J K → Ending N C J K H → Type 0
 ServesFrom p server means ending =
     (rules : RegistryRecord) (host : _) (history : List Event) (m : ℕ) → FitsServer p.hosting.installs p.hosting.removes server rules host history m →
-        Notes server (Some history) history →
+    Notes server (Some history) history →
     Serves p (resumed_beginning rules host history m) means ending
 
 -- a new server with these rules, that was so patient, did so, with some sockets, clocks, journal, keeper and draws

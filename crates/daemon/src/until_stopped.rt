@@ -4,7 +4,7 @@ ghost use Rattle.std.specs.Prelude.{◌≡◌, ◌≢◌, OnOk, OnErr, IfOk, IfE
 ghost use Rattle.event_loop.specs.Scenes.{promises};
 ghost use Rattle.image_keeper.specs.Keeping.{keeping};
 ghost use Rattle.daemon.specs.Listening.{Announces};
-ghost use Rattle.daemon.specs.Started.{HasGoneOn, HasStarted};
+ghost use Rattle.daemon.specs.Started.{HasGoneOn, HasStarted, keeping_by};
 ghost use Rattle.daemon.specs.declared.fault.ListenFault.TheVariants.{Unwritten};
 
 use crate::fault::ListenFault;
@@ -69,7 +69,7 @@ pub fn start<'r, 'e, R: Net + Clock + RandomSource + AllocGlobal, W: Write, E: W
     err: &'e mut E,
 ) -> Result<LoopFault, ListenFault>
     ensures done { OnOk result (Announces (W.contents out.old) (W.contents out.new)) }
-    ensures serves { IfOk result (HasStarted (promises ⟦<MachineSockets as Sockets>⟧ ⟦<MachineClocks<'r, R> as Clocks>⟧ ⟦<LineJournal<'e, E> as Journal>⟧ (keeping ⟦<NoKeeper as Keeper>⟧ (record { is_long = ⟦<NoKeeper as ImageKeeper>⟧.is_long })) ⟦<Chain as HookHost>⟧) registry hooks patience) }
+    ensures serves { IfOk result (HasStarted (promises ⟦<MachineSockets as Sockets>⟧ ⟦<MachineClocks<'r, R> as Clocks>⟧ ⟦<LineJournal<'e, E> as Journal>⟧ (keeping_by ⟦<NoKeeper as Keeper>⟧ ⟦<NoKeeper as ImageKeeper>⟧.is_long) ⟦<Chain as HookHost>⟧) registry hooks patience) }
     ensures silent { IfErr result (λ fault. fault ≢ Unwritten → out.new ≡ out.old) }
     ensures quiet { OnErr result (err.new ≡ err.old) }
 {

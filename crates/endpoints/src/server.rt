@@ -113,7 +113,7 @@ impl<H: HookHost> Server<H> {
             consents: Consents::new(alloc),
             greatest: Moment::new(0),
             unkept: None,
-            tally: Tally::NONE,
+            tally: Tally::default(),
             alloc,
         }
     }
@@ -143,7 +143,7 @@ impl<H: HookHost> Server<H> {
             consents,
             greatest: moment,
             unkept: None,
-            tally: Tally::NONE,
+            tally: Tally::default(),
             alloc,
         })
     }

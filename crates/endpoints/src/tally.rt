@@ -7,7 +7,7 @@ use answers::{Answer, Want};
 use http::StatusCode;
 
 /// How many requests there were at each endpoint.
-#[derive(Clone, Copy)]
+#[derive(Clone, Copy, Default)]
 pub struct Asked {
     pub authorize: u64,
     pub consent: u64,
@@ -22,7 +22,7 @@ pub struct Asked {
 }
 
 /// How many replies there were of each status.
-#[derive(Clone, Copy)]
+#[derive(Clone, Copy, Default)]
 pub struct Replied {
     pub ok: u64,
     pub found: u64,
@@ -35,7 +35,7 @@ pub struct Replied {
 }
 
 /// How many replies were 503, by what was wanting.
-#[derive(Clone, Copy)]
+#[derive(Clone, Copy, Default)]
 pub struct Wanted {
     pub memory: u64,
     pub store_room: u64,
@@ -44,7 +44,7 @@ pub struct Wanted {
 }
 
 /// How many requests were answered, and how. Each count stops at the greatest number.
-#[derive(Clone, Copy)]
+#[derive(Clone, Copy, Default)]
 pub struct Tally {
     pub asked: Asked,
     pub replied: Replied,
@@ -142,38 +142,6 @@ impl Wanted {
 }
 
 impl Tally {
-    /// Nothing was answered yet.
-    pub(crate) const NONE: Tally = Tally {
-        asked: Asked {
-            authorize: 0,
-            consent: 0,
-            token: 0,
-            revoke: 0,
-            introspect: 0,
-            hook_installation: 0,
-            hook_removal: 0,
-            hook_list: 0,
-            nowhere: 0,
-        },
-        replied: Replied {
-            ok: 0,
-            found: 0,
-            bad_request: 0,
-            unauthorized: 0,
-            forbidden: 0,
-            not_found: 0,
-            not_allowed: 0,
-            unavailable: 0,
-        },
-        wanted: Wanted {
-            memory: 0,
-            store_room: 0,
-            fresh_draw: 0,
-            consent_room: 0,
-        },
-        denied: 0,
-    };
-
     /// One more request was answered at the endpoint, or at none, with the status, for the cause.
     pub(crate) fn count(
         &mut self,

@@ -112,7 +112,6 @@ module _ {N C J K H : Type 0} (p : Promises N C J K H) (rules : RegistryRecord) 
       let same : Some s.course.world.history ≡ Some now = sym last ∙ is in
       let e : s.course.world.history ≡ now = cc in
       subst (p.keeping.stands_for c) e (kept.holds (held unkept.kept unkept.here) c left)
-
   moves_held s s' (keeps_still all kept same) held = λ now is c left.
       let before : s.course.world.kept ≡ Some now = ap (λ (w : World). w.kept) (sym same) ∙ is in
       let e : now ≡ s.course.world.history = all now before in
@@ -195,7 +194,6 @@ module _ {N C J K H : Type 0} (p : Promises N C J K H) (rules : RegistryRecord) 
         from = front;
         held = moves_held s' s'' (keeps_all unkept kept last history) l.held;
       }
-
   lasts_on first s before s' s'' l step (keeps_still all kept same) =
       let e : l.kept ≡ s'.course.world.history = all l.kept l.here in
       let held : Holds p.keeping s'.keeper s'.course.world.history = subst (λ (h : List Event). Holds p.keeping s'.keeper h) e (l.held l.kept l.here) in
@@ -262,7 +260,6 @@ module _ {N C J K H : Type 0} (p : Promises N C J K H) (rules : RegistryRecord) 
             | inr new ↦ inr new
           ]
         ]
-
     fails_durable s last failed fault served on (not_imaged keeper all lost) = λ kept is c left.
         let l = lasts s kept last is served on in
         let e : l.kept ≡ last.course.world.history = all l.kept l.here in

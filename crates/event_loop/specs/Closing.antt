@@ -45,5 +45,12 @@ pub data Closes {N C J K H : Type 0} (p : Promises N C J K H) (rules : RegistryR
   leaves : (n : N) (e : SeenEdge H) (on : GoesOn p.hosting e rules host s.course.schedule s.course.world (Forgotten k)) (last : Option ℕ) (journal : J) →
       p.does s.sockets (deed.Closed k) n →
       NotesEnd p.notes place.stage s.times.steady s.noted s.journal last journal →
-      Closes p rules host k place s (record s { sockets = n; deeds = deed.Closed k ∷ s.deeds; course = led s.course e (Forgotten k) on.world; noted = last;
-          journal = journal; places = slice_set s.places k (record place { stage = Free }); queue = freed_queue s.queue })
+      Closes p rules host k place s (record s {
+        sockets = n;
+        deeds = deed.Closed k ∷ s.deeds;
+        course = led s.course e (Forgotten k) on.world;
+        noted = last;
+        journal = journal;
+        places = slice_set s.places k (record place { stage = Free });
+        queue = freed_queue s.queue;
+      })

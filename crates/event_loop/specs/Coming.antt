@@ -33,8 +33,12 @@ told_queue Waits = Waits
 pub data Comes {N C J K H : Type 0} (p : Promises N C J K H) (rules : RegistryRecord) (host : H) (s : Scene N C J K H) : Scene N C J K H → Type 0 where
   opens : (k : ℕ) (n : N) (e : SeenEdge H) (on : GoesOn p.hosting e rules host s.course.schedule s.course.world (Opened k)) →
       k < places_limit → IsFreeAt s.places k → p.does s.sockets (deed.Came k) n →
-      Comes p rules host s (record s { sockets = n; deeds = deed.Came k ∷ s.deeds; course = led s.course e (Opened k) on.world;
-          places = slice_set s.places k (fresh_place s.times.steady) })
+      Comes p rules host s (record s {
+        sockets = n;
+        deeds = deed.Came k ∷ s.deeds;
+        course = led s.course e (Opened k) on.world;
+        places = slice_set s.places k (fresh_place s.times.steady);
+      })
   -- the edge refuses it, and it is closed at once
   denies : (k : ℕ) (n n' : N) (fault : EdgeFault) (last : Option ℕ) (journal : J) →
       k < places_limit → IsFreeAt s.places k → p.does s.sockets (deed.Came k) n → IsOpeningRefusal fault s.course.world.connections k →

@@ -33,7 +33,7 @@ pub record StandsBetween {N C J K H : Type 0} (p : Promises N C J K H) (rules : 
 abbrev pub IsDurable : {N C J K H : Type 0} → Promises N C J K H → RegistryRecord → H → Scene N C J K H → Scene N C J K H → Type 0
 IsDurable p rules host s s' =
     (kept : List Event) → s.course.world.kept ≡ Some kept → (c : List ℕ) → p.keeping.left_since s'.keeper (p.keeping.moment s.keeper) c →
-        StandsBetween p rules host s kept s' c
+    StandsBetween p rules host s kept s' c
 
 -- So it is up to the end, behind the last scene that steps lead to; but where keeping failed there, what is left may stand
 -- for all that had happened.

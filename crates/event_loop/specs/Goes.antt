@@ -145,7 +145,7 @@ abbrev pub LeadsToActs : {N C J K H : Type 0} → Promises N C J K H → ℕ →
     Tools N C J K H → Type 0
 LeadsToActs {N} {C} {J} {K} {H} p k task P service tools service' tools' =
     (rules : RegistryRecord) (host : H) (first : Scene N C J K H) (found : List Ready) (past : Past) → ¬ (IsDone task past.deeds) →
-        IsReadyFor task past.world → Served p rules host first (scene_of service tools found past) →
+    IsReadyFor task past.world → Served p rules host first (scene_of service tools found past) →
     ActsAt p rules host first found k task P service past service' tools'
 
 -- a read or a write is to be done
@@ -192,13 +192,13 @@ pub record TidiesAt {N C J K H : Type 0} (p : Promises N C J K H) (rules : Regis
 abbrev pub LeadsToTidy : {N C J K H : Type 0} → Promises N C J K H → ℕ → Service → Tools N C J K H → Service → Tools N C J K H → Type 0
 LeadsToTidy {N} {C} {J} {K} {H} p k service tools service' tools' =
     (rules : RegistryRecord) (host : H) (first : Scene N C J K H) (found : List Ready) (past : Past) →
-        Served p rules host first (scene_of service tools found past) →
+    Served p rules host first (scene_of service tools found past) →
     TidiesAt p rules host first found k service past service' tools'
 
 abbrev pub LeadsToRest : {N C J K H : Type 0} → Promises N C J K H → ℕ → Service → Tools N C J K H → Service → Tools N C J K H → Type 0
 LeadsToRest {N} {C} {J} {K} {H} p k service tools service' tools' =
     (rules : RegistryRecord) (host : H) (first : Scene N C J K H) (found : List Ready) (past : Past) → IsHeardAt k service past →
-        ¬ (IsDone (Writing k) past.deeds) → IsAllKept past.world → Served p rules host first (scene_of service tools found past) →
+    ¬ (IsDone (Writing k) past.deeds) → IsAllKept past.world → Served p rules host first (scene_of service tools found past) →
     SettlesAt p rules host first found k service past service' tools'
 
 -- a connection is closed, wherever the edge was reached
@@ -231,7 +231,7 @@ pub record GoesTo {N C J K H : Type 0} (p : Promises N C J K H) (rules : Registr
 abbrev pub LeadsTo : {N C J K H : Type 0} → Promises N C J K H → List Ready → Service → Tools N C J K H → List Ready → Service → Tools N C J K H → Type 0
 LeadsTo {N} {C} {J} {K} {H} p found service tools found' service' tools' =
     (rules : RegistryRecord) (host : H) (first : Scene N C J K H) (past : Past) → Served p rules host first (scene_of service tools found past) →
-        IsSettled service past →
+    IsSettled service past →
     GoesTo p rules host first found' past service' tools'
 
 -- so they do, and where it is so then, it was tried to accept since the last wait
@@ -243,14 +243,14 @@ pub record Accepts {N C J K H : Type 0} (p : Promises N C J K H) (rules : Regist
 abbrev pub LeadsToAccepts : {N C J K H : Type 0} → Promises N C J K H → List Ready → Type 0 → Service → Tools N C J K H → Service → Tools N C J K H → Type 0
 LeadsToAccepts {N} {C} {J} {K} {H} p found P service tools service' tools' =
     (rules : RegistryRecord) (host : H) (first : Scene N C J K H) (past : Past) → Served p rules host first (scene_of service tools found past) →
-        IsSettled service past →
+    IsSettled service past →
     Accepts p rules host first found P past service' tools'
 
 -- what was found ready is noted at its place
 abbrev pub LeadsToHearing : {N C J K H : Type 0} → Promises N C J K H → List Ready → Service → Tools N C J K H → List Ready → Service → Type 0
 LeadsToHearing {N} {C} {J} {K} {H} p found service tools found' service' =
     (rules : RegistryRecord) (host : H) (first : Scene N C J K H) (past : Past) → Served p rules host first (scene_of service tools found past) →
-        IsRested service past.world →
+    IsRested service past.world →
     Served p rules host first (scene_of service' tools found' past) × IsRested service' past.world
 
 -- each place below i was read, where it may be; those from i on were not, none was written to, and nothing was kept
@@ -268,7 +268,7 @@ pub record GoesReading {N C J K H : Type 0} (p : Promises N C J K H) (rules : Re
 abbrev pub LeadsReading : {N C J K H : Type 0} → Promises N C J K H → ℕ → Service → Tools N C J K H → Service → Tools N C J K H → Type 0
 LeadsReading {N} {C} {J} {K} {H} p i service tools service' tools' =
     (rules : RegistryRecord) (host : H) (first : Scene N C J K H) (found : List Ready) (past : Past) → ((task : Task) → ¬ (IsDone task past.deeds)) →
-        IsRested service past.world →
+    IsRested service past.world →
     Served p rules host first (scene_of service tools found past) → GoesReading p rules host first found i past service' tools'
 
 -- nothing is unkept, and all else is as it was
@@ -284,14 +284,14 @@ pub record GoesKept {N C J K H : Type 0} (p : Promises N C J K H) (rules : Regis
 abbrev pub LeadsToKept : {N C J K H : Type 0} → Promises N C J K H → Tools N C J K H → Tools N C J K H → Type 0
 LeadsToKept {N} {C} {J} {K} {H} p tools tools' =
     (rules : RegistryRecord) (host : H) (first : Scene N C J K H) (found : List Ready) (service : Service) (past : Past) → ¬ (IsDone Keeping past.deeds) →
-        Served p rules host first (scene_of service tools found past) →
+    Served p rules host first (scene_of service tools found past) →
     GoesKept p rules host first found service past tools'
 
 -- or keeping failed
 abbrev pub LeadsToLoss : {N C J K H : Type 0} → Promises N C J K H → Tools N C J K H → LoopFault → Tools N C J K H → Type 0
 LeadsToLoss {N} {C} {J} {K} {H} p tools fault tools' =
     (rules : RegistryRecord) (host : H) (first : Scene N C J K H) (found : List Ready) (service : Service) (past : Past) → ¬ (IsDone Keeping past.deeds) →
-        Served p rules host first (scene_of service tools found past) →
+    Served p rules host first (scene_of service tools found past) →
     Fails p (scene_of service tools found past) fault (scene_of service tools' found past)
 
 -- where nothing is unkept, no more is kept than may be beside an image, or an image was refused in this second
@@ -327,9 +327,9 @@ pub record GoesWriting {N C J K H : Type 0} (p : Promises N C J K H) (rules : Re
 abbrev pub LeadsWriting : {N C J K H : Type 0} → Promises N C J K H → ℕ → Service → Tools N C J K H → Service → Tools N C J K H → Type 0
 LeadsWriting {N} {C} {J} {K} {H} p i service tools service' tools' =
     (rules : RegistryRecord) (host : H) (first : Scene N C J K H) (found : List Ready) (past : Past) → IsRested service past.world →
-        ((j : ℕ) → j < 64 → IsHeardAt j service past) →
+    ((j : ℕ) → j < 64 → IsHeardAt j service past) →
     ((j : ℕ) → ¬ (IsDone (Writing j) past.deeds)) → IsAllKept past.world → Served p rules host first (scene_of service tools found past) →
-        GoesWriting p rules host first found i past service' tools'
+    GoesWriting p rules host first found i past service' tools'
 
 -- where an accept failed and was not tried again, it failed in this second
 abbrev pub IsTried : Service → Type 0
@@ -358,7 +358,7 @@ pub record GoesRound {N C J K H : Type 0} (p : Promises N C J K H) (rules : Regi
 abbrev pub LeadsRound : {N C J K H : Type 0} → Promises N C J K H → ℕ → Service → Tools N C J K H → Service → Tools N C J K H → Type 0
 LeadsRound {N} {C} {J} {K} {H} p count service tools service' tools' =
     (rules : RegistryRecord) (host : H) (first : Scene N C J K H) (past : Past) → Served p rules host first (scene_of service tools [] past) →
-        IsReady service past →
+    IsReady service past →
     GoesRound p rules host first count past service' tools'
 
 -- steps lead to a scene where something fails
@@ -373,7 +373,7 @@ pub record GoesWrong {N C J K H : Type 0} (p : Promises N C J K H) (rules : Regi
 abbrev pub LeadsWrong : {N C J K H : Type 0} → Promises N C J K H → LoopFault → Service → Tools N C J K H → Service → Tools N C J K H → Type 0
 LeadsWrong {N} {C} {J} {K} {H} p fault service tools service' tools' =
     (rules : RegistryRecord) (host : H) (first : Scene N C J K H) (past : Past) → Served p rules host first (scene_of service tools [] past) →
-        IsReady service past →
+    IsReady service past →
     GoesWrong p rules host first fault service' tools'
 
 -- connections that are left are closed
@@ -386,5 +386,5 @@ pub record GoesShut {N C J K H : Type 0} (p : Promises N C J K H) (rules : Regis
 abbrev pub LeadsShut : {N C J K H : Type 0} → Promises N C J K H → Service → Tools N C J K H → Service → Tools N C J K H → Type 0
 LeadsShut {N} {C} {J} {K} {H} p service tools service' tools' =
     (rules : RegistryRecord) (host : H) (first : Scene N C J K H) (found : List Ready) (past : Past) →
-        Shuts p rules host first (scene_of service tools found past) →
+    Shuts p rules host first (scene_of service tools found past) →
     Reached p.hosting tools.edge rules host past.schedule past.world → GoesShut p rules host first found service' tools'

@@ -25,22 +25,43 @@ pub data Reads {N C J K H : Type 0} (p : Promises N C J K H) (rules : RegistryRe
   hears : (bytes : List ℕ) (n : N) (course : Course H) (place' : Place) → 0 < length bytes → length bytes ≤ read_limit →
       p.does s.sockets (deed.Read k read_limit bytes) n →
       IsHeard p.hosting rules host k s.times.moment bytes s.course course → place' ≡ read_place place (length bytes) →
-      Reads p rules host k place s (record s { sockets = n; deeds = deed.Read k read_limit bytes ∷ s.deeds; course = course;
-          places = slice_set s.places k place' })
+      Reads p rules host k place s (record s {
+        sockets = n;
+        deeds = deed.Read k read_limit bytes ∷ s.deeds;
+        course = course;
+        places = slice_set s.places k place';
+      })
   refuses : (bytes : List ℕ) (n : N) (fault : EdgeFault) (course : Course H) → 0 < length bytes → length bytes ≤ read_limit →
       p.does s.sockets (deed.Read k read_limit bytes) n →
       IsUnheard p.hosting rules host k s.times.moment bytes fault s.course course →
-      Reads p rules host k place s (record s { sockets = n; deeds = deed.Read k read_limit bytes ∷ s.deeds; course = course;
-          places = slice_set s.places k (record place { stage = Broken (Refused fault) }) })
+      Reads p rules host k place s (record s {
+        sockets = n;
+        deeds = deed.Read k read_limit bytes ∷ s.deeds;
+        course = course;
+        places = slice_set s.places k (record place { stage = Broken (Refused fault) });
+      })
   ends : (n : N) (e : SeenEdge H) (on : GoesOn p.hosting e rules host s.course.schedule s.course.world (HasEnded k)) → p.does s.sockets (deed.ReadEnd k) n →
-      Reads p rules host k place s (record s { sockets = n; deeds = deed.ReadEnd k ∷ s.deeds; course = led s.course e (HasEnded k) on.world;
-          places = slice_set s.places k (record place { stage = Ended }) })
+      Reads p rules host k place s (record s {
+        sockets = n;
+        deeds = deed.ReadEnd k ∷ s.deeds;
+        course = led s.course e (HasEnded k) on.world;
+        places = slice_set s.places k (record place { stage = Ended });
+      })
   ends_nothing : (n : N) (fault : EdgeFault) → p.does s.sockets (deed.ReadEnd k) n → IsEndingRefusal fault s.course.world.connections k →
-      Reads p rules host k place s (record s { sockets = n; deeds = deed.ReadEnd k ∷ s.deeds;
-          places = slice_set s.places k (record place { stage = Broken (Refused fault) }) })
+      Reads p rules host k place s (record s {
+        sockets = n;
+        deeds = deed.ReadEnd k ∷ s.deeds;
+        places = slice_set s.places k (record place { stage = Broken (Refused fault) });
+      })
   finds_nothing : (n : N) → p.does s.sockets (deed.ReadNothing k) n →
-      Reads p rules host k place s (record s { sockets = n; deeds = deed.ReadNothing k ∷ s.deeds;
-          places = slice_set s.places k (record place { readable = false }) })
+      Reads p rules host k place s (record s {
+        sockets = n;
+        deeds = deed.ReadNothing k ∷ s.deeds;
+        places = slice_set s.places k (record place { readable = false });
+      })
   fails : (n : N) → p.does s.sockets (deed.ReadFailed k) n →
-      Reads p rules host k place s (record s { sockets = n; deeds = deed.ReadFailed k ∷ s.deeds;
-          places = slice_set s.places k (record place { stage = Broken Read }) })
+      Reads p rules host k place s (record s {
+        sockets = n;
+        deeds = deed.ReadFailed k ∷ s.deeds;
+        places = slice_set s.places k (record place { stage = Broken Read });
+      })

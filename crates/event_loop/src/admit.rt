@@ -20,8 +20,8 @@ use crate::service::Service;
 use crate::sockets::{Accepted, Sockets};
 use crate::tools::Tools;
 use hook_host::HookHost;
-use image_keeper::ImageKeeper;
 use http_edge::Event;
+use image_keeper::ImageKeeper;
 
 impl Service {
     // A place where no connection is.

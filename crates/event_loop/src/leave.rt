@@ -21,8 +21,8 @@ use crate::sockets::Sockets;
 use crate::tools::Tools;
 use crate::write::may_write;
 use hook_host::HookHost;
-use image_keeper::ImageKeeper;
 use http_edge::Edge;
+use image_keeper::ImageKeeper;
 
 // Whether nothing is left to be done for a connection.
 fn is_over<H: HookHost>(edge: &Edge<H>, place: Place, k: u32) -> bool

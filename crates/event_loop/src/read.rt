@@ -17,8 +17,8 @@ use crate::sockets::{Received, Sockets};
 use crate::tools::Tools;
 use consent::Moment;
 use hook_host::HookHost;
-use image_keeper::ImageKeeper;
 use http_edge::{Edge, EdgeFault, Event, give};
+use image_keeper::ImageKeeper;
 use messages::Draws;
 use rand_chacha::ChaCha20Rng;
 

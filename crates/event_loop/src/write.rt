@@ -14,8 +14,8 @@ use crate::service::Service;
 use crate::sockets::{Sent, Sockets};
 use crate::tools::Tools;
 use hook_host::HookHost;
-use image_keeper::ImageKeeper;
 use http_edge::Edge;
+use image_keeper::ImageKeeper;
 
 /// Whether a connection may be written to.
 pub(crate) fn may_write<H: HookHost>(edge: &Edge<H>, place: Place, k: u32) -> bool

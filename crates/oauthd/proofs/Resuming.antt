@@ -20,7 +20,7 @@ use Rattle.oauthd.specs.Startings.{ComesOfState, StandsWithOrWithout}
 use Rattle.state_file.proofs.Replaying.{replays}
 
 -- a chain that came through the history was run
-was_run : (left : List ℕ) (history : List Event) → HaveNoImage (recovered left) ⊎ ((host : List Named) × HostRun IsInstalled IsRemoved [] history host) → WasRun chain.ghosts [] left history
+pub was_run : (left : List ℕ) (history : List Event) → HaveNoImage (recovered left) ⊎ ((host : List Named) × HostRun IsInstalled IsRemoved [] history host) → WasRun chain.ghosts [] left history
 was_run left history (inl none) = inl none
 was_run left history (inr ran) = inr (replays history ran.0 ran.1)
 

@@ -8,8 +8,9 @@ ghost use Rattle.oauthd.specs.Statuses.{unread};
 ghost use Rattle.oauthd.specs.declared.fault.PerformFault.TheVariants.{OutOfMemory};
 
 use crate::fault::PerformFault;
-use std::fs::{self, PermissionsExt};
+use std::fs;
 use std::io::{self, ErrorKind};
+use std::os::unix::fs::PermissionsExt;
 use std::rt::Files;
 
 /// Who may read a file.

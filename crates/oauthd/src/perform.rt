@@ -3,7 +3,7 @@
 ghost use Rattle.std.specs.Prelude.{◌≡◌, ◌⊎◌, OnOk, IfOk, IfErr, IfSome};
 ghost use Rattle.std.specs.Io.KnownBytes.{Appends};
 ghost use Rattle.std.specs.Option.{option_copied};
-ghost use Rattle.image_keeper.specs.Keeping.{keeping};
+ghost use Rattle.daemon.specs.Started.{keeping_by};
 ghost use Rattle.oauthd.specs.Endings.{EndsCall, EndsWords};
 ghost use Rattle.oauthd.specs.Listening.{EndsService, FailsService, files_in, HasServed};
 ghost use Rattle.oauthd.specs.Performed.{EndsCommand};
@@ -35,6 +35,9 @@ use std::io::{self, Write};
 use std::net::Net;
 use std::random::RandomSource;
 use std::rt::{Clock, Files};
+
+/// What keeps a server's changes on the disk.
+type OnDisk<'r, R> = StateKeeper<DiskFile<'r, R>>;
 
 /// What could not be written to the end.
 #[derive(Clone, Copy, Debug, PartialEq, Eq)]
@@ -144,11 +147,11 @@ fn serve_as<
     out: &mut W,
     err: &mut E,
 ) -> Result<(), PerformFault<'w>>
-    ensures done { OnOk result (HasServed service.now (files_in files) (W.contents out.old) (W.contents out.new)) }
+    ensures done { OnOk result (HasServed service.now (files_in files.entry) (W.contents out.old) (W.contents out.new)) }
     ensures fault { IfErr result (λ fault.
         FailsService (startings ⟦<MachineClocks<'r, R> as Clocks>⟧
-        ⟦<LineJournal<'e, E> as Journal>⟧ (keeping ⟦<StateKeeper<DiskFile<'r, R>> as Keeper>⟧ (record { is_long = ⟦<StateKeeper<DiskFile<'r, R>> as ImageKeeper>⟧.is_long })))
-        W.contents service.now (files_in files) fault out.old out.new err.old err.new) }
+        ⟦<LineJournal<'e, E> as Journal>⟧ (keeping_by ⟦<OnDisk<'r, R> as Keeper>⟧ ⟦<OnDisk<'r, R> as ImageKeeper>⟧.is_long))
+        W.contents service.now (files_in files.entry) fault out.old out.new err.old err.new) }
 {
     let CallFiles { named, hooks } = files;
     let registry = registry_of(rt.alloc(), service.config(), named)?;
@@ -190,8 +193,8 @@ pub fn perform_service<
     // Bad use may be that of a fault that could not be told.
     ensures { (result ≡ Status.BadUse)
         ⊎ EndsService (startings ⟦<MachineClocks<'r, R> as Clocks>⟧
-        ⟦<LineJournal<'e, E> as Journal>⟧ (keeping ⟦<StateKeeper<DiskFile<'r, R>> as Keeper>⟧ (record { is_long = ⟦<StateKeeper<DiskFile<'r, R>> as ImageKeeper>⟧.is_long })))
-        W.contents E.contents service.now (files_in files) result out.old out.new err.old err.new }
+        ⟦<LineJournal<'e, E> as Journal>⟧ (keeping_by ⟦<OnDisk<'r, R> as Keeper>⟧ ⟦<OnDisk<'r, R> as ImageKeeper>⟧.is_long))
+        W.contents E.contents service.now (files_in files.entry) result out.old out.new err.old err.new }
 {
     match serve_as(rt, service, files, out, err) {
         Ok(()) => Status::Done,
@@ -210,8 +213,8 @@ fn perform_call<
     // Bad use may be that of a write that failed.
     ensures { (result ≡ Status.BadUse)
         ⊎ EndsCall (startings ⟦<MachineClocks<'r, R> as Clocks>⟧
-        ⟦<LineJournal<'e, E> as Journal>⟧ (keeping ⟦<StateKeeper<DiskFile<'r, R>> as Keeper>⟧ (record { is_long = ⟦<StateKeeper<DiskFile<'r, R>> as ImageKeeper>⟧.is_long })))
-        W.contents E.contents call.now (files_in files) result out.old out.new err.old err.new }
+        ⟦<LineJournal<'e, E> as Journal>⟧ (keeping_by ⟦<OnDisk<'r, R> as Keeper>⟧ ⟦<OnDisk<'r, R> as ImageKeeper>⟧.is_long))
+        W.contents E.contents call.now (files_in files.entry) result out.old out.new err.old err.new }
 {
     match call {
         Call::Command(command) => {
@@ -234,7 +237,7 @@ pub fn perform<
     // Bad use may be that of a write that failed.
     ensures { (result ≡ Status.BadUse)
         ⊎ EndsWords (startings ⟦<MachineClocks<'r, R> as Clocks>⟧
-        ⟦<LineJournal<'e, E> as Journal>⟧ (keeping ⟦<StateKeeper<DiskFile<'r, R>> as Keeper>⟧ (record { is_long = ⟦<StateKeeper<DiskFile<'r, R>> as ImageKeeper>⟧.is_long })))
+        ⟦<LineJournal<'e, E> as Journal>⟧ (keeping_by ⟦<OnDisk<'r, R> as Keeper>⟧ ⟦<OnDisk<'r, R> as ImageKeeper>⟧.is_long))
         W.contents E.contents words.now result out.old out.new err.old err.new }
 {
     let call = match Call::from_words(rt.alloc(), words) {

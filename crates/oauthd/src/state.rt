@@ -1,6 +1,7 @@
 //! A server on the file of its state.
 
-ghost use Rattle.std.specs.Prelude.{◌≡◌, IfOk, IfErr, OnTrue, map};
+ghost use Rattle.std.specs.Prelude.{◌≡◌, IfOk, IfErr, map};
+ghost use Rattle.std.specs.Bool.{OnTrue};
 ghost use Rattle.std.specs.Io.KnownBytes.{Appends};
 ghost use Rattle.oauthd.specs.Hooks.{fact_of};
 ghost use Rattle.oauthd.specs.Printed.{cut_text};

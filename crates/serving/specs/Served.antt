@@ -93,12 +93,12 @@ pub data Step {H S C : Type 0} (hosting : Hosting H) (does : S → Doing → S �
   -- a piece was read, and given at the moment that the clock told
   hears : {e e' : SeenEdge H} {s s' : S} {k k' : C} {g behind g' : ChaCha} (n : ℕ) (piece : List ℕ) (moment : ℕ) → n < read_limit → IsAttentive hosting e c →
       0 < length piece → length piece ≤ piece_limit → does s (Received piece) s' → tells k (Some moment) k' →
-          PieceGiven hosting e e' c piece moment g behind → g' ≡ moved g 1024 →
+      PieceGiven hosting e e' c piece moment g behind → g' ≡ moved g 1024 →
       Step hosting does tells c (Reading n) (at e s k g) (Reading (n + 1)) (at e' s' k' g')
   refuses : {e : SeenEdge H} {s s' : S} {k k' : C} {g behind g' : ChaCha} (n : ℕ) (piece : List ℕ) (moment : ℕ) (fault : EdgeFault) → n < read_limit →
       IsAttentive hosting e c →
       0 < length piece → length piece ≤ piece_limit → does s (Received piece) s' → tells k (Some moment) k' → PieceRefused hosting e c piece g behind fault →
-          g' ≡ moved g 1024 →
+      g' ≡ moved g 1024 →
       Step hosting does tells c (Reading n) (at e s k g) (Served (Some (Fault.Refused fault))) (at e s' k' g')
   loses_time : {e : SeenEdge H} {s s' : S} {k k' : C} {g g' : ChaCha} (n : ℕ) (piece : List ℕ) → n < read_limit → IsAttentive hosting e c →
       0 < length piece → length piece ≤ piece_limit → does s (Received piece) s' → tells k None k' → g' ≡ moved g 1024 →

@@ -80,11 +80,9 @@ fn redo_each<H: HookHost>(
     ensures redone { OnOk result (RedoesBatches H.HookHost restored.old (lists batches.now) restored.new) }
     ensures refused { IfErr result RefusesAccount }
 {
-    let mut number = before;
     for i in 0..batches.len() {
-        number = number.saturating_add(1);
         if let Err(fault) = redo_all(alloc, restored, &batches[i..i + 1]) {
-            return Err(fault_in(number, fault));
+            return Err(fault_in(before.saturating_add(i + 1), fault));
         }
     }
     Ok(())

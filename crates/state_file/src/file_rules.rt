@@ -10,18 +10,16 @@ ghost use Rattle.state_file.specs.Telling.{IsOfRules, Tell, rules_of};
 use crate::fault::StateFault;
 use crate::telling::{last_rules, rules_behind, told_rules};
 use clients::{ConfigFault, Registry};
-use image_codec::{ClientRules, Rules};
+use image_codec::Rules;
+use json::Writer;
 use std::alloc::{AllocError, Global};
-use std::fmt::Write;
 
 /// No registry has more owners.
 const MOST_OWNERS: u32 = 4096;
 
-/// No registry has more scopes.
-const MOST_SCOPES: usize = 64;
-
-/// No registry has more clients.
-const MOST_CLIENTS: usize = 256;
+/// The registry of a server that has nothing, for a file that tells no rules.
+const LEAST: &[u8] =
+    br#"{"operator":"-","access_life":1,"refresh_life":1,"owners":[],"scopes":["-"],"clients":[]}"#;
 
 /// The rules that a file tells: a registry that has them, with keys that nobody has, and their spelling.
 #[derive(Drop)]
@@ -30,112 +28,89 @@ pub(crate) struct FileRules {
     pub(crate) bytes: Vec<u8>,
 }
 
-/// Puts the names of a scope behind a text, one space between two.
-fn push_scope(text: &mut String, scopes: &[&str], scope: u64) -> Result<(), AllocError> {
+/// The names of a scope, one space between two.
+fn scope_text(alloc: Global, scopes: &[&str], scope: u64) -> Result<String, AllocError> {
+    let mut text = String::new(alloc);
     let mut left = scope;
-    let mut space = "";
     for name in scopes {
         if left % 2 == 1 {
+            let space = if text.is_empty() { "" } else { " " };
             text.push_str(space)?;
             text.push_str(name)?;
-            space = " ";
         }
         left /= 2;
     }
-    Ok(())
-}
-
-/// Puts the scopes of a registry behind its text.
-fn push_scopes(text: &mut String, scopes: &[&str]) -> Result<(), AllocError> {
-    text.push_str("\"scopes\":[")?;
-    let mut comma = "";
-    for name in scopes {
-        text.push_str(comma)?;
-        write!(text, "\"{name}\"")?;
-        comma = ",";
-    }
-    text.push_str("],")
-}
-
-/// Puts as many owners behind the text of a registry, each with another key.
-fn push_owners(text: &mut String, owners: u32) -> Result<(), AllocError> {
-    text.push_str("\"owners\":[")?;
-    let mut comma = "";
-    for i in 0..owners {
-        text.push_str(comma)?;
-        write!(text, "\"{i}\"")?;
-        comma = ",";
-    }
-    text.push_str("],")
-}
-
-/// Puts the clients behind the text of a registry.
-fn push_clients(
-    text: &mut String,
-    scopes: &[&str],
-    clients: &[ClientRules<'_>],
-) -> Result<(), AllocError> {
-    text.push_str("\"clients\":[")?;
-    let mut comma = "";
-    for client in clients {
-        text.push_str(comma)?;
-        text.push_str("{\"id\":\"")?;
-        text.push_str(client.name)?;
-        text.push_str("\",\"secret\":\"-\",\"redirects\":[],\"grants\":[],\"scope\":\"")?;
-        push_scope(text, scopes, client.allowed)?;
-        text.push_str("\"}")?;
-        comma = ",";
-    }
-    text.push_str("]}")
-}
-
-/// A text that is one of a registry with these rules, where there is such a registry.
-fn registry_text(alloc: Global, rules: &Rules<'_>) -> Result<String, AllocError> {
-    let mut text = String::new(alloc);
-    text.push_str("{\"operator\":\"-\",\"access_life\":")?;
-    write!(text, "{}", rules.access_life)?;
-    text.push_str(",\"refresh_life\":")?;
-    write!(text, "{}", rules.refresh_life)?;
-    text.push_str(",")?;
-    push_owners(&mut text, rules.owners)?;
-    push_scopes(&mut text, rules.scopes.as_slice())?;
-    push_clients(&mut text, rules.scopes.as_slice(), rules.clients.as_slice())?;
     Ok(text)
 }
 
-/// Whether no registry has as many owners, scopes or clients.
-fn are_too_many(rules: &Rules<'_>) -> bool {
-    rules.owners > MOST_OWNERS
-        || rules.scopes.len() > MOST_SCOPES
-        || rules.clients.len() > MOST_CLIENTS
+/// Writes as many owners, each with another key.
+fn write_owners(json: &mut Writer, alloc: Global, owners: u32) -> Result<(), AllocError> {
+    json.key("owners")?;
+    json.begin_array()?;
+    for i in 0..owners {
+        json.string(&format!(in alloc; "{i}")?)?;
+    }
+    json.end_array()
 }
 
-/// A registry for rules, which the caller compares.
-fn registry_for(alloc: Global, rules: &Rules<'_>) -> Result<Registry, StateFault>
+/// Writes a client, which may be given nothing.
+fn write_client<'x>(json: &mut Writer, name: &'x str, scope: &'x str) -> Result<(), AllocError> {
+    json.begin_object()?;
+    for (member, text) in [("id", name), ("secret", "-"), ("scope", scope)] {
+        json.key(member)?;
+        json.string(text)?;
+    }
+    for member in ["redirects", "grants"] {
+        json.key(member)?;
+        json.begin_array()?;
+        json.end_array()?;
+    }
+    json.end_object()
+}
+
+/// Writes the names of all scopes, and all clients.
+fn write_names(json: &mut Writer, alloc: Global, rules: &Rules<'_>) -> Result<(), AllocError> {
+    let scopes = rules.scopes.as_slice();
+    json.key("scopes")?;
+    json.begin_array()?;
+    for name in scopes {
+        json.string(name)?;
+    }
+    json.end_array()?;
+    json.key("clients")?;
+    json.begin_array()?;
+    for client in rules.clients.as_slice() {
+        let scope = scope_text(alloc, scopes, client.allowed)?;
+        write_client(json, client.name, &scope)?;
+    }
+    json.end_array()
+}
+
+/// A text that is one of a registry with these rules, where there is such a registry.
+fn registry_text(alloc: Global, rules: &Rules<'_>) -> Result<Vec<u8>, AllocError> {
+    let mut json = Writer::new(Vec::new(alloc));
+    json.begin_object()?;
+    json.key("operator")?;
+    json.string("-")?;
+    json.key("access_life")?;
+    json.u64(u64::from(rules.access_life))?;
+    json.key("refresh_life")?;
+    json.u64(u64::from(rules.refresh_life))?;
+    write_owners(&mut json, alloc, rules.owners)?;
+    write_names(&mut json, alloc, rules)?;
+    json.end_object()?;
+    Ok(json.into_inner())
+}
+
+/// The registry of a text.
+fn registry_of(alloc: Global, text: &[u8]) -> Result<Registry, StateFault>
     ensures refused { IfErr result IsOfTelling }
 {
-    if are_too_many(rules) {
-        return Err(StateFault::NoRules);
-    }
-    let text = registry_text(alloc, rules)?;
-    match Registry::read(alloc, text.as_bytes()) {
+    match Registry::read(alloc, text) {
         Ok(registry) => Ok(registry),
         Err(ConfigFault::Memory) => Err(StateFault::Memory),
         Err(_) => Err(StateFault::NoRules),
     }
-}
-
-/// Rules of a server that has nothing, for a file that tells none.
-fn least_rules(alloc: Global) -> Result<Rules<'static>, AllocError> {
-    let mut scopes: Vec<&'static str> = Vec::new(alloc);
-    scopes.extend_from_slice(&["-"])?;
-    Ok(Rules {
-        scopes,
-        owners: 0,
-        clients: Vec::new(alloc),
-        access_life: 1,
-        refresh_life: 1,
-    })
 }
 
 /// A registry for the rules that the batches tell last, which the caller compares.
@@ -143,10 +118,13 @@ fn registry_behind(alloc: Global, batches: &[Vec<u8>]) -> Result<Registry, State
     ensures refused { IfErr result IsOfTelling }
 {
     let Some(batch) = last_rules(batches) else {
-        return registry_for(alloc, &least_rules(alloc)?);
+        return registry_of(alloc, LEAST);
     };
     let rules = told_rules(alloc, batch)?;
-    registry_for(alloc, &rules)
+    if rules.owners > MOST_OWNERS {
+        return Err(StateFault::NoRules);
+    }
+    registry_of(alloc, &registry_text(alloc, &rules)?)
 }
 
 /// A fault that is told of a file, for one that is told of a registry beside it.
@@ -175,8 +153,6 @@ pub(crate) fn file_rules(alloc: Global, batches: &[Vec<u8>]) -> Result<FileRules
     if !rules.told && !batches.is_empty() {
         return Err(StateFault::NoRules);
     }
-    Ok(FileRules {
-        registry,
-        bytes: rules.bytes,
-    })
+    let bytes = rules.bytes;
+    Ok(FileRules { registry, bytes })
 }

@@ -65,8 +65,7 @@ fn keep_short<D: Device, H: HookHost>(
 ) -> Result<(), StateFault>
     ensures kept { OnOk result (KeepsImage H.HookHost (file_crashes D.Device) server.now keeper.old keeper.new) }
     ensures told { OnOk result (KeepRules D.seen D.may_leave keeper.old keeper.new) }
-    ensures short { OnOk result ((¬ (IsLongFile D.seen keeper.new))
-        ⊎ HasTooMuch H.HookHost server.now (D.seen keeper.new.device)) }
+    ensures short { OnOk result ((¬ (IsLongFile D.seen keeper.new)) ⊎ HasTooMuch H.HookHost server.now (D.seen keeper.new.device)) }
     ensures refused { IfErr result IsOfDisk }
 {
     match keeper.shorten(server) {
@@ -107,8 +106,7 @@ pub fn start_on<D: Device + Drop, H: HookHost>(
     // All that a crash may leave from then on tells the registry's rules.
     ensures told { IfOk result (λ started. LeavesRules D.seen D.may_leave started.keeper (rules_of registry)) }
     // The file is no longer than it may be, unless an image of the server is too large.
-    ensures short { IfOk result (λ started. (¬ (IsLongFile D.seen started.keeper))
-        ⊎ HasTooMuch H.HookHost started.server (D.seen started.keeper.device)) }
+    ensures short { IfOk result (λ started. (¬ (IsLongFile D.seen started.keeper)) ⊎ HasTooMuch H.HookHost started.server (D.seen started.keeper.device)) }
     ensures refused { IfErr result (λ fault. RefusesResume (recovered bytes.now) (rules_of registry) fault
         ⊎ RefusesSome H.HookHost (AnswersFor H.HookHost bytes.now registry host) (map hook_fact hooks.now) fault) }
 {

@@ -121,11 +121,7 @@ fn readers_text(readers: Readers) -> &'static str
 }
 
 /// What a registry says, and what in it, in its text and in who may read that may be a mistake.
-fn whole_text(
-    alloc: Global,
-    file: &NamedFile,
-    registry: &Registry,
-) -> Result<String, AllocError>
+fn whole_text(alloc: Global, file: &NamedFile, registry: &Registry) -> Result<String, AllocError>
     ensures { IfOk result (λ text. string_bytes text ≡ whole_text file.now registry.now) }
 {
     let mut text = registry_text(alloc, registry)?;

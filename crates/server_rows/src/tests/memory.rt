@@ -208,7 +208,11 @@ fn answers_are_counted(rt: HostRuntime) -> Result<(), Fail> {
     }
     assert_eq!(rt; asked.nowhere, 1);
     assert_eq!(rt;
-        [server.record_count(), server.consent_count(), server.hook_count()],
+        [
+            server.record_count(),
+            server.consent_count(),
+            server.hook_count()
+        ],
         [5, 1, 2]
     );
     Ok(())

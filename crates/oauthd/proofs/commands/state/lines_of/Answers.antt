@@ -6,7 +6,7 @@ use Rattle.oauthd.proofs.commands.state.lines_of.Goals as goal
 pub returns : goal.returns
 returns c =
     let bytes = c.args.bytes.now in
-    let of = c.requires in
+    let of = c.requires.of in
     let image = image_fact c.in_ok-image.image in
     let is = c.in_ok-image.ensures bytes [] of in
     record {
