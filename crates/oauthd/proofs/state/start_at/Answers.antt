@@ -14,14 +14,14 @@ returns-in_err-started-clause-refused g c =
       bytes = _;
       cause = cause;
       fault_is = refl;
-      refused = rw (c.deref-2.ensures.value, c.in_ok-hooks.ensures, c.new.ensures) at c.in_err-started.ensures.refused;
+      refused = rw (c.deref-3.ensures.value, c.in_ok-hooks.ensures, c.new.ensures) at c.in_err-started.ensures.refused;
     }) in
     rw is refused
 
 pub returns-clause-started : goal.returns-clause-started
 returns-clause-started g c =
-    let same : c.deref.result.now ≡ c.in_ok-device.field-0.bytes.items = search rules in
-    let are : map hook_fact c.deref-2.result.now ≡ map fact_of c.args.codes.now = ap (λ hooks. map hook_fact hooks) c.deref-2.ensures.value ∙ c.in_ok-hooks.ensures in
-    comes _ c.args.registry c.in_ok-started.started c.in_ok-device.field-0 c.deref.result.now (map hook_fact c.deref-2.result.now) (map fact_of c.args.codes.now) c.new.result
+    let same : c.deref-2.result.now ≡ c.in_ok-device.field-0.bytes.items = search rules in
+    let are : map hook_fact c.deref-3.result.now ≡ map fact_of c.args.codes.now = ap (λ hooks. map hook_fact hooks) c.deref-3.ensures.value ∙ c.in_ok-hooks.ensures in
+    comes _ c.args.registry c.in_ok-started.started c.in_ok-device.field-0 c.deref-2.result.now (map hook_fact c.deref-3.result.now) (map fact_of c.args.codes.now) c.new.result
     same are c.new.ensures c.in_ok-device.ensures.same
     c.in_ok-started.ensures.serves c.in_ok-started.ensures.held c.in_ok-started.ensures.any_moment
