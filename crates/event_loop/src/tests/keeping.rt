@@ -99,6 +99,8 @@ struct Patient<'t> {
     kept: &'t Cell<usize>,
     /// How many changes each batch had.
     changes: Vec<usize>,
+    /// How often it was asked for an image.
+    images: &'t Cell<usize>,
 }
 
 impl Keeper for Patient<'_> {
@@ -132,8 +134,14 @@ impl Keeper for Patient<'_> {
 impl ImageKeeper for Patient<'_> {
     ghost is_long = { λ _. ⊥ };
 
-    fn put_image<H: HookHost>(&mut self, _server: &Server<H>) -> Result<(), ImageFault> {
-        Ok(())
+    fn put_image<H: HookHost>(&mut self, server: &Server<H>) -> Result<(), ImageFault> {
+        match server.unkept() {
+            Some(batch) if !batch.is_empty() => Err(ImageFault::Failed),
+            _ => {
+                self.images.set(self.images.get().wrapping_add(1));
+                Ok(())
+            }
+        }
     }
 }
 
@@ -143,10 +151,12 @@ struct Outcome {
     fault: LoopFault,
     writes: Vec<usize>,
     changes: Vec<usize>,
+    images: usize,
 }
 
 fn outcome_of(alloc: Global, most: usize) -> Result<Outcome, ConfigFault> {
     let kept = Cell::new(0);
+    let images = Cell::new(0);
     let mut tools = Tools {
         sockets: OneClient {
             requests: &[ASKS, STRAYS, ASKS],
@@ -164,6 +174,7 @@ fn outcome_of(alloc: Global, most: usize) -> Result<Outcome, ConfigFault> {
             most,
             kept: &kept,
             changes: Vec::new(alloc),
+            images: &images,
         },
     };
     let limits = Limits {
@@ -176,24 +187,27 @@ fn outcome_of(alloc: Global, most: usize) -> Result<Outcome, ConfigFault> {
         fault,
         writes: tools.sockets.writes,
         changes: tools.keeper.changes,
+        images: images.get(),
     })
 }
 
 #[test]
 fn what_changes_is_kept_before_the_reply(rt: HostRuntime) -> Result<(), Fail> {
-    // A round without changes keeps nothing, and where keeping fails, nothing of that round is written.
-    let rows: [(usize, LoopFault, &[usize], &[usize]); 3] = [
-        (9, LoopFault::Wait, &[1, 1, 2], &[1, 1]),
-        (1, LoopFault::Keep, &[1, 1], &[1]),
-        (0, LoopFault::Keep, &[], &[]),
+    // A round without changes keeps nothing, and where keeping fails, nothing of that round is written. Before each wait an
+    // image is asked for.
+    let rows: [(usize, LoopFault, &[usize], &[usize], usize); 3] = [
+        (9, LoopFault::Wait, &[1, 1, 2], &[1, 1], 5),
+        (1, LoopFault::Keep, &[1, 1], &[1], 4),
+        (0, LoopFault::Keep, &[], &[], 2),
     ];
-    for (most, fault, writes, changes) in rows {
+    for (most, fault, writes, changes, images) in rows {
         let Ok(outcome) = outcome_of(rt.alloc(), most) else {
             return Err(Fail::from("no registry"));
         };
         assert_eq!(rt; outcome.fault, fault, "most {most}");
         assert_eq!(rt; outcome.writes.as_slice(), writes, "most {most}");
         assert_eq!(rt; outcome.changes.as_slice(), changes, "most {most}");
+        assert_eq!(rt; outcome.images, images, "most {most}");
     }
     Ok(())
 }
