@@ -1,8 +1,7 @@
 //! The rules that a file tells, as those of a registry.
 
-ghost use Rattle.std.specs.Prelude.{◌≡◌, ◌⊎◌, [], IfOk, IfErr, OnOk};
+ghost use Rattle.std.specs.Prelude.{◌≡◌, ◌⊎◌, [], IfOk, IfErr};
 ghost use Rattle.batch_file.specs.Frames.{lists};
-ghost use Rattle.image_codec.specs.Facts.{rules_fact};
 ghost use Rattle.state_file.specs.Accounts.{IsOfTelling};
 ghost use Rattle.state_file.specs.Comparing.{TakesRules};
 ghost use Rattle.state_file.specs.Telling.{IsOfRules, Tell, rules_of};
