@@ -82,10 +82,10 @@ for round in $(seq "$rounds"); do
     for kind in $kinds; do
         case $kind in
             one) turn one 1 1 ;;
-            pipelined) seconds=0.25 turn pipelined 1 8 ;;
+            pipelined) seconds=0.15 turn pipelined 1 8 ;;
             16) turn 16 16 1 ;;
             64) turn 64 64 1 ;;
-            16-pipelined) seconds=0.25 turn 16-pipelined 16 8 ;;
+            16-pipelined) seconds=0.15 turn 16-pipelined 16 8 ;;
             beside) turn_beside_idle 63 ;;
         esac
     done

@@ -6,7 +6,7 @@ started=()
 trap '[ ${#started[@]} = 0 ] || kill "${started[@]}" 2>/dev/null; wait; rm -rf "$room"' EXIT
 
 # So long is a run. The store has room for 65,536 unexpired tokens, so faster or longer runs would fill it.
-seconds=0.45
+seconds=0.3
 faults=0
 
 # start NAME LIFE [WORD..]: starts a server whose access tokens live so many seconds, with further words; $at is where it
