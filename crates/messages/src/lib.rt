@@ -20,6 +20,7 @@ mod token;
 pub use build::{active, consent, failure, hook, hook_refused, hooks, inactive, redirect, tokens};
 pub use bytes::push_faulty;
 pub use error::ErrorName;
+pub use object::Object;
 pub use request::{Draws, Request};
 pub use response::Response;
 pub use token::ActiveToken;

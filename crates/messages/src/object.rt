@@ -9,16 +9,16 @@ use std::alloc::{AllocError, Global};
 // Room for what stands in an object beside its longest text: names, numbers, identifiers and token texts.
 const REST: usize = 256;
 
-// What has been written of an object.
+/// What has been written of an object.
 #[derive(Drop)]
-pub(crate) struct Object {
+pub struct Object {
     pub json: Writer,
     ghost alone: { json.before ≡ [] },
 }
 
 impl Object {
-    // An object without members, with room for a longest text of so many bytes.
-    pub(crate) fn new(alloc: Global, longest: usize) -> Result<Object, AllocError>
+    /// An object without members, with room for a longest text of so many bytes.
+    pub fn new(alloc: Global, longest: usize) -> Result<Object, AllocError>
         ensures { IfOk result (λ object. object.json.tokens ≡ begin_object ∷ []) }
     {
         let mut json = Writer::new(Vec::with_capacity(alloc, longest.saturating_add(REST))?);
@@ -26,32 +26,47 @@ impl Object {
         Ok(Object { json })
     }
 
-    // One more member, a text.
-    pub(crate) fn text(&mut self, name: &str, text: &str) -> Result<(), AllocError>
+    /// One more member, a text.
+    pub fn text(&mut self, name: &str, text: &str) -> Result<(), AllocError>
         ensures { OnOk result (self.new.json.tokens ≡ self.old.json.tokens ++ key name.now ∷ string text.now ∷ []) }
     {
         self.json.key(name)?;
         self.json.string(text)
     }
 
-    // One more member, a number.
-    pub(crate) fn number(&mut self, name: &str, value: u64) -> Result<(), AllocError>
+    /// One more member, a number.
+    pub fn number(&mut self, name: &str, value: u64) -> Result<(), AllocError>
         ensures { OnOk result (self.new.json.tokens ≡ self.old.json.tokens ++ key name.now ∷ number (decimal value) ∷ []) }
     {
         self.json.key(name)?;
         self.json.u64(value)
     }
 
-    // One more member, true or false.
-    pub(crate) fn boolean(&mut self, name: &str, value: bool) -> Result<(), AllocError>
+    /// One more member, true or false.
+    pub fn boolean(&mut self, name: &str, value: bool) -> Result<(), AllocError>
         ensures { OnOk result (self.new.json.tokens ≡ self.old.json.tokens ++ key name.now ∷ boolean value ∷ []) }
     {
         self.json.key(name)?;
         self.json.boolean(value)
     }
 
-    // One more member, a list of texts.
-    pub(crate) fn texts(&mut self, name: &str, texts: &[&str]) -> Result<(), AllocError>
+    /// One more member begins, an object.
+    pub fn begin(&mut self, name: &str) -> Result<(), AllocError>
+        ensures { OnOk result (self.new.json.tokens ≡ self.old.json.tokens ++ key name.now ∷ begin_object ∷ []) }
+    {
+        self.json.key(name)?;
+        self.json.begin_object()
+    }
+
+    /// The object that began last ends.
+    pub fn end(&mut self) -> Result<(), AllocError>
+        ensures { OnOk result (self.new.json.tokens ≡ self.old.json.tokens ++ end_object ∷ []) }
+    {
+        self.json.end_object()
+    }
+
+    /// One more member, a list of texts.
+    pub fn texts(&mut self, name: &str, texts: &[&str]) -> Result<(), AllocError>
         ensures { OnOk result (self.new.json.tokens ≡ self.old.json.tokens ++ key name.now ∷ begin_array ∷ map (λ text. string text.now) texts.now ++ end_array ∷ []) }
     {
         self.json.key(name)?;
@@ -62,8 +77,8 @@ impl Object {
         self.json.end_array()
     }
 
-    // The object's text.
-    pub(crate) fn finish(self) -> Result<Vec<u8>, AllocError>
+    /// The object's text.
+    pub fn finish(self) -> Result<Vec<u8>, AllocError>
         ensures { IfOk result (λ text. text.items ≡ print (self.json.tokens ++ end_object ∷ [])) }
     {
         let mut json = self.json;

@@ -8,9 +8,10 @@ ghost use Rattle.json.specs.Token.{key};
 ghost use Rattle.state_listing.specs.Lines.{client_members, code_scope_members, consent_line, family_line, file_line, hook_line, kind_name, client_name, owner_members, age_members, scope_members, token_line};
 
 use crate::facts::FileFacts;
-use crate::line::Line;
+use crate::line::{begin_line, end_line};
 use consent::{ClientNo, KeptConsent, Moment, TokenKind};
 use image_codec::{KeptHook, Rules};
+use messages::Object;
 use std::alloc::{AllocError, Global};
 use token_store::{KeptKind, KeptRecord};
 
@@ -41,7 +42,7 @@ fn names_of<'a>(alloc: Global, rules: &Rules<'a>, scope: u64) -> Result<Vec<&'a 
 }
 
 // One more member: the client, by its name, or by its number where the rules have none.
-fn push_client(line: &mut Line, rules: &Rules<'_>, client: ClientNo) -> Result<(), AllocError>
+fn push_client(line: &mut Object, rules: &Rules<'_>, client: ClientNo) -> Result<(), AllocError>
     ensures { OnOk result (line.new.json.tokens ≡ line.old.json.tokens ++ client_members (rules_fact rules.now) client) }
 {
     match client_name(rules, client) {
@@ -54,7 +55,7 @@ fn push_client(line: &mut Line, rules: &Rules<'_>, client: ClientNo) -> Result<(
 #[tactic(auto, using(crate::proofs::Names::strings_of))]
 fn push_scope(
     alloc: Global,
-    line: &mut Line,
+    line: &mut Object,
     rules: &Rules<'_>,
     scope: u64,
 ) -> Result<(), AllocError>
@@ -73,15 +74,15 @@ pub(crate) fn push_consent(
 ) -> Result<(), AllocError>
     ensures { OnOk result (lines.new.items ≡ lines.old.items ++ consent_line (rules_fact rules.now) consent.now) }
 {
-    let mut line = Line::new(alloc, "consent")?;
+    let mut line = begin_line(alloc, "consent")?;
     line.number("owner", u64::from(consent.owner.get()))?;
     push_client(&mut line, rules, consent.client)?;
     push_scope(alloc, &mut line, rules, consent.mask)?;
-    line.end(lines)
+    end_line(line, lines)
 }
 
 // One more member, if there is one: the owner. A family of the client's own has none.
-fn push_owner(line: &mut Line, owner: u32) -> Result<(), AllocError>
+fn push_owner(line: &mut Object, owner: u32) -> Result<(), AllocError>
     ensures { OnOk result (line.new.json.tokens ≡ line.old.json.tokens ++ owner_members owner) }
 {
     if owner == 0 {
@@ -93,7 +94,7 @@ fn push_owner(line: &mut Line, owner: u32) -> Result<(), AllocError>
 // One more member, if a code opened the family: the scope of that code.
 fn push_code_scope(
     alloc: Global,
-    line: &mut Line,
+    line: &mut Object,
     rules: &Rules<'_>,
     code_scope: Option<u64>,
 ) -> Result<(), AllocError>
@@ -114,13 +115,13 @@ pub(crate) fn push_family(
 ) -> Result<(), AllocError>
     ensures { OnOk result (lines.new.items ≡ lines.old.items ++ family_line (rules_fact rules.now) (record_fact kept.now)) }
 {
-    let mut line = Line::new(alloc, "family")?;
+    let mut line = begin_line(alloc, "family")?;
     line.number("family", kept.family)?;
     push_client(&mut line, rules, kept.client)?;
     push_owner(&mut line, kept.owner)?;
     push_code_scope(alloc, &mut line, rules, kept.code_scope)?;
     line.boolean("ended", kept.ended)?;
-    line.end(lines)
+    end_line(line, lines)
 }
 
 // What a code or token is called.
@@ -143,7 +144,7 @@ pub(crate) fn push_token(
 ) -> Result<(), AllocError>
     ensures { OnOk result (lines.new.items ≡ lines.old.items ++ token_line (rules_fact rules.now) (record_fact kept.now)) }
 {
-    let mut line = Line::new(alloc, kind_name(&kept.kind))?;
+    let mut line = begin_line(alloc, kind_name(&kept.kind))?;
     let digits = hex::encode(alloc, &kept.digest[..4])?;
     line.text("digest", digits.as_str())?;
     line.number("family", kept.family)?;
@@ -151,7 +152,7 @@ pub(crate) fn push_token(
     line.number("moment", kept.moment.get())?;
     line.number("life", u64::from(kept.life))?;
     line.boolean("spent", kept.spent)?;
-    line.end(lines)
+    end_line(line, lines)
 }
 
 // A hook.
@@ -162,15 +163,15 @@ pub(crate) fn push_hook(
 ) -> Result<(), AllocError>
     ensures { OnOk result (lines.new.items ≡ lines.old.items ++ hook_line (hook_fact hook.now)) }
 {
-    let mut line = Line::new(alloc, "hook")?;
+    let mut line = begin_line(alloc, "hook")?;
     line.text("name", hook.name)?;
     line.number("version", hook.version)?;
     line.number("bytes", hook.code.len() as u64)?;
-    line.end(lines)
+    end_line(line, lines)
 }
 
 // One more member, where it is known: how many seconds lie between the two moments.
-fn push_age(line: &mut Line, last: Moment, now: Option<Moment>) -> Result<(), AllocError>
+fn push_age(line: &mut Object, last: Moment, now: Option<Moment>) -> Result<(), AllocError>
     ensures { OnOk result (line.new.json.tokens ≡ line.old.json.tokens ++ age_members last now) }
 {
     match now {
@@ -188,11 +189,11 @@ pub(crate) fn push_file(
 ) -> Result<(), AllocError>
     ensures { OnOk result (lines.new.items ≡ lines.old.items ++ file_line last file.now) }
 {
-    let mut line = Line::new(alloc, "file")?;
+    let mut line = begin_line(alloc, "file")?;
     line.number("bytes", file.bytes)?;
     line.number("batches", file.batches)?;
     line.number("torn", file.torn)?;
     line.number("last", last.get())?;
     push_age(&mut line, last, file.looked_at)?;
-    line.end(lines)
+    end_line(line, lines)
 }

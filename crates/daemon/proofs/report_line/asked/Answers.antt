@@ -2,11 +2,11 @@ use Rattle.std.proofs.Common.{◌∷◌, [], codes, List}
 use Rattle.json.specs.Token.{Token, begin_object, end_object, key}
 use Rattle.daemon.specs.ReportTokens.{count_tokens}
 use Rattle.daemon.proofs.Joining.{joined, joined_ok}
-use Rattle.daemon.proofs.report_line.Line.asked.Goals as goal
+use Rattle.daemon.proofs.report_line.asked.Goals as goal
 
 pub returns : goal.returns
 returns c =
-    let old = c.args.self.now.json.tokens in
+    let old = c.args.line.now.json.tokens in
     let asked = c.args.asked.now in
     let begun : List Token = key (codes "requests") ∷ begin_object ∷ [] in
     let with_authorize = joined old _ _ begun (count_tokens (codes "authorize") asked.authorize) c.in_ok-begin.ensures c.in_ok-number.ensures in

@@ -2,11 +2,11 @@ use Rattle.std.proofs.Common.{◌∷◌, [], codes, List}
 use Rattle.json.specs.Token.{Token, begin_object, end_object, key}
 use Rattle.daemon.specs.ReportTokens.{count_tokens}
 use Rattle.daemon.proofs.Joining.{joined, joined_ok}
-use Rattle.daemon.proofs.report_line.Line.wanted.Goals as goal
+use Rattle.daemon.proofs.report_line.wanted.Goals as goal
 
 pub returns : goal.returns
 returns c =
-    let old = c.args.self.now.json.tokens in
+    let old = c.args.line.now.json.tokens in
     let wanted = c.args.wanted.now in
     let begun : List Token = key (codes "unavailable") ∷ begin_object ∷ [] in
     let with_memory = joined old _ _ begun (count_tokens (codes "memory") wanted.memory) c.in_ok-begin.ensures c.in_ok-number.ensures in

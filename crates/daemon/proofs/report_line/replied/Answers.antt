@@ -2,11 +2,11 @@ use Rattle.std.proofs.Common.{◌∷◌, [], codes, List}
 use Rattle.json.specs.Token.{Token, begin_object, end_object, key}
 use Rattle.daemon.specs.ReportTokens.{count_tokens}
 use Rattle.daemon.proofs.Joining.{joined, joined_ok}
-use Rattle.daemon.proofs.report_line.Line.replied.Goals as goal
+use Rattle.daemon.proofs.report_line.replied.Goals as goal
 
 pub returns : goal.returns
 returns c =
-    let old = c.args.self.now.json.tokens in
+    let old = c.args.line.now.json.tokens in
     let replied = c.args.replied.now in
     let begun : List Token = key (codes "replies") ∷ begin_object ∷ [] in
     let with_ok = joined old _ _ begun (count_tokens (codes "200") replied.ok) c.in_ok-begin.ensures c.in_ok-number.ensures in
