@@ -8,7 +8,7 @@ use Rattle.insn.specs.SlotLaws.{slots_of_bounds}
 use Rattle.insn.specs.Values.{State, Config, entry}
 use Rattle.insn.specs.Effects.{Falls, Jumps, Exits}
 use Rattle.insn.specs.Jumps.{target}
-use Rattle.insn.specs.Meaning.{effect}
+use Rattle.insn.specs.Outcomes.{effect}
 use Rattle.insn.specs.Step.{IsStuckAt, Reaches, IsExit, IsStuck}
 use Rattle.insn.specs.RunLaws.{StandsAt, begins_here, begins_nowhere, stands_behind, stands_further, stands_inside, target_along, first_rest, step_falls, step_jumps, stuck_effect, stuck_jump, exits_here, stuck_past, goes_on}
 

@@ -9,7 +9,7 @@ use Rattle.insn.specs.Program.{begins_at, places}
 use Rattle.insn.specs.Values.{◌>>=◌, State, Config, start}
 use Rattle.insn.specs.Effects.{Falls, Jumps, Exits}
 use Rattle.insn.specs.Jumps.{target}
-use Rattle.insn.specs.Meaning.{effect}
+use Rattle.insn.specs.Outcomes.{effect}
 use Rattle.insn.specs.Step.{steps, Reaches, IsExit}
 use Rattle.insn.specs.RunLaws.{first_rest}
 use Rattle.machine.specs.declared.trace.Traced.{Traced}

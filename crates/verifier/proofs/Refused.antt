@@ -23,7 +23,8 @@ use Rattle.insn.specs.Instruction.{division_of, extended_bits, extended_width, o
 use Rattle.insn.specs.Values.{State, value_of}
 use Rattle.insn.specs.Effects.{operand_value}
 use Rattle.insn.specs.Arithmetic.{defined_result, left_operand}
-use Rattle.insn.specs.Faults.{Test as Check, fault_at, first_of, operated_tests, operation_tests, result_tests}
+use Rattle.insn.specs.Tests.{Test as Check, first_of, operated_tests, operation_tests, result_tests}
+use Rattle.insn.specs.Outcomes.{fault_at}
 use Rattle.reg_kind.specs.declared.reg.Reg.{Reg as Kind}
 use Rattle.reg_kind.specs.declared.reg.Reg.TheVariants as kind
 use Rattle.reg_kind.specs.declared.span.Span.{Span}

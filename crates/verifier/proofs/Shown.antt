@@ -28,16 +28,16 @@ use Rattle.insn.specs.declared.state.Value.TheVariants.{Number, Address}
 use Rattle.insn.specs.declared.verify_fault.WalkFault.{WalkFault}
 use Rattle.insn.specs.declared.verify_fault.WalkFault.TheVariants.{ExitsWithPointer, OutOfRegion, PointerMisuse, ReadOnlyField, UnsetByte}
 use Rattle.insn.specs.Instruction.{division_of, extended_bits, extended_width, operation_of, read_bits, read_size, reg_number, remainder_of, size_bytes}
-use Rattle.insn.specs.Values.{◌>>=◌, State, number_in, pointer_in, pointer_of, region_size, value_of}
-use Rattle.insn.specs.Memory.{cells_at, is_writable, low_bytes, may_hold, number_spelled, place_of, read, value_in, with_value, within, write_value, loaded, stored}
+use Rattle.insn.specs.Values.{◌>>=◌, State, number_in, pointer_in, region_size, value_of}
+use Rattle.insn.specs.Workings.{pointer_of, read, write_value, loaded, stored, operated, result_of, branched}
+use Rattle.insn.specs.Memory.{cells_at, is_writable, low_bytes, may_hold, number_spelled, place_of, value_in, with_value, within}
 use Rattle.insn.specs.MemoryLaws.{each-written, length-low_bytes, length-written, low_bytes_fit}
 use Rattle.insn.specs.FaultLaws.{is_number}
 use Rattle.insn.specs.Effects.{Effect, Falls, Jumps, Exits, operand_value, sets, word_of}
-use Rattle.insn.specs.Arithmetic.{left_operand, operated, result_of}
-use Rattle.insn.specs.Jumps.{branched}
-use Rattle.insn.specs.Meaning.{effect}
+use Rattle.insn.specs.Arithmetic.{left_operand}
+use Rattle.insn.specs.Outcomes.{effect, fault_at}
 use Rattle.insn.specs.Shapes.{NoMovedPointer, both_ways, branch_of, effects, shape_of}
-use Rattle.insn.specs.Faults.{◌otherwise◌, comparison_tests, fault_at, first_of, load_tests, number_tests, operated_tests, operation_tests, store_tests, write_tests}
+use Rattle.insn.specs.Tests.{◌otherwise◌, comparison_tests, first_of, load_tests, number_tests, operated_tests, operation_tests, store_tests, write_tests}
 use Rattle.insn.specs.Word.{word_extended}
 use Rattle.range.specs.Domain.{unary_result}
 use Rattle.scalar.specs.declared.scalar.Scalar.{Scalar}
