@@ -20,7 +20,6 @@ pub mod Outcomes
 pub mod Step
 -- For why a program is refused, these too.
 pub mod FirstLook
-pub mod Shapes
 pub mod Refusals
 pub mod FaultTexts
 -- Working definitions of proofs, which say of parts what Outcomes says of the whole, and laws, each proved: a reader may skip them.
@@ -33,6 +32,4 @@ pub mod PointerLaws
 pub mod StateLaws
 pub mod FaultLaws
 pub mod OutcomeLaws
-pub mod ShapeLaws
 pub mod RunLaws
-pub mod WayLaws

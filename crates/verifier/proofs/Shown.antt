@@ -36,7 +36,7 @@ use Rattle.insn.specs.FaultLaws.{is_number}
 use Rattle.insn.specs.Effects.{Effect, Falls, Jumps, Exits, operand_value, sets, word_of}
 use Rattle.insn.specs.Arithmetic.{left_operand}
 use Rattle.insn.specs.Outcomes.{effect, fault_at}
-use Rattle.insn.specs.Shapes.{NoMovedPointer, both_ways, branch_of, effects, shape_of}
+use Rattle.verifier.specs.Shapes.{NoMovedPointer, both_ways, branch_of, effects, shape_of}
 use Rattle.insn.specs.Tests.{◌otherwise◌, comparison_tests, first_of, load_tests, number_tests, operated_tests, operation_tests, store_tests, write_tests}
 use Rattle.insn.specs.Word.{word_extended}
 use Rattle.range.specs.Domain.{unary_result}

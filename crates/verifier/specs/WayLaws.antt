@@ -34,11 +34,11 @@ use Rattle.insn.specs.Arithmetic.{defined_result, left_operand}
 use Rattle.insn.specs.Jumps.{target}
 use Rattle.insn.specs.Outcomes.{effect, fault_at}
 use Rattle.insn.specs.Step.{Reaches, lead, step, steps}
-use Rattle.insn.specs.Shapes.{HasNoBranch, MovesNoPointer, NoMovedPointer, IsPointer, IsRunShape, OnWay, blank_cell, blank_value, both_ways, branch_of, shape_config, shape_of, ways, ways_from}
+use Rattle.verifier.specs.Shapes.{HasNoBranch, MovesNoPointer, NoMovedPointer, IsPointer, IsRunShape, OnWay, blank_cell, blank_value, both_ways, branch_of, shape_config, shape_of, ways, ways_from}
 use Rattle.insn.specs.Program.{begins_at}
 use Rattle.insn.specs.FirstLook.{written_by}
 use Rattle.insn.specs.OutcomeLaws.{effect_is_done, stuck_is_named}
-use Rattle.insn.specs.ShapeLaws.{Alike, blank, blank_result, imm_alike, left-shape, may_hold-blank, register_alike, same_fault, shape_cells_at, shape_value, unmoved_quotient, unmoved_remainder, unmoved_sum, value_in-blank}
+use Rattle.verifier.specs.ShapeLaws.{Alike, blank, blank_result, imm_alike, left-shape, may_hold-blank, register_alike, same_fault, shape_cells_at, shape_value, unmoved_quotient, unmoved_remainder, unmoved_sum, value_in-blank}
 
 -- ---- shapes of shapes
 

@@ -35,7 +35,7 @@ use Rattle.insn.specs.Values.{only_if, State, cells_of, region_size, value_of}
 use Rattle.insn.specs.Memory.{are_parts, cells_at, may_hold, number_spelled, place_of, same_pointer, value_in, within, is_unset}
 use Rattle.insn.specs.Effects.{word_of}
 use Rattle.insn.specs.Arithmetic.{defined_result, left_operand}
-use Rattle.insn.specs.Shapes.{NoMovedPointer, blank_cell, blank_value, shape_of}
+use Rattle.verifier.specs.Shapes.{NoMovedPointer, blank_cell, blank_value, shape_of}
 use Rattle.insn.specs.Tests.{comparison_tests, first_of, load_tests, number_tests, operated_tests, operation_tests, read_tests, result_tests, store_tests, tests_of, write_tests}
 use Rattle.insn.specs.Outcomes.{fault_at}
 use Rattle.insn.specs.OutcomeLaws.{fault_is_first}
