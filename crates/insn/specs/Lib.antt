@@ -18,10 +18,11 @@ pub mod Jumps
 pub mod Meaning
 pub mod Outcomes
 pub mod Step
--- For why a program is refused, these too.
+-- For why a program is refused, and what its states can be, these too.
 pub mod FirstLook
 pub mod Refusals
 pub mod FaultTexts
+pub mod PossibleStates
 -- Working definitions of proofs, which say of parts what Outcomes says of the whole, and laws, each proved: a reader may skip them.
 pub mod Workings
 pub mod Tests

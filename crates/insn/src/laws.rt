@@ -14,9 +14,9 @@ ghost use Rattle.insn.specs.Workings.{done_by};
 ghost use Rattle.insn.specs.FirstLook.{written_by};
 ghost use Rattle.insn.specs.Memory.{parts_of, value_in};
 ghost use Rattle.insn.specs.Instruction.{Fits};
-ghost use Rattle.insn.specs.Effects.{IsEffect};
+ghost use Rattle.insn.specs.PossibleStates.{IsEffect, IsState};
 ghost use Rattle.insn.specs.Step.{IsExit, IsStuck, Reaches};
-ghost use Rattle.insn.specs.Values.{entry, Config, IsRecord, IsState, State};
+ghost use Rattle.insn.specs.Values.{entry, Config, IsRecord, State};
 
 /// The entry of a record is a state, and what an instruction does to a state leads to a state.
 #[tactic(auto, using(crate::specs::StateLaws::entry_is_state, crate::specs::StateLaws::effect_is_effect))]
