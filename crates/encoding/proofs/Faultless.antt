@@ -19,7 +19,8 @@ use Rattle.insn.specs.declared.instruction.Insn.{Insn}
 use Rattle.insn.specs.declared.instruction.Insn.TheVariants.{Alu64Imm, Alu64Reg, Alu32Imm, Alu32Reg, Divide, Remainder, Negate, MoveSigned, SwapBytes, LoadWide, Load, LoadSigned, StoreReg, StoreImm, Jump, JumpLong, Jump64IfImm, Jump64IfReg, Jump32IfImm, Jump32IfReg, Exit}
 use Rattle.encoding.specs.declared.slot.Slot.{Slot}
 use Rattle.insn.specs.Instruction.{reg_number}
-use Rattle.encoding.specs.Spelling.{slots, slot_bytes, slot_fault, fields_of}
+use Rattle.encoding.specs.Spelling.{slots, slot_bytes}
+use Rattle.encoding.specs.Opcodes.{slot_fault, fields_of}
 
 reg_good : (r : RegNo) → nat_lt 10 (reg_number r) ≡ false
 reg_good R0 = refl

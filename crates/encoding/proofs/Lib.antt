@@ -3,4 +3,5 @@ pub mod Spellings
 pub mod Rows
 pub mod Rereading
 pub mod Faultless
+pub mod Naming
 pub mod Reading

@@ -1,5 +1,5 @@
 -- Reading slots back from their bytes, and programs from theirs.
-use Rattle.std.proofs.Common.{◌≡◌, ◌≢◌, ◌⊎◌, inl, inr, Option, ℕ, ◌+◌, ◌*◌, ◌/◌, ◌%◌, ◌^◌, ◌<◌, List, [], ◌∷◌, ◌++◌, length, drop, Some, None, Result, Ok, Err, IfErr, get_or, refl, sym, ap, ◌∙◌, arith, append_assoc, FitsSigned, w16, w32, pos, rules}
+use Rattle.std.proofs.Common.{subst, ◌≡◌, ◌≢◌, ◌⊎◌, inl, inr, Option, ℕ, ◌+◌, ◌*◌, ◌/◌, ◌%◌, ◌^◌, ◌<◌, List, [], ◌∷◌, ◌++◌, length, drop, Some, None, Result, Ok, Err, IfErr, get_or, refl, sym, ap, ◌∙◌, arith, append_assoc, FitsSigned, w16, w32, pos, rules}
 use Rattle.std.specs.Prelude.{◌==◌, nat_lt, if◌then◌else◌}
 use Rattle.std.proofs.lemmas.Bool.{le-ltb, lt-ltb, ne_eqb}
 use Rattle.std.specs.Int.{cast_signed, cast_unsigned}
@@ -23,10 +23,12 @@ use Rattle.insn.specs.declared.fault.InsnFault.{InsnFault}
 use Rattle.insn.specs.declared.fault.InsnFault.TheVariants as faults
 use Rattle.insn.specs.Instruction.{reg_number, Fits}
 use Rattle.insn.specs.Program.{slot_count, SLOT_LIMIT}
-use Rattle.encoding.specs.Spelling.{slot, slots, slot_bytes, slot_fault, slot_fault_at, spelling, FaultAt, FirstInsnFault, IsSlot, IsWhole, Spells}
-use Rattle.encoding.proofs.Spellings.{length-spelling}
+use Rattle.encoding.specs.Spelling.{BeginsNone, IsSlotFault, first_slot, slot, slots, slot_bytes, slot_fault_at, spelling, FaultAt, FirstInsnFault, IsSlot, IsWhole, Spells}
+use Rattle.encoding.specs.Opcodes.{slot_fault}
+use Rattle.encoding.proofs.Spellings.{length-spelling, spelling-append}
 use Rattle.encoding.proofs.Rereading.{read, read-slots}
 use Rattle.encoding.proofs.Faultless.{first_good}
+use Rattle.encoding.proofs.Naming.{first_is, no_slot_fault, one_fault, table_fault}
 
 reg_fits : (r : RegNo) → reg_number r < 16
 reg_fits R0 = omega arith
@@ -54,6 +56,9 @@ record Sized (s : Slot) : Type 0 where
   src : s.src < 16
   offset : FitsSigned w16 s.offset
   imm : FitsSigned w32 s.imm
+
+sizes_of : {s : Slot} → IsSlot s → Sized s
+sizes_of h = record { dst = h.dst; src = h.src; offset = h.offset; imm = h.imm }
 
 unspell-slot : (s : Slot) (r : List ℕ) → Sized s → unspell (slot_bytes s ++ r) ≡ s ∷ unspell r
 unspell-slot s r z =
@@ -164,23 +169,42 @@ one_program bytes p q sp sq =
 one_more : (i : Insn) (p : List Insn) → spelling (i ∷ p) ≡ flat_map slot_bytes (slots i) ++ spelling p
 one_more i p = flat_map-append slot_bytes (slots i) (flat_map slots p)
 
--- a slot with which an instruction begins has no fault
-begins_good : (here : Slot) (rest tail : List ℕ) (j : Insn) (p : List Insn) (f : SlotFault) → Sized here → AllByRecursion Fits (j ∷ p) → slot_bytes here ++ rest ≡ spelling (j ∷ p) ++ tail → slot_fault here rest ≡ Some f → ⊥
-begins_good here rest tail j p f z fp e faulty =
+-- in a slot with which an instruction begins the table finds no fault, and its opcode is the instruction's
+record IsGood (here : Slot) (rest : List ℕ) (j : Insn) : Type 0 where
+  opcode : (first_slot j).opcode ≡ here.opcode
+  good : slot_fault here rest ≡ None
+
+begins_good : (here : Slot) (rest tail : List ℕ) (j : Insn) (p : List Insn) → Sized here → AllByRecursion Fits (j ∷ p) → slot_bytes here ++ rest ≡ spelling (j ∷ p) ++ tail → IsGood here rest j
+begins_good here rest tail j p z fp e =
     let firsts : here ∷ unspell rest ≡ slots j ++ (flat_map slots p ++ unspell tail) =
     sym (unspell-slot here rest z) ∙ ap unspell e ∙ slots_in (j ∷ p) tail fp ∙ append_assoc (slots j) (flat_map slots p) (unspell tail) in
     let here_is : here ≡ get_or (slots j ++ (flat_map slots p ++ unspell tail)) 0 here = ap (λ (l : List Slot). get_or l 0 here) firsts in
     let bytes : slot_bytes here ++ rest ≡ flat_map slot_bytes (slots j) ++ (spelling p ++ tail) = e ∙ ap (λ (l : List ℕ). l ++ tail) (one_more j p) ∙ append_assoc (flat_map slot_bytes (slots j)) (spelling p) tail in
     let rest_is : rest ≡ drop 8 (flat_map slot_bytes (slots j) ++ (spelling p ++ tail)) = ap (drop 8) bytes in
-    let good : slot_fault here rest ≡ None =
-    ap (λ (s : Slot). slot_fault s rest) here_is ∙ ap (slot_fault (get_or (slots j ++ (flat_map slots p ++ unspell tail)) 0 here)) rest_is ∙ first_good j (flat_map slots p ++ unspell tail) (spelling p ++ tail) here in
-    absurd cc
+    record {
+      opcode = ap (λ (s : Slot). s.opcode) (sym (first_is j (flat_map slots p ++ unspell tail) here) ∙ sym here_is);
+      good = ap (λ (s : Slot). slot_fault s rest) here_is ∙ ap (slot_fault (get_or (slots j ++ (flat_map slots p ++ unspell tail)) 0 here)) rest_is ∙ first_good j (flat_map slots p ++ unspell tail) (spelling p ++ tail) here;
+    }
+
+-- it has no fault
+begins_faultless : (here : Slot) (rest tail : List ℕ) (j : Insn) (p : List Insn) (f : SlotFault) → Sized here → AllByRecursion Fits (j ∷ p) → slot_bytes here ++ rest ≡ spelling (j ∷ p) ++ tail → IsSlotFault here rest f → ⊥
+begins_faultless here rest tail j p f z fp e faulty =
+    let is = begins_good here rest tail j p z fp e in
+    no_slot_fault here rest f (j, is.opcode) is.good (λ none. none j (spelling p ++ tail) fp.0 (e ∙ ap (λ (l : List ℕ). l ++ tail) (spelling-append (j ∷ []) p) ∙ append_assoc (spelling (j ∷ [])) (spelling p) tail)) faulty
+
+-- with a slot that the table refuses no instruction begins
+begins_none : (here : Slot) (rest : List ℕ) (f : SlotFault) → Sized here → slot_fault here rest ≡ Some f → BeginsNone here rest
+begins_none here rest f z faulty j tail fits e = let is = begins_good here rest tail j [] z (fits, tt) e in let good = is.good in cc
+
+-- what the table refuses is refused so
+pub named_fault : (s : Slot) (behind : List ℕ) (f : SlotFault) → IsSlot s → slot_fault s behind ≡ Some f → IsSlotFault s behind f
+named_fault s behind f is h = table_fault s behind f is (begins_none s behind f (sizes_of is) h) h
 
 -- no program has a faulty slot behind some instructions
 no_faulty_slot : (before p : List Insn) (here : Slot) (rest : List ℕ) (f : SlotFault) → AllByRecursion Fits before → AllByRecursion Fits p → Sized here
-    → spelling before ++ (slot_bytes here ++ rest) ≡ spelling p → slot_fault here rest ≡ Some f → ⊥
+    → spelling before ++ (slot_bytes here ++ rest) ≡ spelling p → IsSlotFault here rest f → ⊥
 no_faulty_slot [] [] here rest f fb fp z e faulty = absurd cc
-no_faulty_slot [] (j ∷ p) here rest f fb fp z e faulty = begins_good here rest [] j p f z fp (e ∙ sym (append_none (spelling (j ∷ p)))) faulty
+no_faulty_slot [] (j ∷ p) here rest f fb fp z e faulty = begins_faultless here rest [] j p f z fp (e ∙ sym (append_none (spelling (j ∷ p)))) faulty
 no_faulty_slot (i ∷ before) [] here rest f fb fp z e faulty =
     let more = slots_in (i ∷ before) (slot_bytes here ++ rest) fb in
     let h : Some i ≡ None = sym (read-slots i (flat_map slots before ++ unspell (slot_bytes here ++ rest)) fb.0)
@@ -210,22 +234,19 @@ same_first i j p q x y fp fq e =
 
 -- two faulty slots behind some instructions are one
 one_faulty_slot : (p q : List Insn) (here there : Slot) (x y : List ℕ) (f g : SlotFault) → AllByRecursion Fits p → AllByRecursion Fits q → Sized here → Sized there
-    → spelling p ++ (slot_bytes here ++ x) ≡ spelling q ++ (slot_bytes there ++ y) → slot_fault here x ≡ Some f → slot_fault there y ≡ Some g → (p ≡ q) × (f ≡ g)
+    → spelling p ++ (slot_bytes here ++ x) ≡ spelling q ++ (slot_bytes there ++ y) → IsSlotFault here x f → IsSlotFault there y g → (p ≡ q) × (f ≡ g)
 one_faulty_slot [] [] here there x y f g fp fq z w e faulty wrong =
     let firsts : here ∷ unspell x ≡ there ∷ unspell y = sym (unspell-slot here x z) ∙ ap unspell e ∙ unspell-slot there y w in
     let slot_is : here ≡ there = cc in
     let rest_is : x ≡ y = ap (drop 8) e in
-    let same : Some f ≡ Some g = sym faulty ∙ ap (λ (s : Slot). slot_fault s x) slot_is ∙ ap (slot_fault there) rest_is ∙ wrong in
-    (refl, cc)
-one_faulty_slot [] (j ∷ q) here there x y f g fp fq z w e faulty wrong = absurd (begins_good here x (slot_bytes there ++ y) j q f z fq e faulty)
-one_faulty_slot (i ∷ p) [] here there x y f g fp fq z w e faulty wrong = absurd (begins_good there y (slot_bytes here ++ x) i p g w fp (sym e) wrong)
+    let moved : IsSlotFault there y f = subst (λ (r : List ℕ). IsSlotFault there r f) rest_is (subst (λ (s : Slot). IsSlotFault s x f) slot_is faulty) in
+    (refl, one_fault there y f g moved wrong)
+one_faulty_slot [] (j ∷ q) here there x y f g fp fq z w e faulty wrong = absurd (begins_faultless here x (slot_bytes there ++ y) j q f z fq e faulty)
+one_faulty_slot (i ∷ p) [] here there x y f g fp fq z w e faulty wrong = absurd (begins_faultless there y (slot_bytes here ++ x) i p g w fp (sym e) wrong)
 one_faulty_slot (i ∷ p) (j ∷ q) here there x y f g fp fq z w e faulty wrong =
     let first = same_first i j p q (slot_bytes here ++ x) (slot_bytes there ++ y) fp fq e in
     let later = one_faulty_slot p q here there x y f g fp.1 fq.1 z w first.1 faulty wrong in
     (rw (first.0, later.0) refl, later.1)
-
-sizes_of : {s : Slot} → IsSlot s → Sized s
-sizes_of h = record { dst = h.dst; src = h.src; offset = h.offset; imm = h.imm }
 
 -- the first faulty instruction is one
 one_fault_at : (bytes : List ℕ) (at to : ℕ) (f g : SlotFault) → FaultAt bytes at f → FaultAt bytes to g → slot_fault_at f at ≡ slot_fault_at g to

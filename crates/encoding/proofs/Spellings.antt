@@ -1,5 +1,5 @@
 -- Instructions one after the other, and their bytes.
-use Rattle.std.proofs.Common.{◌≡◌, ℕ, ◌+◌, ◌-◌, ◌*◌, List, [], ◌∷◌, ◌++◌, length, take, drop, refl, sym, ap, ◌∙◌, append_assoc, arith, Some}
+use Rattle.std.proofs.Common.{◌≡◌, ℕ, ◌+◌, ◌-◌, ◌*◌, List, [], ◌∷◌, ◌++◌, length, take, drop, refl, sym, ap, ◌∙◌, append_assoc, arith}
 use Rattle.std.specs.List.{flat_map, AllByRecursion}
 use Rattle.std.proofs.lemmas.List.{length-append, take-append-drop}
 use Rattle.std.proofs.lemmas.List.Concat.{flat_map-append}
@@ -10,7 +10,8 @@ use Rattle.insn.specs.declared.instruction.Operand.TheVariants.{Reg, Imm}
 use Rattle.encoding.specs.declared.slot.Slot.{Slot}
 use Rattle.insn.specs.Instruction.{slots_of, Fits}
 use Rattle.insn.specs.Program.{slot_count}
-use Rattle.encoding.specs.Spelling.{slots, slot_bytes, spelling, slot_fault_at, slot_fault, BeginsWith, FaultAt, FirstInsnFault, IsSlot, IsWhole, Spells}
+use Rattle.encoding.specs.Spelling.{IsSlotFault, slots, slot_bytes, spelling, slot_fault_at, FaultAt, FirstInsnFault, IsSlot, IsWhole, Spells}
+use Rattle.encoding.specs.Opcodes.{BeginsWith}
 use Rattle.encoding.specs.declared.slot_fault.SlotFault.{SlotFault}
 use Rattle.encoding.specs.declared.slot_fault.SlotFault.TheVariants.{UnknownOpcode, BadRegister, NonzeroField, TruncatedWide, Atomic, Call, LegacyLoad}
 
@@ -88,7 +89,7 @@ spells bytes p whole fit spelled =
 
 -- what stands behind the instructions so far is the first fault
 pub first_fault : (bytes rest behind : List ℕ) (before : List Insn) (here : Slot) (at : ℕ) (f : SlotFault) → IsWhole bytes → AllByRecursion Fits before → IsSlot here → at ≡ slot_count before
-    → bytes ≡ spelling before ++ rest → slot_bytes here ≡ take 8 rest → behind ≡ drop 8 rest → slot_fault here behind ≡ Some f → FirstInsnFault bytes (slot_fault_at f at)
+    → bytes ≡ spelling before ++ rest → slot_bytes here ≡ take 8 rest → behind ≡ drop 8 rest → IsSlotFault here behind f → FirstInsnFault bytes (slot_fault_at f at)
 first_fault bytes rest behind before here at f whole fit sizes at_slot so_far spelled later faulty =
     let cut : bytes ≡ spelling before ++ (slot_bytes here ++ behind) = so_far ∙ ap (λ (l : List ℕ). spelling before ++ l) (sym (take-append-drop 8 rest) ∙ ap (λ (l : List ℕ). l ++ drop 8 rest) (sym spelled) ∙ ap (λ (l : List ℕ). slot_bytes here ++ l) (sym later)) in
     by_fault f (record { before = before; here = here; rest = behind; fit = fit; sizes = sizes; at_slot = at_slot; spelled = cut; faulty = faulty }) where

@@ -9,7 +9,8 @@ use Rattle.insn.specs.declared.operation.Size.{Size}
 use Rattle.insn.specs.declared.operation.Size.TheVariants.{One, Two, Four, Eight}
 use Rattle.insn.specs.declared.operation.SignedSize.TheVariants as signed
 use Rattle.insn.specs.declared.operation.AluOp.TheVariants.{Mov}
-use Rattle.encoding.specs.Spelling.{Fields, OneOf, Unused, Used, cond_codes, fields_of, imm_opcode, is_one_of, jump_imm_opcode, jump_reg_opcode, load_opcode, load_signed_opcode, op_code, op_codes, reg_opcode, store_imm_opcode, store_reg_opcode, uses, DIVIDE, EXIT, JUMP, JUMP_LONG, LOAD_WIDE, NEGATE, REMAINDER, SWAP}
+use Rattle.encoding.specs.Spelling.{imm_opcode, is_one_of, jump_imm_opcode, jump_reg_opcode, load_opcode, load_signed_opcode, op_code, reg_opcode, store_imm_opcode, store_reg_opcode, DIVIDE, EXIT, JUMP, JUMP_LONG, LOAD_WIDE, NEGATE, REMAINDER, SWAP}
+use Rattle.encoding.specs.Opcodes.{Fields, OneOf, Unused, Used, cond_codes, fields_of, op_codes, uses}
 
 abbrev sizes : List Size
 sizes = One ∷ Two ∷ Four ∷ Eight ∷ []

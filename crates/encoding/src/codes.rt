@@ -1,7 +1,8 @@
 //! The codes of operations, conditions and sizes within opcodes.
 
 ghost use Rattle.std.specs.Prelude.{◌≡◌, ◌<◌, IfSome, None, true, false};
-ghost use Rattle.encoding.specs.Spelling.{cond_code as spec_cond, cond_codes, is_one_of, op_code as spec_op, op_codes, size_code as spec_size};
+ghost use Rattle.encoding.specs.Spelling.{cond_code as spec_cond, is_one_of, op_code as spec_op, size_code as spec_size};
+ghost use Rattle.encoding.specs.Opcodes.{cond_codes, op_codes};
 
 use insn::operation::{AluOp, Cond, Size};
 

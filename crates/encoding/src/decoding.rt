@@ -6,7 +6,8 @@ ghost use Rattle.std.specs.List.{AllByRecursion};
 ghost use Rattle.insn.specs.declared.instruction.Insn.{Insn};
 ghost use Rattle.insn.specs.Instruction.{reg_number};
 ghost use Rattle.encoding.specs.OpcodeLaws.{code_row, fields_by_halves, imm_fields, memory_fields, move_offsets, reg_fields};
-ghost use Rattle.encoding.specs.Spelling.{allows, cond_codes, op_codes, field_fault, fields_of, imm_opcode, is_bad_second, jump_imm_opcode, jump_reg_opcode, load_opcode, load_signed_opcode, op_code, refused_as, reg_opcode, signedness_code, slot, slot_bytes, slot_fault, slots, store_imm_opcode, store_reg_opcode, swap_opcode, uses, BeginsWith, DIVIDE, EXIT, FirstInsnFault, IsAllOf, IsSlot, IsWhole, JUMP, JUMP_LONG, LOAD_WIDE, NEGATE, OneOf, REMAINDER, Spells, Unused, Used};
+ghost use Rattle.encoding.specs.Spelling.{imm_opcode, jump_imm_opcode, jump_reg_opcode, load_opcode, load_signed_opcode, op_code, refused_as, reg_opcode, signedness_code, slot, slot_bytes, slots, store_imm_opcode, store_reg_opcode, swap_opcode, DIVIDE, EXIT, FirstInsnFault, IsSlot, IsWhole, JUMP, JUMP_LONG, LOAD_WIDE, NEGATE, REMAINDER, Spells};
+ghost use Rattle.encoding.specs.Opcodes.{allows, cond_codes, op_codes, field_fault, fields_of, is_bad_second, slot_fault, uses, BeginsWith, IsAllOf, OneOf, Unused, Used};
 
 use crate::codes::{cond_of, op_of};
 use crate::slot::Slot;
@@ -51,7 +52,7 @@ fn signedness(offset: i16) -> Result<Signedness, SlotFault>
 }
 
 /// The instruction that a slot and the bytes behind it begin with, or what is wrong with it.
-#[tactic(auto, unfolding(crate::specs::Spelling::fields_of))]
+#[tactic(auto, unfolding(crate::specs::Opcodes::fields_of))]
 fn insn_of(slot: Slot, behind: &[u8]) -> Result<Insn, SlotFault>
     ensures found { IfOk result (λ i. BeginsWith slot behind.now i) }
     ensures fault { IfErr result (λ f. slot_fault slot behind.now ≡ Some f) }
@@ -76,7 +77,7 @@ fn upper_half(second: &[u8; 8]) -> Result<u32, SlotFault>
 }
 
 /// The load of a 64-bit number, whose upper half is in the second slot.
-#[tactic(auto, unfolding(crate::specs::Spelling::fields_of))]
+#[tactic(auto, unfolding(crate::specs::Opcodes::fields_of))]
 fn load_wide(slot: Slot, behind: &[u8]) -> Result<Insn, SlotFault>
     requires { slot.opcode ≡ LOAD_WIDE }
     ensures found { IfOk result (λ i. BeginsWith slot behind.now i) }
@@ -94,7 +95,7 @@ fn load_wide(slot: Slot, behind: &[u8]) -> Result<Insn, SlotFault>
 }
 
 /// The instruction of one slot, by its opcode: those that stand alone, and then by its low half.
-#[tactic(auto, using(crate::specs::OpcodeLaws::same_fields), unfolding(crate::specs::Spelling::fields_of))]
+#[tactic(auto, using(crate::specs::OpcodeLaws::same_fields), unfolding(crate::specs::Opcodes::fields_of))]
 fn one_slot(slot: Slot) -> Result<Insn, SlotFault>
     requires one { slot.opcode ≢ LOAD_WIDE }
     requires read { refused_as slot.opcode ≡ SlotFault.UnknownOpcode }

@@ -3,8 +3,9 @@
 -- For Safe alone read these, in their order, and no laws:
 --   Instruction (section 3), Program, Values: fields, slots, and what the machine holds
 --   Word: numbers (4.1 arithmetic, 4.2 byte swaps, 4.3 conditions)
---   Effects, Arithmetic (4.1), Memory (5), Jumps (4.3): what is done with what the machine holds
---   Meaning: what each instruction says, in eight lines what that does
+--   Effects, Arithmetic (4.1), Memory (5), Jumps (4.3): what can be done with what the machine holds
+--   Meaning: what each instruction says, one of eight things
+--   Outcomes: what comes of each of these, its effect or the first test that fails
 --   Step: steps, runs, Safe
 pub mod Instruction
 pub mod Program
@@ -15,15 +16,16 @@ pub mod Arithmetic
 pub mod Memory
 pub mod Jumps
 pub mod Meaning
-pub mod Step
--- For why a program is refused, these too; Faults says of parts what Outcomes says of the whole, and only proofs need it.
-pub mod FirstLook
-pub mod Shapes
 pub mod Outcomes
-pub mod Faults
+pub mod Step
+-- For why a program is refused, and what its states can be, these too.
+pub mod FirstLook
 pub mod Refusals
 pub mod FaultTexts
--- Laws, each proved: a reader may skip them.
+pub mod PossibleStates
+-- Working definitions of proofs, which say of parts what Outcomes says of the whole, and laws, each proved: a reader may skip them.
+pub mod Workings
+pub mod Tests
 pub mod WordLaws
 pub mod SlotLaws
 pub mod MemoryLaws
@@ -31,6 +33,4 @@ pub mod PointerLaws
 pub mod StateLaws
 pub mod FaultLaws
 pub mod OutcomeLaws
-pub mod ShapeLaws
 pub mod RunLaws
-pub mod WayLaws

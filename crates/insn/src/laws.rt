@@ -1,6 +1,6 @@
 //! Laws of the definitions.
 
-ghost use Rattle.std.specs.Prelude.{◌≡◌, ◌≢◌, ◌↔◌, ℕ, List, Some, None, Contains, IfSome, IsSome};
+ghost use Rattle.std.specs.Prelude.{◌≡◌, ◌≢◌, ◌↔◌, ℕ, List, Some, None, IfSome, IsSome};
 ghost use Rattle.std.specs.List.{AllByRecursion};
 ghost use Rattle.insn.specs.declared.instruction.Insn.{Insn};
 ghost use Rattle.insn.specs.declared.layout.Layout.{Layout};
@@ -8,17 +8,15 @@ ghost use Rattle.insn.specs.declared.register.RegNo.TheVariants.{R10};
 ghost use Rattle.insn.specs.declared.state.Cell.{Cell};
 ghost use Rattle.insn.specs.declared.state.Pointer.{Pointer};
 ghost use Rattle.insn.specs.declared.state.Value.TheVariants.{Address};
-ghost use Rattle.insn.specs.Faults.{fault_at};
+ghost use Rattle.insn.specs.Outcomes.{effect, fault_at};
+ghost use Rattle.insn.specs.Tests.{first_of, tests_of};
+ghost use Rattle.insn.specs.Workings.{done_by};
 ghost use Rattle.insn.specs.FirstLook.{written_by};
 ghost use Rattle.insn.specs.Memory.{parts_of, value_in};
-ghost use Rattle.insn.specs.Outcomes.{failed, outcome, passed};
-ghost use Rattle.insn.specs.Program.{begins_at};
-ghost use Rattle.insn.specs.Shapes.{shape_config, shape_of, ways, HasNoBranch, IsRunShape, MovesNoPointer, NoMovedPointer, OnWay};
 ghost use Rattle.insn.specs.Instruction.{Fits};
-ghost use Rattle.insn.specs.Effects.{IsEffect};
-ghost use Rattle.insn.specs.Meaning.{effect};
-ghost use Rattle.insn.specs.Step.{step, IsExit, IsStuck, Reaches};
-ghost use Rattle.insn.specs.Values.{entry, Config, IsRecord, IsState, State};
+ghost use Rattle.insn.specs.PossibleStates.{IsEffect, IsState};
+ghost use Rattle.insn.specs.Step.{IsExit, IsStuck, Reaches};
+ghost use Rattle.insn.specs.Values.{entry, Config, IsRecord, State};
 
 /// The entry of a record is a state, and what an instruction does to a state leads to a state.
 #[tactic(auto, using(crate::specs::StateLaws::entry_is_state, crate::specs::StateLaws::effect_is_effect))]
@@ -34,38 +32,17 @@ pub fn runs_reach_states()
 {}
 
 /// An instruction that does not write R10 has no effect exactly where a test names a fault.
-#[tactic(auto, using(crate::specs::FaultLaws::stuck_is_named))]
+#[tactic(auto, using(crate::specs::OutcomeLaws::stuck_is_named))]
 pub fn faults_are_named()
     ensures { (layout : Layout) (i : Insn) (s : State) → written_by i ≢ Some R10 →
         effect layout i s ≡ None ↔ IsSome (fault_at layout i s) }
 {}
 
-/// An instruction's effect and its fault are the two halves of its outcome: what passes, and the first test that fails.
-pub fn an_outcome_is_effect_or_fault()
+/// The working definitions of proofs are the two halves of outcomes: what is done of an instruction is its effect, and the
+/// first of its tests that fails is its fault.
+pub fn working_definitions_are_outcomes()
     ensures { (layout : Layout) (i : Insn) (s : State) →
-        (effect layout i s ≡ passed (outcome layout i s)) × (fault_at layout i s ≡ failed (outcome layout i s)) }
-{}
-
-/// A state and its shape have the same fault, where no pointer is moved by a register.
-#[tactic(auto, using(crate::specs::ShapeLaws::same_fault))]
-pub fn shapes_have_the_faults_of_states()
-    ensures { (layout : Layout) (i : Insn) (s : State) → NoMovedPointer i s → fault_at layout i (shape_of s) ≡ fault_at layout i s }
-{}
-
-/// A step's shape is among the ways of the shape, where no pointer is moved by a register.
-#[tactic(auto, using(crate::specs::WayLaws::step_is_way))]
-pub fn steps_are_ways()
-    ensures { (layout : Layout) (program : List Insn) (c d : Config) →
-        ((i : Insn) → begins_at program c.slot ≡ Some i → NoMovedPointer i c.state) → step layout program c ≡ Some d →
-        Contains (ways layout program (shape_config c)) (shape_config d) }
-{}
-
-/// In a program without conditional jumps, and in which no pointer is moved by a register, the ways are the shapes of
-/// each run.
-pub fn straight_ways_are_runs()
-    ensures { (layout : Layout) (program : List Insn) (bytes : List ℕ) → HasNoBranch program →
-        MovesNoPointer layout program → IsRecord layout bytes → (n : ℕ) (d : Config) →
-        OnWay layout program n d ↔ IsRunShape layout program bytes n d }
+        (done_by layout i s ≡ effect layout i s) × (first_of (tests_of layout i s) ≡ fault_at layout i s) }
 {}
 
 /// A run has one end: one exit, or one place at which it is stuck.

@@ -6,7 +6,7 @@ use Rattle.insn.specs.declared.state.Value.{Value}
 use Rattle.insn.specs.FirstLook.{written_by}
 use Rattle.insn.specs.Program.{begins_at}
 use Rattle.insn.specs.Effects.{Effect, Falls, Jumps, Exits}
-use Rattle.insn.specs.Meaning.{effect}
+use Rattle.insn.specs.Outcomes.{effect}
 use Rattle.insn.specs.Step.{Reaches, steps}
 use Rattle.insn.specs.Values.{◌>>=◌, Config, start, value_of}
 use Rattle.machine.specs.declared.run.Outcome.{Outcome}

@@ -1,7 +1,8 @@
 //! The registers.
 
 ghost use Rattle.std.specs.Prelude.{◌≡◌, [], None, Some, false, if◌then◌else◌};
-ghost use Rattle.insn.specs.Values.{entry, number_of, set_register, value_of};
+ghost use Rattle.insn.specs.Values.{entry, set_register, value_of};
+ghost use Rattle.insn.specs.Workings.{number_of};
 
 use insn::register::RegNo;
 use insn::state::{Pointer, Region, STACK_SIZE, Value};

@@ -3,7 +3,8 @@
 ghost use Rattle.std.specs.Prelude.{◌≡◌};
 ghost use Rattle.insn.specs.Memory.{place_of};
 ghost use Rattle.insn.specs.Effects.{word_of};
-ghost use Rattle.insn.specs.Arithmetic.{moved_pointer as spec_moved, result_of};
+ghost use Rattle.insn.specs.Arithmetic.{moved_pointer as spec_moved};
+ghost use Rattle.insn.specs.Workings.{result_of};
 
 use insn::layout::Layout;
 use insn::operation::{BinOp, Width};

@@ -16,7 +16,7 @@ use Rattle.insn.specs.declared.verify_fault.WalkFault.TheVariants.{UnsetRegister
 use Rattle.insn.specs.Instruction.{size_bytes}
 use Rattle.insn.specs.Values.{region_size, writable_from, writable_to}
 use Rattle.insn.specs.Memory.{place_of, within, is_writable}
-use Rattle.insn.specs.Faults.{first_of}
+use Rattle.insn.specs.Tests.{first_of}
 use Rattle.reg_kind.specs.declared.span.Span.{Span}
 use Rattle.reg_kind.specs.declared.place.Place.{Place}
 use Rattle.reg_kind.specs.declared.reg.Reg.{Reg}

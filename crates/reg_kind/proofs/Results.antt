@@ -16,8 +16,8 @@ use Rattle.insn.specs.declared.verify_fault.WalkFault.{WalkFault}
 use Rattle.insn.specs.declared.verify_fault.WalkFault.TheVariants.{FallsOff, UnsetRegister, PointerMisuse, PointerRange}
 use Rattle.insn.specs.Word.{word_result}
 use Rattle.insn.specs.Values.{◌>>=◌, only_if, at, region_size}
-use Rattle.insn.specs.Arithmetic.{result_of}
-use Rattle.insn.specs.Faults.{◌otherwise◌, first_of, operation_tests}
+use Rattle.insn.specs.Workings.{result_of}
+use Rattle.insn.specs.Tests.{◌otherwise◌, first_of, operation_tests}
 use Rattle.scalar.specs.declared.scalar.Scalar.{Scalar}
 use Rattle.scalar.specs.Members.{InScalar, ShowsOne}
 use Rattle.scalar.specs.MemberLaws.{shows_one}

@@ -11,7 +11,7 @@ use Rattle.insn.specs.declared.verify_fault.WalkFault.TheVariants.{FallsOff, Uns
 use Rattle.insn.specs.Instruction.{size_bytes}
 use Rattle.insn.specs.Values.{region_size, writable_from, writable_to}
 use Rattle.insn.specs.Memory.{place_of, within, is_writable}
-use Rattle.insn.specs.Faults.{Test, ◌otherwise◌, first_of}
+use Rattle.insn.specs.Tests.{Test, ◌otherwise◌, first_of}
 use Rattle.reg_kind.specs.declared.reg.Reg.{Reg}
 use Rattle.reg_kind.specs.declared.reg.Reg.TheVariants.{Unset, Number, Record, Stack}
 use Rattle.reg_kind.specs.declared.span.Span.{Span}

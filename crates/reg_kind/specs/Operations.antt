@@ -13,8 +13,8 @@ use Rattle.insn.specs.declared.state.Value.TheVariants.{Number as IsNumber, Addr
 use Rattle.insn.specs.declared.verify_fault.WalkFault.{WalkFault}
 use Rattle.insn.specs.declared.verify_fault.WalkFault.TheVariants.{FallsOff, UnsetRegister, PointerMisuse, PointerRange}
 use Rattle.insn.specs.Values.{◌>>=◌, number_in, region_size}
-use Rattle.insn.specs.Arithmetic.{result_of}
-use Rattle.insn.specs.Faults.{first_of, number_tests, operation_tests}
+use Rattle.insn.specs.Workings.{result_of}
+use Rattle.insn.specs.Tests.{first_of, number_tests, operation_tests}
 use Rattle.range.specs.Domain.{unary_result, IsSoundResult, IsSoundImage, IsSingleResult, IsSingleImage}
 use Rattle.scalar.specs.declared.scalar.Scalar.{Scalar}
 use Rattle.scalar.specs.Members.{InScalar, ShowsOne}

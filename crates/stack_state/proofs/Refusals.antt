@@ -16,7 +16,7 @@ use Rattle.insn.specs.declared.verify_fault.WalkFault.TheVariants.{UnsetByte, Po
 use Rattle.insn.specs.Instruction.{size_bytes}
 use Rattle.insn.specs.Values.{State}
 use Rattle.insn.specs.Memory.{may_hold, value_in, written, is_unset}
-use Rattle.insn.specs.Faults.{first_of, read_tests, write_tests}
+use Rattle.insn.specs.Tests.{first_of, read_tests, write_tests}
 use Rattle.reg_kind.specs.declared.span.Span.{Span}
 use Rattle.reg_kind.specs.declared.reg.Reg.{Reg}
 use Rattle.reg_kind.specs.declared.reg.Reg.TheVariants as reg

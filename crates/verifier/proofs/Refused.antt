@@ -23,7 +23,8 @@ use Rattle.insn.specs.Instruction.{division_of, extended_bits, extended_width, o
 use Rattle.insn.specs.Values.{State, value_of}
 use Rattle.insn.specs.Effects.{operand_value}
 use Rattle.insn.specs.Arithmetic.{defined_result, left_operand}
-use Rattle.insn.specs.Faults.{Test as Check, fault_at, first_of, operated_tests, operation_tests, result_tests}
+use Rattle.insn.specs.Tests.{Test as Check, first_of, operated_tests, operation_tests, result_tests, tests_of}
+use Rattle.insn.specs.OutcomeLaws.{fault_is_first}
 use Rattle.reg_kind.specs.declared.reg.Reg.{Reg as Kind}
 use Rattle.reg_kind.specs.declared.reg.Reg.TheVariants as kind
 use Rattle.reg_kind.specs.declared.span.Span.{Span}
@@ -240,8 +241,8 @@ flow_refused (Ok a) flow fault e = absurd cc
 flow_refused (Err wrong) flow fault e = let same : wrong ≡ fault = cc in ap Err same
 
 module _ (layout : Layout) (old new : Known) (fault : WalkFault) (s : State) (f : StateFits false layout old s) where
-  seen : (i : Insn) (tests : State → List Check) → ((t : State) → first_of (tests t) ≡ fault_at layout i t) → Sees layout old tests fault → IsSeen layout i old fault
-  seen i tests same x = record { state = x.state; fits = x.fits; fails = sym (same x.state) ∙ x.fails }
+  seen : (i : Insn) (tests : State → List Check) → ((t : State) → first_of (tests t) ≡ first_of (tests_of layout i t)) → Sees layout old tests fault → IsSeen layout i old fault
+  seen i tests same x = record { state = x.state; fits = x.fits; fails = fault_is_first layout i x.state ∙ sym (same x.state) ∙ x.fails }
 
   pub outcome_seen : (i : Insn) → fault ≢ PointerRange → IsOutcome layout i old new (Err fault) → IsSeen layout i old fault
   outcome_seen (insn.Alu64Imm op dst imm) range h = seen (insn.Alu64Imm op dst imm) _ (λ t. refl) (operate_seen layout old s f W64 (operation_of op) dst (Imm imm) fault range h.0)

@@ -27,7 +27,7 @@ use Rattle.insn.specs.Instruction.{read_size, reg_number, size_bytes}
 use Rattle.insn.specs.Values.{State, at, region_size, value_of, writable_from, writable_to}
 use Rattle.insn.specs.Memory.{is_writable, within}
 use Rattle.insn.specs.Effects.{operand_value}
-use Rattle.insn.specs.Faults.{Test as Check, comparison_tests, first_of, load_tests, number_tests, store_tests, write_tests}
+use Rattle.insn.specs.Tests.{Test as Check, comparison_tests, first_of, load_tests, number_tests, store_tests, write_tests}
 use Rattle.scalar.specs.declared.scalar.Scalar.{Scalar}
 use Rattle.reg_kind.specs.declared.reg.Reg.{Reg as Kind}
 use Rattle.reg_kind.specs.declared.reg.Reg.TheVariants as kind

@@ -28,16 +28,17 @@ use Rattle.insn.specs.declared.state.Value.TheVariants.{Number, Address}
 use Rattle.insn.specs.declared.verify_fault.WalkFault.{WalkFault}
 use Rattle.insn.specs.declared.verify_fault.WalkFault.TheVariants.{ExitsWithPointer, OutOfRegion, PointerMisuse, ReadOnlyField, UnsetByte}
 use Rattle.insn.specs.Instruction.{division_of, extended_bits, extended_width, operation_of, read_bits, read_size, reg_number, remainder_of, size_bytes}
-use Rattle.insn.specs.Values.{◌>>=◌, State, number_in, pointer_in, pointer_of, region_size, value_of}
-use Rattle.insn.specs.Memory.{cells_at, is_writable, low_bytes, may_hold, number_spelled, place_of, read, value_in, with_value, within, write_value, loaded, stored}
+use Rattle.insn.specs.Values.{◌>>=◌, State, number_in, pointer_in, region_size, value_of}
+use Rattle.insn.specs.Workings.{done_by, pointer_of, read, write_value, loaded, stored, operated, result_of, branched}
+use Rattle.insn.specs.Memory.{cells_at, is_writable, low_bytes, may_hold, number_spelled, place_of, value_in, with_value, within}
 use Rattle.insn.specs.MemoryLaws.{each-written, length-low_bytes, length-written, low_bytes_fit}
 use Rattle.insn.specs.FaultLaws.{is_number}
 use Rattle.insn.specs.Effects.{Effect, Falls, Jumps, Exits, operand_value, sets, word_of}
-use Rattle.insn.specs.Arithmetic.{left_operand, operated, result_of}
-use Rattle.insn.specs.Jumps.{branched}
-use Rattle.insn.specs.Meaning.{effect}
-use Rattle.insn.specs.Shapes.{NoMovedPointer, both_ways, branch_of, effects, shape_of}
-use Rattle.insn.specs.Faults.{◌otherwise◌, comparison_tests, fault_at, first_of, load_tests, number_tests, operated_tests, operation_tests, store_tests, write_tests}
+use Rattle.insn.specs.Arithmetic.{left_operand}
+use Rattle.insn.specs.Outcomes.{fault_at}
+use Rattle.insn.specs.OutcomeLaws.{effect_is_done, fault_is_first}
+use Rattle.verifier.specs.Shapes.{NoMovedPointer, both_ways, branch_of, effects, shape_of}
+use Rattle.insn.specs.Tests.{◌otherwise◌, comparison_tests, first_of, load_tests, number_tests, operated_tests, operation_tests, store_tests, tests_of, write_tests}
 use Rattle.insn.specs.Word.{word_extended}
 use Rattle.range.specs.Domain.{unary_result}
 use Rattle.scalar.specs.declared.scalar.Scalar.{Scalar}
@@ -98,8 +99,8 @@ falls_shows layout after s (Some (Falls t)) h = blank_shown layout after t h
 falls_shows layout after s (Some (Jumps d t)) h = h
 falls_shows layout after s (Some (Exits r0)) h = h
 
-straight_shows : (layout : Layout) (i : Insn) (after : Known) (s : State) (r : Result Flow WalkFault) → branch_of i ≡ None → StraightShown layout after r (effect layout i s) → IsShownBy layout after r (effects layout i s)
-straight_shows layout i after s (Ok Next) none h = rw none (falls_shows layout after s (effect layout i s) h)
+straight_shows : (layout : Layout) (i : Insn) (after : Known) (s : State) (r : Result Flow WalkFault) → branch_of i ≡ None → StraightShown layout after r (done_by layout i s) → IsShownBy layout after r (effects layout i s)
+straight_shows layout i after s (Ok Next) none h = rw (none, effect_is_done layout i s) (falls_shows layout after s (done_by layout i s) h)
 straight_shows layout i after s (Ok (Jump d)) none h = absurd h
 straight_shows layout i after s (Ok (Branch d test)) none h = absurd h
 straight_shows layout i after s (Ok Exit) none h = absurd h
@@ -433,7 +434,7 @@ module _ (layout : Layout) (old : Known) (s : State) (f : StateShows layout old 
   jump_shown : (new : Known) (offset : ℤ) (r : Result Flow WalkFault) → Passes (Ok (Jump offset)) old new r → IsShownBy layout new r (Jumps offset s ∷ [])
   jump_shown new offset r h = rw (h.0, h.1) (refl, blank_shown layout old s f)
 
-  compares_shown : (i : Insn) (test : Test) (offset : ℤ) (new : Known) (r : Result Flow WalkFault) → Compares test offset old new r → branch_of i ≡ Some offset → effect layout i s ≡ branched s test.width test.cond test.left (operand_value s test.right) offset
+  compares_shown : (i : Insn) (test : Test) (offset : ℤ) (new : Known) (r : Result Flow WalkFault) → Compares test offset old new r → branch_of i ≡ Some offset → done_by layout i s ≡ branched s test.width test.cond test.left (operand_value s test.right) offset
       → first_of (comparison_tests (value_of s.registers test.left) (operand_value s test.right)) ≡ None → IsShownBy layout new r (effects layout i s)
   compares_shown i test offset new r h branch does passes =
       let n = two_numbers (value_of s.registers test.left) (operand_value s test.right) passes in
@@ -442,7 +443,7 @@ module _ (layout : Layout) (old : Known) (s : State) (f : StateShows layout old 
       let same : comparison_of (reg_of old test.left) h.0 ≡ Ok tt = rw (a.1, b.1) refl in
       let is : r ≡ Ok (Branch offset test) = h.2.0 ∙ ap (λ (x : Result Unit WalkFault). flow_where x (Branch offset test)) same in
       let answer = answered test s n in
-      rw (is, h.2.1, branch, does, by_answer test s offset answer.0 answer.1) (both answer.0) where
+      rw (is, h.2.1, branch, effect_is_done layout i s, does, by_answer test s offset answer.0 answer.1) (both answer.0) where
         both : (b : Bool) → FlowShows layout old (Branch offset test) (both_ways (Some offset) s (if b then Some (Jumps offset s) else Some (Falls s)))
         both true = (refl, blank_shown layout old s f, blank_shown layout old s f)
         both false = (refl, blank_shown layout old s f, blank_shown layout old s f)
@@ -457,27 +458,30 @@ module _ (layout : Layout) (old : Known) (s : State) (f : StateShows layout old 
   -- ---- each row
 
   module _ (new : Known) (r : Result Flow WalkFault) where
-    pub outcome_shown : (i : Insn) → IsOutcome layout i old new r → WritesNoR10 i → NoMovedPointer i s → fault_at layout i s ≡ None → IsShownBy layout new r (effects layout i s)
-    outcome_shown (insn.Alu64Imm op dst imm) h other plain p = straight_shows layout (insn.Alu64Imm op dst imm) new s r refl (operate_shown new dst (λ e. other (ap Some e)) W64 (operation_of op) (Imm imm) tt r h p)
-    outcome_shown (insn.Alu64Reg op dst src) h other plain p = straight_shows layout (insn.Alu64Reg op dst src) new s r refl (operate_shown new dst (λ e. other (ap Some e)) W64 (operation_of op) (Reg src) (moves_64 op dst src s plain) r h p)
-    outcome_shown (insn.Alu32Imm op dst imm) h other plain p = straight_shows layout (insn.Alu32Imm op dst imm) new s r refl (operate_shown new dst (λ e. other (ap Some e)) W32 (operation_of op) (Imm imm) tt r h p)
-    outcome_shown (insn.Alu32Reg op dst src) h other plain p = straight_shows layout (insn.Alu32Reg op dst src) new s r refl (operate_shown new dst (λ e. other (ap Some e)) W32 (operation_of op) (Reg src) tt r h p)
-    outcome_shown (insn.Divide w sign dst operand) h other plain p = straight_shows layout (insn.Divide w sign dst operand) new s r refl (operate_shown new dst (λ e. other (ap Some e)) w (division_of sign) operand (moves_division operand w sign dst s) r h p)
-    outcome_shown (insn.Remainder w sign dst operand) h other plain p = straight_shows layout (insn.Remainder w sign dst operand) new s r refl (operate_shown new dst (λ e. other (ap Some e)) w (remainder_of sign) operand (moves_remainder operand w sign dst s) r h p)
-    outcome_shown (insn.Negate w dst) h other plain p = straight_shows layout (insn.Negate w dst) new s r refl (image_shown new dst (λ e. other (ap Some e)) Neg w dst r h p)
-    outcome_shown (insn.MoveSigned x dst src) h other plain p = straight_shows layout (insn.MoveSigned x dst src) new s r refl (image_shown new dst (λ e. other (ap Some e)) (Extend (extended_bits x)) (extended_width x) src r h p)
-    outcome_shown (insn.SwapBytes by bits dst) h other plain p = straight_shows layout (insn.SwapBytes by bits dst) new s r refl (image_shown new dst (λ e. other (ap Some e)) (Swap by bits) W64 dst r h p)
-    outcome_shown (insn.LoadWide dst n) h other plain p = straight_shows layout (insn.LoadWide dst n) new s r refl (wide_shown new dst (λ e. other (ap Some e)) n r h)
-    outcome_shown (insn.Load size dst src offset) h other plain p = straight_shows layout (insn.Load size dst src offset) new s r refl (load_shown new dst (λ e. other (ap Some e)) src offset size r h p)
-    outcome_shown (insn.LoadSigned size dst src offset) h other plain p = straight_shows layout (insn.LoadSigned size dst src offset) new s r refl (signed_shown new dst (λ e. other (ap Some e)) src offset size r h p)
-    outcome_shown (insn.StoreReg size dst src offset) h other plain p = straight_shows layout (insn.StoreReg size dst src offset) new s r refl (stores_shown size dst offset (Reg src) new r h p)
-    outcome_shown (insn.StoreImm size dst offset imm) h other plain p = straight_shows layout (insn.StoreImm size dst offset imm) new s r refl (stores_shown size dst offset (Imm imm) new r h p)
-    outcome_shown (insn.Jump offset) h other plain p = jump_shown new offset r h
-    outcome_shown (insn.JumpLong offset) h other plain p = jump_shown new offset r h
-    outcome_shown (insn.Jump64IfImm cond dst offset imm) h other plain p =
+    passed_shown : (i : Insn) → IsOutcome layout i old new r → WritesNoR10 i → NoMovedPointer i s → first_of (tests_of layout i s) ≡ None → IsShownBy layout new r (effects layout i s)
+    passed_shown (insn.Alu64Imm op dst imm) h other plain p = straight_shows layout (insn.Alu64Imm op dst imm) new s r refl (operate_shown new dst (λ e. other (ap Some e)) W64 (operation_of op) (Imm imm) tt r h p)
+    passed_shown (insn.Alu64Reg op dst src) h other plain p = straight_shows layout (insn.Alu64Reg op dst src) new s r refl (operate_shown new dst (λ e. other (ap Some e)) W64 (operation_of op) (Reg src) (moves_64 op dst src s plain) r h p)
+    passed_shown (insn.Alu32Imm op dst imm) h other plain p = straight_shows layout (insn.Alu32Imm op dst imm) new s r refl (operate_shown new dst (λ e. other (ap Some e)) W32 (operation_of op) (Imm imm) tt r h p)
+    passed_shown (insn.Alu32Reg op dst src) h other plain p = straight_shows layout (insn.Alu32Reg op dst src) new s r refl (operate_shown new dst (λ e. other (ap Some e)) W32 (operation_of op) (Reg src) tt r h p)
+    passed_shown (insn.Divide w sign dst operand) h other plain p = straight_shows layout (insn.Divide w sign dst operand) new s r refl (operate_shown new dst (λ e. other (ap Some e)) w (division_of sign) operand (moves_division operand w sign dst s) r h p)
+    passed_shown (insn.Remainder w sign dst operand) h other plain p = straight_shows layout (insn.Remainder w sign dst operand) new s r refl (operate_shown new dst (λ e. other (ap Some e)) w (remainder_of sign) operand (moves_remainder operand w sign dst s) r h p)
+    passed_shown (insn.Negate w dst) h other plain p = straight_shows layout (insn.Negate w dst) new s r refl (image_shown new dst (λ e. other (ap Some e)) Neg w dst r h p)
+    passed_shown (insn.MoveSigned x dst src) h other plain p = straight_shows layout (insn.MoveSigned x dst src) new s r refl (image_shown new dst (λ e. other (ap Some e)) (Extend (extended_bits x)) (extended_width x) src r h p)
+    passed_shown (insn.SwapBytes by bits dst) h other plain p = straight_shows layout (insn.SwapBytes by bits dst) new s r refl (image_shown new dst (λ e. other (ap Some e)) (Swap by bits) W64 dst r h p)
+    passed_shown (insn.LoadWide dst n) h other plain p = straight_shows layout (insn.LoadWide dst n) new s r refl (wide_shown new dst (λ e. other (ap Some e)) n r h)
+    passed_shown (insn.Load size dst src offset) h other plain p = straight_shows layout (insn.Load size dst src offset) new s r refl (load_shown new dst (λ e. other (ap Some e)) src offset size r h p)
+    passed_shown (insn.LoadSigned size dst src offset) h other plain p = straight_shows layout (insn.LoadSigned size dst src offset) new s r refl (signed_shown new dst (λ e. other (ap Some e)) src offset size r h p)
+    passed_shown (insn.StoreReg size dst src offset) h other plain p = straight_shows layout (insn.StoreReg size dst src offset) new s r refl (stores_shown size dst offset (Reg src) new r h p)
+    passed_shown (insn.StoreImm size dst offset imm) h other plain p = straight_shows layout (insn.StoreImm size dst offset imm) new s r refl (stores_shown size dst offset (Imm imm) new r h p)
+    passed_shown (insn.Jump offset) h other plain p = jump_shown new offset r h
+    passed_shown (insn.JumpLong offset) h other plain p = jump_shown new offset r h
+    passed_shown (insn.Jump64IfImm cond dst offset imm) h other plain p =
         compares_shown (insn.Jump64IfImm cond dst offset imm) (record { cond = cond; width = W64; left = dst; right = Imm imm }) offset new r h refl refl (sym (number_alone (value_of s.registers dst) (cast_unsigned w64 imm)) ∙ p)
-    outcome_shown (insn.Jump64IfReg cond dst src offset) h other plain p = compares_shown (insn.Jump64IfReg cond dst src offset) (record { cond = cond; width = W64; left = dst; right = Reg src }) offset new r h refl refl p
-    outcome_shown (insn.Jump32IfImm cond dst offset imm) h other plain p =
+    passed_shown (insn.Jump64IfReg cond dst src offset) h other plain p = compares_shown (insn.Jump64IfReg cond dst src offset) (record { cond = cond; width = W64; left = dst; right = Reg src }) offset new r h refl refl p
+    passed_shown (insn.Jump32IfImm cond dst offset imm) h other plain p =
         compares_shown (insn.Jump32IfImm cond dst offset imm) (record { cond = cond; width = W32; left = dst; right = Imm imm }) offset new r h refl refl (sym (number_alone (value_of s.registers dst) (cast_unsigned w64 imm)) ∙ p)
-    outcome_shown (insn.Jump32IfReg cond dst src offset) h other plain p = compares_shown (insn.Jump32IfReg cond dst src offset) (record { cond = cond; width = W32; left = dst; right = Reg src }) offset new r h refl refl p
-    outcome_shown insn.Exit h other plain p = exit_shown new r h p
+    passed_shown (insn.Jump32IfReg cond dst src offset) h other plain p = compares_shown (insn.Jump32IfReg cond dst src offset) (record { cond = cond; width = W32; left = dst; right = Reg src }) offset new r h refl refl p
+    passed_shown insn.Exit h other plain p = exit_shown new r h p
+
+    pub outcome_shown : (i : Insn) → IsOutcome layout i old new r → WritesNoR10 i → NoMovedPointer i s → fault_at layout i s ≡ None → IsShownBy layout new r (effects layout i s)
+    outcome_shown i h other plain p = passed_shown i h other plain (sym (fault_is_first layout i s) ∙ p)

@@ -9,7 +9,7 @@ use Rattle.insn.specs.declared.state.Value.{Value}
 use Rattle.insn.specs.declared.state.Cell.{Cell}
 use Rattle.insn.specs.declared.state.Cell.TheVariants as cell
 use Rattle.insn.specs.Values.{State}
-use Rattle.insn.specs.Shapes.{blank_cell, blank_value, shape_of}
+use Rattle.verifier.specs.Shapes.{blank_cell, blank_value, shape_of}
 use Rattle.reg_kind.specs.declared.reg.Reg.{Reg as Kind}
 use Rattle.reg_kind.specs.declared.reg.Reg.TheVariants as kind
 use Rattle.stack_state.specs.declared.stack.Stack.{Stack}

@@ -16,7 +16,7 @@ use Rattle.insn.specs.Instruction.{slots_of}
 use Rattle.insn.specs.Program.{begins_at, slot_count}
 use Rattle.insn.specs.RunLaws.{StandsAt, begins_here, stands_behind}
 use Rattle.insn.specs.SlotLaws.{slots_of_bounds}
-use Rattle.insn.specs.Shapes.{blank_cell, effects, shape_config, shape_of}
+use Rattle.verifier.specs.Shapes.{blank_cell, effects, shape_config, shape_of}
 use Rattle.insn.specs.Effects.{Effect, Falls, Jumps, Exits}
 use Rattle.insn.specs.Step.{lead}
 use Rattle.insn.specs.Values.{Config, STACK_SIZE, State, entry, record_size}

@@ -13,9 +13,9 @@ use Rattle.insn.specs.declared.state.Cell.TheVariants as cell
 use Rattle.insn.specs.declared.state.Region.TheVariants.{Record, Stack}
 use Rattle.insn.specs.declared.state.Value.{Value}
 use Rattle.insn.specs.declared.state.Value.TheVariants.{Number, Address}
-use Rattle.insn.specs.Faults.{fault_at}
+use Rattle.insn.specs.Outcomes.{fault_at}
 use Rattle.insn.specs.Program.{begins_at, slot_count}
-use Rattle.insn.specs.Shapes.{NoMovedPointer, OnWay, Uniform, blank_cell, shape_config, shape_of, ways}
+use Rattle.verifier.specs.Shapes.{NoMovedPointer, OnWay, Uniform, blank_cell, shape_config, shape_of, ways}
 use Rattle.insn.specs.Values.{Config, STACK_SIZE, State, at, entry, record_size, start, value_of}
 use Rattle.verifier.specs.TypedPrograms.{IsTypedThoughNotUniform, dead_register}
 use Rattle.verifier.specs.Typing.{GoesTyped, HasTyping, IsNoMoreThan, MayCome}

@@ -8,17 +8,16 @@ use Rattle.std.proofs.lemmas.List.{length-drop}
 use Rattle.insn.specs.declared.instruction.Insn.{Insn}
 use Rattle.insn.specs.declared.layout.Layout.{Layout}
 use Rattle.insn.specs.declared.verify_fault.WalkFault.{WalkFault}
-use Rattle.insn.specs.FaultLaws.{stuck_is_named}
-use Rattle.insn.specs.Faults.{fault_at}
+use Rattle.insn.specs.OutcomeLaws.{stuck_is_named}
+use Rattle.insn.specs.Outcomes.{fault_at, effect}
 use Rattle.insn.specs.Refusals.{look_verdict}
 use Rattle.insn.specs.FirstLook.{first_found, look_fault}
 use Rattle.insn.specs.Instruction.{slots_of}
 use Rattle.insn.specs.Program.{begins_at, places, slot_count}
 use Rattle.insn.specs.RunLaws.{StandsAt, begins_here, stands_behind}
-use Rattle.insn.specs.Shapes.{OnWay, Uniform, effects, shape_config, ways, ways_from}
+use Rattle.verifier.specs.Shapes.{OnWay, Uniform, effects, shape_config, ways, ways_from}
 use Rattle.insn.specs.SlotLaws.{length-places, slots_of_bounds}
 use Rattle.insn.specs.Effects.{Effect}
-use Rattle.insn.specs.Meaning.{effect}
 use Rattle.insn.specs.Step.{lead}
 use Rattle.insn.specs.Values.{Config, State, record_size, start}
 use Rattle.verifier.specs.Follows.{WritesNoR10}

@@ -14,9 +14,9 @@ use Rattle.insn.specs.Instruction.{slots_of}
 use Rattle.insn.specs.Program.{begins_at, slot_count}
 use Rattle.insn.specs.RunLaws.{StandsAt, begins_along}
 use Rattle.insn.specs.SlotLaws.{nothing_inside}
-use Rattle.insn.specs.Shapes.{effects, shape_config, ways}
+use Rattle.verifier.specs.Shapes.{effects, shape_config, ways}
 use Rattle.insn.specs.Effects.{Effect}
-use Rattle.insn.specs.Meaning.{effect}
+use Rattle.insn.specs.Outcomes.{effect}
 use Rattle.insn.specs.Step.{lead}
 use Rattle.insn.specs.Values.{Config, State}
 use Rattle.verifier.specs.Follows.{WritesNoR10}

@@ -21,7 +21,7 @@ use Rattle.insn.specs.declared.verify_fault.WalkFault.{WalkFault}
 use Rattle.insn.specs.declared.verify_fault.WalkFault.TheVariants.{ExitsWithPointer, PointerMisuse, PointerRange, ReadOnlyField, UnsetRegister}
 use Rattle.insn.specs.Instruction.{division_of, extended_bits, extended_width, operation_of, read_bits, read_size, reg_number, remainder_of, size_bytes}
 use Rattle.insn.specs.Values.{State}
-use Rattle.insn.specs.Faults.{fault_at}
+use Rattle.insn.specs.Outcomes.{fault_at}
 use Rattle.reg_kind.specs.declared.place.Place.{Place}
 use Rattle.reg_kind.specs.declared.reg.Reg.{Reg as Kind}
 use Rattle.reg_kind.specs.declared.reg.Reg.TheVariants as kind

@@ -7,7 +7,7 @@ use Rattle.insn.specs.declared.operation.AluOp.TheVariants.{Mov}
 use Rattle.insn.specs.declared.operation.Cond.TheVariants.{Eq}
 use Rattle.insn.specs.declared.register.RegNo.TheVariants.{R0, R1, R2}
 use Rattle.insn.specs.Refusals.{look_verdict}
-use Rattle.insn.specs.Shapes.{IsStuckShape, OnWay, Uniform}
+use Rattle.verifier.specs.Shapes.{IsStuckShape, OnWay, Uniform}
 use Rattle.insn.specs.Values.{Config}
 use Rattle.verifier.specs.Typing.{HasTyping}
 

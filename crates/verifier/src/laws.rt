@@ -1,9 +1,36 @@
-//! Laws of typings: which programs have them.
+//! Laws of shapes and ways, and of typings: which programs have them.
 
-ghost use Rattle.std.specs.Prelude.{List};
+ghost use Rattle.std.specs.Prelude.{◌≡◌, ◌↔◌, ℕ, List, Some, Contains};
 ghost use Rattle.insn.specs.declared.instruction.Insn.{Insn};
 ghost use Rattle.insn.specs.declared.layout.Layout.{Layout};
+ghost use Rattle.insn.specs.Outcomes.{fault_at};
+ghost use Rattle.insn.specs.Program.{begins_at};
+ghost use Rattle.insn.specs.Step.{step};
+ghost use Rattle.insn.specs.Values.{Config, IsRecord, State};
+ghost use Rattle.verifier.specs.Shapes.{shape_config, shape_of, ways, HasNoBranch, IsRunShape, MovesNoPointer, NoMovedPointer, OnWay};
 ghost use Rattle.verifier.specs.TypedPrograms.{IsTypedThoughNotUniform, UniformIsTyped, dead_register};
+
+/// A state and its shape have the same fault, where no pointer is moved by a register.
+#[tactic(auto, using(crate::specs::ShapeLaws::same_fault))]
+pub fn shapes_have_the_faults_of_states()
+    ensures { (layout : Layout) (i : Insn) (s : State) → NoMovedPointer i s → fault_at layout i (shape_of s) ≡ fault_at layout i s }
+{}
+
+/// A step's shape is among the ways of the shape, where no pointer is moved by a register.
+#[tactic(auto, using(crate::specs::WayLaws::step_is_way))]
+pub fn steps_are_ways()
+    ensures { (layout : Layout) (program : List Insn) (c d : Config) →
+        ((i : Insn) → begins_at program c.slot ≡ Some i → NoMovedPointer i c.state) → step layout program c ≡ Some d →
+        Contains (ways layout program (shape_config c)) (shape_config d) }
+{}
+
+/// In a program without conditional jumps, and in which no pointer is moved by a register, the ways are the shapes of
+/// each run.
+pub fn straight_ways_are_runs()
+    ensures { (layout : Layout) (program : List Insn) (bytes : List ℕ) → HasNoBranch program →
+        MovesNoPointer layout program → IsRecord layout bytes → (n : ℕ) (d : Config) →
+        OnWay layout program n d ↔ IsRunShape layout program bytes n d }
+{}
 
 /// A uniform program in which the first look finds no fault, and on no way of which a shape is stuck, has a typing.
 pub fn uniform_programs_have_typings()

@@ -4,12 +4,14 @@ use Rattle.insn.specs.Program.{slot_count}
 use Rattle.insn.specs.Instruction.{Fits}
 use Rattle.encoding.specs.Spelling.{spelling}
 use Rattle.encoding.proofs.Spellings.{first_fault, goes_on, slot_count-push, AllByRecursion-push}
+use Rattle.encoding.proofs.Reading.{named_fault}
 use Rattle.encoding.proofs.decoding.insns_of.Goals as goal
 
 pub returns-in-Err-clause-fault : goal.returns-in-Err-clause-fault
 returns-in-Err-clause-fault c =
     rw c.at.ensures
-    (first_fault c.args.bytes.now c.loop-first.rest.now c.in-Some.behind.now c.loop-first.insns.items c.from_bytes.result c.loop-first.at c.in-Err.fault c.requires c.loop-first.invariant.fit c.from_bytes.ensures.fields c.loop-first.invariant.slots c.loop-first.invariant.so_far (c.from_bytes.ensures.bytes ∙ c.in-Some.ensures.cases.0) c.in-Some.ensures.cases.1 c.in-Err.ensures.fault)
+    (first_fault c.args.bytes.now c.loop-first.rest.now c.in-Some.behind.now c.loop-first.insns.items c.from_bytes.result c.loop-first.at c.in-Err.fault c.requires c.loop-first.invariant.fit c.from_bytes.ensures.fields c.loop-first.invariant.slots c.loop-first.invariant.so_far (c.from_bytes.ensures.bytes ∙ c.in-Some.ensures.cases.0) c.in-Some.ensures.cases.1
+    (named_fault c.from_bytes.result c.in-Some.behind.now c.in-Err.fault c.from_bytes.ensures.fields c.in-Err.ensures.fault))
 
 pub loop-first-preserved : goal.loop-first-preserved
 loop-first-preserved c =

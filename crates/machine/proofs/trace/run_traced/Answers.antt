@@ -1,4 +1,4 @@
-use Rattle.std.proofs.Common.{◌≡◌, ◌+◌, ◌∙◌, ap, sym, arith, rules, refl, FitsSigned, w32, length}
+use Rattle.std.proofs.Common.{◌≡◌, ◌∙◌, sym, arith, rules, refl, FitsSigned, w32, length}
 use Rattle.std.proofs.lemmas.Int.{to_z-of_z}
 use Rattle.machine.proofs.Runs.{inside, stuck_here, stuck_behind, jumps_nowhere}
 use Rattle.machine.proofs.Telling.{told_at_entry, told_exits, told_falls, told_jumps}

@@ -16,7 +16,8 @@ use Rattle.insn.specs.Instruction.{slots_of}
 use Rattle.insn.specs.Program.{begins_at}
 use Rattle.insn.specs.Values.{State, Config, value_of, record_size, start}
 use Rattle.insn.specs.Effects.{Effect, Falls, Jumps}
-use Rattle.insn.specs.Meaning.{Action, Branch, action_of, effect}
+use Rattle.insn.specs.Meaning.{Action, Branch, action_of}
+use Rattle.insn.specs.Outcomes.{effect}
 use Rattle.insn.specs.Step.{Reaches, lead, exit_at}
 
 -- A shape is a state in which each number and each byte is 0: it has lost its amount.

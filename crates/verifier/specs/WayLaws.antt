@@ -25,20 +25,20 @@ use Rattle.insn.specs.declared.state.Value.TheVariants.{Number, Address}
 use Rattle.insn.specs.declared.state.Cell.{Cell}
 use Rattle.insn.specs.declared.state.Cell.TheVariants.{Unset, Byte, Part}
 use Rattle.insn.specs.Instruction.{division_of, extended_bits, extended_width, operation_of, reg_number, remainder_of, read_bits, read_size, size_bytes, slots_of}
-use Rattle.insn.specs.Values.{◌>>=◌, only_if, Config, IsRecord, State, number_in, number_of, pointer_in, pointer_of, record_size, region_size, start, value_of}
-use Rattle.insn.specs.Memory.{cells_at, is_writable, low_bytes, may_hold, parts_of, place_of, read, value_in, with_number, with_value, within, write_value, written, loaded, stored}
+use Rattle.insn.specs.Values.{◌>>=◌, only_if, Config, IsRecord, State, number_in, pointer_in, record_size, region_size, start, value_of}
+use Rattle.insn.specs.Workings.{done_by, number_of, pointer_of, read, write_value, loaded, stored, operated, result_of}
+use Rattle.insn.specs.Memory.{cells_at, is_writable, low_bytes, may_hold, parts_of, place_of, value_in, with_number, with_value, within, written}
 use Rattle.insn.specs.Word.{word_extended, word_holds, word_negated, word_swapped}
 use Rattle.insn.specs.Effects.{Effect, Falls, Jumps, Exits, sets, word_of}
-use Rattle.insn.specs.Arithmetic.{defined_result, left_operand, operated, result_of}
+use Rattle.insn.specs.Arithmetic.{defined_result, left_operand}
 use Rattle.insn.specs.Jumps.{target}
-use Rattle.insn.specs.Meaning.{effect}
+use Rattle.insn.specs.Outcomes.{effect, fault_at}
 use Rattle.insn.specs.Step.{Reaches, lead, step, steps}
-use Rattle.insn.specs.Shapes.{HasNoBranch, MovesNoPointer, NoMovedPointer, IsPointer, IsRunShape, OnWay, blank_cell, blank_value, both_ways, branch_of, shape_config, shape_of, ways, ways_from}
+use Rattle.verifier.specs.Shapes.{HasNoBranch, MovesNoPointer, NoMovedPointer, IsPointer, IsRunShape, OnWay, blank_cell, blank_value, both_ways, branch_of, shape_config, shape_of, ways, ways_from}
 use Rattle.insn.specs.Program.{begins_at}
 use Rattle.insn.specs.FirstLook.{written_by}
-use Rattle.insn.specs.FaultLaws.{stuck_is_named}
-use Rattle.insn.specs.ShapeLaws.{Alike, blank, blank_result, imm_alike, left-shape, may_hold-blank, register_alike, same_fault, shape_cells_at, shape_value, unmoved_quotient, unmoved_remainder, unmoved_sum, value_in-blank}
-use Rattle.insn.specs.Faults.{fault_at}
+use Rattle.insn.specs.OutcomeLaws.{effect_is_done, stuck_is_named}
+use Rattle.verifier.specs.ShapeLaws.{Alike, blank, blank_result, imm_alike, left-shape, may_hold-blank, register_alike, same_fault, shape_cells_at, shape_value, unmoved_quotient, unmoved_remainder, unmoved_sum, value_in-blank}
 
 -- ---- shapes of shapes
 
@@ -229,33 +229,36 @@ by_exit (Some (Number n)) = refl
 by_exit (Some (Address p)) = refl
 
 -- an instruction that is no conditional jump does to a shape what it does to the state, but for amounts
-pub effect-shape : (layout : Layout) (i : Insn) (s : State) → NoMovedPointer i s → branch_of i ≡ None → SameEffect (effect layout i (shape_of s)) (effect layout i s)
-effect-shape layout (Alu64Imm op dst imm) s h none = operated-shape layout s dst W64 (operation_of op) (Some (word_of imm)) (Some (word_of imm)) (imm_alike layout W64 (operation_of op) (left_operand (operation_of op) s dst) (cast_unsigned w64 imm))
-effect-shape layout (Alu64Reg op dst src) s h none = operated-shape layout s dst W64 (operation_of op) (value_of s.registers src) (value_of (shape_of s).registers src) (register_alike layout s W64 (operation_of op) (left_operand (operation_of op) s dst) src (unmoved_sum op s dst src h))
-effect-shape layout (Alu32Imm op dst imm) s h none = operated-shape layout s dst W32 (operation_of op) (Some (word_of imm)) (Some (word_of imm)) (imm_alike layout W32 (operation_of op) (left_operand (operation_of op) s dst) (cast_unsigned w64 imm))
-effect-shape layout (Alu32Reg op dst src) s h none = operated-shape layout s dst W32 (operation_of op) (value_of s.registers src) (value_of (shape_of s).registers src) (register_alike layout s W32 (operation_of op) (left_operand (operation_of op) s dst) src (λ x y e f. tt))
-effect-shape layout (Divide width signedness dst (Imm imm)) s h none = operated-shape layout s dst width (division_of signedness) (Some (word_of imm)) (Some (word_of imm)) (imm_alike layout width (division_of signedness) (left_operand (division_of signedness) s dst) (cast_unsigned w64 imm))
-effect-shape layout (Divide width signedness dst (Reg src)) s h none = operated-shape layout s dst width (division_of signedness) (value_of s.registers src) (value_of (shape_of s).registers src) (register_alike layout s width (division_of signedness) (left_operand (division_of signedness) s dst) src (λ x y e f. unmoved_quotient width signedness x y))
-effect-shape layout (Remainder width signedness dst (Imm imm)) s h none = operated-shape layout s dst width (remainder_of signedness) (Some (word_of imm)) (Some (word_of imm)) (imm_alike layout width (remainder_of signedness) (left_operand (remainder_of signedness) s dst) (cast_unsigned w64 imm))
-effect-shape layout (Remainder width signedness dst (Reg src)) s h none = operated-shape layout s dst width (remainder_of signedness) (value_of s.registers src) (value_of (shape_of s).registers src) (register_alike layout s width (remainder_of signedness) (left_operand (remainder_of signedness) s dst) src (λ x y e f. unmoved_remainder width signedness x y))
-effect-shape layout (Negate width dst) s h none = number-shape layout s dst dst (word_negated width)
-effect-shape layout (MoveSigned extension dst src) s h none = number-shape layout s dst src (word_extended (extended_width extension) (extended_bits extension))
-effect-shape layout (SwapBytes kind bits dst) s h none = number-shape layout s dst dst (word_swapped kind bits)
-effect-shape layout (LoadWide dst value) s h none = sets-shape s dst (Number value) (Number value) refl
-effect-shape layout (Load size dst src offset) s h none = ap (λ (o : Option Value). option_map blank_effect (o >>= λ v. sets (shape_of s) dst v)) (loaded-shape layout s size src offset) ∙ by_loaded layout s dst (loaded layout s size src offset)
-effect-shape layout (LoadSigned size dst src offset) s h none =
+done-shape : (layout : Layout) (i : Insn) (s : State) → NoMovedPointer i s → branch_of i ≡ None → SameEffect (done_by layout i (shape_of s)) (done_by layout i s)
+done-shape layout (Alu64Imm op dst imm) s h none = operated-shape layout s dst W64 (operation_of op) (Some (word_of imm)) (Some (word_of imm)) (imm_alike layout W64 (operation_of op) (left_operand (operation_of op) s dst) (cast_unsigned w64 imm))
+done-shape layout (Alu64Reg op dst src) s h none = operated-shape layout s dst W64 (operation_of op) (value_of s.registers src) (value_of (shape_of s).registers src) (register_alike layout s W64 (operation_of op) (left_operand (operation_of op) s dst) src (unmoved_sum op s dst src h))
+done-shape layout (Alu32Imm op dst imm) s h none = operated-shape layout s dst W32 (operation_of op) (Some (word_of imm)) (Some (word_of imm)) (imm_alike layout W32 (operation_of op) (left_operand (operation_of op) s dst) (cast_unsigned w64 imm))
+done-shape layout (Alu32Reg op dst src) s h none = operated-shape layout s dst W32 (operation_of op) (value_of s.registers src) (value_of (shape_of s).registers src) (register_alike layout s W32 (operation_of op) (left_operand (operation_of op) s dst) src (λ x y e f. tt))
+done-shape layout (Divide width signedness dst (Imm imm)) s h none = operated-shape layout s dst width (division_of signedness) (Some (word_of imm)) (Some (word_of imm)) (imm_alike layout width (division_of signedness) (left_operand (division_of signedness) s dst) (cast_unsigned w64 imm))
+done-shape layout (Divide width signedness dst (Reg src)) s h none = operated-shape layout s dst width (division_of signedness) (value_of s.registers src) (value_of (shape_of s).registers src) (register_alike layout s width (division_of signedness) (left_operand (division_of signedness) s dst) src (λ x y e f. unmoved_quotient width signedness x y))
+done-shape layout (Remainder width signedness dst (Imm imm)) s h none = operated-shape layout s dst width (remainder_of signedness) (Some (word_of imm)) (Some (word_of imm)) (imm_alike layout width (remainder_of signedness) (left_operand (remainder_of signedness) s dst) (cast_unsigned w64 imm))
+done-shape layout (Remainder width signedness dst (Reg src)) s h none = operated-shape layout s dst width (remainder_of signedness) (value_of s.registers src) (value_of (shape_of s).registers src) (register_alike layout s width (remainder_of signedness) (left_operand (remainder_of signedness) s dst) src (λ x y e f. unmoved_remainder width signedness x y))
+done-shape layout (Negate width dst) s h none = number-shape layout s dst dst (word_negated width)
+done-shape layout (MoveSigned extension dst src) s h none = number-shape layout s dst src (word_extended (extended_width extension) (extended_bits extension))
+done-shape layout (SwapBytes kind bits dst) s h none = number-shape layout s dst dst (word_swapped kind bits)
+done-shape layout (LoadWide dst value) s h none = sets-shape s dst (Number value) (Number value) refl
+done-shape layout (Load size dst src offset) s h none = ap (λ (o : Option Value). option_map blank_effect (o >>= λ v. sets (shape_of s) dst v)) (loaded-shape layout s size src offset) ∙ by_loaded layout s dst (loaded layout s size src offset)
+done-shape layout (LoadSigned size dst src offset) s h none =
     ap (λ (o : Option Value). option_map blank_effect (o >>= λ v. number_in v >>= λ a. sets (shape_of s) dst (Number (word_extended W64 (read_bits size) a)))) (loaded-shape layout s (read_size size) src offset)
     ∙ by_signed layout s dst (loaded layout s (read_size size) src offset) (word_extended W64 (read_bits size))
-effect-shape layout (StoreReg size dst src offset) s h none =
+done-shape layout (StoreReg size dst src offset) s h none =
     stored-shape layout s size offset dst (value_of s.registers src) (value_of (shape_of s).registers src) (ap blank (shape_value s src) ∙ blank_twice (value_of s.registers src))
-effect-shape layout (StoreImm size dst offset imm) s h none = stored-shape layout s size offset dst (Some (word_of imm)) (Some (word_of imm)) refl
-effect-shape layout (Jump offset) s h none = ap (λ (t : State). Some (Jumps offset t)) (shape_twice s)
-effect-shape layout (JumpLong offset) s h none = ap (λ (t : State). Some (Jumps offset t)) (shape_twice s)
-effect-shape layout (Jump64IfImm cond dst offset imm) s h none = absurd cc
-effect-shape layout (Jump64IfReg cond dst src offset) s h none = absurd cc
-effect-shape layout (Jump32IfImm cond dst offset imm) s h none = absurd cc
-effect-shape layout (Jump32IfReg cond dst src offset) s h none = absurd cc
-effect-shape layout Exit s h none = ap (λ (o : Option Value). option_map blank_effect ((o >>= number_in) >>= λ r0. Some (Exits r0))) (shape_value s R0) ∙ by_exit (value_of s.registers R0)
+done-shape layout (StoreImm size dst offset imm) s h none = stored-shape layout s size offset dst (Some (word_of imm)) (Some (word_of imm)) refl
+done-shape layout (Jump offset) s h none = ap (λ (t : State). Some (Jumps offset t)) (shape_twice s)
+done-shape layout (JumpLong offset) s h none = ap (λ (t : State). Some (Jumps offset t)) (shape_twice s)
+done-shape layout (Jump64IfImm cond dst offset imm) s h none = absurd cc
+done-shape layout (Jump64IfReg cond dst src offset) s h none = absurd cc
+done-shape layout (Jump32IfImm cond dst offset imm) s h none = absurd cc
+done-shape layout (Jump32IfReg cond dst src offset) s h none = absurd cc
+done-shape layout Exit s h none = ap (λ (o : Option Value). option_map blank_effect ((o >>= number_in) >>= λ r0. Some (Exits r0))) (shape_value s R0) ∙ by_exit (value_of s.registers R0)
+
+pub effect-shape : (layout : Layout) (i : Insn) (s : State) → NoMovedPointer i s → branch_of i ≡ None → SameEffect (effect layout i (shape_of s)) (effect layout i s)
+effect-shape layout i s h none = rw (effect_is_done layout i (shape_of s), effect_is_done layout i s) (done-shape layout i s h none)
 
 -- ---- ways
 
@@ -315,12 +318,15 @@ branched_either s w cond d (Some a) (Some (Number b)) e h = one_or_other (word_h
 branched_either s w cond d (Some a) (Some (Address q)) e h = absurd cc
 
 -- a conditional jump goes on behind it, or jumps
+either_done : (layout : Layout) (i : Insn) (s : State) (d : ℤ) (e : Effect) → branch_of i ≡ Some d → done_by layout i s ≡ Some e → (e ≡ Falls s) ⊎ (e ≡ Jumps d s)
+either_done layout (Jump64IfImm cond dst offset imm) s d e is h = let same : offset ≡ d = cc in rw (← same) (branched_either s W64 cond offset (number_of s.registers dst) (Some (word_of imm)) e h)
+either_done layout (Jump64IfReg cond dst src offset) s d e is h = let same : offset ≡ d = cc in rw (← same) (branched_either s W64 cond offset (number_of s.registers dst) (value_of s.registers src) e h)
+either_done layout (Jump32IfImm cond dst offset imm) s d e is h = let same : offset ≡ d = cc in rw (← same) (branched_either s W32 cond offset (number_of s.registers dst) (Some (word_of imm)) e h)
+either_done layout (Jump32IfReg cond dst src offset) s d e is h = let same : offset ≡ d = cc in rw (← same) (branched_either s W32 cond offset (number_of s.registers dst) (value_of s.registers src) e h)
+either_done layout i s d e is h = absurd cc
+
 either_effect : (layout : Layout) (i : Insn) (s : State) (d : ℤ) (e : Effect) → branch_of i ≡ Some d → effect layout i s ≡ Some e → (e ≡ Falls s) ⊎ (e ≡ Jumps d s)
-either_effect layout (Jump64IfImm cond dst offset imm) s d e is h = let same : offset ≡ d = cc in rw (← same) (branched_either s W64 cond offset (number_of s.registers dst) (Some (word_of imm)) e h)
-either_effect layout (Jump64IfReg cond dst src offset) s d e is h = let same : offset ≡ d = cc in rw (← same) (branched_either s W64 cond offset (number_of s.registers dst) (value_of s.registers src) e h)
-either_effect layout (Jump32IfImm cond dst offset imm) s d e is h = let same : offset ≡ d = cc in rw (← same) (branched_either s W32 cond offset (number_of s.registers dst) (Some (word_of imm)) e h)
-either_effect layout (Jump32IfReg cond dst src offset) s d e is h = let same : offset ≡ d = cc in rw (← same) (branched_either s W32 cond offset (number_of s.registers dst) (value_of s.registers src) e h)
-either_effect layout i s d e is h = absurd cc
+either_effect layout i s d e is h = either_done layout i s d e is (sym (effect_is_done layout i s) ∙ h)
 
 writes_nothing : (i : Insn) (d : ℤ) → branch_of i ≡ Some d → written_by i ≢ Some R10
 writes_nothing (Jump64IfImm cond dst offset imm) d is = λ e. absurd cc

@@ -35,8 +35,10 @@ use Rattle.insn.specs.Values.{only_if, State, cells_of, region_size, value_of}
 use Rattle.insn.specs.Memory.{are_parts, cells_at, may_hold, number_spelled, place_of, same_pointer, value_in, within, is_unset}
 use Rattle.insn.specs.Effects.{word_of}
 use Rattle.insn.specs.Arithmetic.{defined_result, left_operand}
-use Rattle.insn.specs.Shapes.{NoMovedPointer, blank_cell, blank_value, shape_of}
-use Rattle.insn.specs.Faults.{comparison_tests, fault_at, first_of, load_tests, number_tests, operated_tests, operation_tests, read_tests, result_tests, store_tests, tests_of, write_tests}
+use Rattle.verifier.specs.Shapes.{NoMovedPointer, blank_cell, blank_value, shape_of}
+use Rattle.insn.specs.Tests.{comparison_tests, first_of, load_tests, number_tests, operated_tests, operation_tests, read_tests, result_tests, store_tests, tests_of, write_tests}
+use Rattle.insn.specs.Outcomes.{fault_at}
+use Rattle.insn.specs.OutcomeLaws.{fault_is_first}
 
 -- ---- what a shape holds
 
@@ -290,4 +292,4 @@ tests-shape layout Exit s h = number_tests-shape s R0 ExitsWithPointer
 
 -- a state and its shape have the same fault
 pub same_fault : (layout : Layout) (i : Insn) (s : State) → NoMovedPointer i s → fault_at layout i (shape_of s) ≡ fault_at layout i s
-same_fault layout i s h = ap first_of (tests-shape layout i s h)
+same_fault layout i s h = rw (fault_is_first layout i (shape_of s), fault_is_first layout i s) (ap first_of (tests-shape layout i s h))

@@ -1,5 +1,0 @@
-use Rattle.insn.specs.WayLaws.{ways_are_run}
-use Rattle.insn.proofs.laws.straight_ways_are_runs.Goals as goal
-
-pub returns : goal.returns
-returns c = ways_are_run
