@@ -15,15 +15,13 @@ use Rattle.consent.specs.HistoryLaws.{grant_at-placed, grant_at-kin, is_history-
 use Rattle.consent.specs.GrowthLaws.{grant_at-keep, is_taken-parts, is_taken-push}
 use Rattle.consent.specs.declared.grant.TokenKind.TheVariants.{Access}
 use Rattle.hook_record.specs.declared.Kind.TheVariants as kind
-use Rattle.hook_record.specs.declared.Narrowed.{Narrowed}
-use Rattle.hook_record.specs.declared.Narrowed.TheVariants.{Allowed, Denied, EmptyScope}
 use Rattle.pkce.specs.Proof.{proves}
 use Rattle.messages.specs.declared.error.ErrorName.TheVariants.{InvalidRequest, InvalidGrant, InvalidScope, UnauthorizedClient, UnsupportedGrantType}
 use Rattle.messages.specs.Asked.{Asked}
 use Rattle.answers.specs.FollowsLaws.{ChangesFollow, there, by_need, error, by_point, by_left, unless_taken, client_follows}
-use Rattle.answers.specs.Outcomes.{Extent, Outcome, point, need, refuse}
+use Rattle.answers.specs.Outcomes.{Extent, Outcome, refuse}
 use Rattle.answers.specs.Replies.{access_reply, both_reply}
-use Rattle.answers.specs.Requesters.{Parameters, KnownClient, scope_within, form_of, with_client}
+use Rattle.answers.specs.Requesters.{Parameters, KnownClient, scope_within, form_of}
 use Rattle.answers.specs.Setting.{Setting}
 use Rattle.answers.specs.Texts.{digest_told}
 use Rattle.answers.specs.Tokens.{is_own, is_refresh, code_of_client, refresh_of_client}

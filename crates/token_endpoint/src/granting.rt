@@ -90,7 +90,8 @@ pub(crate) fn access_for<'c>(
     scope: u64,
     life: u32,
 ) -> Decision<'c>
-    ensures decides { DecidesOf view.now digest.now used.now (Ok result) (λ s used. access_for s used (record { scope = scope; life = life })) }
+    ensures decides { DecidesOf view.now digest.now used.now (Ok result)
+        (λ s used. access_for s used (record { scope = scope; life = life })) }
     ensures short { IsShortAnswer result.answer }
 {
     let token = access_token(view, scope, life);
@@ -119,7 +120,8 @@ pub(crate) fn both_for<'c>(
     life: u32,
     kept: u64,
 ) -> Decision<'c>
-    ensures decides { DecidesOf view.now digest.now used.now (Ok result) (λ s used. both_for s used (record { scope = scope; life = life }) kept) }
+    ensures decides { DecidesOf view.now digest.now used.now (Ok result)
+        (λ s used. both_for s used (record { scope = scope; life = life }) kept) }
     ensures short { IsShortAnswer result.answer }
 {
     let token = access_token(view, scope, life);
