@@ -1,5 +1,5 @@
 -- What POST /token does is right.
-use Rattle.std.proofs.Common.{◌≡◌, ℕ, List, [], true, false, Some, refl}
+use Rattle.std.proofs.Common.{◌≡◌, ℕ, List, [], true, Some, refl}
 use Rattle.std.specs.Prelude.{◌==◌, not, codes, bytes_eq}
 use Rattle.std.proofs.lemmas.Bool.{and_parts}
 use Rattle.params.specs.Form.{value_sent}
@@ -9,7 +9,7 @@ use Rattle.clients.specs.Grants.{grant_named, has_grant}
 use Rattle.clients.specs.declared.grant.GrantType.{GrantType}
 use Rattle.clients.specs.declared.grant.GrantType.TheVariants.{AuthorizationCode, RefreshToken, ClientCredentials}
 use Rattle.consent.specs.CoveredLaws.{is_within-self, is_within-trans}
-use Rattle.consent.specs.History.{Grant, grant_at, is_code, is_within, has_ended, is_spent, IsHistory}
+use Rattle.consent.specs.History.{Grant, grant_at, is_code, has_ended, is_spent, IsHistory}
 use Rattle.consent.specs.HistoryLaws.{code_terms-of_code}
 use Rattle.consent.specs.declared.grant.Kind.{Kind}
 use Rattle.consent.specs.declared.grant.Kind.TheVariants.{Code, Token}

@@ -11,7 +11,7 @@ use Rattle.clients.specs.ClientRecord.{ClientRecord}
 use Rattle.clients.specs.Grants.{has_grant, grant_named}
 use Rattle.clients.specs.declared.grant.GrantType.{GrantType}
 use Rattle.clients.specs.declared.grant.GrantType.TheVariants.{AuthorizationCode, RefreshToken}
-use Rattle.consent.specs.History.{Event, Change, event_at, Grant, grants, grant_at, spends, is_spent, has_ended, is_taken}
+use Rattle.consent.specs.History.{Event, Change, event_at, Grant, grants, grant_at, spends, is_spent, has_ended}
 use Rattle.consent.specs.History.Change.{Spent}
 use Rattle.consent.specs.GrowthLaws.{is_taken-parts}
 use Rattle.hook_record.specs.declared.Kind.TheVariants as kind
