@@ -22,14 +22,14 @@ use Rattle.answers.specs.Replies.{reply_of}
 use Rattle.endpoints.specs.declared.endpoint.Endpoint.{Endpoint}
 use Rattle.endpoints.specs.declared.ruling.Ruling.{Ruling}
 use Rattle.endpoints.specs.HookPaths.{hook_change_at}
-use Rattle.endpoints.specs.Hosts.{IsHostFault}
+use Rattle.endpoints.specs.Hosts.{IsHostFault, says_with}
 use Rattle.endpoints.specs.Making.{IsSame, Makes, StandsAlone}
 use Rattle.endpoints.specs.Noting.{with_notes}
 use Rattle.endpoints.specs.Bounded.{AllRightAfter}
 use Rattle.endpoints.specs.Ruling.{CanMakeAll}
 use Rattle.endpoints.specs.Paths.{endpoint_at, method_at}
 use Rattle.endpoints.specs.Replies.{request_outcome, hook_change}
-use Rattle.endpoints.specs.Rulings.{AnswersRequest, Asking, FitsNow, IsRuling, comes_to, says_with, setting_now}
+use Rattle.endpoints.specs.Rulings.{AnswersRequest, Asking, FitsNow, IsRuling, comes_to, setting_now}
 use Rattle.endpoints.specs.Server.{SeenServer, FitsServer, AreUnkept, AreNoted, IsStep}
 use Rattle.endpoints.proofs.Ruled.{told_changes, told_reply}
 

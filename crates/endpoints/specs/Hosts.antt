@@ -1,10 +1,16 @@
--- What the server asks of a host of hooks, and how the host comes from the first one.
+-- What a host of hooks says to a server, and how it comes from the first one.
 use Rattle.std.specs.Prelude.{◌≡◌, ℕ, List, [], ◌∷◌, Option, Some, None}
 use Rattle.insn.specs.declared.layout.Layout.{Layout}
 use Rattle.hook_host.specs.declared.fault.HookFault.{HookFault}
+use Rattle.hook_host.specs.declared.host.HookHost.{Ghosts as Hosting}
 use Rattle.hook_host.specs.Versions.{layout_of}
 use Rattle.consent.specs.History.{Event, Change}
 use Rattle.consent.specs.History.Change.{Consented, CodeGiven, Issued, Spent, FamilyEnded, HookSet, HookGone}
+use Rattle.answers.specs.Setting.{HostSays}
+
+-- what a host says, with this fault for the change that is asked for
+abbrev pub says_with : {H : Type 0} → Hosting H → H → Option HookFault → HostSays
+says_with hosting host fault = record { answer = hosting.answer host; names = hosting.names host; fault = fault }
 
 -- THE HOST'S OWN FAULTS
 

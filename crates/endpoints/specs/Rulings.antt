@@ -9,7 +9,7 @@ use Rattle.messages.specs.Written.{Written, in_writing}
 use Rattle.messages.specs.declared.request.Draws.{Draws}
 use Rattle.answers.specs.Halts.{Halts}
 use Rattle.answers.specs.Outcomes.{Outcome, refuse}
-use Rattle.answers.specs.Setting.{HostSays, Setting}
+use Rattle.answers.specs.Setting.{Setting}
 use Rattle.answers.specs.Short.{IsShortReply}
 use Rattle.answers.specs.Told.{Decides, outcome_told}
 use Rattle.answers.specs.declared.decision.Decision.{Decision}
@@ -21,7 +21,7 @@ use Rattle.endpoints.specs.declared.reading.Reading.TheVariants.{InstallHook, Re
 use Rattle.endpoints.specs.declared.ruling.Ruling.{Ruling}
 use Rattle.endpoints.specs.Bounded.{AllRightAfter}
 use Rattle.endpoints.specs.HookPaths.{hook_change_at}
-use Rattle.endpoints.specs.Hosts.{IsHostFault}
+use Rattle.endpoints.specs.Hosts.{IsHostFault, says_with}
 use Rattle.endpoints.specs.Making.{StandsAlone, IsSame}
 use Rattle.endpoints.specs.Reading.{endpoint_of}
 use Rattle.endpoints.specs.Replies.{outcome_at}
@@ -41,10 +41,6 @@ asking_of asked reading draws = record { endpoint = endpoint_of reading; asked =
 abbrev pub FitsNow : {H : Type 0} → Hosting H → SeenServer H → H → List Event → Type 0
 FitsNow hosting server first history =
     FitsServer hosting.installs hosting.removes server server.rules first history server.greatest
-
--- what the host says, with this fault for the change that is asked for
-abbrev pub says_with : {H : Type 0} → Hosting H → H → Option HookFault → HostSays
-says_with hosting host fault = record { answer = hosting.answer host; names = hosting.names host; fault = fault }
 
 -- what a decision is taken in, where the host has this fault
 abbrev pub setting_now : {H : Type 0} → Hosting H → SeenServer H → List Event → Draws → Option HookFault → Setting

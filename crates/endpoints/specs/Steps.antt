@@ -8,9 +8,8 @@ use Rattle.messages.specs.Asked.{Asked}
 use Rattle.messages.specs.Written.{Written}
 use Rattle.messages.specs.declared.request.Draws.{Draws}
 use Rattle.endpoints.specs.Bounded.{IsBounded}
-use Rattle.endpoints.specs.Hosts.{IsHostFault}
+use Rattle.endpoints.specs.Hosts.{IsHostFault, says_with}
 use Rattle.endpoints.specs.Replies.{request_outcome, hook_change}
-use Rattle.endpoints.specs.Rulings.{says_with}
 use Rattle.endpoints.specs.Server.{SeenServer, FitsServer, IsStep}
 
 -- a request as it comes: what it asks, when, and the random bytes of what its reply may give

@@ -11,12 +11,11 @@ use Rattle.messages.specs.declared.request.Draws.{Draws}
 use Rattle.messages.specs.Asked.{Asked}
 use Rattle.messages.specs.Written.{Written, in_writing, reply_bytes}
 use Rattle.answers.specs.Outcomes.{Outcome}
-use Rattle.endpoints.specs.Hosts.{IsHostFault}
+use Rattle.endpoints.specs.Hosts.{IsHostFault, says_with}
 use Rattle.endpoints.specs.Replies.{request_outcome, hook_change}
-use Rattle.endpoints.specs.Rulings.{says_with}
 use Rattle.endpoints.specs.Server.{SeenServer, FitsServer, AreNoted, IsStep}
 use Rattle.heads.specs.Message.{Message, asked_of_message}
-use Rattle.http_edge.specs.Answers.{AnswerMark, says, IsOutcomeOfRequest, AreAnswered, changes_made, replies_of}
+use Rattle.http_edge.specs.Answers.{AnswerMark, IsOutcomeOfRequest, AreAnswered, changes_made, replies_of}
 use Rattle.http_edge.specs.Schedule.{moment_after}
 use Rattle.http_edge.specs.Heard.{AreMessagesServed, IsStillNone, IsHeard}
 
@@ -80,7 +79,7 @@ served_more hosting before server server' output out rules first history g m mom
     let o : Outcome = request_outcome step.0 (record {
       rules = rules;
       history = h;
-      host = says hosting server.host mark;
+      host = says_with hosting server.host step.1;
       moment = m;
       draws = get_or draws (length messages) d;
     }) (asked_of_message message) in

@@ -9,8 +9,7 @@ use Rattle.messages.specs.declared.request.Draws.{Draws}
 use Rattle.messages.specs.Asked.{Asked}
 use Rattle.messages.specs.Written.{in_writing, reply_bytes}
 use Rattle.answers.specs.Outcomes.{Outcome}
-use Rattle.answers.specs.Setting.{HostSays}
-use Rattle.endpoints.specs.Hosts.{HostRun, IsHostFault}
+use Rattle.endpoints.specs.Hosts.{HostRun, IsHostFault, says_with}
 use Rattle.endpoints.specs.Replies.{request_outcome, hook_change}
 
 -- what is free in the answer to a request: whether memory was refused for it at its endpoint, and the fault, if any, that the host had
@@ -18,10 +17,6 @@ use Rattle.endpoints.specs.Replies.{request_outcome, hook_change}
 pub record AnswerMark : Type 0 where
   pub refused : Bool
   pub fault : Option HookFault
-
--- what a host says at a request
-abbrev pub says : {H : Type 0} → Hosting H → H → AnswerMark → HostSays
-says hosting host mark = record { answer = hosting.answer host; names = hosting.names host; fault = mark.fault }
 
 -- the request has this outcome at the history, by what a host says that comes of the first one by that history
 pub record IsOutcomeOfRequest {H : Type 0} (hosting : Hosting H) (rules : RegistryRecord) (first : H) (m : ℕ) (history : List Event) (asked : Asked)
@@ -32,7 +27,7 @@ pub record IsOutcomeOfRequest {H : Type 0} (hosting : Hosting H) (rules : Regist
   pub outcome_is : outcome' ≡ request_outcome mark.refused (record {
     rules = rules;
     history = history;
-    host = says hosting host mark;
+    host = says_with hosting host mark.fault;
     moment = m;
     draws = draws;
   }) asked
