@@ -20,7 +20,7 @@ none_named history digest m is = by_grant (grant_at history digest m) is
     by_grant (Some g) h = absurd (cc)
 
 -- what is named is under its digest
-under_digest : (history : List Event) (digest : List ℕ) (m : ℕ) (g : Grant) → grant_at history digest m ≡ Some g → digest ≡ g.digest
+pub under_digest : (history : List Event) (digest : List ℕ) (m : ℕ) (g : Grant) → grant_at history digest m ≡ Some g → digest ≡ g.digest
 under_digest history digest m g at =
     (bytes_eq-Decides digest g.digest).0
     (and_parts (bytes_eq digest g.digest) (is_unexpired m g) (find-passes (is_named digest m) (grants history) g at)).0

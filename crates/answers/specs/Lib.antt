@@ -1,3 +1,4 @@
+pub mod Setting
 pub mod Outcomes
 pub mod Wants
 pub mod Halts
@@ -5,7 +6,7 @@ pub mod Requesters
 pub mod Texts
 pub mod Tokens
 pub mod Replies
-pub mod Setting
+pub mod Views
 pub mod Short
 pub mod Told
 pub mod Found

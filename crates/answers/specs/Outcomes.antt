@@ -1,10 +1,13 @@
 -- The reply to a request and what happens with it, as the first point of a list that holds.
 use Rattle.std.specs.Prelude.{ℕ, List, [], Bool, true, false, not, Option, Some, None}
-use Rattle.consent.specs.History.{Change, Event, has_room, is_taken}
+use Rattle.consent.specs.History.{Change, has_room, is_taken}
 use Rattle.messages.specs.declared.error.ErrorName.{ErrorName}
 use Rattle.messages.specs.declared.error.ErrorName.TheVariants.{InvalidRequest, InvalidClient, InvalidGrant, InvalidScope, UnauthorizedClient, UnsupportedGrantType, UnsupportedResponseType, AccessDenied}
 use Rattle.messages.specs.Reply.{Reply, plain}
 use Rattle.messages.specs.Reply.Body.{Empty, Failure}
+use Rattle.hook_record.specs.declared.Narrowed.{Narrowed}
+use Rattle.hook_record.specs.declared.Narrowed.TheVariants.{Allowed, Denied, EmptyScope}
+use Rattle.answers.specs.Setting.{Setting}
 
 pub record Outcome : Type 0 where
   pub reply : Reply
@@ -48,10 +51,21 @@ abbrev pub unavailable : Outcome
 unavailable = bare 503
 
 -- codes or tokens of these digests are given, unless there is no room or a draw is taken
-abbrev pub unless_taken : List Event → ℕ → List (List ℕ) → Outcome → Outcome
-unless_taken history m digests given =
-    point (not (has_room history m digests)) unavailable
-    (point (is_taken history m digests) unavailable given)
+abbrev pub unless_taken : Setting → List (List ℕ) → Outcome → Outcome
+unless_taken setting digests given =
+    point (not (has_room setting.history setting.moment digests)) unavailable
+    (point (is_taken setting.history setting.moment digests) unavailable given)
+
+-- how far a grant goes that a host has left
+pub record Extent : Type 0 where
+  pub scope : ℕ
+  pub life : ℕ
+
+-- the points "denied: this" and "no scope is left: this", and then those that use what is left
+abbrev pub unless_denied : Narrowed → Outcome → Outcome → (Extent → Outcome) → Outcome
+unless_denied Denied denied empty later = denied
+unless_denied EmptyScope denied empty later = empty
+unless_denied (Allowed scope life) denied empty later = later (record { scope = scope; life = life })
 
 -- a request that memory was refused for has the 503 without events
 abbrev pub chosen : Bool → Outcome → Outcome

@@ -5,7 +5,7 @@ ghost use Rattle.answers.specs.Halts.{LeadsOrHalts};
 ghost use Rattle.answers.specs.Outcomes.{Outcome};
 ghost use Rattle.answers.specs.Requesters as asked;
 ghost use Rattle.answers.specs.Requesters.{Parameters, with_form, with_credentials, client_named, owner_of_key, scope_asked, scope_within};
-ghost use Rattle.answers.specs.Setting.{known_of};
+ghost use Rattle.answers.specs.Views.{known_of};
 
 use crate::halt::Halt;
 use crate::view::KnownClient;

@@ -3,7 +3,7 @@ ghost use Rattle.std.specs.Prelude.{◌≡◌, List, IfSome};
 ghost use Rattle.consent.specs.History.{Event, consented_scope, grant_at};
 ghost use Rattle.token_store.specs.Found.{owner_number};
 ghost use Rattle.answers.specs.Found.{IsFound, is_free};
-ghost use Rattle.answers.specs.Setting.{Finds, Shows};
+ghost use Rattle.answers.specs.Views.{Finds, Shows};
 ghost use Rattle.answers.specs.Wants.{want_of};
 ghost use Rattle.token_store.specs.Fits.{refusal};
 

@@ -22,14 +22,14 @@ use Rattle.answers.specs.Replies.{reply_of}
 use Rattle.endpoints.specs.declared.endpoint.Endpoint.{Endpoint}
 use Rattle.endpoints.specs.declared.ruling.Ruling.{Ruling}
 use Rattle.endpoints.specs.HookPaths.{hook_change_at}
-use Rattle.endpoints.specs.Hosts.{IsHostFault}
+use Rattle.endpoints.specs.Hosts.{IsHostFault, says_with}
 use Rattle.endpoints.specs.Making.{IsSame, Makes, StandsAlone}
 use Rattle.endpoints.specs.Noting.{with_notes}
 use Rattle.endpoints.specs.Bounded.{AllRightAfter}
 use Rattle.endpoints.specs.Ruling.{CanMakeAll}
 use Rattle.endpoints.specs.Paths.{endpoint_at, method_at}
 use Rattle.endpoints.specs.Replies.{request_outcome, hook_change}
-use Rattle.endpoints.specs.Rulings.{AnswersRequest, Asking, FitsNow, IsRuling, comes_to, says_with, setting_now}
+use Rattle.endpoints.specs.Rulings.{AnswersRequest, Asking, FitsNow, IsRuling, comes_to, setting_now}
 use Rattle.endpoints.specs.Server.{SeenServer, FitsServer, AreUnkept, AreNoted, IsStep}
 use Rattle.endpoints.proofs.Ruled.{told_changes, told_reply}
 
@@ -80,7 +80,7 @@ module _ {H : Type 0} (hosting : Hosting H) where
       × IsStep hosting.installs hosting.removes (comes_to hosting old history asking fault) reply old new old.rules first history old.greatest
   answered old mid new first history asking ruling reply r same makes noted is fits =
       let o = comes_to hosting old history asking r.fault in
-      let changes = told_changes hosting (setting_now hosting old history asking.draws) ruling.decision o r.told_is in
+      let changes = told_changes hosting (setting_now hosting old history asking.draws r.fault) ruling.decision o r.told_is in
       let go = subst (λ (n : ℕ). FitsServer hosting.installs hosting.removes mid old.rules first history n → changes_of history n (as_list ruling.decision.changes) ≡ Some o.changes →
       AllFollow history n o.changes → AllRightAfter old.rules history n o.changes → StandsAlone (as_list ruling.decision.changes) →
       CanMakeAll hosting mid.host (as_list ruling.decision.changes) ruling.checked → FitsServer hosting.installs hosting.removes new old.rules first (with_changes history n o.changes) n)
@@ -88,7 +88,7 @@ module _ {H : Type 0} (hosting : Hosting H) where
         r.fault,
         r.host_has,
         record {
-          reply_is = is ∙ ap in_writing (sym (told_reply hosting (setting_now hosting old history asking.draws) ruling.decision o r.told_is));
+          reply_is = is ∙ ap in_writing (sym (told_reply hosting (setting_now hosting old history asking.draws r.fault) ruling.decision o r.told_is));
           fits = go (same.fits old.rules first history old.greatest fits) changes r.follow r.right r.alone (rw same.host r.hooks);
           noted = λ kept before.
               let now : new.unkept ≡ with_notes old.unkept old.greatest ruling.decision.changes =
@@ -141,12 +141,12 @@ module _ {H : Type 0} (hosting : Hosting H) where
       FitsServer hosting.installs hosting.removes old wanted first history old.greatest →
       AnswersRequest {E = ℕ} hosting old (record { endpoint = endpoint; asked = asked; draws = draws }) (Ok reply) new → old.host ≡ older.host → old.unkept ≡ older.unkept →
       (refused : Bool) × (fault : Option HookFault) × IsHostFault hosting.refuses_install hosting.refuses_remove older.host (hook_change asked) fault
-      × IsStep hosting.installs hosting.removes (request_outcome refused wanted (says_with hosting older.host fault) history asked old.greatest draws) reply older new wanted first history old.greatest
+      × IsStep hosting.installs hosting.removes (request_outcome refused (record { rules = wanted; history = history; host = says_with hosting older.host fault; moment = old.greatest; draws = draws }) asked) reply older new wanted first history old.greatest
   stepped older old new wanted first history endpoint asked draws reply at method fits answers host_same unkept_same =
       let own = subst (λ (r : RegistryRecord). FitsServer hosting.installs hosting.removes old r first history old.greatest) (sym fits.rules_are) fits in
       let done = answers first history own in
       let Stepped : RegistryRecord → H → Type 0 = λ r host. (refused : Bool) × (fault : Option HookFault) × IsHostFault hosting.refuses_install hosting.refuses_remove host (hook_change asked) fault
-      × IsStep hosting.installs hosting.removes (request_outcome refused r (says_with hosting host fault) history asked old.greatest draws) reply older new r first history old.greatest in
+      × IsStep hosting.installs hosting.removes (request_outcome refused (record { rules = r; history = history; host = says_with hosting host fault; moment = old.greatest; draws = draws }) asked) reply older new r first history old.greatest in
       let here : Stepped old.rules old.host =
       rw (at, method) (false, done.0, done.1, noted_before older old new (comes_to hosting old history (record { endpoint = endpoint; asked = asked; draws = draws }) done.0) reply old.rules first history old.greatest unkept_same done.2) in
       subst (λ (host : H). Stepped wanted host) host_same (subst (λ (r : RegistryRecord). Stepped r old.host) fits.rules_are here)

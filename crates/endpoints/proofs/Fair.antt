@@ -6,15 +6,14 @@ use Rattle.std.specs.Result.{result_ok}
 use Rattle.sha2.specs.Sha256.{sha256}
 use Rattle.pkce.specs.Token.{token_text}
 use Rattle.params.specs.Form.{read_params, value_sent}
-use Rattle.clients.specs.RegistryRecord.{RegistryRecord}
 use Rattle.clients.specs.ClientRecord.{ClientRecord}
-use Rattle.clients.specs.Clients.{ids, client_at, has_redirect}
+use Rattle.clients.specs.Clients.{ids, client_at}
 use Rattle.clients.specs.Numbers.{number_among}
 use Rattle.clients.specs.Grants.{has_grant}
 use Rattle.clients.specs.declared.grant.GrantType.TheVariants.{AuthorizationCode}
 use Rattle.consent.specs.Changes.{AllFollow}
 use Rattle.consent.specs.GrowthLaws.{is_taken-parts}
-use Rattle.consent.specs.History.{Event, Change, Grant, IsHistory, is_within, is_code, consented_scope, live_grant, has_consent_room}
+use Rattle.consent.specs.History.{Change, Grant, IsHistory, is_within, is_code, consented_scope, live_grant, has_consent_room}
 use Rattle.consent.specs.History.Change.{Consented, CodeGiven, Issued, Spent, FamilyEnded, HookSet, HookGone}
 use Rattle.consent.specs.HistoryLaws.{grant_at-placed}
 use Rattle.messages.specs.Asked.{Asked}
@@ -22,17 +21,18 @@ use Rattle.messages.specs.Target.{query_of}
 use Rattle.messages.specs.declared.error.ErrorName.{ErrorName}
 use Rattle.messages.specs.declared.error.ErrorName.TheVariants.{InvalidRequest, InvalidGrant, InvalidScope, UnauthorizedClient, UnsupportedResponseType, AccessDenied}
 use Rattle.messages.specs.Reply.{Reply, plain, sent_back}
-use Rattle.messages.specs.Reply.Body.{Empty, Hooks}
-use Rattle.answers.specs.Outcomes.{Outcome, only, point, need, refuse, unavailable}
+use Rattle.messages.specs.Reply.Body.{Empty, Hooks, Inactive}
+use Rattle.answers.specs.Outcomes.{Outcome, bare, only, refuse, unavailable}
 use Rattle.answers.specs.Requesters.{Parameters, KnownClient, known_client, client_named, form_of, owner_of_key, scope_asked, scope_within}
+use Rattle.answers.specs.Setting.{Setting}
 use Rattle.answers.specs.Texts.{digest_told, where_passes}
 use Rattle.answers.specs.Tokens.{live_token}
-use Rattle.endpoints.specs.Authorize.{authorize, authorize_known, challenge_sent, code_sent_back, state_sent, turned_back}
+use Rattle.endpoints.specs.Authorize.{NewCode, authorize, challenge_sent, code_sent_back, redirect_sent, state_sent, turned_back}
 use Rattle.endpoints.specs.Bounded.{AllRightAfter, MayHave, allowed_to}
-use Rattle.endpoints.specs.ConsentPath.{give_consent, consent_points, consent_given}
+use Rattle.endpoints.specs.ConsentPath.{give_consent}
 use Rattle.endpoints.specs.HookPaths.{is_operator, list_hooks}
-use Rattle.endpoints.specs.Introspect.{introspect, introspect_points, token_told}
-use Rattle.endpoints.specs.Revoke.{revoke_token, revoke_points, revoked}
+use Rattle.endpoints.specs.Introspect.{introspect}
+use Rattle.endpoints.specs.Revoke.{revoke_token, revoked}
 use Rattle.endpoints.proofs.Points.{known_at, error_all, unavailable_all, point_all, need_all, unless_all, authenticated_all}
 use Rattle.endpoints.proofs.Sound.{scope_is_within, not_false}
 use Rattle.endpoints.proofs.Stepping.{AllQuiet}
@@ -54,14 +54,14 @@ IsOneConsent (c ∷ []) = IsConsent c
 IsOneConsent (c ∷ _ ∷ _) = ⊥
 
 -- the changes may come next, each is right, and none is of the hooks; a consent stands alone
-pub record IsFair (rules : RegistryRecord) (history : List Event) (m : ℕ) (o : Outcome) : Type 0 where
-  pub follow : AllFollow history m o.changes
-  pub right : AllRightAfter rules history m o.changes
+pub record IsFair (s : Setting) (o : Outcome) : Type 0 where
+  pub follow : AllFollow s.history s.moment o.changes
+  pub right : AllRightAfter s.rules s.history s.moment o.changes
   pub tame : AllQuiet o.changes ⊎ IsOneConsent o.changes
 
-module _ (rules : RegistryRecord) (history : List Event) (m : ℕ) (is : IsHistory history m) where
+module _ (s : Setting) (is : IsHistory s.history s.moment) where
   abbrev Fair : Outcome → Type 0
-  Fair o = IsFair rules history m o
+  Fair o = IsFair s o
 
   still : (reply : Reply) → Fair (only reply)
   still reply = record { follow = tt; right = tt; tame = inl tt }
@@ -71,140 +71,88 @@ module _ (rules : RegistryRecord) (history : List Event) (m : ℕ) (is : IsHisto
 
   -- CONSENTS
 
-  pub consent_fair : (asked : Asked) → Fair (give_consent rules history asked)
+  pub consent_fair : (asked : Asked) → Fair (give_consent s asked)
   consent_fair asked =
-      need_all Fair still {A = Parameters} (form_of asked) (refuse InvalidRequest) (consent_points rules history asked) (error InvalidRequest) (λ params _.
-      need_all Fair still {A = ℕ} (owner_of_key rules asked) (refuse AccessDenied) (by_owner params) (error AccessDenied) (λ owner _.
-      need_all Fair still {A = KnownClient} (client_named rules params) (refuse InvalidRequest) (by_client params owner) (error InvalidRequest) (λ known _.
-      need_all Fair still {A = ℕ} (scope_asked rules 0 params) (refuse InvalidScope) (consent_given rules history owner known.number) (error InvalidScope) (λ mask _.
-      point_all Fair still (not (has_consent_room history owner known.number mask)) unavailable _ (λ _. unavailable_all Fair still)
+      need_all Fair still {A = Parameters} (form_of asked) (refuse InvalidRequest) _ (error InvalidRequest) (λ params _.
+      need_all Fair still {A = ℕ} (owner_of_key s.rules asked) (refuse AccessDenied) _ (error AccessDenied) (λ owner _.
+      need_all Fair still {A = KnownClient} (client_named s.rules params) (refuse InvalidRequest) _ (error InvalidRequest) (λ known _.
+      need_all Fair still {A = ℕ} (scope_asked s.rules 0 params) (refuse InvalidScope) _ (error InvalidScope) (λ mask _.
+      point_all Fair still (not (has_consent_room s.history owner known.number mask)) unavailable _ (λ _. unavailable_all Fair still)
       (λ _. record { follow = (tt, tt); right = (tt, tt); tame = inr tt })))))
-    where
-      by_client : Parameters → ℕ → KnownClient → Outcome
-      by_client params owner known = need (scope_asked rules 0 params) (refuse InvalidScope) (consent_given rules history owner known.number)
-
-      by_owner : Parameters → ℕ → Outcome
-      by_owner params owner = need (client_named rules params) (refuse InvalidRequest) (by_client params owner)
 
   -- THE LIST OF HOOKS
 
-  pub list_fair : (names : List (List ℕ)) (asked : Asked) → Fair (list_hooks rules names asked)
-  list_fair names asked =
-      point_all Fair still (not (is_operator rules asked)) (refuse AccessDenied) (only (plain 200 (Hooks names))) (λ _. error AccessDenied) (λ _. still _)
+  pub list_fair : (asked : Asked) → Fair (list_hooks s asked)
+  list_fair asked =
+      point_all Fair still (not (is_operator s.rules asked)) (refuse AccessDenied) (only (plain 200 (Hooks s.host.names))) (λ _. error AccessDenied) (λ _. still _)
 
   -- REVOCATION
 
   -- the live token of the text is named by the text's digest
-  ended : (text : List ℕ) (token : Grant) (family : ℕ) → live_token history m text ≡ Some token → token.family ≡ family → AllFollow history m (FamilyEnded family ∷ [])
-  ended text token family live same = by_digest (digest_told text) live
+  ended : (text : List ℕ) (token : Grant) → live_token s.history s.moment text ≡ Some token → AllFollow s.history s.moment (FamilyEnded token.family ∷ [])
+  ended text token live = by_digest (digest_told text) live
     where
-      by_digest : (o : Option (List ℕ)) → where_passes (λ (g : Grant). not (is_code g.kind)) (option_and_then (λ digest. live_grant history digest m) o) ≡ Some token →
-          AllFollow history m (FamilyEnded family ∷ [])
+      by_digest : (o : Option (List ℕ)) → where_passes (λ (g : Grant). not (is_code g.kind)) (option_and_then (λ digest. live_grant s.history digest s.moment) o) ≡ Some token →
+          AllFollow s.history s.moment (FamilyEnded token.family ∷ [])
       by_digest None h = absurd (cc)
-      by_digest (Some digest) h = (rw (← same) (grant_at-placed history digest m token is.placed (live_named history digest m token h)), tt)
+      by_digest (Some digest) h = (grant_at-placed s.history digest s.moment token is.placed (live_named s.history digest s.moment token h), tt)
 
-  revoked_fair : (number : ℕ) (text : List ℕ) (o : Option Grant) → live_token history m text ≡ o → Fair (revoked number o)
-  revoked_fair number text None live = still (plain 200 Empty)
-  revoked_fair number text (Some token) live =
-      point_all Fair still (not (token.client == number)) (refuse InvalidGrant) (record { reply = plain 200 Empty; changes = FamilyEnded token.family ∷ [] })
-      (λ _. error InvalidGrant) (λ _. record { follow = ended text token token.family live refl; right = (tt, tt); tame = inl (tt, tt) })
-
-  pub revoke_fair : (asked : Asked) → Fair (revoke_token rules history asked m)
+  pub revoke_fair : (asked : Asked) → Fair (revoke_token s asked)
   revoke_fair asked =
-      authenticated_all Fair still rules asked (revoke_points history m) (λ params known at.
-      need_all Fair still {A = List ℕ} (value_sent (codes "token") params) (refuse InvalidRequest)
-      (λ text. revoked known.number (live_token history m text)) (error InvalidRequest) (λ text _. revoked_fair known.number text (live_token history m text) refl))
+      authenticated_all Fair still s.rules asked _ (λ params known at.
+      need_all Fair still {A = List ℕ} (value_sent (codes "token") params) (refuse InvalidRequest) _ (error InvalidRequest) (λ text _.
+      need_all Fair still {A = Grant} (live_token s.history s.moment text) (bare 200) _ (still (plain 200 Empty)) (λ token live.
+      point_all Fair still (not (token.client == known.number)) (refuse InvalidGrant) (revoked token)
+      (λ _. error InvalidGrant) (λ _. record { follow = ended text token live; right = (tt, tt); tame = inl (tt, tt) }))))
 
   -- INTROSPECTION
 
-  told_fair : (o : Option Grant) → Fair (token_told rules o)
-  told_fair None = still _
-  told_fair (Some token) = still _
-
-  pub introspect_fair : (asked : Asked) → Fair (introspect rules history asked m)
+  pub introspect_fair : (asked : Asked) → Fair (introspect s asked)
   introspect_fair asked =
-      authenticated_all Fair still rules asked (introspect_points rules history m) (λ params known at.
-      need_all Fair still {A = List ℕ} (value_sent (codes "token") params) (refuse InvalidRequest)
-      (λ text. token_told rules (live_token history m text)) (error InvalidRequest) (λ text _. told_fair (live_token history m text)))
+      authenticated_all Fair still s.rules asked _ (λ params known at.
+      need_all Fair still {A = List ℕ} (value_sent (codes "token") params) (refuse InvalidRequest) _ (error InvalidRequest) (λ text _.
+      need_all Fair still {A = Grant} (live_token s.history s.moment text) (only (plain 200 Inactive)) _ (still (plain 200 Inactive)) (λ token _. still _)))
 
   -- AUTHORIZATION
 
-  code_fair : (draw : List ℕ) (params : Parameters) (client owner scope : ℕ) (uri challenge : List ℕ) →
-      MayHave rules client scope → is_within scope (consented_scope history owner client) ≡ true →
-      Fair (code_sent_back history m draw params client owner scope uri challenge)
-  code_fair draw params client owner scope uri challenge allowed consented =
-      unless_all Fair still history m (sha256 draw ∷ [])
+  code_fair : (params : Parameters) (new : NewCode) → MayHave s.rules new.client new.scope →
+      is_within new.scope (consented_scope s.history new.owner new.client) ≡ true → Fair (code_sent_back s params new)
+  code_fair params new allowed consented =
+      let digest = sha256 s.draws.first in
+      unless_all Fair still s (digest ∷ [])
       (record {
-        reply = sent_back uri (codes "code") (token_text draw) (state_sent params);
-        changes = CodeGiven (length history) client owner scope uri challenge (sha256 draw) ∷ [];
+        reply = sent_back new.redirect (codes "code") (token_text s.draws.first) (state_sent params);
+        changes = CodeGiven (length s.history) new.client new.owner new.scope new.redirect new.challenge digest ∷ [];
       })
-      (λ free. record { follow = ((refl, (is_taken-parts history m (sha256 draw) [] free).0), tt); right = ((allowed, consented), tt); tame = inl (tt, tt) })
-
-  known_fair : (asked : Asked) (draw : List ℕ) (params : Parameters) (known : KnownClient) (uri : List ℕ) →
-      client_at known.number rules.clients ≡ Some known.client →
-      Fair (authorize_known rules history asked m draw params known uri)
-  known_fair asked draw params known uri at =
-      let allowed : allowed_to rules known.number ≡ known.client.allowed = ap (λ (o : Option ClientRecord). option_map_or (λ c. c.allowed) o 0) at in
-      need_all Fair still {A = List ℕ} (value_sent (codes "response_type") params) (turned InvalidRequest) by_type (back InvalidRequest) (λ type _.
-      point_all Fair still (not (bytes_eq type (codes "code"))) (turned UnsupportedResponseType) by_grant (λ _. back UnsupportedResponseType) (λ _.
-      point_all Fair still (not (has_grant AuthorizationCode known.client.grants)) (turned UnauthorizedClient) by_challenge (λ _. back UnauthorizedClient) (λ _.
-      need_all Fair still {A = List ℕ} (challenge_sent params) (turned InvalidRequest) by_scope (back InvalidRequest) (λ challenge _.
-      need_all Fair still {A = ℕ} (scope_within rules known.client.allowed params) (turned InvalidScope) (by_owner challenge) (back InvalidScope) (λ scope within.
-      need_all Fair still {A = ℕ} (owner_of_key rules asked) (turned AccessDenied) (by_consent challenge scope) (back AccessDenied) (λ owner _.
-      point_all Fair still (not (is_within scope (consented_scope history owner known.number))) (turned AccessDenied) (given challenge scope owner) (λ _. back AccessDenied) (λ consented.
-      code_fair draw params known.number owner scope uri challenge
-      (record { is_client = ap is_some at; within = ap (is_within scope) allowed ∙ scope_is_within rules known.client.allowed params scope within })
-      (not_false _ consented))))))))
-    where
-      turned : ErrorName → Outcome
-      turned error = turned_back uri params error
-
-      back : (error : ErrorName) → Fair (turned error)
-      back error = still _
-
-      given : List ℕ → ℕ → ℕ → Outcome
-      given challenge scope owner = code_sent_back history m draw params known.number owner scope uri challenge
-
-      by_consent : List ℕ → ℕ → ℕ → Outcome
-      by_consent challenge scope owner =
-          point (not (is_within scope (consented_scope history owner known.number))) (turned AccessDenied) (given challenge scope owner)
-
-      by_owner : List ℕ → ℕ → Outcome
-      by_owner challenge scope = need (owner_of_key rules asked) (turned AccessDenied) (by_consent challenge scope)
-
-      by_scope : List ℕ → Outcome
-      by_scope challenge = need (scope_within rules known.client.allowed params) (turned InvalidScope) (by_owner challenge)
-
-      by_challenge : Outcome
-      by_challenge = need (challenge_sent params) (turned InvalidRequest) by_scope
-
-      by_grant : Outcome
-      by_grant = point (not (has_grant AuthorizationCode known.client.grants)) (turned UnauthorizedClient) by_challenge
-
-      by_type : List ℕ → Outcome
-      by_type type = point (not (bytes_eq type (codes "code"))) (turned UnsupportedResponseType) by_grant
+      (λ free. record {
+        follow = ((refl, (is_taken-parts s.history s.moment digest [] free).0), tt);
+        right = ((allowed, consented), tt);
+        tame = inl (tt, tt);
+      })
 
   -- a client that is named is one of the registry's
-  named_at : (params : Parameters) (known : KnownClient) → client_named rules params ≡ Some known → client_at known.number rules.clients ≡ Some known.client
-  named_at params known is = by_number (option_and_then (λ id. number_among id (ids rules.clients)) (value_sent (codes "client_id") params)) is
+  named_at : (params : Parameters) (known : KnownClient) → client_named s.rules params ≡ Some known → client_at known.number s.rules.clients ≡ Some known.client
+  named_at params known named = by_number (option_and_then (λ id. number_among id (ids s.rules.clients)) (value_sent (codes "client_id") params)) named
     where
-      by_number : (o : Option ℕ) → option_and_then (known_client rules) o ≡ Some known → client_at known.number rules.clients ≡ Some known.client
+      by_number : (o : Option ℕ) → option_and_then (known_client s.rules) o ≡ Some known → client_at known.number s.rules.clients ≡ Some known.client
       by_number None h = absurd (cc)
-      by_number (Some number) h = known_at rules number known h
+      by_number (Some number) h = known_at s.rules number known h
 
-  pub authorize_fair : (asked : Asked) (draw : List ℕ) → Fair (authorize rules history asked m draw)
-  authorize_fair asked draw =
-      need_all Fair still {A = Parameters} (result_ok (read_params (query_of asked.target))) (refuse InvalidRequest) by_params (error InvalidRequest) (λ params _.
-      need_all Fair still {A = KnownClient} (client_named rules params) (refuse InvalidRequest) (by_client params) (error InvalidRequest) (λ known named.
-      need_all Fair still {A = List ℕ} (where_passes (λ uri. has_redirect uri known.client) (value_sent (codes "redirect_uri") params)) (refuse InvalidRequest)
-      (by_uri params known) (error InvalidRequest) (λ uri _. known_fair asked draw params known uri (named_at params known named))))
-    where
-      by_uri : Parameters → KnownClient → List ℕ → Outcome
-      by_uri params known uri = authorize_known rules history asked m draw params known uri
-
-      by_client : Parameters → KnownClient → Outcome
-      by_client params known =
-          need (where_passes (λ uri. has_redirect uri known.client) (value_sent (codes "redirect_uri") params)) (refuse InvalidRequest) (by_uri params known)
-
-      by_params : Parameters → Outcome
-      by_params params = need (client_named rules params) (refuse InvalidRequest) (by_client params)
+  pub authorize_fair : (asked : Asked) → Fair (authorize s asked)
+  authorize_fair asked =
+      need_all Fair still {A = Parameters} (result_ok (read_params (query_of asked.target))) (refuse InvalidRequest) _ (error InvalidRequest) (λ params _.
+      need_all Fair still {A = KnownClient} (client_named s.rules params) (refuse InvalidRequest) _ (error InvalidRequest) (λ known named.
+      need_all Fair still {A = List ℕ} (redirect_sent params known.client) (refuse InvalidRequest) _ (error InvalidRequest) (λ uri _.
+      let turned : ErrorName → Outcome = turned_back uri params in
+      let at = named_at params known named in
+      let allowed : allowed_to s.rules known.number ≡ known.client.allowed = ap (λ (o : Option ClientRecord). option_map_or (λ c. c.allowed) o 0) at in
+      need_all Fair still {A = List ℕ} (value_sent (codes "response_type") params) (turned InvalidRequest) _ (still _) (λ type _.
+      point_all Fair still (not (bytes_eq type (codes "code"))) (turned UnsupportedResponseType) _ (λ _. still _) (λ _.
+      point_all Fair still (not (has_grant AuthorizationCode known.client.grants)) (turned UnauthorizedClient) _ (λ _. still _) (λ _.
+      need_all Fair still {A = List ℕ} (challenge_sent params) (turned InvalidRequest) _ (still _) (λ challenge _.
+      need_all Fair still {A = ℕ} (scope_within s.rules known.client.allowed params) (turned InvalidScope) _ (still _) (λ scope within.
+      need_all Fair still {A = ℕ} (owner_of_key s.rules asked) (turned AccessDenied) _ (still _) (λ owner _.
+      point_all Fair still (not (is_within scope (consented_scope s.history owner known.number))) (turned AccessDenied) _ (λ _. still _) (λ consented.
+      code_fair params (record { client = known.number; owner = owner; scope = scope; redirect = uri; challenge = challenge })
+      (record { is_client = ap is_some at; within = ap (is_within scope) allowed ∙ scope_is_within s.rules known.client.allowed params scope within })
+      (not_false _ consented)))))))))))

@@ -12,9 +12,12 @@ use Rattle.messages.specs.Reply.{Reply, plain}
 use Rattle.messages.specs.Reply.Body.{Failure, Empty}
 use Rattle.messages.specs.declared.error.ErrorName.{ErrorName}
 use Rattle.messages.specs.declared.error.ErrorName.TheVariants.{InvalidRequest, InvalidClient}
-use Rattle.consent.specs.History.{Event, has_room, is_taken}
-use Rattle.answers.specs.Outcomes.{Outcome, point, need, only, refuse, status_of, unavailable, unless_taken}
+use Rattle.consent.specs.History.{has_room, is_taken}
+use Rattle.hook_record.specs.declared.Narrowed.{Narrowed}
+use Rattle.hook_record.specs.declared.Narrowed.TheVariants.{Allowed, Denied, EmptyScope}
+use Rattle.answers.specs.Outcomes.{Extent, Outcome, point, need, only, refuse, status_of, unavailable, unless_denied, unless_taken}
 use Rattle.answers.specs.Requesters.{Parameters, KnownClient, known_client, form_of, with_client, with_authenticated}
+use Rattle.answers.specs.Setting.{Setting}
 
 -- what is known of a client is its number's
 pub known_at : (rules : RegistryRecord) (number : ℕ) (known : KnownClient) → known_client rules number ≡ Some known →
@@ -44,17 +47,24 @@ module _ (Q : Outcome → Type 0) (still : (reply : Reply) → Q (only reply)) w
   need_all None without later a z = a
   need_all (Some x) without later a z = z x refl
 
-  pub unless_all : (history : List Event) (m : ℕ) (digests : List (List ℕ)) (given : Outcome) →
-      (is_taken history m digests ≡ false → Q given) → Q (unless_taken history m digests given)
-  unless_all history m digests given free = by_room (has_room history m digests)
+  pub unless_all : (s : Setting) (digests : List (List ℕ)) (given : Outcome) →
+      (is_taken s.history s.moment digests ≡ false → Q given) → Q (unless_taken s digests given)
+  unless_all s digests given free = by_room (has_room s.history s.moment digests)
     where
       by_taken : (taken : Bool) → (taken ≡ false → Q given) → Q (point taken unavailable given)
       by_taken true z = unavailable_all
       by_taken false z = z refl
 
-      by_room : (room : Bool) → Q (point (not room) unavailable (point (is_taken history m digests) unavailable given))
-      by_room true = by_taken (is_taken history m digests) free
+      by_room : (room : Bool) → Q (point (not room) unavailable (point (is_taken s.history s.moment digests) unavailable given))
+      by_room true = by_taken (is_taken s.history s.moment digests) free
       by_room false = unavailable_all
+
+  -- by what a host left
+  pub left_all : (left : Narrowed) (denied empty : Outcome) (later : Extent → Outcome) → Q denied → Q empty →
+      ((scope life : ℕ) → left ≡ Allowed scope life → Q (later (record { scope = scope; life = life }))) → Q (unless_denied left denied empty later)
+  left_all Denied denied empty later a b z = a
+  left_all EmptyScope denied empty later a b z = b
+  left_all (Allowed scope life) denied empty later a b z = z scope life refl
 
   client_all : (rules : RegistryRecord) (result : Result ℕ AuthFault) (next : KnownClient → Outcome) →
       ((known : KnownClient) → client_at known.number rules.clients ≡ Some known.client → Q (next known)) → Q (with_client rules result next)

@@ -6,7 +6,7 @@ use Rattle.hook_host.specs.declared.fault.HookFault.{HookFault}
 use Rattle.messages.specs.declared.error.ErrorName.TheVariants.{InvalidRequest}
 use Rattle.answers.specs.Outcomes.{need, refuse}
 use Rattle.answers.specs.Requesters.{Parameters}
-use Rattle.endpoints.specs.HookPaths.{hook_points}
+use Rattle.endpoints.specs.Parts.{hook_points}
 
 -- the change of the parameters, where they are there
 pub points_of : (params : Option Parameters) (change : Parameters → Option Change) (fault : Option HookFault) →

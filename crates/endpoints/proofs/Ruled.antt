@@ -5,7 +5,7 @@ use Rattle.std.specs.Result.{result_ok}
 use Rattle.params.specs.Form.{read_params, value_sent}
 use Rattle.clients.specs.RegistryRecord.{RegistryRecord}
 use Rattle.consent.specs.Changes.{change_of, changes_of, as_list, AllFollow}
-use Rattle.consent.specs.History.{Event, with_change}
+use Rattle.consent.specs.History.{Event, IsHistory, with_change}
 use Rattle.consent.specs.History.{Change as happening}
 use Rattle.consent.specs.declared.change.Change.{Change}
 use Rattle.consent.specs.declared.change.Change.TheVariants.{Consented, CodeGiven, IssuedAlone, Issued, Spent, FamilyEnded, HookSet, HookGone}
@@ -32,9 +32,10 @@ use Rattle.endpoints.specs.declared.ruling.Checked.{Checked}
 use Rattle.endpoints.specs.declared.ruling.Checked.TheVariants.{NoHook, Installs, Removes}
 use Rattle.endpoints.specs.declared.ruling.Ruling.{Ruling}
 use Rattle.endpoints.specs.Bounded.{AllRightAfter}
-use Rattle.endpoints.specs.HookPaths.{by_fault, hook_change_at, hook_gone, hook_points, hook_set, hook_set_by, is_operator, version_asked, with_operator}
+use Rattle.endpoints.specs.HookPaths.{by_fault, hook_change_at, hook_gone, hook_set, hook_set_by, is_operator, version_asked, with_operator}
 use Rattle.endpoints.specs.Hosts.{IsHostFault}
 use Rattle.endpoints.specs.Making.{AllPlain, IsPlain, StandsAlone}
+use Rattle.endpoints.specs.Parts.{hook_points}
 use Rattle.endpoints.specs.Reading.{IsRequestRead}
 use Rattle.endpoints.specs.Ruling.{CanMake, CanMakeAll, CanTake, RulesHooks}
 use Rattle.endpoints.specs.Rulings.{Asking, FitsNow, IsAlone, IsRuled, IsRuling, asking_of, comes_to, setting_now}
@@ -151,25 +152,25 @@ module _ {H : Type 0} (hosting : Hosting H) where
   told_changes s d o is = by_changes (changes_of s.history s.moment (as_list d.changes)) is
     where
       by_changes : (changes : Option (List happening)) →
-          option_map (λ changes. record { reply = reply_of s.rules s.names d.answer; changes = changes }) changes ≡ Some o → changes ≡ Some o.changes
+          option_map (λ changes. record { reply = reply_of s.rules s.host.names d.answer; changes = changes }) changes ≡ Some o → changes ≡ Some o.changes
       by_changes None h = absurd (cc)
       by_changes (Some changes) h = ap (λ (o : Outcome). Some o.changes) (same_some _ o h)
 
-  pub told_reply : (s : Setting) (d : Decision) (o : Outcome) → outcome_told s d ≡ Some o → o.reply ≡ reply_of s.rules s.names d.answer
+  pub told_reply : (s : Setting) (d : Decision) (o : Outcome) → outcome_told s d ≡ Some o → o.reply ≡ reply_of s.rules s.host.names d.answer
   told_reply s d o is = by_changes (changes_of s.history s.moment (as_list d.changes)) is
     where
       by_changes : (changes : Option (List happening)) →
-          option_map (λ changes. record { reply = reply_of s.rules s.names d.answer; changes = changes }) changes ≡ Some o → o.reply ≡ reply_of s.rules s.names d.answer
+          option_map (λ changes. record { reply = reply_of s.rules s.host.names d.answer; changes = changes }) changes ≡ Some o → o.reply ≡ reply_of s.rules s.host.names d.answer
       by_changes None h = absurd (cc)
       by_changes (Some changes) h = ap (λ (o : Outcome). o.reply) (sym (same_some _ o h))
 
   -- an outcome without a change of the hooks
   pub alone_ruling : (server : SeenServer H) (history : List Event) (asking : Asking) (d : Decision) →
-      IsFair server.rules history server.greatest (comes_to hosting server history asking None) →
-      outcome_told (setting_now hosting server history asking.draws) d ≡ Some (comes_to hosting server history asking None) →
+      IsFair (setting_now hosting server history asking.draws None) (comes_to hosting server history asking None) →
+      outcome_told (setting_now hosting server history asking.draws None) d ≡ Some (comes_to hosting server history asking None) →
       IsRuling hosting server history asking (record { decision = d; checked = NoHook })
   alone_ruling server history asking d fair is =
-      let changes = told_changes (setting_now hosting server history asking.draws) d (comes_to hosting server history asking None) is in
+      let changes = told_changes (setting_now hosting server history asking.draws None) d (comes_to hosting server history asking None) is in
       record {
         fault = None;
         host_has = tt;
@@ -182,23 +183,25 @@ module _ {H : Type 0} (hosting : Hosting H) where
 
   -- each endpoint's is fair that changes no hooks
   pub alone_fair : (server : SeenServer H) (first : H) (history : List Event) (asked : Asked) (what : Reading) (draws : Draws) → IsAlone what →
-      FitsNow hosting server first history → IsFair server.rules history server.greatest (comes_to hosting server history (asking_of asked what draws) None)
-  alone_fair server first history asked (reading.Authorize params) draws alone fits =
-      authorize_fair server.rules history server.greatest (store_history server.store history server.greatest fits.store) asked draws.first
-  alone_fair server first history asked reading.GiveConsent draws alone fits =
-      consent_fair server.rules history server.greatest (store_history server.store history server.greatest fits.store) asked
-  alone_fair server first history asked reading.IssueToken draws alone fits =
-      let is = store_history server.store history server.greatest fits.store in
-      let sound = issue_token_sound server.rules history server.greatest (hosting.answer server.host) asked draws is fits.right in
-      record { follow = issue_token_follows server.rules history (hosting.answer server.host) asked server.greatest draws is; right = sound.right; tame = inl sound.quiet }
-  alone_fair server first history asked reading.RevokeToken draws alone fits =
-      revoke_fair server.rules history server.greatest (store_history server.store history server.greatest fits.store) asked
-  alone_fair server first history asked reading.Introspect draws alone fits =
-      introspect_fair server.rules history server.greatest (store_history server.store history server.greatest fits.store) asked
-  alone_fair server first history asked reading.ListHooks draws alone fits =
-      list_fair server.rules history server.greatest (store_history server.store history server.greatest fits.store) (hosting.names server.host) asked
-  alone_fair server first history asked (reading.InstallHook params) draws alone fits = absurd alone
-  alone_fair server first history asked (reading.RemoveHook params) draws alone fits = absurd alone
+      FitsNow hosting server first history →
+      IsFair (setting_now hosting server history draws None) (comes_to hosting server history (asking_of asked what draws) None)
+  alone_fair server first history asked what draws alone fits = by_reading what alone
+    where
+      is : IsHistory history server.greatest
+      is = store_history server.store history server.greatest fits.store
+
+      by_reading : (what : Reading) → IsAlone what →
+          IsFair (setting_now hosting server history draws None) (comes_to hosting server history (asking_of asked what draws) None)
+      by_reading (reading.Authorize params) alone = authorize_fair (setting_now hosting server history draws None) is asked
+      by_reading reading.GiveConsent alone = consent_fair (setting_now hosting server history draws None) is asked
+      by_reading reading.IssueToken alone =
+          let sound = issue_token_sound (setting_now hosting server history draws None) is fits.right asked in
+          record { follow = issue_token_follows (setting_now hosting server history draws None) is asked; right = sound.right; tame = inl sound.quiet }
+      by_reading reading.RevokeToken alone = revoke_fair (setting_now hosting server history draws None) is asked
+      by_reading reading.Introspect alone = introspect_fair (setting_now hosting server history draws None) is asked
+      by_reading reading.ListHooks alone = list_fair (setting_now hosting server history draws None) is asked
+      by_reading (reading.InstallHook params) alone = absurd alone
+      by_reading (reading.RemoveHook params) alone = absurd alone
 
 -- what is read that asks for no hook and takes none away
 pub alone_of : (what : Reading) → ((p : Parameters) → what ≡ reading.InstallHook p → ⊥) → ((p : Parameters) → what ≡ reading.RemoveHook p → ⊥) → IsAlone what
@@ -326,15 +329,15 @@ gone_is params c is = by_name (value_sent (codes "name") params) is
 module _ {H : Type 0} (hosting : Hosting H) (server : SeenServer H) (history : List Event) (asking : Asking) (change : Option happening) where
   hooks_ruled : (result : Result (Ruling H) Halt) → ((fault : Option HookFault) → comes_to hosting server history asking fault ≡ hook_points change fault) →
       hook_change_at asking.endpoint asking.asked ≡ change → ((c : happening) → change ≡ Some c → IsHooks c) →
-      RulesHooks hosting server.host (setting_now hosting server history asking.draws) change result → IsRuled hosting server history asking result
+      RulesHooks hosting server.host (setting_now hosting server history asking.draws None) change result → IsRuled hosting server history asking result
   hooks_ruled (Err halt) points same each rules = subst (λ o. Halts halt o) (sym (points None)) rules
   hooks_ruled (Ok ruling) points same each rules =
       let fault = rules.0 in
-      let told_is : outcome_told (setting_now hosting server history asking.draws) ruling.decision ≡ Some (comes_to hosting server history asking fault) =
+      let told_is : outcome_told (setting_now hosting server history asking.draws fault) ruling.decision ≡ Some (comes_to hosting server history asking fault) =
       rules.2 ∙ ap Some (sym (points fault)) in
       let one : IsOneOfHooks (comes_to hosting server history asking fault).changes =
       subst (λ (o : Outcome). IsOneOfHooks o.changes) (sym (points fault)) (one_change change fault each) in
-      let changes = told_changes hosting (setting_now hosting server history asking.draws) ruling.decision (comes_to hosting server history asking fault) told_is in
+      let changes = told_changes hosting (setting_now hosting server history asking.draws fault) ruling.decision (comes_to hosting server history asking fault) told_is in
       record {
         fault = fault;
         host_has = subst (λ c. IsHostFault hosting.refuses_install hosting.refuses_remove server.host c fault) (sym same) rules.1;
@@ -348,7 +351,7 @@ module _ {H : Type 0} (hosting : Hosting H) (server : SeenServer H) (history : L
 module _ {H : Type 0} (hosting : Hosting H) (server : SeenServer H) (history : List Event) (asked : Asked) (params : Parameters) (draws : Draws) where
   -- a hook that the parameters ask for
   pub install_ruled : (result : Result (Ruling H) Halt) → IsRequestRead server.rules asked (reading.InstallHook params) →
-      RulesHooks hosting server.host (setting_now hosting server history draws) (hook_set_by params asked.body) result →
+      RulesHooks hosting server.host (setting_now hosting server history draws None) (hook_set_by params asked.body) result →
       IsRuled hosting server history (asking_of asked (reading.InstallHook params) draws) result
   install_ruled result leads rules =
       hooks_ruled hosting server history (asking_of asked (reading.InstallHook params) draws) (hook_set_by params asked.body) result
@@ -359,7 +362,7 @@ module _ {H : Type 0} (hosting : Hosting H) (server : SeenServer H) (history : L
 
   -- and one that they take away
   pub remove_ruled : (result : Result (Ruling H) Halt) → IsRequestRead server.rules asked (reading.RemoveHook params) →
-      RulesHooks hosting server.host (setting_now hosting server history draws) (hook_gone params) result →
+      RulesHooks hosting server.host (setting_now hosting server history draws None) (hook_gone params) result →
       IsRuled hosting server history (asking_of asked (reading.RemoveHook params) draws) result
   remove_ruled result leads rules =
       hooks_ruled hosting server history (asking_of asked (reading.RemoveHook params) draws) (hook_gone params) result

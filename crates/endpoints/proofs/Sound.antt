@@ -1,59 +1,38 @@
--- What the points of the token endpoint do is right, and changes no consent and no hook.
+-- What comes of codes and tokens is right, and changes no consent and no hook.
 use Rattle.std.proofs.Common.{◌≡◌, ◌≤◌, ℕ, List, [], ◌∷◌, ◌++◌, Bool, true, false, Option, Some, None, bit_and, refl, sym, ap, ◌∙◌, arith, append_assoc, append-nil, subst, inl, inr}
-use Rattle.std.specs.Prelude.{◌⊎◌, ◌==◌, not, codes, if◌then◌else◌, option_and_then}
-use Rattle.std.proofs.lemmas.Bool.{eq-eqb, false≢true, and_parts}
+use Rattle.std.specs.Prelude.{◌⊎◌, not, if◌then◌else◌, option_and_then}
+use Rattle.std.proofs.lemmas.Bool.{eq-eqb, false≢true}
+use Rattle.sha2.specs.Sha256.{sha256}
 use Rattle.clients.specs.RegistryRecord.{RegistryRecord}
-use Rattle.consent.specs.History.{Event, Change, Grant, event_at, grant_by, grant_at, is_code, is_within, code_terms, has_ended, is_spent, has_room, is_taken}
-use Rattle.consent.specs.History.Change.{Consented, CodeGiven, Issued, Spent, FamilyEnded, HookSet, HookGone}
+use Rattle.consent.specs.CoveredLaws.{is_within-trans}
 use Rattle.consent.specs.GrowthLaws.{code_terms-keep, has_ended-push_other}
+use Rattle.consent.specs.History.{Event, Change, Grant, event_at, grant_by, grant_at, is_code, is_within, code_terms, has_ended}
+use Rattle.consent.specs.History.Change.{Consented, CodeGiven, Issued, Spent, FamilyEnded, HookSet, HookGone}
 use Rattle.consent.specs.HistoryLaws.{grant_at-given}
-use Rattle.answers.specs.Outcomes.{status_of, Outcome, point, need, only, refuse, unless_taken, unavailable}
-use Rattle.messages.specs.Reply.{Reply, plain}
-use Rattle.messages.specs.Reply.Body.{Failure}
-use Rattle.messages.specs.declared.error.ErrorName.{ErrorName}
-use Rattle.messages.specs.declared.error.ErrorName.TheVariants.{InvalidRequest, InvalidGrant, InvalidScope}
-use Rattle.params.specs.Form.{value_sent}
-use Rattle.token_endpoint.specs.Exchange.{ends_family}
-use Rattle.endpoints.specs.Bounded.{IsRightChange, AllRight, IsOfCode, IsOwn, MayHave, allowed_to}
-use Rattle.endpoints.specs.BoundedLaws.{own-later}
 use Rattle.consent.specs.declared.grant.Kind.{Kind}
 use Rattle.consent.specs.declared.grant.Kind.TheVariants.{Code, Token}
 use Rattle.consent.specs.declared.grant.TokenKind.TheVariants.{Access}
-use Rattle.sha2.specs.Sha256.{sha256}
-use Rattle.consent.specs.CoveredLaws.{is_within-trans}
-use Rattle.answers.specs.Tokens.{is_refresh}
 use Rattle.hook_record.specs.declared.Ask.{Ask}
-use Rattle.hook_record.specs.declared.Narrowed.{Narrowed}
-use Rattle.hook_record.specs.declared.Narrowed.TheVariants.{Allowed, Denied, EmptyScope}
-use Rattle.hook_host.specs.Decisions.{met_with}
+use Rattle.hook_record.specs.declared.Narrowed.TheVariants.{Allowed}
 use Rattle.hook_host.specs.DecisionLaws.{met_with_narrows}
-use Rattle.messages.specs.declared.request.Draws.{Draws}
-use Rattle.answers.specs.Requesters.{Parameters, KnownClient, scope_asked, scope_within}
-use Rattle.answers.specs.Texts.{where_passes, digest_told}
-use Rattle.answers.specs.Tokens.{is_own, refresh_of_client}
-use Rattle.token_endpoint.specs.Grants.{left_by_host, access_issued, refresh_issued, both_digests}
-use Rattle.answers.specs.Replies.{both_reply}
-use Rattle.token_endpoint.specs.Refresh.{rotated, refreshed, refresh, refresh_ask, refresh_checked, refresh_points, use_points}
-use Rattle.endpoints.specs.Bounded.{AllRightAfter}
+use Rattle.messages.specs.Reply.{Reply}
+use Rattle.messages.specs.declared.error.ErrorName.{ErrorName}
+use Rattle.answers.specs.Outcomes.{Extent, Outcome, only, refuse}
+use Rattle.answers.specs.Replies.{access_reply, both_reply}
+use Rattle.answers.specs.Requesters.{Parameters, scope_asked, scope_within}
+use Rattle.answers.specs.Setting.{Setting}
+use Rattle.answers.specs.Texts.{where_passes}
+use Rattle.answers.specs.Tokens.{is_refresh}
+use Rattle.token_endpoint.specs.Exchange.{ends_family}
+use Rattle.token_endpoint.specs.Grants.{access_for, access_issued, both_digests, both_for, left_by_host, refresh_issued}
+use Rattle.endpoints.specs.Bounded.{AllRight, AllRightAfter, IsRightChange, IsOfCode, IsOwn, MayHave, allowed_to}
+use Rattle.endpoints.specs.BoundedLaws.{own-later}
+use Rattle.endpoints.proofs.Points.{error_all, unless_all}
 use Rattle.endpoints.proofs.Stepping.{AllQuiet}
 
-pub record IsSound (rules : RegistryRecord) (history : List Event) (m : ℕ) (o : Outcome) : Type 0 where
+pub record IsSound (s : Setting) (o : Outcome) : Type 0 where
   pub quiet : AllQuiet o.changes
-  pub right : AllRightAfter rules history m o.changes
-
--- nothing happens
-pub still : (rules : RegistryRecord) (history : List Event) (m : ℕ) (reply : Reply) → IsSound rules history m (only reply)
-still rules history m reply = record { quiet = tt; right = tt }
-
-pub sound_point : (rules : RegistryRecord) (history : List Event) (m : ℕ) (b : Bool) (here later : Outcome) →
-    (b ≡ true → IsSound rules history m here) → (b ≡ false → IsSound rules history m later) → IsSound rules history m (point b here later)
-sound_point rules history m true here later a z = a refl
-sound_point rules history m false here later a z = z refl
-
-pub sound_need : {A : Type 0} (rules : RegistryRecord) (history : List Event) (m : ℕ) (o : Option A) (without : Outcome) (later : A → Outcome) →
-    IsSound rules history m without → ((x : A) → o ≡ Some x → IsSound rules history m (later x)) → IsSound rules history m (need o without later)
-sound_need rules history m None without later a z = a
-sound_need rules history m (Some x) without later a z = z x refl
+  pub right : AllRightAfter s.rules s.history s.moment o.changes
 
 -- an event in the history was right when it happened
 pub all_right-at : (rules : RegistryRecord) (start before later : List Event) (e : Event) → AllRight rules start (before ++ e ∷ later) →
@@ -114,72 +93,9 @@ pub not_false : (b : Bool) → not b ≡ false → b ≡ true
 not_false true h = refl
 not_false false h = cc
 
-refresh_no_code : (k : Kind) → is_refresh k ≡ true → is_code k ≡ false
+pub refresh_no_code : (k : Kind) → is_refresh k ≡ true → is_code k ≡ false
 refresh_no_code Code h = absurd (false≢true h)
 refresh_no_code (Token t) h = refl
-
-pub unless_sound : (rules : RegistryRecord) (history : List Event) (m : ℕ) (digests : List (List ℕ)) (given : Outcome) →
-    IsSound rules history m given → IsSound rules history m (unless_taken history m digests given)
-unless_sound rules history m digests given sound =
-    sound_point rules history m (not (has_room history m digests)) unavailable (point (is_taken history m digests) unavailable given) (λ _. still rules history m _)
-    (λ _. sound_point rules history m (is_taken history m digests) unavailable given (λ _. still rules history m _) (λ _. sound))
-
-pub ends_sound : (rules : RegistryRecord) (history : List Event) (m : ℕ) (g : Grant) → IsSound rules history m (ends_family g)
-ends_sound rules history m g = record { quiet = (tt, tt); right = (tt, tt) }
-
-rotated_sound : (rules : RegistryRecord) (history : List Event) (m : ℕ) (draws : Draws) (digest : List ℕ) (token : Grant) (scope life : ℕ) →
-    IsRightToken rules history token → has_ended history token.family ≡ false → is_within scope token.scope ≡ true → life ≤ rules.access_life →
-    IsSound rules history m (rotated rules history m draws digest token scope life)
-rotated_sound rules history m draws digest token scope life right alive within short =
-    unless_sound rules history m (both_digests draws)
-    (record {
-      reply = both_reply rules draws scope life;
-      changes = access_issued token.family token.client token.owner draws.first scope life
-          ∷ refresh_issued token.family token.client token.owner draws.second token.scope rules.refresh_life
-          ∷ Spent digest
-          ∷ [];
-    })
-    (record {
-      quiet = (tt, (tt, (tt, tt)));
-      right = (
-        (may_have-less rules token.client token.scope scope right.0 within, short, first right.1),
-        ((right.0, omega arith, second right.1), (tt, tt)),
-      );
-    })
-  where
-    first : IsOwn history token.family token.owner ⊎ ((s : ℕ) × (code_terms history token.family ≡ Some (record { client = token.client; owner = token.owner; scope = s })) × (is_within token.scope s ≡ true)) →
-        IsOwn history token.family token.owner ⊎ IsOfCode history token.family token.client token.owner scope
-    first (inl own) = inl own
-    first (inr of) = inr (of.0, of.1, is_within-trans scope token.scope of.0 within of.2, alive)
-
-    issued : Event
-    issued = event_at m (access_issued token.family token.client token.owner draws.first scope life)
-
-    second : IsOwn history token.family token.owner ⊎ ((s : ℕ) × (code_terms history token.family ≡ Some (record { client = token.client; owner = token.owner; scope = s })) × (is_within token.scope s ≡ true)) →
-        IsOwn (history ++ issued ∷ []) token.family token.owner ⊎ IsOfCode (history ++ issued ∷ []) token.family token.client token.owner token.scope
-    second (inl own) = inl (own-later history [] issued token.family token.client token.owner Access (sha256 draws.first) scope life refl own)
-    second (inr of) =
-        inr (
-          of.0,
-          code_terms-keep history (issued ∷ []) token.family _ of.1,
-          of.2,
-          has_ended-push_other history issued token.family refl ∙ alive,
-        )
-
-refreshed_sound : (rules : RegistryRecord) (history : List Event) (m : ℕ) (draws : Draws) (digest : List ℕ) (token : Grant) (asked : ℕ) (ask : Ask) (answer : Narrowed) →
-    ask.scope ≡ asked → ask.life ≡ rules.access_life →
-    IsRightToken rules history token → has_ended history token.family ≡ false → is_within asked token.scope ≡ true →
-    IsSound rules history m (refreshed rules history m draws digest token (met_with ask answer))
-refreshed_sound rules history m draws digest token asked ask answer scope_is life_is right alive within = by_left (met_with ask answer) refl
-  where
-    by_left : (left : Narrowed) → met_with ask answer ≡ left → IsSound rules history m (refreshed rules history m draws digest token left)
-    by_left Denied e = still rules history m _
-    by_left EmptyScope e = still rules history m _
-    by_left (Allowed scope life) e =
-        let narrow = met_with_narrows ask answer scope life e in
-        let some : is_within scope asked ≡ true = eq-eqb (bit_and scope asked) scope (ap (λ n. bit_and scope n) (sym scope_is) ∙ narrow.within) in
-        let short = narrow.no_longer in
-        rotated_sound rules history m draws digest token scope life right alive (is_within-trans scope asked token.scope some within) (omega (arith, short, life_is))
 
 -- the scope that is asked for is within the limit
 pub scope_is_within : (rules : RegistryRecord) (limit : ℕ) (params : Parameters) (scope : ℕ) → scope_within rules limit params ≡ Some scope → is_within scope limit ≡ true
@@ -193,32 +109,82 @@ scope_is_within rules limit params scope is = by_asked (scope_asked rules limit 
     by_asked None h = absurd (cc)
     by_asked (Some asked) h = by_test asked (is_within asked limit) refl h
 
-pub refresh_sound : (rules : RegistryRecord) (history : List Event) (answer : Ask → Narrowed) (m : ℕ) (draws : Draws) (params : Parameters) (known : KnownClient) →
-    AllRight rules [] history → IsSound rules history m (refresh rules history answer m draws params known)
-refresh_sound rules history answer m draws params known all =
-    sound_need {A = List ℕ} rules history m (value_sent (codes "refresh_token") params) (refuse InvalidRequest)
-    (λ text. need (digest_told text) (refuse InvalidGrant) (λ digest. refresh_points history m known.number digest (uses digest)))
-    (refused InvalidRequest) (λ text _.
-    sound_need {A = List ℕ} rules history m (digest_told text) (refuse InvalidGrant)
-    (λ digest. refresh_points history m known.number digest (uses digest)) (refused InvalidGrant) (λ digest _.
-    sound_need {A = Grant} rules history m (refresh_of_client history m known.number digest) (refuse InvalidGrant)
-    (refresh_checked history m digest (uses digest)) (refused InvalidGrant) (λ token found.
-    let both = passes (is_own is_refresh known.number) (grant_at history digest m) token found in
-    let own = and_parts (is_refresh token.kind) (token.client == known.number) both.1 in
-    let right = right_token rules history digest m token all both.0 (refresh_no_code token.kind own.0) in
-    sound_point rules history m (is_spent history digest m) (ends_family token) (point (has_ended history token.family) (refuse InvalidGrant) (uses digest token))
-    (λ _. ends_sound rules history m token) (λ _.
-    sound_point rules history m (has_ended history token.family) (refuse InvalidGrant) (uses digest token) (λ _. refused InvalidGrant) (λ alive.
-    sound_need {A = ℕ} rules history m (scope_within rules token.scope params) (refuse InvalidScope)
-    (next digest token) (refused InvalidScope) (λ scope within.
-    refreshed_sound rules history m draws digest token scope (refresh_ask rules history m known.client token scope) (answer (refresh_ask rules history m known.client token scope)) refl refl right alive
-    (scope_is_within rules token.scope params scope within)))))))
-  where
-    uses : List ℕ → Grant → Outcome
-    uses digest token = use_points rules history answer m draws params known.client digest token
+module _ (s : Setting) where
+  -- nothing happens
+  pub still : (reply : Reply) → IsSound s (only reply)
+  still reply = record { quiet = tt; right = tt }
 
-    next : List ℕ → Grant → ℕ → Outcome
-    next digest token scope = refreshed rules history m draws digest token (left_by_host answer (refresh_ask rules history m known.client token scope))
+  pub error_sound : (error : ErrorName) → IsSound s (refuse error)
+  error_sound error = error_all (IsSound s) still error
 
-    refused : (error : ErrorName) → IsSound rules history m (refuse error)
-    refused error = still rules history m (plain (status_of error) (Failure error))
+  pub ends_sound : (g : Grant) → IsSound s (ends_family g)
+  ends_sound g = record { quiet = (tt, tt); right = (tt, tt) }
+
+  -- what a host leaves is within what it was asked
+  pub left_within : (ask : Ask) (scope life : ℕ) → left_by_host s ask ≡ Allowed scope life → (is_within scope ask.scope ≡ true) × (life ≤ ask.life)
+  left_within ask scope life e =
+      let narrow = met_with_narrows ask (s.host.answer ask) scope life e in (eq-eqb (bit_and scope ask.scope) scope narrow.within, narrow.no_longer)
+
+  -- it is a client's own, or comes of a code
+  abbrev Comes : Grant → Type 0
+  Comes g =
+      IsOwn s.history g.family g.owner
+      ⊎ ((of : ℕ) × (code_terms s.history g.family ≡ Some (record { client = g.client; owner = g.owner; scope = of })) × (is_within g.scope of ≡ true))
+
+  first : (g : Grant) (less : ℕ) → has_ended s.history g.family ≡ false → is_within less g.scope ≡ true → Comes g →
+      IsOwn s.history g.family g.owner ⊎ IsOfCode s.history g.family g.client g.owner less
+  first g less alive within (inl own) = inl own
+  first g less alive within (inr of) = inr (of.0, of.1, is_within-trans less g.scope of.0 within of.2, alive)
+
+  second : (g : Grant) (left : Extent) (kept : ℕ) → has_ended s.history g.family ≡ false → is_within kept g.scope ≡ true → Comes g →
+      IsOwn (s.history ++ event_at s.moment (access_issued g s.draws.first left) ∷ []) g.family g.owner
+      ⊎ IsOfCode (s.history ++ event_at s.moment (access_issued g s.draws.first left) ∷ []) g.family g.client g.owner kept
+  second g left kept alive within (inl own) =
+      inl (own-later s.history [] (event_at s.moment (access_issued g s.draws.first left)) g.family g.client g.owner Access (sha256 s.draws.first) left.scope left.life refl own)
+  second g left kept alive within (inr of) =
+      let e = event_at s.moment (access_issued g s.draws.first left) in
+      inr (
+        of.0,
+        code_terms-keep s.history (e ∷ []) g.family _ of.1,
+        is_within-trans kept g.scope of.0 within of.2,
+        has_ended-push_other s.history e g.family refl ∙ alive,
+      )
+
+  -- tokens that come of a right one
+  pub access_sound : (g : Grant) (left : Extent) → IsRightToken s.rules s.history g → has_ended s.history g.family ≡ false →
+      is_within left.scope g.scope ≡ true → left.life ≤ s.rules.access_life → IsSound s (access_for s g left)
+  access_sound g left right alive within short =
+      unless_all (IsSound s) still s (sha256 s.draws.first ∷ [])
+      (record {
+        reply = access_reply s.rules s.draws.first left.scope left.life;
+        changes = access_issued g s.draws.first left ∷ Spent g.digest ∷ [];
+      })
+      (λ _. record {
+        quiet = (tt, (tt, tt));
+        right = (
+          (may_have-less s.rules g.client g.scope left.scope right.0 within, short, first g left.scope alive within right.1),
+          (tt, tt),
+        );
+      })
+
+  pub both_sound : (g : Grant) (left : Extent) (kept : ℕ) → IsRightToken s.rules s.history g → has_ended s.history g.family ≡ false →
+      is_within left.scope g.scope ≡ true → is_within kept g.scope ≡ true → left.life ≤ s.rules.access_life → IsSound s (both_for s g left kept)
+  both_sound g left kept right alive within more short =
+      unless_all (IsSound s) still s (both_digests s.draws)
+      (record {
+        reply = both_reply s.rules s.draws left.scope left.life;
+        changes = access_issued g s.draws.first left
+            ∷ refresh_issued g s.draws.second (record { scope = kept; life = s.rules.refresh_life })
+            ∷ Spent g.digest
+            ∷ [];
+      })
+      (λ _. record {
+        quiet = (tt, (tt, (tt, tt)));
+        right = (
+          (may_have-less s.rules g.client g.scope left.scope right.0 within, short, first g left.scope alive within right.1),
+          (
+            (may_have-less s.rules g.client g.scope kept right.0 more, omega arith, second g left kept alive more right.1),
+            (tt, tt),
+          ),
+        );
+      })

@@ -16,7 +16,7 @@ use Rattle.messages.specs.Reply.{plain}
 use Rattle.messages.specs.Reply.Body.{Active, Consent, Empty, Inactive}
 use Rattle.messages.specs.declared.error.ErrorName.TheVariants.{InvalidGrant}
 use Rattle.answers.specs.Halts.{Halts}
-use Rattle.answers.specs.Outcomes.{Outcome, only, refuse, unavailable}
+use Rattle.answers.specs.Outcomes.{Outcome, bare, need, only, point, refuse, unavailable}
 use Rattle.answers.specs.Replies.{id_of}
 use Rattle.answers.specs.Setting.{Setting}
 use Rattle.answers.specs.Told.{outcome_told}
@@ -24,10 +24,9 @@ use Rattle.answers.specs.Texts.{where_passes}
 use Rattle.answers.specs.declared.answer.Answer.TheVariants as answer
 use Rattle.answers.specs.declared.halt.Halt.{Halt}
 use Rattle.endpoints.specs.ConsentPath.{consent_given}
-use Rattle.endpoints.specs.Introspect as introspection
-use Rattle.endpoints.specs.Presented.{live_of, with_presented}
-use Rattle.endpoints.specs.Revoke as revocation
-use Rattle.endpoints.specs.Revoke.{revoked}
+use Rattle.endpoints.specs.Introspect.{introspect, told_of}
+use Rattle.endpoints.specs.Parts.{live_of, with_presented}
+use Rattle.endpoints.specs.Revoke.{revoke_token, revoked}
 use Rattle.messages.specs.Asked.{Asked}
 
 -- the points are others that end so
@@ -40,14 +39,14 @@ told_by points same e is = is ∙ ap Some (sym e)
 
 -- CONSENTS
 
-pub no_consent_room : (rules : RegistryRecord) (history : List Event) (owner client mask : ℕ) → has_consent_room history owner client mask ≡ false →
-    consent_given rules history owner client mask ≡ unavailable
-no_consent_room rules history owner client mask full = rw full refl
+pub no_consent_room : (s : Setting) (owner client mask : ℕ) → has_consent_room s.history owner client mask ≡ false →
+    consent_given s owner client mask ≡ unavailable
+no_consent_room s owner client mask full = rw full refl
 
-pub consent_room : (rules : RegistryRecord) (history : List Event) (owner client mask : ℕ) → has_consent_room history owner client mask ≡ true →
-    consent_given rules history owner client mask
-    ≡ record { reply = plain 200 (Consent (scope_text rules.scopes mask)); changes = Consented owner client mask ∷ [] }
-consent_room rules history owner client mask room = rw room refl
+pub consent_room : (s : Setting) (owner client mask : ℕ) → has_consent_room s.history owner client mask ≡ true →
+    consent_given s owner client mask
+    ≡ record { reply = plain 200 (Consent (scope_text s.rules.scopes mask)); changes = Consented owner client mask ∷ [] }
+consent_room s owner client mask room = rw room refl
 
 -- LIVE TOKENS
 
@@ -70,27 +69,34 @@ pub live_named : (history : List Event) (digest : List ℕ) (m : ℕ) (g : Grant
 live_named history digest m g is =
     good history digest m (grant_at history digest m) g (passes (λ g. not (is_code g.kind)) (live_grant history digest m) g is)
 
-pub own_revoked : (number : ℕ) (g : Grant) → g.client ≡ number →
-    revoked number (Some g) ≡ record { reply = plain 200 Empty; changes = FamilyEnded g.family ∷ [] }
+-- what is done of the live token, if there is one
+abbrev pub revoked_by : ℕ → Option Grant → Outcome
+revoked_by number live = need live (bare 200) (λ token. point (not (token.client == number)) (refuse InvalidGrant) (revoked token))
+
+pub own_revoked : (number : ℕ) (g : Grant) → g.client ≡ number → revoked_by number (Some g) ≡ revoked g
 own_revoked number g same = rw (eq-eqb g.client number same) refl
 
-pub other_refused : (number : ℕ) (g : Grant) → (g.client ≡ number → ⊥) → revoked number (Some g) ≡ refuse InvalidGrant
+pub other_refused : (number : ℕ) (g : Grant) → (g.client ≡ number → ⊥) → revoked_by number (Some g) ≡ refuse InvalidGrant
 other_refused number g other = by_test (g.client == number) refl
   where
-    by_test : (own : Bool) → (g.client == number) ≡ own → revoked number (Some g) ≡ refuse InvalidGrant
+    by_test : (own : Bool) → (g.client == number) ≡ own → revoked_by number (Some g) ≡ refuse InvalidGrant
     by_test true is = absurd (other (eqb-true g.client number is))
     by_test false is = rw is refl
 
--- what is told of a live token
+-- what is told of the live token, if there is one
+abbrev pub told_by_live : RegistryRecord → Option Grant → Outcome
+told_by_live rules live = need live (only (plain 200 Inactive)) (λ token. only (plain 200 (told_of rules token token.kind)))
+
 pub active_told : (rules : RegistryRecord) (g : Grant) (kind : TokenKind) (issued expires : ℕ) → g.kind ≡ Token kind → issued ≡ g.moment → expires ≡ g.moment + g.life →
-    introspection.token_told rules (Some g) ≡ only (plain 200 (Active (id_of rules g.client) expires issued (scope_text rules.scopes g.scope) (sub_of g.owner rules.owners) kind))
+    told_by_live rules (Some g)
+    ≡ only (plain 200 (Active (id_of rules g.client) expires issued (scope_text rules.scopes g.scope) (sub_of g.owner rules.owners) kind))
 active_told rules g kind issued expires is_kind is_issued is_expires = rw (is_kind, is_issued, is_expires) refl
 
 no_token : (k : Kind) → ((t : TokenKind) → k ≡ Token t → ⊥) → k ≡ Code
 no_token Code other = refl
 no_token (Token t) other = absurd (other t refl)
 
-pub code_told : (rules : RegistryRecord) (g : Grant) → ((t : TokenKind) → g.kind ≡ Token t → ⊥) → introspection.token_told rules (Some g) ≡ only (plain 200 Inactive)
+pub code_told : (rules : RegistryRecord) (g : Grant) → ((t : TokenKind) → g.kind ≡ Token t → ⊥) → told_by_live rules (Some g) ≡ only (plain 200 Inactive)
 code_told rules g other = rw (no_token g.kind other) refl
 
 not_false : (b : Bool) → not b ≡ false → b ≡ true
@@ -110,12 +116,12 @@ revoked_told s digest g at = rw at refl
 
 -- WHAT WAS PRESENTED
 
-module _ (rules : RegistryRecord) (history : List Event) (m : ℕ) (asked : Asked) (number : ℕ) (digest : Option (List ℕ)) (live : Option Grant) where
+module _ (s : Setting) (asked : Asked) (number : ℕ) (digest : Option (List ℕ)) (live : Option Grant) where
   abbrev Presented : Type 0
-  Presented = (next : ℕ → Option (List ℕ) → Outcome) → with_presented rules asked next ≡ next number digest
+  Presented = (next : ℕ → Option (List ℕ) → Outcome) → with_presented s.rules asked next ≡ next number digest
 
-  pub introspected : Presented → live_of history m digest ≡ live → introspection.introspect rules history asked m ≡ introspection.token_told rules live
-  introspected leads is = leads (λ _ d. introspection.token_told rules (live_of history m d)) ∙ ap (introspection.token_told rules) is
+  pub introspected : Presented → live_of s.history s.moment digest ≡ live → introspect s asked ≡ told_by_live s.rules live
+  introspected leads is = leads (λ _ d. told_by_live s.rules (live_of s.history s.moment d)) ∙ ap (told_by_live s.rules) is
 
-  pub revoked_as : Presented → live_of history m digest ≡ live → revocation.revoke_token rules history asked m ≡ revoked number live
-  revoked_as leads is = leads (λ n d. revoked n (live_of history m d)) ∙ ap (revoked number) is
+  pub revoked_as : Presented → live_of s.history s.moment digest ≡ live → revoke_token s asked ≡ revoked_by number live
+  revoked_as leads is = leads (λ n d. revoked_by n (live_of s.history s.moment d)) ∙ ap (revoked_by number) is

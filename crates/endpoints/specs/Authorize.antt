@@ -5,11 +5,11 @@ use Rattle.sha2.specs.Sha256.{sha256}
 use Rattle.pkce.specs.Proof.{is_challenge}
 use Rattle.pkce.specs.Token.{token_text}
 use Rattle.params.specs.Form.{read_params, value_sent}
-use Rattle.clients.specs.RegistryRecord.{RegistryRecord}
+use Rattle.clients.specs.ClientRecord.{ClientRecord}
 use Rattle.clients.specs.Clients.{has_redirect}
 use Rattle.clients.specs.Grants.{has_grant}
 use Rattle.clients.specs.declared.grant.GrantType.TheVariants.{AuthorizationCode}
-use Rattle.consent.specs.History.{Event, is_within, consented_scope}
+use Rattle.consent.specs.History.{is_within, consented_scope}
 use Rattle.consent.specs.History.Change.{CodeGiven}
 use Rattle.messages.specs.Asked.{Asked}
 use Rattle.messages.specs.Target.{query_of}
@@ -18,9 +18,18 @@ use Rattle.messages.specs.declared.error.ErrorName.TheVariants.{InvalidRequest, 
 use Rattle.messages.specs.Reply.{sent_back}
 use Rattle.messages.specs.Written.{error_text}
 use Rattle.answers.specs.Outcomes.{Outcome, point, need, only, refuse, unless_taken}
-use Rattle.answers.specs.Requesters.{Parameters, KnownClient, client_named, owner_of_key, scope_within}
+use Rattle.answers.specs.Requesters.{Parameters, client_named, owner_of_key, scope_within}
+use Rattle.answers.specs.Setting.{Setting}
 use Rattle.answers.specs.Short.{state_limit}
 use Rattle.answers.specs.Texts.{where_passes}
+
+-- the point "the parameters of the query"
+abbrev pub with_query : Asked → (Parameters → Outcome) → Outcome
+with_query asked next = need (result_ok (read_params (query_of asked.target))) (refuse InvalidRequest) next
+
+-- the redirect URI, which is one of the client's
+abbrev pub redirect_sent : Parameters → ClientRecord → Option (List ℕ)
+redirect_sent params client = where_passes (λ uri. has_redirect uri client) (value_sent (codes "redirect_uri") params)
 
 -- the state, if it was sent
 abbrev pub state_sent : Parameters → Option (List ℕ)
@@ -41,41 +50,42 @@ challenge_sent params =
     (λ method. where_passes (λ challenge. bytes_eq method (codes "S256") && is_challenge challenge) (value_sent (codes "code_challenge") params))
     (value_sent (codes "code_challenge_method") params)
 
--- 7. the code: its text is the draw's, and its digest is kept
-abbrev pub code_sent_back : List Event → ℕ → List ℕ → Parameters → ℕ → ℕ → ℕ → List ℕ → List ℕ → Outcome
-code_sent_back history m draw params client owner scope uri challenge =
-    unless_taken history m (sha256 draw ∷ [])
+-- what a code is given for
+pub record NewCode : Type 0 where
+  pub client : ℕ
+  pub owner : ℕ
+  pub scope : ℕ
+  pub redirect : List ℕ
+  pub challenge : List ℕ
+
+-- the user agent is sent back with a code: its text is the draw's, and its digest is kept
+abbrev pub code_sent_back : Setting → Parameters → NewCode → Outcome
+code_sent_back setting params new =
+    let digest = sha256 setting.draws.first in
+    unless_taken setting (digest ∷ [])
     (record {
-      reply = sent_back uri (codes "code") (token_text draw) (state_sent params);
-      changes = CodeGiven (length history) client owner scope uri challenge (sha256 draw) ∷ [];
+      reply = sent_back new.redirect (codes "code") (token_text setting.draws.first) (state_sent params);
+      changes = CodeGiven (length setting.history) new.client new.owner new.scope new.redirect new.challenge digest ∷ [];
     })
 
--- 2 to 7, once the client and its redirect URI are known
-abbrev pub authorize_known : RegistryRecord → List Event → Asked → ℕ → List ℕ → Parameters → KnownClient → List ℕ → Outcome
-authorize_known rules history asked m draw params known uri =
+abbrev pub authorize : Setting → Asked → Outcome
+authorize setting asked =
+    -- 1. the client and its redirect URI; without them nobody is sent anywhere
+    with_query asked (λ params.
+    need (client_named setting.rules params) (refuse InvalidRequest) (λ known.
+    need (redirect_sent params known.client) (refuse InvalidRequest) (λ uri.
     let turned = turned_back uri params in
+    -- 2. the response type
     need (value_sent (codes "response_type") params) (turned InvalidRequest) (λ type.
     point (not (bytes_eq type (codes "code"))) (turned UnsupportedResponseType)
+    -- 3. the client may use codes
     (point (not (has_grant AuthorizationCode known.client.grants)) (turned UnauthorizedClient)
+    -- 4. the challenge
     (need (challenge_sent params) (turned InvalidRequest) (λ challenge.
-    need (scope_within rules known.client.allowed params) (turned InvalidScope) (λ scope.
-    need (owner_of_key rules asked) (turned AccessDenied) (λ owner.
-    point (not (is_within scope (consented_scope history owner known.number))) (turned AccessDenied)
-    (code_sent_back history m draw params known.number owner scope uri challenge)))))))
-
--- 1. the client and its redirect URI; without them nobody is sent anywhere
-abbrev pub known_points : RegistryRecord → Parameters → (KnownClient → List ℕ → Outcome) → Outcome
-known_points rules params next =
-    need (client_named rules params) (refuse InvalidRequest) (λ known.
-    need (where_passes (λ uri. has_redirect uri known.client) (value_sent (codes "redirect_uri") params)) (refuse InvalidRequest) (next known))
-
--- 1 to 7, of the parameters of the query
-abbrev pub query_points : RegistryRecord → List Event → Asked → ℕ → List ℕ → Parameters → Outcome
-query_points rules history asked m draw params = known_points rules params (authorize_known rules history asked m draw params)
-
--- which come first
-abbrev pub with_query : Asked → (Parameters → Outcome) → Outcome
-with_query asked next = need (result_ok (read_params (query_of asked.target))) (refuse InvalidRequest) next
-
-abbrev pub authorize : RegistryRecord → List Event → Asked → ℕ → List ℕ → Outcome
-authorize rules history asked m draw = with_query asked (query_points rules history asked m draw)
+    -- 5. the scope that is asked for, within what the client may have
+    need (scope_within setting.rules known.client.allowed params) (turned InvalidScope) (λ scope.
+    -- 6. the owner, who consents to it
+    need (owner_of_key setting.rules asked) (turned AccessDenied) (λ owner.
+    point (not (is_within scope (consented_scope setting.history owner known.number))) (turned AccessDenied)
+    (code_sent_back setting params
+    (record { client = known.number; owner = owner; scope = scope; redirect = uri; challenge = challenge })))))))))))

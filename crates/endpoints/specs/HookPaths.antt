@@ -17,6 +17,7 @@ use Rattle.messages.specs.Reply.{plain}
 use Rattle.messages.specs.Reply.Body.{Hook, HookRefused, Hooks}
 use Rattle.answers.specs.Outcomes.{Outcome, point, need, only, refuse, unavailable}
 use Rattle.answers.specs.Requesters.{Parameters, form_of}
+use Rattle.answers.specs.Setting.{Setting}
 use Rattle.endpoints.specs.declared.endpoint.Endpoint.{Endpoint}
 use Rattle.endpoints.specs.declared.endpoint.Endpoint.TheVariants as endpoint
 
@@ -24,6 +25,7 @@ use Rattle.endpoints.specs.declared.endpoint.Endpoint.TheVariants as endpoint
 abbrev pub is_operator : RegistryRecord → Asked → Bool
 is_operator rules asked = option_map_or (λ key. is_operator_key key rules) asked.operator_key false
 
+-- the point "the operator's key"
 abbrev pub with_operator : RegistryRecord → Asked → Outcome → Outcome
 with_operator rules asked next = point (not (is_operator rules asked)) (refuse AccessDenied) next
 
@@ -79,19 +81,18 @@ by_fault change None = record { reply = plain 200 (Hook (hook_name change)); cha
 by_fault change (Some hook.Memory) = unavailable
 by_fault change (Some fault) = only (plain 400 (HookRefused (hook_fault_text fault)))
 
--- the change that is asked for, if one is
-abbrev pub hook_points : Option Change → Option HookFault → Outcome
-hook_points change fault = need change (refuse InvalidRequest) (λ change. by_fault change fault)
+-- the change that is asked for, if one is, which the host makes or refuses
+abbrev pub change_hooks : Setting → Asked → Option Change → Outcome
+change_hooks setting asked change =
+    with_operator setting.rules asked
+    (need change (refuse InvalidRequest) (λ change.
+    by_fault change setting.host.fault))
 
--- the operator's change, which the host makes or refuses
-abbrev pub change_hooks : RegistryRecord → Option HookFault → Asked → Option Change → Outcome
-change_hooks rules fault asked change = with_operator rules asked (hook_points change fault)
+abbrev pub install_hook : Setting → Asked → Outcome
+install_hook setting asked = change_hooks setting asked (installation asked)
 
-abbrev pub install_hook : RegistryRecord → Option HookFault → Asked → Outcome
-install_hook rules fault asked = change_hooks rules fault asked (installation asked)
+abbrev pub remove_hook : Setting → Asked → Outcome
+remove_hook setting asked = change_hooks setting asked (removal asked)
 
-abbrev pub remove_hook : RegistryRecord → Option HookFault → Asked → Outcome
-remove_hook rules fault asked = change_hooks rules fault asked (removal asked)
-
-abbrev pub list_hooks : RegistryRecord → List (List ℕ) → Asked → Outcome
-list_hooks rules names asked = with_operator rules asked (only (plain 200 (Hooks names)))
+abbrev pub list_hooks : Setting → Asked → Outcome
+list_hooks setting asked = with_operator setting.rules asked (only (plain 200 (Hooks setting.host.names)))

@@ -1,22 +1,16 @@
--- What the server asks of a host of hooks, and how the host comes from the first one.
-use Rattle.std.specs.Prelude.{◌≡◌, ℕ, List, [], ◌∷◌, Bool, Option, Some, None}
+-- What a host of hooks says to a server, and how it comes from the first one.
+use Rattle.std.specs.Prelude.{◌≡◌, ℕ, List, [], ◌∷◌, Option, Some, None}
 use Rattle.insn.specs.declared.layout.Layout.{Layout}
-use Rattle.hook_record.specs.declared.Ask.{Ask}
-use Rattle.hook_record.specs.declared.Narrowed.{Narrowed}
 use Rattle.hook_host.specs.declared.fault.HookFault.{HookFault}
 use Rattle.hook_host.specs.declared.host.HookHost.{Ghosts as Hosting}
 use Rattle.hook_host.specs.Versions.{layout_of}
 use Rattle.consent.specs.History.{Event, Change}
 use Rattle.consent.specs.History.Change.{Consented, CodeGiven, Issued, Spent, FamilyEnded, HookSet, HookGone}
-use Rattle.messages.specs.Written.{Written, in_writing}
-use Rattle.answers.specs.Outcomes.{Outcome, chosen}
+use Rattle.answers.specs.Setting.{HostSays}
 
--- what a host says: its answer to each ask, its hooks' names, and the fault that it has for the change that the request
--- asks for, if any
-pub record HostSays : Type 0 where
-  pub answer : Ask → Narrowed
-  pub names : List (List ℕ)
-  pub fault : Option HookFault
+-- what a host says, with this fault for the change that is asked for
+abbrev pub says_with : {H : Type 0} → Hosting H → H → Option HookFault → HostSays
+says_with hosting host fault = record { answer = hosting.answer host; names = hosting.names host; fault = fault }
 
 -- THE HOST'S OWN FAULTS
 
@@ -50,22 +44,3 @@ abbrev pub HostRun : {H : Type 0} → (H → List ℕ → Layout → List ℕ �
 HostRun installs removes first [] now = now ≡ first
 HostRun {H = H} installs removes first (e ∷ later) now =
     (mid : H) × HostStep installs removes first e.change mid × HostRun installs removes mid later now
-
--- WHAT A REQUEST DOES TO THE HOST
-
--- the changes' steps, in their order
-abbrev pub HostSteps : {H : Type 0} → (H → List ℕ → Layout → List ℕ → H → Type 0) → (H → List ℕ → H → Type 0) → H → List Change → H → Type 0
-HostSteps installs removes old [] new = new ≡ old
-HostSteps {H = H} installs removes old (c ∷ cs) new = (mid : H) × HostStep installs removes old c mid × HostSteps installs removes mid cs new
-
--- the reply is the outcome's, and the host has made the outcome's changes
-pub record IsHooked {H : Type 0} (installs : H → List ℕ → Layout → List ℕ → H → Type 0) (removes : H → List ℕ → H → Type 0) (outcome : Outcome) (reply : Written) (old new : H) : Type 0 where
-  pub reply_is : reply ≡ in_writing outcome.reply
-  pub steps : HostSteps installs removes old outcome.changes new
-
--- The host has one of its own faults for the change that is asked for, or none. By that the reply is the outcome's, or the
--- 503 of refused memory, and the host has made the outcome's changes.
-abbrev pub HostAnswers : {H : Type 0} → Hosting H → Option Change → (Option HookFault → Outcome) → Written → H → H → Type 0
-HostAnswers hosting change outcome reply old new =
-    (refused : Bool) × (fault : Option HookFault) × IsHostFault hosting.refuses_install hosting.refuses_remove old change fault
-    × IsHooked hosting.installs hosting.removes (chosen refused (outcome fault)) reply old new

@@ -1,11 +1,10 @@
 pub mod Hosts
 pub mod Authorize
 pub mod ConsentPath
-pub mod Presented
-pub mod Deciding
 pub mod Revoke
 pub mod Introspect
 pub mod HookPaths
+pub mod Parts
 pub mod HookAsking
 pub mod Ruling
 pub mod Paths

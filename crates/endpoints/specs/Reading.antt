@@ -7,6 +7,7 @@ use Rattle.messages.specs.declared.request.Draws.{Draws}
 use Rattle.answers.specs.Halts.{Halts}
 use Rattle.answers.specs.Outcomes.{Outcome}
 use Rattle.answers.specs.Requesters.{Parameters, with_form}
+use Rattle.answers.specs.Setting.{HostSays}
 use Rattle.answers.specs.declared.halt.Halt.{Halt}
 use Rattle.endpoints.specs.declared.endpoint.Endpoint.{Endpoint}
 use Rattle.endpoints.specs.declared.endpoint.Endpoint.TheVariants as endpoint
@@ -14,7 +15,6 @@ use Rattle.endpoints.specs.declared.reading.Reading.{Reading}
 use Rattle.endpoints.specs.declared.reading.Reading.TheVariants.{Authorize, GiveConsent, IssueToken, RevokeToken, Introspect, InstallHook, RemoveHook, ListHooks}
 use Rattle.endpoints.specs.Authorize.{HasShortState, with_query}
 use Rattle.endpoints.specs.HookPaths.{with_operator}
-use Rattle.endpoints.specs.Hosts.{HostSays}
 use Rattle.endpoints.specs.Replies.{outcome_at}
 
 -- the endpoint that is asked
@@ -46,4 +46,5 @@ IsRequestRead rules asked _ = Unit {0}
 -- or one of them ends the request
 abbrev pub EndsAt : Endpoint → RegistryRecord → Asked → Halt → Type 0
 EndsAt endpoint rules asked halt =
-    (host : HostSays) (history : List Event) (m : ℕ) (draws : Draws) → Halts halt (outcome_at endpoint rules host history asked m draws)
+    (history : List Event) (host : HostSays) (moment : ℕ) (draws : Draws) →
+    Halts halt (outcome_at endpoint (record { rules = rules; history = history; host = host; moment = moment; draws = draws }) asked)

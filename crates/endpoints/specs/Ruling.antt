@@ -16,7 +16,7 @@ use Rattle.answers.specs.declared.answer.Answer.TheVariants.{HookRefused}
 use Rattle.answers.specs.declared.halt.Halt.{Halt}
 use Rattle.answers.specs.declared.halt.Halt.TheVariants.{Refuse, NoMemory}
 use Rattle.endpoints.specs.Hosts.{IsHostFault}
-use Rattle.endpoints.specs.HookPaths.{hook_points}
+use Rattle.endpoints.specs.Parts.{hook_points}
 use Rattle.endpoints.specs.declared.ruling.Checked.{Checked}
 use Rattle.endpoints.specs.declared.ruling.Checked.TheVariants.{NoHook, Installs, Removes}
 use Rattle.endpoints.specs.declared.ruling.Ruling.{Ruling}

@@ -21,7 +21,7 @@ use Rattle.endpoints.specs.declared.reading.Reading.TheVariants.{InstallHook, Re
 use Rattle.endpoints.specs.declared.ruling.Ruling.{Ruling}
 use Rattle.endpoints.specs.Bounded.{AllRightAfter}
 use Rattle.endpoints.specs.HookPaths.{hook_change_at}
-use Rattle.endpoints.specs.Hosts.{HostSays, IsHostFault}
+use Rattle.endpoints.specs.Hosts.{IsHostFault, says_with}
 use Rattle.endpoints.specs.Making.{StandsAlone, IsSame}
 use Rattle.endpoints.specs.Reading.{endpoint_of}
 use Rattle.endpoints.specs.Replies.{outcome_at}
@@ -42,31 +42,27 @@ abbrev pub FitsNow : {H : Type 0} → Hosting H → SeenServer H → H → List 
 FitsNow hosting server first history =
     FitsServer hosting.installs hosting.removes server server.rules first history server.greatest
 
--- what the host says, with this fault for the change that is asked for
-abbrev pub says_with : {H : Type 0} → Hosting H → H → Option HookFault → HostSays
-says_with hosting host fault = record { answer = hosting.answer host; names = hosting.names host; fault = fault }
-
--- what the request comes to, where the host has this fault
-abbrev pub comes_to : {H : Type 0} → Hosting H → SeenServer H → List Event → Asking → Option HookFault → Outcome
-comes_to hosting server history asking fault =
-    outcome_at asking.endpoint server.rules (says_with hosting server.host fault) history asking.asked server.greatest asking.draws
-
--- what a decision is taken in
-abbrev pub setting_now : {H : Type 0} → Hosting H → SeenServer H → List Event → Draws → Setting
-setting_now hosting server history draws = record {
+-- what a decision is taken in, where the host has this fault
+abbrev pub setting_now : {H : Type 0} → Hosting H → SeenServer H → List Event → Draws → Option HookFault → Setting
+setting_now hosting server history draws fault = record {
   rules = server.rules;
   history = history;
-  names = hosting.names server.host;
+  host = says_with hosting server.host fault;
   moment = server.greatest;
   draws = draws;
 }
+
+-- what the request comes to there
+abbrev pub comes_to : {H : Type 0} → Hosting H → SeenServer H → List Event → Asking → Option HookFault → Outcome
+comes_to hosting server history asking fault =
+    outcome_at asking.endpoint (setting_now hosting server history asking.draws fault) asking.asked
 
 -- The ruling is what the request comes to, by one of the host's own faults or none. Its changes may come next, each is
 -- right, and the server can make them.
 pub record IsRuling {H : Type 0} (hosting : Hosting H) (server : SeenServer H) (history : List Event) (asking : Asking) (ruling : Ruling H) : Type 0 where
   pub fault : Option HookFault
   pub host_has : IsHostFault hosting.refuses_install hosting.refuses_remove server.host (hook_change_at asking.endpoint asking.asked) fault
-  pub told_is : outcome_told (setting_now hosting server history asking.draws) ruling.decision ≡ Some (comes_to hosting server history asking fault)
+  pub told_is : outcome_told (setting_now hosting server history asking.draws fault) ruling.decision ≡ Some (comes_to hosting server history asking fault)
   pub follow : AllFollow history server.greatest (comes_to hosting server history asking fault).changes
   pub right : AllRightAfter server.rules history server.greatest (comes_to hosting server history asking fault).changes
   pub alone : StandsAlone (as_list ruling.decision.changes)
@@ -93,7 +89,7 @@ IsAlone _ = Unit {0}
 abbrev pub RulesAlone : {H : Type 0} → Hosting H → SeenServer H → Asking → Result Decision Halt → Type 0
 RulesAlone {H = H} hosting server asking result =
     (first : H) (history : List Event) → FitsNow hosting server first history →
-    Decides (setting_now hosting server history asking.draws) result (comes_to hosting server history asking None)
+    Decides (setting_now hosting server history asking.draws None) result (comes_to hosting server history asking None)
 
 -- ANSWERS
 

@@ -8,9 +8,8 @@ use Rattle.messages.specs.Asked.{Asked}
 use Rattle.messages.specs.Written.{Written}
 use Rattle.messages.specs.declared.request.Draws.{Draws}
 use Rattle.endpoints.specs.Bounded.{IsBounded}
-use Rattle.endpoints.specs.Hosts.{IsHostFault}
+use Rattle.endpoints.specs.Hosts.{IsHostFault, says_with}
 use Rattle.endpoints.specs.Replies.{request_outcome, hook_change}
-use Rattle.endpoints.specs.Rulings.{says_with}
 use Rattle.endpoints.specs.Server.{SeenServer, FitsServer, IsStep}
 
 -- a request as it comes: what it asks, when, and the random bytes of what its reply may give
@@ -27,7 +26,13 @@ Steps {H = H} hosting server arrival reply server' =
     (rules : RegistryRecord) (first : H) (history : List Event) (m : ℕ) → FitsServer hosting.installs hosting.removes server rules first history m →
     (refused : Bool) × (fault : Option HookFault) × IsHostFault hosting.refuses_install hosting.refuses_remove server.host (hook_change arrival.asked) fault
     × IsStep hosting.installs hosting.removes
-    (request_outcome refused rules (says_with hosting server.host fault) history arrival.asked (max m arrival.moment) arrival.draws)
+    (request_outcome refused (record {
+      rules = rules;
+      history = history;
+      host = says_with hosting server.host fault;
+      moment = max m arrival.moment;
+      draws = arrival.draws;
+    }) arrival.asked)
     reply server server' rules first history (max m arrival.moment)
 
 -- so it is of each history that the server fits, and of the moment from which it fits it

@@ -6,11 +6,11 @@ ghost use Rattle.answers.specs.Halts.{LeadsOrHalts};
 ghost use Rattle.answers.specs.Outcomes.{Outcome};
 ghost use Rattle.answers.specs.Requesters as asked;
 ghost use Rattle.answers.specs.Requesters.{Parameters};
-ghost use Rattle.answers.specs.Setting.{known_of};
 ghost use Rattle.answers.specs.Short.{IsShortAnswer, state_limit};
 ghost use Rattle.answers.specs.Told.{Decides, outcome_told};
-ghost use Rattle.endpoints.specs.Authorize.{HasShortState, challenge_sent, known_points, query_points, with_query};
-ghost use Rattle.endpoints.specs.Deciding.{DecidesCode, InEachSetting, code_by};
+ghost use Rattle.answers.specs.Views.{known_of};
+ghost use Rattle.endpoints.specs.Authorize.{HasShortState, challenge_sent, with_query};
+ghost use Rattle.endpoints.specs.Parts.{DecidesCode, InEachSetting, code_by, known_points, query_points};
 
 use answers::{Answer, Decision, Halt, KnownClient, View, named_client, owner, scope_within};
 use clients::{GrantType, Registry};
@@ -142,8 +142,7 @@ pub(crate) fn authorize<'p>(
     request: &Request<'_>,
     params: &'p Params,
 ) -> Result<Decision<'p>, Halt>
-    ensures decides { InEachSetting view.now (λ s. Decides s result
-        (query_points s.rules s.history (asked_of request.entry.now) s.moment s.draws.first params.now)) }
+    ensures decides { InEachSetting view.now (λ s. Decides s result (query_points s (asked_of request.entry.now) params.now)) }
     ensures short { HasShortState params.now → IfOk result (λ decision. IsShortAnswer decision.answer) }
 {
     let requester = match known(view.rules, params) {

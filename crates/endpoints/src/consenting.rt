@@ -4,8 +4,8 @@ ghost use Rattle.messages.specs.Asked.{asked_of};
 ghost use Rattle.answers.specs.Halts.{LeadsOrHalts};
 ghost use Rattle.answers.specs.Short.{IsShortAnswer};
 ghost use Rattle.answers.specs.Told.{Decides};
-ghost use Rattle.endpoints.specs.ConsentPath.{consent_points, give_consent};
-ghost use Rattle.endpoints.specs.Deciding.{InEachSetting, consent_by};
+ghost use Rattle.endpoints.specs.ConsentPath.{give_consent};
+ghost use Rattle.endpoints.specs.Parts.{InEachSetting, consent_by, consent_points};
 
 use answers::{Answer, Decision, Halt, View, Want, form, named_client, owner, scope};
 use consent::{Change, Changes, ClientNo, OwnerNo};
@@ -24,7 +24,7 @@ pub(crate) struct NewConsent {
 // The owner, the client and what the one consents to the other's having.
 fn consented(view: &View<'_>, request: &Request<'_>, params: &Params) -> Result<NewConsent, Halt>
     ensures { InEachSetting view.now (λ s. LeadsOrHalts result
-        (consent_points s.rules s.history (asked_of request.entry.now) params.now) (consent_by s)) }
+        (consent_points s (asked_of request.entry.now) params.now) (consent_by s)) }
 {
     let Some(owner) = owner(view.rules, request) else {
         return Err(Halt::Refuse(ErrorName::AccessDenied));
@@ -48,7 +48,7 @@ pub(crate) fn consent<'c>(
     view: &View<'_>,
     request: &Request<'_>,
 ) -> Result<Decision<'c>, Halt>
-    ensures decides { InEachSetting view.now (λ s. Decides s result (give_consent s.rules s.history (asked_of request.entry.now))) }
+    ensures decides { InEachSetting view.now (λ s. Decides s result (give_consent s (asked_of request.entry.now))) }
     ensures short { IfOk result (λ decision. IsShortAnswer decision.answer) }
 {
     let params = match form(alloc, request) {

@@ -3,8 +3,8 @@ ghost use Rattle.std.specs.Prelude.{◌≡◌, IfOk};
 ghost use Rattle.messages.specs.Asked.{asked_of};
 ghost use Rattle.answers.specs.Short.{IsShortAnswer};
 ghost use Rattle.answers.specs.Told.{Decides};
-ghost use Rattle.endpoints.specs.Deciding.{InEachSetting};
 ghost use Rattle.endpoints.specs.Introspect.{introspect};
+ghost use Rattle.endpoints.specs.Parts.{InEachSetting};
 
 use crate::revoke::{live_token, presented_by};
 use answers::{Answer, Decision, Halt, View};
@@ -28,8 +28,7 @@ pub(crate) fn introspect<'c>(
     view: &View<'_>,
     request: &Request<'_>,
 ) -> Result<Decision<'c>, Halt>
-    ensures decides { InEachSetting view.now (λ s. Decides s result
-        (introspect s.rules s.history (asked_of request.entry.now) s.moment)) }
+    ensures decides { InEachSetting view.now (λ s. Decides s result (introspect s (asked_of request.entry.now))) }
     ensures short { IfOk result (λ decision. IsShortAnswer decision.answer) }
 {
     let presented = match presented_by(alloc, view.rules, request) {

@@ -5,8 +5,7 @@ ghost use Rattle.answers.specs.Halts.{LeadsOrHalts};
 ghost use Rattle.answers.specs.Outcomes.{Outcome};
 ghost use Rattle.answers.specs.Short.{IsShortAnswer};
 ghost use Rattle.answers.specs.Told.{Decides};
-ghost use Rattle.endpoints.specs.Deciding.{FindsLive, InEachSetting};
-ghost use Rattle.endpoints.specs.Presented.{with_presented};
+ghost use Rattle.endpoints.specs.Parts.{FindsLive, InEachSetting, with_presented};
 ghost use Rattle.endpoints.specs.Revoke.{revoke_token};
 
 use answers::{Answer, Decision, Halt, View, authenticated_client, digest_told, form};
@@ -70,8 +69,7 @@ pub(crate) fn revoke<'c>(
     view: &View<'_>,
     request: &Request<'_>,
 ) -> Result<Decision<'c>, Halt>
-    ensures decides { InEachSetting view.now (λ s. Decides s result
-        (revoke_token s.rules s.history (asked_of request.entry.now) s.moment)) }
+    ensures decides { InEachSetting view.now (λ s. Decides s result (revoke_token s (asked_of request.entry.now))) }
     ensures short { IfOk result (λ decision. IsShortAnswer decision.answer) }
 {
     let presented = match presented_by(alloc, view.rules, request) {

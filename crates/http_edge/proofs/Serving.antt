@@ -11,11 +11,11 @@ use Rattle.messages.specs.declared.request.Draws.{Draws}
 use Rattle.messages.specs.Asked.{Asked}
 use Rattle.messages.specs.Written.{Written, in_writing, reply_bytes}
 use Rattle.answers.specs.Outcomes.{Outcome}
-use Rattle.endpoints.specs.Hosts.{IsHostFault}
+use Rattle.endpoints.specs.Hosts.{IsHostFault, says_with}
 use Rattle.endpoints.specs.Replies.{request_outcome, hook_change}
 use Rattle.endpoints.specs.Server.{SeenServer, FitsServer, AreNoted, IsStep}
 use Rattle.heads.specs.Message.{Message, asked_of_message}
-use Rattle.http_edge.specs.Answers.{AnswerMark, says, IsOutcomeOfRequest, AreAnswered, changes_made, replies_of}
+use Rattle.http_edge.specs.Answers.{AnswerMark, IsOutcomeOfRequest, AreAnswered, changes_made, replies_of}
 use Rattle.http_edge.specs.Schedule.{moment_after}
 use Rattle.http_edge.specs.Heard.{AreMessagesServed, IsStillNone, IsHeard}
 
@@ -56,7 +56,13 @@ StepsOn hosting rules first server server' asked moment d reply =
     (h : List Event) (g : ℕ) → FitsServer hosting.installs hosting.removes server rules first h g →
     (refused : Bool) × (fault : Option HookFault) × IsHostFault hosting.refuses_install hosting.refuses_remove server.host (hook_change asked) fault
     × IsStep hosting.installs hosting.removes
-    (request_outcome refused rules (record { answer = hosting.answer server.host; names = hosting.names server.host; fault = fault }) h asked (max g moment) d)
+    (request_outcome refused (record {
+      rules = rules;
+      history = h;
+      host = says_with hosting server.host fault;
+      moment = max g moment;
+      draws = d;
+    }) asked)
     reply server server' rules first h (max g moment)
 
 -- it answers it after the others
@@ -70,7 +76,13 @@ served_more hosting before server server' output out rules first history g m mom
     let h = with_changes history m (changes_made os) in
     let step = steps h g fits in
     let mark : AnswerMark = record { refused = step.0; fault = step.1 } in
-    let o : Outcome = request_outcome step.0 rules (says hosting server.host mark) h (asked_of_message message) m (get_or draws (length messages) d) in
+    let o : Outcome = request_outcome step.0 (record {
+      rules = rules;
+      history = h;
+      host = says_with hosting server.host step.1;
+      moment = m;
+      draws = get_or draws (length messages) d;
+    }) (asked_of_message message) in
     let done : IsStep hosting.installs hosting.removes o reply server server' rules first h m = rw later at step.3 in
     let size = length-map messages asked_of_message in
     let is : IsOutcomeOfRequest hosting rules first m h (asked_of_message message) (get_or draws (length messages) d) mark o =

@@ -9,7 +9,7 @@ use Rattle.messages.specs.declared.request.Draws.{Draws}
 use Rattle.messages.specs.Asked.{Asked}
 use Rattle.messages.specs.Written.{in_writing, reply_bytes}
 use Rattle.answers.specs.Outcomes.{Outcome}
-use Rattle.endpoints.specs.Hosts.{HostSays, HostRun, IsHostFault}
+use Rattle.endpoints.specs.Hosts.{HostRun, IsHostFault, says_with}
 use Rattle.endpoints.specs.Replies.{request_outcome, hook_change}
 
 -- what is free in the answer to a request: whether memory was refused for it at its endpoint, and the fault, if any, that the host had
@@ -18,17 +18,19 @@ pub record AnswerMark : Type 0 where
   pub refused : Bool
   pub fault : Option HookFault
 
--- what a host says at a request
-abbrev pub says : {H : Type 0} → Hosting H → H → AnswerMark → HostSays
-says hosting host mark = record { answer = hosting.answer host; names = hosting.names host; fault = mark.fault }
-
 -- the request has this outcome at the history, by what a host says that comes of the first one by that history
 pub record IsOutcomeOfRequest {H : Type 0} (hosting : Hosting H) (rules : RegistryRecord) (first : H) (m : ℕ) (history : List Event) (asked : Asked)
     (draws : Draws) (mark : AnswerMark) (outcome' : Outcome) : Type 0 where
   pub host : H
   pub comes : HostRun hosting.installs hosting.removes first history host
   pub fault : IsHostFault hosting.refuses_install hosting.refuses_remove host (hook_change asked) mark.fault
-  pub outcome_is : outcome' ≡ request_outcome mark.refused rules (says hosting host mark) history asked m draws
+  pub outcome_is : outcome' ≡ request_outcome mark.refused (record {
+    rules = rules;
+    history = history;
+    host = says_with hosting host mark.fault;
+    moment = m;
+    draws = draws;
+  }) asked
 
 -- the requests have these outcomes, each at the history that the one before left, and with draws of its own
 abbrev pub AreAnswered : {H : Type 0} → Hosting H → RegistryRecord → H → ℕ → List Event → List Asked → List Draws → List AnswerMark → List Outcome → Type 0

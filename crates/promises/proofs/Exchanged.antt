@@ -1,5 +1,5 @@
 -- Requests by their paths, and two exchanges of one text.
-use Rattle.std.proofs.Common.{◌≡◌, ℕ, List, [], ◌∷◌, ◌++◌, Bool, true, false, Some, map, refl, sym, ap, ◌∙◌, subst, append_assoc}
+use Rattle.std.proofs.Common.{◌≡◌, ℕ, List, [], ◌∷◌, ◌++◌, Bool, true, false, Option, Some, map, refl, sym, ap, ◌∙◌, subst, append_assoc}
 use Rattle.std.specs.Prelude.{◌==◌, codes, not, bytes_eq}
 use Rattle.std.specs.List.{list_any}
 use Rattle.std.proofs.lemmas.Bool.{or_left, or_from, false≢true, eq-eqb}
@@ -17,8 +17,8 @@ use Rattle.answers.specs.Tokens.{live_token}
 use Rattle.token_endpoint.specs.TokenPath.{issue_token}
 use Rattle.endpoints.specs.Paths.{endpoint_at, method_at}
 use Rattle.endpoints.specs.Replies.{outcome_at}
-use Rattle.endpoints.specs.Revoke.{revoke_token, revoke_points, revoked}
-use Rattle.promises.specs.Occasions.{Occasion, outcome_of, history_after}
+use Rattle.endpoints.specs.Revoke.{revoke_token, revoked}
+use Rattle.promises.specs.Occasions.{Occasion, outcome_of, history_after, setting_on}
 use Rattle.promises.specs.Uses.{Exchanges, IsGivenAmong, Revokes}
 use Rattle.promises.proofs.Walking.{at_point, at_need, at_authenticated, no_error_200, other, same_some, granted_at}
 use Rattle.promises.proofs.Spending.{has_digest, grant_at-still, is_spent-by, ended_by, ended_stays, live_is}
@@ -30,17 +30,17 @@ module _ (rules : RegistryRecord) (history : List Event) (occasion : Occasion) w
   at_path path =
       need (endpoint_at path) (bare 404) (λ endpoint.
       point (not (bytes_eq occasion.arrival.asked.method (method_at endpoint))) (bare 405)
-      (chosen occasion.refused (outcome_at endpoint rules occasion.host history occasion.arrival.asked occasion.arrival.moment occasion.arrival.draws)))
+      (chosen occasion.refused (outcome_at endpoint (setting_on rules history occasion) occasion.arrival.asked)))
 
   use_of : (text : List ℕ) → Exchanges rules history occasion text →
       (digest : List ℕ) × (digest_told text ≡ Some digest) × IsUse history occasion.arrival.moment digest (outcome_of rules history occasion).changes
   use_of text it =
-      let o = issue_token rules history occasion.host.answer occasion.arrival.asked occasion.arrival.moment occasion.arrival.draws in
+      let o = issue_token (setting_on rules history occasion) occasion.arrival.asked in
       let there : outcome_of rules history occasion ≡ at_path (codes "/token") = ap at_path it.goes_to in
       let same : outcome_of rules history occasion ≡ o =
       there ∙ granted_at (not (bytes_eq occasion.arrival.asked.method (codes "POST"))) occasion.refused o (ap (λ (x : Outcome). x.reply.status) (sym there) ∙ it.granted) in
       subst (λ (x : Outcome). IsUsed history occasion.arrival.moment text x) (sym same)
-      (issue_used rules history occasion.arrival.moment text occasion.host.answer occasion.arrival.asked occasion.arrival.draws it.params it.form it.presents) it.granted
+      (issue_used (setting_on rules history occasion) text occasion.arrival.asked it.params it.form it.presents) it.granted
 
 pub exchanged_once : (rules : RegistryRecord) (history between : List Event) (occasion later : Occasion) (text : List ℕ) →
     Exchanges rules history occasion text → Exchanges rules (history_after rules history occasion ++ between) later text → IsGivenAmong between text
@@ -83,17 +83,21 @@ module _ (rules : RegistryRecord) (history : List Event) (occasion : Occasion) (
   refused : (error : _) → Ended (refuse error)
   refused error e = absurd (no_error_200 error e)
 
+  -- the points of the live token, if there is one
+  abbrev by_live : ℕ → Option Grant → Outcome
+  by_live number live = need live (bare 200) (λ token. point (not (token.client == number)) (refuse InvalidGrant) (revoked token))
+
   ended : (outcome_of rules history occasion).changes ≡ FamilyEnded token.family ∷ []
   ended =
-      let o = revoke_token rules history occasion.arrival.asked occasion.arrival.moment in
+      let o = revoke_token (setting_on rules history occasion) occasion.arrival.asked in
       let there : outcome_of rules history occasion ≡ at_path rules history occasion (codes "/revoke") = ap (at_path rules history occasion) it.goes_to in
       let same : outcome_of rules history occasion ≡ o =
       there ∙ granted_at (not (bytes_eq occasion.arrival.asked.method (codes "POST"))) occasion.refused o (ap (λ (x : Outcome). x.reply.status) (sym there) ∙ it.done) in
       subst Ended (sym same)
-      (at_authenticated Ended rules occasion.arrival.asked (revoke_points history occasion.arrival.moment) refused (λ e. absurd (other 503 200 refl e)) (λ params known is.
-      at_need Ended {A = List ℕ} (value_sent (codes "token") params) (refuse InvalidRequest) (λ text. revoked known.number (live_token history occasion.arrival.moment text)) (refused InvalidRequest) (λ text sent.
+      (at_authenticated Ended rules occasion.arrival.asked _ refused (λ e. absurd (other 503 200 refl e)) (λ params known is.
+      at_need Ended {A = List ℕ} (value_sent (codes "token") params) (refuse InvalidRequest) (λ text. by_live known.number (live_token history occasion.arrival.moment text)) (refused InvalidRequest) (λ text sent.
       let same_text : text ≡ it.text = same_some text it.text (value_sent (codes "token") params) sent (ap (value_sent (codes "token")) (same_some params it.params (form_of occasion.arrival.asked) is it.form) ∙ it.presents) in
-      subst (λ t. Ended (revoked known.number t)) (sym (ap (live_token history occasion.arrival.moment) same_text ∙ it.live))
+      subst (λ t. Ended (by_live known.number t)) (sym (ap (live_token history occasion.arrival.moment) same_text ∙ it.live))
       (at_point Ended (not (token.client == known.number)) (refuse InvalidGrant) _ (λ _. refused InvalidGrant) (λ _ _. refl))))) it.done
 
   pub revoked_stays : (later : List Event) (found : Grant) (digest : List ℕ) (moment : ℕ) →

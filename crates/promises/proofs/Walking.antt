@@ -1,14 +1,19 @@
 -- What holds at each point of an outcome holds of the outcome.
-use Rattle.std.proofs.Common.{◌≡◌, ℕ, Bool, true, false, Option, Some, None, Result, Ok, Err, eqb, refl, sym, ◌∙◌}
+use Rattle.std.proofs.Common.{◌≡◌, ℕ, List, Bool, true, false, Option, Some, None, Result, Ok, Err, eqb, refl, sym, ◌∙◌}
+use Rattle.std.specs.Prelude.{not}
 use Rattle.std.proofs.lemmas.Bool.{eq-eqb, false≢true}
 use Rattle.clients.specs.RegistryRecord.{RegistryRecord}
 use Rattle.authentication.specs.declared.authentication.AuthFault.{AuthFault}
 use Rattle.authentication.specs.declared.authentication.AuthFault.TheVariants as auth
 use Rattle.authentication.specs.Authentication.{authenticated}
+use Rattle.consent.specs.History.{has_room, is_taken}
+use Rattle.hook_record.specs.declared.Narrowed.{Narrowed}
+use Rattle.hook_record.specs.declared.Narrowed.TheVariants.{Allowed, Denied, EmptyScope}
 use Rattle.messages.specs.Asked.{Asked}
+use Rattle.answers.specs.Setting.{Setting}
 use Rattle.messages.specs.declared.error.ErrorName.{ErrorName}
 use Rattle.messages.specs.declared.error.ErrorName.TheVariants.{InvalidRequest, InvalidClient, InvalidGrant, InvalidScope, UnauthorizedClient, UnsupportedGrantType, UnsupportedResponseType, AccessDenied}
-use Rattle.answers.specs.Outcomes.{Outcome, point, need, refuse, unavailable, bare, chosen, status_of}
+use Rattle.answers.specs.Outcomes.{Extent, Outcome, point, need, refuse, unavailable, unless_denied, unless_taken, bare, chosen, status_of}
 use Rattle.answers.specs.Requesters.{Parameters, KnownClient, form_of, known_client, with_client, with_authenticated}
 
 module _ (P : Outcome → Type 0) where
@@ -20,6 +25,18 @@ module _ (P : Outcome → Type 0) where
       P without → ((x : A) → o ≡ Some x → P (later x)) → P (need o without later)
   at_need None without later a z = a
   at_need (Some x) without later a z = z x refl
+
+  pub at_left : (left : Narrowed) (denied empty : Outcome) (later : Extent → Outcome) →
+      P denied → P empty → ((left : Extent) → P (later left)) → P (unless_denied left denied empty later)
+  at_left Denied denied empty later a b z = a
+  at_left EmptyScope denied empty later a b z = b
+  at_left (Allowed scope life) denied empty later a b z = z (record { scope = scope; life = life })
+
+  pub at_untaken : (s : Setting) (digests : List (List ℕ)) (given : Outcome) → P unavailable →
+      (is_taken s.history s.moment digests ≡ false → P given) → P (unless_taken s digests given)
+  at_untaken s digests given a z =
+      at_point (not (has_room s.history s.moment digests)) unavailable _ (λ _. a)
+      (λ _. at_point (is_taken s.history s.moment digests) unavailable given (λ _. a) z)
 
   pub at_chosen : (refused : Bool) (o : Outcome) → P unavailable → P o → P (chosen refused o)
   at_chosen true o a z = a

@@ -5,7 +5,7 @@ use Rattle.consent.specs.History.{Event, with_changes}
 use Rattle.messages.specs.Target.{path_of}
 use Rattle.messages.specs.Reply.{Reply}
 use Rattle.answers.specs.Outcomes.{Outcome}
-use Rattle.endpoints.specs.Hosts.{HostSays}
+use Rattle.answers.specs.Setting.{HostSays, Setting}
 use Rattle.endpoints.specs.Replies.{request_outcome}
 use Rattle.endpoints.specs.Steps.{Arrival}
 
@@ -15,10 +15,19 @@ pub record Occasion : Type 0 where
   pub host : HostSays
   pub refused : Bool
 
--- what it comes to after this history
+-- what it is decided by after this history
+abbrev pub setting_on : RegistryRecord → List Event → Occasion → Setting
+setting_on rules history occasion = record {
+  rules = rules;
+  history = history;
+  host = occasion.host;
+  moment = occasion.arrival.moment;
+  draws = occasion.arrival.draws;
+}
+
+-- what it comes to then
 abbrev pub outcome_of : RegistryRecord → List Event → Occasion → Outcome
-outcome_of rules history occasion =
-    request_outcome occasion.refused rules occasion.host history occasion.arrival.asked occasion.arrival.moment occasion.arrival.draws
+outcome_of rules history occasion = request_outcome occasion.refused (setting_on rules history occasion) occasion.arrival.asked
 
 abbrev pub reply_on : RegistryRecord → List Event → Occasion → Reply
 reply_on rules history occasion = (outcome_of rules history occasion).reply

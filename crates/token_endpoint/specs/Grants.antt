@@ -1,44 +1,67 @@
 -- What is asked of the host before a grant, and the tokens that are issued for it.
 use Rattle.std.specs.Prelude.{ℕ, List, [], ◌∷◌}
 use Rattle.sha2.specs.Sha256.{sha256}
-use Rattle.clients.specs.RegistryRecord.{RegistryRecord}
-use Rattle.clients.specs.ClientRecord.{ClientRecord}
-use Rattle.consent.specs.History.{Change}
-use Rattle.consent.specs.History.Change.{Issued}
+use Rattle.consent.specs.History.{Change, Grant, consented_scope}
+use Rattle.consent.specs.History.Change.{Issued, Spent}
 use Rattle.consent.specs.declared.grant.TokenKind.TheVariants.{Access, Refresh}
 use Rattle.hook_record.specs.declared.Kind.{Kind}
 use Rattle.hook_record.specs.declared.Ask.{Ask}
 use Rattle.hook_record.specs.declared.Narrowed.{Narrowed}
 use Rattle.hook_host.specs.Decisions.{met_with}
 use Rattle.messages.specs.declared.request.Draws.{Draws}
+use Rattle.answers.specs.Outcomes.{Extent, Outcome, unless_taken}
+use Rattle.answers.specs.Replies.{access_reply, both_reply}
+use Rattle.answers.specs.Requesters.{KnownClient}
+use Rattle.answers.specs.Setting.{Setting}
 
--- a grant of this kind and scope to a client: an owner of 0 is none, and consents to nothing
-abbrev pub ask_for : RegistryRecord → Kind → ℕ → ℕ → ClientRecord → ℕ → ℕ → ℕ → Ask
-ask_for rules kind m number client owner scope consented = record {
+-- a grant of this kind to the client, by this owner and of this scope: an owner of 0 is none
+abbrev pub ask_for : Setting → KnownClient → Kind → ℕ → ℕ → Ask
+ask_for setting known kind owner scope = record {
   kind = kind;
-  now = m;
-  client = number;
+  now = setting.moment;
+  client = known.number;
   owner = owner;
   asked = scope;
   scope = scope;
-  life = rules.access_life;
-  allowed = client.allowed;
-  consented = consented;
-  access_limit = rules.access_life;
-  refresh_limit = rules.refresh_life;
+  life = setting.rules.access_life;
+  allowed = known.client.allowed;
+  consented = consented_scope setting.history owner known.number;
+  access_limit = setting.rules.access_life;
+  refresh_limit = setting.rules.refresh_life;
 }
 
 -- what the host's answer leaves of an ask
-abbrev pub left_by_host : (Ask → Narrowed) → Ask → Narrowed
-left_by_host answer ask = met_with ask (answer ask)
+abbrev pub left_by_host : Setting → Ask → Narrowed
+left_by_host setting ask = met_with ask (setting.host.answer ask)
 
--- a token of the draw is issued
-abbrev pub access_issued : ℕ → ℕ → ℕ → List ℕ → ℕ → ℕ → Change
-access_issued family client owner draw scope life = Issued family client owner Access (sha256 draw) scope life
+-- a token of the draw comes of the code or refresh token that is used
+abbrev pub access_issued : Grant → List ℕ → Extent → Change
+access_issued used draw left = Issued used.family used.client used.owner Access (sha256 draw) left.scope left.life
 
-abbrev pub refresh_issued : ℕ → ℕ → ℕ → List ℕ → ℕ → ℕ → Change
-refresh_issued family client owner draw scope life = Issued family client owner Refresh (sha256 draw) scope life
+abbrev pub refresh_issued : Grant → List ℕ → Extent → Change
+refresh_issued used draw left = Issued used.family used.client used.owner Refresh (sha256 draw) left.scope left.life
+
+-- an access token comes of what is used, which is spent
+abbrev pub access_for : Setting → Grant → Extent → Outcome
+access_for setting used left =
+    unless_taken setting (sha256 setting.draws.first ∷ [])
+    (record {
+      reply = access_reply setting.rules setting.draws.first left.scope left.life;
+      changes = access_issued used setting.draws.first left ∷ Spent used.digest ∷ [];
+    })
 
 -- those of the tokens of both draws
 abbrev pub both_digests : Draws → List (List ℕ)
 both_digests draws = sha256 draws.first ∷ sha256 draws.second ∷ []
+
+-- and a refresh token of this scope too
+abbrev pub both_for : Setting → Grant → Extent → ℕ → Outcome
+both_for setting used left kept =
+    unless_taken setting (both_digests setting.draws)
+    (record {
+      reply = both_reply setting.rules setting.draws left.scope left.life;
+      changes = access_issued used setting.draws.first left
+          ∷ refresh_issued used setting.draws.second (record { scope = kept; life = setting.rules.refresh_life })
+          ∷ Spent used.digest
+          ∷ [];
+    })

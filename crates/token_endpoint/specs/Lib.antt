@@ -4,5 +4,5 @@ pub mod Exchange
 pub mod Refresh
 pub mod ClientCredentials
 pub mod TokenPath
-pub mod Points
+pub mod Parts
 pub mod FollowingLaws

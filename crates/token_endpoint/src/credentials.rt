@@ -1,9 +1,10 @@
 //! POST /token with grant_type client_credentials (RFC 6749, section 4.4).
 ghost use Rattle.std.specs.Prelude.{Ok, IfOk};
-ghost use Rattle.answers.specs.Setting.{known_of};
+ghost use Rattle.answers.specs.Views.{known_of};
 ghost use Rattle.answers.specs.Short.{IsShortAnswer};
-ghost use Rattle.answers.specs.Told.{DecidesBy};
-ghost use Rattle.token_endpoint.specs.Points.{credentials_in, granted_in};
+ghost use Rattle.answers.specs.Told.{DecidesAsking, DecidesBy};
+ghost use Rattle.token_endpoint.specs.ClientCredentials.{client_credentials, granted};
+ghost use Rattle.token_endpoint.specs.Parts.{granted_by};
 
 use crate::granting::{Wish, access_token, ask_for};
 use answers::{Answer, Decision, Halt, KnownClient, View, scope_within};
@@ -16,7 +17,7 @@ use params::Params;
 
 // An access token of the client's own, in a family of its own.
 fn issue_own<'c>(view: &View<'_>, client: ClientNo, scope: u64, life: u32) -> Decision<'c>
-    ensures decides { DecidesBy view.now (Ok result) (λ s. granted_in s client (Narrowed.Allowed scope life)) }
+    ensures decides { DecidesBy view.now (Ok result) (λ s. granted s client (record { scope = scope; life = life })) }
     ensures short { IsShortAnswer result.answer }
 {
     let token = access_token(view, scope, life);
@@ -36,7 +37,7 @@ fn issue_own<'c>(view: &View<'_>, client: ClientNo, scope: u64, life: u32) -> De
 
 // By what the host leaves.
 fn granted<'c>(view: &View<'_>, client: ClientNo, left: Narrowed) -> Result<Decision<'c>, Halt>
-    ensures decides { DecidesBy view.now result (λ s. granted_in s client left) }
+    ensures decides { DecidesBy view.now result (λ s. granted_by s client left) }
     ensures short { IfOk result (λ decision. IsShortAnswer decision.answer) }
 {
     match left {
@@ -53,7 +54,7 @@ pub(crate) fn client_credentials<'c, H: HookHost>(
     params: &Params,
     known: &KnownClient<'_>,
 ) -> Result<Decision<'c>, Halt>
-    ensures decides { DecidesBy view.now result (λ s. credentials_in s (H.answer host.now) params.now (known_of known.now)) }
+    ensures decides { DecidesAsking view.now (H.answer host.now) result (λ s. client_credentials s params.now (known_of known.now)) }
     ensures short { IfOk result (λ decision. IsShortAnswer decision.answer) }
 {
     let Some(scope) = scope_within(view.rules, known.client.allowed(), params) else {

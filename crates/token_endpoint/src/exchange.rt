@@ -2,11 +2,12 @@
 ghost use Rattle.std.specs.Prelude.{◌≡◌, List, IfSome, Ok, IfOk};
 ghost use Rattle.consent.specs.History.{Event};
 ghost use Rattle.answers.specs.Found.{IsFound};
-ghost use Rattle.answers.specs.Setting.{Finds, Shows, known_of};
 ghost use Rattle.answers.specs.Short.{IsShortAnswer};
-ghost use Rattle.answers.specs.Told.{DecidesBy, DecidesOf};
+ghost use Rattle.answers.specs.Told.{DecidesAsking, DecidesOf};
 ghost use Rattle.answers.specs.Tokens.{code_of_client};
-ghost use Rattle.token_endpoint.specs.Points.{exchange_at, exchange_in, exchanged_in};
+ghost use Rattle.answers.specs.Views.{Finds, Shows, known_of};
+ghost use Rattle.token_endpoint.specs.Exchange.{exchange};
+ghost use Rattle.token_endpoint.specs.Parts.{exchange_at, exchanged_by};
 
 use crate::granting::{Wish, access_for, ask_for, both_for, ending};
 use answers::{Answer, Decision, Halt, KnownClient, View, digest_told};
@@ -75,7 +76,7 @@ fn exchanged<'c>(
     code: &Found<'_>,
     left: Narrowed,
 ) -> Decision<'c>
-    ensures decides { DecidesOf view.now digest.now code.now (Ok result) (λ s code. exchanged_in s known.now.client.now code left) }
+    ensures decides { DecidesOf view.now digest.now code.now (Ok result) (λ s code. exchanged_by s known.now.client.now code left) }
     ensures short { IsShortAnswer result.answer }
 {
     match left {
@@ -98,7 +99,7 @@ fn exchange_at<'c, H: HookHost>(
     known: &KnownClient<'_>,
     sent: &Presented<'_>,
 ) -> Result<Decision<'c>, Halt>
-    ensures decides { DecidesBy view.now result (λ s. exchange_at s (H.answer host.now) (known_of known.now) sent.entry.now) }
+    ensures decides { DecidesAsking view.now (H.answer host.now) result (λ s. exchange_at s (known_of known.now) sent.entry.now) }
     ensures short { IfOk result (λ decision. IsShortAnswer decision.answer) }
 {
     let Some(code) = own_code(view, known.number, &sent.digest) else {
@@ -127,7 +128,7 @@ pub(crate) fn exchange<'c, H: HookHost>(
     params: &Params,
     known: &KnownClient<'_>,
 ) -> Result<Decision<'c>, Halt>
-    ensures decides { DecidesBy view.now result (λ s. exchange_in s (H.answer host.now) params.now (known_of known.now)) }
+    ensures decides { DecidesAsking view.now (H.answer host.now) result (λ s. exchange s params.now (known_of known.now)) }
     ensures short { IfOk result (λ decision. IsShortAnswer decision.answer) }
 {
     let Some(text) = params.get("code") else {

@@ -1,11 +1,13 @@
 //! What a host is asked, and the tokens that are issued.
 ghost use Rattle.std.specs.Prelude.{◌≡◌, List, Ok};
 ghost use Rattle.consent.specs.History.{Event};
-ghost use Rattle.answers.specs.Setting.{Shows, known_of};
+ghost use Rattle.answers.specs.Setting.{HostSays};
 ghost use Rattle.answers.specs.Short.{IsShortAnswer};
 ghost use Rattle.answers.specs.Told.{DecidesOf};
+ghost use Rattle.answers.specs.Views.{Shows, known_of, setting_of};
+ghost use Rattle.token_endpoint.specs.Grants.{access_for, both_for};
 ghost use Rattle.token_endpoint.specs.Issuing.{access_token, refresh_token};
-ghost use Rattle.token_endpoint.specs.Points.{access_for, both_for, wished};
+ghost use Rattle.token_endpoint.specs.Parts.{wished};
 
 use answers::{Answer, Decision, KnownClient, View};
 use consent::{Change, Changes, NewToken, OwnerNo, TokenKind};
@@ -24,7 +26,8 @@ pub(crate) struct Wish {
 
 // The ask of a grant to the client.
 pub(crate) fn ask_for(view: &View<'_>, known: &KnownClient<'_>, wish: Wish) -> Ask
-    ensures { (history : List Event) → Shows view.now history → result ≡ wished view.now history (known_of known.now) wish }
+    ensures { (history : List Event) (host : HostSays) → Shows view.now history →
+        result ≡ wished (setting_of view.now history host) (known_of known.now) wish }
 {
     let owner = match wish.owner {
         Some(owner) => u64::from(owner.get()),
@@ -87,7 +90,8 @@ pub(crate) fn access_for<'c>(
     scope: u64,
     life: u32,
 ) -> Decision<'c>
-    ensures decides { DecidesOf view.now digest.now used.now (Ok result) (λ s used. access_for s used scope life) }
+    ensures decides { DecidesOf view.now digest.now used.now (Ok result)
+        (λ s used. access_for s used (record { scope = scope; life = life })) }
     ensures short { IsShortAnswer result.answer }
 {
     let token = access_token(view, scope, life);
@@ -116,7 +120,8 @@ pub(crate) fn both_for<'c>(
     life: u32,
     kept: u64,
 ) -> Decision<'c>
-    ensures decides { DecidesOf view.now digest.now used.now (Ok result) (λ s used. both_for s used scope life kept) }
+    ensures decides { DecidesOf view.now digest.now used.now (Ok result)
+        (λ s used. both_for s used (record { scope = scope; life = life }) kept) }
     ensures short { IsShortAnswer result.answer }
 {
     let token = access_token(view, scope, life);

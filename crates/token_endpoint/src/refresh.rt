@@ -2,11 +2,12 @@
 ghost use Rattle.std.specs.Prelude.{◌≡◌, List, IfSome, IfOk};
 ghost use Rattle.consent.specs.History.{Event};
 ghost use Rattle.answers.specs.Found.{IsFound};
-ghost use Rattle.answers.specs.Setting.{Finds, Shows, known_of};
 ghost use Rattle.answers.specs.Short.{IsShortAnswer};
-ghost use Rattle.answers.specs.Told.{DecidesBy, DecidesOf};
+ghost use Rattle.answers.specs.Told.{DecidesAsking, DecidesOf};
 ghost use Rattle.answers.specs.Tokens.{refresh_of_client};
-ghost use Rattle.token_endpoint.specs.Points.{refresh_in, refreshed_in};
+ghost use Rattle.answers.specs.Views.{Finds, Shows, known_of};
+ghost use Rattle.token_endpoint.specs.Parts.{refreshed_by};
+ghost use Rattle.token_endpoint.specs.Refresh.{refresh};
 
 use crate::granting::{Wish, ask_for, both_for, ending};
 use answers::{Decision, Halt, KnownClient, View, digest_told, scope_within};
@@ -44,7 +45,7 @@ fn refreshed<'c>(
     token: &Found<'_>,
     left: Narrowed,
 ) -> Result<Decision<'c>, Halt>
-    ensures decides { DecidesOf view.now digest.now token.now result (λ s token. refreshed_in s token left) }
+    ensures decides { DecidesOf view.now digest.now token.now result (λ s token. refreshed_by s token left) }
     ensures short { IfOk result (λ decision. IsShortAnswer decision.answer) }
 {
     match left {
@@ -63,7 +64,7 @@ pub(crate) fn refresh<'c, H: HookHost>(
     params: &Params,
     known: &KnownClient<'_>,
 ) -> Result<Decision<'c>, Halt>
-    ensures decides { DecidesBy view.now result (λ s. refresh_in s (H.answer host.now) params.now (known_of known.now)) }
+    ensures decides { DecidesAsking view.now (H.answer host.now) result (λ s. refresh s params.now (known_of known.now)) }
     ensures short { IfOk result (λ decision. IsShortAnswer decision.answer) }
 {
     let Some(text) = params.get("refresh_token") else {

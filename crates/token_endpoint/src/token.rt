@@ -4,11 +4,11 @@ ghost use Rattle.clients.specs.declared.grant.GrantType.{GrantType};
 ghost use Rattle.messages.specs.Asked.{asked_of};
 ghost use Rattle.answers.specs.Halts.{LeadsOrHalts};
 ghost use Rattle.answers.specs.Outcomes.{Outcome};
-ghost use Rattle.answers.specs.Setting.{known_of};
 ghost use Rattle.answers.specs.Short.{IsShortAnswer};
-ghost use Rattle.answers.specs.Told.{DecidesBy};
-ghost use Rattle.token_endpoint.specs.TokenPath.{type_points};
-ghost use Rattle.token_endpoint.specs.Points.{points_in, token_in};
+ghost use Rattle.answers.specs.Told.{DecidesAsking};
+ghost use Rattle.answers.specs.Views.{known_of};
+ghost use Rattle.token_endpoint.specs.Parts.{token_points, type_points};
+ghost use Rattle.token_endpoint.specs.TokenPath.{issue_token};
 
 use crate::credentials::client_credentials;
 use crate::exchange::exchange;
@@ -43,7 +43,7 @@ fn decide_for<'c, H: HookHost>(
     params: &Params,
     known: &KnownClient<'_>,
 ) -> Result<Decision<'c>, Halt>
-    ensures decides { DecidesBy view.now result (λ s. points_in s (H.answer host.now) params.now (known_of known.now)) }
+    ensures decides { DecidesAsking view.now (H.answer host.now) result (λ s. token_points s params.now (known_of known.now)) }
     ensures short { IfOk result (λ decision. IsShortAnswer decision.answer) }
 {
     match grant_type(params, known.client)? {
@@ -60,7 +60,7 @@ pub fn decide<'c, H: HookHost>(
     host: &H,
     request: &Request<'_>,
 ) -> Result<Decision<'c>, Halt>
-    ensures decides { DecidesBy view.now result (λ s. token_in s (H.answer host.now) (asked_of request.entry.now)) }
+    ensures decides { DecidesAsking view.now (H.answer host.now) result (λ s. issue_token s (asked_of request.entry.now)) }
     ensures short { IfOk result (λ decision. IsShortAnswer decision.answer) }
 {
     let params = form(alloc, request)?;

@@ -6,10 +6,10 @@ use Rattle.answers.specs.Outcomes.{only}
 use Rattle.endpoints.proofs.authorize.authorize.Goals as goal
 
 pub returns-in-Ok-code_facts-clause-decides : goal.returns-in-Ok-code_facts-clause-decides
-returns-in-Ok-code_facts-clause-decides c = λ history names shows.
-    c.give_code.ensures.told history names shows ∙ ap Some (sym (c.in-Ok.ensures.leads _ ∙ c.in-Ok-code_facts.ensures.decides history names shows))
+returns-in-Ok-code_facts-clause-decides c = λ history host shows.
+    c.give_code.ensures.told history host shows ∙ ap Some (sym (c.in-Ok.ensures.leads _ ∙ c.in-Ok-code_facts.ensures.decides history host shows))
 
 pub returns-in-Err-code_facts-clause-decides : goal.returns-in-Err-code_facts-clause-decides
-returns-in-Err-code_facts-clause-decides c = λ history names shows.
+returns-in-Err-code_facts-clause-decides c = λ history host shows.
     ap (λ state. Some (only (sent_back c.in-Ok.requester.redirect.now (codes "error") (error_text c.in-Err-code_facts.error) state))) c.get.ensures
-    ∙ ap Some (sym (c.in-Ok.ensures.leads _ ∙ c.in-Err-code_facts.ensures.decides history names shows))
+    ∙ ap Some (sym (c.in-Ok.ensures.leads _ ∙ c.in-Err-code_facts.ensures.decides history host shows))

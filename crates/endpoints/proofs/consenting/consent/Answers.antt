@@ -1,20 +1,20 @@
 use Rattle.std.proofs.Common.{ap, sym, Some, ◌∙◌}
-use Rattle.answers.specs.Setting.{setting_of}
+use Rattle.answers.specs.Views.{setting_of}
 use Rattle.answers.specs.Told.{outcome_told}
 use Rattle.endpoints.proofs.Telling.{halts_by, consent_room, no_consent_room}
 use Rattle.endpoints.proofs.consenting.consent.Goals as goal
 
 pub returns-in-Err-consented-clause-decides : goal.returns-in-Err-consented-clause-decides
-returns-in-Err-consented-clause-decides c = λ history names shows.
-    halts_by _ _ _ (c.in-Ok.ensures _) (c.in-Err-consented.ensures history names shows)
+returns-in-Err-consented-clause-decides c = λ history host shows.
+    halts_by _ _ _ (c.in-Ok.ensures _) (c.in-Err-consented.ensures history host shows)
 
 pub returns-then-not-has_room-clause-decides : goal.returns-then-not-has_room-clause-decides
-returns-then-not-has_room-clause-decides c = λ history names shows.
+returns-then-not-has_room-clause-decides c = λ history host shows.
     let full = sym (c.has_room.ensures history shows.consents) ∙ c.if-not-has_room.true in
-    ap (outcome_told (setting_of c.args.view.now history names)) c.unavailable.ensures
-    ∙ ap Some (sym (c.in-Ok.ensures _ ∙ c.in-Ok-consented.ensures history names shows ∙ no_consent_room c.args.view.now.rules.now history _ _ _ full))
+    ap (outcome_told (setting_of c.args.view.now history host)) c.unavailable.ensures
+    ∙ ap Some (sym (c.in-Ok.ensures _ ∙ c.in-Ok-consented.ensures history host shows ∙ no_consent_room (setting_of c.args.view.now history host) _ _ _ full))
 
 pub returns-clause-decides : goal.returns-clause-decides
-returns-clause-decides c = λ history names shows.
+returns-clause-decides c = λ history host shows.
     let room = sym (c.has_room.ensures history shows.consents) ∙ c.if-not-has_room.false in
-    ap Some (sym (c.in-Ok.ensures _ ∙ c.in-Ok-consented.ensures history names shows ∙ consent_room c.args.view.now.rules.now history _ _ _ room))
+    ap Some (sym (c.in-Ok.ensures _ ∙ c.in-Ok-consented.ensures history host shows ∙ consent_room (setting_of c.args.view.now history host) _ _ _ room))

@@ -1,36 +1,35 @@
 use Rattle.std.proofs.Common.{ap, sym, Some, None, ◌∙◌, arith}
 use Rattle.messages.specs.Asked.{asked_of}
 use Rattle.answers.specs.Found.{grant_found}
-use Rattle.answers.specs.Setting.{setting_of}
+use Rattle.answers.specs.Views.{setting_of}
 use Rattle.answers.specs.Told.{outcome_told}
-use Rattle.endpoints.specs.Introspect as introspection
-use Rattle.endpoints.specs.Presented.{live_of}
-use Rattle.endpoints.proofs.Telling.{introspected, active_told, code_told}
+use Rattle.endpoints.specs.Parts.{live_of}
+use Rattle.endpoints.proofs.Telling.{introspected, active_told, code_told, told_by_live}
 use Rattle.endpoints.proofs.introspect.introspect.Goals as goal
 
 pub returns-in-Err-clause-decides : goal.returns-in-Err-clause-decides
-returns-in-Err-clause-decides c = λ history names shows.
-    c.in-Err.ensures (λ _ d. introspection.token_told c.args.view.now.rules.now (live_of history c.args.view.now.moment d))
+returns-in-Err-clause-decides c = λ history host shows.
+    c.in-Err.ensures (λ _ d. told_by_live c.args.view.now.rules.now (live_of history c.args.view.now.moment d))
 
 pub returns-in_default-clause-decides : goal.returns-in_default-clause-decides
-returns-in_default-clause-decides c = λ history names shows.
-    ap (outcome_told (setting_of c.args.view.now history names)) c.inactive.ensures
-    ∙ ap Some (sym (introspected c.args.view.now.rules.now history c.args.view.now.moment (asked_of c.args.request.now) c.in-Ok.presented.client _ None c.in-Ok.ensures (ap (live_of history c.args.view.now.moment) c.in_default.is)))
+returns-in_default-clause-decides c = λ history host shows.
+    ap (outcome_told (setting_of c.args.view.now history host)) c.inactive.ensures
+    ∙ ap Some (sym (introspected (setting_of c.args.view.now history host) (asked_of c.args.request.now) c.in-Ok.presented.client _ None c.in-Ok.ensures (ap (live_of history c.args.view.now.moment) c.in_default.is)))
 
 pub returns-in_default-live_token-clause-decides : goal.returns-in_default-live_token-clause-decides
-returns-in_default-live_token-clause-decides c = λ history names shows.
-    ap (outcome_told (setting_of c.args.view.now history names)) c.inactive-in_default-live_token.ensures
-    ∙ ap Some (sym (introspected c.args.view.now.rules.now history c.args.view.now.moment (asked_of c.args.request.now) c.in-Ok.presented.client _ None c.in-Ok.ensures
-    (ap (live_of history c.args.view.now.moment) c.in-Some.is ∙ sym (c.in_default-live_token.ensures history names shows))))
+returns-in_default-live_token-clause-decides c = λ history host shows.
+    ap (outcome_told (setting_of c.args.view.now history host)) c.inactive-in_default-live_token.ensures
+    ∙ ap Some (sym (introspected (setting_of c.args.view.now history host) (asked_of c.args.request.now) c.in-Ok.presented.client _ None c.in-Ok.ensures
+    (ap (live_of history c.args.view.now.moment) c.in-Some.is ∙ sym (c.in_default-live_token.ensures history host shows))))
 
 pub returns-in_default-kind-clause-decides : goal.returns-in_default-kind-clause-decides
-returns-in_default-kind-clause-decides c = λ history names shows.
-    let live = ap (live_of history c.args.view.now.moment) c.in-Some.is ∙ sym (c.in-Some-live_token.ensures history names shows) in
-    ap (outcome_told (setting_of c.args.view.now history names)) c.inactive-in_default-kind.ensures
-    ∙ ap Some (sym (introspected c.args.view.now.rules.now history c.args.view.now.moment (asked_of c.args.request.now) c.in-Ok.presented.client _ _ c.in-Ok.ensures live ∙ code_told c.args.view.now.rules.now (grant_found history c.in-Some.digest c.args.view.now.moment c.in-Some-live_token.token) c.in_default-kind.not-Token))
+returns-in_default-kind-clause-decides c = λ history host shows.
+    let live = ap (live_of history c.args.view.now.moment) c.in-Some.is ∙ sym (c.in-Some-live_token.ensures history host shows) in
+    ap (outcome_told (setting_of c.args.view.now history host)) c.inactive-in_default-kind.ensures
+    ∙ ap Some (sym (introspected (setting_of c.args.view.now history host) (asked_of c.args.request.now) c.in-Ok.presented.client _ _ c.in-Ok.ensures live ∙ code_told c.args.view.now.rules.now (grant_found history c.in-Some.digest c.args.view.now.moment c.in-Some-live_token.token) c.in_default-kind.not-Token))
 
 pub returns-clause-decides : goal.returns-clause-decides
-returns-clause-decides c = λ history names shows.
-    let live = ap (live_of history c.args.view.now.moment) c.in-Some.is ∙ sym (c.in-Some-live_token.ensures history names shows) in
-    ap Some (sym (introspected c.args.view.now.rules.now history c.args.view.now.moment (asked_of c.args.request.now) c.in-Ok.presented.client _ _ c.in-Ok.ensures live
+returns-clause-decides c = λ history host shows.
+    let live = ap (live_of history c.args.view.now.moment) c.in-Some.is ∙ sym (c.in-Some-live_token.ensures history host shows) in
+    ap Some (sym (introspected (setting_of c.args.view.now history host) (asked_of c.args.request.now) c.in-Ok.presented.client _ _ c.in-Ok.ensures live
     ∙ active_told c.args.view.now.rules.now (grant_found history c.in-Some.digest c.args.view.now.moment c.in-Some-live_token.token) c.in-Token.kind c.get-issued.result _ c.in-Token.is c.get-issued.ensures.value (omega (arith, c.get-issued.ensures.value, c.from.ensures))))

@@ -1,36 +1,35 @@
 use Rattle.std.proofs.Common.{ap, sym, Some, None, ◌∙◌}
 use Rattle.messages.specs.Asked.{asked_of}
 use Rattle.answers.specs.Found.{grant_found}
-use Rattle.answers.specs.Setting.{setting_of}
+use Rattle.answers.specs.Views.{setting_of}
 use Rattle.answers.specs.Told.{outcome_told}
-use Rattle.endpoints.specs.Presented.{live_of}
-use Rattle.endpoints.specs.Revoke.{revoked}
-use Rattle.endpoints.proofs.Telling.{revoked_as, own_revoked, other_refused, live_named, revoked_told, agrees, differs}
+use Rattle.endpoints.specs.Parts.{live_of}
+use Rattle.endpoints.proofs.Telling.{revoked_as, revoked_by, own_revoked, other_refused, live_named, revoked_told, agrees, differs}
 use Rattle.endpoints.proofs.revoke.revoke.Goals as goal
 
 pub returns-in-Err-clause-decides : goal.returns-in-Err-clause-decides
-returns-in-Err-clause-decides c = λ history names shows.
-    c.in-Err.ensures (λ n d. revoked n (live_of history c.args.view.now.moment d))
+returns-in-Err-clause-decides c = λ history host shows.
+    c.in-Err.ensures (λ n d. revoked_by n (live_of history c.args.view.now.moment d))
 
 pub returns-in_default-clause-decides : goal.returns-in_default-clause-decides
-returns-in_default-clause-decides c = λ history names shows.
-    ap (outcome_told (setting_of c.args.view.now history names)) c.done.ensures
-    ∙ ap Some (sym (revoked_as c.args.view.now.rules.now history c.args.view.now.moment (asked_of c.args.request.now) c.in-Ok.presented.client _ None c.in-Ok.ensures (ap (live_of history c.args.view.now.moment) c.in_default.is)))
+returns-in_default-clause-decides c = λ history host shows.
+    ap (outcome_told (setting_of c.args.view.now history host)) c.done.ensures
+    ∙ ap Some (sym (revoked_as (setting_of c.args.view.now history host) (asked_of c.args.request.now) c.in-Ok.presented.client _ None c.in-Ok.ensures (ap (live_of history c.args.view.now.moment) c.in_default.is)))
 
 pub returns-in_default-live_token-clause-decides : goal.returns-in_default-live_token-clause-decides
-returns-in_default-live_token-clause-decides c = λ history names shows.
-    ap (outcome_told (setting_of c.args.view.now history names)) c.done-in_default-live_token.ensures
-    ∙ ap Some (sym (revoked_as c.args.view.now.rules.now history c.args.view.now.moment (asked_of c.args.request.now) c.in-Ok.presented.client _ None c.in-Ok.ensures
-    (ap (live_of history c.args.view.now.moment) c.in-Some.is ∙ sym (c.in_default-live_token.ensures history names shows))))
+returns-in_default-live_token-clause-decides c = λ history host shows.
+    ap (outcome_told (setting_of c.args.view.now history host)) c.done-in_default-live_token.ensures
+    ∙ ap Some (sym (revoked_as (setting_of c.args.view.now history host) (asked_of c.args.request.now) c.in-Ok.presented.client _ None c.in-Ok.ensures
+    (ap (live_of history c.args.view.now.moment) c.in-Some.is ∙ sym (c.in_default-live_token.ensures history host shows))))
 
 pub returns-then-ne-clause-decides : goal.returns-then-ne-clause-decides
-returns-then-ne-clause-decides c = λ history names shows.
-    let live = ap (live_of history c.args.view.now.moment) c.in-Some.is ∙ sym (c.in-Some-live_token.ensures history names shows) in
-    revoked_as c.args.view.now.rules.now history c.args.view.now.moment (asked_of c.args.request.now) c.in-Ok.presented.client _ _ c.in-Ok.ensures live ∙ other_refused c.in-Ok.presented.client (grant_found history c.in-Some.digest c.args.view.now.moment c.in-Some-live_token.token) (differs _ _ _ c.ne.ensures c.if-ne.true)
+returns-then-ne-clause-decides c = λ history host shows.
+    let live = ap (live_of history c.args.view.now.moment) c.in-Some.is ∙ sym (c.in-Some-live_token.ensures history host shows) in
+    revoked_as (setting_of c.args.view.now history host) (asked_of c.args.request.now) c.in-Ok.presented.client _ _ c.in-Ok.ensures live ∙ other_refused c.in-Ok.presented.client (grant_found history c.in-Some.digest c.args.view.now.moment c.in-Some-live_token.token) (differs _ _ _ c.ne.ensures c.if-ne.true)
 
 pub returns-clause-decides : goal.returns-clause-decides
-returns-clause-decides c = λ history names shows.
-    let live = ap (live_of history c.args.view.now.moment) c.in-Some.is ∙ sym (c.in-Some-live_token.ensures history names shows) in
-    revoked_told (setting_of c.args.view.now history names) c.in-Some.digest (grant_found history c.in-Some.digest c.args.view.now.moment c.in-Some-live_token.token)
-    (live_named history c.in-Some.digest c.args.view.now.moment (grant_found history c.in-Some.digest c.args.view.now.moment c.in-Some-live_token.token) (sym (c.in-Some-live_token.ensures history names shows)))
-    ∙ ap Some (sym (revoked_as c.args.view.now.rules.now history c.args.view.now.moment (asked_of c.args.request.now) c.in-Ok.presented.client _ _ c.in-Ok.ensures live ∙ own_revoked c.in-Ok.presented.client (grant_found history c.in-Some.digest c.args.view.now.moment c.in-Some-live_token.token) (agrees _ _ _ c.ne.ensures c.if-ne.false)))
+returns-clause-decides c = λ history host shows.
+    let live = ap (live_of history c.args.view.now.moment) c.in-Some.is ∙ sym (c.in-Some-live_token.ensures history host shows) in
+    revoked_told (setting_of c.args.view.now history host) c.in-Some.digest (grant_found history c.in-Some.digest c.args.view.now.moment c.in-Some-live_token.token)
+    (live_named history c.in-Some.digest c.args.view.now.moment (grant_found history c.in-Some.digest c.args.view.now.moment c.in-Some-live_token.token) (sym (c.in-Some-live_token.ensures history host shows)))
+    ∙ ap Some (sym (revoked_as (setting_of c.args.view.now history host) (asked_of c.args.request.now) c.in-Ok.presented.client _ _ c.in-Ok.ensures live ∙ own_revoked c.in-Ok.presented.client (grant_found history c.in-Some.digest c.args.view.now.moment c.in-Some-live_token.token) (agrees _ _ _ c.ne.ensures c.if-ne.false)))

@@ -1,0 +1,114 @@
+-- Parts of the columns of points, and what is decided by them in a setting. Only the functions' own clauses cite this module.
+use Rattle.std.specs.Prelude.{◌≡◌, ℕ, List, not, codes, bytes_eq, Option, Some, Result, Ok, Err, option_and_then, option_map}
+use Rattle.params.specs.Form.{value_sent}
+use Rattle.clients.specs.RegistryRecord.{RegistryRecord}
+use Rattle.clients.specs.Grants.{has_grant}
+use Rattle.clients.specs.declared.grant.GrantType.TheVariants.{AuthorizationCode}
+use Rattle.consent.specs.History.{Change, Event, Grant, live_grant, is_code, is_within, consented_scope}
+use Rattle.consent.specs.declared.change.CodeFacts.{CodeFacts}
+use Rattle.hook_host.specs.declared.fault.HookFault.{HookFault}
+use Rattle.messages.specs.Asked.{Asked}
+use Rattle.messages.specs.declared.error.ErrorName.{ErrorName}
+use Rattle.messages.specs.declared.error.ErrorName.TheVariants.{InvalidRequest, InvalidScope, UnauthorizedClient, UnsupportedResponseType, AccessDenied}
+use Rattle.token_store.specs.declared.found.Found.{Found}
+use Rattle.answers.specs.Found.{grant_found}
+use Rattle.answers.specs.Outcomes.{Outcome, point, need, refuse}
+use Rattle.answers.specs.Requesters.{Parameters, KnownClient, client_named, owner_of_key, scope_asked, scope_within, with_authenticated}
+use Rattle.answers.specs.Setting.{HostSays, Setting}
+use Rattle.answers.specs.Texts.{digest_told, where_passes}
+use Rattle.answers.specs.Views.{Shows, known_of, setting_of}
+use Rattle.answers.specs.declared.view.View.{View}
+use Rattle.endpoints.specs.declared.authorize.Requester.{Requester}
+use Rattle.endpoints.specs.declared.consenting.NewConsent.{NewConsent}
+use Rattle.endpoints.specs.Authorize.{challenge_sent, code_sent_back, redirect_sent, turned_back}
+use Rattle.endpoints.specs.ConsentPath.{consent_given}
+use Rattle.endpoints.specs.HookPaths.{by_fault}
+
+-- it holds of each setting that the view shows
+abbrev pub InEachSetting : View → (Setting → Type 0) → Type 0
+InEachSetting view claim = (history : List Event) (host : HostSays) → Shows view history → claim (setting_of view history host)
+
+-- the points lead on to `next`, or to what is answered to an error
+abbrev pub ComesTo : {A : Type 0} → Result A ErrorName → Outcome → (A → Outcome) → (ErrorName → Outcome) → Type 0
+ComesTo (Ok x) points next refused = points ≡ next x
+ComesTo (Err error) points next refused = points ≡ refused error
+
+-- /authorize
+
+-- the client and its redirect URI, and then the points that use them
+abbrev pub known_points : RegistryRecord → Parameters → (KnownClient → List ℕ → Outcome) → Outcome
+known_points rules params next =
+    need (client_named rules params) (refuse InvalidRequest) (λ known.
+    need (redirect_sent params known.client) (refuse InvalidRequest) (next known))
+
+-- these
+abbrev pub authorize_known : Setting → Asked → Parameters → KnownClient → List ℕ → Outcome
+authorize_known s asked params known uri =
+    let turned = turned_back uri params in
+    need (value_sent (codes "response_type") params) (turned InvalidRequest) (λ type.
+    point (not (bytes_eq type (codes "code"))) (turned UnsupportedResponseType)
+    (point (not (has_grant AuthorizationCode known.client.grants)) (turned UnauthorizedClient)
+    (need (challenge_sent params) (turned InvalidRequest) (λ challenge.
+    need (scope_within s.rules known.client.allowed params) (turned InvalidScope) (λ scope.
+    need (owner_of_key s.rules asked) (turned AccessDenied) (λ owner.
+    point (not (is_within scope (consented_scope s.history owner known.number))) (turned AccessDenied)
+    (code_sent_back s params
+    (record { client = known.number; owner = owner; scope = scope; redirect = uri; challenge = challenge }))))))))
+
+-- the points of the parameters
+abbrev pub query_points : Setting → Asked → Parameters → Outcome
+query_points s asked params = known_points s.rules params (authorize_known s asked params)
+
+-- the code of these facts
+abbrev pub code_by : Setting → Parameters → CodeFacts → Outcome
+code_by s params facts =
+    code_sent_back s params
+    (record {
+      client = facts.client;
+      owner = facts.owner;
+      scope = facts.scope;
+      redirect = facts.redirect.now;
+      challenge = facts.challenge.now;
+    })
+
+-- the points come to the code of these facts, or to an error that the user agent is sent back with
+abbrev pub DecidesCode : Setting → Asked → Parameters → Requester → Result CodeFacts ErrorName → Type 0
+DecidesCode s asked params requester result =
+    ComesTo result (authorize_known s asked params (known_of requester.known) requester.redirect.now) (code_by s params)
+    (turned_back requester.redirect.now params)
+
+-- /consent
+
+abbrev pub consent_points : Setting → Asked → Parameters → Outcome
+consent_points s asked params =
+    need (owner_of_key s.rules asked) (refuse AccessDenied) (λ owner.
+    need (client_named s.rules params) (refuse InvalidRequest) (λ known.
+    need (scope_asked s.rules 0 params) (refuse InvalidScope) (λ mask.
+    consent_given s owner known.number mask)))
+
+-- what comes of this consent
+abbrev pub consent_by : Setting → NewConsent → Outcome
+consent_by s new = consent_given s new.owner new.client new.mask
+
+-- /revoke AND /introspect
+
+-- the points "the client" and "a token", and then those of the client's number and the digest, where the text has one
+abbrev pub with_presented : RegistryRecord → Asked → (ℕ → Option (List ℕ) → Outcome) → Outcome
+with_presented rules asked next =
+    with_authenticated rules asked (λ params known.
+    need (value_sent (codes "token") params) (refuse InvalidRequest) (λ text. next known.number (digest_told text)))
+
+-- the live access or refresh token of the digest
+abbrev pub live_of : List Event → ℕ → Option (List ℕ) → Option Grant
+live_of history m told =
+    where_passes (λ g. not (is_code g.kind)) (option_and_then (λ digest. live_grant history digest m) told)
+
+-- it was found
+abbrev pub FindsLive : List ℕ → Setting → Option Found → Type 0
+FindsLive digest s found = option_map (grant_found s.history digest s.moment) found ≡ live_of s.history s.moment (Some digest)
+
+-- /hooks AND /hooks/remove
+
+-- the change that is asked for, and what the host has for it
+abbrev pub hook_points : Option Change → Option HookFault → Outcome
+hook_points change fault = need change (refuse InvalidRequest) (λ change. by_fault change fault)
