@@ -1,5 +1,5 @@
 -- What is done for one connection, step by step.
-use Rattle.std.specs.Prelude.{◌≡◌, ◌⊎◌, ◌++◌, ◌≤◌, ◌<◌, ◌+◌, ◌*◌, ℕ, List, [], Bool, true, false, Option, Some, None, Result, Ok, Err, length, take, ⊤}
+use Rattle.std.specs.Prelude.{◌≡◌, ◌⊎◌, ◌++◌, ◌≤◌, ◌<◌, ◌+◌, ℕ, List, [], Bool, true, false, Option, Some, None, Result, Ok, Err, length, take, ⊤}
 use Rattle.rand_chacha.specs.ChaCha.{ChaCha}
 use Rattle.hook_host.specs.declared.host.HookHost.{Ghosts as Hosting}
 use Rattle.clients.specs.RegistryRecord.{RegistryRecord}
