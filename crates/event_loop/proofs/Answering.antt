@@ -166,18 +166,16 @@ module _ {N C J K H : Type 0} where
         let x = before.exchanges j place here taken in
         let nothing_lost : x.lost ≡ [] = x.whole may.is_open (ap is_closing (sym x.here) ∙ may.stays) in
         let t : Talk (read_at j s.deeds) (written_at j s.deeds) [] (known s.course j) = subst (λ lost. Talk (read_at j s.deeds) (written_at j s.deeds) lost (known s.course j)) nothing_lost (talk_of s j place x) in
-        let t' = talk_given p.hosting rules host j s.times.moment s.course unheard.given unheard.before (read_at j s.deeds) (written_at j s.deeds) unheard.gives before.reached t in
+        let t' = talk_given p.hosting rules host j s.times.moment s.course unheard.given course (read_at j s.deeds) (written_at j s.deeds) unheard.gives before.reached t in
         let lost : List ℕ = unheard.piece ++ unheard.rest in
         let all : read_at j (deed.Read j read_limit bytes ∷ s.deeds) ≡ (read_at j s.deeds ++ unheard.given) ++ lost =
         read_here j bytes s.deeds ∙ ap (λ l. read_at j s.deeds ++ l) unheard.all ∙ sym (append_assoc (read_at j s.deeds) unheard.given lost) in
-        let same : (k : ℕ) → known course k ≡ known unheard.before k = λ k. ap (λ c. known c k) unheard.is_after in
-        let t'' : Talk (read_at j s.deeds ++ unheard.given) (written_at j s.deeds) [] (known course j) = subst (λ o. Talk (read_at j s.deeds ++ unheard.given) (written_at j s.deeds) [] o) (sym (same j)) t' in
         record {
-          reached = subst (IsReached p.hosting rules host) (sym unheard.is_after) (gives_reached p.hosting rules host j s.times.moment s.course unheard.given unheard.before unheard.gives before.reached);
+          reached = gives_reached p.hosting rules host j s.times.moment s.course unheard.given course unheard.gives before.reached;
           exchanges =
               at_places _ j (record place { stage = Broken (Refused fault) }) refl
-              (λ taken'. exchange_of _ j (record place { stage = Broken (Refused fault) }) _ _ lost all refl (talk_lost _ _ [] lost _ t'') (λ is_open stays. absurd (cc)))
-              (λ k other. same k ∙ gives_other p.hosting rules host j s.times.moment k s.course unheard.given unheard.before unheard.gives other)
+              (λ taken'. exchange_of _ j (record place { stage = Broken (Refused fault) }) _ _ lost all refl (talk_lost _ _ [] lost _ t') (λ is_open stays. absurd (cc)))
+              (λ k other. gives_other p.hosting rules host j s.times.moment k s.course unheard.given course unheard.gives other)
               (λ k other. read_other j k bytes s.deeds other) (λ k other. refl);
         }
     reads_answered j place s' here may (reading.ends n e on done) =

@@ -1,5 +1,5 @@
 -- Bytes given in cuts.
-use Rattle.std.proofs.Common.{◌≡◌, ◌≤◌, ◌+◌, ◌-◌, ℕ, List, [], ◌∷◌, ◌++◌, false, length, take, drop, append_assoc, append-nil, refl, sym, ap, ◌∙◌, inl, arith}
+use Rattle.std.proofs.Common.{◌≡◌, ◌≤◌, ◌+◌, ◌-◌, ℕ, List, [], ◌∷◌, ◌++◌, false, None, length, take, drop, append_assoc, append-nil, refl, sym, ap, ◌∙◌, inl, arith}
 use Rattle.std.proofs.lemmas.List.{take-append-drop, length-take}
 use Rattle.std.proofs.Math.Seq.{take-add}
 use Rattle.rand_chacha.specs.ChaCha.{ChaCha}
@@ -10,10 +10,11 @@ use Rattle.http_edge.specs.Edges.{SeenEdge}
 use Rattle.http_edge.specs.Reached.{Reached, is_closing}
 use Rattle.http_edge.specs.declared.fault.EdgeFault.{EdgeFault}
 use Rattle.http_edge.specs.declared.fault.EdgeFault.TheVariants.{TooManyRequests}
-use Rattle.http_edge.specs.Chance.{next_draws}
-use Rattle.http_edge.specs.Pieces.{PieceGiven, PieceRefused}
+use Rattle.http_edge.specs.Sources.{draws_for}
+use Rattle.http_edge.specs.Pieces.{PieceGiven, RefusesPiece}
+use Rattle.http_edge.specs.contracts.chance.ChaCha20RngDrawSource.TheImpl as generators
 use Rattle.event_loop.specs.Courses.{Course}
-use Rattle.event_loop.specs.Giving.{GivesPieces, IsPieceRefused, GivesAll, GivesSome, nothing, gives, tries, cut_limit}
+use Rattle.event_loop.specs.Giving.{GivesPieces, GivesAll, GivesSome, nothing, gives, cut_limit}
 
 module _ {H : Type 0} (hosting : Hosting H) (rules : RegistryRecord) (host : H) (k moment : ℕ) where
   -- a front of the bytes was given
@@ -25,62 +26,18 @@ module _ {H : Type 0} (hosting : Hosting H) (rules : RegistryRecord) (host : H) 
   -- one more piece was given
   pub gives_piece : (first course : Course H) (front piece : List ℕ) (edge : SeenEdge H) (generator : ChaCha) → GivesPieces hosting rules host k moment first front course →
       Reached hosting course.edge rules host course.schedule course.world → is_closing (connection_at course.world.connections k) ≡ false →
-      PieceGiven hosting course.edge edge k piece moment course.generator generator → GivesFront first (front ++ piece) edge generator
+      PieceGiven hosting generators.ghosts course.edge edge k piece moment course.generator generator → GivesFront first (front ++ piece) edge generator
   gives_piece first course front piece edge generator given reached stays piece_given =
       let on = piece_given.leads rules host course.schedule course.world reached in
       record {
-        schedule = course.schedule ++ Came k piece moment (next_draws course.generator piece_given.count) on.marks on.closes ∷ [];
+        schedule = course.schedule ++ Came k piece moment (draws_for generators.ghosts course.generator piece_given.messages) on.marks on.closes ∷ [];
         world = on.on.world;
-        given = gives piece given stays (record { edge = edge; generator = generator; count = piece_given.count; few = piece_given.few; after = piece_given.after; on = on });
+        given = gives piece given stays (record { edge = edge; generator = generator; messages = piece_given.messages; brought = piece_given.brought rules host course.schedule course.world reached; after = piece_given.source_is; on = on });
       }
-
-  -- a piece was refused
-  pub refuses_piece : (course : Course H) (piece : List ℕ) (generator : ChaCha) (fault : EdgeFault) → Reached hosting course.edge rules host course.schedule course.world →
-      PieceRefused hosting course.edge k piece course.generator generator fault → IsPieceRefused k piece fault course
-  refuses_piece course piece generator fault reached refused =
-      record { generator = generator; count = refused.count; few = refused.few; enough = refused.enough; after = refused.after; refused = refused.refused rules host course.schedule course.world reached }
-
-  -- what was given after a try that failed
-  pub tried_first : (first middle last : Course H) (bytes : List ℕ) → GivesPieces hosting rules host k moment first [] middle → GivesPieces hosting rules host k moment middle bytes last → GivesPieces hosting rules host k moment first bytes last
-  tried_first first middle last bytes tried nothing = tried
-  tried_first first middle last bytes tried (gives piece before stays g) = gives piece (tried_first first middle _ _ tried before) stays g
-  tried_first first middle last bytes tried (tries piece before r) = tries piece (tried_first first middle _ _ tried before) r
-
-  pub heard_after : (first middle : Course H) (bytes : List ℕ) (edge : SeenEdge H) (generator : ChaCha) → GivesPieces hosting rules host k moment first [] middle →
-      GivesAll hosting rules host k moment bytes middle edge generator → GivesAll hosting rules host k moment bytes first edge generator
-  heard_after first middle bytes edge generator tried all = record {
-    schedule = all.schedule;
-    world = all.world;
-    heard = record {
-      given = all.heard.given;
-      rest = all.heard.rest;
-      all = all.heard.all;
-      gives = tried_first first middle _ all.heard.given tried all.heard.gives;
-      over = all.heard.over;
-    };
-  }
-
-  pub unheard_after : (first middle : Course H) (bytes : List ℕ) (fault : EdgeFault) (edge : SeenEdge H) (generator : ChaCha) → GivesPieces hosting rules host k moment first [] middle →
-      GivesSome hosting rules host k moment bytes fault middle edge generator → GivesSome hosting rules host k moment bytes fault first edge generator
-  unheard_after first middle bytes fault edge generator tried some = record {
-    schedule = some.schedule;
-    world = some.world;
-    unheard = record {
-      given = some.unheard.given;
-      piece = some.unheard.piece;
-      rest = some.unheard.rest;
-      all = some.unheard.all;
-      before = some.unheard.before;
-      gives = tried_first first middle some.unheard.before some.unheard.given tried some.unheard.gives;
-      refused = some.unheard.refused;
-      cut = some.unheard.cut;
-      is_after = some.unheard.is_after;
-    };
-  }
 
   -- all was given at once
   pub heard_at_once : (course : Course H) (bytes : List ℕ) (edge : SeenEdge H) (generator : ChaCha) → Reached hosting course.edge rules host course.schedule course.world →
-      is_closing (connection_at course.world.connections k) ≡ false → PieceGiven hosting course.edge edge k bytes moment course.generator generator → GivesAll hosting rules host k moment bytes course edge generator
+      is_closing (connection_at course.world.connections k) ≡ false → PieceGiven hosting generators.ghosts course.edge edge k bytes moment course.generator generator → GivesAll hosting rules host k moment bytes course edge generator
   heard_at_once course bytes edge generator reached stays piece_given =
       let front = gives_piece course course [] bytes edge generator nothing reached stays piece_given in
       record {
@@ -91,10 +48,9 @@ module _ {H : Type 0} (hosting : Hosting H) (rules : RegistryRecord) (host : H) 
 
   -- a piece behind the front was refused, and is not cut
   pub unheard_behind : (first course : Course H) (bytes front piece rest : List ℕ) (fault : EdgeFault) (edge : SeenEdge H) (generator : ChaCha) → GivesPieces hosting rules host k moment first front course →
-      Reached hosting course.edge rules host course.schedule course.world → bytes ≡ front ++ (piece ++ rest) → PieceRefused hosting course.edge k piece course.generator generator fault → edge ≡ course.edge →
+      Reached hosting course.edge rules host course.schedule course.world → bytes ≡ front ++ (piece ++ rest) → RefusesPiece hosting course.edge k piece None fault → edge ≡ course.edge → generator ≡ course.generator →
       (fault ≡ TooManyRequests → length piece ≤ cut_limit) → GivesSome hosting rules host k moment bytes fault first edge generator
-  unfolding refuses_piece
-  unheard_behind first course bytes front piece rest fault edge generator given reached all refused same cut = record {
+  unheard_behind first course bytes front piece rest fault edge generator given reached all refused same undrawn cut = record {
     schedule = course.schedule;
     world = course.world;
     unheard = record {
@@ -102,11 +58,9 @@ module _ {H : Type 0} (hosting : Hosting H) (rules : RegistryRecord) (host : H) 
       piece = piece;
       rest = rest;
       all = all;
-      before = course;
-      gives = given;
-      refused = refuses_piece course piece generator fault reached refused;
+      gives = rw (same, undrawn) given;
+      refused = refused rules host course.schedule course.world reached;
       cut = cut;
-      is_after = ap (λ (e : SeenEdge H). record { edge = e; generator = generator; schedule = course.schedule; world = course.world }) same;
     };
   }
 

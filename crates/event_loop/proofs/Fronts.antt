@@ -10,7 +10,7 @@ use Rattle.event_loop.specs.declared.fault.LoopFault.{LoopFault}
 use Rattle.event_loop.specs.declared.place.Place.{Place}
 use Rattle.change_codec.specs.Keeping.{Crashes, IsFrontOf, Holds, Keeps, KeepsNot, LeavesEither}
 use Rattle.event_loop.specs.Courses.{Course}
-use Rattle.event_loop.specs.Giving.{GivesPieces, nothing, gives, tries}
+use Rattle.event_loop.specs.Giving.{GivesPieces, nothing, gives}
 use Rattle.event_loop.specs.Scenes.{Promises, Scene, IsAllKept, IsUnkept}
 use Rattle.event_loop.specs.Coming.{AcceptsOne, opens, denies, finds_nobody, fails, asks}
 use Rattle.event_loop.specs.Reading as reading
@@ -45,7 +45,6 @@ gives_grows : {H : Type 0} (hosting : Hosting H) (rules : RegistryRecord) (host 
 gives_grows hosting rules host k moment first bytes course nothing = grows_not _ _ refl
 gives_grows hosting rules host k moment first bytes course (gives {bytes = front} {course = before} piece given still g) =
     grows_then first.world before.world _ (gives_grows hosting rules host k moment first front before given) (came_grows hosting rules host before.world g.on.on.world k piece moment _ g.on.marks g.on.closes g.on.on.happens.1)
-gives_grows hosting rules host k moment first bytes course (tries {course = before} piece given r) = gives_grows hosting rules host k moment first bytes before given
 
 takes_grows : (old new : World) (c n : ℕ) → TakesOutput old new c n ⊎ TakesNothing old new c n → Grows old new
 takes_grows old new c n (inl takes) = record { kept = takes.still.kept; front = same_front _ _ takes.still.history }
@@ -70,9 +69,7 @@ module _ {N C J K H : Type 0} (p : Promises N C J K H) (rules : RegistryRecord) 
   reads_moves j place s s' (reading.hears bytes n course place' some few done heard is) =
       goes_on refl (gives_grows p.hosting rules host j s.times.moment s.course heard.given course heard.gives)
   reads_moves j place s s' (reading.refuses bytes n fault course some few done unheard) =
-      goes_on refl
-      (grows_then s.course.world unheard.before.world course.world (gives_grows p.hosting rules host j s.times.moment s.course unheard.given unheard.before unheard.gives)
-      (grows_not _ _ (ap (λ (c : Course H). c.world) unheard.is_after)))
+      goes_on refl (gives_grows p.hosting rules host j s.times.moment s.course unheard.given course unheard.gives)
   reads_moves j place s s' (reading.ends n e on done) = goes_on refl (record { kept = on.happens.still.kept; front = same_front _ _ on.happens.still.history })
   reads_moves j place s s' (reading.ends_nothing n fault done refused) = goes_on refl (grows_not _ _ refl)
   reads_moves j place s s' (reading.finds_nothing n done) = goes_on refl (grows_not _ _ refl)

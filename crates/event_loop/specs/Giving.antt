@@ -1,53 +1,44 @@
 -- How bytes of a connection are given to the edge.
-use Rattle.std.specs.Prelude.{◌≡◌, ◌⊎◌, ◌≤◌, ◌*◌, ℕ, true, false, List, [], ◌++◌, length}
+use Rattle.std.specs.Prelude.{◌≡◌, ◌⊎◌, ◌≤◌, ℕ, true, false, List, [], ◌++◌, None, length}
 use Rattle.rand_chacha.specs.ChaCha.{ChaCha}
 use Rattle.hook_host.specs.declared.host.HookHost.{Ghosts as Hosting}
 use Rattle.clients.specs.RegistryRecord.{RegistryRecord}
+use Rattle.heads.specs.Message.{Message}
 use Rattle.http_edge.specs.Schedule.{World, Happening, Came}
 use Rattle.http_edge.specs.Edges.{SeenEdge}
 use Rattle.http_edge.specs.Reached.{PieceGoesOn, is_closing}
 use Rattle.http_edge.specs.Refusals.{IsPieceRefusal}
 use Rattle.http_edge.specs.declared.fault.EdgeFault.{EdgeFault}
-use Rattle.http_edge.specs.declared.fault.EdgeFault.TheVariants.{TooManyRequests, DrawsShort}
-use Rattle.http_edge.specs.Chance.{next_draws, moved}
-use Rattle.http_edge.specs.Pieces.{draws_limit}
+use Rattle.http_edge.specs.declared.fault.EdgeFault.TheVariants.{TooManyRequests}
+use Rattle.http_edge.specs.Sources.{draws_for, draws_behind}
+use Rattle.http_edge.specs.Pieces.{IsBrought}
+use Rattle.http_edge.specs.contracts.chance.ChaCha20RngDrawSource.TheImpl as generators
 use Rattle.event_loop.specs.Courses.{Course, known, led}
 
 -- where a piece completes too many requests, it is given in cuts of so many bytes
 abbrev pub cut_limit : ℕ
 cut_limit = 512
 
--- A piece was given to the edge with the generator's next draws, and the generator stands behind them.
+-- A piece was given to the edge: each request that it brings had the generator's next draws, where it wants some, and the
+-- generator stands behind them.
 pub record IsPieceGiven {H : Type 0} (hosting : Hosting H) (rules : RegistryRecord) (host : H) (k moment : ℕ) (piece : List ℕ)
     (course : Course H) : Type 0 where
   pub edge : SeenEdge H
   pub generator : ChaCha
-  pub count : ℕ
-  pub few : count ≤ draws_limit
-  pub after : generator ≡ moved course.generator (16 * count)
-  pub on : PieceGoesOn hosting edge rules host course.schedule course.world k piece moment (next_draws course.generator count)
+  pub messages : List Message
+  pub brought : IsBrought course.world.connections k piece messages
+  pub after : generator ≡ draws_behind generators.ghosts course.generator messages
+  pub on : PieceGoesOn hosting edge rules host course.schedule course.world k piece moment (draws_for generators.ghosts course.generator messages)
 
--- It was refused, with such draws; for want of draws only where it had as many as a piece may have.
-pub record IsPieceRefused {H : Type 0} (k : ℕ) (piece : List ℕ) (fault : EdgeFault) (course : Course H) : Type 0 where
-  pub generator : ChaCha
-  pub count : ℕ
-  pub few : count ≤ draws_limit
-  pub enough : fault ≡ DrawsShort → count ≡ draws_limit
-  pub after : generator ≡ moved course.generator (16 * count)
-  pub refused : IsPieceRefusal fault course.world.connections k piece (next_draws course.generator count)
-
--- Bytes are given in pieces, one after another, none after the 400 of a faulty head. A piece that completes too many
--- requests may be tried again in cuts.
+-- bytes are given in pieces, one after another, none after the 400 of a faulty head
 pub data GivesPieces {H : Type 0} (hosting : Hosting H) (rules : RegistryRecord) (host : H) (k moment : ℕ) (first : Course H) : List ℕ → Course H → Type 0 where
   nothing : GivesPieces hosting rules host k moment first [] first
   gives : {bytes : List ℕ} {course : Course H} (piece : List ℕ) → GivesPieces hosting rules host k moment first bytes course →
       is_closing (known course k) ≡ false →
       (g : IsPieceGiven hosting rules host k moment piece course) →
       GivesPieces hosting rules host k moment first (bytes ++ piece)
-      (record (led course g.edge (Came k piece moment (next_draws course.generator g.count) g.on.marks g.on.closes) g.on.on.world) { generator = g.generator })
-  tries : {bytes : List ℕ} {course : Course H} (piece : List ℕ) → GivesPieces hosting rules host k moment first bytes course →
-      (r : IsPieceRefused k piece TooManyRequests course) →
-      GivesPieces hosting rules host k moment first bytes (record course { generator = r.generator })
+      (record (led course g.edge (Came k piece moment (draws_for generators.ghosts course.generator g.messages) g.on.marks g.on.closes) g.on.on.world)
+      { generator = g.generator })
 
 -- All bytes were given, or the rest comes behind the 400 of a faulty head.
 pub record AreBytesHeard {H : Type 0} (hosting : Hosting H) (rules : RegistryRecord) (host : H) (k moment : ℕ) (bytes : List ℕ)
@@ -58,18 +49,16 @@ pub record AreBytesHeard {H : Type 0} (hosting : Hosting H) (rules : RegistryRec
   pub gives : GivesPieces hosting rules host k moment course given course'
   pub over : (rest ≡ []) ⊎ (is_closing (known course' k) ≡ true)
 
--- A front of them was given, and then a piece was refused that is no longer cut.
+-- A front of them was given, and then a piece was refused that is no longer cut. A refused piece takes no draws.
 pub record IsUnheard {H : Type 0} (hosting : Hosting H) (rules : RegistryRecord) (host : H) (k moment : ℕ) (bytes : List ℕ) (fault : EdgeFault)
     (course course' : Course H) : Type 0 where
   pub given : List ℕ
   pub piece : List ℕ
   pub rest : List ℕ
   pub all : bytes ≡ given ++ (piece ++ rest)
-  pub before : Course H
-  pub gives : GivesPieces hosting rules host k moment course given before
-  pub refused : IsPieceRefused k piece fault before
+  pub gives : GivesPieces hosting rules host k moment course given course'
+  pub refused : IsPieceRefusal fault course'.world.connections k piece None
   pub cut : fault ≡ TooManyRequests → length piece ≤ cut_limit
-  pub is_after : course' ≡ record before { generator = refused.generator }
 
 -- wherever the edge was reached, all bytes were given
 pub record GivesAll {H : Type 0} (hosting : Hosting H) (rules : RegistryRecord) (host : H) (k moment : ℕ) (bytes : List ℕ) (course : Course H)

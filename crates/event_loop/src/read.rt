@@ -17,9 +17,8 @@ use crate::sockets::{Received, Sockets};
 use crate::tools::Tools;
 use consent::Moment;
 use hook_host::HookHost;
-use http_edge::{Edge, EdgeFault, Event, give};
+use http_edge::{Edge, EdgeFault, Event};
 use image_keeper::ImageKeeper;
-use messages::Draws;
 use rand_chacha::ChaCha20Rng;
 
 /// Whether a connection may be read.
@@ -58,7 +57,7 @@ fn give_cuts<H: HookHost>(
         }
         let count = CUT_LIMIT.min(bytes.len() - start);
         let cut = &bytes[start..start + count];
-        if let Err(fault) = give(edge, k, cut, moment, generator) {
+        if let Err(fault) = edge.hear(k, cut, moment, generator) {
             return Err(fault);
         }
         start += count;
@@ -78,7 +77,7 @@ fn give_all<H: HookHost>(
     ensures heard { OnOk result (LeadsToGiving H.HookHost k moment bytes.now edge.old generator.old edge.new generator.new) }
     ensures unheard { IfErr result (λ fault. LeadsToRefusal H.HookHost k moment bytes.now fault edge.old generator.old edge.new generator.new) }
 {
-    let Err(fault) = give(edge, k, bytes, moment, generator) else {
+    let Err(fault) = edge.hear(k, bytes, moment, generator) else {
         return Ok(());
     };
     let EdgeFault::TooManyRequests = fault else {

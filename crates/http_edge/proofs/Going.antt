@@ -6,7 +6,6 @@ use Rattle.hook_host.specs.declared.host.HookHost.{Ghosts as Hosting}
 use Rattle.clients.specs.RegistryRecord.{RegistryRecord}
 use Rattle.consent.specs.History.{Event, with_changes}
 use Rattle.change_codec.specs.Spelling.{DatedFact}
-use Rattle.messages.specs.declared.request.Draws.{Draws}
 use Rattle.answers.specs.Outcomes.{Outcome}
 use Rattle.endpoints.specs.Bounded.{IsBounded}
 use Rattle.endpoints.specs.BoundedLaws.{tokens_keep_their_bounds}
@@ -14,22 +13,27 @@ use Rattle.endpoints.specs.Server.{SeenServer, FitsServer, AreUnkept, NowNotes}
 use Rattle.heads.specs.Message.{Message}
 use Rattle.heads.specs.ReadingLaws.{messages_cut, nothing_has_none}
 use Rattle.http_edge.specs.Answers.{changes_made, replies_of}
-use Rattle.http_edge.specs.Schedule.{World, Connection, Happening, Opened, Came, HasEnded, Taken, Forgotten, Kept, Happens, Run, ended, has_stream_ended, first_world, resumed, fresh, heard, with_connection, without_connection, moment_after, faulty_if}
+use Rattle.http_edge.specs.Schedule.{World, Connection, Happening, Opened, Came, HasEnded, Taken, Forgotten, Kept, Happens, Run, ended, has_stream_ended, is_closing_phase, first_world, resumed, fresh, heard, with_connection, without_connection, moment_after, faulty_if}
 use Rattle.http_edge.specs.Lanes.{SeenLane, lane_at, with_lane, without_lane, fresh_lane, ShowsConnection, ShowsConnections}
 use Rattle.http_edge.specs.Heard.{AreMessagesRead, LaneHeard}
 use Rattle.http_edge.specs.Edges.{SeenEdge}
 use Rattle.http_edge.specs.Reached.{Reached, BeginsOver, ResumesOver, GoesOn, HappeningLeads, PieceLeads}
+use Rattle.http_edge.specs.Pieces.{PieceGiven}
+use Rattle.http_edge.specs.Sources.{draws_for}
+use Rattle.http_edge.specs.declared.source.DrawSource.{Ghosts as Sources}
 use Rattle.http_edge.specs.declared.lane.Phase.{Phase}
 use Rattle.http_edge.specs.declared.lane.Phase.TheVariants.{Open, Closing}
+use Rattle.http_edge.proofs.Drawing.{draws_length}
 use Rattle.http_edge.proofs.Phases.{ended_not_open}
 use Rattle.http_edge.proofs.Showing.{shows_here, shows_none, shows_put, shows_without, shows_added, shows_length}
+use Rattle.http_edge.proofs.Supplying.{suffices_none}
 
 -- what a server fits is bounded
 pub fits_bounded : {H : Type 0} (hosting : Hosting H) (server : SeenServer H) (rules : RegistryRecord) (first : H) (history : List Event) (m : ℕ) → FitsServer hosting.installs hosting.removes server rules first history m →
     IsBounded rules history
 fits_bounded hosting server rules first history m fits = tokens_keep_their_bounds rules history m fits.store.fits.is_history fits.right
 
-run_push : {H : Type 0} (hosting : Hosting H) (rules : RegistryRecord) (first : H) (old middle new : World) (es : List Happening) (e : Happening) →
+pub run_push : {H : Type 0} (hosting : Hosting H) (rules : RegistryRecord) (first : H) (old middle new : World) (es : List Happening) (e : Happening) →
     Run hosting rules first old es middle → Happens hosting rules first middle e new → Run hosting rules first old (es ++ e ∷ []) new
 run_push hosting rules first old middle new [] e same happens = (new, (let P : World → Type 0 = λ w. Happens hosting rules first w e new in subst P same happens), refl)
 run_push hosting rules first old middle new (x ∷ es) e run happens = (run.0, run.1, run_push hosting rules first run.0 middle new es e run.2 happens)
@@ -172,16 +176,24 @@ on_forgotten hosting edge edge' c same lanes rules first schedule world reached 
     (record { still = record { greatest = refl; history = refl; kept = refl }; connections = refl })
 
 -- bytes after the 400 of a faulty head
-pub on_passed : {H : Type 0} (hosting : Hosting H) (edge edge' : SeenEdge H) (c : ℕ) (lane : SeenLane) (piece : List ℕ) (moment : ℕ) (draws : List Draws) → edge'.server ≡ edge.server → edge'.lanes ≡ edge.lanes →
-    lane_at edge.lanes c ≡ Some lane → lane.phase ≡ Closing → length piece ≤ 65536 → PieceLeads hosting edge edge' c piece moment draws
-on_passed hosting edge edge' c lane piece moment draws same lanes here closing short rules first schedule world reached =
-    let at = shows_here edge.lanes world.connections c lane reached.shows here in
-    record {
-      marks = [];
-      closes = false;
-      on = goes_on hosting edge edge' rules first schedule world world.connections _ reached same (shows_as _ _ _ lanes reached.shows)
-          (short, inr (record { before = at.0; here = at.1; is_closing = sym at.2.phase ∙ closing; no_marks = refl; no_more = refl; same = refl }));
-    }
+pub on_passed : {H S : Type 0} (hosting : Hosting H) (sources : Sources S) (edge edge' : SeenEdge H) (c : ℕ) (lane : SeenLane) (piece : List ℕ) (moment : ℕ) (source source' : S) → edge'.server ≡ edge.server → edge'.lanes ≡ edge.lanes →
+    lane_at edge.lanes c ≡ Some lane → lane.phase ≡ Closing → length piece ≤ 65536 → source' ≡ source → PieceGiven hosting sources edge edge' c piece moment source source'
+on_passed hosting sources edge edge' c lane piece moment source source' same lanes here closing short undrawn = record {
+  messages = [];
+  brought = λ rules first schedule world reached.
+      let at = shows_here edge.lanes world.connections c lane reached.shows here in
+      inr (rw at.1 (ap is_closing_phase (sym at.2.phase ∙ closing)), refl);
+  enough = suffices_none (sources.supply source);
+  leads = λ rules first schedule world reached.
+      let at = shows_here edge.lanes world.connections c lane reached.shows here in
+      record {
+        marks = [];
+        closes = false;
+        on = goes_on hosting edge edge' rules first schedule world world.connections _ reached same (shows_as _ _ _ lanes reached.shows)
+            (short, inr (record { before = at.0; here = at.1; is_closing = sym at.2.phase ∙ closing; no_marks = refl; no_more = refl; same = refl }));
+      };
+  source_is = undrawn;
+}
 
 rest_kept : (closes : Bool) (kept rest : List ℕ) → kept ≡ cond closes [] rest → ◌≡◌ {A = Phase} (cond closes Closing Open) Open → kept ≡ rest
 rest_kept true kept rest e p = absurd (cc)
@@ -192,10 +204,10 @@ nothing_kept true kept rest e p = e
 nothing_kept false kept rest e p = absurd (p refl)
 
 -- the lane after a piece shows the connection after it
-shows_heard : (lane lane' : SeenLane) (k : Connection) (piece : List ℕ) (messages : List Message) (outcomes : List Outcome) (middle : List ℕ) (draws : List Draws) (closes : Bool) → k.phase ≡ Open →
-    ShowsConnection lane k → lane'.number ≡ lane.number → AreMessagesRead (lane.rest ++ piece) lane'.rest messages draws closes → lane'.phase ≡ cond closes Closing Open →
+shows_heard : (lane lane' : SeenLane) (k : Connection) (piece : List ℕ) (messages : List Message) (outcomes : List Outcome) (middle : List ℕ) (closes : Bool) → k.phase ≡ Open →
+    ShowsConnection lane k → lane'.number ≡ lane.number → AreMessagesRead (lane.rest ++ piece) lane'.rest messages closes → lane'.phase ≡ cond closes Closing Open →
     lane'.output ≡ middle ++ faulty_if closes → middle ≡ lane.output ++ replies_of outcomes → ShowsConnection lane' (heard k piece messages outcomes closes)
-shows_heard lane lane' k piece messages outcomes middle draws closes is_open shows number read phase output said =
+shows_heard lane lane' k piece messages outcomes middle closes is_open shows number read phase output said =
     let le = shows.within in
     let new : List ℕ = replies_of outcomes ++ faulty_if closes in
     let n = length-append k.output new in
@@ -210,11 +222,11 @@ shows_heard lane lane' k piece messages outcomes middle draws closes is_open sho
       nothing_held = nothing_kept closes lane'.rest read.rest read.kept_is;
     }
 
--- a piece was heard
-pub on_heard : {H : Type 0} (hosting : Hosting H) (edge edge' : SeenEdge H) (c : ℕ) (lane lane' : SeenLane) (piece : List ℕ) (moment : ℕ) (draws : List Draws) →
-    lane_at edge.lanes c ≡ Some lane → lane.phase ≡ Open → length piece ≤ 65536 → LaneHeard hosting edge.server edge'.server lane lane' piece moment draws → edge'.lanes ≡ with_lane c lane' edge.lanes →
-    PieceLeads hosting edge edge' c piece moment draws
-on_heard hosting edge edge' c lane lane' piece moment draws here is_open short lane_heard lanes rules first schedule world reached =
+-- a piece that was heard leads on
+leads_heard : {H S : Type 0} (hosting : Hosting H) (sources : Sources S) (edge edge' : SeenEdge H) (c : ℕ) (lane lane' : SeenLane) (piece : List ℕ) (moment : ℕ) (source source' : S) →
+    lane_at edge.lanes c ≡ Some lane → lane.phase ≡ Open → length piece ≤ 65536 → (l : LaneHeard hosting sources edge.server edge'.server lane lane' piece moment source source') → edge'.lanes ≡ with_lane c lane' edge.lanes →
+    PieceLeads hosting edge edge' c piece moment (draws_for sources source l.heard.messages)
+leads_heard hosting sources edge edge' c lane lane' piece moment source source' here is_open short lane_heard lanes rules first schedule world reached =
     let at = shows_here edge.lanes world.connections c lane reached.shows here in
     let k = at.0 in
     let shows = at.2 in
@@ -226,7 +238,7 @@ on_heard hosting edge edge' c lane lane' piece moment draws here is_open short l
     let m = moment_after world.greatest moment messages in
     let k' = heard k piece messages served.outcomes closes in
     let world' : World = record { connections = with_connection c k' world.connections; greatest = m; history = with_changes world.history m (changes_made served.outcomes); kept = world.kept } in
-    let happens : Happens hosting rules first world (Came c piece moment draws served.marks closes) world' = (
+    let happens : Happens hosting rules first world (Came c piece moment (draws_for sources source messages) served.marks closes) world' = (
       short,
       inl (record {
         before = k;
@@ -236,7 +248,7 @@ on_heard hosting edge edge' c lane lane' piece moment draws here is_open short l
         rest = hears.read.rest;
         reads = messages_cut k.stream piece k.messages messages lane.rest hears.read.rest (shows.rest opened) hears.read.reads;
         few = hears.read.few;
-        enough = hears.read.enough;
+        enough = (let each = draws_length sources source messages in omega (arith, each));
         outcomes = served.outcomes;
         answered = served.answered;
         may_tell = hears.read.may_tell;
@@ -248,7 +260,7 @@ on_heard hosting edge edge' c lane lane' piece moment draws here is_open short l
       }),
     ) in
     let shown : ShowsConnection lane' k' =
-    shows_heard lane lane' k piece messages served.outcomes hears.middle draws closes opened shows lane_heard.number_is hears.read lane_heard.phase_is hears.output_is served.output_is in
+    shows_heard lane lane' k piece messages served.outcomes hears.middle closes opened shows lane_heard.number_is hears.read lane_heard.phase_is hears.output_is served.output_is in
     record {
       marks = served.marks;
       closes = closes;
@@ -264,3 +276,25 @@ on_heard hosting edge edge' c lane lane' piece moment draws here is_open short l
         };
       };
     }
+
+-- a piece was heard
+pub on_heard : {H S : Type 0} (hosting : Hosting H) (sources : Sources S) (edge edge' : SeenEdge H) (c : ℕ) (lane lane' : SeenLane) (piece : List ℕ) (moment : ℕ) (source source' : S) →
+    lane_at edge.lanes c ≡ Some lane → lane.phase ≡ Open → length piece ≤ 65536 → LaneHeard hosting sources edge.server edge'.server lane lane' piece moment source source' → edge'.lanes ≡ with_lane c lane' edge.lanes →
+    PieceGiven hosting sources edge edge' c piece moment source source'
+on_heard hosting sources edge edge' c lane lane' piece moment source source' here is_open short lane_heard lanes = record {
+  messages = lane_heard.heard.messages;
+  brought = λ rules first schedule world reached.
+      let at = shows_here edge.lanes world.connections c lane reached.shows here in
+      let opened : at.0.phase ≡ Open = sym at.2.phase ∙ is_open in
+      inl (record {
+        connection = at.0;
+        here = at.1;
+        is_open = opened;
+        short = short;
+        rest = lane_heard.heard.read.rest;
+        reads = messages_cut at.0.stream piece at.0.messages lane_heard.heard.messages lane.rest lane_heard.heard.read.rest (at.2.rest opened) lane_heard.heard.read.reads;
+      });
+  enough = lane_heard.heard.enough;
+  leads = leads_heard hosting sources edge edge' c lane lane' piece moment source source' here is_open short lane_heard lanes;
+  source_is = lane_heard.heard.source_is;
+}

@@ -8,3 +8,7 @@ pub mod Going
 pub mod RefusingWorlds
 pub mod Connections
 pub mod Words
+pub mod Supplying
+pub mod Drawing
+pub mod Handing
+pub mod Unread

@@ -1,18 +1,18 @@
 -- Why bytes are refused.
 use Rattle.std.proofs.Common.{◌++◌, ℕ, List}
-use Rattle.messages.specs.declared.request.Draws.{Draws}
+use Rattle.std.specs.Prelude.{Option}
 use Rattle.http_edge.specs.Lanes.{SeenLane}
 use Rattle.http_edge.specs.Edges.{IsBytesRefusal, MayHear}
 use Rattle.http_edge.specs.Heard.{IsHearingRefusal}
 use Rattle.http_edge.specs.declared.fault.EdgeFault.{EdgeFault}
 use Rattle.http_edge.specs.declared.fault.EdgeFault.TheVariants.{TooMany, NotOpen, AlreadyOpen, PieceTooLong, DrawsShort, TooManyRequests, Memory}
 
-pub refused_is : (fault : EdgeFault) (lanes : List SeenLane) (c : ℕ) (piece : List ℕ) (draws : List Draws) (may : MayHear lanes c piece) →
-    IsHearingRefusal fault (may.lane.rest ++ piece) draws → IsBytesRefusal fault lanes c piece draws
-refused_is TooMany lanes c piece draws may h = absurd h
-refused_is NotOpen lanes c piece draws may h = absurd h
-refused_is AlreadyOpen lanes c piece draws may h = absurd h
-refused_is PieceTooLong lanes c piece draws may h = absurd h
-refused_is DrawsShort lanes c piece draws may h = (may, h)
-refused_is TooManyRequests lanes c piece draws may h = (may, h)
-refused_is Memory lanes c piece draws may h = (may, h)
+pub refused_is : (fault : EdgeFault) (lanes : List SeenLane) (c : ℕ) (piece : List ℕ) (supply : Option ℕ) (may : MayHear lanes c piece) →
+    IsHearingRefusal fault (may.lane.rest ++ piece) supply → IsBytesRefusal fault lanes c piece supply
+refused_is TooMany lanes c piece supply may h = absurd h
+refused_is NotOpen lanes c piece supply may h = absurd h
+refused_is AlreadyOpen lanes c piece supply may h = absurd h
+refused_is PieceTooLong lanes c piece supply may h = absurd h
+refused_is DrawsShort lanes c piece supply may h = (may, h)
+refused_is TooManyRequests lanes c piece supply may h = (may, h)
+refused_is Memory lanes c piece supply may h = (may, h)

@@ -3,13 +3,13 @@ use Rattle.std.proofs.Common.{◌≡◌, ◌++◌, ℕ, List, Option, Some, None
 use Rattle.std.specs.Prelude.{IsSome, IfErr, Result, Ok, Err}
 use Rattle.std.proofs.lemmas.Bool.{false≢true}
 use Rattle.hook_host.specs.declared.host.HookHost.{Ghosts as Hosting}
-use Rattle.messages.specs.declared.request.Draws.{Draws}
 use Rattle.heads.specs.Message.{Message, Messages}
 use Rattle.heads.specs.ReadingLaws.{messages_cut}
 use Rattle.http_edge.specs.Schedule.{Connection, connection_at, has_stream_ended}
 use Rattle.http_edge.specs.Lanes.{SeenLane, lane_at, IsHearing, ShowsConnections}
 use Rattle.http_edge.specs.Edges.{SeenEdge, IsOpenRefusal, IsEndRefusal, IsBytesRefusal, MayHear}
 use Rattle.http_edge.specs.Refusals.{MaySend, Completes, IsPieceRefusal, IsOpeningRefusal, IsEndingRefusal, IsEventRefusal, RefusesEvent}
+use Rattle.http_edge.specs.Pieces.{RefusesPiece}
 use Rattle.http_edge.specs.declared.event.Event.{Event}
 use Rattle.http_edge.specs.declared.event.Event.TheVariants as event
 use Rattle.http_edge.specs.declared.fault.EdgeFault.{EdgeFault}
@@ -54,14 +54,14 @@ module _ (lanes : List SeenLane) (ks : List Connection) (c : ℕ) (shows : Shows
       let opened = sym at.2.phase ∙ may.is_open in
       record { connection = at.0; here = at.1; is_open = opened; short = may.short; rest = rest; reads = messages_cut at.0.stream piece at.0.messages messages may.lane.rest rest (at.2.rest opened) reads }
 
-  pub piece_refused : (fault : EdgeFault) (piece : List ℕ) (draws : List Draws) → IsBytesRefusal fault lanes c piece draws → IsPieceRefusal fault ks c piece draws
-  piece_refused NotOpen piece draws r = not_hearing r
-  piece_refused PieceTooLong piece draws r = ((hearing_is (lane_at lanes c) refl).0 r.0, r.1)
-  piece_refused TooManyRequests piece draws r = (r.1.0, completes piece r.0 r.1.0 r.1.1 r.1.2, r.1.3)
-  piece_refused DrawsShort piece draws r = (r.1.0, completes piece r.0 r.1.0 r.1.1 r.1.2, r.1.3, r.1.4)
-  piece_refused Memory piece draws r = (r.1.0, completes piece r.0 r.1.0 r.1.1 r.1.2, r.1.3, r.1.4)
-  piece_refused AlreadyOpen piece draws r = absurd r.1
-  piece_refused TooMany piece draws r = absurd r.1
+  pub piece_refused : (fault : EdgeFault) (piece : List ℕ) (supply : Option ℕ) → IsBytesRefusal fault lanes c piece supply → IsPieceRefusal fault ks c piece supply
+  piece_refused NotOpen piece supply r = not_hearing r
+  piece_refused PieceTooLong piece supply r = ((hearing_is (lane_at lanes c) refl).0 r.0, r.1)
+  piece_refused TooManyRequests piece supply r = (r.1.0, completes piece r.0 r.1.0 r.1.1 r.1.2, r.1.3)
+  piece_refused DrawsShort piece supply r = (r.1.0, completes piece r.0 r.1.0 r.1.1 r.1.2, r.1.3, r.1.4)
+  piece_refused Memory piece supply r = (r.1.0, completes piece r.0 r.1.0 r.1.1 r.1.2, r.1.3, r.1.4)
+  piece_refused AlreadyOpen piece supply r = absurd r.1
+  piece_refused TooMany piece supply r = absurd r.1
 
 err_map : {A E : Type 0} (r : Result A E) (P Q : E → Type 0) → ((e : E) → P e → Q e) → IfErr r P → IfErr r Q
 err_map (Ok x) P Q f is = is
@@ -77,9 +77,16 @@ end_refuses hosting edge c e r same is =
     err_map r (λ fault. IsEndRefusal fault edge.lanes c) (λ fault. RefusesEvent hosting edge e fault)
     (λ fault x rules first schedule world reached. subst (λ y. IsEventRefusal fault world.connections y) (sym same) (ending_refused edge.lanes world.connections c reached.shows fault x)) is
 
-pub piece_refuses : {H A : Type 0} (hosting : Hosting H) (edge : SeenEdge H) (c : ℕ) (piece : List ℕ) (draws : List Draws) (e : Event) (r : Result A EdgeFault) →
-    ((fault : EdgeFault) (connections : List Connection) → IsPieceRefusal fault connections c piece draws → IsEventRefusal fault connections e) →
-    IfErr r (λ fault. IsBytesRefusal fault edge.lanes c piece draws) → IfErr r (λ fault. RefusesEvent hosting edge e fault)
-piece_refuses hosting edge c piece draws e r same is =
-    err_map r (λ fault. IsBytesRefusal fault edge.lanes c piece draws) (λ fault. RefusesEvent hosting edge e fault)
-    (λ fault x rules first schedule world reached. same fault world.connections (piece_refused edge.lanes world.connections c reached.shows fault piece draws x)) is
+pub piece_refuses : {H A : Type 0} (hosting : Hosting H) (edge : SeenEdge H) (c : ℕ) (piece : List ℕ) (supply : Option ℕ) (r : Result A EdgeFault) →
+    IfErr r (λ fault. IsBytesRefusal fault edge.lanes c piece supply) → IfErr r (RefusesPiece hosting edge c piece supply)
+piece_refuses hosting edge c piece supply r is =
+    err_map r (λ fault. IsBytesRefusal fault edge.lanes c piece supply) (RefusesPiece hosting edge c piece supply)
+    (λ fault x rules first schedule world reached. piece_refused edge.lanes world.connections c reached.shows fault piece supply x) is
+
+-- an event is refused for what its piece is refused for
+pub bytes_refuse : {H A : Type 0} (hosting : Hosting H) (edge : SeenEdge H) (c : ℕ) (piece : List ℕ) (supply : Option ℕ) (e : Event) (r : Result A EdgeFault) →
+    ((fault : EdgeFault) (connections : List Connection) → IsPieceRefusal fault connections c piece supply → IsEventRefusal fault connections e) →
+    IfErr r (RefusesPiece hosting edge c piece supply) → IfErr r (λ fault. RefusesEvent hosting edge e fault)
+bytes_refuse hosting edge c piece supply e r same is =
+    err_map r (RefusesPiece hosting edge c piece supply) (λ fault. RefusesEvent hosting edge e fault)
+    (λ fault x rules first schedule world reached. same fault world.connections (x rules first schedule world reached)) is

@@ -1,5 +1,5 @@
 -- One more request is answered.
-use Rattle.std.proofs.Common.{◌≡◌, ◌<◌, ℕ, List, [], ◌∷◌, ◌++◌, Bool, false, map, get_or, length, append_assoc, append-nil, refl, ap, ◌∙◌, sym, subst, arith, Option}
+use Rattle.std.proofs.Common.{◌≡◌, ℕ, List, [], ◌∷◌, ◌++◌, Bool, false, map, length, append_assoc, append-nil, refl, ap, ◌∙◌, sym, subst, arith, Option}
 use Rattle.std.proofs.lemmas.List.{length-map, map-append}
 use Rattle.std.proofs.lemmas.List.Concat.{flat_map-append}
 use Rattle.std.specs.Prelude.{max}
@@ -17,7 +17,9 @@ use Rattle.endpoints.specs.Server.{SeenServer, FitsServer, AreNoted, IsStep}
 use Rattle.heads.specs.Message.{Message, asked_of_message}
 use Rattle.http_edge.specs.Answers.{AnswerMark, IsOutcomeOfRequest, AreAnswered, changes_made, replies_of}
 use Rattle.http_edge.specs.Schedule.{moment_after}
-use Rattle.http_edge.specs.Heard.{AreMessagesServed, IsStillNone, IsHeard}
+use Rattle.http_edge.specs.Heard.{AreMessagesServed, IsStillNone, IsHeard, heard_with}
+use Rattle.http_edge.specs.declared.source.DrawSource.{Ghosts as Sources}
+use Rattle.http_edge.proofs.Supplying.{suffices_none}
 
 -- changes after changes
 pub changes_join : (history : List Event) (m : ℕ) (a b : List Change) → with_changes (with_changes history m a) m b ≡ with_changes history m (a ++ b)
@@ -34,18 +36,31 @@ replies_push os o = flat_map-append (λ x. reply_bytes (in_writing x.reply)) os 
 
 module _ {H : Type 0} (hosting : Hosting H) (rules : RegistryRecord) (first : H) (m : ℕ) where
   answered_push : (history : List Event) (qs : List Asked) (ds : List Draws) (marks : List AnswerMark) (os : List Outcome) (q : Asked) (d : Draws) (mark : AnswerMark) (o : Outcome) →
-      AreAnswered hosting rules first m history qs ds marks os → length qs < length ds →
-      IsOutcomeOfRequest hosting rules first m (with_changes history m (changes_made os)) q (get_or ds (length qs) d) mark o →
-      AreAnswered hosting rules first m history (qs ++ q ∷ []) ds (marks ++ mark ∷ []) (os ++ o ∷ [])
-  answered_push history [] (e ∷ ds) [] [] q d mark o all less is = (rw append-nil at is, tt)
-  answered_push history [] [] marks os q d mark o all less is = absurd (omega (arith, less))
-  answered_push history [] (e ∷ ds) (x ∷ marks) os q d mark o all less is = absurd all
-  answered_push history [] (e ∷ ds) [] (y ∷ os) q d mark o all less is = absurd all
-  answered_push history (p ∷ qs) [] marks os q d mark o all less is = absurd (omega (arith, less))
-  answered_push history (p ∷ qs) (e ∷ ds) [] os q d mark o all less is = absurd all
-  answered_push history (p ∷ qs) (e ∷ ds) (x ∷ marks) [] q d mark o all less is = absurd all
-  answered_push history (p ∷ qs) (e ∷ ds) (x ∷ marks) (y ∷ os) q d mark o all less is =
-      (all.0, answered_push (with_changes history m y.changes) qs ds marks os q d mark o all.1 (omega (arith, less)) (rw (← changes_join history m y.changes (changes_made os)) at is))
+      AreAnswered hosting rules first m history qs ds marks os → length ds ≡ length qs →
+      IsOutcomeOfRequest hosting rules first m (with_changes history m (changes_made os)) q d mark o →
+      AreAnswered hosting rules first m history (qs ++ q ∷ []) (ds ++ d ∷ []) (marks ++ mark ∷ []) (os ++ o ∷ [])
+  answered_push history [] [] [] [] q d mark o all each is = (rw append-nil at is, tt)
+  answered_push history [] (e ∷ ds) marks os q d mark o all each is = absurd (omega (arith, each))
+  answered_push history [] [] (x ∷ marks) os q d mark o all each is = absurd all
+  answered_push history [] [] [] (y ∷ os) q d mark o all each is = absurd all
+  answered_push history (p ∷ qs) [] marks os q d mark o all each is = absurd (omega (arith, each))
+  answered_push history (p ∷ qs) (e ∷ ds) [] os q d mark o all each is = absurd all
+  answered_push history (p ∷ qs) (e ∷ ds) (x ∷ marks) [] q d mark o all each is = absurd all
+  answered_push history (p ∷ qs) (e ∷ ds) (x ∷ marks) (y ∷ os) q d mark o all each is =
+      (all.0, answered_push (with_changes history m y.changes) qs ds marks os q d mark o all.1 (omega (arith, each)) (rw (← changes_join history m y.changes (changes_made os)) at is))
+
+  -- draws that no request has change nothing
+  pub answered_beside : (history : List Event) (qs : List Asked) (ds more : List Draws) (marks : List AnswerMark) (os : List Outcome) →
+      AreAnswered hosting rules first m history qs ds marks os → AreAnswered hosting rules first m history qs (ds ++ more) marks os
+  answered_beside history [] ds more [] [] all = tt
+  answered_beside history [] [] more (x ∷ marks) os all = absurd all
+  answered_beside history [] (e ∷ ds) more (x ∷ marks) os all = absurd all
+  answered_beside history [] [] more [] (y ∷ os) all = absurd all
+  answered_beside history [] (e ∷ ds) more [] (y ∷ os) all = absurd all
+  answered_beside history (p ∷ qs) [] more marks os all = absurd all
+  answered_beside history (p ∷ qs) (e ∷ ds) more [] os all = absurd all
+  answered_beside history (p ∷ qs) (e ∷ ds) more (x ∷ marks) [] all = absurd all
+  answered_beside history (p ∷ qs) (e ∷ ds) more (x ∷ marks) (y ∷ os) all = (all.0, answered_beside (with_changes history m y.changes) qs ds more marks os all.1)
 
 max_more : (m moment : ℕ) → max (max m moment) moment ≡ max m moment
 max_more m moment = omega arith
@@ -69,10 +84,10 @@ StepsOn hosting rules first server server' asked moment d reply =
 served_more : {H : Type 0} (hosting : Hosting H) (before server server' : SeenServer H) (output out : List ℕ) (rules : RegistryRecord) (first : H) (history : List Event) (g m moment : ℕ) (messages : List Message) (draws : List Draws) (marks : List AnswerMark) (os : List Outcome) (message : Message) (d : Draws) (reply : Written) →
     max g moment ≡ m → AreAnswered hosting rules first m history (map asked_of_message messages) draws marks os → out ≡ output ++ replies_of os →
     FitsServer hosting.installs hosting.removes server rules first (with_changes history m (changes_made os)) g → AreNoted before server history (with_changes history m (changes_made os)) →
-    length messages < length draws →
-    StepsOn hosting rules first server server' (asked_of_message message) moment (get_or draws (length messages) d) reply →
-    AreMessagesServed hosting before server' output (out ++ reply_bytes reply) rules first history m (messages ++ message ∷ []) draws
-served_more hosting before server server' output out rules first history g m moment messages draws marks os message d reply later answered written_is fits noted less steps =
+    length draws ≡ length messages →
+    StepsOn hosting rules first server server' (asked_of_message message) moment d reply →
+    AreMessagesServed hosting before server' output (out ++ reply_bytes reply) rules first history m (messages ++ message ∷ []) (draws ++ d ∷ [])
+served_more hosting before server server' output out rules first history g m moment messages draws marks os message d reply later answered written_is fits noted each steps =
     let h = with_changes history m (changes_made os) in
     let step = steps h g fits in
     let mark : AnswerMark = record { refused = step.0; fault = step.1 } in
@@ -81,18 +96,18 @@ served_more hosting before server server' output out rules first history g m mom
       history = h;
       host = says_with hosting server.host step.1;
       moment = m;
-      draws = get_or draws (length messages) d;
+      draws = d;
     }) (asked_of_message message) in
     let done : IsStep hosting.installs hosting.removes o reply server server' rules first h m = rw later at step.3 in
     let size = length-map messages asked_of_message in
-    let is : IsOutcomeOfRequest hosting rules first m h (asked_of_message message) (get_or draws (length messages) d) mark o =
+    let is : IsOutcomeOfRequest hosting rules first m h (asked_of_message message) d mark o =
     record { host = server.host; comes = fits.hosts; fault = step.2; outcome_is = refl } in
     record {
       marks = marks ++ mark ∷ [];
       outcomes = os ++ o ∷ [];
       answered =
           rw (map-append asked_of_message messages (message ∷ []))
-          (answered_push hosting rules first m history (map asked_of_message messages) draws marks os (asked_of_message message) d mark o answered (omega (arith, size, less)) (rw size is));
+          (answered_push hosting rules first m history (map asked_of_message messages) draws marks os (asked_of_message message) d mark o answered (omega (arith, size, each)) is);
       output_is =
           ap (λ x. x ++ reply_bytes reply) written_is ∙ append_assoc output (replies_of os) (reply_bytes reply)
           ∙ ap (λ x. output ++ (replies_of os ++ reply_bytes x)) done.reply_is ∙ ap (λ x. output ++ x) (sym (replies_push os o));
@@ -124,38 +139,40 @@ nothing_answered hosting rules first m history (d ∷ ds) (x ∷ marks) os all =
 nothing_answered hosting rules first m history (d ∷ ds) [] (y ∷ os) all = absurd all
 
 -- one more message is answered
-served_next : {H : Type 0} (hosting : Hosting H) (before server server' : SeenServer H) (output out : List ℕ) (rules : RegistryRecord) (first : H) (history : List Event) (m moment : ℕ) (messages : List Message) (draws : List Draws) (i : ℕ) (message : Message) (d : Draws) (reply : Written) →
-    length messages ≡ i → i < length draws → AreMessagesServed hosting before server output out rules first history (moment_after m moment messages) messages draws →
-    StepsOn hosting rules first server server' (asked_of_message message) moment (get_or draws i d) reply →
-    AreMessagesServed hosting before server' output (out ++ reply_bytes reply) rules first history (moment_after m moment (messages ++ message ∷ [])) (messages ++ message ∷ []) draws
-served_next hosting before server server' output out rules first history m moment [] draws i message d reply count less served steps =
+served_next : {H : Type 0} (hosting : Hosting H) (before server server' : SeenServer H) (output out : List ℕ) (rules : RegistryRecord) (first : H) (history : List Event) (m moment : ℕ) (messages : List Message) (draws : List Draws) (message : Message) (d : Draws) (reply : Written) →
+    length draws ≡ length messages → AreMessagesServed hosting before server output out rules first history (moment_after m moment messages) messages draws →
+    StepsOn hosting rules first server server' (asked_of_message message) moment d reply →
+    AreMessagesServed hosting before server' output (out ++ reply_bytes reply) rules first history (moment_after m moment (messages ++ message ∷ [])) (messages ++ message ∷ []) (draws ++ d ∷ [])
+served_next hosting before server server' output out rules first history m moment [] draws message d reply each served steps =
     let none = nothing_answered hosting rules first m history draws served.marks served.outcomes served.answered in
     let said : out ≡ output ++ [] = served.output_is ∙ ap (λ os. output ++ replies_of os) none.1 in
     let fits : FitsServer hosting.installs hosting.removes server rules first (history ++ []) m =
     (let P : List Outcome → Type 0 = λ os. FitsServer hosting.installs hosting.removes server rules first (with_changes history m (changes_made os)) m in subst P none.1 served.fits) in
     let noted : AreNoted before server history (history ++ []) =
     (let P : List Outcome → Type 0 = λ os. AreNoted before server history (with_changes history m (changes_made os)) in subst P none.1 served.noted) in
-    served_more hosting before server server' output out rules first history m (max m moment) moment [] draws [] [] message d reply refl tt said fits noted (omega (arith, count, less)) (rw (← count) at steps)
-served_next hosting before server server' output out rules first history m moment (x ∷ messages) draws i message d reply count less served steps =
+    served_more hosting before server server' output out rules first history m (max m moment) moment [] draws [] [] message d reply refl tt said fits noted each steps
+served_next hosting before server server' output out rules first history m moment (x ∷ messages) draws message d reply each served steps =
     served_more hosting before server server' output out rules first history (max m moment) (max m moment) moment (x ∷ messages) draws served.marks served.outcomes message d reply (max_more m moment)
-    served.answered served.output_is served.fits served.noted (omega (arith, count, less)) (rw (← count) at steps)
+    served.answered served.output_is served.fits served.noted each steps
 
 -- one more message, which asks this, is answered
-pub served_push : {H : Type 0} (hosting : Hosting H) (before server server' : SeenServer H) (output out : List ℕ) (rules : RegistryRecord) (first : H) (history : List Event) (m moment : ℕ) (messages : List Message) (draws : List Draws) (i : ℕ) (message : Message) (d : Draws) (reply : Written) (asked : Asked) →
-    asked ≡ asked_of_message message → length messages ≡ i → i < length draws → AreMessagesServed hosting before server output out rules first history (moment_after m moment messages) messages draws →
-    StepsOn hosting rules first server server' asked moment (get_or draws i d) reply →
-    AreMessagesServed hosting before server' output (out ++ reply_bytes reply) rules first history (moment_after m moment (messages ++ message ∷ [])) (messages ++ message ∷ []) draws
-served_push hosting before server server' output out rules first history m moment messages draws i message d reply asked asks count less served steps =
-    let P : Asked → Type 0 = λ q. StepsOn hosting rules first server server' q moment (get_or draws i d) reply in
-    served_next hosting before server server' output out rules first history m moment messages draws i message d reply count less served (subst P asks steps)
+pub served_push : {H : Type 0} (hosting : Hosting H) (before server server' : SeenServer H) (output out : List ℕ) (rules : RegistryRecord) (first : H) (history : List Event) (m moment : ℕ) (messages : List Message) (draws : List Draws) (message : Message) (d : Draws) (reply : Written) (asked : Asked) →
+    asked ≡ asked_of_message message → length draws ≡ length messages → AreMessagesServed hosting before server output out rules first history (moment_after m moment messages) messages draws →
+    StepsOn hosting rules first server server' asked moment d reply →
+    AreMessagesServed hosting before server' output (out ++ reply_bytes reply) rules first history (moment_after m moment (messages ++ message ∷ [])) (messages ++ message ∷ []) (draws ++ d ∷ [])
+served_push hosting before server server' output out rules first history m moment messages draws message d reply asked asks each served steps =
+    let P : Asked → Type 0 = λ q. StepsOn hosting rules first server server' q moment d reply in
+    served_next hosting before server server' output out rules first history m moment messages draws message d reply each served (subst P asks steps)
 
 -- bytes in which there is no message are heard
-pub heard_none : {H : Type 0} (hosting : Hosting H) (server : SeenServer H) (bytes kept output : List ℕ) (moment : ℕ) (draws : List Draws) → IsStillNone bytes → kept ≡ bytes →
-    IsHeard hosting server server bytes kept output output moment draws false
-heard_none hosting server bytes kept output moment draws none same = record {
+pub heard_none : {H S : Type 0} (hosting : Hosting H) (sources : Sources S) (server : SeenServer H) (source : S) (bytes kept output : List ℕ) (moment : ℕ) → IsStillNone bytes → kept ≡ bytes →
+    IsHeard hosting sources (heard_with server output source) (heard_with server output source) bytes kept moment false
+heard_none hosting sources server source bytes kept output moment none same = record {
   messages = [];
-  read = record { rest = bytes; reads = record { reads = refl; none = none.none }; few = omega arith; enough = omega arith; kept_is = same; may_tell = λ e. absurd (cc); must_tell = λ must. absurd (none.untold must) };
+  read = record { rest = bytes; reads = record { reads = refl; none = none.none }; few = omega arith; kept_is = same; may_tell = λ e. absurd (cc); must_tell = λ must. absurd (none.untold must) };
+  enough = suffices_none (sources.supply source);
   middle = output;
-  serves = λ rules first history m fits. served_none hosting server output rules first history m draws fits;
+  serves = λ rules first history m fits. served_none hosting server output rules first history m [] fits;
   output_is = sym (append-nil output);
+  source_is = refl;
 }

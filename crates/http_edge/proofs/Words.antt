@@ -1,10 +1,10 @@
 -- The words of a generator, one after another.
-use Rattle.std.proofs.Common.{◌≡◌, ℕ, zero, suc, ◌+◌, ◌%◌, ◌^◌, ◌<◌, List, [], ◌++◌, refl, ap, sym, ◌∙◌, arith}
+use Rattle.std.proofs.Common.{◌≡◌, ℕ, zero, suc, ◌+◌, ◌%◌, ◌^◌, ◌<◌, List, [], refl, ap, sym, ◌∙◌, arith}
 use Rattle.std.proofs.Math.Nat.{mod-add-mod, mod-eq_of_lt}
 use Rattle.std.specs.Int.{w32, to_le_bytes}
 use Rattle.rand_core.specs.Steps.{word_bytes, fill_via_u32}
-use Rattle.rand_chacha.specs.ChaCha.{ChaCha, word_at, next_word}
-use Rattle.http_edge.specs.Chance.{next_word_at, bytes_from, draws_from, moved}
+use Rattle.rand_chacha.specs.ChaCha.{ChaCha, next_word}
+use Rattle.http_edge.specs.Chance.{bytes_from, next_draws, moved}
 
 -- one move after another
 pub moved_on : (g : ChaCha) (m n : ℕ) → moved (moved g m) n ≡ moved g (m + n)
@@ -30,24 +30,9 @@ filled g i = rw (words_are g i 8) refl
 -- the bytes of eight words, and of eight more
 pub drawn : (g h k : ChaCha) (first second : List ℕ) → g.word_pos < 2 ^ 68
     → (first, h) ≡ fill_via_u32 (next_word 10) 32 g → (second, k) ≡ fill_via_u32 (next_word 10) 32 h
-    → (record { first = first; second = second } ≡ draws_from g 0) × (k ≡ moved g 16)
+    → (record { first = first; second = second } ≡ next_draws g) × (k ≡ moved g 16)
 drawn g h k first second small one two =
     let e = one ∙ ap (fill_via_u32 (next_word 10) 32) (sym (moved_nowhere g small)) ∙ filled g 0 in
     let h_is : h ≡ moved g 8 = ap (λ p. p.1) e in
     let f = rw h_is at two ∙ filled g 8 in
     (rw (ap (λ p. p.0) e, ap (λ p. p.0) f) refl, ap (λ p. p.1) f)
-
--- words of the generator further on
-word_moved : (g : ChaCha) (m i : ℕ) → next_word_at (moved g m) i ≡ next_word_at g (m + i)
-word_moved g m i = ap (λ (h : ChaCha). word_at 10 h.key h.stream h.word_pos) (moved_on g m i)
-
-pub bytes_moved : (g : ChaCha) (m i j n : ℕ) → j ≡ m + i → bytes_from (moved g m) i n ≡ bytes_from g j n
-bytes_moved g m i j zero e = refl
-bytes_moved g m i j (suc n) e =
-    let same : m + (i + n) ≡ j + n = omega (arith, e) in
-    rw (bytes_moved g m i j n e) (ap (λ w. bytes_from g j n ++ to_le_bytes w32 w) (word_moved g m (i + n) ∙ ap (next_word_at g) same))
-
-pub draws_moved : (g : ChaCha) (m : ℕ) → draws_from (moved g m) 0 ≡ draws_from g m
-draws_moved g m =
-    let one : m ≡ m + 0 = omega arith in
-    rw (bytes_moved g m 0 m 8 one) (ap (λ (b : List ℕ). record { first = bytes_from g m 8; second = b }) (bytes_moved g m 8 (m + 8) 8 refl))

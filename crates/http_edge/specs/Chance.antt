@@ -1,5 +1,5 @@
 -- Draws by a generator.
-use Rattle.std.specs.Prelude.{ℕ, zero, suc, ◌+◌, ◌*◌, ◌%◌, ◌^◌, List, [], ◌∷◌, ◌++◌}
+use Rattle.std.specs.Prelude.{ℕ, zero, suc, ◌+◌, ◌%◌, ◌^◌, List, [], ◌++◌, Bool, if◌then◌else◌, replicate}
 use Rattle.std.specs.Int.{w32, to_le_bytes}
 use Rattle.rand_chacha.specs.ChaCha.{ChaCha, word_at}
 use Rattle.messages.specs.declared.request.Draws.{Draws}
@@ -13,15 +13,22 @@ abbrev pub bytes_from : ChaCha → ℕ → ℕ → List ℕ
 bytes_from g i zero = []
 bytes_from g i (suc n) = bytes_from g i n ++ to_le_bytes w32 (next_word_at g (i + n))
 
--- the draws by 16 of its words, from that one on
-abbrev pub draws_from : ChaCha → ℕ → Draws
-draws_from g i = record { first = bytes_from g i 8; second = bytes_from g (i + 8) 8 }
-
--- so many draws by its next words
-abbrev pub next_draws : ChaCha → ℕ → List Draws
-next_draws g zero = []
-next_draws g (suc n) = next_draws g n ++ draws_from g (16 * n) ∷ []
+-- the draws by its next 16 words
+abbrev pub next_draws : ChaCha → Draws
+next_draws g = record { first = bytes_from g 0 8; second = bytes_from g 8 8 }
 
 -- the generator so many words further
 abbrev pub moved : ChaCha → ℕ → ChaCha
 moved g n = record g { word_pos = (g.word_pos + n) % 2 ^ 68 }
+
+-- those of a request that wants none
+abbrev pub no_draws : Draws
+no_draws = record { first = replicate 32 0; second = replicate 32 0 }
+
+-- the draws of a request: the generator's next ones, where it wants some
+abbrev pub draws_by : ChaCha → Bool → Draws
+draws_by g wanted = if wanted then next_draws g else no_draws
+
+-- the generator behind them
+abbrev pub moved_by : ChaCha → Bool → ChaCha
+moved_by g wanted = if wanted then moved g 16 else g

@@ -1,7 +1,6 @@
 -- An edge as it is seen, and why its events are refused.
 use Rattle.std.specs.Prelude.{◌≡◌, ◌≤◌, ◌<◌, ◌++◌, ℕ, List, Option, Some, None, IsSome, length}
 use Rattle.change_codec.specs.Spelling.{DatedFact}
-use Rattle.messages.specs.declared.request.Draws.{Draws}
 use Rattle.endpoints.specs.Server.{SeenServer}
 use Rattle.http_edge.specs.Limits.{connection_limit, piece_limit}
 use Rattle.http_edge.specs.Lanes.{SeenLane, lane_at, output_in, IsHearing}
@@ -41,7 +40,7 @@ pub record MayHear (lanes : List SeenLane) (c : ℕ) (piece : List ℕ) : Type 0
   pub short : length piece ≤ piece_limit
 
 -- why a piece is refused
-abbrev pub IsBytesRefusal : EdgeFault → List SeenLane → ℕ → List ℕ → List Draws → Type 0
-IsBytesRefusal NotOpen lanes c piece draws = ¬ (IsHearing (lane_at lanes c))
-IsBytesRefusal PieceTooLong lanes c piece draws = IsHearing (lane_at lanes c) × (piece_limit < length piece)
-IsBytesRefusal fault lanes c piece draws = (may : MayHear lanes c piece) × IsHearingRefusal fault (may.lane.rest ++ piece) draws
+abbrev pub IsBytesRefusal : EdgeFault → List SeenLane → ℕ → List ℕ → Option ℕ → Type 0
+IsBytesRefusal NotOpen lanes c piece supply = ¬ (IsHearing (lane_at lanes c))
+IsBytesRefusal PieceTooLong lanes c piece supply = IsHearing (lane_at lanes c) × (piece_limit < length piece)
+IsBytesRefusal fault lanes c piece supply = (may : MayHear lanes c piece) × IsHearingRefusal fault (may.lane.rest ++ piece) supply

@@ -1,8 +1,11 @@
 pub mod Limits
+pub mod Supply
 pub mod Answers
 pub mod Schedule
 pub mod Lanes
 pub mod Places
+pub mod Sources
+pub mod Unread
 pub mod Heard
 pub mod Edges
 pub mod Reached

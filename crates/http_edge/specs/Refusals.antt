@@ -1,9 +1,9 @@
 -- Why an event is refused.
 use Rattle.std.specs.Prelude.{◌≡◌, ◌≤◌, ◌<◌, ◌++◌, ℕ, List, false, Option, Some, None, IsSome, length}
 use Rattle.hook_host.specs.declared.host.HookHost.{Ghosts as Hosting}
-use Rattle.messages.specs.declared.request.Draws.{Draws}
 use Rattle.heads.specs.Message.{Message, Messages}
 use Rattle.http_edge.specs.Limits.{connection_limit, piece_limit, request_limit}
+use Rattle.http_edge.specs.Supply.{Suffices, FallsShort}
 use Rattle.http_edge.specs.Schedule.{Connection, connection_at, has_stream_ended}
 use Rattle.http_edge.specs.Edges.{SeenEdge}
 use Rattle.http_edge.specs.Reached.{InEach}
@@ -27,17 +27,18 @@ pub record Completes (connections : List Connection) (c : ℕ) (piece : List ℕ
   pub rest : List ℕ
   pub reads : Messages (connection.stream ++ piece) (connection.messages ++ messages) rest
 
--- a piece: NotOpen, PieceTooLong, TooManyRequests, DrawsShort, Memory, in this order
-abbrev pub IsPieceRefusal : EdgeFault → List Connection → ℕ → List ℕ → List Draws → Type 0
-IsPieceRefusal NotOpen connections c piece draws = ¬ (MaySend (connection_at connections c))
-IsPieceRefusal PieceTooLong connections c piece draws = MaySend (connection_at connections c) × (piece_limit < length piece)
-IsPieceRefusal TooManyRequests connections c piece draws = (messages : List Message) × Completes connections c piece messages ×
+-- A piece, with draws for so many requests, or for any number: NotOpen, PieceTooLong, TooManyRequests, DrawsShort, Memory,
+-- in this order
+abbrev pub IsPieceRefusal : EdgeFault → List Connection → ℕ → List ℕ → Option ℕ → Type 0
+IsPieceRefusal NotOpen connections c piece supply = ¬ (MaySend (connection_at connections c))
+IsPieceRefusal PieceTooLong connections c piece supply = MaySend (connection_at connections c) × (piece_limit < length piece)
+IsPieceRefusal TooManyRequests connections c piece supply = (messages : List Message) × Completes connections c piece messages ×
     (request_limit < length messages)
-IsPieceRefusal DrawsShort connections c piece draws =
-    (messages : List Message) × Completes connections c piece messages × (length messages ≤ request_limit) × (length draws < length messages)
-IsPieceRefusal Memory connections c piece draws =
-    (messages : List Message) × Completes connections c piece messages × (length messages ≤ request_limit) × (length messages ≤ length draws)
-IsPieceRefusal fault connections c piece draws = ⊥
+IsPieceRefusal DrawsShort connections c piece supply =
+    (messages : List Message) × Completes connections c piece messages × (length messages ≤ request_limit) × FallsShort supply (length messages)
+IsPieceRefusal Memory connections c piece supply =
+    (messages : List Message) × Completes connections c piece messages × (length messages ≤ request_limit) × Suffices supply (length messages)
+IsPieceRefusal fault connections c piece supply = ⊥
 
 -- an opening: AlreadyOpen, TooMany, Memory, in this order
 abbrev pub IsOpeningRefusal : EdgeFault → List Connection → ℕ → Type 0
@@ -53,7 +54,7 @@ IsEndingRefusal fault connections c = ⊥
 
 abbrev pub IsEventRefusal : EdgeFault → List Connection → Event → Type 0
 IsEventRefusal fault connections (event.Open c) = IsOpeningRefusal fault connections c
-IsEventRefusal fault connections (event.Bytes c piece moment draws) = IsPieceRefusal fault connections c piece.now draws.now
+IsEventRefusal fault connections (event.Bytes c piece moment draws) = IsPieceRefusal fault connections c piece.now (Some (length draws.now))
 IsEventRefusal fault connections (event.End c) = IsEndingRefusal fault connections c
 
 -- the fault is the event's, wherever the edge was reached

@@ -4,29 +4,36 @@ ghost use Rattle.messages.specs.Small.{reply_limit};
 ghost use Rattle.heads.specs.Message.{Message, ReadsMessages};
 ghost use Rattle.heads.specs.Front.{IsFront};
 ghost use Rattle.http_edge.specs.Heard.{HasMessages, ServesMessages};
+ghost use Rattle.http_edge.specs.Sources.{draws_for, draws_behind};
+ghost use Rattle.http_edge.specs.Supply.{Suffices};
 
+use crate::source::DrawSource;
+use crate::wanting::wants_draws;
 use endpoints::{Moment, Server};
 use heads::{Front, front_of, lend};
 use hook_host::HookHost;
-use messages::{Draws, Response};
+use messages::Response;
 
-/// Answers the first requests of the bytes, each with draws of its own. What stands at their front was read before. There
-/// is room for the replies.
-pub(crate) fn answer_all<H: HookHost>(
+/// Answers the first requests of the bytes, each with the next draws of the source. What stands at their front was read
+/// before. There is room for the replies.
+pub(crate) fn answer_all<H: HookHost, S: DrawSource>(
     server: &mut Server<H>,
     bytes: &[u8],
     first: Front,
     count: usize,
     moment: Moment,
-    draws: &[Draws],
+    source: &mut S,
     output: &mut Vec<u8>,
 )
     requires first { IsFront bytes.now first }
     requires messages { HasMessages bytes.now count }
-    requires draws { count ≤ length draws.now }
+    requires draws { Suffices (S.supply source.old) count }
     requires room { vec_len output.old + count * reply_limit ≤ vec_capacity output.old }
     ensures served { (messages : List Message) (rest : List ℕ) → ReadsMessages bytes.now messages rest → length messages ≡ count →
-        ServesMessages H.HookHost server.old server.new output.old.items output.new.items messages moment draws.now }
+        ServesMessages H.HookHost server.old server.new output.old.items output.new.items messages moment
+        (draws_for S.DrawSource source.old messages) }
+    ensures drawn { (messages : List Message) (rest : List ℕ) → ReadsMessages bytes.now messages rest → length messages ≡ count →
+        source.new ≡ draws_behind S.DrawSource source.old messages }
     ensures room { vec_capacity output.old ≤ vec_capacity output.new }
     ensures len { vec_len output.new ≤ vec_len output.old + count * reply_limit }
 {
@@ -37,7 +44,8 @@ pub(crate) fn answer_all<H: HookHost>(
             unreachable!();
         };
         let request = lend(here, &found);
-        let reply = server.step(&request, moment, &draws[i]);
+        let draws = source.draw(wants_draws(&request));
+        let reply = server.step(&request, moment, &draws);
         reply.push(output);
         start += found.end;
     }

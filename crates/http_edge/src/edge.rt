@@ -11,10 +11,12 @@ ghost use Rattle.http_edge.specs.Lanes.{lane_at, fresh_lane, without_lane, rest_
 ghost use Rattle.http_edge.specs.Places.{IsPosition};
 ghost use Rattle.http_edge.specs.Heard.{LaneHeard, IsHearingRefusal};
 ghost use Rattle.http_edge.specs.Edges.{output_of, unkept_of, IsOpenRefusal, IsEndRefusal, IsBytesRefusal};
-ghost use Rattle.http_edge.specs.Reached.{BeginsOver, ResumesOver, InEach, HappeningLeads, PieceLeads, is_closing, IsHeld};
+ghost use Rattle.http_edge.specs.Reached.{BeginsOver, ResumesOver, InEach, HappeningLeads, is_closing, IsHeld};
+ghost use Rattle.http_edge.specs.Pieces.{PieceGiven, RefusesPiece};
 ghost use Rattle.http_edge.specs.Events.{EventLeads};
 ghost use Rattle.http_edge.specs.Refusals.{RefusesEvent};
 
+use crate::draw_list::DrawList;
 use crate::event::Event;
 use crate::fault::EdgeFault;
 use crate::hearing::hear;
@@ -22,10 +24,10 @@ use crate::lane::{Lane, Phase};
 use crate::limits::{CONNECTION_LIMIT, PIECE_LIMIT, ROOM_TO_HEAR};
 use crate::rest::Rest;
 use crate::room::take_front;
+use crate::source::DrawSource;
 use change_codec::Batch;
 use endpoints::{Moment, Server};
 use hook_host::HookHost;
-use messages::Draws;
 use std::alloc::{AllocError, Global};
 use std::marker::Model;
 
@@ -159,22 +161,24 @@ fn take_output(lane: &mut Lane, n: usize)
     lane.output.shrink_to_fit();
 }
 
-fn hear_lane<H: HookHost>(
+fn hear_lane<H: HookHost, S: DrawSource>(
     server: &mut Server<H>,
     work: &mut Vec<u8>,
     lane: &mut Lane,
     piece: &[u8],
     moment: Moment,
-    draws: &[Draws],
+    source: &mut S,
 ) -> Result<(), EdgeFault>
     requires is_open { lane.old.phase ≡ Open }
     requires short { length piece.now ≤ piece_limit }
     requires empty { vec_len work.old ≡ 0 }
     requires room { room_to_hear ≤ vec_capacity work.old }
-    ensures heard { OnOk result (LaneHeard H.HookHost server.old server.new lane.old lane.new piece.now moment draws.now) }
-    ensures refused { IfErr result (λ fault. IsHearingRefusal fault (lane.old.rest ++ piece.now) draws.now) }
+    ensures heard { OnOk result (LaneHeard H.HookHost S.DrawSource server.old server.new lane.old lane.new
+        piece.now moment source.old source.new) }
+    ensures refused { IfErr result (λ fault. IsHearingRefusal fault (lane.old.rest ++ piece.now) (S.supply source.old)) }
     ensures server_kept { OnErr result (server.new ≡ server.old) }
     ensures lane_kept { OnErr result (lane.new ≡ lane.old) }
+    ensures source_kept { OnErr result (source.new ≡ source.old) }
     ensures empty { vec_len work.new ≡ 0 }
     ensures room { vec_capacity work.old ≤ vec_capacity work.new }
 {
@@ -185,7 +189,7 @@ fn hear_lane<H: HookHost>(
         &mut lane.output,
         piece,
         moment,
-        draws,
+        source,
     ) {
         Ok(closes) => {
             if closes {
@@ -283,16 +287,17 @@ impl<H: HookHost> Edge<H> {
     }
 
     // A piece came.
-    fn hear(
+    fn hear_piece<S: DrawSource>(
         &mut self,
         c: u32,
         piece: &[u8],
         moment: Moment,
-        draws: &[Draws],
+        source: &mut S,
     ) -> Result<(), EdgeFault>
-        ensures done { OnOk result (PieceLeads H.HookHost self.old self.new c piece.now moment draws.now) }
-        ensures refused { IfErr result (λ fault. IsBytesRefusal fault self.old.lanes c piece.now draws.now) }
+        ensures given { OnOk result (PieceGiven H.HookHost S.DrawSource self.old self.new c piece.now moment source.old source.new) }
+        ensures refused { IfErr result (λ fault. IsBytesRefusal fault self.old.lanes c piece.now (S.supply source.old)) }
         ensures err { OnErr result (self.new ≡ self.old) }
+        ensures undrawn { OnErr result (source.new ≡ source.old) }
     {
         let Some(i) = place_of(&self.lanes, c) else {
             return Err(EdgeFault::NotOpen);
@@ -312,7 +317,7 @@ impl<H: HookHost> Edge<H> {
             &mut self.lanes[i],
             piece,
             moment,
-            draws,
+            source,
         ) {
             return Err(fault);
         }
@@ -335,6 +340,24 @@ impl<H: HookHost> Edge<H> {
         Ok(())
     }
 
+    /// A piece of a connection's stream came at a moment. Each request that it completes has the next draws of the source, and
+    /// the source stands right behind them. A refused piece changes nothing, and takes no draws.
+    pub fn hear<S: DrawSource>(
+        &mut self,
+        c: u32,
+        piece: &[u8],
+        moment: Moment,
+        source: &mut S,
+    ) -> Result<(), EdgeFault>
+        ensures given { OnOk result (PieceGiven H.HookHost S.DrawSource self.old self.new c piece.now moment source.old source.new) }
+        // In the order NotOpen, PieceTooLong, TooManyRequests, DrawsShort, Memory.
+        ensures refused { IfErr result (RefusesPiece H.HookHost self.old c piece.now (S.supply source.old)) }
+        ensures err { OnErr result (self.new ≡ self.old) }
+        ensures undrawn { OnErr result (source.new ≡ source.old) }
+    {
+        self.hear_piece(c, piece, moment, source)
+    }
+
     /// An event happens, or is refused and changes nothing.
     pub fn event(&mut self, event: Event<'_>) -> Result<(), EdgeFault>
         ensures done { OnOk result (EventLeads H.HookHost self.old self.new event.entry) }
@@ -350,7 +373,7 @@ impl<H: HookHost> Edge<H> {
                 piece,
                 moment,
                 draws,
-            } => self.hear(connection, piece, moment, draws),
+            } => self.hear(connection, piece, moment, &mut DrawList::new(draws)),
             Event::End(c) => self.end(c),
         }
     }

@@ -235,11 +235,11 @@ module _ {H S C : Type 0} (hosting : Hosting H) (does : S → Doing → S → Ty
   step_stands a b old new (opens leads) h = rw h.1 (on_opened hosting does c rules first schedule s0 _ _ world (rw h.0 reached) leads)
   step_stands a b old new (denies fault refused) h =
       inl (record { cause = fault; is_fault = refl; is_refusal = refused rules first schedule world (rw h.0 reached); same_edge = h.0; same_stream = h.1 })
-  step_stands a b old new (hears n piece moment few attentive some short done told given after) h =
+  step_stands a b old new (hears n piece moment few attentive some short done told given) h =
       on_heard hosting does c rules first schedule s0 _ _ _ _ piece moment _ h attentive done given.leads
-  step_stands a b old new (refuses n piece moment fault few attentive some short done told refused after) h =
+  step_stands a b old new (refuses n piece moment fault few attentive some short done told refused) h =
       record { lost = piece; may_lose = short; exchange = on_lost hosting does c rules first schedule s0 _ _ _ piece h done; all = λ e. absurd (cc) }
-  step_stands a b old new (loses_time n piece few attentive some short done told after) h =
+  step_stands a b old new (loses_time n piece few attentive some short done told) h =
       record { lost = piece; may_lose = short; exchange = on_lost hosting does c rules first schedule s0 _ _ _ piece h done; all = λ e. absurd (cc) }
   step_stands a b old new (breaks n few attentive done) h =
       ends_whole hosting does c rules first schedule s0 _ _ _ refl (on_failed_read hosting does c rules first schedule s0 _ _ _ h done) (λ e. absurd (cc))

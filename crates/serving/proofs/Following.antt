@@ -30,11 +30,11 @@ step_leads : {H S C : Type 0} (hosting : Hosting H) (does : S → Doing → S �
     ServingStep hosting does tells c a old b new → LeadsOn hosting old.edge rules first schedule → LeadsOn hosting new.edge rules first schedule
 step_leads hosting does tells c rules first schedule a b old new (opens leads) l = one_more hosting rules first schedule _ _ _ leads l
 step_leads hosting does tells c rules first schedule a b old new (denies fault refused) l = l
-step_leads hosting does tells c rules first schedule a b old new (hears n piece moment few attentive some short done told given after) l =
+step_leads hosting does tells c rules first schedule a b old new (hears n piece moment few attentive some short done told given) l =
     let on = given.leads rules first (schedule ++ l.events) l.world l.reached in
     happened hosting rules first schedule l.events _ l.world _ on.on
-step_leads hosting does tells c rules first schedule a b old new (refuses n piece moment fault few attentive some short done told refused after) l = l
-step_leads hosting does tells c rules first schedule a b old new (loses_time n piece few attentive some short done told after) l = l
+step_leads hosting does tells c rules first schedule a b old new (refuses n piece moment fault few attentive some short done told refused) l = l
+step_leads hosting does tells c rules first schedule a b old new (loses_time n piece few attentive some short done told) l = l
 step_leads hosting does tells c rules first schedule a b old new (breaks n few attentive done) l = l
 step_leads hosting does tells c rules first schedule a b old new (finishes n few attentive done) l = l
 step_leads hosting does tells c rules first schedule a b old new stops l = l

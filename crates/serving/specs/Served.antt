@@ -1,18 +1,17 @@
 -- What is done for one connection, step by step.
-use Rattle.std.specs.Prelude.{◌≡◌, ◌⊎◌, ◌++◌, ◌≤◌, ◌<◌, ◌+◌, ◌*◌, ℕ, List, [], Bool, true, false, Option, Some, None, Result, Ok, Err, length, take, ⊤}
+use Rattle.std.specs.Prelude.{◌≡◌, ◌⊎◌, ◌++◌, ◌≤◌, ◌<◌, ◌+◌, ℕ, List, [], Bool, true, false, Option, Some, None, Result, Ok, Err, length, take, ⊤}
 use Rattle.rand_chacha.specs.ChaCha.{ChaCha}
 use Rattle.hook_host.specs.declared.host.HookHost.{Ghosts as Hosting}
 use Rattle.clients.specs.RegistryRecord.{RegistryRecord}
 use Rattle.http_edge.specs.Schedule.{World, Connection, Happening, Opened, HasEnded, Taken, Forgotten, connection_at}
 use Rattle.http_edge.specs.Lanes.{lane_at}
 use Rattle.http_edge.specs.Edges.{SeenEdge, output_of}
-use Rattle.http_edge.specs.Refusals.{IsOpeningRefusal, IsPieceRefusal, IsEndingRefusal}
+use Rattle.http_edge.specs.Refusals.{IsOpeningRefusal, IsEndingRefusal}
 use Rattle.http_edge.specs.Reached.{Reached, HappeningLeads, PieceLeads, is_closing}
-use Rattle.http_edge.specs.Chance.{moved}
-use Rattle.http_edge.specs.Pieces.{WhereReached, PieceGiven, PieceRefused}
+use Rattle.http_edge.specs.Pieces.{WhereReached, PieceGiven, RefusesPiece}
+use Rattle.http_edge.specs.contracts.chance.ChaCha20RngDrawSource.TheImpl as generators
 use Rattle.serving.specs.Streams.{Doing, Received, ReadFailed, Sent, WriteFailed}
 use Rattle.http_edge.specs.declared.fault.EdgeFault.{EdgeFault}
-use Rattle.http_edge.specs.declared.fault.EdgeFault.TheVariants.{DrawsShort}
 use Rattle.serving.specs.declared.fault.ServeFault.{ServeFault}
 use Rattle.serving.specs.declared.fault.ServeFault.TheVariants as Fault
 use Rattle.serving.specs.declared.serve.Heard.{Heard}
@@ -84,7 +83,7 @@ pub record WriteFails {H S : Type 0} (hosting : Hosting H) (does : S → Doing �
 abbrev pub serving_scene : {H S C : Type 0} → SeenEdge H → S → C → ChaCha → ServingScene H S C
 serving_scene edge stream clock g = record { edge = edge; stream = stream; clock = clock; generator = g }
 
--- What may be done at a stage, and the stage that comes of it. Each piece that was read takes 64 draws of 16 words.
+-- What may be done at a stage, and the stage that comes of it. Only a piece that was given takes draws of the generator.
 pub data ServingStep {H S C : Type 0} (hosting : Hosting H) (does : S → Doing → S → Type 0) (tells : C → Option ℕ → C → Type 0) (c : ℕ) : Stage →
     ServingScene H S C →
     Stage → ServingScene H S C → Type 0 where
@@ -93,19 +92,18 @@ pub data ServingStep {H S C : Type 0} (hosting : Hosting H) (does : S → Doing 
   denies : {e : SeenEdge H} {s : S} {k : C} {g : ChaCha} (fault : EdgeFault) → WhereReached hosting e (λ connections. IsOpeningRefusal fault connections c) →
       ServingStep hosting does tells c Coming (serving_scene e s k g) (Left (Some (Fault.Refused fault))) (serving_scene e s k g)
   -- a piece was read, and given at the moment that the clock told
-  hears : {e e' : SeenEdge H} {s s' : S} {k k' : C} {g behind g' : ChaCha} (n : ℕ) (piece : List ℕ) (moment : ℕ) → n < pieces_limit → IsAttentive hosting e c →
+  hears : {e e' : SeenEdge H} {s s' : S} {k k' : C} {g g' : ChaCha} (n : ℕ) (piece : List ℕ) (moment : ℕ) → n < pieces_limit → IsAttentive hosting e c →
       0 < length piece → length piece ≤ stream_piece_limit → does s (Received piece) s' → tells k (Some moment) k' →
-      PieceGiven hosting e e' c piece moment g behind → g' ≡ moved g 1024 →
+      PieceGiven hosting generators.ghosts e e' c piece moment g g' →
       ServingStep hosting does tells c (Reading n) (serving_scene e s k g) (Reading (n + 1)) (serving_scene e' s' k' g')
-  refuses : {e : SeenEdge H} {s s' : S} {k k' : C} {g behind g' : ChaCha} (n : ℕ) (piece : List ℕ) (moment : ℕ) (fault : EdgeFault) → n < pieces_limit →
+  refuses : {e : SeenEdge H} {s s' : S} {k k' : C} {g : ChaCha} (n : ℕ) (piece : List ℕ) (moment : ℕ) (fault : EdgeFault) → n < pieces_limit →
       IsAttentive hosting e c →
       0 < length piece → length piece ≤ stream_piece_limit → does s (Received piece) s' → tells k (Some moment) k' →
-      PieceRefused hosting e c piece g behind fault →
-      g' ≡ moved g 1024 →
-      ServingStep hosting does tells c (Reading n) (serving_scene e s k g) (Served (Some (Fault.Refused fault))) (serving_scene e s' k' g')
-  loses_time : {e : SeenEdge H} {s s' : S} {k k' : C} {g g' : ChaCha} (n : ℕ) (piece : List ℕ) → n < pieces_limit → IsAttentive hosting e c →
-      0 < length piece → length piece ≤ stream_piece_limit → does s (Received piece) s' → tells k None k' → g' ≡ moved g 1024 →
-      ServingStep hosting does tells c (Reading n) (serving_scene e s k g) (Served (Some Fault.Clock)) (serving_scene e s' k' g')
+      RefusesPiece hosting e c piece None fault →
+      ServingStep hosting does tells c (Reading n) (serving_scene e s k g) (Served (Some (Fault.Refused fault))) (serving_scene e s' k' g)
+  loses_time : {e : SeenEdge H} {s s' : S} {k k' : C} {g : ChaCha} (n : ℕ) (piece : List ℕ) → n < pieces_limit → IsAttentive hosting e c →
+      0 < length piece → length piece ≤ stream_piece_limit → does s (Received piece) s' → tells k None k' →
+      ServingStep hosting does tells c (Reading n) (serving_scene e s k g) (Served (Some Fault.Clock)) (serving_scene e s' k' g)
   breaks : {e : SeenEdge H} {s s' : S} {k : C} {g : ChaCha} (n : ℕ) → n < pieces_limit → IsAttentive hosting e c → does s ReadFailed s' →
       ServingStep hosting does tells c (Reading n) (serving_scene e s k g) (Served (Some Fault.Read)) (serving_scene e s' k g)
   -- the stream has no more, or so many pieces were read

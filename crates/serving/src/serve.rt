@@ -11,7 +11,7 @@ use crate::clock::Clock;
 use crate::fault::ServeFault;
 use crate::stream::Stream;
 use hook_host::HookHost;
-use http_edge::{Edge, Event, give};
+use http_edge::{Edge, Event};
 use rand_chacha::ChaCha20Rng;
 
 /// So many bytes has a piece at most.
@@ -19,9 +19,6 @@ pub const PIECE_LIMIT: usize = 512;
 
 /// So many pieces are read of one connection at most.
 pub const READ_LIMIT: u32 = 1_048_576;
-
-/// So many words of the generator are for one piece.
-const WORDS_OF_PIECE: u128 = 1024;
 
 // What came of a read.
 #[derive(Clone, Copy)]
@@ -48,14 +45,10 @@ fn hear<H: HookHost, S: Stream, C: Clock>(
     if count == 0 {
         return Ok(Heard::End);
     }
-    let place = rng.get_word_pos();
     let Some(moment) = clock.now() else {
-        rng.set_word_pos(place + WORDS_OF_PIECE);
         return Err(ServeFault::Clock);
     };
-    let given = give(edge, c, &buffer[..count], moment, rng);
-    rng.set_word_pos(place + WORDS_OF_PIECE);
-    if let Err(fault) = given {
+    if let Err(fault) = edge.hear(c, &buffer[..count], moment, rng) {
         return Err(ServeFault::Refused(fault));
     }
     Ok(Heard::Piece)

@@ -1,5 +1,5 @@
 -- What the lines of a transcript stand for.
-use Rattle.std.specs.Prelude.{◌≡◌, ℕ, List, [], ◌∷◌, Bool, ⊤}
+use Rattle.std.specs.Prelude.{◌≡◌, ℕ, List, [], ◌∷◌, Bool, Some, length, ⊤}
 use Rattle.http_edge.specs.Answers.{AnswerMark}
 use Rattle.http_edge.specs.Schedule.{Connection, Happening, Opened, Came, HasEnded}
 use Rattle.http_edge.specs.Refusals.{IsOpeningRefusal, IsPieceRefusal, IsEndingRefusal}
@@ -29,5 +29,5 @@ StandFor lines schedule = ⊥
 -- why a statement's event is refused, where these connections are
 abbrev pub IsStatementRefusal : EdgeFault → List Connection → Statement → Type 0
 IsStatementRefusal fault connections (Opens c) = IsOpeningRefusal fault connections c
-IsStatementRefusal fault connections (Brings c moment draws piece) = IsPieceRefusal fault connections c piece draws
+IsStatementRefusal fault connections (Brings c moment draws piece) = IsPieceRefusal fault connections c piece (Some (length draws))
 IsStatementRefusal fault connections (Ends c) = IsEndingRefusal fault connections c

@@ -4,7 +4,7 @@ use clients::{ConfigFault, Registry};
 use consent::Moment;
 use endpoints::Server;
 use hook_chain::Chain;
-use http_edge::{Edge, draw};
+use http_edge::{DrawSource, Edge};
 use rand_chacha::ChaCha20Rng;
 use rand_core::SeedableRng;
 use serving::{Clock, ServeFault, serve_one};
@@ -27,12 +27,11 @@ fn new_edge(alloc: Global) -> Result<Edge<Chain>, ConfigFault> {
 const REQUEST: &str =
     "POST /token HTTP/1.1\r\nContent-Length: 61\r\n\r\ngrant_type=client_credentials&client_id=bot&client_secret=b0t";
 
-/// The tokens of the first draws of three pieces: 32 bytes each of ChaCha20's blocks 0, 64 and 128, for a key and a nonce of
-/// zeros.
+/// The tokens of the first three draws: 32 bytes each of ChaCha20's blocks 0, 1 and 2, for a key and a nonce of zeros.
 const TOKENS: [&str; 3] = [
     "drjgraDxPZBAXWrlU4a9KL3SGbigje0aqDbvzIt3Dcc",
-    "HG9bKKN6Ha05n4xPLSzt0PcaaTfBCqeOKfgrT10S504",
-    "ZK1dTf2Xr-o5IlLACZZNCmpXt_Q0KQlDMp2zYiDGB3U",
+    "nwfnvlVROHqYupd8cy0IDcsPKaBI42VpEsZTPjLueu0",
+    "LQmg5mMmbOGuftEIGWigdY5xjpl702LGsMNGNKmgs10",
 ];
 
 /// So many bytes has the reply with a token.
@@ -323,7 +322,7 @@ const BLOCKS: [[u8; 32]; 4] = [
 fn draws_are_in_order(rt: HostRuntime) {
     let mut rng = ChaCha20Rng::from_seed([0; 32]);
     for i in 0..2 {
-        let draws = draw(&mut rng);
+        let draws = rng.draw(true);
         assert_eq!(rt; draws.first, BLOCKS[2 * i]);
         assert_eq!(rt; draws.second, BLOCKS[2 * i + 1]);
     }

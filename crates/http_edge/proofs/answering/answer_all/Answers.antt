@@ -1,5 +1,6 @@
-use Rattle.std.proofs.Common.{◌≡◌, ◌≤◌, ◌+◌, ◌-◌, ℕ, List, ◌++◌, [], ◌∷◌, length, take, drop, refl, ap, ◌∙◌, sym, arith, length-append}
+use Rattle.std.proofs.Common.{◌≡◌, ◌≤◌, ◌+◌, ◌-◌, ℕ, List, ◌++◌, [], ◌∷◌, Bool, length, take, drop, refl, ap, ◌∙◌, sym, arith, length-append}
 use Rattle.std.proofs.lemmas.List.{length-drop, drop-drop}
+use Rattle.messages.specs.declared.request.Draws.{Draws}
 use Rattle.messages.specs.Asked.{Asked, asked_of}
 use Rattle.messages.specs.Written.{reply_bytes}
 use Rattle.heads.specs.Message.{Message, BeginsWithMessage, HasNone, asked_of_message}
@@ -8,7 +9,10 @@ use Rattle.heads.specs.declared.front.Found.{Found}
 use Rattle.heads.specs.ReadingLaws.{reads_push, reads_next, reads_same}
 use Rattle.heads.specs.WaitingLaws.{front_whole}
 use Rattle.http_edge.proofs.Fronts.{tail_is, target_fits}
+use Rattle.http_edge.specs.Sources.{wants_draws, draws_for, draws_behind}
 use Rattle.http_edge.proofs.Serving.{served_none, served_push}
+use Rattle.http_edge.proofs.Drawing.{draws_length, draws_push, behind_push}
+use Rattle.http_edge.proofs.Supplying.{suffices_one, suffices_behind, suffices_for}
 use Rattle.http_edge.proofs.answering.answer_all.Goals as goal
 
 pub unreachable-requires : goal.unreachable-requires
@@ -31,7 +35,9 @@ loop-i-init g c = record {
   reads = refl;
   begun = omega arith;
   front = λ e. refl;
-  served = λ rules first history m fits. served_none g.H.HookHost c.args.server.now c.args.output.now.items rules first history m c.args.draws.now fits;
+  served = λ rules first history m fits. served_none g.H.HookHost c.args.server.now c.args.output.now.items rules first history m [] fits;
+  drawn = refl;
+  left = suffices_for _ c.args.count (c.args.count - 0) (omega arith) c.requires.draws;
   len = omega arith;
   room = omega arith;
 }
@@ -56,6 +62,9 @@ push-requires g c =
     let enough = c.requires.room in
     omega (arith, short, len, room, test, enough)
 
+pub draw-draws-requires : goal.draw-draws-requires
+draw-draws-requires g c = suffices_one _ c.args.count c.loop-i.i (omega (arith, c.loop-i-test.true)) c.loop-i.invariant.left
+
 pub loop-i-preserved : goal.loop-i-preserved
 loop-i-preserved g c =
     let bytes = c.args.bytes.now in
@@ -78,7 +87,12 @@ loop-i-preserved g c =
     let room = before.room in
     let more_room = c.push.ensures.room in
     let test = c.loop-i-test.true in
-    let enough = c.requires.draws in
+    let sources = g.S.DrawSource in
+    let drawn : List Draws = draws_for sources c.args.source.now before.messages in
+    let wants : c.wants_draws.result ≡ wants_draws (asked_of_message message) = c.wants_draws.ensures ∙ ap wants_draws asked in
+    let d_is : c.draw-draws.result ≡ sources.draws (draws_behind sources c.args.source.now before.messages) (wants_draws (asked_of_message message)) =
+    c.draw-draws.ensures.value ∙ ap (λ (w : Bool). sources.draws c.loop-i.source w) wants ∙ ap (λ s. sources.draws s (wants_draws (asked_of_message message))) before.drawn in
+    let all_drawn = ap (λ (d : Draws). drawn ++ d ∷ []) d_is ∙ sym (draws_push sources c.args.source.now before.messages message) in
     record {
       messages = before.messages ++ message ∷ [];
       count = omega (arith, n, count);
@@ -86,10 +100,15 @@ loop-i-preserved g c =
       begun = omega (arith, fits, here, begun);
       front = λ e. absurd (omega (arith, e));
       served = λ rules first history m fit.
-          rw c.push.ensures.items
-          (served_push g.H.HookHost c.args.server.now c.loop-i.server c.step-reply.new.self c.args.output.now.items c.loop-i.output.items rules first history m c.args.moment before.messages c.args.draws.now c.loop-i.i message _ c.step-reply.result (asked_of c.lend-request.result) asked count (omega (arith, test, enough))
+          rw (← all_drawn, c.push.ensures.items)
+          (served_push g.H.HookHost c.args.server.now c.loop-i.server c.step-reply.new.self c.args.output.now.items c.loop-i.output.items rules first history m c.args.moment before.messages drawn message c.draw-draws.result c.step-reply.result (asked_of c.lend-request.result) asked
+          (draws_length sources c.args.source.now before.messages)
           (before.served rules first history m fit)
           (c.step-reply.ensures.replies rules first));
+      drawn =
+          c.draw-draws.ensures.after ∙ ap (λ (w : Bool). sources.behind c.loop-i.source w) wants ∙ ap (λ s. sources.behind s (wants_draws (asked_of_message message))) before.drawn
+          ∙ sym (behind_push sources c.args.source.now before.messages message);
+      left = suffices_behind _ _ c.args.count c.loop-i.i c.draw-draws.ensures.left before.left;
       len =
           (let grown = ap length c.push.ensures.items in
           let parts = length-append c.loop-i.output.items (reply_bytes c.step-reply.result) in
@@ -106,3 +125,12 @@ returns-clause-served g c = λ messages rest reads count rules first history m f
     let end : c.loop-i.i ≡ c.args.count = omega (arith, test, le) in
     let same = reads_same c.args.bytes.now before.messages messages _ rest (before.count ∙ end ∙ sym count) before.reads reads in
     rw (← same.0) (before.served rules first history m fits)
+
+pub returns-clause-drawn : goal.returns-clause-drawn
+returns-clause-drawn g c = λ messages rest reads count.
+    let before = c.loop-i.invariant in
+    let test = c.loop-i-test.false in
+    let le = c.loop-i.auto.i-end in
+    let end : c.loop-i.i ≡ c.args.count = omega (arith, test, le) in
+    let same = reads_same c.args.bytes.now before.messages messages _ rest (before.count ∙ end ∙ sym count) before.reads reads in
+    rw (← same.0) before.drawn

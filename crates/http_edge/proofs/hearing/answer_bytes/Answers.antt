@@ -1,6 +1,8 @@
 use Rattle.std.proofs.Common.{ℕ, List, drop, ◌∙◌, arith}
 use Rattle.heads.specs.Scan.{IsScan}
 use Rattle.http_edge.specs.Heard.{ServesMessages}
+use Rattle.http_edge.specs.Sources.{draws_for}
+use Rattle.http_edge.proofs.Supplying.{suffices_for}
 use Rattle.http_edge.proofs.hearing.answer_bytes.Goals as goal
 
 pub returns-clause-heard : goal.returns-clause-heard
@@ -8,23 +10,23 @@ returns-clause-heard g c =
     let bytes : List ℕ = c.args.bytes.now in
     let scan = c.scan_behind-scan.result in
     let all : IsScan bytes scan = c.scan_behind-scan.ensures in
-    let serves : ServesMessages g.H.HookHost c.args.server.now c.answer_all.new.server c.make_room.new.output.items c.answer_all.new.output.items all.messages c.args.moment c.args.draws.now =
+    let serves : ServesMessages g.H.HookHost c.args.server.now c.answer_all.new.server c.make_room.new.output.items c.answer_all.new.output.items all.messages c.args.moment (draws_for g.S.DrawSource c.args.source.now all.messages) =
     c.answer_all.ensures.served all.messages (drop scan.end bytes) all.reads.reads all.count in
     let count = all.count in
     let few = c.in_default.ensures.few in
-    let enough = c.in_default.ensures.enough in
     record {
       messages = all.messages;
       read = record {
         rest = drop scan.end bytes;
         reads = all.reads;
         few = omega (arith, count, few);
-        enough = omega (arith, count, enough);
         kept_is = c.in_default-keep_rest.ensures.ok;
         may_tell = all.hopeless;
         must_tell = all.must;
       };
+      enough = suffices_for _ _ _ count c.in_default.ensures.enough;
       middle = c.answer_all.new.output.items;
       serves = rw c.in_default.ensures.items at serves;
       output_is = c.shrink_to_fit.ensures.items ∙ c.tell.ensures;
+      source_is = c.answer_all.ensures.drawn all.messages (drop scan.end bytes) all.reads.reads all.count;
     }

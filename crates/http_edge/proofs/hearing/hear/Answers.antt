@@ -5,5 +5,5 @@ use Rattle.http_edge.proofs.hearing.hear.Goals as goal
 pub returns-then-waits-clause-heard : goal.returns-then-waits-clause-heard
 returns-then-waits-clause-heard g c =
     let bytes : List ℕ = c.args.rest.now ++ c.args.piece.now in
-    heard_none g.H.HookHost c.args.server.now bytes c.wait.new.self c.args.output.now.items c.args.moment c.args.draws.now
+    heard_none g.H.HookHost g.S.DrawSource c.args.server.now c.args.source.now bytes c.wait.new.self c.args.output.now.items c.args.moment
     (c.in-Ok.ensures.none c.if-waits.true) (c.in-Ok.ensures.taken c.if-waits.true)

@@ -4,7 +4,6 @@ use Rattle.event_loop.specs.declared.fault.ConnectionFault.TheVariants.{Read, Re
 use Rattle.event_loop.specs.declared.place.Stage.TheVariants.{Ended, Broken}
 use Rattle.event_loop.specs.Deeds as deed
 use Rattle.event_loop.specs.Deeds.{Reading}
-use Rattle.event_loop.specs.Courses.{known}
 use Rattle.event_loop.specs.Places.{read_limit}
 use Rattle.event_loop.specs.Reading.{hears, refuses, ends, ends_nothing, finds_nothing, fails, read_place}
 use Rattle.event_loop.specs.Served.{goes, reads}
@@ -61,9 +60,7 @@ returns-in-Err g c = λ rules host first found past undone ready h.
             (refuses bytes c.read.new.self c.in-Err.fault _ (subst (λ n. 0 < n) (sym size) c.in-Bytes.ensures.within.0) (omega (arith, size, c.in-Bytes.ensures.within)) (subst (λ n. g.N.Sockets.does c.args.tools.now.sockets (deed.Read c.args.k n bytes) c.read.new.self) room c.in-Bytes.ensures.done) some.unheard));
         others =
             put_others c.args.k c.args.self.now _ (record c.args.place { stage = Broken (Refused c.in-Err.fault) }) past.world some.world refl (λ j other. refl)
-            (λ j other.
-            ap (λ course. known course j) some.unheard.is_after
-            ∙ gives_other g.H.HookHost rules host c.args.k c.args.self.now.times.moment j _ some.unheard.given some.unheard.before some.unheard.gives other);
+            (λ j other. gives_other g.H.HookHost rules host c.args.k c.args.self.now.times.moment j _ some.unheard.given _ some.unheard.gives other);
         done = one_more _ _ refl refl (λ task t. inr t);
         alone = λ other differs not. not_another (Reading c.args.k) other past.deeds differs not;
         ready = λ was. tt;
