@@ -21,7 +21,7 @@ use crate::hearing::hear;
 use crate::lane::{Lane, Phase};
 use crate::limits::{CONNECTION_LIMIT, PIECE_LIMIT, ROOM_TO_HEAR};
 use crate::rest::Rest;
-use crate::room::take_front;
+use crate::room::{give_back, take_front};
 use change_codec::Batch;
 use endpoints::{Moment, Server};
 use hook_host::HookHost;
@@ -156,7 +156,7 @@ fn take_output(lane: &mut Lane, n: usize)
     ensures { lane.new ≡ record { number = lane.old.number; phase = lane.old.phase; rest = lane.old.rest; output = drop n lane.old.output } }
 {
     take_front(&mut lane.output, n);
-    lane.output.shrink_to_fit();
+    give_back(&mut lane.output);
 }
 
 fn hear_lane<H: HookHost>(

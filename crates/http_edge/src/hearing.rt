@@ -10,7 +10,7 @@ use crate::answering::answer_all;
 use crate::fault::EdgeFault;
 use crate::limits::{REPLY_LIMIT, REQUEST_LIMIT};
 use crate::rest::Rest;
-use crate::room::put;
+use crate::room::{give_back, put};
 use endpoints::{Moment, Server};
 use heads::{Scan, read_front, scan_behind};
 use hook_host::HookHost;
@@ -105,7 +105,7 @@ fn answer_bytes<H: HookHost>(
     }
     answer_all(server, bytes, first, scan.count, moment, draws, output);
     tell(output, scan.faulty);
-    output.shrink_to_fit();
+    give_back(output);
     Ok(scan.faulty)
 }
 

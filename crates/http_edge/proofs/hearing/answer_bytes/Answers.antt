@@ -26,5 +26,5 @@ returns-clause-heard g c =
       };
       middle = c.answer_all.new.output.items;
       serves = rw c.in_default.ensures.items at serves;
-      output_is = c.shrink_to_fit.ensures.items ∙ c.tell.ensures;
+      output_is = c.give_back.ensures ∙ c.tell.ensures;
     }
