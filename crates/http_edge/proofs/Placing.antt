@@ -1,13 +1,15 @@
 -- The place of a lane.
-use Rattle.std.proofs.Common.{zero, suc, ◌≡◌, ◌<◌, ◌+◌, ℕ, List, [], ◌∷◌, Some, None, Bool, true, false, not, cond, nat_lt, length, drop, get_or, set, refl, sym, ap, subst, ◌∙◌, inl, inr, arith}
-use Rattle.std.specs.Prelude.{slice_get, unwrap_or, ◌==◌}
+use Rattle.std.proofs.Common.{zero, suc, ◌≡◌, ◌≢◌, ◌<◌, ◌+◌, ℕ, List, [], ◌∷◌, ◌++◌, Option, Some, None, Bor, Bool, true, false, not, cond, nat_lt, length, drop, get_or, set, refl, sym, ap, subst, ◌∙◌, inl, inr, arith}
+use Rattle.std.specs.Prelude.{slice_get, unwrap_or, ◌==◌, is_some, IfSome}
+use Rattle.std.specs.Option.{option_copied}
 use Rattle.std.specs.List.{position, position_or_len}
 use Rattle.std.proofs.lemmas.List.Folds.{find_at}
+use Rattle.std.proofs.lemmas.Bool.{eqb-true, eq-eqb, ltb-true, lt-ltb, false≢true}
 use Rattle.std.proofs.lemmas.Bool.Decides.{nat_tests}
 use Rattle.std.proofs.lemmas.Option.{slice_get-get_or, slice_get_cases, get_or_from_slice_get}
 use Rattle.std.proofs.Math.Seq.{drop-nil}
 use Rattle.http_edge.specs.Lanes.{SeenLane, lane_at, with_lane, without_lane, output_in, fresh_lane}
-use Rattle.http_edge.specs.Places.{IsPlace, IsPosition}
+use Rattle.http_edge.specs.Places.{IsPlace, IsPosition, AreApart}
 
 -- a write at the place is the lane's
 put_is : (lanes : List SeenLane) (c i : ℕ) (new : SeenLane) → i ≡ position_or_len (λ lane. lane.number == c) lanes → i < length lanes → set lanes i new ≡ with_lane c new lanes
@@ -78,3 +80,109 @@ without_is_gone (x ∷ xs) c = by (x.number == c) refl (without_is_gone xs c)
     by : (b : Bool) → (x.number == c) ≡ b → lane_at (without_lane c xs) c ≡ None → lane_at (cond (not b) (x ∷ without_lane c xs) (without_lane c xs)) c ≡ None
     by true e rest = rest
     by false e rest = rw e rest
+
+-- LANES APART
+
+-- what has the number is found
+not_none : (lanes : List SeenLane) (c i : ℕ) (d : SeenLane) → lane_at lanes c ≡ None → i < length lanes → (get_or lanes i d).number ≡ c → ⊥
+not_none [] c i d none within is = omega (arith, within)
+not_none (x ∷ xs) c zero d none within is = by (x.number == c) (eq-eqb x.number c is) none
+  where
+    by : (b : Bool) → b ≡ true → cond b (Some x) (lane_at xs c) ≡ None → ⊥
+    by true e h = cc
+    by false e h = cc
+not_none (x ∷ xs) c (suc i) d none within is = by (x.number == c) none (λ h. not_none xs c i d h (omega (arith, within)) is)
+  where
+    by : (b : Bool) → cond b (Some x) (lane_at xs c) ≡ None → (lane_at xs c ≡ None → ⊥) → ⊥
+    by true h rest = cc
+    by false h rest = rest h
+
+-- a lane with the number is the one that is found
+pub found_there : (lanes : List SeenLane) (c i : ℕ) (d : SeenLane) → AreApart lanes → i < length lanes → (get_or lanes i d).number ≡ c → position_or_len (λ lane. lane.number == c) lanes ≡ i
+found_there [] c i d apart within is = absurd (omega (arith, within))
+found_there (x ∷ xs) c zero d apart within is = ap (λ b. cond {A = ℕ} (not b) (1 + position_or_len (λ lane. lane.number == c) xs) 0) (eq-eqb x.number c is)
+found_there (x ∷ xs) c (suc i) d apart within is = by (x.number == c) refl (found_there xs c i d apart.1 (omega (arith, within)) is)
+  where
+    by : (b : Bool) → (x.number == c) ≡ b → position_or_len (λ lane. lane.number == c) xs ≡ i → cond {A = ℕ} (not b) (1 + position_or_len (λ lane. lane.number == c) xs) 0 ≡ suc i
+    by true e rest = absurd (not_none xs c i d (ap (lane_at xs) (sym (eqb-true x.number c e)) ∙ apart.0) (omega (arith, within)) is)
+    by false e rest = omega (arith, rest)
+
+pub place_there : (lanes : List SeenLane) (c i : ℕ) (lane : SeenLane) → AreApart lanes → nat_lt i (length lanes) ≡ true → lane ≡ get_or lanes i lane → lane.number ≡ c → IsPlace lanes c i
+place_there lanes c i lane apart within there is =
+    places lanes c i (sym (found_there lanes c i lane apart (ltb-true i (length lanes) within) (ap (λ (l : SeenLane). l.number) (sym there) ∙ is))) (ltb-true i (length lanes) within)
+
+-- what is read at the place is the lane
+pub got_lane : (lanes : List SeenLane) (i : ℕ) (got : Option (Bor SeenLane)) (lane : SeenLane) → is_some got ≡ nat_lt i (length lanes) → IfSome got (λ x. x.now ≡ get_or lanes i x.now) →
+    i < length lanes → slice_get lanes i ≡ Some lane → option_copied got ≡ Some lane
+got_lane lanes i None lane some is within there = absurd (false≢true (some ∙ lt-ltb i (length lanes) within))
+got_lane lanes i (Some x) lane some is within there = ap (λ l. Some l) (is ∙ get_or_from_slice_get lanes i lane x.now there)
+
+none_more : (lanes : List SeenLane) (n c : ℕ) → lane_at lanes n ≡ None → n ≢ c → lane_at (lanes ++ fresh_lane c ∷ []) n ≡ None
+none_more [] n c none other = by (c == n) refl
+  where
+    by : (b : Bool) → (c == n) ≡ b → cond b (Some (fresh_lane c)) None ≡ None
+    by true e = absurd (other (sym (eqb-true c n e)))
+    by false e = refl
+none_more (x ∷ xs) n c none other = by (x.number == n) none (λ h. none_more xs n c h other)
+  where
+    by : (b : Bool) → cond b (Some x) (lane_at xs n) ≡ None → (lane_at xs n ≡ None → lane_at (xs ++ fresh_lane c ∷ []) n ≡ None) → cond b (Some x) (lane_at (xs ++ fresh_lane c ∷ []) n) ≡ None
+    by true h rest = cc
+    by false h rest = rest h
+
+-- with a lane of another connection
+pub apart_more : (lanes : List SeenLane) (c : ℕ) → AreApart lanes → lane_at lanes c ≡ None → AreApart (lanes ++ fresh_lane c ∷ [])
+apart_more [] c apart none = (refl, tt)
+apart_more (x ∷ xs) c apart none = by (x.number == c) refl none (λ h. apart_more xs c apart.1 h)
+  where
+    by : (b : Bool) → (x.number == c) ≡ b → cond b (Some x) (lane_at xs c) ≡ None → (lane_at xs c ≡ None → AreApart (xs ++ fresh_lane c ∷ [])) → AreApart (x ∷ xs ++ fresh_lane c ∷ [])
+    by true e h rest = cc
+    by false e h rest = (none_more xs x.number c apart.0 (λ same. false≢true (sym e ∙ eq-eqb x.number c same)), rest h)
+
+none_with : (lanes : List SeenLane) (n c : ℕ) (new : SeenLane) → new.number ≡ c → lane_at lanes n ≡ None → lane_at (with_lane c new lanes) n ≡ None
+none_with [] n c new is none = refl
+none_with (x ∷ xs) n c new is none = by (x.number == c) refl (x.number == n) refl none (λ h. none_with xs n c new is h)
+  where
+    by : (a : Bool) → (x.number == c) ≡ a → (b : Bool) → (x.number == n) ≡ b → cond b (Some x) (lane_at xs n) ≡ None → (lane_at xs n ≡ None → lane_at (with_lane c new xs) n ≡ None) →
+        lane_at (cond a (new ∷ xs) (x ∷ with_lane c new xs)) n ≡ None
+    by a e true f h rest = cc
+    by true e false f h rest = ap (λ b. cond b (Some new) (lane_at xs n)) (ap (λ k. k == n) (is ∙ sym (eqb-true x.number c e)) ∙ f) ∙ h
+    by false e false f h rest = ap (λ b. cond b (Some x) (lane_at (with_lane c new xs) n)) f ∙ rest h
+
+-- with another lane of the same connection
+pub apart_with : (lanes : List SeenLane) (c : ℕ) (new : SeenLane) → new.number ≡ c → AreApart lanes → AreApart (with_lane c new lanes)
+apart_with [] c new is apart = tt
+apart_with (x ∷ xs) c new is apart = by (x.number == c) refl (apart_with xs c new is apart.1)
+  where
+    by : (b : Bool) → (x.number == c) ≡ b → AreApart (with_lane c new xs) → AreApart (cond b (new ∷ xs) (x ∷ with_lane c new xs))
+    by true e rest = (ap (lane_at xs) (is ∙ sym (eqb-true x.number c e)) ∙ apart.0, apart.1)
+    by false e rest = (none_with xs x.number c new is apart.0, rest)
+
+none_without : (lanes : List SeenLane) (n c : ℕ) → lane_at lanes n ≡ None → lane_at (without_lane c lanes) n ≡ None
+none_without [] n c none = refl
+none_without (x ∷ xs) n c none = by (x.number == c) (x.number == n) refl none (λ h. none_without xs n c h)
+  where
+    by : (a b : Bool) → (x.number == n) ≡ b → cond b (Some x) (lane_at xs n) ≡ None → (lane_at xs n ≡ None → lane_at (without_lane c xs) n ≡ None) →
+        lane_at (cond (not a) (x ∷ without_lane c xs) (without_lane c xs)) n ≡ None
+    by a true f h rest = cc
+    by true false f h rest = rest h
+    by false false f h rest = ap (λ b. cond b (Some x) (lane_at (without_lane c xs) n)) f ∙ rest h
+
+-- with one lane fewer
+pub apart_without : (lanes : List SeenLane) (c : ℕ) → AreApart lanes → AreApart (without_lane c lanes)
+apart_without [] c apart = tt
+apart_without (x ∷ xs) c apart = by (x.number == c) (apart_without xs c apart.1)
+  where
+    by : (b : Bool) → AreApart (without_lane c xs) → AreApart (cond (not b) (x ∷ without_lane c xs) (without_lane c xs))
+    by true rest = rest
+    by false rest = (none_without xs x.number c apart.0, rest)
+
+number_is : (lanes : List SeenLane) (c : ℕ) (lane : SeenLane) → lane_at lanes c ≡ Some lane → lane.number ≡ c
+number_is [] c lane here = cc
+number_is (x ∷ xs) c lane here = by (x.number == c) refl here (number_is xs c lane)
+  where
+    by : (b : Bool) → (x.number == c) ≡ b → cond b (Some x) (lane_at xs c) ≡ Some lane → (lane_at xs c ≡ Some lane → lane.number ≡ c) → lane.number ≡ c
+    by true e h rest = let same : x ≡ lane = ap (λ o. unwrap_or o lane) h in ap (λ (l : SeenLane). l.number) (sym same) ∙ eqb-true x.number c e
+    by false e h rest = rest h
+
+pub apart_put : (lanes : List SeenLane) (c i : ℕ) (p : IsPlace lanes c i) (new : SeenLane) → new.number ≡ p.lane.number → AreApart lanes → AreApart (set lanes i new)
+apart_put lanes c i p new same apart = subst AreApart (sym (p.put new)) (apart_with lanes c new (same ∙ number_is lanes c p.lane p.here) apart)

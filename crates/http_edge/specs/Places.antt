@@ -1,5 +1,5 @@
 -- Where a lane is kept.
-use Rattle.std.specs.Prelude.{◌≡◌, ◌<◌, ℕ, List, length, Option, Some, None, slice_set, slice_get}
+use Rattle.std.specs.Prelude.{◌≡◌, ◌<◌, ℕ, List, [], ◌∷◌, length, Option, Some, None, slice_set, slice_get, ⊤}
 use Rattle.http_edge.specs.Lanes.{SeenLane, lane_at, with_lane}
 
 -- the connection's lane lies at this place, and may be replaced there
@@ -14,3 +14,8 @@ pub record IsPlace (lanes : List SeenLane) (c i : ℕ) : Type 0 where
 abbrev pub IsPosition : List SeenLane → ℕ → Option ℕ → Type 0
 IsPosition lanes c None = lane_at lanes c ≡ None
 IsPosition lanes c (Some i) = IsPlace lanes c i
+
+-- no two lanes are of one connection
+abbrev pub AreApart : List SeenLane → Type 0
+AreApart [] = ⊤
+AreApart (lane ∷ more) = (lane_at more lane.number ≡ None) × AreApart more

@@ -8,7 +8,7 @@ ghost use Rattle.http_edge.specs.declared.lane.Phase.TheVariants.{Open};
 ghost use Rattle.http_edge.specs.Limits.{piece_limit, room_to_hear};
 ghost use Rattle.http_edge.specs.Schedule.{HasEnded, Opened, Taken, Forgotten, Kept, connection_at, ended, untaken};
 ghost use Rattle.http_edge.specs.Lanes.{lane_at, fresh_lane, without_lane, rest_in, output_in, is_closing_lane};
-ghost use Rattle.http_edge.specs.Places.{IsPosition};
+ghost use Rattle.http_edge.specs.Places.{AreApart, IsPosition};
 ghost use Rattle.http_edge.specs.Heard.{LaneHeard, IsHearingRefusal};
 ghost use Rattle.http_edge.specs.Edges.{output_of, unkept_of, IsOpenRefusal, IsEndRefusal, IsBytesRefusal};
 ghost use Rattle.http_edge.specs.Reached.{BeginsOver, ResumesOver, InEach, HappeningLeads, is_closing, IsHeld};
@@ -23,7 +23,7 @@ use crate::hearing::hear;
 use crate::lane::{Lane, Phase};
 use crate::limits::{CONNECTION_LIMIT, PIECE_LIMIT, ROOM_TO_HEAR};
 use crate::rest::Rest;
-use crate::room::take_front;
+use crate::room::{give_back, take_front};
 use crate::source::DrawSource;
 use change_codec::Batch;
 use endpoints::{Moment, Server};
@@ -56,28 +56,53 @@ impl<H> Model for Edge<H> {
     ghost use Rattle.std.specs.Prelude.{◌≡◌, ◌<◌, ◌≤◌, vec_len, vec_capacity};
     ghost use Rattle.http_edge.specs.Limits.{room_to_hear};
     ghost use Rattle.http_edge.specs.Edges.{SeenEdge};
+    ghost use Rattle.http_edge.specs.Places.{AreApart};
 
     ghost Value = { SeenEdge H };
 
     ghost view = { λ e. record { server = e.server; lanes = e.lanes.items } };
 
     // Where there are connections, there is room for the longest rest and the longest piece.
-    ghost invariant = { λ e. (vec_len e.work ≡ 0) × (0 < vec_len e.lanes → room_to_hear ≤ vec_capacity e.work) };
+    ghost invariant = { λ e. (vec_len e.work ≡ 0) × (0 < vec_len e.lanes → room_to_hear ≤ vec_capacity e.work) × AreApart e.lanes.items };
+}
+
+fn position_of(lanes: &[Lane], c: u32) -> Option<usize>
+    ensures { result ≡ position (λ lane. lane.number == c) lanes.now }
+{
+    lanes.iter().position(|lane| lane.number == c)
+}
+
+// Where the connection's lane lies: mostly at the place of its number.
+fn place_of(lanes: &[Lane], c: u32) -> Option<usize>
+    requires apart { AreApart lanes.now }
+    ensures { IsPosition lanes.now c result }
+{
+    let place = c as usize;
+    if let Some(lane) = lanes.get(place) {
+        if lane.number == c {
+            return Some(place);
+        }
+    }
+    position_of(lanes, c)
 }
 
 fn lane_of(lanes: &[Lane], c: u32) -> Option<&Lane>
+    requires apart { AreApart lanes.now }
     ensures { option_copied result ≡ lane_at lanes.now c }
 {
-    lanes.iter().find(|lane| lane.number == c)
+    let place = place_of(lanes, c)?;
+    lanes.get(place)
 }
 
 fn has_lane(lanes: &[Lane], c: u32) -> bool
+    requires apart { AreApart lanes.now }
     ensures { result ≡ is_some (lane_at lanes.now c) }
 {
     lane_of(lanes, c).is_some()
 }
 
 fn is_closing(lanes: &[Lane], c: u32) -> bool
+    requires apart { AreApart lanes.now }
     ensures { result ≡ is_closing_lane (lane_at lanes.now c) }
 {
     match lane_of(lanes, c) {
@@ -87,6 +112,7 @@ fn is_closing(lanes: &[Lane], c: u32) -> bool
 }
 
 fn output_in(lanes: &[Lane], c: u32) -> &[u8]
+    requires apart { AreApart lanes.now }
     ensures { result.now ≡ output_in (lane_at lanes.now c) }
 {
     match lane_of(lanes, c) {
@@ -96,24 +122,13 @@ fn output_in(lanes: &[Lane], c: u32) -> &[u8]
 }
 
 fn held_in(lanes: &[Lane], c: u32) -> usize
+    requires apart { AreApart lanes.now }
     ensures { result ≡ length (rest_in (lane_at lanes.now c)) }
 {
     match lane_of(lanes, c) {
         Some(lane) => lane.rest.len(),
         None => 0,
     }
-}
-
-fn position_of(lanes: &[Lane], c: u32) -> Option<usize>
-    ensures { result ≡ position (λ lane. lane.number == c) lanes.now }
-{
-    lanes.iter().position(|lane| lane.number == c)
-}
-
-fn place_of(lanes: &[Lane], c: u32) -> Option<usize>
-    ensures { IsPosition lanes.now c result }
-{
-    position_of(lanes, c)
 }
 
 fn new_lane(alloc: Global, c: u32) -> Lane
@@ -141,7 +156,8 @@ fn add_lane(lanes: &mut Vec<Lane>, alloc: Global, c: u32) -> Result<(), AllocErr
 }
 
 fn remove_lane(lanes: &mut Vec<Lane>, c: u32)
-    ensures { lanes.new.items ≡ without_lane c lanes.old.items }
+    ensures without { lanes.new.items ≡ without_lane c lanes.old.items }
+    ensures fewer { vec_len lanes.new ≤ vec_len lanes.old }
 {
     lanes.retain(|lane| lane.number != c);
 }
@@ -158,7 +174,7 @@ fn take_output(lane: &mut Lane, n: usize)
     ensures { lane.new ≡ record { number = lane.old.number; phase = lane.old.phase; rest = lane.old.rest; output = drop n lane.old.output } }
 {
     take_front(&mut lane.output, n);
-    lane.output.shrink_to_fit();
+    give_back(&mut lane.output);
 }
 
 fn hear_lane<H: HookHost, S: DrawSource>(

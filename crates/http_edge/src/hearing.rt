@@ -11,7 +11,7 @@ use crate::answering::answer_all;
 use crate::fault::EdgeFault;
 use crate::limits::{REPLY_LIMIT, REQUEST_LIMIT};
 use crate::rest::Rest;
-use crate::room::put;
+use crate::room::{give_back, put};
 use crate::source::DrawSource;
 use endpoints::{Moment, Server};
 use heads::{Scan, read_front, scan_behind};
@@ -108,7 +108,7 @@ fn answer_bytes<H: HookHost, S: DrawSource>(
     }
     answer_all(server, bytes, first, scan.count, moment, source, output);
     tell(output, scan.faulty);
-    output.shrink_to_fit();
+    give_back(output);
     Ok(scan.faulty)
 }
 

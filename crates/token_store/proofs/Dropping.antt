@@ -55,7 +55,7 @@ record_slot families es coming digest r counted at =
     let same = counted r.family in
     has_slot families r.family (omega (arith, some, same))
 
-left_count : (s : Shared) (b : Bool) (n : ℕ) → nat_le s.count 1 ≡ b → s.count ≡ n + 1 → (or_nothing (cond b None (Some (record s { count = s.count - 1 })))).count ≡ n
+pub left_count : (s : Shared) (b : Bool) (n : ℕ) → nat_le s.count 1 ≡ b → s.count ≡ n + 1 → (or_nothing (cond b None (Some (record s { count = s.count - 1 })))).count ≡ n
 left_count s true n last sum = let e = leb-true s.count 1 last in omega (arith, e, sum)
 left_count s false n last sum = omega (arith, sum)
 

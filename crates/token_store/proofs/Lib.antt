@@ -2,7 +2,7 @@ pub mod Adding
 pub mod Changing
 pub mod Counting
 pub mod Dropping
-pub mod Expiring
+pub mod Sweeping
 pub mod Families
 pub mod Issuing
 pub mod Looking

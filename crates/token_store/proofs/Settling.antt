@@ -1,10 +1,8 @@
 -- The tables as a record that was about to come has come.
 use Rattle.std.proofs.Common.{◌≡◌, ◌≢◌, ◌<◌, ◌≤◌, ℕ, ◌+◌, List, [], ◌∷◌, ◌++◌, Option, Some, None, Bool, true, false, cond, eqb, length, refl, ap, ◌∙◌, sym, arith}
 use Rattle.std.specs.Prelude.{◌&&◌, ◌==◌, is_some, slice_index_or, count_by, option_map, find}
-use Rattle.std.specs.List.{Contains, IsDistinct}
+use Rattle.std.specs.List.{IsDistinct}
 use Rattle.std.specs.List.Sorted.{IsPermutation}
-use Rattle.std.specs.BinaryHeap.{heap_items}
-use Rattle.std.specs.declared.cmp.Reverse.{Reverse}
 use Rattle.std.specs.Option.{option_or, MatchOption}
 use Rattle.std.specs.Str.{bytes_eq}
 use Rattle.std.specs.Result.{OnOk}
@@ -15,8 +13,7 @@ use Rattle.std.proofs.lemmas.Bool.{eqb-true, eq-eqb, false≢true, lt-ltb}
 use Rattle.std.proofs.lemmas.List.Folds.{find-append}
 use Rattle.std.proofs.lemmas.List.Sums.{count_by-le-length}
 use Rattle.std.proofs.lemmas.List.{length-map}
-use Rattle.std.proofs.lemmas.List.Sorted.{IsPermutation-map, Contains-permutation, sum_by_pushed}
-use Rattle.std.proofs.lemmas.List.Elements.{Contains-append_right}
+use Rattle.std.proofs.lemmas.List.Sorted.{IsPermutation-map, sum_by_pushed}
 use Rattle.std.proofs.lemmas.Map.Entries.{sum_by_values_permutation}
 use Rattle.std.proofs.lemmas.Slice.Eq.{bytes_eq-Decides}
 use Rattle.consent.specs.ListLaws.{count_by-cons}
@@ -25,7 +22,7 @@ use Rattle.token_store.specs.declared.record.Record.{Record}
 use Rattle.token_store.specs.declared.record.Shared.{Shared}
 use Rattle.token_store.specs.declared.tables.Tables.{Tables}
 use Rattle.token_store.specs.Kept.{Kept, kept_at}
-use Rattle.token_store.specs.Records.{shared_at, or_nothing, expiry, expiry_of, is_coded, is_live_at, kept_in, kept_under, kept_of, all_kept, IsOrderOf, IsCounted, IsOwned, Tied, IsTied, HasLeft, HasEntered, TellsSame, SharesSame, ForgetsExpired}
+use Rattle.token_store.specs.Records.{shared_at, or_nothing, expiry, expiry_of, is_coded, is_live_at, kept_in, kept_under, kept_of, all_kept, ExpireFrom, IsCounted, IsOwned, Tied, IsTied, HasLeft, HasEntered, TellsSame, SharesSame, ForgetsExpired}
 use Rattle.token_store.specs.Room.{Waits}
 use Rattle.token_store.proofs.Looking.{shown, found, count-push, same_as_is}
 use Rattle.token_store.proofs.Waiting.{waits_other}
@@ -42,26 +39,25 @@ late_from families es digest r m once at none = live_cases (is_live_at m r) refl
     live_cases true is h = cc
     live_cases false is h = let not_before : ¬ (m < r.moment + r.life) = (λ lt. false≢true (sym is ∙ lt-ltb m (r.moment + r.life) lt)) in omega (arith, not_before)
 
--- the order is of fewer records
-ordered_fewer : (es es' : List (List ℕ × Record)) (order : List (Reverse (ℕ × List ℕ))) (digest : List ℕ) → ((d : List ℕ) → lookup (bytes_eq d) es' ≡ cond (bytes_eq digest d) None (lookup (bytes_eq d) es)) →
-    IsOrderOf es order → IsOrderOf es' order
-ordered_fewer es es' order digest taken ordered d t at = fewer_cases (bytes_eq digest d) refl
+-- fewer records expire no earlier
+fewer_from : (es es' : List (List ℕ × Record)) (earliest : ℕ) (digest : List ℕ) → ((d : List ℕ) → lookup (bytes_eq d) es' ≡ cond (bytes_eq digest d) None (lookup (bytes_eq d) es)) →
+    ExpireFrom earliest es → ExpireFrom earliest es'
+fewer_from es es' earliest digest taken from d t at = fewer_cases (bytes_eq digest d) refl
   where
-    fewer_cases : (b : Bool) → bytes_eq digest d ≡ b → Contains order (record { 0 = (t, d) })
+    fewer_cases : (b : Bool) → bytes_eq digest d ≡ b → earliest ≤ t
     fewer_cases true is = let none : None ≡ Some t = sym (ap expiry_of (taken d ∙ ap (λ b. cond {A = Option Record} b None (lookup (bytes_eq d) es)) is)) ∙ at in cc
-    fewer_cases false is = ordered d t (sym (ap expiry_of (taken d ∙ ap (λ b. cond {A = Option Record} b None (lookup (bytes_eq d) es)) is)) ∙ at)
+    fewer_cases false is = from d t (sym (ap expiry_of (taken d ∙ ap (λ b. cond {A = Option Record} b None (lookup (bytes_eq d) es)) is)) ∙ at)
 
 pub forgotten : (t t' : Tables) (digest : List ℕ) (n : ℕ) (r : Record) → IsTied t (n ∷ []) → lookup (bytes_eq digest) t.records.entries ≡ Some r → IsDistinct bytes_eq (keys_of t'.records.entries) →
     IsPermutation (remove_entry (bytes_eq digest) t.records.entries) t'.records.entries →
     ((d : List ℕ) → lookup (bytes_eq d) t'.records.entries ≡ cond (bytes_eq digest d) None (lookup (bytes_eq d) t.records.entries)) →
-    HasLeft t.families.slots t'.families.slots r.family → IsOwned t'.families.slots t'.owners.keys → heap_items t'.order ≡ heap_items t.order → lookup (bytes_eq digest) t'.records.entries ≡ None → ForgetsExpired t t' digest n
-forgotten t t' digest n r tied at once' moved taken left owned order absent =
+    HasLeft t.families.slots t'.families.slots r.family → IsOwned t'.families.slots t'.owners.keys → t'.earliest ≡ t.earliest → lookup (bytes_eq digest) t'.records.entries ≡ None → ForgetsExpired t t' digest n
+forgotten t t' digest n r tied at once' moved taken left owned earliest absent =
     let counted' = counted_without t.families.slots t'.families.slots t.records.entries t'.records.entries (n ∷ []) digest r tied.counted at moved left in
     record {
       tied = record {
         once = once';
-        heap = rw order tied.heap;
-        ordered = rw order (ordered_fewer t.records.entries t'.records.entries (heap_items t.order) digest taken tied.ordered);
+        bounded = rw earliest (fewer_from t.records.entries t'.records.entries t.earliest digest taken tied.bounded);
         counted = counted';
         owned = owned;
       };
@@ -91,21 +87,19 @@ waits_left families families' es awaited digest r n s counted at left waits =
 
 -- COMING
 
--- the order with a place more
-pub ordered_with : (es es' : List (List ℕ × Record)) (order order' : List (Reverse (ℕ × List ℕ))) (digest : List ℕ) (r : Record) (place : Reverse (ℕ × List ℕ)) → place ≡ record { 0 = (expiry r, digest) } →
-    IsPermutation (place ∷ order) order' → ((d : List ℕ) → lookup (bytes_eq d) es' ≡ cond (bytes_eq digest d) (Some r) (lookup (bytes_eq d) es)) →
-    IsOrderOf es order → IsOrderOf es' order'
-ordered_with es es' order order' digest r place is_place moved finds ordered d t at =
-    Contains-permutation (place ∷ order) order' (record { 0 = (t, d) }) moved (with_cases (bytes_eq digest d) refl)
+-- one record more, which may expire before the others
+pub more_from : (es es' : List (List ℕ × Record)) (earliest earliest' : ℕ) (digest : List ℕ) (r : Record) → earliest' ≤ earliest → earliest' ≤ expiry r →
+    ((d : List ℕ) → lookup (bytes_eq d) es' ≡ cond (bytes_eq digest d) (Some r) (lookup (bytes_eq d) es)) → ExpireFrom earliest es → ExpireFrom earliest' es'
+more_from es es' earliest earliest' digest r le here finds from d t at = with_cases (bytes_eq digest d) refl
   where
-    with_cases : (b : Bool) → bytes_eq digest d ≡ b → Contains (place ∷ order) (record { 0 = (t, d) })
+    with_cases : (b : Bool) → bytes_eq digest d ≡ b → earliest' ≤ t
     with_cases true is =
         let time : Some (expiry r) ≡ Some t = sym (ap expiry_of (finds d ∙ ap (λ b. cond {A = Option Record} b (Some r) (lookup (bytes_eq d) es)) is)) ∙ at in
         let e : expiry r ≡ t = cc in
-        let same : digest ≡ d = (bytes_eq-Decides digest d).0 is in
-        (0, omega arith, is_place ∙ (λ i. record { 0 = (e i, same i) }))
+        omega (arith, here, e)
     with_cases false is =
-        Contains-append_right (place ∷ []) order (record { 0 = (t, d) }) (ordered d t (sym (ap expiry_of (finds d ∙ ap (λ b. cond {A = Option Record} b (Some r) (lookup (bytes_eq d) es)) is)) ∙ at))
+        let before = from d t (sym (ap expiry_of (finds d ∙ ap (λ b. cond {A = Option Record} b (Some r) (lookup (bytes_eq d) es)) is)) ∙ at) in
+        omega (arith, le, before)
 
 -- counts of the values with one more
 pub count_pushed : (p : Record → Bool) (digest : List ℕ) (r : Record) (es es' : List (List ℕ × Record)) → IsPermutation ((digest, r) ∷ es) es' →
@@ -194,12 +188,11 @@ entered_count old new n more k entered there = number_cases (eqb n k) refl (slic
         ∙ ap (λ m. m + more) (sym (ap (λ i. (shared_at old i).count) (sym number) ∙ ap (λ o. (or_nothing o).count) is))
 
 -- the one about to come is counted
-pub tied_awaiting : (families families' : List (Option Shared)) (es : List (List ℕ × Record)) (order : List (Reverse (ℕ × List ℕ))) (owners : List ((ℕ × ℕ) × ℕ)) (n : ℕ) →
-    Tied families es order owners [] → HasEntered families families' n 1 → is_some (slice_index_or families n None) ≡ true → Tied families' es order owners (n ∷ [])
-tied_awaiting families families' es order owners n tied entered there = record {
+pub tied_awaiting : (families families' : List (Option Shared)) (es : List (List ℕ × Record)) (earliest : ℕ) (owners : List ((ℕ × ℕ) × ℕ)) (n : ℕ) →
+    Tied families es earliest owners [] → HasEntered families families' n 1 → is_some (slice_index_or families n None) ≡ true → Tied families' es earliest owners (n ∷ [])
+tied_awaiting families families' es earliest owners n tied entered there = record {
   once = tied.once;
-  heap = tied.heap;
-  ordered = tied.ordered;
+  bounded = tied.bounded;
   counted = λ k. (let now = entered_count families families' n 1 k entered there in let was = tied.counted k in let sums = count_by-cons (λ (c : ℕ). c == k) n [] in omega (arith, now, was, sums));
   owned = λ q. tied.owned q ∙ sym (entered_same (is_coded q.0.0 q.0.1) families families' n 1 entered (λ s. refl) q.1);
 }
@@ -236,12 +229,11 @@ on_ok_so (Ok v) P Q so h = so h
 on_ok_so (Err e) P Q so h = tt
 
 -- the records in another order
-pub tied_reordered : (families : List (Option Shared)) (es es' : List (List ℕ × Record)) (order order' : List (Reverse (ℕ × List ℕ))) (owners : List ((ℕ × ℕ) × ℕ)) → IsDistinct bytes_eq (keys_of es') → IsPermutation es es' →
-    ((d : List ℕ) → lookup (bytes_eq d) es' ≡ lookup (bytes_eq d) es) → order' ≡ order → Tied families es order owners [] → Tied families es' order' owners []
-tied_reordered families es es' order order' owners once' moved finds same tied = record {
+pub tied_reordered : (families : List (Option Shared)) (es es' : List (List ℕ × Record)) (earliest : ℕ) (owners : List ((ℕ × ℕ) × ℕ)) → IsDistinct bytes_eq (keys_of es') → IsPermutation es es' →
+    ((d : List ℕ) → lookup (bytes_eq d) es' ≡ lookup (bytes_eq d) es) → Tied families es earliest owners [] → Tied families es' earliest owners []
+tied_reordered families es es' earliest owners once' moved finds tied = record {
   once = once';
-  heap = rw same tied.heap;
-  ordered = rw same (λ d t at. tied.ordered d t (sym (ap expiry_of (finds d)) ∙ at));
+  bounded = λ d t at. tied.bounded d t (sym (ap expiry_of (finds d)) ∙ at);
   counted = λ k. tied.counted k ∙ ap (λ n. n + 0) (sym (sum_by_values_permutation (λ (x : Record). cond {A = ℕ} (x.family == k) 1 0) es es' moved));
   owned = tied.owned;
 }

@@ -2,7 +2,6 @@
 use Rattle.std.proofs.Common.{◌≡◌, ℕ, List, [], ◌∷◌, Option, Some, None, Bool, true, false, cond, refl, ap, ◌∙◌, sym, arith}
 use Rattle.std.specs.Prelude.{◌&&◌, ◌==◌, is_some, map}
 use Rattle.std.specs.List.{IsDistinct}
-use Rattle.std.specs.declared.cmp.Reverse.{Reverse}
 use Rattle.std.specs.Str.{bytes_eq}
 use Rattle.std.specs.Map.{lookup, set_value, keys_of}
 use Rattle.std.proofs.lemmas.Bool.{false≢true}
@@ -35,18 +34,17 @@ spent_lookup (e ∷ es) digest d r at g same = head_cases (bytes_eq digest e.0) 
     head_cases false is h false is' more = ap (λ b. g (cond b (Some e.1) (lookup (bytes_eq d) (set_value (bytes_eq digest) es r')))) is' ∙ more h
 
 -- ties
-pub tied_spent : (families : List (Option Shared)) (es : List (List ℕ × Record)) (order : List (Reverse (ℕ × List ℕ))) (owners : List ((ℕ × ℕ) × ℕ)) (digest : List ℕ) →
-    Tied families es order owners [] → Tied families (spent_in digest es (lookup (bytes_eq digest) es)) order owners []
-tied_spent families es order owners digest tied = tied_cases (lookup (bytes_eq digest) es) refl
+pub tied_spent : (families : List (Option Shared)) (es : List (List ℕ × Record)) (earliest : ℕ) (owners : List ((ℕ × ℕ) × ℕ)) (digest : List ℕ) →
+    Tied families es earliest owners [] → Tied families (spent_in digest es (lookup (bytes_eq digest) es)) earliest owners []
+tied_spent families es earliest owners digest tied = tied_cases (lookup (bytes_eq digest) es) refl
   where
-    tied_cases : (o : Option Record) → lookup (bytes_eq digest) es ≡ o → Tied families (spent_in digest es o) order owners []
+    tied_cases : (o : Option Record) → lookup (bytes_eq digest) es ≡ o → Tied families (spent_in digest es o) earliest owners []
     tied_cases None is = tied
     tied_cases (Some r) is =
         let r' : Record = record r { spent = true } in
         record {
           once = rw (keys-set_value (bytes_eq digest) es r') tied.once;
-          heap = tied.heap;
-          ordered = λ d t at. tied.ordered d t (sym (spent_lookup es digest d r is expiry_of refl) ∙ at);
+          bounded = λ d t at. tied.bounded d t (sym (spent_lookup es digest d r is expiry_of refl) ∙ at);
           counted = λ n. (let sums = sum_by-set_value (λ (x : Record). cond {A = ℕ} (x.family == n) 1 0) (bytes_eq digest) es r r' is in
               let same : member_count (set_value (bytes_eq digest) es r') n ≡ member_count es n = omega (arith, sums) in
               let was = tied.counted n in omega (arith, was, same));

@@ -135,7 +135,7 @@ first_ready families items (HookGone name) cs ready = tt
 -- where there is room for all there is room for the first
 pub room_first : (room : Room) (c : Change) (cs : List Change) → HasRoomFor room (c ∷ cs) → HasRoomFirst room c
 room_first room c cs has = record {
-  spare = record { records = (let le = has.spare.records in omega (arith, le)); order = (let le = has.spare.order in omega (arith, le)) };
+  spare = record { records = (let le = has.spare.records in omega (arith, le)) };
   first = first_ready room.families room.coming c cs has.ready;
 }
 

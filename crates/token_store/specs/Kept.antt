@@ -24,7 +24,6 @@ pub record Expected : Type 0 where
 -- for how many records more there is memory, the families, and what is expected, the first at the end
 pub record Room : Type 0 where
   pub records : ℕ
-  pub order : ℕ
   pub families : List (Option Shared)
   pub coming : List Expected
 

@@ -1,8 +1,6 @@
 -- The store's tables, and what is seen of them.
-use Rattle.std.specs.Prelude.{◌≡◌, ◌≢◌, ◌+◌, ◌-◌, ◌<◌, ◌≤◌, ℕ, List, [], ◌∷◌, Bool, true, false, not, nat_lt, nat_le, ◌==◌, ◌&&◌, if◌then◌else◌, Option, Some, None, is_some, unwrap_or, option_map, map, count_by, string_bytes, slice_index_or}
-use Rattle.std.specs.List.{list_any, Contains, IsDistinct}
-use Rattle.std.specs.BinaryHeap.{IsHeap, heap_items}
-use Rattle.std.specs.declared.cmp.Reverse.{Reverse}
+use Rattle.std.specs.Prelude.{◌≡◌, ◌≢◌, ◌+◌, ◌-◌, ◌<◌, ◌≤◌, ℕ, List, [], ◌∷◌, Bool, true, false, not, nat_lt, nat_le, ◌==◌, ◌&&◌, if◌then◌else◌, Option, Some, None, is_some, unwrap_or, option_map, map, filter, count_by, string_bytes, slice_index_or}
+use Rattle.std.specs.List.{list_any, IsDistinct}
 use Rattle.std.specs.declared.boxed.Box.{Box}
 use Rattle.std.specs.declared.alloc.Global.{Global}
 use Rattle.std.specs.Str.{bytes_eq}
@@ -11,7 +9,6 @@ use Rattle.std.specs.declared.cmp.Ordering.{Ordering}
 use Rattle.std.specs.declared.ops.Bound.{Bound}
 use Rattle.std.specs.declared.ops.Bound.TheVariants.{Included, Excluded}
 use Rattle.std.specs.BTreeMap.{is_at}
-use Rattle.std.specs.Cmp.Lexicographic.{slice_cmp}
 use Rattle.std.specs.Map.{lookup, set_value, keys_of, values_of}
 use Rattle.consent.specs.declared.grant.Kind.{Kind}
 use Rattle.consent.specs.declared.grant.Kind.TheVariants as kind
@@ -106,14 +103,6 @@ pub record TellsSame (kept kept' : List Kept) (moment : ℕ) : Type 0 where
 
 -- THE TIES
 
--- the order of the records, by expiry
-abbrev pub order_cmp : ℕ × List ℕ → ℕ × List ℕ → Ordering
-order_cmp x y = ordering_then (nat_cmp x.0 y.0) (slice_cmp nat_cmp x.1 y.1)
-
--- what is put into the order: what expires first is the greatest
-abbrev pub heap_cmp : Reverse (ℕ × List ℕ) → Reverse (ℕ × List ℕ) → Ordering
-heap_cmp x y = order_cmp y.0 x.0
-
 -- the first moment at which a record is expired
 abbrev pub expiry : Record → ℕ
 expiry r = r.moment + r.life
@@ -121,9 +110,9 @@ expiry r = r.moment + r.life
 abbrev pub expiry_of : Option Record → Option ℕ
 expiry_of o = option_map expiry o
 
--- each record has its place in the order, which may have places of records that are gone
-abbrev pub IsOrderOf : List (List ℕ × Record) → List (Reverse (ℕ × List ℕ)) → Type 0
-IsOrderOf records order = (digest : List ℕ) (t : ℕ) → expiry_of (lookup (bytes_eq digest) records) ≡ Some t → Contains order (record { 0 = (t, digest) })
+-- no record expires before this moment
+abbrev pub ExpireFrom : ℕ → List (List ℕ × Record) → Type 0
+ExpireFrom earliest records = (digest : List ℕ) (t : ℕ) → expiry_of (lookup (bytes_eq digest) records) ≡ Some t → earliest ≤ t
 
 -- how many records are of the family
 abbrev pub member_count : List (List ℕ × Record) → ℕ → ℕ
@@ -147,24 +136,23 @@ abbrev pub IsCounted : List (Option Shared) → List (List ℕ × Record) → Li
 IsCounted families records awaited = (n : ℕ) → (shared_at families n).count ≡ member_count records n + count_by (λ k. k == n) awaited
 
 -- The tables tell of the same records and families.
-pub record Tied (families : List (Option Shared)) (records : List (List ℕ × Record)) (order : List (Reverse (ℕ × List ℕ))) (owners : List ((ℕ × ℕ) × ℕ)) (awaited : List ℕ) : Type 0 where
+pub record Tied (families : List (Option Shared)) (records : List (List ℕ × Record)) (earliest : ℕ) (owners : List ((ℕ × ℕ) × ℕ)) (awaited : List ℕ) : Type 0 where
   -- each digest is there once
   pub once : IsDistinct bytes_eq (keys_of records)
-  pub heap : IsHeap heap_cmp order
-  pub ordered : IsOrderOf records order
+  pub bounded : ExpireFrom earliest records
   pub counted : IsCounted families records awaited
   pub owned : IsOwned families owners
 
 abbrev pub IsTied : Tables → List ℕ → Type 0
-IsTied t awaited = Tied t.families.slots t.records.entries (heap_items t.order) t.owners.keys awaited
+IsTied t awaited = Tied t.families.slots t.records.entries t.earliest t.owners.keys awaited
 
 -- none has expired
 abbrev pub AllLive : List (List ℕ × Record) → ℕ → Type 0
 AllLive records moment = (digest : List ℕ) (t : ℕ) → expiry_of (lookup (bytes_eq digest) records) ≡ Some t → moment < t
 
--- the first place of the order has expired
-abbrev pub IsLate : List (Reverse (ℕ × List ℕ)) → ℕ → Type 0
-IsLate order moment = (d : Reverse (ℕ × List ℕ)) → (slice_index_or order 0 d).0.0 ≤ moment
+-- those that are unexpired
+abbrev pub live_of : ℕ → List (List ℕ × Record) → List (List ℕ × Record)
+live_of moment records = filter (λ e. is_live_at moment e.1) records
 
 -- CHANGES
 

@@ -1,7 +1,6 @@
 -- What room a store has for changes.
-use Rattle.std.specs.Prelude.{◌≡◌, ◌≢◌, ◌+◌, ◌-◌, ◌≤◌, ℕ, List, [], ◌∷◌, ◌++◌, true, Option, Some, None, is_some, map, option_map, slice_index_or}
+use Rattle.std.specs.Prelude.{◌≡◌, ◌≢◌, ◌+◌, ◌≤◌, ℕ, List, [], ◌∷◌, ◌++◌, true, Option, Some, None, is_some, map, option_map, slice_index_or}
 use Rattle.std.specs.List.{AllByRecursion}
-use Rattle.std.specs.BinaryHeap.{heap_len, heap_capacity}
 use Rattle.std.specs.HashMap.{spare}
 use Rattle.consent.specs.declared.change.Change.{Change}
 use Rattle.consent.specs.declared.change.Change.TheVariants.{CodeGiven, IssuedAlone, Issued}
@@ -25,7 +24,6 @@ records_of (c ∷ cs) = records_by c + records_of cs
 -- so many records more can be kept
 pub record HasSpare (room : Room) (n : ℕ) : Type 0 where
   pub records : n ≤ room.records
-  pub order : n ≤ room.order
 
 -- the family is there without records, and is of whom the one that comes is
 pub record Waits (families : List (Option Shared)) (n : ℕ) (s : Shared) : Type 0 where
@@ -88,7 +86,6 @@ expected_of c = record { number = c.number; texts = option_map texts_seen c.text
 abbrev pub room_of : Tables → Room
 room_of t = record {
   records = spare t.records;
-  order = heap_capacity t.order - heap_len t.order;
   families = t.families.slots;
   coming = map expected_of t.coming.items;
 }

@@ -56,7 +56,7 @@ impl Tables {
         ensures tied { IsTied self.new [] }
         ensures same { kept_of self.new ≡ kept_of self.old }
         ensures records { self.new.records ≡ self.old.records }
-        ensures order { self.new.order ≡ self.old.order }
+        ensures earliest { self.new.earliest ≡ self.old.earliest }
         ensures next { OnOk result ((changes : List Change) → AreReady self.old.families.slots (room_of self.old).coming changes →
             Expects (room_of self.old) (room_of self.new) shared (option_map texts_seen texts) changes) }
     {
@@ -74,7 +74,7 @@ impl Tables {
         ensures tied { IsTied self.new [] }
         ensures same { kept_of self.new ≡ kept_of self.old }
         ensures records { self.new.records ≡ self.old.records }
-        ensures order { self.new.order ≡ self.old.order }
+        ensures earliest { self.new.earliest ≡ self.old.earliest }
         ensures ready { OnOk result ((changes : List Change) → AreReady self.old.families.slots (room_of self.old).coming changes →
             AreReady self.new.families.slots (room_of self.new).coming (change.now ∷ changes)) }
     {
@@ -100,7 +100,7 @@ impl Tables {
         ensures tied { IsTied self.new [] }
         ensures same { kept_of self.new ≡ kept_of self.old }
         ensures records { self.new.records ≡ self.old.records }
-        ensures order { self.new.order ≡ self.old.order }
+        ensures earliest { self.new.earliest ≡ self.old.earliest }
         ensures ready { OnOk result (AreReady self.new.families.slots (room_of self.new).coming (as_list changes.now)) }
     {
         match changes {
@@ -128,7 +128,6 @@ impl Tables {
         let count = records_of(changes);
         self.forget_coming();
         self.records.reserve(count)?;
-        self.order.reserve(count)?;
         self.prepare_all(alloc, changes)
     }
 }

@@ -14,7 +14,6 @@ use crate::record::Record;
 use crate::tables::{Tables, enter};
 use consent::Moment;
 use std::alloc::{AllocError, Global};
-use std::cmp::Reverse;
 use std::collections::HashMap;
 
 /// Why no store is made of records.
@@ -46,12 +45,8 @@ impl Tables {
         // There are fewer than 2^63, and so there are of the family.
         let _ = self.records.len();
         self.records.reserve(1)?;
-        self.order.reserve(1)?;
         enter(&mut self.families, new.family, 1);
-        let place = Reverse((new.expiry(), *digest));
-        let Ok(()) = self.order.push(place) else {
-            unreachable!()
-        };
+        self.earliest = self.earliest.min(new.expiry());
         let Ok(_) = self.records.insert(*digest, new) else {
             unreachable!()
         };

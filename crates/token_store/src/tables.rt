@@ -1,10 +1,9 @@
-//! The tables: records by digest, their order by expiry, the families, and those of each owner and client.
+//! The tables: records by digest, the families, and those of each owner and client.
 ghost use Rattle.std.specs.Prelude.{◌≡◌, ◌≢◌, ◌+◌, ◌<◌, ◌≤◌, ◌^◌, ℕ, List, [], ◌∷◌, ◌++◌, None, Some, true, false, not, nat_le, if◌then◌else◌, length, count_by, map, is_some, option_map, option_copied, slice_index_or, IfOk, OnOk, OnErr};
 ghost use Rattle.std.specs.List.{list_any, IsDistinct};
 ghost use Rattle.std.specs.Str.{bytes_eq};
 ghost use Rattle.std.specs.Map.{lookup, keys_of, values_of};
 ghost use Rattle.std.specs.BTreeMap.{is_at};
-ghost use Rattle.std.specs.BinaryHeap.{heap_items, heap_len, heap_capacity};
 ghost use Rattle.std.specs.HashMap.{spare};
 ghost use Rattle.consent.specs.Limits.{record_limit};
 ghost use Rattle.consent.specs.History.{are_taken};
@@ -12,15 +11,14 @@ ghost use Rattle.consent.specs.declared.change.Change.{Change};
 ghost use Rattle.token_store.specs.Kept.{kept_at, kept_unexpired};
 ghost use Rattle.token_store.specs.Fits.{refusal_by};
 ghost use Rattle.token_store.specs.Room.{Waits, HasSpare, HasRoomFor, room_of};
-ghost use Rattle.token_store.specs.Records.{is_live_at, kept_under, kept_of, kept_in, shared_at, IsOwned, IsNextOwned, start_of, owner_cmp, HasEntered, HasLeft, HasEnded, HasOpened, HasClosed, HasLowered, lowered_by, TellsSame, IsTied, AllLive, IsLate, ForgetsExpired, RecordMark, marked, spent_in};
+ghost use Rattle.token_store.specs.Records.{is_live_at, kept_under, kept_of, kept_in, shared_at, IsCounted, IsOwned, IsNextOwned, start_of, owner_cmp, HasEntered, HasLeft, HasEnded, HasOpened, HasClosed, HasLowered, lowered_by, TellsSame, IsTied, AllLive, ExpireFrom, SharesSame, ForgetsExpired, live_of, RecordMark, marked, spent_in};
 
 use crate::fault::StoreFault;
 use crate::record::{CodeTexts, Record, Shared};
 use consent::{ClientNo, Moment, OwnerNo, RECORD_LIMIT, is_within};
 use slab::Slab;
 use std::alloc::{AllocError, Global};
-use std::cmp::Reverse;
-use std::collections::{BTreeSet, BinaryHeap, HashMap};
+use std::collections::{BTreeSet, HashMap};
 use std::ops::Bound;
 
 /// A family without records, for a code or a token that is about to come.
@@ -34,8 +32,8 @@ pub(crate) struct Coming {
 #[derive(Drop)]
 pub(crate) struct Tables {
     pub(crate) records: HashMap<[u8; 32], Record>,
-    /// When each record expires, the first first. It may have places of records that are gone.
-    pub(crate) order: BinaryHeap<Reverse<(u64, [u8; 32])>>,
+    /// None of the records expires before this.
+    pub(crate) earliest: u64,
     pub(crate) families: Slab<Shared>,
     /// The families that a code opened, by its owner and client.
     pub(crate) owners: BTreeSet<((u32, u32), usize)>,
@@ -50,7 +48,7 @@ impl Tables {
     {
         Tables {
             records: HashMap::new(alloc),
-            order: BinaryHeap::new(alloc),
+            earliest: u64::MAX,
             families: Slab::new(alloc),
             owners: BTreeSet::new(alloc),
             coming: Vec::new(alloc),
@@ -99,16 +97,12 @@ impl Tables {
         count_live(&self.records, moment)
     }
 
-    // Whether the first place lies behind the moment, or there is none.
+    // Whether the moment comes before any record expires.
     fn is_none_expired(&self, moment: Moment) -> bool
         requires { IsTied self.now [] }
         ensures live { result ≡ true → AllLive self.now.records.entries moment }
-        ensures late { result ≡ false → IsLate (heap_items self.now.order) moment }
     {
-        match self.order.peek() {
-            Some(Reverse(first)) => first.0 > moment.get(),
-            None => true,
-        }
+        moment.get() < self.earliest
     }
 
     /// So many more would be one too many.
@@ -155,30 +149,6 @@ impl Tables {
         None
     }
 
-    // Takes the first place out of the order, with its record, if it has expired.
-    fn drop_first(&mut self, moment: Moment) -> bool
-        requires { IsTied self.old [] }
-        ensures tied { IsTied self.new [] }
-        ensures same { TellsSame (kept_of self.old) (kept_of self.new) moment }
-        ensures more { result ≡ true → heap_len self.new.order < heap_len self.old.order }
-        ensures done { result ≡ false → AllLive self.new.records.entries moment }
-    {
-        if self.is_none_expired(moment) {
-            return false;
-        }
-        let Some(Reverse(first)) = self.order.pop() else {
-            return false;
-        };
-        let digest = first.1;
-        if self.record_at(&digest, moment).is_some() {
-            return true;
-        }
-        if let Some(record) = self.records.remove(&digest) {
-            leave(&mut self.families, &mut self.owners, record.family);
-        }
-        true
-    }
-
     /// Lets go of all that has expired.
     pub(crate) fn drop_expired(&mut self, moment: Moment)
         requires { IsTied self.old [] }
@@ -186,11 +156,11 @@ impl Tables {
         ensures same { TellsSame (kept_of self.old) (kept_of self.new) moment }
         ensures live { AllLive self.new.records.entries moment }
     {
-        loop {
-            if !self.drop_first(moment) {
-                return;
-            }
+        if self.is_none_expired(moment) {
+            return;
         }
+        self.earliest = leave_expired(&mut self.families, &mut self.owners, &self.records, moment);
+        retain_live(&mut self.records, moment);
     }
 }
 
@@ -240,7 +210,7 @@ impl Tables {
         ensures opened { IfOk result (λ n. HasOpened self.old.families.slots self.new.families.slots n shared) }
         ensures same { kept_of self.new ≡ kept_of self.old }
         ensures records { self.new.records ≡ self.old.records }
-        ensures order { self.new.order ≡ self.old.order }
+        ensures earliest { self.new.earliest ≡ self.old.earliest }
         ensures coming { self.new.coming ≡ self.old.coming }
     {
         self.families.reserve(1)?;
@@ -285,7 +255,7 @@ impl Tables {
         ensures forgotten { (n : ℕ) → IsTied self.old (n ∷ []) → ForgetsExpired self.old self.new digest.now n }
         ensures waiting { (n k : ℕ) (s : Shared) → IsTied self.old (k ∷ []) → Waits self.old.families.slots n s → Waits self.new.families.slots n s }
         ensures spare { spare self.old.records ≤ spare self.new.records }
-        ensures order { self.new.order ≡ self.old.order }
+        ensures earliest { self.new.earliest ≡ self.old.earliest }
         ensures coming { self.new.coming ≡ self.old.coming }
     {
         if let Some(old) = self.records.remove(digest) {
@@ -309,10 +279,7 @@ impl Tables {
         let _ = self.records.len();
         enter(&mut self.families, new.family, 1);
         self.forget(digest);
-        let place = Reverse((new.expiry(), *digest));
-        let Ok(()) = self.order.push(place) else {
-            unreachable!()
-        };
+        self.earliest = self.earliest.min(new.expiry());
         let Ok(_) = self.records.insert(*digest, new) else {
             unreachable!()
         };
@@ -428,6 +395,39 @@ fn lower_one(families: &mut Slab<Shared>, number: usize, mask: u64)
             }
         }
     }
+}
+
+// Each record that has expired is gone of its family. The answer is when the first of the others expires.
+fn leave_expired(
+    families: &mut Slab<Shared>,
+    owners: &mut BTreeSet<((u32, u32), usize)>,
+    records: &HashMap<[u8; 32], Record>,
+    moment: Moment,
+) -> u64
+    requires counted { IsCounted families.old.slots records.now.entries [] }
+    ensures counted { IsCounted families.new.slots (live_of moment records.now.entries) [] }
+    ensures shares { (n : ℕ) → 0 < (shared_at families.new.slots n).count → SharesSame families.old.slots families.new.slots n }
+    ensures owned { IsOwned families.old.slots owners.old.keys → IsOwned families.new.slots owners.new.keys }
+    ensures earliest { ExpireFrom result (live_of moment records.now.entries) }
+{
+    let mut earliest = u64::MAX;
+    for (_, record) in records.iter() {
+        if record.is_unexpired(moment) {
+            earliest = earliest.min(record.expiry());
+        } else {
+            leave(families, owners, record.family);
+        }
+    }
+    earliest
+}
+
+// The records that are unexpired stay.
+fn retain_live(records: &mut HashMap<[u8; 32], Record>, moment: Moment)
+    ensures live { records.new.entries ≡ live_of moment records.old.entries }
+    ensures once { IsDistinct bytes_eq (keys_of records.new.entries) }
+    ensures spare { spare records.old ≤ spare records.new }
+{
+    records.retain(|_digest, record| record.is_unexpired(moment));
 }
 
 // How many of the records are unexpired.

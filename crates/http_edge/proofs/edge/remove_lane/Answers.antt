@@ -4,5 +4,5 @@ use Rattle.std.proofs.lemmas.Fn.{filter_same}
 use Rattle.http_edge.specs.Lanes.{SeenLane}
 use Rattle.http_edge.proofs.edge.remove_lane.Goals as goal
 
-pub returns : goal.returns
-returns c = filter_same _ (λ (lane : SeenLane). not (lane.number == c.args.c)) _ (λ x b f' called. search rules) _ _ c.retain.ensures.filtered
+pub returns-clause-without : goal.returns-clause-without
+returns-clause-without c = filter_same _ (λ (lane : SeenLane). not (lane.number == c.args.c)) _ (λ x b f' called. search rules) _ _ c.retain.ensures.filtered

@@ -27,6 +27,6 @@ returns-clause-heard g c =
       enough = suffices_for _ _ _ count c.in_default.ensures.enough;
       middle = c.answer_all.new.output.items;
       serves = rw c.in_default.ensures.items at serves;
-      output_is = c.shrink_to_fit.ensures.items ∙ c.tell.ensures;
+      output_is = c.give_back.ensures ∙ c.tell.ensures;
       source_is = c.answer_all.ensures.drawn all.messages (drop scan.end bytes) all.reads.reads all.count;
     }

@@ -1,10 +1,10 @@
-use Rattle.std.proofs.Common.{◌≡◌, ◌∙◌, Some, refl, sym, ap, arith}
+use Rattle.std.proofs.Common.{rules, ◌≡◌, ◌∙◌, Some, refl, sym, ap, arith}
 use Rattle.http_edge.specs.Lanes.{SeenLane}
 use Rattle.http_edge.specs.Places.{IsPlace}
 use Rattle.http_edge.specs.Edges.{MayHear}
 use Rattle.http_edge.specs.declared.lane.Phase.TheVariants.{Open, Closing}
 use Rattle.http_edge.proofs.Phases.{closing_by, open_by}
-use Rattle.http_edge.proofs.Placing.{lane_is, put_at}
+use Rattle.http_edge.proofs.Placing.{lane_is, put_at, apart_put}
 use Rattle.http_edge.proofs.Refusing.{refused_is}
 use Rattle.http_edge.proofs.Going.{on_passed, on_heard}
 use Rattle.http_edge.proofs.edge.Edge.hear_piece.Goals as goal
@@ -55,3 +55,11 @@ returns-in-Err-clause-refused g c =
     let opened : r.phase ≡ Open = open_by r.phase not_ended not_closing in
     let may : MayHear lanes c.args.c c.args.piece.now = record { lane = r; here = place.here ∙ ap Some same; is_open = opened; short = let test = c.if-piece-gt-PIECE_LIMIT.false in omega (arith, test) } in
     rw (← c.self.view_is) (refused_is c.in-Err.fault lanes c.args.c c.args.piece.now (g.S.DrawSource.supply c.args.source.now) may c.in-Err.ensures.refused)
+
+pub invariant_of-self-2 : goal.invariant_of-self-2
+invariant_of-self-2 g c =
+    let lanes = c.self.inside.lanes.items in
+    let place : IsPlace lanes c.args.c c.in-Some.i = rw c.deref.ensures.value at c.in-Some.ensures in
+    let same = lane_is lanes c.args.c c.in-Some.i c.index_mut.result.now place c.index_mut.ensures.value in
+    let number = c.in_default-hear_lane.ensures.heard.number_is ∙ ap (λ (l : SeenLane). l.number) (sym same) in
+    (search rules, search rules, apart_put lanes c.args.c c.in-Some.i place c.hear_lane.new.lane number c.self.invariant.2)

@@ -2,7 +2,7 @@ use Rattle.std.proofs.Common.{◌≡◌, ◌≤◌, ◌∙◌, None, drop, lengt
 use Rattle.std.proofs.Math.Seq.{drop-nil}
 use Rattle.http_edge.specs.Lanes.{SeenLane, lane_at, output_in}
 use Rattle.http_edge.specs.Places.{IsPlace}
-use Rattle.http_edge.proofs.Placing.{lane_is, put_at, output_put}
+use Rattle.http_edge.proofs.Placing.{lane_is, put_at, output_put, apart_put}
 use Rattle.http_edge.proofs.Going.{on_taken, on_taken_nothing}
 use Rattle.http_edge.proofs.edge.Edge.take.Goals as goal
 
@@ -40,3 +40,11 @@ returns-in_default-clause-left g c =
     let none : lane_at lanes c.args.c ≡ None = rw c.deref.ensures.value at c.in_default.ensures in
     let e : output_in (lane_at lanes c.args.c) ≡ drop c.args.n (output_in (lane_at lanes c.args.c)) = rw none (sym (drop-nil c.args.n)) in
     rw (← c.self.view_is) e
+
+pub invariant_of-self : goal.invariant_of-self
+invariant_of-self g c =
+    let lanes = c.self.inside.lanes.items in
+    let place : IsPlace lanes c.args.c c.in-Some.i = rw c.deref.ensures.value at c.in-Some.ensures in
+    let same = lane_is lanes c.args.c c.in-Some.i c.index_mut.result.now place c.index_mut.ensures.value in
+    let number = ap (λ (l : SeenLane). l.number) c.take_output.ensures ∙ ap (λ (l : SeenLane). l.number) (sym same) in
+    (c.self.invariant.0, c.self.invariant.1, apart_put lanes c.args.c c.in-Some.i place c.take_output.new.lane number c.self.invariant.2)

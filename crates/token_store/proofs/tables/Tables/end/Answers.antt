@@ -1,4 +1,3 @@
-use Rattle.std.specs.BinaryHeap.{heap_items}
 use Rattle.std.proofs.Common.{arith}
 use Rattle.token_store.proofs.Families.{tied_ended, view_ended}
 use Rattle.token_store.specs.Room.{room_of}
@@ -8,7 +7,7 @@ use Rattle.token_store.proofs.tables.Tables.end.Goals as goal
 pub returns-clause-tied : goal.returns-clause-tied
 returns-clause-tied c =
     let t = c.args.self.now in
-    tied_ended t.families.slots c.end_one.new.families.slots c.args.number t.records.entries (heap_items t.order) t.owners.keys c.end_one.ensures.ended c.requires
+    tied_ended t.families.slots c.end_one.new.families.slots c.args.number t.records.entries t.earliest t.owners.keys c.end_one.ensures.ended c.requires
 
 pub returns-clause-marked : goal.returns-clause-marked
 returns-clause-marked c =
@@ -19,6 +18,6 @@ pub returns-clause-room : goal.returns-clause-room
 returns-clause-room c = λ changes has.
     let t = c.args.self.now in
     record {
-      spare = record { records = has.spare.records; order = has.spare.order };
+      spare = record { records = has.spare.records };
       ready = ready_all t.families.slots c.end_one.new.families.slots (room_of t).coming changes (λ k s waits. waits_ended t.families.slots c.end_one.new.families.slots c.args.number k s c.end_one.ensures.ended waits) has.ready;
     }

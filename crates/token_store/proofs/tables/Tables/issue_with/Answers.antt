@@ -53,7 +53,7 @@ returns-clause-room c = λ changes has.
     let kept : kept_at (kept_of t) d c.args.moment ≡ Some k = sym c.record_at.ensures ∙ ap (λ o. option_map (λ x. kept_in t.families.slots (d, x)) (option_copied o)) c.in-Some.is in
     let some = kept_counted t.families.slots t.records.entries d c.args.moment k c.requires.tied.once c.requires.tied.counted kept in
     record {
-      spare = c.put.ensures.room (records_of changes) (record { records = (let le = has.spare.records in omega (arith, le)); order = (let le = has.spare.order in omega (arith, le)) });
+      spare = c.put.ensures.room (records_of changes) (record { records = (let le = has.spare.records in omega (arith, le)) });
       ready = rw c.put.ensures.coming (ready_all t.families.slots c.put.new.self.families.slots _ changes
           (λ i x waits. c.put.ensures.waiting i x (λ e. not_waiting t.families.slots k.grant.family i x some waits (e ∙ c.of_token.ensures.family)) waits) has.ready);
     }

@@ -2,10 +2,9 @@ use Rattle.std.proofs.Common.{◌≡◌, ◌∙◌, ◌∷◌, [], ap, ℕ, None
 use Rattle.std.specs.List.Sorted.{IsPermutation}
 use Rattle.std.specs.Str.{bytes_eq}
 use Rattle.std.specs.Map.{lookup}
-use Rattle.std.specs.BinaryHeap.{heap_items}
 use Rattle.token_store.specs.Records.{Tied, kept_under, shared_at, all_kept}
 use Rattle.token_store.proofs.Looking.{same_push, same_on}
-use Rattle.token_store.proofs.Settling.{tied_reordered, tied_awaiting, same_awaiting, entered_shares, ordered_with, counted_settled, settled_tells, put_new, count_few}
+use Rattle.token_store.proofs.Settling.{tied_reordered, tied_awaiting, same_awaiting, entered_shares, more_from, counted_settled, settled_tells, put_new, count_few}
 use Rattle.token_store.proofs.tables.Tables.put_new.Goals as goal
 
 pub enter-requires : goal.enter-requires
@@ -19,16 +18,14 @@ returns-clause-tied c =
     let slots' = c.enter.new.families.slots in
     let es1 = c.reserve.new.self.entries in
     let es' = c.insert.new.self.entries in
-    let order1 = heap_items c.reserve-2.new.self in
     let e = c.reserve.ensures in
-    let before : Tied t.families.slots es1 order1 t.owners.keys [] = tied_reordered t.families.slots t.records.entries es1 (heap_items t.order) order1 t.owners.keys e.unique e.entries.0 e.entries.2 c.reserve-2.ensures.items c.requires.tied in
-    let tied : Tied slots' es1 order1 t.owners.keys (r.family ∷ []) = tied_awaiting t.families.slots slots' es1 order1 t.owners.keys r.family before c.enter.ensures.entered c.requires.open in
+    let before : Tied t.families.slots es1 t.earliest t.owners.keys [] = tied_reordered t.families.slots t.records.entries es1 t.earliest t.owners.keys e.unique e.entries.0 e.entries.2 c.requires.tied in
+    let tied : Tied slots' es1 t.earliest t.owners.keys (r.family ∷ []) = tied_awaiting t.families.slots slots' es1 t.earliest t.owners.keys r.family before c.enter.ensures.entered c.requires.open in
     let absent : lookup (bytes_eq d) es1 ≡ None = e.entries.2 d ∙ c.requires.absent in
-    let moved : IsPermutation ((d, r) ∷ es1) es' = put_new c.in-Ok-insert.field-0 d r es1 es' (c.in-Ok-insert.ensures.old ∙ absent) c.in-Ok-insert.ensures.entries in
+    let moved : IsPermutation ((d, r) ∷ es1) es' = put_new c.in-Ok.field-0 d r es1 es' (c.in-Ok.ensures.old ∙ absent) c.in-Ok.ensures.entries in
     record {
       once = c.insert.ensures.unique;
-      heap = c.in-Ok.ensures.heap_order tied.heap;
-      ordered = ordered_with es1 es' order1 (heap_items c.push.new.self) d r _ (ap (λ x. record { 0 = (x, d) }) c.expiry.ensures) c.in-Ok.ensures.permutation c.in-Ok-insert.ensures.updates.0 tied.ordered;
+      bounded = more_from es1 es' t.earliest c.min-self.result d r (omega (arith, c.min-self.ensures)) (omega (arith, c.min-self.ensures, c.expiry.ensures)) c.in-Ok.ensures.updates.0 tied.bounded;
       counted = counted_settled slots' es1 es' d r moved tied.counted;
       owned = tied.owned;
     }
@@ -43,13 +40,13 @@ returns-clause-tells c = λ m.
     let es' = c.insert.new.self.entries in
     let e = c.reserve.ensures in
     let absent : lookup (bytes_eq d) es1 ≡ None = e.entries.2 d ∙ c.requires.absent in
-    let moved : IsPermutation ((d, r) ∷ es1) es' = put_new c.in-Ok-insert.field-0 d r es1 es' (c.in-Ok-insert.ensures.old ∙ absent) c.in-Ok-insert.ensures.entries in
+    let moved : IsPermutation ((d, r) ∷ es1) es' = put_new c.in-Ok.field-0 d r es1 es' (c.in-Ok.ensures.old ∙ absent) c.in-Ok.ensures.entries in
     let shares = λ (k : ℕ). entered_shares t.families.slots slots' r.family 1 k c.enter.ensures.entered in
     let kept = all_kept t.families.slots t.records.entries in
     let kept' = all_kept slots' es1 in
     let same = same_awaiting t.families.slots slots' t.records.entries es1 m shares c.requires.tied.once e.unique e.entries.0 e.entries.2 in
-    let more = settled_tells slots' es1 es' d r m e.unique c.insert.ensures.unique absent moved c.in-Ok-insert.ensures.updates.0 in
+    let more = settled_tells slots' es1 es' d r m e.unique c.insert.ensures.unique absent moved c.in-Ok.ensures.updates.0 in
     rw (← shares r.family d r) (same_on _ _ _ m (same_push kept kept' (kept_under (shared_at slots' r.family) d r) m same) more)
 
 pub returns-clause-found : goal.returns-clause-found
-returns-clause-found c = λ d. c.in-Ok-insert.ensures.updates.0 d ∙ ap (λ o. cond (bytes_eq c.args.digest.now d) (Some c.args.new) o) (c.reserve.ensures.entries.2 d)
+returns-clause-found c = λ d. c.in-Ok.ensures.updates.0 d ∙ ap (λ o. cond (bytes_eq c.args.digest.now d) (Some c.args.new) o) (c.reserve.ensures.entries.2 d)

@@ -1,7 +1,17 @@
-use Rattle.token_store.specs.Records.{kept_of}
+use Rattle.std.proofs.Common.{◌≡◌, ◌∙◌, refl, List, [], ◌∷◌, ℕ, Option}
+use Rattle.token_store.specs.declared.record.Record.{Record}
+use Rattle.token_store.specs.declared.record.Shared.{Shared}
+use Rattle.token_store.specs.Records.{kept_of, all_kept}
 use Rattle.token_store.specs.Homes.{renumber_by}
 use Rattle.token_store.proofs.Remaking.{restored_from}
 use Rattle.token_store.proofs.tables.Tables.restored.Goals as goal
+
+none_kept : (families : List (Option Shared)) (es : List (List ℕ × Record)) → all_kept families es ≡ [] → es ≡ []
+none_kept families [] none = refl
+none_kept families (e ∷ es) none = cc
+
+pub put_all-requires-clause-empty : goal.put_all-requires-clause-empty
+put_all-requires-clause-empty c = c.in_default.ensures.records ∙ none_kept c.new-tables.result.families.slots c.new-tables.result.records.entries c.new-tables.ensures.empty
 
 pub returns-clause-restored : goal.returns-clause-restored
 returns-clause-restored c =

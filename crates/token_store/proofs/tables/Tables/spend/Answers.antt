@@ -1,4 +1,3 @@
-use Rattle.std.specs.BinaryHeap.{heap_items}
 use Rattle.std.proofs.Common.{◌∙◌, ap}
 use Rattle.token_store.specs.Records.{all_kept}
 use Rattle.token_store.proofs.Spending.{tied_spent, view_spent}
@@ -7,7 +6,7 @@ use Rattle.token_store.proofs.tables.Tables.spend.Goals as goal
 pub returns-clause-tied : goal.returns-clause-tied
 returns-clause-tied c =
     let t = c.args.self.now in
-    rw c.spend_one.ensures.spent (tied_spent t.families.slots t.records.entries (heap_items t.order) t.owners.keys c.args.digest.now c.requires)
+    rw c.spend_one.ensures.spent (tied_spent t.families.slots t.records.entries t.earliest t.owners.keys c.args.digest.now c.requires)
 
 pub returns-clause-marked : goal.returns-clause-marked
 returns-clause-marked c = λ m there.
