@@ -164,7 +164,7 @@ pub(crate) fn push_hook(
 {
     let mut line = Line::new(alloc, "hook")?;
     line.text("name", hook.name)?;
-    line.number("version", hook.version)?;
+    line.number("version", hook.version.number())?;
     line.number("bytes", hook.code.len() as u64)?;
     line.end(lines)
 }
