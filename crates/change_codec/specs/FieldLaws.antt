@@ -1,15 +1,18 @@
 -- A field that is read is the field that was written, and what was written is read again.
-use Rattle.std.proofs.Common.{◌≡◌, ℕ, suc, ◌+◌, ◌^◌, ◌<◌, ◌≤◌, Bool, true, false, cond, ltb, List, ◌∷◌, ◌++◌, length, get_or, take, drop, Result, Ok, Err, refl, sym, ap, subst, ◌∙◌, append_assoc, arith, inl, inr}
+use Rattle.std.proofs.Common.{◌≡◌, ℕ, suc, ◌+◌, ◌^◌, ◌<◌, ◌≤◌, Bool, true, false, cond, eqb, ltb, List, ◌∷◌, ◌++◌, length, get_or, take, drop, Result, Ok, Err, Option, None, Some, refl, sym, ap, subst, ◌∙◌, append_assoc, arith, inl, inr}
 use Rattle.std.specs.Int.{Width, w32, w64, byte_len, from_be_bytes, to_be_bytes}
 use Rattle.std.specs.Str.{is_utf8}
-use Rattle.std.proofs.lemmas.Bool.{cases_lt, ltb-false, ltb-true, le-ltb, lt-ltb}
+use Rattle.std.proofs.lemmas.Bool.{cases_lt, eqb-true, ltb-false, ltb-true, le-ltb, lt-ltb}
 use Rattle.std.proofs.lemmas.List.{take_at, drop_at, take-append-drop, length-append, length-take, get_or-drop, get_or-take, get_or_past}
 use Rattle.std.proofs.lemmas.Nat.{be_bytes_4, be_bytes_8, from_be_bytes-to_be_bytes_4, from_be_bytes-to_be_bytes_8}
 use Rattle.std.proofs.lemmas.Str.{IsUtf8-from_is_utf8, is_utf8-from_IsUtf8}
+use Rattle.consent.specs.Versions.{version_numbered}
+use Rattle.consent.specs.declared.record_version.RecordVersion.{RecordVersion}
+use Rattle.consent.specs.declared.record_version.RecordVersion.TheVariants.{First, Second}
 use Rattle.change_codec.specs.declared.fault.ChangeFault.{ChangeFault}
 use Rattle.change_codec.specs.declared.fault.ChangeFault.TheVariants.{Short, Number, Moment, NotText}
-use Rattle.change_codec.specs.Spelling.{short, wide, counted, FitsFourBytes, FitsEightBytes, IsParty, IsMoment, IsText}
-use Rattle.change_codec.specs.Reading.{◌>>=◌, big_endian_at, part_at, party_at, moment_at, counted_at, text_at}
+use Rattle.change_codec.specs.Spelling.{short, wide, counted, version_spelling, FitsFourBytes, FitsEightBytes, IsParty, IsMoment, IsText}
+use Rattle.change_codec.specs.Reading.{◌>>=◌, big_endian_at, part_at, party_at, moment_at, counted_at, text_at, version_at, where_numbered}
 
 -- ---- bytes, and tests that did not fail
 
@@ -137,6 +140,31 @@ moment_again n rest lt =
     let below : ltb n (2 ^ 63) ≡ true = lt-ltb _ _ lt in
     let fits : FitsEightBytes n = omega arith in
     rw (wide_again n rest fits, below) refl
+
+-- the version has the number
+numbered_is : (n : ℕ) (rest : List ℕ) (x : RecordVersion × List ℕ) → where_numbered (version_numbered n) rest ≡ Ok x → (wide n ≡ version_spelling x.0) × (rest ≡ x.1)
+numbered_is n rest x e = by (eqb n 1) refl (eqb n 2) refl e
+  where
+    by : (one : Bool) → eqb n 1 ≡ one → (two : Bool) → eqb n 2 ≡ two → where_numbered (cond one (Some First) (cond two (Some Second) None)) rest ≡ Ok x →
+        (wide n ≡ version_spelling x.0) × (rest ≡ x.1)
+    by true is two other e = let same = ok_is (First, rest) x e in
+        (ap wide (eqb-true _ _ is) ∙ ap (λ (y : RecordVersion × List ℕ). version_spelling y.0) same, ap (λ (y : RecordVersion × List ℕ). y.1) same)
+    by false other true is e = let same = ok_is (Second, rest) x e in
+        (ap wide (eqb-true _ _ is) ∙ ap (λ (y : RecordVersion × List ℕ). version_spelling y.0) same, ap (λ (y : RecordVersion × List ℕ). y.1) same)
+    by false other false another e = absurd cc
+
+pub version_takes : (bytes : List ℕ) (x : RecordVersion × List ℕ) → IsBytes bytes → version_at bytes ≡ Ok x → TakesFront bytes (version_spelling x.0) x.1
+unfolding version_at
+version_takes bytes x fits e =
+    let a = bind_ok (big_endian_at w64 bytes) (λ n. where_numbered (version_numbered n.0) n.1) x e in
+    let t = wide_takes bytes a.0 fits a.1 in
+    let is = numbered_is a.0.0 a.0.1 x a.2 in
+    subst (λ (text : List ℕ). TakesFront bytes text x.1) is.0 (subst (TakesFront bytes (wide a.0.0)) is.1 t.0)
+
+pub version_again : (version : RecordVersion) (rest : List ℕ) → version_at (version_spelling version ++ rest) ≡ Ok (version, rest)
+unfolding version_at
+version_again First rest = rw (wide_again 1 rest (omega arith)) refl
+version_again Second rest = rw (wide_again 2 rest (omega arith)) refl
 
 -- ---- bytes of a known number, and bytes behind their number
 

@@ -7,7 +7,9 @@ ghost use Rattle.change_codec.specs.Reading.{GivesReading, code_at, code_given_a
 
 use crate::dated::DatedChange;
 use crate::fault::{ChangeFault, DecodeFault};
-use crate::field::{counted_of, digest_of, moment_of, party_of, short_of, text_of, wide_of};
+use crate::field::{
+    counted_of, digest_of, moment_of, party_of, short_of, text_of, version_of, wide_of,
+};
 use consent::{Change, ClientNo, CodeFacts, Moment, NewToken, OwnerNo, TokenKind};
 use std::alloc::Global;
 
@@ -127,7 +129,7 @@ fn hook_set_of(bytes: &[u8]) -> Result<(Change, &[u8]), DecodeFault>
     ensures { GivesReading (λ x. (fact_of x.0, x.1.now)) result (hook_set_at bytes.now) }
 {
     let (name, rest) = text_of(bytes)?;
-    let (version, rest) = wide_of(rest)?;
+    let (version, rest) = version_of(rest)?;
     let (code, rest) = counted_of(rest)?;
     let change = Change::HookSet {
         name,

@@ -8,9 +8,9 @@ use crate::dated::DatedChange;
 use crate::fault::EncodeFault;
 use crate::field::{
     is_short, put_client, put_counted, put_digest, put_moment, put_owner, put_short, put_text,
-    put_wide,
+    put_version, put_wide,
 };
-use consent::{Change, ClientNo, CodeFacts, Moment, NewToken, OwnerNo, TokenKind};
+use consent::{Change, ClientNo, CodeFacts, Moment, NewToken, OwnerNo, RecordVersion, TokenKind};
 use std::alloc::AllocError;
 
 pub(crate) fn can_count_in(change: &Change) -> bool
@@ -137,7 +137,12 @@ fn put_one_digest(out: &mut Vec<u8>, variant: u8, digest: &[u8; 32]) -> Result<(
     Ok(())
 }
 
-fn put_hook_set(out: &mut Vec<u8>, name: &str, version: u64, code: &[u8]) -> Result<(), AllocError>
+fn put_hook_set(
+    out: &mut Vec<u8>,
+    name: &str,
+    version: RecordVersion,
+    code: &[u8],
+) -> Result<(), AllocError>
     requires name { FitsFourBytes (length name.now) }
     requires code { FitsFourBytes (length code.now) }
     ensures written { OnOk result (out.new.items
@@ -146,7 +151,7 @@ fn put_hook_set(out: &mut Vec<u8>, name: &str, version: u64, code: &[u8]) -> Res
 {
     out.push(7)?;
     put_text(out, name)?;
-    put_wide(out, version)?;
+    put_version(out, version)?;
     put_counted(out, code)?;
     Ok(())
 }

@@ -4,11 +4,11 @@
 
 ghost use Rattle.std.specs.Prelude.{◌≡◌, ◌<◌, ◌≤◌, ◌^◌, ◌↔◌, ◌++◌, length, IsTrue, IfOk, OnOk};
 ghost use Rattle.std.specs.Int.{w32, w64};
-ghost use Rattle.change_codec.specs.Spelling.{IsDigest, IsMoment, IsParty, FitsFourBytes, IsText, FitsEightBytes, counted, short, wide};
-ghost use Rattle.change_codec.specs.Reading.{GivesReading, counted_at, moment_at, big_endian_at, part_at, party_at, text_at};
+ghost use Rattle.change_codec.specs.Spelling.{IsDigest, IsMoment, IsParty, FitsFourBytes, IsText, FitsEightBytes, counted, short, version_spelling, wide};
+ghost use Rattle.change_codec.specs.Reading.{GivesReading, counted_at, moment_at, big_endian_at, part_at, party_at, text_at, version_at};
 
 use crate::fault::{ChangeFault, DecodeFault};
-use consent::{ClientNo, Moment, OwnerNo};
+use consent::{ClientNo, Moment, OwnerNo, RecordVersion};
 use std::alloc::AllocError;
 
 /// The number in the first four bytes, the high one first, and the bytes behind it.
@@ -61,6 +61,18 @@ pub fn moment_of(bytes: &[u8]) -> Result<(u64, &[u8]), DecodeFault>
         return Err(DecodeFault::Bytes(ChangeFault::Moment));
     }
     Ok((seconds, rest))
+}
+
+/// The version of a hook's record by its number in the first eight bytes, and the bytes behind it.
+#[tactic(auto, unfolding(crate::specs::Reading::version_at))]
+pub fn version_of(bytes: &[u8]) -> Result<(RecordVersion, &[u8]), DecodeFault>
+    ensures { GivesReading (λ x. (x.0, x.1.now)) result (version_at bytes.now) }
+{
+    let (number, rest) = wide_of(bytes)?;
+    match RecordVersion::numbered(number) {
+        Some(version) => Ok((version, rest)),
+        None => Err(DecodeFault::Bytes(ChangeFault::RecordVersion)),
+    }
 }
 
 /// The bytes behind their length, which is in the first four, and the bytes behind them.
@@ -152,6 +164,14 @@ pub fn put_moment(out: &mut Vec<u8>, moment: Moment) -> Result<(), AllocError>
     ensures fits { OnOk result (IsMoment moment) }
 {
     put_wide(out, moment.get())?;
+    Ok(())
+}
+
+/// Writes the number of a version of a hook's record in eight bytes.
+pub fn put_version(out: &mut Vec<u8>, version: RecordVersion) -> Result<(), AllocError>
+    ensures { OnOk result (out.new.items ≡ out.old.items ++ version_spelling version) }
+{
+    put_wide(out, version.number())?;
     Ok(())
 }
 

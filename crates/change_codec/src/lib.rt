@@ -13,7 +13,7 @@
 //! - 7, a hook that is set: name, version (wide), code
 //! - 8, a hook that is gone: name
 //!
-//! A wide number has eight bytes and a short one four, the high byte first. A text, and a hook's code, is its
+//! The version of a hook's record is 1 or 2. A wide number has eight bytes and a short one four, the high byte first. A text, and a hook's code, is its
 //! length in bytes (short) and these bytes. A digest has 32 bytes. A token is a byte for its kind (0 access, 1
 //! refresh), its digest, its scope (wide) and its life (short).
 #![tactic(auto)]

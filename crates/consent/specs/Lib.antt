@@ -1,4 +1,5 @@
 pub mod Limits
+pub mod Versions
 pub mod History
 pub mod Consents
 pub mod Covered

@@ -2,6 +2,7 @@
 
 use crate::grant::TokenKind;
 use crate::numbers::{ClientNo, OwnerNo};
+use crate::record_version::RecordVersion;
 
 /// What a code is given for.
 #[derive(Clone, Copy)]
@@ -63,7 +64,7 @@ pub enum Change<'a> {
     /// A hook is put in or replaced under its name.
     HookSet {
         name: &'a str,
-        version: u64,
+        version: RecordVersion,
         code: &'a [u8],
     },
     /// The hook of the name is taken away.

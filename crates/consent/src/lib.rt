@@ -9,6 +9,7 @@ mod kept_consent;
 mod limits;
 mod numbers;
 mod parties;
+mod record_version;
 mod scope;
 
 pub use change::{Change, Changes, CodeFacts, NewToken};
@@ -18,4 +19,5 @@ pub use kept_consent::{KeptConsent, ListFault};
 pub use limits::{CODE_LIFE, CONSENT_LIMIT, RECORD_LIMIT, limits_are_the_defined_ones};
 pub use numbers::{ClientNo, Moment, OwnerNo};
 pub use parties::Parties;
+pub use record_version::RecordVersion;
 pub use scope::is_within;

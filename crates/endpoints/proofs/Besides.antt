@@ -7,13 +7,14 @@ use Rattle.consent.specs.Consents.{KeptConsents, FitsConsents}
 use Rattle.consent.specs.ConsentLaws.{fits_consents-push_other}
 use Rattle.consent.specs.History.{Event, Change as happening, Grant, event_at, grant_at, with_change, with_changes}
 use Rattle.consent.specs.History.{Change as told}
+use Rattle.consent.specs.declared.record_version.RecordVersion.{RecordVersion}
 use Rattle.consent.specs.declared.change.Change.{Change}
 use Rattle.consent.specs.declared.change.Change.TheVariants.{Consented, CodeGiven, IssuedAlone, Issued, Spent, FamilyEnded, HookSet, HookGone}
 use Rattle.consent.specs.declared.change.Changes.{Changes}
 use Rattle.consent.specs.declared.change.Changes.TheVariants.{Nothing, One, Two, Three}
 use Rattle.consent.specs.declared.change.NewToken.{NewToken}
 use Rattle.change_codec.specs.Spelling.{DatedFact}
-use Rattle.hook_host.specs.Versions.{layout_of}
+use Rattle.endpoints.specs.Layouts.{layout_of}
 use Rattle.hook_host.specs.declared.host.HookHost.{Ghosts as Hosting}
 use Rattle.token_store.specs.Fits.{FitsStore}
 use Rattle.token_store.specs.Kept.{Held}
@@ -28,7 +29,7 @@ use Rattle.endpoints.proofs.Stepping.{AllQuiet, IsQuiet, all_right-more, host_pu
 
 -- a change that is none of these is plain
 pub plain_of : (c : Change) → ((owner client mask : ℕ) → c ≡ Consented owner client mask → ⊥) →
-    ((name : Bor (List ℕ)) (version : ℕ) (code : Bor (List ℕ)) → c ≡ HookSet name version code → ⊥) →
+    ((name : Bor (List ℕ)) (version : RecordVersion) (code : Bor (List ℕ)) → c ≡ HookSet name version code → ⊥) →
     ((name : Bor (List ℕ)) → c ≡ HookGone name → ⊥) → IsPlain c
 plain_of (Consented owner client mask) no_consent no_set no_gone = absurd (no_consent owner client mask refl)
 plain_of (HookSet name version code) no_consent no_set no_gone = absurd (no_set name version code refl)
@@ -75,7 +76,7 @@ one_meant history m c next wanted is meant =
 pub plain_consents : (kept : KeptConsents) (cs : List Change) → AllPlain cs → MakesConsents kept cs kept
 plain_consents kept cs are history m next alone is fits = quiet_consents kept history m next (all_quiet history m cs next are is) fits
 
-pub set_consents : (kept : KeptConsents) (c : Change) (name : Bor (List ℕ)) (version : ℕ) (code : Bor (List ℕ)) → c ≡ HookSet name version code → MakesConsents kept (c ∷ []) kept
+pub set_consents : (kept : KeptConsents) (c : Change) (name : Bor (List ℕ)) (version : RecordVersion) (code : Bor (List ℕ)) → c ≡ HookSet name version code → MakesConsents kept (c ∷ []) kept
 set_consents kept c name version code same history m next alone is fits =
     let meant = one_meant history m c next (told.HookSet name.now version code.now) is (ap (change_of history m) same) in
     subst (λ n. FitsConsents kept (with_changes history m n)) (sym meant) (fits_consents-push_other kept history (event_at m (told.HookSet name.now version code.now)) refl fits)
@@ -112,7 +113,7 @@ module _ {H : Type 0} (hosting : Hosting H) where
   pub consented_host : (host : H) (c : Change) (checked : Checked H) (owner client mask : ℕ) → c ≡ Consented owner client mask → MakesHost hosting host (c ∷ []) checked host
   consented_host host c checked owner client mask same = step_host host host c checked (told.Consented owner client mask) (λ history m. ap (change_of history m) same) refl
 
-  pub set_host : (old new : H) (c : Change) (checked : Checked H) (name : Bor (List ℕ)) (version : ℕ) (code : Bor (List ℕ)) → c ≡ HookSet name version code →
+  pub set_host : (old new : H) (c : Change) (checked : Checked H) (name : Bor (List ℕ)) (version : RecordVersion) (code : Bor (List ℕ)) → c ≡ HookSet name version code →
       hosting.installs old name.now (layout_of version) code.now new → MakesHost hosting old (c ∷ []) checked new
   set_host old new c checked name version code same done =
       step_host old new c checked (told.HookSet name.now version code.now) (λ history m. ap (change_of history m) same) done
@@ -121,13 +122,13 @@ module _ {H : Type 0} (hosting : Hosting H) where
   gone_host old new c checked name same done = step_host old new c checked (told.HookGone name.now) (λ history m. ap (change_of history m) same) done
 
   -- a hook is set only where it was checked
-  unset : (host : H) (name : Bor (List ℕ)) (version : ℕ) (code : Bor (List ℕ)) (checked : Checked H) → ((hook : H) → checked ≡ Installs hook → ⊥) →
+  unset : (host : H) (name : Bor (List ℕ)) (version : RecordVersion) (code : Bor (List ℕ)) (checked : Checked H) → ((hook : H) → checked ≡ Installs hook → ⊥) →
       CanMake hosting host (HookSet name version code) checked → ⊥
   unset host name version code (Installs hook) other can = other hook refl
   unset host name version code NoHook other can = can
   unset host name version code Removes other can = can
 
-  pub unset_host : (old : H) (c : Change) (checked : Checked H) (name : Bor (List ℕ)) (version : ℕ) (code : Bor (List ℕ)) → c ≡ HookSet name version code →
+  pub unset_host : (old : H) (c : Change) (checked : Checked H) (name : Bor (List ℕ)) (version : RecordVersion) (code : Bor (List ℕ)) → c ≡ HookSet name version code →
       ((hook : H) → checked ≡ Installs hook → ⊥) → MakesHost hosting old (c ∷ []) checked old
   unset_host old c checked name version code same other first history m next alone can is run =
       absurd (unset old name version code checked other (subst (λ c. CanMake hosting old c checked) same can))

@@ -21,7 +21,7 @@ use Rattle.endpoints.specs.Redo.{FollowsEach, IsOfHistory, RedoesChange, Refuses
 use Rattle.endpoints.specs.Ruling.{CanMake}
 use Rattle.endpoints.specs.Server.{SeenServer}
 use Rattle.endpoints.specs.declared.redo.RedoFault.{RedoFault}
-use Rattle.endpoints.specs.declared.redo.RedoFault.TheVariants.{MomentBack, Unknown, Store, ConsentsFull, HookVersion, Hook, Memory}
+use Rattle.endpoints.specs.declared.redo.RedoFault.TheVariants.{MomentBack, Unknown, Store, ConsentsFull, Hook, Memory}
 use Rattle.endpoints.specs.declared.ruling.Checked.{Checked}
 use Rattle.endpoints.proofs.Answering.{swept}
 
@@ -104,7 +104,6 @@ module _ {H : Type 0} (hosting : Hosting H) where
       sym (is history (fits_later server.store history m moment (omega (arith, le, fits.greatest_is)) fits.store) fits.consents)
   refused server moment change ConsentsFull le own is = λ rules first history m fits.
       sym (is history (fits_later server.store history m moment (omega (arith, le, fits.greatest_is)) fits.store) fits.consents)
-  refused server moment change HookVersion le own is = absurd own
   refused server moment change (Hook fault) le own is = absurd own
   refused server moment change Memory le own is = absurd own
 

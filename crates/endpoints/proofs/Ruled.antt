@@ -7,6 +7,7 @@ use Rattle.clients.specs.RegistryRecord.{RegistryRecord}
 use Rattle.consent.specs.Changes.{change_of, changes_of, as_list, AllFollow}
 use Rattle.consent.specs.History.{Event, IsHistory, with_change}
 use Rattle.consent.specs.History.{Change as happening}
+use Rattle.consent.specs.declared.record_version.RecordVersion.{RecordVersion}
 use Rattle.consent.specs.declared.change.Change.{Change}
 use Rattle.consent.specs.declared.change.Change.TheVariants.{Consented, CodeGiven, IssuedAlone, Issued, Spent, FamilyEnded, HookSet, HookGone}
 use Rattle.hook_host.specs.declared.fault.HookFault.{HookFault}
@@ -311,7 +312,7 @@ one_change (Some change) fault each = one_by_fault change fault (each change ref
 set_is : (params : Parameters) (code : List ℕ) (c : happening) → hook_set_by params code ≡ Some c → IsHooks c
 set_is params code c is = by_name (value_sent (codes "name") params) is
   where
-    by_version : (name : List ℕ) (o : Option ℕ) → option_map (λ version. happening.HookSet name version code) o ≡ Some c → IsHooks c
+    by_version : (name : List ℕ) (o : Option RecordVersion) → option_map (λ version. happening.HookSet name version code) o ≡ Some c → IsHooks c
     by_version name None h = absurd (cc)
     by_version name (Some version) h = subst IsHooks (same_some _ c h) tt
 

@@ -2,9 +2,8 @@
 use Rattle.std.specs.Prelude.{ℕ, List}
 use Rattle.consent.specs.History.{Change}
 use Rattle.consent.specs.History.Change.{HookSet}
-use Rattle.hook_host.specs.Versions.{version_of}
 use Rattle.endpoints.specs.declared.hooks.HookAsked.{HookAsked}
 
 -- it is set, with this code
 abbrev pub hook_set_asked : List ℕ → HookAsked → Change
-hook_set_asked code asked = HookSet asked.name.now (version_of asked.layout) code
+hook_set_asked code asked = HookSet asked.name.now asked.version code

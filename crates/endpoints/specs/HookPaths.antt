@@ -5,6 +5,8 @@ use Rattle.std.specs.Result.{result_ok}
 use Rattle.params.specs.Form.{read_params, value_sent}
 use Rattle.clients.specs.RegistryRecord.{RegistryRecord}
 use Rattle.clients.specs.Registry.{is_operator_key}
+use Rattle.consent.specs.declared.record_version.RecordVersion.{RecordVersion}
+use Rattle.consent.specs.declared.record_version.RecordVersion.TheVariants.{First, Second}
 use Rattle.consent.specs.History.{Change}
 use Rattle.consent.specs.History.Change.{HookSet, HookGone}
 use Rattle.hook_host.specs.declared.fault.HookFault.{HookFault}
@@ -32,10 +34,10 @@ with_operator rules asked next = point (not (is_operator rules asked)) (refuse A
 -- WHAT IS ASKED
 
 -- the version of the record that the hook reads: 1 where none is named
-abbrev pub version_asked : Option (List ℕ) → Option ℕ
-version_asked None = Some 1
+abbrev pub version_asked : Option (List ℕ) → Option RecordVersion
+version_asked None = Some First
 version_asked (Some text) =
-    if bytes_eq text (codes "1") then Some 1 else (if bytes_eq text (codes "2") then Some 2 else None)
+    if bytes_eq text (codes "1") then Some First else (if bytes_eq text (codes "2") then Some Second else None)
 
 -- the hook that the query names, with the body for its code
 abbrev pub hook_set : Parameters → List ℕ → List ℕ → Option Change

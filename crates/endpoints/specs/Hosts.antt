@@ -3,7 +3,7 @@ use Rattle.std.specs.Prelude.{◌≡◌, ℕ, List, [], ◌∷◌, Option, Some,
 use Rattle.insn.specs.declared.layout.Layout.{Layout}
 use Rattle.hook_host.specs.declared.fault.HookFault.{HookFault}
 use Rattle.hook_host.specs.declared.host.HookHost.{Ghosts as Hosting}
-use Rattle.hook_host.specs.Versions.{layout_of}
+use Rattle.endpoints.specs.Layouts.{layout_of}
 use Rattle.consent.specs.History.{Event, Change}
 use Rattle.consent.specs.History.Change.{Consented, CodeGiven, Issued, Spent, FamilyEnded, HookSet, HookGone}
 use Rattle.answers.specs.Setting.{HostSays}

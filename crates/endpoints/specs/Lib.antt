@@ -1,3 +1,4 @@
+pub mod Layouts
 pub mod Hosts
 pub mod Authorize
 pub mod ConsentPath

@@ -1,17 +1,17 @@
 -- What becomes of a change that happened before, when it is made again.
-use Rattle.std.specs.Prelude.{◌≡◌, ◌≢◌, ◌<◌, ℕ, List, [], ◌∷◌, Bool, Option, Some, None, is_some, option_map, if◌then◌else◌}
+use Rattle.std.specs.Prelude.{◌≡◌, ◌<◌, ℕ, List, [], ◌∷◌, Bool, Option, Some, None, is_some, option_map, if◌then◌else◌}
 use Rattle.clients.specs.RegistryRecord.{RegistryRecord}
 use Rattle.consent.specs.Changes.{change_of}
 use Rattle.consent.specs.History.{Event, Change as Happening, grant_at, has_consent_room, with_change, CanFollow}
 use Rattle.consent.specs.declared.change.Change.{Change}
 use Rattle.consent.specs.declared.change.Change.TheVariants.{Consented, CodeGiven, IssuedAlone, Issued, FamilyEnded, HookSet, HookGone}
-use Rattle.hook_host.specs.Versions.{layout_of}
+use Rattle.endpoints.specs.Layouts.{layout_of}
 use Rattle.hook_host.specs.declared.host.HookHost.{Ghosts as Hosting}
 use Rattle.token_store.specs.Fits.{refusal}
 use Rattle.endpoints.specs.Bounded.{IsRightChange}
 use Rattle.endpoints.specs.Server.{SeenServer, FitsServer}
 use Rattle.endpoints.specs.declared.redo.RedoFault.{RedoFault}
-use Rattle.endpoints.specs.declared.redo.RedoFault.TheVariants.{MomentBack, Unknown, Store, ConsentsFull, HookVersion, Hook, Memory}
+use Rattle.endpoints.specs.declared.redo.RedoFault.TheVariants.{MomentBack, Unknown, Store, ConsentsFull, Hook, Memory}
 
 -- Whatever history the server fitted, the change means what may come next, and where that is right, the server then fits the
 -- history with it, at its moment.
@@ -37,10 +37,6 @@ history_refusal history moment (Issued of token) =
 history_refusal history moment (FamilyEnded of) = unless_known (is_some (grant_at history of moment)) None
 history_refusal history moment _ = None
 
--- no record of the version is handed to hooks
-abbrev pub IsUnversioned : ℕ → Type 0
-IsUnversioned version = (version ≢ 1) × (version ≢ 2)
-
 -- each history that the server fits goes on with it
 abbrev pub FollowsEach : {H : Type 0} → Hosting H → SeenServer H → ℕ → Change → Type 0
 FollowsEach {H = H} hosting server moment change =
@@ -49,7 +45,6 @@ FollowsEach {H = H} hosting server moment change =
 
 -- why the host does not make its change
 abbrev pub RefusesHookChange : {H : Type 0} → Hosting H → H → Change → RedoFault → Type 0
-RefusesHookChange hosting host (HookSet name version code) HookVersion = IsUnversioned version
 RefusesHookChange hosting host (HookSet name version code) (Hook fault) = hosting.refuses_install host name.now (layout_of version) code.now fault
 RefusesHookChange hosting host (HookGone name) (Hook fault) = hosting.refuses_remove host name.now fault
 RefusesHookChange hosting host _ Memory = Unit {0}
@@ -60,7 +55,6 @@ RefusesHookChange hosting host _ _ = ⊥
 abbrev pub RefusesRedo : {H : Type 0} → Hosting H → SeenServer H → ℕ → Change → RedoFault → Type 0
 RefusesRedo hosting server moment change MomentBack = moment < server.greatest
 RefusesRedo hosting server moment change Memory = Unit {0}
-RefusesRedo hosting server moment change HookVersion = RefusesHookChange hosting server.host change HookVersion
 RefusesRedo hosting server moment change (Hook fault) = RefusesHookChange hosting server.host change (Hook fault)
 RefusesRedo {H = H} hosting server moment change fault =
     (rules : RegistryRecord) (first : H) (history : List Event) (m : ℕ) → FitsServer hosting.installs hosting.removes server rules first history m →

@@ -4,7 +4,7 @@ use Rattle.consent.specs.Changes.{as_list}
 use Rattle.consent.specs.History as history
 use Rattle.consent.specs.declared.change.Change.{Change}
 use Rattle.consent.specs.declared.change.Change.TheVariants.{HookSet, HookGone}
-use Rattle.hook_host.specs.Versions.{layout_of}
+use Rattle.endpoints.specs.Layouts.{layout_of}
 use Rattle.consent.specs.declared.change.Changes.TheVariants.{Nothing}
 use Rattle.hook_host.specs.declared.fault.HookFault.{HookFault}
 use Rattle.hook_host.specs.declared.fault.HookFault.TheVariants.{Memory}

@@ -2,7 +2,6 @@
 ghost use Rattle.std.specs.Prelude.{◌≡◌, ℕ, List, IfOk, codes, option_and_then, option_map};
 ghost use Rattle.params.specs.Form.{value_sent};
 ghost use Rattle.consent.specs.History.{Change};
-ghost use Rattle.hook_host.specs.Versions.{version_of};
 ghost use Rattle.messages.specs.Asked.{asked_of};
 ghost use Rattle.answers.specs.Halts.{LeadsOrHalts};
 ghost use Rattle.answers.specs.Outcomes.{Outcome};
@@ -12,12 +11,12 @@ ghost use Rattle.endpoints.specs.HookAsking.{hook_set_asked};
 ghost use Rattle.endpoints.specs.HookPaths.{hook_gone, hook_set, hook_set_by, version_asked, with_operator};
 ghost use Rattle.endpoints.specs.Ruling.{IsHookRefused, RulesHooks};
 
+use crate::redo::layout_of;
 use crate::ruling::{Checked, Ruling};
 use answers::{Answer, Decision, Halt};
 use clients::Registry;
-use consent::{Change, Changes};
+use consent::{Change, Changes, RecordVersion};
 use hook_host::{HookFault, HookHost};
-use insn::layout::Layout;
 use messages::{ErrorName, Request};
 use params::Params;
 
@@ -32,20 +31,20 @@ pub(crate) fn operator(rules: &Registry, request: &Request<'_>) -> Result<(), Ha
     }
 }
 
-// A hook to be installed: its name, and the layout of the record that it reads.
+// A hook to be installed: its name, and the version of the record that it reads.
 #[derive(Clone, Copy)]
 struct HookAsked<'a> {
     name: &'a str,
-    layout: Layout,
+    version: RecordVersion,
 }
 
-// The layout of the record that the hook reads.
-fn layout_asked(params: &Params) -> Option<Layout>
-    ensures { option_map version_of result ≡ version_asked (value_sent (codes "record") params.now) }
+// The version of the record that the hook reads.
+fn version_asked(params: &Params) -> Option<RecordVersion>
+    ensures { result ≡ version_asked (value_sent (codes "record") params.now) }
 {
     match params.get("record") {
-        None | Some("1") => Some(Layout::V1),
-        Some("2") => Some(Layout::V2),
+        None | Some("1") => Some(RecordVersion::First),
+        Some("2") => Some(RecordVersion::Second),
         Some(_) => None,
     }
 }
@@ -56,18 +55,8 @@ fn hook_asked(params: &Params) -> Option<HookAsked<'_>>
         ≡ option_and_then (hook_set params.now code) (value_sent (codes "name") params.now) }
 {
     let name = params.get("name")?;
-    let layout = layout_asked(params)?;
-    Some(HookAsked { name, layout })
-}
-
-// The number of a layout.
-fn version_of(layout: Layout) -> u64
-    ensures { result ≡ version_of layout }
-{
-    match layout {
-        Layout::V1 => 1,
-        Layout::V2 => 2,
-    }
+    let version = version_asked(params)?;
+    Some(HookAsked { name, version })
 }
 
 // The host has that fault, with which nothing happens.
@@ -99,13 +88,13 @@ pub(crate) fn install<'c, H: HookHost>(
     let Some(asked) = hook_asked(params) else {
         return Err(Halt::Refuse(ErrorName::InvalidRequest));
     };
-    match host.check(asked.name, asked.layout, code) {
+    match host.check(asked.name, layout_of(asked.version), code) {
         Ok(checked) => Ok(Ruling {
             decision: Decision {
                 answer: Answer::HookDone { name: asked.name },
                 changes: Changes::One(Change::HookSet {
                     name: asked.name,
-                    version: version_of(asked.layout),
+                    version: asked.version,
                     code,
                 }),
             },

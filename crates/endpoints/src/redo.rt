@@ -1,16 +1,16 @@
 //! A change that happened before is made again.
-ghost use Rattle.std.specs.Prelude.{◌≡◌, ℕ, List, ◌∷◌, [], Some, IfOk, IfErr, IfSome, IfNone, is_some, option_map};
+ghost use Rattle.std.specs.Prelude.{◌≡◌, ℕ, List, ◌∷◌, [], Some, IfOk, IfErr, IfSome, is_some, option_map};
 ghost use Rattle.consent.specs.Changes.{as_list};
 ghost use Rattle.consent.specs.Consents.{FitsConsents};
 ghost use Rattle.consent.specs.History.{Event, grant_at};
-ghost use Rattle.hook_host.specs.Versions.{layout_of};
+ghost use Rattle.endpoints.specs.Layouts.{layout_of};
 ghost use Rattle.token_store.specs.Fits.{FitsStore, refusal};
 ghost use Rattle.endpoints.specs.FaultTexts.{redo_fault_text, of_hook_fault};
-ghost use Rattle.endpoints.specs.Redo.{IsOfHistory, IsUnversioned, RefusesHookChange, history_refusal};
+ghost use Rattle.endpoints.specs.Redo.{IsOfHistory, RefusesHookChange, history_refusal};
 ghost use Rattle.endpoints.specs.Ruling.{CanMake};
 
 use crate::ruling::Checked;
-use consent::{Change, Changes, CodeFacts, Consents, Moment};
+use consent::{Change, Changes, CodeFacts, Consents, Moment, RecordVersion};
 use hook_host::{HookFault, HookHost};
 use insn::layout::Layout;
 use std::fmt::{self, Display, Formatter, Write};
@@ -27,8 +27,6 @@ pub enum RedoFault {
     Store(StoreFault),
     /// As many consents to something are kept as may be.
     ConsentsFull,
-    /// No record of that version is handed to hooks.
-    HookVersion,
     /// The host refuses the change of its hooks.
     Hook(HookFault),
     /// Memory was refused.
@@ -44,7 +42,6 @@ impl Display for RedoFault {
             RedoFault::Unknown => write!(f, "Unknown"),
             RedoFault::Store(fault) => write!(f, "Store {fault}"),
             RedoFault::ConsentsFull => write!(f, "ConsentsFull"),
-            RedoFault::HookVersion => write!(f, "HookVersion"),
             RedoFault::Hook(fault) => write!(f, "Hook {fault}"),
             RedoFault::Memory => write!(f, "Memory"),
         }
@@ -175,15 +172,13 @@ pub(crate) fn history_refusal(
     }
 }
 
-/// The layout of a version.
-pub fn layout_of(version: u64) -> Option<Layout>
-    ensures there { IfSome result (λ layout. layout ≡ layout_of version) }
-    ensures none { IfNone result (IsUnversioned version) }
+/// The layout of a version of the record.
+pub fn layout_of(version: RecordVersion) -> Layout
+    ensures { result ≡ layout_of version }
 {
     match version {
-        1 => Some(Layout::V1),
-        2 => Some(Layout::V2),
-        _ => None,
+        RecordVersion::First => Layout::V1,
+        RecordVersion::Second => Layout::V2,
     }
 }
 
@@ -201,10 +196,7 @@ pub(crate) fn check_hook<H: HookHost>(
             version,
             code,
         } => {
-            let Some(layout) = layout_of(*version) else {
-                return Err(RedoFault::HookVersion);
-            };
-            let hook = host.check(name, layout, code)?;
+            let hook = host.check(name, layout_of(*version), code)?;
             Ok(Checked::Installs(hook))
         }
         Change::HookGone { name } => {

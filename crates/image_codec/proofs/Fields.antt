@@ -2,9 +2,10 @@
 use Rattle.std.proofs.Common.{◌≡◌, ℕ, zero, suc, List, [], ◌∷◌, ◌++◌, Bool, true, false, Option, None, Some, length, Ok, refl, ap, subst, ◌∙◌, append_assoc}
 use Rattle.std.specs.Int.{w32, w64}
 use Rattle.consent.specs.declared.grant.TokenKind.TheVariants.{Access, Refresh}
-use Rattle.change_codec.specs.Spelling.{short, wide, counted, FitsFourBytes, FitsEightBytes, IsParty, IsMoment, IsDigest, IsText}
-use Rattle.change_codec.specs.Reading.{big_endian_at, part_at, party_at, moment_at, counted_at, text_at}
-use Rattle.change_codec.specs.FieldLaws.{IsBytes, IsBytes-rest, ok_is, TakesFront, Takes-then, short_takes, short_again, wide_takes, wide_again, party_takes, party_again, moment_takes, moment_again, part_takes, part_again, counted_takes, counted_again, text_takes, text_again}
+use Rattle.consent.specs.declared.record_version.RecordVersion.{RecordVersion}
+use Rattle.change_codec.specs.Spelling.{short, wide, counted, version_spelling, FitsFourBytes, FitsEightBytes, IsParty, IsMoment, IsDigest, IsText}
+use Rattle.change_codec.specs.Reading.{big_endian_at, part_at, party_at, moment_at, counted_at, text_at, version_at}
+use Rattle.change_codec.specs.FieldLaws.{IsBytes, IsBytes-rest, ok_is, TakesFront, Takes-then, short_takes, short_again, wide_takes, wide_again, party_takes, party_again, moment_takes, moment_again, part_takes, part_again, counted_takes, counted_again, text_takes, text_again, version_takes, version_again}
 use Rattle.consent.specs.declared.kept_consent.KeptConsent.{KeptConsent}
 use Rattle.image_codec.specs.Facts.{ClientFact, KindFact, Code, Token, RecordFact, HookFact}
 use Rattle.image_codec.specs.Spelling.{mark, optional, client_spelling, kind_spelling, home_spelling, grant_spelling, marks_spelling, record_spelling, consent_spelling, hook_spelling, ClientFits, KindFits, OptionFits, RecordFits, ConsentFits, HookFits}
@@ -157,22 +158,28 @@ consent_again c rest fits =
 pub consent_reads : Reads consent_at consent_spelling ConsentFits
 consent_reads = record { takes = consent_takes; again = consent_again }
 
+abbrev IsVersion : RecordVersion → Type 0
+IsVersion version = Unit {0}
+
+version_reads : Reads version_at version_spelling IsVersion
+version_reads = record { takes = λ bytes x are e. (version_takes bytes x are e, tt); again = λ version rest fits. version_again version rest }
+
 hook_takes : (bytes : List ℕ) (x : HookFact × List ℕ) → IsBytes bytes → hook_at bytes ≡ Ok x → TakesFront bytes (hook_spelling x.0) x.1 × HookFits x.0
 unfolding hook_at
 hook_takes bytes x are e =
     let a = step _ _ _ text_reads bytes _ x are e in
-    let b = step _ _ _ wide_reads a.rest _ x a.took.rest_fits a.next in
+    let b = step _ _ _ version_reads a.rest _ x a.took.rest_fits a.next in
     let c = step _ _ _ counted_reads b.rest _ x b.took.rest_fits b.next in
     let made : HookFact × List ℕ = (record { name = a.value; version = b.value; code = c.value }, c.rest) in
-    let bc = Takes-then a.rest (wide b.value) b.rest (counted c.value) c.rest b.took c.took in
-    let ac = Takes-then bytes (counted a.value) a.rest (wide b.value ++ counted c.value) c.rest a.took bc in
-    subst (λ (y : HookFact × List ℕ). TakesFront bytes (hook_spelling y.0) y.1 × HookFits y.0) {x = made} (ok_is made x c.next) (ac, (a.fits, b.fits, c.fits))
+    let bc = Takes-then a.rest (version_spelling b.value) b.rest (counted c.value) c.rest b.took c.took in
+    let ac = Takes-then bytes (counted a.value) a.rest (version_spelling b.value ++ counted c.value) c.rest a.took bc in
+    subst (λ (y : HookFact × List ℕ). TakesFront bytes (hook_spelling y.0) y.1 × HookFits y.0) {x = made} (ok_is made x c.next) (ac, (a.fits, c.fits))
 
 hook_again : (h : HookFact) (rest : List ℕ) → HookFits h → hook_at (hook_spelling h ++ rest) ≡ Ok (h, rest)
 unfolding hook_at
 hook_again h rest fits =
-    let flat : hook_spelling h ++ rest ≡ counted h.name ++ (wide h.version ++ (counted h.code ++ rest)) = simp append_assoc in
-    ap hook_at flat ∙ rw (text_again h.name (wide h.version ++ (counted h.code ++ rest)) fits.0, wide_again h.version (counted h.code ++ rest) fits.1, counted_again h.code rest fits.2) refl
+    let flat : hook_spelling h ++ rest ≡ counted h.name ++ (version_spelling h.version ++ (counted h.code ++ rest)) = simp append_assoc in
+    ap hook_at flat ∙ rw (text_again h.name (version_spelling h.version ++ (counted h.code ++ rest)) fits.0, version_again h.version (counted h.code ++ rest), counted_again h.code rest fits.1) refl
 
 pub hook_reads : Reads hook_at hook_spelling HookFits
 hook_reads = record { takes = hook_takes; again = hook_again }

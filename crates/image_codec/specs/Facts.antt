@@ -1,6 +1,7 @@
 -- What an image says, without where its texts lie in memory.
 use Rattle.std.specs.Prelude.{ℕ, List, Bool, Option, map}
 use Rattle.consent.specs.declared.grant.TokenKind.{TokenKind}
+use Rattle.consent.specs.declared.record_version.RecordVersion.{RecordVersion}
 use Rattle.token_store.specs.declared.image.KeptKind.{KeptKind}
 use Rattle.token_store.specs.declared.image.KeptKind.TheVariants as kept
 use Rattle.token_store.specs.declared.image.KeptRecord.{KeptRecord}
@@ -43,7 +44,7 @@ pub record RecordFact : Type 0 where
 
 pub record HookFact : Type 0 where
   pub name : List ℕ
-  pub version : ℕ
+  pub version : RecordVersion
   pub code : List ℕ
 
 pub record ImageFact : Type 0 where

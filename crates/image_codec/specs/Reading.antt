@@ -4,7 +4,7 @@ use Rattle.std.specs.Int.{w32, w64}
 use Rattle.consent.specs.declared.grant.TokenKind.TheVariants.{Access, Refresh}
 use Rattle.change_codec.specs.declared.fault.ChangeFault.{ChangeFault}
 use Rattle.change_codec.specs.declared.fault.ChangeFault.TheVariants as faults
-use Rattle.change_codec.specs.Reading.{◌>>=◌, big_endian_at, part_at, party_at, moment_at, counted_at, text_at}
+use Rattle.change_codec.specs.Reading.{◌>>=◌, big_endian_at, part_at, party_at, moment_at, counted_at, text_at, version_at}
 use Rattle.consent.specs.declared.kept_consent.KeptConsent.{KeptConsent}
 use Rattle.image_codec.specs.Facts.{ClientFact, RulesFact, KindFact, Code, Token, RecordFact, HookFact, ImageFact}
 
@@ -125,7 +125,7 @@ consent_at bytes = do
 unfoldable pub hook_at : List ℕ → Result (HookFact × List ℕ) ChangeFault
 hook_at bytes = do
   name ← text_at bytes
-  version ← big_endian_at w64 name.1
+  version ← version_at name.1
   code ← counted_at version.1
   Ok (record { name = name.0; version = version.0; code = code.0 }, code.1)
 

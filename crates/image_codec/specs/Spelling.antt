@@ -1,7 +1,7 @@
 -- The one spelling of each image and of each rules, and what has one.
 use Rattle.std.specs.Prelude.{◌++◌, ◌∷◌, [], ℕ, List, Bool, true, false, Option, None, Some, length}
 use Rattle.std.specs.List.{flat_map, AllByRecursion}
-use Rattle.change_codec.specs.Spelling.{wide, short, counted, kind_byte, FitsEightBytes, FitsFourBytes, IsParty, IsMoment, IsDigest, IsText}
+use Rattle.change_codec.specs.Spelling.{wide, short, counted, kind_byte, version_spelling, FitsEightBytes, FitsFourBytes, IsParty, IsMoment, IsDigest, IsText}
 use Rattle.consent.specs.declared.kept_consent.KeptConsent.{KeptConsent}
 use Rattle.image_codec.specs.Facts.{ClientFact, RulesFact, KindFact, Code, Token, RecordFact, HookFact, ImageFact}
 
@@ -51,7 +51,7 @@ abbrev pub consent_spelling : KeptConsent → List ℕ
 consent_spelling c = short c.owner ++ (short c.client ++ wide c.mask)
 
 abbrev pub hook_spelling : HookFact → List ℕ
-hook_spelling h = counted h.name ++ (wide h.version ++ counted h.code)
+hook_spelling h = counted h.name ++ (version_spelling h.version ++ counted h.code)
 
 abbrev pub image_fields : ImageFact → List ℕ
 image_fields i =
@@ -101,7 +101,7 @@ abbrev pub ConsentFits : KeptConsent → Type 0
 ConsentFits c = IsParty c.owner × IsParty c.client × FitsEightBytes c.mask
 
 abbrev pub HookFits : HookFact → Type 0
-HookFits h = IsText h.name × FitsEightBytes h.version × FitsFourBytes (length h.code)
+HookFits h = IsText h.name × FitsFourBytes (length h.code)
 
 abbrev pub ImageFits : ImageFact → Type 0
 ImageFits i =

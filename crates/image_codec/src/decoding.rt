@@ -7,7 +7,9 @@ ghost use Rattle.image_codec.specs.Spelling.{ImageFits, RulesFit, image_spelling
 ghost use Rattle.image_codec.specs.Reading.{alone_at, client_fact_at, code_kind_at, consent_at, hook_at, image_at, image_reading, kind_at, listed_at, yes_or_no_at, optional_at, record_at, rules_at, rules_reading, some_at};
 
 use crate::image::{ClientRules, Image, KeptHook, Rules};
-use change_codec::field::{counted_of, digest_of, moment_of, party_of, short_of, text_of, wide_of};
+use change_codec::field::{
+    counted_of, digest_of, moment_of, party_of, short_of, text_of, version_of, wide_of,
+};
 use change_codec::{ChangeFault, DecodeFault};
 use consent::{ClientNo, KeptConsent, Moment, OwnerNo, TokenKind};
 use std::alloc::Global;
@@ -232,7 +234,7 @@ fn hook_of(bytes: &[u8]) -> Result<(KeptHook, &[u8]), DecodeFault>
     ensures { GivesReading (λ x. (hook_fact x.0, x.1.now)) result (hook_at bytes.now) }
 {
     let (name, rest) = text_of(bytes)?;
-    let (version, rest) = wide_of(rest)?;
+    let (version, rest) = version_of(rest)?;
     let (code, rest) = counted_of(rest)?;
     let hook = KeptHook {
         name,

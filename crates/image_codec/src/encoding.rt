@@ -10,7 +10,7 @@ use crate::image::{ClientRules, Image, KeptHook, Rules};
 use change_codec::EncodeFault;
 use change_codec::field::{
     is_short, put_client, put_counted, put_digest, put_moment, put_owner, put_short, put_text,
-    put_wide,
+    put_version, put_wide,
 };
 use consent::{KeptConsent, OwnerNo, TokenKind};
 use std::alloc::AllocError;
@@ -328,7 +328,7 @@ fn put_hook(out: &mut Vec<u8>, hook: &KeptHook) -> Result<(), AllocError>
     ensures fits { OnOk result (HookFits (hook_fact hook.now)) }
 {
     put_text(out, hook.name)?;
-    put_wide(out, hook.version)?;
+    put_version(out, hook.version)?;
     put_counted(out, hook.code)?;
     Ok(())
 }

@@ -1,6 +1,6 @@
 //! What is left of a server when what has expired goes.
 
-use consent::{KeptConsent, Moment};
+use consent::{KeptConsent, Moment, RecordVersion};
 use token_store::KeptRecord;
 
 /// A client by its name, with the scope that it may be allowed.
@@ -25,11 +25,11 @@ pub struct Rules<'a> {
     pub refresh_life: u32,
 }
 
-/// A hook by its name, with its version and its code.
+/// A hook by its name, with the version of its record and its code.
 #[derive(Clone, Copy)]
 pub struct KeptHook<'a> {
     pub name: &'a str,
-    pub version: u64,
+    pub version: RecordVersion,
     pub code: &'a [u8],
 }
 

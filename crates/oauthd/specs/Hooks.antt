@@ -6,7 +6,7 @@ use Rattle.hook_host.specs.declared.fault.HookFault.{HookFault}
 use Rattle.hook_host.specs.declared.fault.HookFault.TheVariants as memory
 use Rattle.oauthd.specs.declared.fault.PerformFault.{PerformFault}
 use Rattle.oauthd.specs.declared.fault.PerformFault.TheVariants.{CannotRead, Hook, OutOfMemory}
-use Rattle.hook_host.specs.Versions.{version_of}
+use Rattle.endpoints.specs.Layouts.{version_of}
 use Rattle.image_codec.specs.Facts.{HookFact}
 use Rattle.oauthd.specs.declared.hook_files.HookCode.{HookCode}
 use Rattle.oauthd.specs.declared.hook_files.HookRead.{HookRead}

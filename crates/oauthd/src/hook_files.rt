@@ -1,7 +1,7 @@
 //! Hooks in files, which a server has before it listens.
 
 ghost use Rattle.std.specs.Prelude.{◌≡◌, [], Some, OnOk, IfOk, IfErr, map};
-ghost use Rattle.hook_host.specs.Versions.{version_of};
+ghost use Rattle.endpoints.specs.Layouts.{version_of};
 ghost use Rattle.image_codec.specs.Facts.{hook_fact};
 ghost use Rattle.start_words.specs.Options.{hook_said};
 ghost use Rattle.oauthd.specs.Hooks.{AreFactsOf, hook_fact_of, HoldsCode, in_file, IsFactOf, RefusesHook, RefusesHooks, said_of, TakesHook, TakesHooks};
@@ -9,6 +9,7 @@ ghost use Rattle.oauthd.specs.declared.fault.PerformFault.TheVariants.{OutOfMemo
 
 use crate::fault::PerformFault;
 use crate::named_file::bytes_at;
+use consent::RecordVersion;
 use hook_chain::Chain;
 use hook_commands::bytes_of_hex;
 use hook_host::{HookFault, HookHost};
@@ -54,13 +55,13 @@ pub struct HookCode<'w> {
     pub code: Vec<u8>,
 }
 
-/// The version by whose number a state file names the layout of a hook's record.
-fn version_of(layout: Layout) -> u64
+/// The version of the layout.
+fn version_of(layout: Layout) -> RecordVersion
     ensures { result ≡ version_of layout }
 {
     match layout {
-        Layout::V1 => 1,
-        Layout::V2 => 2,
+        Layout::V1 => RecordVersion::First,
+        Layout::V2 => RecordVersion::Second,
     }
 }
 

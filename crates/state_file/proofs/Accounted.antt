@@ -63,7 +63,7 @@ of_changes number (state.Hook name fault) of = absurd of
 pub of_image : (number : ℕ) (batches : List (List ℕ)) (fault : StateFault) → RefusesImage batches fault → RefusesAccount (fault_in number fault)
 of_image number batches state.Memory of = tt
 of_image number batches (state.Spelling fault) of = tt
-of_image number batches (state.Follows fault) of = tt
+of_image number batches (state.Follows fault) of = absurd of
 of_image number batches (state.Image fault) of = tt
 of_image number batches (state.Hook name fault) of = tt
 of_image number batches state.NoRules of = absurd of

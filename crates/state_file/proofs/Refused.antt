@@ -1,16 +1,23 @@
 -- Why rules are refused, over a batch and over all.
-use Rattle.std.proofs.Common.{◌≡◌, ◌<◌, ◌+◌, ◌++◌, ◌∙◌, ℕ, List, ◌∷◌, None, inl, inr, map, take, drop, length, get_or, sym, ap}
+use Rattle.std.proofs.Common.{◌≡◌, ◌<◌, ◌+◌, ◌++◌, ◌∙◌, ℕ, List, ◌∷◌, None, Some, inl, inr, map, take, drop, length, get_or, refl, sym, ap, arith}
+use Rattle.std.specs.Borrow.{Bor}
 use Rattle.std.proofs.lemmas.List.{drop_more, map-append, take-append-drop}
+use Rattle.clients.specs.RegistryRecord.{RegistryRecord}
+use Rattle.consent.specs.History.{Event}
+use Rattle.consent.specs.declared.change.Change.TheVariants.{HookSet}
+use Rattle.consent.specs.declared.record_version.RecordVersion.{RecordVersion}
+use Rattle.endpoints.specs.Redo.{RefusesRedo, history_refusal}
+use Rattle.endpoints.specs.Server.{FitsServer}
 use Rattle.endpoints.specs.declared.redo.RedoFault.{RedoFault}
 use Rattle.endpoints.specs.declared.redo.RedoFault.TheVariants as redoing
+use Rattle.hook_host.specs.declared.fault.HookFault.{HookFault}
 use Rattle.hook_host.specs.declared.host.HookHost.{Ghosts as Hosting}
 use Rattle.image_codec.specs.Facts.{HookFact, ImageFact, RulesFact, hook_fact}
 use Rattle.image_codec.specs.Spelling.{ImageFits, image_spelling}
 use Rattle.image_codec.specs.declared.image.KeptHook.{KeptHook}
 use Rattle.state_file.specs.Comparing.{AreNarrower, IsUnread, RefuseBeside, RefuseRules, TakesRules}
 use Rattle.state_file.specs.FaultTexts.{of_redoing}
-use Rattle.state_file.specs.Hooks.{hook_named}
-use Rattle.state_file.specs.Resuming.{IsOfChanges, IsOfImage, RefusesSetting, RefusesImage, RefusesResume}
+use Rattle.state_file.specs.Resuming.{FitsNone, IsOfChanges, IsOfImage, RefusesSetting, RefusesImage, RefusesResume}
 use Rattle.state_file.specs.Telling.{TellsIn}
 use Rattle.state_file.specs.declared.fault.StateFault.{StateFault}
 use Rattle.state_file.specs.declared.fault.StateFault.TheVariants as state
@@ -54,16 +61,24 @@ unread batch now (state.Hook name fault) is = absurd is
 
 -- WHY A HOOK IS REFUSED
 
-module _ {H : Type 0} (hosting : Hosting H) (restored : Restored H) (hook : HookFact) where
-  -- one of a new name that is not made
-  pub not_made : hook_named hook.name restored.hooks ≡ None → (fault : RedoFault) → RefusesSetting hosting restored hook (of_redoing fault)
-  not_made none redoing.MomentBack = none
-  not_made none redoing.Unknown = none
-  not_made none (redoing.Store fault) = none
-  not_made none redoing.ConsentsFull = none
-  not_made none redoing.HookVersion = none
-  not_made none (redoing.Hook fault) = none
-  not_made none redoing.Memory = tt
+module _ {H : Type 0} (hosting : Hosting H) (restored : Restored H) (name : Bor (List ℕ)) (version : RecordVersion) (code : Bor (List ℕ)) where
+  -- every history goes on with a hook
+  follows_each : (fault : RedoFault) →
+      ((rules : RegistryRecord) (first : H) (history : List Event) (m : ℕ) → FitsServer hosting.installs hosting.removes restored.server rules first history m →
+      history_refusal history restored.moment (HookSet name version code) ≡ Some fault) →
+      FitsNone hosting restored
+  follows_each fault is = λ rules first history fits. let no : None ≡ Some fault = is rules first history restored.moment fits.0 in absurd (cc)
+
+  -- one that the host does not refuse, and that is not made
+  pub not_made : (hook : HookFact) (fault : RedoFault) → RefusesRedo hosting restored.server restored.moment (HookSet name version code) fault →
+      ((refused : HookFault) → fault ≡ redoing.Hook refused → ⊥) → RefusesSetting hosting restored hook (of_redoing fault)
+  not_made hook redoing.MomentBack back other = λ rules first history fits.
+      let less : restored.moment < restored.server.greatest = back in let none : ⊥ = omega (arith, less, fits.0.greatest_is) in none
+  not_made hook redoing.Unknown is other = follows_each redoing.Unknown is
+  not_made hook (redoing.Store fault) is other = follows_each (redoing.Store fault) is
+  not_made hook redoing.ConsentsFull is other = follows_each redoing.ConsentsFull is
+  not_made hook (redoing.Hook fault) is other = absurd (other fault refl)
+  not_made hook redoing.Memory is other = tt
 
 -- the hooks before one, itself, and those behind it
 pub parted : (hooks : List KeptHook) (i : ℕ) (d : KeptHook) → i < length hooks → map hook_fact hooks ≡ map hook_fact (take i hooks) ++ hook_fact (get_or hooks i d) ∷ map hook_fact (drop (i + 1) hooks)
@@ -103,7 +118,7 @@ no_server batches now state.OwnerMoved takes refuses = absurd refuses
 no_server batches now (state.ClientMoved name) takes refuses = absurd refuses
 no_server batches now (state.ClientNarrowed name) takes refuses = absurd refuses
 no_server batches now state.LifeNarrowed takes refuses = absurd refuses
-no_server batches now (state.Follows fault) takes refuses = takes
+no_server batches now (state.Follows fault) takes refuses = absurd refuses
 no_server batches now (state.Image fault) takes refuses = (takes, refuses)
 no_server batches now (state.HookDiffers name) takes refuses = absurd refuses
 no_server batches now (state.Hook name fault) takes refuses = (takes, refuses)
@@ -122,7 +137,7 @@ not_made_of batches later batch image are fits is state.OwnerMoved of = absurd o
 not_made_of batches later batch image are fits is (state.ClientMoved name) of = absurd of
 not_made_of batches later batch image are fits is (state.ClientNarrowed name) of = absurd of
 not_made_of batches later batch image are fits is state.LifeNarrowed of = absurd of
-not_made_of batches later batch image are fits is (state.Follows fault) of = tt
+not_made_of batches later batch image are fits is (state.Follows fault) of = absurd of
 not_made_of batches later batch image are fits is (state.Image fault) of = (image, later, (fits, are ∙ ap (λ (b : List ℕ). b ∷ later) is))
 not_made_of batches later batch image are fits is (state.HookDiffers name) of = absurd of
 not_made_of batches later batch image are fits is (state.Hook name fault) of = (image, later, (fits, are ∙ ap (λ (b : List ℕ). b ∷ later) is))

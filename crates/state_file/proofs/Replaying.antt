@@ -1,6 +1,7 @@
 -- A chain of hooks that is made again of what is left of them.
 use Rattle.std.proofs.Common.{◌≡◌, ℕ, List, [], ◌∷◌, ◌++◌, Bool, true, false, refl, sym, ap, ◌∙◌, subst, append_assoc, append-nil}
 use Rattle.std.specs.Str.{bytes_eq}
+use Rattle.consent.specs.declared.record_version.RecordVersion.{RecordVersion}
 use Rattle.consent.specs.History.{Event, Change}
 use Rattle.consent.specs.History.Change.{Consented, CodeGiven, Issued, Spent, FamilyEnded, HookSet, HookGone}
 use Rattle.change_codec.specs.Keeping.{IsFrontOf}
@@ -8,7 +9,7 @@ use Rattle.encoding.proofs.Reading.{one_program}
 use Rattle.endpoints.specs.Hosts.{HostStep, HostRun}
 use Rattle.hook_chain.specs.Chains.{Named, IsAcceptedCode, IsInstalled, IsRemoved, without_name}
 use Rattle.hook_chain.specs.contracts.chain.ChainHookHost.TheImpl as chain
-use Rattle.hook_host.specs.Versions.{layout_of}
+use Rattle.endpoints.specs.Layouts.{layout_of}
 use Rattle.image_codec.specs.Facts.{HookFact}
 use Rattle.state_file.specs.Hooks.{hooks_after, hooks_set_in, hooks_with, without_hook}
 use Rattle.state_file.specs.Resuming.{Installs, Replays}
@@ -40,7 +41,7 @@ has_without name (n ∷ ns) (h ∷ hs) has =
     has_passed name n ns h hs (bytes_eq name n.name) refl (ap (bytes_eq name) (sym has.0)) has (has_without name ns hs has.2)
 
 -- what is installed is behind them
-installed_has : (old new : List Named) (hooks : List HookFact) (name : List ℕ) (version : ℕ) (code : List ℕ) → IsInstalled old name (layout_of version) code new → Has old hooks →
+installed_has : (old new : List Named) (hooks : List HookFact) (name : List ℕ) (version : RecordVersion) (code : List ℕ) → IsInstalled old name (layout_of version) code new → Has old hooks →
     Has new (hooks ++ record { name = name; version = version; code = code } ∷ [])
 installed_has old new hooks name version code step has =
     subst (λ (ns : List Named). Has ns (hooks ++ record { name = name; version = version; code = code } ∷ [])) (sym step.last)

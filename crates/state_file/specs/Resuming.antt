@@ -9,7 +9,7 @@ use Rattle.consent.specs.History.{Event}
 use Rattle.endpoints.specs.Bounded.{AllRight}
 use Rattle.endpoints.specs.Hosts.{HostRun}
 use Rattle.endpoints.specs.Server.{SeenServer, FitsServer, Notes, AreNoted}
-use Rattle.hook_host.specs.Versions.{layout_of}
+use Rattle.endpoints.specs.Layouts.{layout_of}
 use Rattle.hook_host.specs.declared.host.HookHost.{Ghosts as Hosting}
 use Rattle.image_codec.specs.Facts.{RulesFact, HookFact, ImageFact}
 use Rattle.state_file.specs.Comparing.{RefuseRules, TakesRules}
@@ -95,7 +95,6 @@ AnswersFor hosting left rules first restored = OfRight hosting left rules first 
 abbrev pub IsOfImage : StateFault → Type 0
 IsOfImage Memory = Unit {0}
 IsOfImage (Spelling fault) = Unit {0}
-IsOfImage (Follows fault) = Unit {0}
 IsOfImage (Image fault) = Unit {0}
 IsOfImage (Hook name fault) = Unit {0}
 IsOfImage _ = ⊥
@@ -138,7 +137,12 @@ Sets {H = H} hosting old hooks new =
     FitsRestored hosting new rules first (with_hooks old.moment history hooks) × AreSet hooks (with_hooks old.moment history hooks)
     × AreNoted old.server new.server history (with_hooks old.moment history hooks)
 
--- why the hook is not set: another of its name is, or the host refuses it, or no record of its version is handed to hooks
+-- the server fits no history
+abbrev pub FitsNone : {H : Type 0} → Hosting H → Restored H → Type 0
+FitsNone {H = H} hosting restored =
+    (rules : RegistryRecord) (first : H) (history : List Event) → FitsRestored hosting restored rules first history → ⊥
+
+-- why the hook is not set: another of its name is, or the host refuses it, or the server is none of any history
 abbrev pub RefusesSetting : {H : Type 0} → Hosting H → Restored H → HookFact → StateFault → Type 0
 RefusesSetting hosting restored hook Memory = Unit {0}
 RefusesSetting hosting restored hook (HookDiffers name) =
@@ -146,7 +150,7 @@ RefusesSetting hosting restored hook (HookDiffers name) =
 RefusesSetting hosting restored hook (Hook name fault) =
     (string_bytes name ≡ hook.name) × (hook_named hook.name restored.hooks ≡ None)
     × hosting.refuses_install restored.server.host hook.name (layout_of hook.version) hook.code fault
-RefusesSetting hosting restored hook (Follows fault) = hook_named hook.name restored.hooks ≡ None
+RefusesSetting hosting restored hook (Follows fault) = FitsNone hosting restored
 RefusesSetting hosting restored hook _ = ⊥
 
 -- one of the hooks is not set, once those before it are

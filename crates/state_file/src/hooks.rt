@@ -6,16 +6,16 @@ ghost use Rattle.image_codec.specs.Facts.{hook_fact};
 ghost use Rattle.state_file.specs.Hooks.{hooks_behind, hooks_by, hook_named, without_hook};
 
 use change_codec::{DatedChange, decode};
-use consent::Change;
+use consent::{Change, RecordVersion};
 use image_codec::KeptHook;
 use std::alloc::{AllocError, Global};
 use std::marker::Model;
 
-/// A hook that is set, by its name, with its version and its code.
+/// A hook that is set, by its name, with the version of its record and its code.
 #[derive(Drop)]
 pub struct SetHook {
     name: String,
-    version: u64,
+    version: RecordVersion,
     code: Vec<u8>,
 }
 
@@ -41,7 +41,7 @@ impl SetHook {
     }
 
     /// Whether it has this version and this code.
-    pub fn is_of(&self, version: u64, code: &[u8]) -> bool
+    pub fn is_of(&self, version: RecordVersion, code: &[u8]) -> bool
         ensures { IsTrue result ↔ ((self.now.version ≡ version) × (self.now.code ≡ code.now)) }
     {
         self.version == version && self.code.as_slice() == code
@@ -83,7 +83,7 @@ impl SetHooks {
     }
 
     // A hook is set behind the others.
-    fn push(&mut self, name: &str, version: u64, code: &[u8]) -> Result<(), AllocError>
+    fn push(&mut self, name: &str, version: RecordVersion, code: &[u8]) -> Result<(), AllocError>
         ensures { OnOk result (self.new ≡ self.old ++ record { name = name.now; version = version; code = code.now } ∷ []) }
     {
         let name = String::from_str(self.alloc, name)?;

@@ -1,7 +1,7 @@
 //! The image of a server, and a server made of one.
 
 ghost use Rattle.std.specs.Prelude.{◌≡◌, IfOk, IfErr, OnOk, map};
-ghost use Rattle.hook_host.specs.Versions.{layout_of};
+ghost use Rattle.endpoints.specs.Layouts.{layout_of};
 ghost use Rattle.image_codec.specs.Facts.{hook_fact, image_fact, rules_fact};
 ghost use Rattle.state_file.specs.Renewing.{IsImageFor};
 ghost use Rattle.state_file.specs.Resuming.{Installs, IsMadeOf, IsOfImage};
@@ -10,7 +10,7 @@ use crate::fault::StateFault;
 use crate::hooks::SetHooks;
 use crate::restored::Restored;
 use clients::Registry;
-use endpoints::{RedoFault, Server, layout_of};
+use endpoints::{Server, layout_of};
 use hook_host::{HookFault, HookHost};
 use image_codec::{Image, KeptHook, Rules};
 use std::alloc::{AllocError, Global};
@@ -20,10 +20,7 @@ fn install<H: HookHost>(alloc: Global, host: &mut H, hook: &KeptHook<'_>) -> Res
     ensures installed { OnOk result (H.installs host.old hook.now.name.now (layout_of hook.now.version) hook.now.code.now host.new) }
     ensures refused { IfErr result IsOfImage }
 {
-    let Some(layout) = layout_of(hook.version) else {
-        return Err(StateFault::Follows(RedoFault::HookVersion));
-    };
-    match host.install(hook.name, layout, hook.code) {
+    match host.install(hook.name, layout_of(hook.version), hook.code) {
         Ok(()) => Ok(()),
         Err(HookFault::Memory) => Err(StateFault::Memory),
         Err(fault) => Err(StateFault::Hook(String::from_str(alloc, hook.name)?, fault)),

@@ -104,12 +104,14 @@ impl<H: HookHost> Restored<H> {
         if self.has(alloc, hook)? {
             return Ok(());
         }
-        match self.install(hook) {
-            Ok(()) => Ok(()),
-            Err(RedoFault::Hook(fault)) => {
+        let Err(fault) = self.install(hook) else {
+            return Ok(());
+        };
+        match fault {
+            RedoFault::Hook(fault) => {
                 Err(StateFault::Hook(String::from_str(alloc, hook.name)?, fault))
             }
-            Err(fault) => Err(StateFault::from(fault)),
+            fault => Err(StateFault::from(fault)),
         }
     }
 

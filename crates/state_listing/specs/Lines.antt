@@ -1,6 +1,7 @@
 -- The lines that tell what a state file stands for. Each is an object of JSON (RFC 8259), and a line feed.
 use Rattle.std.specs.Prelude.{◌++◌, ◌-◌, ◌==◌, ℕ, List, [], ◌∷◌, Bool, Option, None, Some, codes, decimal, flat_map, length, map, option_map, take, if◌then◌else◌, slice_get}
 use Rattle.std.specs.List.{list_any}
+use Rattle.consent.specs.Versions.{version_number}
 use Rattle.consent.specs.declared.grant.TokenKind.TheVariants.{Access, Refresh}
 use Rattle.consent.specs.declared.kept_consent.KeptConsent.{KeptConsent}
 use Rattle.hex.specs.Hex.{encode_lower}
@@ -98,7 +99,7 @@ abbrev pub hook_line : HookFact → List ℕ
 hook_line h =
     object_line (opened (codes "hook")
     ++ text_tokens (codes "name") h.name
-    ++ number_tokens (codes "version") h.version
+    ++ number_tokens (codes "version") (version_number h.version)
     ++ number_tokens (codes "bytes") (length h.code))
 
 -- the file as a whole; `last` is the greatest moment that it tells

@@ -165,7 +165,7 @@ pub(crate) fn push_hook(
 {
     let mut line = begin_line(alloc, "hook")?;
     line.text("name", hook.name)?;
-    line.number("version", hook.version)?;
+    line.number("version", hook.version.number())?;
     line.number("bytes", hook.code.len() as u64)?;
     end_line(line, lines)
 }

@@ -14,6 +14,7 @@ use Rattle.consent.specs.GrowthLaws.{grant_at-push_none, unexpired_count-push_no
 use Rattle.consent.specs.HistoryLaws.{is_history-push}
 use Rattle.consent.specs.Changes.{change_of, changes_of, AllFollow}
 use Rattle.consent.specs.declared.change.Change.{Change as Made}
+use Rattle.consent.specs.declared.record_version.RecordVersion.{RecordVersion}
 use Rattle.token_store.specs.declared.record.Record.{Record}
 use Rattle.token_store.specs.declared.record.Shared.{Shared}
 use Rattle.token_store.specs.Kept.{Kept, kept_at, is_in, HasFamily}
@@ -128,7 +129,7 @@ unmoved kept history m number change none lasting unspent is fits =
       is_history = is;
     }
 
-pub fits_hook_set : (kept : List Kept) (history : List Event) (m : ℕ) (number : ℕ → ℕ) (name : List ℕ) (version : ℕ) (code : List ℕ) →
+pub fits_hook_set : (kept : List Kept) (history : List Event) (m : ℕ) (number : ℕ → ℕ) (name : List ℕ) (version : RecordVersion) (code : List ℕ) →
     FitsBy kept history m number → FitsBy kept (with_change history m (HookSet name version code)) m number
 fits_hook_set kept history m number name version code fits =
     unmoved kept history m number (HookSet name version code) refl refl (λ d. refl) (is_history-push history m (HookSet name version code) fits.is_history tt) fits

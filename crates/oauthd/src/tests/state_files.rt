@@ -15,6 +15,14 @@ const FILE: &[u8] = b"\x01\0\0\0\x35\
 \xb7\0\0\0\x01\0\0\0\x95\0\0\0\0\0\0\0\
 \0";
 
+/// The same rules, and a hook whose record has no version that there is.
+const OF_VERSION_3: &[u8] = b"\x01\0\0\0\x35\
+\0\0\0\0\x02\0\0\0\x04read\0\0\0\x05write\0\0\0\x01\0\0\0\x01\0\0\0\x03app\0\0\0\0\0\0\0\x03\0\0\x01\x2c\0\x01\x51\x80\
+\x01\0\0\0\x24\
+\x01\0\0\0\x01\
+\0\0\0\0\0\0\x03\xe8\x07\0\0\0\x06listed\0\0\0\0\0\0\0\x03\0\0\0\0\
+\0";
+
 const LISTED: &str = r#"{"kind":"consent","owner":1,"client":"app","scope":["read"]}
 {"kind":"family","family":0,"client":"app","ended":false}
 {"kind":"access","digest":"abababab","family":0,"scope":["read","write"],"moment":1000,"life":300,"spent":false}
@@ -48,5 +56,11 @@ fn state_files_that_are_wrong(rt: HostRuntime) -> Result<(), Fail> {
         "no rules",
         b"\x01\0\0\0\x01\x07",
         misused("oauthd: State NoRules in batch 1\n"),
+    )?;
+    assert_listed(
+        &rt,
+        "a hook of version 3",
+        OF_VERSION_3,
+        misused("oauthd: State Spelling RecordVersion in batch 2\n"),
     )
 }

@@ -2,6 +2,7 @@ use Rattle.std.proofs.Common.{rules, ◌≡◌, ◌+◌, ◌++◌, ◌∙◌, Li
 use Rattle.std.specs.Prelude.{IfErr}
 use Rattle.std.proofs.lemmas.List.{map_push, take_all, take_more}
 use Rattle.image_codec.specs.Facts.{HookFact, hook_fact}
+use Rattle.consent.specs.declared.record_version.RecordVersion.TheVariants.{First}
 use Rattle.image_codec.specs.declared.image.KeptHook.{KeptHook}
 use Rattle.state_file.specs.Resuming.{RefusesSettings, Sets}
 use Rattle.state_file.proofs.Refused.{parted}
@@ -9,7 +10,7 @@ use Rattle.state_file.proofs.Setting.{sets_then}
 use Rattle.state_file.proofs.restored.Restored.set_hooks.Goals as goal
 
 abbrev no_hook : KeptHook
-no_hook = record { name = record { ref_ptr = (0, 0); now = [] }; version = 0; code = record { ref_ptr = (0, 0); now = [] } }
+no_hook = record { name = record { ref_ptr = (0, 0); now = [] }; version = First; code = record { ref_ptr = (0, 0); now = [] } }
 
 pub returns-in_err-set_hook-clause-refused : goal.returns-in_err-set_hook-clause-refused
 returns-in_err-set_hook-clause-refused g c =
