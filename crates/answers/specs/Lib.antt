@@ -1,3 +1,4 @@
+-- What public clauses cite. docs/DEFINITIONS.md says what to read in which order.
 pub mod Setting
 pub mod Outcomes
 pub mod Wants
@@ -10,5 +11,8 @@ pub mod Views
 pub mod Short
 pub mod Told
 pub mod Found
+-- What only the contracts of this crate's own parts and their proofs cite.
+pub mod ToldParts
+-- Laws, each proved: a reader may skip them.
 pub mod FoundLaws
 pub mod FollowsLaws

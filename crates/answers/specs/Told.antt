@@ -1,6 +1,6 @@
 -- What a decision comes to.
 use Rattle.std.specs.Prelude.{◌≡◌, ℕ, List, Option, Some, option_map, Result, Ok, Err}
-use Rattle.consent.specs.History.{Event, Grant}
+use Rattle.consent.specs.History.{Event}
 use Rattle.consent.specs.Changes.{changes_of, as_list}
 use Rattle.hook_record.specs.declared.Ask.{Ask}
 use Rattle.hook_record.specs.declared.Narrowed.{Narrowed}
@@ -8,10 +8,8 @@ use Rattle.hook_host.specs.declared.fault.HookFault.{HookFault}
 use Rattle.answers.specs.Outcomes.{Outcome}
 use Rattle.answers.specs.Halts.{Halts}
 use Rattle.answers.specs.Replies.{reply_of}
-use Rattle.answers.specs.Setting.{HostSays, Setting}
+use Rattle.answers.specs.Setting.{Setting}
 use Rattle.answers.specs.Views.{Shows, setting_of}
-use Rattle.answers.specs.Found.{IsFound, grant_found}
-use Rattle.token_store.specs.declared.found.Found.{Found}
 use Rattle.answers.specs.declared.view.View.{View}
 use Rattle.answers.specs.declared.decision.Decision.{Decision}
 use Rattle.answers.specs.declared.halt.Halt.{Halt}
@@ -27,22 +25,9 @@ abbrev pub Decides : Setting → Result Decision Halt → Outcome → Type 0
 Decides s (Ok d) points = outcome_told s d ≡ Some points
 Decides s (Err halt) points = Halts halt points
 
--- whatever history the view shows, and whatever the host says, its points come to the decision, or halt
-abbrev pub DecidesBy : View → Result Decision Halt → (Setting → Outcome) → Type 0
-DecidesBy view result points =
-    (history : List Event) (host : HostSays) → Shows view history →
-    Decides (setting_of view history host) result (points (setting_of view history host))
-
 -- and so do those that ask the host, which answers so
 abbrev pub DecidesAsking : View → (Ask → Narrowed) → Result Decision Halt → (Setting → Outcome) → Type 0
 DecidesAsking view answer result points =
     (history : List Event) (names : List (List ℕ)) (fault : Option HookFault) → Shows view history →
     Decides (setting_of view history (record { answer = answer; names = names; fault = fault })) result
     (points (setting_of view history (record { answer = answer; names = names; fault = fault })))
-
--- and those of the code or token that was found under the digest
-abbrev pub DecidesOf : View → List ℕ → Found → Result Decision Halt → (Setting → Grant → Outcome) → Type 0
-DecidesOf view digest found result points =
-    (history : List Event) (host : HostSays) → Shows view history → IsFound history digest view.moment found →
-    Decides (setting_of view history host) result
-    (points (setting_of view history host) (grant_found history digest view.moment found))

@@ -17,7 +17,7 @@ use Rattle.assembler.specs.declared.draft.Draft.{Draft}
 use Rattle.assembler.specs.declared.draft.Draft.TheVariants.{Whole, ToLabel}
 use Rattle.assembler.specs.Faults.{Anywhere, OneOf}
 use Rattle.assembler.specs.Operands.{IsSmall}
-use Rattle.assembler.specs.Drafts.{condition_of, HasTarget, IsSource, DraftOf}
+use Rattle.assembler.specs.DraftsParts.{condition_of, HasTarget, IsSource, DraftOf}
 use Rattle.assembler.proofs.Numbers.{small_injective, small_from_16}
 use Rattle.assembler.proofs.Reading.{Reads, reads, third, no_near, AReg, ASource, ANear}
 

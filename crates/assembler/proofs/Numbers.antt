@@ -17,7 +17,7 @@ use Rattle.assembly.specs.Text.{Word, is_digit, is_positive, is_natural, distanc
 use Rattle.insn.specs.Instruction.{reg_number}
 use Rattle.insn.specs.declared.register.RegNo.{RegNo}
 use Rattle.insn.specs.declared.register.RegNo.TheVariants.{R0, R1, R2, R3, R4, R5, R6, R7, R8, R9, R10}
-use Rattle.assembler.specs.Operands.{IsSmall, number_from, number_of}
+use Rattle.assembler.specs.Operands.{IsSmall, number_from, decimal_value}
 
 -- more digits make no number smaller
 pub at_least : (n : ℕ) (cs : List ℕ) → n ≤ number_from n cs
@@ -32,7 +32,7 @@ pub if_none : {A P : Type 0} (r : Option A) → P → IfNone r P
 if_none None p = p
 if_none (Some x) p = tt
 
-pub own : IsNumeralModel (λ ds. list_all is_digit ds ≡ true) number_of
+pub own : IsNumeralModel (λ ds. list_all is_digit ds ≡ true) decimal_value
 own = numerals_by_fold _ (search rules) number_from (search rules)
 
 positive_from : (ds : Word) → 0 < length ds → 48 < get_or ds 0 0 → list_all is_digit ds ≡ true → is_positive ds ≡ true
@@ -46,30 +46,30 @@ pub decimal_natural : (n : ℕ) → n < 2 ^ 64 → is_natural (decimal n) ≡ tr
 decimal_natural zero l = rw (decimal_digit 0 (omega arith)) refl
 decimal_natural (suc n) l = rw (decimal_positive (suc n) (omega arith) l) refl
 
-pub value_decimal : (n : ℕ) → n < 2 ^ 64 → number_of (decimal n) ≡ n
+pub value_decimal : (n : ℕ) → n < 2 ^ 64 → decimal_value (decimal n) ≡ n
 value_decimal n l = digits_value-decimal own n l
 
-pub positive_word : (ds : Word) → is_positive ds ≡ true → number_of ds < 2 ^ 64 → decimal (number_of ds) ≡ ds
+pub positive_word : (ds : Word) → is_positive ds ≡ true → decimal_value ds < 2 ^ 64 → decimal (decimal_value ds) ≡ ds
 positive_word [] h l = absurd (search rules)
 positive_word (c ∷ cs) h l = decimal-digits_value own (c ∷ cs) (grind (arith, nat_tests)) (omega arith) (λ e. absurd (grind (arith, nat_tests))) l
 
 -- a word is what `decimal` writes of its value
-pub natural_word : (ds : Word) → is_natural ds ≡ true → number_of ds < 2 ^ 64 → ds ≡ decimal (number_of ds)
+pub natural_word : (ds : Word) → is_natural ds ≡ true → decimal_value ds < 2 ^ 64 → ds ≡ decimal (decimal_value ds)
 natural_word ds h l = ⊎_elim (λ e. sym (positive_word ds e l)) zero_word (or_cases (is_positive ds) (bytes_eq ds (codes "0")) h)
   where
-    zero_word : bytes_eq ds (codes "0") ≡ true → ds ≡ decimal (number_of ds)
-    zero_word e = let k : ds ≡ codes "0" = (bytes_eq-Decides ds (codes "0")).0 e in subst (λ (x : Word). x ≡ decimal (number_of x)) (sym k) (sym (decimal_digit 0 (omega arith)))
+    zero_word : bytes_eq ds (codes "0") ≡ true → ds ≡ decimal (decimal_value ds)
+    zero_word e = let k : ds ≡ codes "0" = (bytes_eq-Decides ds (codes "0")).0 e in subst (λ (x : Word). x ≡ decimal (decimal_value x)) (sym k) (sym (decimal_digit 0 (omega arith)))
 
 pub not_decimal : (ds : Word) → is_natural ds ≡ false → (n : ℕ) → n < 2 ^ 64 → ds ≡ decimal n → ⊥
 not_decimal ds h n l e = both_ways (is_natural ds) h (ap is_natural e ∙ decimal_natural n l)
 
-pub too_great : (ds : Word) → 2 ^ 64 ≤ number_of ds → (n : ℕ) → n < 2 ^ 64 → ds ≡ decimal n → ⊥
-too_great ds h n l e = let k : number_of ds ≡ n = ap number_of e ∙ value_decimal n l in omega arith
+pub too_great : (ds : Word) → 2 ^ 64 ≤ decimal_value ds → (n : ℕ) → n < 2 ^ 64 → ds ≡ decimal n → ⊥
+too_great ds h n l e = let k : decimal_value ds ≡ n = ap decimal_value e ∙ value_decimal n l in omega arith
 
 -- ---- signed numbers
 
-pub minus_word : (ds : Word) → is_positive ds ≡ true → (n : ℕ) → number_of ds ≡ suc n → n < 2 ^ 63 → 45 ∷ ds ≡ signed_decimal (negsuc n)
-minus_word ds h n e l = let k : decimal (number_of ds) ≡ ds = positive_word ds h (omega arith) in ap (λ (w : Word). 45 ∷ w) (sym k ∙ ap decimal e)
+pub minus_word : (ds : Word) → is_positive ds ≡ true → (n : ℕ) → decimal_value ds ≡ suc n → n < 2 ^ 63 → 45 ∷ ds ≡ signed_decimal (negsuc n)
+minus_word ds h n e l = let k : decimal (decimal_value ds) ≡ ds = positive_word ds h (omega arith) in ap (λ (w : Word). 45 ∷ w) (sym k ∙ ap decimal e)
 
 -- a digit stands first
 pub plain_first : (n c : ℕ) (ds : Word) → n < 2 ^ 64 → c ∷ ds ≡ decimal n → c < 48 → ⊥
@@ -82,22 +82,22 @@ pub behind_minus : (ds : Word) (z : ℤ) → IsSmall z → 45 ∷ ds ≡ signed_
 behind_minus ds (negsuc n) l e = (n, refl, cc, l)
 behind_minus ds (pos n) l e = absurd (plain_first n 45 ds (omega arith) e (omega arith))
 
-pub positive_value : (ds : Word) → is_positive ds ≡ true → 0 < number_of ds
+pub positive_value : (ds : Word) → is_positive ds ≡ true → 0 < decimal_value ds
 positive_value [] h = absurd (search rules)
 positive_value (c ∷ cs) h = let k = at_least (0 * 10 + (c - 48)) cs in let first = leb-true 49 c (and_parts (nat_le 49 c) (list_all is_digit (c ∷ cs)) h).0 in omega arith
 
 -- a negative number's word
-pub negative_word : (ds : Word) (n : ℕ) → is_positive ds ≡ true → number_of ds ≡ n → n < 2 ^ 63 → (45 ∷ ds ≡ signed_decimal (neg_ℤ (pos n))) × IsSmall (neg_ℤ (pos n))
+pub negative_word : (ds : Word) (n : ℕ) → is_positive ds ≡ true → decimal_value ds ≡ n → n < 2 ^ 63 → (45 ∷ ds ≡ signed_decimal (neg_ℤ (pos n))) × IsSmall (neg_ℤ (pos n))
 negative_word ds zero h e l = let k = positive_value ds h in absurd (omega arith)
 negative_word ds (suc n) h e l = (minus_word ds h n e (omega arith), omega arith)
 
-pub no_negative : (ds : Word) → (is_positive ds ≡ false) ⊎ (2 ^ 63 ≤ number_of ds) → (z : ℤ) → IsSmall z → 45 ∷ ds ≢ signed_decimal z
+pub no_negative : (ds : Word) → (is_positive ds ≡ false) ⊎ (2 ^ 63 ≤ decimal_value ds) → (z : ℤ) → IsSmall z → 45 ∷ ds ≢ signed_decimal z
 no_negative ds which z l e = let b = behind_minus ds z l e in not_behind (b.0) b.2 b.3 which
   where
-    not_behind : (n : ℕ) → ds ≡ decimal (suc n) → n + 1 < 2 ^ 63 → (is_positive ds ≡ false) ⊎ (2 ^ 63 ≤ number_of ds) → ⊥
+    not_behind : (n : ℕ) → ds ≡ decimal (suc n) → n + 1 < 2 ^ 63 → (is_positive ds ≡ false) ⊎ (2 ^ 63 ≤ decimal_value ds) → ⊥
     not_behind n e l which = ⊎_elim
         (λ h. both_ways (is_positive ds) h (ap is_positive e ∙ decimal_positive (suc n) (omega arith) (omega arith)))
-        (λ h. let k : number_of ds ≡ suc n = ap number_of e ∙ value_decimal (suc n) (omega arith) in omega arith)
+        (λ h. let k : decimal_value ds ≡ suc n = ap decimal_value e ∙ value_decimal (suc n) (omega arith) in omega arith)
         which
 
 -- a number that begins with no minus is a natural one

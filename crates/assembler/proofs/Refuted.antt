@@ -10,7 +10,7 @@ use Rattle.std.proofs.lemmas.List.Sums.{sum_by-append, sum_by-cons}
 use Rattle.insn.specs.declared.instruction.Insn.{Insn}
 use Rattle.insn.specs.Instruction.{slots_of}
 use Rattle.insn.specs.Program.{slot_count, SLOT_LIMIT}
-use Rattle.assembly.specs.Text.{Word, is_digit, is_positive, is_natural, is_number, is_distance, is_name, Operand, Register, Number, Target, operands_of, distance_word, Line, Blank, Label, Statement, lines_in, SaysOperand, SaysOperands, SaysInsn, labels_in, names_in, AllDiffer, Text}
+use Rattle.assembly.specs.Text.{Word, is_digit, is_positive, is_natural, is_number_word, is_distance, is_name, Operand, Register, Number, Target, operands_of, distance_word, Line, Blank, Label, Statement, lines_in, SaysOperand, SaysOperands, SaysInsn, labels_in, names_in, AllDiffer, Text}
 use Rattle.assembly.specs.Text.{mnemonic_of}
 use Rattle.assembler.specs.declared.fault.AsmFault.{AsmFault}
 use Rattle.assembler.specs.declared.fault.AsmFault.TheVariants.{UnknownWord, BadOperand, OutOfRange, UnknownLabel, DoubleLabel, TooLong, Memory, NoInstruction}
@@ -51,7 +51,7 @@ natural_first c cs h = ⊎_elim
     (λ (e : bytes_eq (c ∷ cs) (codes "0") ≡ true). zero_first c cs ((bytes_eq-Decides (c ∷ cs) (codes "0")).0 e))
     (or_cases (is_positive (c ∷ cs)) (bytes_eq (c ∷ cs) (codes "0")) h)
 
-natural_number : (w : Word) → is_natural w ≡ true → is_number w ≡ true
+natural_number : (w : Word) → is_natural w ≡ true → is_number_word w ≡ true
 natural_number [] h = absurd cc
 natural_number (c ∷ cs) h = let l = natural_first c cs h in rw (ne_eqb c 45 (λ e. omega arith)) h
 
@@ -67,7 +67,7 @@ bounded_16 : (z : ℤ) → FitsSigned w16 z → IsBounded z
 bounded_16 (pos n) h = omega (arith, ints)
 bounded_16 (negsuc n) h = omega (arith, ints)
 
-number_form : (z : ℤ) → IsBounded z → is_number (signed_decimal z) ≡ true
+number_form : (z : ℤ) → IsBounded z → is_number_word (signed_decimal z) ≡ true
 number_form (pos n) l = natural_number (decimal n) (decimal_natural n l)
 number_form (negsuc n) l = decimal_positive (suc n) (omega arith) (omega arith)
 
@@ -84,10 +84,10 @@ target_form d w l h = ⊎_elim
 operand_form : (f : Field) (o : Operand) (w : Word) → FitsIn f o → SaysOperand Anywhere o w → HasForm o w
 operand_form f (Register r) w h s = (r, s)
 operand_form AReg (Number z) w h s = absurd h
-operand_form ASource (Number z) w h s = ap is_number s ∙ number_form z (bounded_32 z h)
-operand_form AnImm (Number z) w h s = ap is_number s ∙ number_form z (bounded_32 z h)
-operand_form AnOffset (Number z) w h s = ap is_number s ∙ number_form z (bounded_16 z h)
-operand_form AWide (Number z) w h s = ap is_number (s ∙ ap signed_decimal h.1) ∙ number_form (pos h.0) h.2
+operand_form ASource (Number z) w h s = ap is_number_word s ∙ number_form z (bounded_32 z h)
+operand_form AnImm (Number z) w h s = ap is_number_word s ∙ number_form z (bounded_32 z h)
+operand_form AnOffset (Number z) w h s = ap is_number_word s ∙ number_form z (bounded_16 z h)
+operand_form AWide (Number z) w h s = ap is_number_word (s ∙ ap signed_decimal h.1) ∙ number_form (pos h.0) h.2
 operand_form ANear (Number z) w h s = absurd h
 operand_form AFar (Number z) w h s = absurd h
 operand_form AReg (Target d) w h s = absurd h

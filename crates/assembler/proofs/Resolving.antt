@@ -21,7 +21,8 @@ use Rattle.assembler.specs.declared.sheet.Place.{Place}
 use Rattle.assembly.specs.Text.{mnemonic_of, mnemonic_name}
 use Rattle.assembler.specs.Faults.{Anywhere, OneOf, SaysFitting, AreRight, FirstLost, FirstTextFault}
 use Rattle.assembler.specs.Drafts.{draft_slots, jump_over, Nowhere, At, IsDraft, SaysDraft}
-use Rattle.assembler.specs.Sheets.{AreFrom, with_zero, zeroed, IsSheet, resolution, resolution_of, FirstLostPlace, Unresolved}
+use Rattle.assembler.specs.Sheets.{AreFrom, with_zero, zeroed, IsSheet}
+use Rattle.assembler.specs.SheetsParts.{resolution, resolution_of, FirstLostPlace, Unresolved}
 use Rattle.assembler.specs.declared.fault.AsmFault.{AsmFault}
 use Rattle.assembler.specs.declared.fault.AsmFault.TheVariants.{UnknownWord, BadOperand, OutOfRange, UnknownLabel, DoubleLabel, TooLong, Memory, NoInstruction}
 use Rattle.assembler.proofs.Refuted.{only_memory}

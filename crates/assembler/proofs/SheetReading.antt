@@ -24,7 +24,8 @@ use Rattle.assembly.specs.declared.mnemonic.Mnemonic.{Mnemonic}
 use Rattle.assembly.specs.Text.{mnemonic_of, mnemonic_name}
 use Rattle.assembler.specs.Faults.{Anywhere, SaysFitting, Drafts, AreRight, FirstWrong, FaultIn, HasUnknownWord, HasBadOperand, IsOutOfRange, IsDoubleLabel, IsTooLong}
 use Rattle.assembler.specs.Drafts.{draft_slots, jump_over, Nowhere, At, IsDraft, SaysDraft, StatementDraft}
-use Rattle.assembler.specs.Sheets.{lines_of, AreFrom, with_zero, zeroed, AreRead, fault_at, find_in}
+use Rattle.assembler.specs.Sheets.{lines_of, AreFrom, with_zero, zeroed, AreRead, find_in}
+use Rattle.assembler.specs.SheetsParts.{fault_on_line}
 use Rattle.std.specs.Cmp.Lexicographic.{slice_cmp}
 use Rattle.std.specs.Ordering.{nat_cmp}
 use Rattle.std.specs.BTreeMap.{BTreeMap, get_by}
@@ -225,7 +226,7 @@ wrong_at IsWrong xs i d here n program l e k right wrong = record {
   wrong = wrong;
 }
 
-pub word_fault : (f : WordFault) (words : List Word) (xs : List (Bor Word)) (i : ℕ) (d : Bor Word) (n : ℕ) (program : List Insn) → i < length xs → line_here (get_or xs i d) ≡ Statement words → n ≡ i + 1 → AreRight (seen_lines (take i xs)) program → StatementDraft words (Err f) → FaultIn (seen_lines xs) (fault_at f n)
+pub word_fault : (f : WordFault) (words : List Word) (xs : List (Bor Word)) (i : ℕ) (d : Bor Word) (n : ℕ) (program : List Insn) → i < length xs → line_here (get_or xs i d) ≡ Statement words → n ≡ i + 1 → AreRight (seen_lines (take i xs)) program → StatementDraft words (Err f) → FaultIn (seen_lines xs) (fault_on_line f n)
 word_fault UnknownWord words xs i d n program l e k right h = wrong_at HasUnknownWord xs i d (Statement words) n program l e k right h
 word_fault BadOperand words xs i d n program l e k right h = wrong_at HasBadOperand xs i d (Statement words) n program l e k right h
 word_fault OutOfRange words xs i d n program l e k right h = wrong_at IsOutOfRange xs i d (Statement words) n program l e k right h

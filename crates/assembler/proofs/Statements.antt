@@ -13,7 +13,7 @@ use Rattle.assembler.specs.declared.form.OperandKind.TheVariants as kind
 use Rattle.assembly.specs.Text.{mnemonic_of, mnemonic_name}
 use Rattle.assembler.specs.Forms.{kinds_of, IsOfKind, HaveKinds}
 use Rattle.assembler.specs.Faults.{Anywhere, HasForm, HaveForms, HasName, HasFormOf, SaysFitting}
-use Rattle.assembler.specs.Drafts.{DraftOf}
+use Rattle.assembler.specs.DraftsParts.{DraftOf}
 use Rattle.assembly.specs.TextNameLaws.{mnemonic_name-injective}
 
 -- an instruction of a name has its mnemonic

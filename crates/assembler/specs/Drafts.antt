@@ -1,19 +1,12 @@
 -- What the words of a line say but for where a label lies.
-use Rattle.std.specs.Prelude.{◌≡◌, ◌≢◌, ℕ, true, ℤ, List, [], ◌∷◌, Option, Some, None, Result, Ok, Err, FitsSigned}
+use Rattle.std.specs.Prelude.{◌≡◌, ℕ, true, ℤ, List, [], ◌∷◌, Result, Ok, Err, FitsSigned}
 use Rattle.std.specs.Str.{bytes_eq}
 use Rattle.std.specs.List.{list_any}
-use Rattle.std.specs.Int.{w16, w32}
-use Rattle.std.specs.Fmt.{signed_decimal}
-use Rattle.insn.specs.declared.register.RegNo.{RegNo}
-use Rattle.insn.specs.declared.operation.Width.{Width}
-use Rattle.insn.specs.declared.operation.Width.TheVariants.{W32, W64}
-use Rattle.insn.specs.declared.operation.Cond.{Cond}
+use Rattle.std.specs.Int.{w16}
 use Rattle.insn.specs.declared.instruction.Insn.{Insn}
 use Rattle.insn.specs.declared.instruction.Insn.TheVariants as insn
-use Rattle.insn.specs.declared.instruction.Operand.{Operand as Source}
-use Rattle.insn.specs.declared.instruction.Operand.TheVariants.{Reg, Imm}
 use Rattle.insn.specs.Instruction.{slots_of, Fits}
-use Rattle.assembly.specs.Text.{Word, Target, register_word, distance_word, is_name, operands_of, SaysOperand, SaysOperands, Statement}
+use Rattle.assembly.specs.Text.{Word, operands_of, SaysOperands, Statement}
 use Rattle.assembly.specs.declared.mnemonic.Mnemonic.{Mnemonic}
 use Rattle.assembler.specs.declared.draft.Jump.{Jump}
 use Rattle.assembler.specs.declared.draft.Jump.TheVariants.{Always, Long, If64Imm, If64Reg, If32Imm, If32Reg}
@@ -22,7 +15,7 @@ use Rattle.assembler.specs.declared.draft.Draft.TheVariants.{Whole, ToLabel}
 use Rattle.assembler.specs.declared.draft.WordFault.{WordFault}
 use Rattle.assembler.specs.declared.draft.WordFault.TheVariants.{UnknownWord, BadOperand, OutOfRange}
 use Rattle.assembly.specs.Text.{mnemonic_of, mnemonic_name}
-use Rattle.assembler.specs.Faults.{Anywhere, OneOf, HasUnknownWord, HasBadOperand, IsOutOfRange}
+use Rattle.assembler.specs.Faults.{OneOf, HasUnknownWord, HasBadOperand, IsOutOfRange}
 
 -- a jump over so many slots
 abbrev pub jump_over : Jump → ℤ → Insn
@@ -32,13 +25,6 @@ jump_over (If64Imm cond dst imm) d = insn.Jump64IfImm cond dst d imm
 jump_over (If64Reg cond dst src) d = insn.Jump64IfReg cond dst src d
 jump_over (If32Imm cond dst imm) d = insn.Jump32IfImm cond dst d imm
 jump_over (If32Reg cond dst src) d = insn.Jump32IfReg cond dst src d
-
--- a jump where a condition holds of a register and a second operand
-abbrev pub condition_of : Width → Cond → RegNo → Source → Jump
-condition_of W64 cond dst (Imm imm) = If64Imm cond dst imm
-condition_of W64 cond dst (Reg src) = If64Reg cond dst src
-condition_of W32 cond dst (Imm imm) = If32Imm cond dst imm
-condition_of W32 cond dst (Reg src) = If32Reg cond dst src
 
 abbrev pub draft_slots : Draft → ℕ
 draft_slots (Whole i) = slots_of i
@@ -62,11 +48,8 @@ pub record SaysJump (m : Mnemonic) (jump : Jump) (label : Word) (words : List Wo
 abbrev pub SaysDraft : Mnemonic → List Word → Draft → Type 0
 SaysDraft m words (Whole i) = (mnemonic_of i ≡ m) × Fits i × SaysOperands Nowhere (operands_of i) words
 SaysDraft m words (ToLabel jump name) = ((d : ℤ) → FitsSigned w16 d → SaysJump m jump name.now words d)
-    × ((names : List Word) (i : Insn) → mnemonic_of i ≡ m → Fits i → SaysOperands (OneOf names) (operands_of i) words → list_any (bytes_eq name.now) names ≡ true)
-
-abbrev pub DraftOf : Mnemonic → List Word → Option Draft → Type 0
-DraftOf m words None = (i : Insn) → mnemonic_of i ≡ m → Fits i → SaysOperands Anywhere (operands_of i) words → ⊥
-DraftOf m words (Some draft) = SaysDraft m words draft
+    × ((names : List Word) (i : Insn) → mnemonic_of i ≡ m → Fits i → SaysOperands (OneOf names) (operands_of i) words → list_any (bytes_eq name.now) names ≡
+        true)
 
 -- the words of a line say a draft
 pub record IsDraft (words : List Word) (draft : Draft) : Type 0 where
@@ -80,15 +63,3 @@ StatementDraft words (Ok draft) = IsDraft words draft
 StatementDraft words (Err UnknownWord) = HasUnknownWord [] [] (Statement words)
 StatementDraft words (Err BadOperand) = HasBadOperand [] [] (Statement words)
 StatementDraft words (Err OutOfRange) = IsOutOfRange [] [] (Statement words)
-
--- a word is a second operand that fits
-abbrev pub IsSource : Word → Option Source → Type 0
-IsSource word (Some (Reg src)) = word ≡ register_word src
-IsSource word (Some (Imm imm)) = (word ≡ signed_decimal imm) × FitsSigned w32 imm
-IsSource word None = ((r : RegNo) → word ≢ register_word r) × ((z : ℤ) → FitsSigned w32 z → word ≢ signed_decimal z)
-
--- a word is the target of a jump
-abbrev pub HasTarget : Jump → Word → Option Draft → Type 0
-HasTarget jump word (Some (Whole i)) = (d : ℤ) × FitsSigned w16 d × (i ≡ jump_over jump d) × (word ≡ distance_word d)
-HasTarget jump word (Some (ToLabel to name)) = (to ≡ jump) × (name.now ≡ word) × (is_name word ≡ true)
-HasTarget jump word None = (d : ℤ) → FitsSigned w16 d → SaysOperand Anywhere (Target d) word → ⊥

@@ -6,7 +6,7 @@ use Rattle.insn.specs.declared.register.RegNo.{RegNo}
 use Rattle.insn.specs.declared.instruction.Insn.{Insn}
 use Rattle.insn.specs.Instruction.{slots_of, Fits}
 use Rattle.insn.specs.Program.{slot_count, SLOT_LIMIT}
-use Rattle.assembly.specs.Text.{Word, is_number, is_distance, is_name, name_of, Operand, Register, Number, Target, operands_of, register_word, Line, Blank, Label, Statement, lines_in, SaysInsn, names_in, AllDiffer}
+use Rattle.assembly.specs.Text.{Word, is_number_word, is_distance, is_name, name_of, Operand, Register, Number, Target, operands_of, register_word, Line, Blank, Label, Statement, lines_in, SaysInsn, names_in, AllDiffer}
 use Rattle.assembler.specs.declared.fault.AsmFault.{AsmFault}
 use Rattle.assembler.specs.declared.fault.AsmFault.TheVariants.{UnknownWord, BadOperand, OutOfRange, UnknownLabel, DoubleLabel, TooLong, Memory, NoInstruction}
 
@@ -15,7 +15,7 @@ use Rattle.assembler.specs.declared.fault.AsmFault.TheVariants.{UnknownWord, Bad
 -- a word has the form of an operand, whatever its value
 abbrev pub HasForm : Operand → Word → Type 0
 HasForm (Register r) word = (other : RegNo) × (word ≡ register_word other)
-HasForm (Number n) word = is_number word ≡ true
+HasForm (Number n) word = is_number_word word ≡ true
 HasForm (Target d) word = (is_distance word || is_name word) ≡ true
 
 abbrev pub HaveForms : List Operand → List Word → Type 0

@@ -3,7 +3,7 @@ use Rattle.std.specs.Prelude.{◌≡◌, ◌⊎◌, ⊤, true, ◌||◌, List, [
 use Rattle.insn.specs.declared.register.RegNo.{RegNo}
 use Rattle.assembly.specs.declared.mnemonic.Mnemonic.{Mnemonic}
 use Rattle.assembly.specs.declared.mnemonic.Mnemonic.TheVariants.{Alu, Divide, Remainder, Negate, MoveSigned, SwapBytes, LoadWide, Load, LoadSigned, StoreReg, StoreImm, Jump, JumpLong, JumpIf, Exit}
-use Rattle.assembly.specs.Text.{register_word, is_number, is_distance, is_name, Word}
+use Rattle.assembly.specs.Text.{register_word, is_number_word, is_distance, is_name, Word}
 use Rattle.assembler.specs.declared.form.OperandKind.{OperandKind}
 use Rattle.assembler.specs.declared.form.OperandKind.TheVariants.{Register, Source, Number, Target}
 
@@ -28,8 +28,8 @@ kinds_of Exit = []
 -- a word has the form of such an operand
 abbrev pub IsOfKind : OperandKind → Word → Type 0
 IsOfKind Register word = (r : RegNo) × (word ≡ register_word r)
-IsOfKind Source word = ((r : RegNo) × (word ≡ register_word r)) ⊎ (is_number word ≡ true)
-IsOfKind Number word = is_number word ≡ true
+IsOfKind Source word = ((r : RegNo) × (word ≡ register_word r)) ⊎ (is_number_word word ≡ true)
+IsOfKind Number word = is_number_word word ≡ true
 IsOfKind Target word = (is_distance word || is_name word) ≡ true
 
 abbrev pub HaveKinds : List OperandKind → List Word → Type 0

@@ -11,5 +11,5 @@ abbrev pub number_from : ℕ → List ℕ → ℕ
 number_from n [] = n
 number_from n (c ∷ cs) = number_from (n * 10 + (c - 48)) cs
 
-abbrev pub number_of : List ℕ → ℕ
-number_of digits = number_from 0 digits
+abbrev pub decimal_value : List ℕ → ℕ
+decimal_value digits = number_from 0 digits

@@ -1,5 +1,5 @@
 -- What is kept of the lines of a text that is read.
-use Rattle.std.specs.Prelude.{◌≡◌, ⊤, ℕ, ◌+◌, pos, ◌-ℤ◌, ◌≤◌, List, [], ◌∷◌, ◌++◌, map, Option, Some, None}
+use Rattle.std.specs.Prelude.{◌≡◌, ⊤, ℕ, ◌+◌, pos, ◌≤◌, List, [], ◌∷◌, map, Option}
 use Rattle.std.specs.Borrow.{Bor}
 use Rattle.std.specs.BTreeMap.{BTreeMap, get_by}
 use Rattle.std.specs.Cmp.Lexicographic.{slice_cmp}
@@ -11,10 +11,6 @@ use Rattle.assembly.specs.Text.{Word, Line, Blank, Label, Statement, labels_in, 
 use Rattle.assembler.specs.declared.slot_number.SlotNumber.{SlotNumber}
 use Rattle.assembler.specs.declared.draft.Draft.{Draft}
 use Rattle.assembler.specs.declared.draft.Draft.TheVariants.{Whole, ToLabel}
-use Rattle.assembler.specs.declared.draft.WordFault.{WordFault}
-use Rattle.assembler.specs.declared.draft.WordFault.TheVariants.{UnknownWord, BadOperand, OutOfRange}
-use Rattle.assembler.specs.declared.fault.AsmFault.{AsmFault}
-use Rattle.assembler.specs.declared.fault.AsmFault.TheVariants as faults
 use Rattle.assembler.specs.declared.sheet.Place.{Place}
 use Rattle.assembler.specs.Drafts.{draft_slots, jump_over, IsDraft}
 
@@ -40,14 +36,6 @@ with_zero (ToLabel jump name) = jump_over jump (pos 0)
 abbrev pub zeroed : List Place → List Insn
 zeroed places = map (λ p. with_zero p.draft) places
 
--- the instruction of a draft, where labels stand at these slots, and of a place
-abbrev pub resolution_of : (Word → Option ℕ) → ℕ → Draft → Option Insn
-resolution_of find behind (Whole i) = Some i
-resolution_of find behind (ToLabel jump name) = option_map (λ to. jump_over jump (pos to -ℤ pos behind)) (find name.now)
-
-abbrev pub resolution : (Word → Option ℕ) → Place → Option Insn
-resolution find p = resolution_of find p.behind.number p.draft
-
 -- the slot of a name in a map
 abbrev pub find_in : BTreeMap (Bor (List ℕ)) SlotNumber → Word → Option ℕ
 find_in labels name = option_map (λ slot. slot.number) (get_by (λ key. slice_cmp nat_cmp name key.now) labels)
@@ -62,31 +50,3 @@ pub record AreRead (lines : List Line) (places : List Place) (find : Word → Op
 pub record IsSheet (lines : List Line) (places : List Place) (find : Word → Option ℕ) : Type 0 where
   pub lines_read : AreRead lines places find (slot_count (zeroed places))
   pub short : slot_count (zeroed places) ≤ SLOT_LIMIT
-
--- the fault of a line's words
-abbrev pub fault_at : WordFault → ℕ → AsmFault
-fault_at UnknownWord line = faults.UnknownWord line
-fault_at BadOperand line = faults.BadOperand line
-fault_at OutOfRange line = faults.OutOfRange line
-
--- a place whose label stands nowhere, behind others whose labels stand somewhere
-pub record FirstLostPlace (find : Word → Option ℕ) (places : List Place) (line : ℕ) : Type 0 where
-  pub front : List Place
-  pub here : Place
-  pub back : List Place
-  pub known : List Insn
-  pub parts : places ≡ front ++ here ∷ back
-  pub resolved : map Some known ≡ map (resolution find) front
-  pub lost : resolution find here ≡ None
-  pub told : line ≡ here.line
-
--- how the look-up of labels ends without instructions
-abbrev pub Unresolved : (Word → Option ℕ) → List Place → AsmFault → Type 0
-Unresolved find places (faults.UnknownLabel line) = FirstLostPlace find places line
-Unresolved find places faults.Memory = ⊤
-Unresolved find places (faults.UnknownWord line) = ⊥
-Unresolved find places (faults.BadOperand line) = ⊥
-Unresolved find places (faults.OutOfRange line) = ⊥
-Unresolved find places (faults.DoubleLabel line) = ⊥
-Unresolved find places (faults.TooLong line) = ⊥
-Unresolved find places faults.NoInstruction = ⊥

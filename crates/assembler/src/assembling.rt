@@ -5,7 +5,8 @@ ghost use Rattle.std.specs.List.{slice_split};
 ghost use Rattle.insn.specs.declared.instruction.Insn.{Insn};
 ghost use Rattle.assembly.specs.Text.{Text};
 ghost use Rattle.assembler.specs.Faults.{FirstTextFault};
-ghost use Rattle.assembler.specs.Sheets.{find_in, resolution, Unresolved};
+ghost use Rattle.assembler.specs.Sheets.{find_in};
+ghost use Rattle.assembler.specs.SheetsParts.{resolution, Unresolved};
 
 use crate::draft::Draft;
 use crate::fault::AsmFault;

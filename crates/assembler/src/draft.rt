@@ -2,7 +2,8 @@
 
 ghost use Rattle.std.specs.Prelude.{◌≡◌, [], ◌∷◌, length, map};
 ghost use Rattle.assembler.specs.Forms.{kinds_of};
-ghost use Rattle.assembler.specs.Drafts.{condition_of, draft_slots, jump_over, DraftOf, HasTarget, IsSource, StatementDraft};
+ghost use Rattle.assembler.specs.Drafts.{draft_slots, jump_over, StatementDraft};
+ghost use Rattle.assembler.specs.DraftsParts.{condition_of, DraftOf, HasTarget, IsSource};
 ghost use Rattle.assembly.specs.declared.mnemonic.Mnemonic.TheVariants as mnemonic;
 
 use crate::form::{have_form, kinds};

@@ -7,7 +7,7 @@ ghost use Rattle.std.specs.List.{list_all};
 ghost use Rattle.insn.specs.declared.register.RegNo.{RegNo};
 ghost use Rattle.assembly.specs.Text as text;
 ghost use Rattle.assembly.specs.Text.{distance_word, register_word};
-ghost use Rattle.assembler.specs.Operands.{IsSmall, number_of};
+ghost use Rattle.assembler.specs.Operands.{IsSmall, decimal_value};
 
 use insn::register::RegNo;
 
@@ -51,7 +51,7 @@ fn is_natural(word: &[u8]) -> bool
 
 /// Whether a word is a number: a natural one, or a minus and a positive one.
 pub fn is_number(word: &[u8]) -> bool
-    ensures { result ≡ text.is_number word.now }
+    ensures { result ≡ text.is_number_word word.now }
 {
     match word.split_first() {
         Some((b'-', digits)) => is_positive(digits),
@@ -95,8 +95,8 @@ pub fn is_name(word: &[u8]) -> bool
 /// The number that digits say, where it is below `2^64`.
 fn value(digits: &[u8]) -> Option<u64>
     requires { list_all text.is_digit digits.now ≡ true }
-    ensures some { IfSome result (λ n. number_of digits.now ≡ n) }
-    ensures none { IfNone result (2 ^ 64 ≤ number_of digits.now) }
+    ensures some { IfSome result (λ n. decimal_value digits.now ≡ n) }
+    ensures none { IfNone result (2 ^ 64 ≤ decimal_value digits.now) }
 {
     let mut number: u64 = 0;
     for digit in digits {

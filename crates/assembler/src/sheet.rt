@@ -2,7 +2,8 @@
 
 ghost use Rattle.std.specs.Prelude.{◌≡◌, map, IfOk, IfErr};
 ghost use Rattle.assembler.specs.Faults.{FaultIn};
-ghost use Rattle.assembler.specs.Sheets.{fault_at, find_in, lines_of, IsSheet};
+ghost use Rattle.assembler.specs.Sheets.{find_in, lines_of, IsSheet};
+ghost use Rattle.assembler.specs.SheetsParts.{fault_on_line};
 
 use crate::draft::{Draft, WordFault, statement};
 use crate::fault::AsmFault;
@@ -29,7 +30,7 @@ pub struct Sheet<'a> {
 impl WordFault {
     /// The fault at a line.
     fn at(self, line: usize) -> AsmFault
-        ensures { result ≡ fault_at self line }
+        ensures { result ≡ fault_on_line self line }
     {
         match self {
             WordFault::UnknownWord => AsmFault::UnknownWord(line),

@@ -46,9 +46,9 @@ abbrev pub is_natural : Word → Bool
 is_natural word = is_positive word || bytes_eq word (codes "0")
 
 -- a natural number, or a minus and a positive one
-abbrev pub is_number : Word → Bool
-is_number [] = false
-is_number (c ∷ word) = if c == 45 then is_positive word else is_natural (c ∷ word)
+abbrev pub is_number_word : Word → Bool
+is_number_word [] = false
+is_number_word (c ∷ word) = if c == 45 then is_positive word else is_natural (c ∷ word)
 
 -- a plus and a natural number, or a minus and a positive one
 abbrev pub is_distance : Word → Bool
@@ -321,14 +321,14 @@ pub record Text (text : List ℕ) (program : List Insn) : Type 0 where
 
 -- ---- the canonical text
 
-abbrev pub operand_word : Operand → Word
-operand_word (Register r) = register_word r
-operand_word (Number n) = signed_decimal n
-operand_word (Target d) = distance_word d
+abbrev pub written_operand : Operand → Word
+written_operand (Register r) = register_word r
+written_operand (Number n) = signed_decimal n
+written_operand (Target d) = distance_word d
 
 -- an instruction's line: its words with one space between two, and a line feed
 abbrev pub canonical_line : Insn → List ℕ
-canonical_line i = name_of i ++ flat_map (λ operand. codes " " ++ operand_word operand) (operands_of i) ++ codes "\n"
+canonical_line i = name_of i ++ flat_map (λ operand. codes " " ++ written_operand operand) (operands_of i) ++ codes "\n"
 
 -- a program's one canonical text: a line for each instruction, and targets as distances
 abbrev pub canonical_text : List Insn → List ℕ

@@ -9,7 +9,7 @@ use Rattle.std.specs.Int.{w16, w32}
 use Rattle.insn.specs.declared.register.RegNo.{RegNo}
 use Rattle.insn.specs.declared.register.RegNo.TheVariants.{R0, R1, R2, R3, R4, R5, R6, R7, R8, R9, R10}
 use Rattle.insn.specs.Instruction.{reg_number}
-use Rattle.assembly.specs.Text.{Word, Operand, Register, Number, Target, is_digit, is_empty, is_name, register_word, distance_word, operand_word, SaysOperand, SaysOperands}
+use Rattle.assembly.specs.Text.{Word, Operand, Register, Number, Target, is_digit, is_empty, is_name, register_word, distance_word, written_operand, SaysOperand, SaysOperands}
 
 -- a byte that parts no words and no lines, begins no comment and ends no label
 abbrev pub is_plain : ℕ → Bool
@@ -21,8 +21,8 @@ pub record Plain (c : ℕ) : Type 0 where
   pub no_space : (c == 32 || c == 9) ≡ false
   pub no_colon : (c == 58) ≡ false
 
-pub plain : (c : ℕ) → is_plain c ≡ true → Plain c
-plain c h =
+pub plain_code : (c : ℕ) → is_plain c ≡ true → Plain c
+plain_code c h =
     let a = and_parts (not (c == 10)) (not (c == 59) && (not (c == 32 || c == 9) && not (c == 58))) h in
     let b = and_parts (not (c == 59)) (not (c == 32 || c == 9) && not (c == 58)) a.1 in
     let d = and_parts (not (c == 32 || c == 9)) (not (c == 58)) b.1 in
@@ -71,24 +71,24 @@ decimal_begins n short = begins_with_digit (decimal n) (decimal_nonempty n short
 -- ---- the numbers that are written
 
 -- a number of at most 64 bits
-abbrev pub IsShort : ℤ → Type 0
-IsShort (pos n) = n < 2 ^ 64
-IsShort (negsuc n) = suc n < 2 ^ 64
+abbrev pub IsShortNumber : ℤ → Type 0
+IsShortNumber (pos n) = n < 2 ^ 64
+IsShortNumber (negsuc n) = suc n < 2 ^ 64
 
 abbrev pub IsShortOperand : Operand → Type 0
 IsShortOperand (Register r) = Unit {0}
-IsShortOperand (Number n) = IsShort n
-IsShortOperand (Target d) = IsShort d
+IsShortOperand (Number n) = IsShortNumber n
+IsShortOperand (Target d) = IsShortNumber d
 
-pub short_of_16 : (z : ℤ) → FitsSigned w16 z → IsShort z
+pub short_of_16 : (z : ℤ) → FitsSigned w16 z → IsShortNumber z
 short_of_16 (pos n) h = omega arith
 short_of_16 (negsuc n) h = omega arith
 
-pub short_of_32 : (z : ℤ) → FitsSigned w32 z → IsShort z
+pub short_of_32 : (z : ℤ) → FitsSigned w32 z → IsShortNumber z
 short_of_32 (pos n) h = omega arith
 short_of_32 (negsuc n) h = omega arith
 
--- ---- words are plain
+-- ---- words are plain_code
 
 pub record PlainWord (word : Word) : Type 0 where
   pub bytes : list_all is_plain word ≡ true
@@ -123,16 +123,16 @@ reg_number_short R10 = omega arith
 pub plain_register : (r : RegNo) → PlainWord (register_word r)
 plain_register r = plain_after 114 (decimal (reg_number r)) refl (plain_decimal (reg_number r) (reg_number_short r))
 
-pub plain_number : (z : ℤ) → IsShort z → PlainWord (signed_decimal z)
+pub plain_number : (z : ℤ) → IsShortNumber z → PlainWord (signed_decimal z)
 plain_number (pos n) short = plain_decimal n short
 plain_number (negsuc n) short = plain_after 45 (decimal (suc n)) refl (plain_decimal (suc n) short)
 
-pub plain_distance : (z : ℤ) → IsShort z → PlainWord (distance_word z)
+pub plain_distance : (z : ℤ) → IsShortNumber z → PlainWord (distance_word z)
 plain_distance (pos n) short = plain_after 43 (decimal n) refl (plain_decimal n short)
 plain_distance (negsuc n) short = plain_after 45 (decimal (suc n)) refl (plain_decimal (suc n) short)
 
--- an operand's word is plain
-pub plain_operand : (o : Operand) → IsShortOperand o → PlainWord (operand_word o)
+-- an operand's word is plain_code
+pub plain_operand : (o : Operand) → IsShortOperand o → PlainWord (written_operand o)
 plain_operand (Register r) short = plain_register r
 plain_operand (Number n) short = plain_number n short
 plain_operand (Target d) short = plain_distance d short
@@ -172,7 +172,7 @@ decimal-ne c n word out short e =
     let high : b.0.first ≤ 57 = b.2 in
     omega arith
 
-pub signed_decimal-injective : (y z : ℤ) → IsShort y → IsShort z → signed_decimal y ≡ signed_decimal z → y ≡ z
+pub signed_decimal-injective : (y z : ℤ) → IsShortNumber y → IsShortNumber z → signed_decimal y ≡ signed_decimal z → y ≡ z
 signed_decimal-injective (pos m) (pos n) p q e = ap pos (decimal_injective m n p q e)
 signed_decimal-injective (pos m) (negsuc n) p q e = absurd (decimal-ne 45 m (decimal (suc n)) (inl (omega arith)) p e)
 signed_decimal-injective (negsuc m) (pos n) p q e = absurd (decimal-ne 45 n (decimal (suc m)) (inl (omega arith)) q (sym e))
@@ -183,14 +183,14 @@ other_first : (c d : ℕ) (word other : Word) → (c < d) ⊎ (d < c) → c ∷ 
 other_first c d word other (inl below) e = let same : c ≡ d = cc in omega arith
 other_first c d word other (inr above) e = let same : c ≡ d = cc in omega arith
 
-pub distance_word-injective : (y z : ℤ) → IsShort y → IsShort z → distance_word y ≡ distance_word z → y ≡ z
+pub distance_word-injective : (y z : ℤ) → IsShortNumber y → IsShortNumber z → distance_word y ≡ distance_word z → y ≡ z
 distance_word-injective (pos m) (pos n) p q e = ap pos (decimal_injective m n p q (ap (drop 1) e))
 distance_word-injective (pos m) (negsuc n) p q e = absurd (other_first 43 45 (decimal m) (decimal (suc n)) (inl (omega arith)) e)
 distance_word-injective (negsuc m) (pos n) p q e = absurd (other_first 45 43 (decimal (suc m)) (decimal n) (inr (omega arith)) e)
 distance_word-injective (negsuc m) (negsuc n) p q e = signed_decimal-injective (negsuc m) (negsuc n) p q e
 
 -- no register's word is a number's
-pub register_is_no_number : (r : RegNo) (z : ℤ) → IsShort z → register_word r ≡ signed_decimal z → ⊥
+pub register_is_no_number : (r : RegNo) (z : ℤ) → IsShortNumber z → register_word r ≡ signed_decimal z → ⊥
 register_is_no_number r (pos n) short e = decimal-ne 114 n (decimal (reg_number r)) (inr (omega arith)) short (sym e)
 register_is_no_number r (negsuc n) short e = other_first 114 45 (decimal (reg_number r)) (decimal (suc n)) (inr (omega arith)) e
 
@@ -215,7 +215,7 @@ SaysTarget Leads word d = (word ≡ distance_word d) ⊎ ((is_name word ≡ true
 no_name : (word : Word) (d : ℤ) → word ≡ distance_word d → is_name word ≡ true → ⊥
 no_name word d e named = false≢true (sym (distance_is_no_name d) ∙ ap is_name (sym e) ∙ named)
 
-one_target : (Leads : Word → ℤ → Type 0) → LeadsToOne Leads → (word : Word) (d e : ℤ) → IsShort d → IsShort e → SaysTarget Leads word d → SaysTarget Leads word e → d ≡ e
+one_target : (Leads : Word → ℤ → Type 0) → LeadsToOne Leads → (word : Word) (d e : ℤ) → IsShortNumber d → IsShortNumber e → SaysTarget Leads word d → SaysTarget Leads word e → d ≡ e
 one_target Leads one word d e p q (inl s) (inl t) = distance_word-injective d e p q (sym s ∙ t)
 one_target Leads one word d e p q (inl s) (inr t) = absurd (no_name word d s t.0)
 one_target Leads one word d e p q (inr s) (inl t) = absurd (no_name word e t s.0)

@@ -3,7 +3,8 @@
 ghost use Rattle.std.specs.Prelude.{◌≡◌, List, [], ◌∷◌, is_ok, IsErrOf};
 ghost use Rattle.std.specs.Borrow.{ftrue};
 ghost use Rattle.batch_file.specs.declared.device.DeviceFault.TheVariants.{Memory};
-ghost use Rattle.batch_file.specs.Calls.{logged, noted, Logged};
+ghost use Rattle.batch_file.specs.Calls.{Logged};
+ghost use Rattle.batch_file.specs.CallsParts.{logged, noted};
 
 use crate::device::DeviceFault;
 use std::io;

@@ -7,11 +7,6 @@ abbrev pub ◌>>=◌ : {A B E : Type 0} → Result A E → (A → Result B E) �
 Ok x >>= next = next x
 Err e >>= next = Err e
 
--- the value of another type, or the same fault
-abbrev pub seen_by : {A B E : Type 0} → (A → B) → Result A E → Result B E
-seen_by view (Ok x) = Ok (view x)
-seen_by view (Err e) = Err e
-
 -- the answer is the expected one, or memory was refused where it was wanted
 abbrev pub GivesUnless : {A E : Type 0} → E → Type 0 → Result A E → Result A E → Type 0
 GivesUnless refused wanted answer expected =

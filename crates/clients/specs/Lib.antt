@@ -1,3 +1,4 @@
+-- What public clauses cite. docs/DEFINITIONS.md says what to read in which order.
 pub mod Limits
 pub mod Faults
 pub mod Json
@@ -16,4 +17,7 @@ pub mod Registry
 pub mod RegistryRules
 pub mod Spots
 pub mod FaultTexts
+-- What only the contracts of this crate's own parts and their proofs cite.
+pub mod FaultsParts
+-- Laws, each proved: a reader may skip them.
 pub mod RegistryLaws

@@ -4,7 +4,8 @@ ghost use Rattle.std.specs.Prelude.{◌≡◌, ◌<◌, ◌≤◌, [], ◌∷◌
 ghost use Rattle.std.specs.List.{list_any};
 ghost use Rattle.std.specs.Str.{bytes_eq};
 ghost use Rattle.serde_json.specs.View.{view, items_view};
-ghost use Rattle.clients.specs.Faults.{GivesUnless, seen_by};
+ghost use Rattle.clients.specs.Faults.{GivesUnless};
+ghost use Rattle.clients.specs.FaultsParts.{seen_by};
 ghost use Rattle.clients.specs.Limits.{client_limit, identifier_limit, redirect_limit};
 ghost use Rattle.clients.specs.Grants.{has_grant};
 ghost use Rattle.clients.specs.Numbers.{number_among};

@@ -2,7 +2,7 @@
 
 ghost use Rattle.std.specs.Prelude.{◌≡◌, ◌≤◌, length, IfOk};
 ghost use Rattle.serde_json.specs.View.{view, items_view};
-ghost use Rattle.clients.specs.Faults.{seen_by};
+ghost use Rattle.clients.specs.FaultsParts.{seen_by};
 ghost use Rattle.clients.specs.Json.{member_of, text_of, life_of, list_of, items_within};
 
 use crate::fault::ConfigFault;

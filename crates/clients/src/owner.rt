@@ -3,7 +3,8 @@
 ghost use Rattle.std.specs.Prelude.{◌≡◌, ◌<◌, ◌≤◌, [], ◌∷◌, ◌++◌, length, map, string_bytes, option_map, option_copied, bytes_eq, is_some, None, IfSome, IfOk, IsOk, OnOk, OnErr};
 ghost use Rattle.serde_json.specs.View.{view, items_view};
 ghost use Rattle.clients.specs.Limits.{owner_limit, key_limit};
-ghost use Rattle.clients.specs.Faults.{GivesUnless, seen_by};
+ghost use Rattle.clients.specs.Faults.{GivesUnless};
+ghost use Rattle.clients.specs.FaultsParts.{seen_by};
 ghost use Rattle.clients.specs.Keys.{key_digest};
 ghost use Rattle.clients.specs.Numbers.{number_among};
 ghost use Rattle.clients.specs.Owners.{keys, owner_with, sub_of, key_in, new_key, sub_member, owner_of, owners_after};

@@ -4,7 +4,8 @@ ghost use Rattle.std.specs.Prelude.{◌≡◌, ◌<◌, ◌≤◌, [], length, m
 ghost use Rattle.serde_json.specs.View.{view, items_view};
 ghost use Rattle.clients.specs.Limits.{redirect_limit};
 ghost use Rattle.clients.specs.Json.{text_of};
-ghost use Rattle.clients.specs.Faults.{GivesUnless, seen_by};
+ghost use Rattle.clients.specs.Faults.{GivesUnless};
+ghost use Rattle.clients.specs.FaultsParts.{seen_by};
 ghost use Rattle.clients.specs.Redirect.{is_plain_web, is_redirect, redirect_of, redirects_after};
 ghost use Rattle.clients.specs.Spots.{redirect_at_fault};
 

@@ -2,7 +2,8 @@
 
 ghost use Rattle.std.specs.Prelude.{◌≡◌, ◌<◌, ◌≤◌, [], true, length, Some, IfOk, OnOk, IfSome, option_copied, IsUtf8};
 ghost use Rattle.serde_json.specs.View.{view, items_view};
-ghost use Rattle.clients.specs.Faults.{GivesUnless, seen_by};
+ghost use Rattle.clients.specs.Faults.{GivesUnless};
+ghost use Rattle.clients.specs.FaultsParts.{seen_by};
 ghost use Rattle.clients.specs.Numbers.{number_among};
 ghost use Rattle.clients.specs.Limits.{key_limit, owner_limit, client_limit};
 ghost use Rattle.clients.specs.Owners.{owner_with, sub_of};

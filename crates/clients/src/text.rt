@@ -3,7 +3,7 @@
 ghost use Rattle.std.specs.Prelude.{◌≡◌};
 ghost use Rattle.std.specs.List.{list_all};
 ghost use Rattle.serde_json.specs.View.{view};
-ghost use Rattle.clients.specs.Faults.{seen_by};
+ghost use Rattle.clients.specs.FaultsParts.{seen_by};
 ghost use Rattle.clients.specs.Texts.{is_visible, is_key, is_identifier_byte, is_identifier, key_of, identifier_of};
 
 use crate::fault::ConfigFault;

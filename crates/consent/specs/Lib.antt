@@ -1,12 +1,15 @@
+-- What public clauses cite. docs/DEFINITIONS.md says what to read in which order.
 pub mod Limits
 pub mod Versions
 pub mod History
 pub mod Consents
-pub mod Covered
-pub mod Growth
 pub mod Changes
 pub mod Seen
 pub mod FaultTexts
+-- What only the contracts of this crate's own parts and their proofs cite.
+pub mod Covered
+pub mod Growth
+-- Laws, each proved: a reader may skip them.
 pub mod ListLaws
 pub mod GrowthLaws
 pub mod HistoryLaws

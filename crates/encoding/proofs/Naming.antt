@@ -27,7 +27,7 @@ use Rattle.encoding.specs.declared.slot.Slot.{Slot}
 use Rattle.encoding.specs.declared.slot_fault.SlotFault.{SlotFault}
 use Rattle.encoding.specs.declared.slot_fault.SlotFault.TheVariants.{UnknownOpcode, BadRegister, NonzeroField, TruncatedWide, Atomic, Call, LegacyLoad}
 use Rattle.encoding.specs.Spelling.{BeginsNone, HasBadRegister, IsCutOff, IsOpcode, IsSlot, IsSlotFault, LOAD_WIDE, first_slot, is_one_of, refused_as, slot, slot_bytes, slots}
-use Rattle.encoding.specs.Opcodes.{Field, Fields, OneOf, Unused, Used, allows, fault_with, field_fault, fields_of, is_above, is_bad_field, is_bad_register, is_bad_second, slot_fault, wide_fault}
+use Rattle.encoding.specs.Opcodes.{FieldUse, Fields, OneOf, Unused, Used, allows, fault_with, field_fault, fields_of, is_above, is_bad_field, is_bad_register, is_bad_second, slot_fault, wide_fault}
 use Rattle.encoding.proofs.Faultless.{first_good}
 use Rattle.encoding.proofs.Spellings.{length-slots}
 
@@ -64,7 +64,7 @@ unfoldable example : ℕ → Insn
 example opcode = first_with opcode examples
 
 -- where the table uses a field a register stands
-abbrev shows_field : Field → ℕ → Bool
+abbrev shows_field : FieldUse → ℕ → Bool
 shows_field Unused n = true
 shows_field field n = nat_lt 0 n
 
@@ -103,7 +103,7 @@ has_example opcode f small e =
 
 -- ---- registers
 
-above : (field : Field) (n m : ℕ) → is_above field n ≡ true → shows_field field m ≡ true → (10 < n) × (1 ≤ m)
+above : (field : FieldUse) (n m : ℕ) → is_above field n ≡ true → shows_field field m ≡ true → (10 < n) × (1 ≤ m)
 above Unused n m h k = absurd cc
 above Used n m h k = (ltb-true 10 n h, ltb-true 0 m k)
 above (OneOf values) n m h k = (ltb-true 10 n h, ltb-true 0 m k)
@@ -172,7 +172,7 @@ registers_allowed i opcode f same e =
     let none : fault_with (Some f) (first_slot i) (behind_first i) ≡ None = ap (λ (o : Option Fields). fault_with o (first_slot i) (behind_first i)) (sym fields) ∙ good_first i in
     allowed f (first_slot i) (no_field_fault (is_bad_register f (first_slot i)) (is_bad_field f (first_slot i)) (passes f (first_slot i) (behind_first i) none)).1
 
-used_above : (field : Field) (n m : ℕ) → allows field (pos n) ≡ true → 1 ≤ n → 10 < m → is_above field m ≡ true
+used_above : (field : FieldUse) (n m : ℕ) → allows field (pos n) ≡ true → 1 ≤ n → 10 < m → is_above field m ≡ true
 used_above Unused n m h some more = let e = eqb-true n 0 h in absurd (omega arith)
 used_above Used n m h some more = lt-ltb 10 m more
 used_above (OneOf values) n m h some more = lt-ltb 10 m more

@@ -13,7 +13,8 @@ use Rattle.encoding.specs.declared.slot.Slot.{Slot}
 use Rattle.encoding.specs.declared.slot_fault.SlotFault.{SlotFault}
 use Rattle.insn.specs.Instruction.{reg_number, slots_of}
 use Rattle.encoding.specs.Spelling.{slot, slots, slot_bytes, LOAD_WIDE, JUMP, JUMP_LONG, EXIT}
-use Rattle.encoding.specs.Opcodes.{slot_fault, fault_with, fields_of, BeginsWith, Fields, IsAllOf}
+use Rattle.encoding.specs.Opcodes.{slot_fault, fault_with, fields_of, Fields}
+use Rattle.encoding.specs.OpcodesParts.{BeginsWith, IsAllOf}
 use Rattle.encoding.specs.OpcodeLaws.{fields_by_halves, memory_fields}
 use Rattle.encoding.proofs.Spellings.{length-slots}
 

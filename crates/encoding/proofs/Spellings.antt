@@ -11,7 +11,7 @@ use Rattle.encoding.specs.declared.slot.Slot.{Slot}
 use Rattle.insn.specs.Instruction.{slots_of, Fits}
 use Rattle.insn.specs.Program.{slot_count}
 use Rattle.encoding.specs.Spelling.{IsSlotFault, slots, slot_bytes, spelling, slot_fault_at, FaultAt, FirstInsnFault, IsSlot, IsWhole, Spells}
-use Rattle.encoding.specs.Opcodes.{BeginsWith}
+use Rattle.encoding.specs.OpcodesParts.{BeginsWith}
 use Rattle.encoding.specs.declared.slot_fault.SlotFault.{SlotFault}
 use Rattle.encoding.specs.declared.slot_fault.SlotFault.TheVariants.{UnknownOpcode, BadRegister, NonzeroField, TruncatedWide, Atomic, Call, LegacyLoad}
 

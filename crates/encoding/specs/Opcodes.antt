@@ -1,32 +1,30 @@
 -- Working definitions, for proofs alone: the table of opcodes, a line for each use of the fields, as a decoder goes through it.
 -- What it refuses IsSlotFault refuses, by the law slots_have_the_faults_of_the_table.
-use Rattle.std.specs.Prelude.{◌≡◌, ℕ, ◌+◌, ◌-◌, ◌*◌, ◌≤◌, ◌==◌, ◌&&◌, ◌||◌, not, nat_lt, Bool, true, false, if◌then◌else◌, ℤ, pos, negsuc, List, [], ◌∷◌, ◌++◌, length, map, take, Option, Some, None}
+use Rattle.std.specs.Prelude.{ℕ, ◌==◌, ◌&&◌, ◌||◌, not, nat_lt, Bool, true, false, if◌then◌else◌, ℤ, pos, negsuc, List, [], ◌∷◌, length, map, take, Option, Some, None}
 use Rattle.std.specs.List.{list_any}
 use Rattle.std.specs.Option.{option_or}
 use Rattle.insn.specs.declared.operation.AluOp.TheVariants.{Add, Sub, Mul, Or, And, Lsh, Rsh, Xor, Mov, Arsh}
 use Rattle.insn.specs.declared.operation.Cond.TheVariants.{Eq, Gt, Ge, Set, Ne, Sgt, Sge, Lt, Le, Slt, Sle}
-use Rattle.insn.specs.declared.instruction.Insn.{Insn}
 use Rattle.encoding.specs.declared.slot.Slot.{Slot}
 use Rattle.encoding.specs.declared.slot_fault.SlotFault.{SlotFault}
 use Rattle.encoding.specs.declared.slot_fault.SlotFault.TheVariants.{BadRegister, NonzeroField, TruncatedWide}
-use Rattle.insn.specs.Instruction.{slots_of, Fits}
-use Rattle.encoding.specs.Spelling.{LOAD_WIDE, cond_code, is_one_of, op_code, refused_as, slot_bytes, slots, spelling}
+use Rattle.encoding.specs.Spelling.{LOAD_WIDE, cond_code, is_one_of, op_code, refused_as}
 
 -- ---- rows
 
 -- what a row of the table says of a field: it is 0, it is used, or it has one of some values
-pub data Field : Type 0 where
-  Unused : Field
-  Used : Field
-  OneOf : List ℕ → Field
+pub data FieldUse : Type 0 where
+  Unused : FieldUse
+  Used : FieldUse
+  OneOf : List ℕ → FieldUse
 
 pub record Fields : Type 0 where
-  pub dst : Field
-  pub src : Field
-  pub offset : Field
-  pub imm : Field
+  pub dst : FieldUse
+  pub src : FieldUse
+  pub offset : FieldUse
+  pub imm : FieldUse
 
-abbrev pub uses : Field → Field → Field → Field → Fields
+abbrev pub uses : FieldUse → FieldUse → FieldUse → FieldUse → Fields
 uses dst src offset imm = record { dst = dst; src = src; offset = offset; imm = imm }
 
 -- the opcodes of operations, and of jumps, whose high halves are these
@@ -90,7 +88,7 @@ unfoldable pub fields_of : ℕ → Option Fields
 fields_of opcode = in_rows opcode_table opcode
 
 -- a field that is not used is 0, and one of some values has one of them
-abbrev pub allows : Field → ℤ → Bool
+abbrev pub allows : FieldUse → ℤ → Bool
 allows Used n = true
 allows Unused (pos n) = n == 0
 allows Unused (negsuc n) = false
@@ -98,7 +96,7 @@ allows (OneOf values) (pos n) = is_one_of values n
 allows (OneOf values) (negsuc n) = false
 
 -- the number of a register that is used is above 10
-abbrev pub is_above : Field → ℕ → Bool
+abbrev pub is_above : FieldUse → ℕ → Bool
 is_above Unused n = false
 is_above field n = nat_lt 10 n
 
@@ -132,13 +130,3 @@ abbrev pub slot_fault : Slot → List ℕ → Option SlotFault
 slot_fault s behind = fault_with (fields_of s.opcode) s behind
 
 -- ---- what is read
-
--- a slot is all of an instruction
-abbrev pub IsAllOf : Insn → Slot → Type 0
-IsAllOf i s = (slots i ≡ s ∷ []) × Fits i
-
--- a slot and the bytes behind it begin with an instruction
-pub record BeginsWith (s : Slot) (behind : List ℕ) (i : Insn) : Type 0 where
-  pub fit : Fits i
-  pub room : 8 * slots_of i ≤ 8 + length behind
-  pub spelled : spelling (i ∷ []) ≡ slot_bytes s ++ take (8 * (slots_of i - 1)) behind

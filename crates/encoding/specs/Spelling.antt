@@ -183,7 +183,8 @@ slots (Remainder width signedness dst (Reg src)) = slot (reg_opcode width REMAIN
 slots (Negate width dst) = slot (imm_opcode width NEGATE) (reg_number dst) 0 (pos 0) (pos 0) ∷ []
 slots (MoveSigned extension dst src) = slot (extension_opcode extension) (reg_number dst) (reg_number src) (extension_code extension) (pos 0) ∷ []
 slots (SwapBytes kind bits dst) = slot (swap_opcode kind) (reg_number dst) 0 (pos 0) (swap_code bits) ∷ []
-slots (LoadWide dst value) = slot LOAD_WIDE (reg_number dst) 0 (pos 0) (cast_signed w32 (value % 2 ^ 32)) ∷ slot 0 0 0 (pos 0) (cast_signed w32 (value / 2 ^ 32)) ∷ []
+slots (LoadWide dst value) =
+    slot LOAD_WIDE (reg_number dst) 0 (pos 0) (cast_signed w32 (value % 2 ^ 32)) ∷ slot 0 0 0 (pos 0) (cast_signed w32 (value / 2 ^ 32)) ∷ []
 slots (Load size dst src offset) = slot (load_opcode size) (reg_number dst) (reg_number src) offset (pos 0) ∷ []
 slots (LoadSigned size dst src offset) = slot (load_signed_opcode size) (reg_number dst) (reg_number src) offset (pos 0) ∷ []
 slots (StoreReg size dst src offset) = slot (store_reg_opcode size) (reg_number dst) (reg_number src) offset (pos 0) ∷ []

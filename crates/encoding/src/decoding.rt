@@ -7,7 +7,8 @@ ghost use Rattle.insn.specs.declared.instruction.Insn.{Insn};
 ghost use Rattle.insn.specs.Instruction.{reg_number};
 ghost use Rattle.encoding.specs.OpcodeLaws.{code_row, fields_by_halves, imm_fields, memory_fields, move_offsets, reg_fields};
 ghost use Rattle.encoding.specs.Spelling.{imm_opcode, jump_imm_opcode, jump_reg_opcode, load_opcode, load_signed_opcode, op_code, refused_as, reg_opcode, signedness_code, slot, slot_bytes, slots, store_imm_opcode, store_reg_opcode, swap_opcode, DIVIDE, EXIT, FirstInsnFault, IsSlot, IsWhole, JUMP, JUMP_LONG, LOAD_WIDE, NEGATE, REMAINDER, Spells};
-ghost use Rattle.encoding.specs.Opcodes.{allows, cond_codes, op_codes, field_fault, fields_of, is_bad_second, slot_fault, uses, BeginsWith, IsAllOf, OneOf, Unused, Used};
+ghost use Rattle.encoding.specs.Opcodes.{allows, cond_codes, op_codes, field_fault, fields_of, is_bad_second, slot_fault, uses, OneOf, Unused, Used};
+ghost use Rattle.encoding.specs.OpcodesParts.{BeginsWith, IsAllOf};
 
 use crate::codes::{cond_of, op_of};
 use crate::slot::Slot;

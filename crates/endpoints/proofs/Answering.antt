@@ -29,7 +29,8 @@ use Rattle.endpoints.specs.Bounded.{AllRightAfter}
 use Rattle.endpoints.specs.Ruling.{CanMakeAll}
 use Rattle.endpoints.specs.Paths.{endpoint_at, method_at}
 use Rattle.endpoints.specs.Replies.{request_outcome, hook_change}
-use Rattle.endpoints.specs.Rulings.{AnswersRequest, Asking, FitsNow, IsRuling, comes_to, setting_now}
+use Rattle.endpoints.specs.Rulings.{Asking, FitsNow, IsRuling, comes_to, setting_now}
+use Rattle.endpoints.specs.RulingsParts.{AnswersRequest}
 use Rattle.endpoints.specs.Server.{SeenServer, FitsServer, AreUnkept, AreNoted, IsStep}
 use Rattle.endpoints.proofs.Ruled.{told_changes, told_reply}
 

@@ -19,7 +19,8 @@ use Rattle.hook_host.specs.declared.host.HookHost.{Ghosts as Hosting}
 use Rattle.token_store.specs.Fits.{FitsStore}
 use Rattle.token_store.specs.Kept.{Held}
 use Rattle.endpoints.specs.Hosts.{HostRun, HostStep}
-use Rattle.endpoints.specs.Making.{AllPlain, IsPlain, Makes, MakesConsents, MakesHost}
+use Rattle.endpoints.specs.Making.{AllPlain, IsPlain, Makes}
+use Rattle.endpoints.specs.MakingParts.{MakesConsents, MakesHost}
 use Rattle.endpoints.specs.Ruling.{CanMake}
 use Rattle.endpoints.specs.declared.ruling.Checked.{Checked}
 use Rattle.endpoints.specs.declared.ruling.Checked.TheVariants.{NoHook, Installs, Removes}

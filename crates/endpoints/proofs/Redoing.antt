@@ -17,7 +17,8 @@ use Rattle.token_store.specs.Found.{found_seen}
 use Rattle.token_store.specs.Kept.{Held}
 use Rattle.token_store.specs.declared.found.Found.{Found}
 use Rattle.endpoints.specs.Making.{IsSame, Makes}
-use Rattle.endpoints.specs.Redo.{FollowsEach, IsOfHistory, RedoesChange, RefusesRedo, history_refusal, unless_known}
+use Rattle.endpoints.specs.Redo.{RedoesChange, RefusesRedo, history_refusal, unless_known}
+use Rattle.endpoints.specs.RedoParts.{FollowsEach, IsOfHistory}
 use Rattle.endpoints.specs.Ruling.{CanMake}
 use Rattle.endpoints.specs.Server.{SeenServer}
 use Rattle.endpoints.specs.declared.redo.RedoFault.{RedoFault}

@@ -14,7 +14,7 @@ use Rattle.answers.specs.declared.halt.Halt.{Halt}
 use Rattle.answers.specs.declared.halt.Halt.TheVariants.{Refuse, NoMemory}
 use Rattle.endpoints.specs.Hosts.{IsHostFault}
 use Rattle.endpoints.specs.HookPaths.{by_fault}
-use Rattle.endpoints.specs.Ruling.{IsHookRefused, RulesHooks}
+use Rattle.endpoints.specs.RulingParts.{IsHookRefused, RulesHooks}
 use Rattle.endpoints.specs.declared.ruling.Ruling.{Ruling}
 
 fault_told : (change : Change) (fault : HookFault) → fault ≢ Memory → only (plain 400 (HookRefused (hook_fault_text fault))) ≡ by_fault change (Some fault)

@@ -38,8 +38,10 @@ use Rattle.endpoints.specs.Hosts.{IsHostFault}
 use Rattle.endpoints.specs.Making.{AllPlain, IsPlain, StandsAlone}
 use Rattle.endpoints.specs.Parts.{hook_points}
 use Rattle.endpoints.specs.Reading.{IsRequestRead}
-use Rattle.endpoints.specs.Ruling.{CanMake, CanMakeAll, CanTake, RulesHooks}
-use Rattle.endpoints.specs.Rulings.{Asking, FitsNow, IsAlone, IsRuled, IsRuling, asking_of, comes_to, setting_now}
+use Rattle.endpoints.specs.Ruling.{CanMake, CanMakeAll, CanTake}
+use Rattle.endpoints.specs.RulingParts.{RulesHooks}
+use Rattle.endpoints.specs.Rulings.{Asking, FitsNow, IsRuled, IsRuling, asking_of, comes_to, setting_now}
+use Rattle.endpoints.specs.RulingsParts.{IsAlone}
 use Rattle.endpoints.specs.Server.{SeenServer}
 use Rattle.endpoints.proofs.Fair.{IsConsent, IsFair, IsOneConsent, authorize_fair, consent_fair, introspect_fair, list_fair, revoke_fair}
 use Rattle.endpoints.proofs.ReadingOn.{points_of}

@@ -18,7 +18,7 @@ use Rattle.answers.specs.Short.{IsShortReply, state_limit}
 use Rattle.answers.specs.declared.halt.Halt.{Halt}
 use Rattle.answers.specs.declared.halt.Halt.TheVariants.{Refuse, NoMemory}
 use Rattle.endpoints.specs.Authorize.{HasShortState, state_sent}
-use Rattle.endpoints.specs.Rulings.{IsHalted}
+use Rattle.endpoints.specs.RulingsParts.{IsHalted}
 
 -- a reply that is written of a small one
 pub written_short : (reply : Reply) (text : Written) → text ≡ in_writing reply → IsSmallReply reply → IsShortReply text

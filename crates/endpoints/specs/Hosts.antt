@@ -22,7 +22,8 @@ HostRefuses refuses_install refuses_remove host (HookGone name) fault = refuses_
 HostRefuses refuses_install refuses_remove host _ fault = ⊥
 
 -- the fault, if any, is one that the host has for the change, if any
-abbrev pub IsHostFault : {H : Type 0} → (H → List ℕ → Layout → List ℕ → HookFault → Type 0) → (H → List ℕ → HookFault → Type 0) → H → Option Change → Option HookFault → Type 0
+abbrev pub IsHostFault : {H : Type 0} → (H → List ℕ → Layout → List ℕ → HookFault → Type 0) → (H → List ℕ → HookFault → Type 0) → H → Option Change →
+    Option HookFault → Type 0
 IsHostFault refuses_install refuses_remove host change None = Unit {0}
 IsHostFault refuses_install refuses_remove host None (Some fault) = ⊥
 IsHostFault refuses_install refuses_remove host (Some change) (Some fault) = HostRefuses refuses_install refuses_remove host change fault

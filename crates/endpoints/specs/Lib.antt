@@ -1,3 +1,4 @@
+-- What public clauses cite. docs/DEFINITIONS.md says what to read in which order.
 pub mod Layouts
 pub mod Hosts
 pub mod Authorize
@@ -5,22 +6,28 @@ pub mod ConsentPath
 pub mod Revoke
 pub mod Introspect
 pub mod HookPaths
-pub mod Parts
-pub mod HookAsking
 pub mod Ruling
 pub mod Paths
-pub mod Tallies
 pub mod Replies
 pub mod Bounded
-pub mod BoundedLaws
 pub mod Reading
 pub mod Server
 pub mod Noting
 pub mod Making
 pub mod Rulings
 pub mod Widening
-pub mod WideningLaws
 pub mod Redo
 pub mod FaultTexts
 pub mod Steps
 pub mod Restoring
+-- What only the contracts of this crate's own parts and their proofs cite.
+pub mod Parts
+pub mod HookAsking
+pub mod RulingParts
+pub mod Tallies
+pub mod MakingParts
+pub mod RulingsParts
+pub mod RedoParts
+-- Laws, each proved: a reader may skip them.
+pub mod BoundedLaws
+pub mod WideningLaws

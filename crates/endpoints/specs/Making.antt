@@ -2,7 +2,7 @@
 use Rattle.std.specs.Prelude.{◌≡◌, ◌≤◌, ℕ, List, [], ◌∷◌, Some}
 use Rattle.clients.specs.RegistryRecord.{RegistryRecord}
 use Rattle.consent.specs.Changes.{changes_of, as_list, AllFollow}
-use Rattle.consent.specs.Consents.{KeptConsents, FitsConsents}
+use Rattle.consent.specs.Consents.{KeptConsents}
 use Rattle.consent.specs.History.{Event, Change as Happening, with_changes}
 use Rattle.consent.specs.declared.change.Change.{Change}
 use Rattle.consent.specs.declared.change.Change.TheVariants.{Consented, HookSet, HookGone}
@@ -10,7 +10,6 @@ use Rattle.consent.specs.declared.change.Changes.{Changes}
 use Rattle.hook_host.specs.declared.host.HookHost.{Ghosts as Hosting}
 use Rattle.token_store.specs.Room.{HasRoom}
 use Rattle.endpoints.specs.Bounded.{AllRightAfter}
-use Rattle.endpoints.specs.Hosts.{HostRun}
 use Rattle.endpoints.specs.Noting.{ArePrepared}
 use Rattle.endpoints.specs.Ruling.{CanMakeAll, CanTake}
 use Rattle.endpoints.specs.declared.ruling.Checked.{Checked}
@@ -56,19 +55,6 @@ pub record IsSame {H : Type 0} (hosting : Hosting H) (old new : SeenServer H) : 
 pub record IsReadyToMake {H : Type 0} (hosting : Hosting H) (server : SeenServer H) (changes : Changes) (checked : Checked H) : Type 0 where
   pub rooms : HasRooms server server.greatest changes
   pub hook : CanTake hosting server.host (as_list changes) checked
-
--- whatever the changes mean, the consents that are kept are then those with them
-abbrev pub MakesConsents : KeptConsents → List Change → KeptConsents → Type 0
-MakesConsents old changes new =
-    (history : List Event) (m : ℕ) (next : List Happening) → StandsAlone changes → changes_of history m changes ≡ Some next →
-    FitsConsents old history → FitsConsents new (with_changes history m next)
-
--- and so does the host come from the first one, where it can make its own change
-abbrev pub MakesHost : {H : Type 0} → Hosting H → H → List Change → Checked H → H → Type 0
-MakesHost {H = H} hosting old changes checked new =
-    (first : H) (history : List Event) (m : ℕ) (next : List Happening) → StandsAlone changes → CanMakeAll hosting old changes checked →
-    changes_of history m changes ≡ Some next → HostRun hosting.installs hosting.removes first history old →
-    HostRun hosting.installs hosting.removes first (with_changes history m next) new
 
 -- Whatever history the server fitted, it then fits that history with the changes, where they may come next and are right,
 -- stand alone if they have to, and the host can make its own.

@@ -37,12 +37,6 @@ history_refusal history moment (Issued of token) =
 history_refusal history moment (FamilyEnded of) = unless_known (is_some (grant_at history of moment)) None
 history_refusal history moment _ = None
 
--- each history that the server fits goes on with it
-abbrev pub FollowsEach : {H : Type 0} → Hosting H → SeenServer H → ℕ → Change → Type 0
-FollowsEach {H = H} hosting server moment change =
-    (rules : RegistryRecord) (first : H) (history : List Event) (m : ℕ) → FitsServer hosting.installs hosting.removes server rules first history m →
-    history_refusal history moment change ≡ None
-
 -- why the host does not make its change
 abbrev pub RefusesHookChange : {H : Type 0} → Hosting H → H → Change → RedoFault → Type 0
 RefusesHookChange hosting host (HookSet name version code) (Hook fault) = hosting.refuses_install host name.now (layout_of version) code.now fault
@@ -59,10 +53,3 @@ RefusesRedo hosting server moment change (Hook fault) = RefusesHookChange hostin
 RefusesRedo {H = H} hosting server moment change fault =
     (rules : RegistryRecord) (first : H) (history : List Event) (m : ℕ) → FitsServer hosting.installs hosting.removes server rules first history m →
     history_refusal history moment change ≡ Some fault
-
--- the fault is one that a history has
-abbrev pub IsOfHistory : RedoFault → Type 0
-IsOfHistory Unknown = Unit {0}
-IsOfHistory (Store fault) = Unit {0}
-IsOfHistory ConsentsFull = Unit {0}
-IsOfHistory _ = ⊥

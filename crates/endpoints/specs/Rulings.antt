@@ -5,28 +5,23 @@ use Rattle.consent.specs.History.{Event}
 use Rattle.hook_host.specs.declared.fault.HookFault.{HookFault}
 use Rattle.hook_host.specs.declared.host.HookHost.{Ghosts as Hosting}
 use Rattle.messages.specs.Asked.{Asked}
-use Rattle.messages.specs.Written.{Written, in_writing}
 use Rattle.messages.specs.declared.request.Draws.{Draws}
 use Rattle.answers.specs.Halts.{Halts}
-use Rattle.answers.specs.Outcomes.{Outcome, refuse}
+use Rattle.answers.specs.Outcomes.{Outcome}
 use Rattle.answers.specs.Setting.{Setting}
-use Rattle.answers.specs.Short.{IsShortReply}
-use Rattle.answers.specs.Told.{Decides, outcome_told}
-use Rattle.answers.specs.declared.decision.Decision.{Decision}
+use Rattle.answers.specs.Told.{outcome_told}
 use Rattle.answers.specs.declared.halt.Halt.{Halt}
-use Rattle.answers.specs.declared.halt.Halt.TheVariants.{Refuse, NoMemory}
 use Rattle.endpoints.specs.declared.endpoint.Endpoint.{Endpoint}
 use Rattle.endpoints.specs.declared.reading.Reading.{Reading}
-use Rattle.endpoints.specs.declared.reading.Reading.TheVariants.{InstallHook, RemoveHook}
 use Rattle.endpoints.specs.declared.ruling.Ruling.{Ruling}
 use Rattle.endpoints.specs.Bounded.{AllRightAfter}
 use Rattle.endpoints.specs.HookPaths.{hook_change_at}
 use Rattle.endpoints.specs.Hosts.{IsHostFault, says_with}
-use Rattle.endpoints.specs.Making.{StandsAlone, IsSame}
+use Rattle.endpoints.specs.Making.{StandsAlone}
 use Rattle.endpoints.specs.Reading.{endpoint_of}
 use Rattle.endpoints.specs.Replies.{outcome_at}
 use Rattle.endpoints.specs.Ruling.{CanMakeAll}
-use Rattle.endpoints.specs.Server.{SeenServer, FitsServer, IsStep}
+use Rattle.endpoints.specs.Server.{SeenServer, FitsServer}
 
 -- a request at an endpoint, with the random bytes of what its reply may give
 pub record Asking : Type 0 where
@@ -80,29 +75,4 @@ Rules {H = H} hosting server asking result =
 
 -- WITHOUT A CHANGE OF THE HOOKS
 
--- what was read asks for no change of the hooks
-abbrev pub IsAlone : Reading → Type 0
-IsAlone (InstallHook params) = ⊥
-IsAlone (RemoveHook params) = ⊥
-IsAlone _ = Unit {0}
-
-abbrev pub RulesAlone : {H : Type 0} → Hosting H → SeenServer H → Asking → Result Decision Halt → Type 0
-RulesAlone {H = H} hosting server asking result =
-    (first : H) (history : List Event) → FitsNow hosting server first history →
-    Decides (setting_now hosting server history asking.draws None) result (comes_to hosting server history asking None)
-
 -- ANSWERS
-
--- the reply tells of the error, and is short; where memory was refused there is none
-abbrev pub IsHalted : Halt → Written → Type 0
-IsHalted (Refuse error) reply = (reply ≡ in_writing (refuse error).reply) × IsShortReply reply
-IsHalted NoMemory reply = ⊥
-
--- The host has one of its own faults for the change that is asked for, or none. By that the reply is what the request
--- comes to, and its changes are made. Where memory is refused, nothing is made.
-abbrev pub AnswersRequest : {H E : Type 0} → Hosting H → SeenServer H → Asking → Result Written E → SeenServer H → Type 0
-AnswersRequest {H = H} hosting old asking (Ok reply) new =
-    (first : H) (history : List Event) → FitsNow hosting old first history →
-    (fault : Option HookFault) × IsHostFault hosting.refuses_install hosting.refuses_remove old.host (hook_change_at asking.endpoint asking.asked) fault
-    × IsStep hosting.installs hosting.removes (comes_to hosting old history asking fault) reply old new old.rules first history old.greatest
-AnswersRequest hosting old asking (Err _) new = IsSame hosting old new

@@ -28,7 +28,8 @@ pub record SeenServer (H : Type 0) : Type 0 where
 
 -- From its greatest moment on the server answers as the history says, under these rules, and its host comes from the
 -- first one by the history's hooks. `installs` and `removes` are the host's own relations.
-pub record FitsServer {H : Type 0} (installs : H → List ℕ → Layout → List ℕ → H → Type 0) (removes : H → List ℕ → H → Type 0) (server : SeenServer H) (rules : RegistryRecord) (first : H) (history : List Event) (m : ℕ) : Type 0 where
+pub record FitsServer {H : Type 0} (installs : H → List ℕ → Layout → List ℕ → H → Type 0) (removes : H → List ℕ → H → Type 0) (server : SeenServer H)
+    (rules : RegistryRecord) (first : H) (history : List Event) (m : ℕ) : Type 0 where
   pub rules_are : server.rules ≡ rules
   pub greatest_is : server.greatest ≡ m
   pub store : FitsStore server.store history m
@@ -56,7 +57,8 @@ abbrev pub NowNotes : {H : Type 0} → SeenServer H → SeenServer H → Option 
 NowNotes old new unkept = new ≡ record old { unkept = unkept; prepared = new.prepared }
 
 -- the reply is the outcome's, the server fits the history with the outcome's changes, and just these are noted
-pub record IsStep {H : Type 0} (installs : H → List ℕ → Layout → List ℕ → H → Type 0) (removes : H → List ℕ → H → Type 0) (outcome : Outcome) (reply : Written) (old new : SeenServer H) (rules : RegistryRecord) (first : H) (history : List Event) (m : ℕ) : Type 0 where
+pub record IsStep {H : Type 0} (installs : H → List ℕ → Layout → List ℕ → H → Type 0) (removes : H → List ℕ → H → Type 0) (outcome : Outcome) (reply : Written)
+    (old new : SeenServer H) (rules : RegistryRecord) (first : H) (history : List Event) (m : ℕ) : Type 0 where
   pub reply_is : reply ≡ in_writing outcome.reply
   pub fits : FitsServer installs removes new rules first (with_changes history m outcome.changes) m
   pub noted : AreNoted old new history (with_changes history m outcome.changes)

@@ -9,7 +9,7 @@ ghost use Rattle.answers.specs.Setting.{Setting};
 ghost use Rattle.answers.specs.Short.{IsShortAnswer};
 ghost use Rattle.endpoints.specs.HookAsking.{hook_set_asked};
 ghost use Rattle.endpoints.specs.HookPaths.{hook_gone, hook_set, hook_set_by, version_asked, with_operator};
-ghost use Rattle.endpoints.specs.Ruling.{IsHookRefused, RulesHooks};
+ghost use Rattle.endpoints.specs.RulingParts.{IsHookRefused, RulesHooks};
 
 use crate::redo::layout_of;
 use crate::ruling::{Checked, Ruling};

@@ -6,7 +6,8 @@ ghost use Rattle.consent.specs.History.{Event, grant_at};
 ghost use Rattle.endpoints.specs.Layouts.{layout_of};
 ghost use Rattle.token_store.specs.Fits.{FitsStore, refusal};
 ghost use Rattle.endpoints.specs.FaultTexts.{redo_fault_text, of_hook_fault};
-ghost use Rattle.endpoints.specs.Redo.{IsOfHistory, RefusesHookChange, history_refusal};
+ghost use Rattle.endpoints.specs.Redo.{RefusesHookChange, history_refusal};
+ghost use Rattle.endpoints.specs.RedoParts.{IsOfHistory};
 ghost use Rattle.endpoints.specs.Ruling.{CanMake};
 
 use crate::ruling::Checked;

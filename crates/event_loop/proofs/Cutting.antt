@@ -14,7 +14,8 @@ use Rattle.http_edge.specs.Sources.{draws_for}
 use Rattle.http_edge.specs.Pieces.{PieceGiven, RefusesPiece}
 use Rattle.http_edge.specs.contracts.chance.ChaCha20RngDrawSource.TheImpl as generators
 use Rattle.event_loop.specs.Courses.{Course}
-use Rattle.event_loop.specs.Giving.{GivesPieces, GivesAll, GivesSome, nothing, gives, cut_limit}
+use Rattle.event_loop.specs.Giving.{GivesPieces, nothing, gives, cut_limit}
+use Rattle.event_loop.specs.GivingParts.{GivesAll, GivesSome}
 
 module _ {H : Type 0} (hosting : Hosting H) (rules : RegistryRecord) (host : H) (k moment : ℕ) where
   -- a front of the bytes was given

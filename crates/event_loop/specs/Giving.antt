@@ -4,7 +4,7 @@ use Rattle.rand_chacha.specs.ChaCha.{ChaCha}
 use Rattle.hook_host.specs.declared.host.HookHost.{Ghosts as Hosting}
 use Rattle.clients.specs.RegistryRecord.{RegistryRecord}
 use Rattle.heads.specs.Message.{Message}
-use Rattle.http_edge.specs.Schedule.{World, Happening, Came}
+use Rattle.http_edge.specs.Schedule.{Came}
 use Rattle.http_edge.specs.Edges.{SeenEdge}
 use Rattle.http_edge.specs.Reached.{PieceGoesOn, is_closing}
 use Rattle.http_edge.specs.Refusals.{IsPieceRefusal}
@@ -59,17 +59,3 @@ pub record IsUnheard {H : Type 0} (hosting : Hosting H) (rules : RegistryRecord)
   pub gives : GivesPieces hosting rules host k moment course given course'
   pub refused : IsPieceRefusal fault course'.world.connections k piece None
   pub cut : fault ≡ TooManyRequests → length piece ≤ cut_limit
-
--- wherever the edge was reached, all bytes were given
-pub record GivesAll {H : Type 0} (hosting : Hosting H) (rules : RegistryRecord) (host : H) (k moment : ℕ) (bytes : List ℕ) (course : Course H)
-    (edge : SeenEdge H) (generator : ChaCha) : Type 0 where
-  pub schedule : List Happening
-  pub world : World
-  pub heard : AreBytesHeard hosting rules host k moment bytes course (record { edge = edge; generator = generator; schedule = schedule; world = world })
-
--- wherever the edge was reached, a front of them
-pub record GivesSome {H : Type 0} (hosting : Hosting H) (rules : RegistryRecord) (host : H) (k moment : ℕ) (bytes : List ℕ) (fault : EdgeFault)
-    (course : Course H) (edge : SeenEdge H) (generator : ChaCha) : Type 0 where
-  pub schedule : List Happening
-  pub world : World
-  pub unheard : IsUnheard hosting rules host k moment bytes fault course (record { edge = edge; generator = generator; schedule = schedule; world = world })

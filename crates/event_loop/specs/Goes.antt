@@ -15,7 +15,7 @@ use Rattle.event_loop.specs.declared.sockets.Ready.{Ready}
 use Rattle.event_loop.specs.declared.tools.Tools.{Tools}
 use Rattle.event_loop.specs.declared.fault.LoopFault.TheVariants.{Keep}
 use Rattle.event_loop.specs.Deeds.{Deed, Task, Reading, Keeping, Writing, Accepting, IsDone, waits, done_since}
-use Rattle.event_loop.specs.Giving.{GivesAll, GivesSome}
+use Rattle.event_loop.specs.GivingParts.{GivesAll, GivesSome}
 use Rattle.event_loop.specs.Places.{IsOccupied, MayRead, MayWrite, NeedsNoRead, NeedsNoWrite, IsPlaceAtRest, AllFree}
 use Rattle.event_loop.specs.Scenes.{Promises, Scene, IsAllKept}
 use Rattle.event_loop.specs.Closing.{IsSilentLongest, AreWithin, Closes}

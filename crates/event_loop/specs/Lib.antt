@@ -1,3 +1,4 @@
+-- What public clauses cite. docs/DEFINITIONS.md says what to read in which order.
 pub mod FaultTexts
 pub mod Deeds
 pub mod Places
@@ -14,4 +15,6 @@ pub mod Served
 pub mod Durable
 pub mod Answered
 pub mod Ends
+-- What only the contracts of this crate's own parts and their proofs cite.
+pub mod GivingParts
 pub mod Goes

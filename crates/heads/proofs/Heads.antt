@@ -10,7 +10,7 @@ use Rattle.httparse.specs.declared.spans.HeaderSpan.{HeaderSpan}
 use Rattle.httparse.proofs.GrammarLemmas.{request_unique, request_prefix_free, ReadsRequest-append}
 use Rattle.heads.specs.Limits.{head_size_limit, field_line_limit, body_size_limit}
 use Rattle.heads.specs.Fields.{content_length, AreGoodFields}
-use Rattle.heads.specs.Places.{AreFieldsIn}
+use Rattle.heads.specs.PlacesParts.{AreFieldsIn}
 use Rattle.heads.specs.declared.fields.FieldSpans.{FieldSpans}
 use Rattle.std.specs.Prelude.{is_some, IsTrue, Option}
 use Rattle.heads.specs.Message.{BeginsWithMessage, IsHopeless, IsGood, head_fields}

@@ -6,7 +6,7 @@ use Rattle.httparse.specs.Spans.{header_bytes, span_bytes}
 use Rattle.httparse.specs.declared.spans.HeaderSpan.{HeaderSpan}
 use Rattle.heads.specs.declared.fields.Lookup.{Lookup}
 use Rattle.heads.specs.Fields.{field_values, field_has_name}
-use Rattle.heads.specs.Places.{IsLookup, IsLookupOf}
+use Rattle.heads.specs.PlacesParts.{IsLookup, IsLookupOf}
 
 values_more : (name : List ℕ) (fields : List (List ℕ × List ℕ)) (f : List ℕ × List ℕ) → field_values name (fields ++ f ∷ []) ≡ field_values name fields ++ field_values name (f ∷ [])
 unfolding field_values

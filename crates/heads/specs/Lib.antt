@@ -1,3 +1,4 @@
+-- What public clauses cite. docs/DEFINITIONS.md says what to read in which order.
 pub mod Limits
 pub mod ContentLength
 pub mod Fields
@@ -6,5 +7,8 @@ pub mod Waiting
 pub mod Places
 pub mod Front
 pub mod Scan
+-- What only the contracts of this crate's own parts and their proofs cite.
+pub mod PlacesParts
+-- Laws, each proved: a reader may skip them.
 pub mod ReadingLaws
 pub mod WaitingLaws

@@ -3,7 +3,7 @@ ghost use Rattle.std.specs.Prelude.{◌≡◌, ◌≤◌, ℕ, List, All, length
 ghost use Rattle.httparse.specs.Spans.{IsHeaderWithin, header_bytes, span_bytes};
 ghost use Rattle.heads.specs.Limits.{body_size_limit};
 ghost use Rattle.heads.specs.Fields.{field_values, lowercase, AreGoodFields, content_length};
-ghost use Rattle.heads.specs.Places.{IsLookup, IsLookupOf, IsLookupWithin, IsPlaceOf, AreFieldsIn};
+ghost use Rattle.heads.specs.PlacesParts.{IsLookup, IsLookupOf, IsLookupWithin, IsPlaceOf, AreFieldsIn};
 
 use crate::content_length::read_body_length;
 use httparse::spans::{HeaderSpan, Span};

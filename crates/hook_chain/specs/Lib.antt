@@ -1,4 +1,6 @@
+-- What public clauses cite. docs/DEFINITIONS.md says what to read in which order.
 pub mod Exits
 pub mod Chains
+-- Laws, each proved: a reader may skip them.
 pub mod ExitLaws
 pub mod ChainLaws

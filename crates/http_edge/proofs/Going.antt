@@ -14,7 +14,8 @@ use Rattle.heads.specs.Message.{Message}
 use Rattle.heads.specs.ReadingLaws.{messages_cut, nothing_has_none}
 use Rattle.http_edge.specs.Answers.{changes_made, replies_of}
 use Rattle.http_edge.specs.Schedule.{World, Connection, Happening, Opened, Came, HasEnded, Taken, Forgotten, Kept, Happens, Run, ended, has_stream_ended, is_closing_phase, first_world, resumed, fresh, heard, with_connection, without_connection, moment_after, faulty_if}
-use Rattle.http_edge.specs.Lanes.{SeenLane, lane_at, with_lane, without_lane, fresh_lane, ShowsConnection, ShowsConnections}
+use Rattle.http_edge.specs.Lanes.{SeenLane, lane_at, ShowsConnection, ShowsConnections}
+use Rattle.http_edge.specs.LanesParts.{with_lane, without_lane, fresh_lane}
 use Rattle.http_edge.specs.Heard.{AreMessagesRead, LaneHeard}
 use Rattle.http_edge.specs.Edges.{SeenEdge}
 use Rattle.http_edge.specs.Reached.{Reached, BeginsOver, ResumesOver, GoesOn, HappeningLeads, PieceLeads}

@@ -8,8 +8,10 @@ use Rattle.std.proofs.lemmas.Bool.{eqb-true, eq-eqb, ltb-true, lt-ltb, false≢t
 use Rattle.std.proofs.lemmas.Bool.Decides.{nat_tests}
 use Rattle.std.proofs.lemmas.Option.{slice_get-get_or, slice_get_cases, get_or_from_slice_get}
 use Rattle.std.proofs.Math.Seq.{drop-nil}
-use Rattle.http_edge.specs.Lanes.{SeenLane, lane_at, with_lane, without_lane, output_in, fresh_lane}
-use Rattle.http_edge.specs.Places.{IsPlace, IsPosition, AreApart}
+use Rattle.http_edge.specs.Lanes.{SeenLane, lane_at, output_in}
+use Rattle.http_edge.specs.LanesParts.{with_lane, without_lane, fresh_lane}
+use Rattle.http_edge.specs.Places.{AreApart}
+use Rattle.http_edge.specs.PlacesParts.{IsPlace, IsPosition}
 
 -- a write at the place is the lane's
 put_is : (lanes : List SeenLane) (c i : ℕ) (new : SeenLane) → i ≡ position_or_len (λ lane. lane.number == c) lanes → i < length lanes → set lanes i new ≡ with_lane c new lanes

@@ -2,7 +2,7 @@
 use Rattle.std.proofs.Common.{◌++◌, ℕ, List}
 use Rattle.std.specs.Prelude.{Option}
 use Rattle.http_edge.specs.Lanes.{SeenLane}
-use Rattle.http_edge.specs.Edges.{IsBytesRefusal, MayHear}
+use Rattle.http_edge.specs.EdgesParts.{IsBytesRefusal, MayHear}
 use Rattle.http_edge.specs.Heard.{IsHearingRefusal}
 use Rattle.http_edge.specs.declared.fault.EdgeFault.{EdgeFault}
 use Rattle.http_edge.specs.declared.fault.EdgeFault.TheVariants.{TooMany, NotOpen, AlreadyOpen, PieceTooLong, DrawsShort, TooManyRequests, Memory}

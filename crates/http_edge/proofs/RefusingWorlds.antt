@@ -6,8 +6,10 @@ use Rattle.hook_host.specs.declared.host.HookHost.{Ghosts as Hosting}
 use Rattle.heads.specs.Message.{Message, Messages}
 use Rattle.heads.specs.ReadingLaws.{messages_cut}
 use Rattle.http_edge.specs.Schedule.{Connection, connection_at, has_stream_ended}
-use Rattle.http_edge.specs.Lanes.{SeenLane, lane_at, IsHearing, ShowsConnections}
-use Rattle.http_edge.specs.Edges.{SeenEdge, IsOpenRefusal, IsEndRefusal, IsBytesRefusal, MayHear}
+use Rattle.http_edge.specs.Lanes.{SeenLane, lane_at, ShowsConnections}
+use Rattle.http_edge.specs.LanesParts.{IsHearing}
+use Rattle.http_edge.specs.Edges.{SeenEdge}
+use Rattle.http_edge.specs.EdgesParts.{IsOpenRefusal, IsEndRefusal, IsBytesRefusal, MayHear}
 use Rattle.http_edge.specs.Refusals.{MaySend, Completes, IsPieceRefusal, IsOpeningRefusal, IsEndingRefusal, IsEventRefusal, RefusesEvent}
 use Rattle.http_edge.specs.Pieces.{RefusesPiece}
 use Rattle.http_edge.specs.declared.event.Event.{Event}

@@ -4,7 +4,8 @@ use Rattle.std.specs.Prelude.{◌==◌, is_some}
 use Rattle.std.proofs.lemmas.Bool.{false≢true}
 use Rattle.http_edge.specs.Schedule.{Connection, is_closing_phase, connection_at, with_connection, without_connection, untaken}
 use Rattle.http_edge.specs.Reached.{IsHeld, is_closing}
-use Rattle.http_edge.specs.Lanes.{SeenLane, lane_at, with_lane, without_lane, output_in, rest_in, is_closing_lane, ShowsConnection, ShowsConnections}
+use Rattle.http_edge.specs.Lanes.{SeenLane, lane_at, output_in, rest_in, ShowsConnection, ShowsConnections}
+use Rattle.http_edge.specs.LanesParts.{with_lane, without_lane, is_closing_lane}
 
 same_lane : (a b : SeenLane) → Some a ≡ Some b → a ≡ b
 same_lane a b e = ap (λ o. elim o [ Some x ↦ x | None ↦ a ]) e

@@ -1,3 +1,4 @@
+-- What public clauses cite. docs/DEFINITIONS.md says what to read in which order.
 pub mod Limits
 pub mod Supply
 pub mod Answers
@@ -6,7 +7,6 @@ pub mod Lanes
 pub mod Places
 pub mod Sources
 pub mod Unread
-pub mod Heard
 pub mod Edges
 pub mod Reached
 pub mod Events
@@ -14,3 +14,8 @@ pub mod Refusals
 pub mod Chance
 pub mod Pieces
 pub mod FaultTexts
+-- What only the contracts of this crate's own parts and their proofs cite.
+pub mod LanesParts
+pub mod PlacesParts
+pub mod Heard
+pub mod EdgesParts

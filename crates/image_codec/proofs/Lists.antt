@@ -9,7 +9,7 @@ use Rattle.change_codec.specs.declared.fault.ChangeFault.{ChangeFault}
 use Rattle.change_codec.specs.declared.fault.ChangeFault.TheVariants.{Behind, Version}
 use Rattle.change_codec.specs.Spelling.{short}
 use Rattle.change_codec.specs.Reading.{◌>>=◌, big_endian_at}
-use Rattle.change_codec.specs.FieldLaws.{IsBytes, IsBytes-rest, bind_ok, passed, ok_is, TakesFront, Takes-then, short_takes, short_again}
+use Rattle.change_codec.specs.FieldLaws.{IsBytes, IsBytes-rest, bind_ok, checked_passed, ok_is, TakesFront, Takes-then, short_takes, short_again}
 use Rattle.image_codec.specs.Spelling.{listed, ListFits}
 use Rattle.image_codec.specs.Reading.{each_at, listed_at, alone_at, whole_at}
 
@@ -91,9 +91,9 @@ pub whole_takes : {A : Type 0} (one_at : List ℕ → Result (A × List ℕ) Cha
 unfolding whole_at alone_at
 whole_takes one_at spelling Fits reads wanted [] x are e = absurd cc
 whole_takes {A = A} one_at spelling Fits reads wanted (version ∷ bytes) x are e =
-    let g = passed (eqb version wanted) Version (alone_at one_at bytes) x e in
+    let g = checked_passed (eqb version wanted) Version (alone_at one_at bytes) x e in
     let a = step one_at spelling Fits reads bytes (λ y. cond (eqb (length y.1) 0) (Ok y.0) (Err Behind)) x (IsBytes-rest version bytes are) g.1 in
-    let h = passed (eqb (length a.rest) 0) Behind (Ok a.value) x a.next in
+    let h = checked_passed (eqb (length a.rest) 0) Behind (Ok a.value) x a.next in
     let nothing : a.rest ≡ [] = nil_from_length a.rest (eqb-true _ _ h.0) in
     let all : bytes ≡ spelling a.value = a.took.parts ∙ ap (λ (r : List ℕ). spelling a.value ++ r) nothing ∙ append-nil (spelling a.value) in
     let first : version ≡ wanted = eqb-true _ _ g.0 in

@@ -14,5 +14,5 @@ abbrev pub HasBits : KnownBits → ℕ → Type 0
 HasBits b x = Agrees b.value b.mask x
 
 -- no known bits that have the members of both say more than a join
-abbrev pub IsLeastJoin : KnownBits → KnownBits → KnownBits → Type 0
-IsLeastJoin a b c = (d : KnownBits) → IsJoin HasBits a b d → (x : ℕ) → HasBits c x → HasBits d x
+abbrev pub IsLeastBitsJoin : KnownBits → KnownBits → KnownBits → Type 0
+IsLeastBitsJoin a b c = (d : KnownBits) → IsJoin HasBits a b d → (x : ℕ) → HasBits c x → HasBits d x

@@ -46,5 +46,5 @@ pub record IsOneBit (w : Width) (b : KnownBits) (k : ℕ) : Type 0 where
   pub one : seen w b.value ≡ 2 ^ k
 
 -- with a known right word, a condition has an answer for each left word that is left
-abbrev pub IsSettled : Cond → Width → Bool → KnownBits → KnownBits × KnownBits → Type 0
-IsSettled c w taken b r = (x : ℕ) → HasBits r.0 x → word_holds w c x b.value ≡ taken
+abbrev pub IsDecided : Cond → Width → Bool → KnownBits → KnownBits × KnownBits → Type 0
+IsDecided c w taken b r = (x : ℕ) → HasBits r.0 x → word_holds w c x b.value ≡ taken

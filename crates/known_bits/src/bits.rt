@@ -22,7 +22,7 @@ pub struct KnownBits {
 }
 
 impl KnownBits {
-    ghost use Rattle.known_bits.specs.Members.{HasBits, IsLeastJoin};
+    ghost use Rattle.known_bits.specs.Members.{HasBits, IsLeastBitsJoin};
 
     /// The words that have the bits of `value` outside `mask`; `value` itself has none of the unknown bits.
     pub fn new(value: u64, mask: u64) -> KnownBits
@@ -104,7 +104,7 @@ impl KnownBits {
     /// The bits that are known of the words of both.
     pub(crate) fn joined(a: KnownBits, b: KnownBits) -> KnownBits
         ensures both { IsJoin HasBits a b result }
-        ensures least { IsLeastJoin a b result }
+        ensures least { IsLeastBitsJoin a b result }
     {
         KnownBits::outside(a.value, a.mask | b.mask | (a.value ^ b.value))
     }

@@ -20,9 +20,9 @@ fn image_of_word(op: UnOp, width: Width, n: u64) -> u64
 }
 
 impl Domain for KnownBits {
-    ghost use Rattle.known_bits.specs.Members.{HasBits, IsLeastJoin};
+    ghost use Rattle.known_bits.specs.Members.{HasBits, IsLeastBitsJoin};
     ghost use Rattle.known_bits.specs.MemberLaws.{HasBits-words};
-    ghost use Rattle.known_bits.specs.Refined.{IsOneBit, IsSettled, IsTight, IsUnanswered, says_equal};
+    ghost use Rattle.known_bits.specs.Refined.{IsOneBit, IsDecided, IsTight, IsUnanswered, says_equal};
     ghost use Rattle.known_bits.specs.Exact.{HasExactBits, IsExactImage};
 
     ghost Has = { HasBits };
@@ -71,7 +71,7 @@ impl Domain for KnownBits {
 
     fn join(a: KnownBits, b: KnownBits) -> KnownBits
         ensures both { IsJoin HasBits a b result }
-        ensures least { IsLeastJoin a b result }
+        ensures least { IsLeastBitsJoin a b result }
     {
         KnownBits::joined(a, b)
     }
@@ -86,7 +86,7 @@ impl Domain for KnownBits {
         ensures kept { IsRefined HasBits cond width taken a b result }
         ensures tight { IsTrue (says_equal cond taken) → IfSome result (IsTight width a b) }
         ensures single { (x y : ℕ) → IsUnanswered cond width taken a b x y → IsNone result }
-        ensures settled { (k : ℕ) → cond ≡ Cond.Set → IsOneBit width b k → IfSome result (IsSettled cond width taken b) }
+        ensures settled { (k : ℕ) → cond ≡ Cond.Set → IsOneBit width b k → IfSome result (IsDecided cond width taken b) }
     {
         KnownBits::refined(cond, width, a, b, taken)
     }

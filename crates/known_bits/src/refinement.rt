@@ -14,7 +14,7 @@ const UPPER_HALF: u64 = 0xffff_ffff_0000_0000;
 
 impl KnownBits {
     ghost use Rattle.known_bits.specs.Members.{HasBits};
-    ghost use Rattle.known_bits.specs.Refined.{HasPartner, IsOneBit, IsSettled, IsTight, IsUnanswered};
+    ghost use Rattle.known_bits.specs.Refined.{HasPartner, IsOneBit, IsDecided, IsTight, IsUnanswered};
 
     /// The words of which a width sees the same as of one of these.
     fn seen_alike(self, width: Width) -> KnownBits
@@ -47,7 +47,7 @@ impl KnownBits {
     /// What two words can be with no common bit that a width sees, where the right word is known.
     pub(crate) fn apart(width: Width, a: KnownBits, b: KnownBits) -> Option<(KnownBits, KnownBits)>
         ensures kept { IsRefined HasBits Cond.Set width false a b result }
-        ensures settled { (k : ℕ) → IsOneBit width b k → IfSome result (IsSettled Cond.Set width false b) }
+        ensures settled { (k : ℕ) → IsOneBit width b k → IfSome result (IsDecided Cond.Set width false b) }
     {
         let tests = b.in_width(width);
         if tests.mask != 0 {
@@ -66,7 +66,7 @@ impl KnownBits {
         b: KnownBits,
     ) -> Option<(KnownBits, KnownBits)>
         ensures kept { IsRefined HasBits Cond.Set width true a b result }
-        ensures settled { (k : ℕ) → IsOneBit width b k → IfSome result (IsSettled Cond.Set width true b) }
+        ensures settled { (k : ℕ) → IsOneBit width b k → IfSome result (IsDecided Cond.Set width true b) }
     {
         let tests = b.in_width(width);
         match tests.exponent() {
@@ -99,7 +99,7 @@ impl KnownBits {
         ensures kept { IsRefined HasBits cond width taken a b result }
         ensures tight { IsTrue (says_equal cond taken) → IfSome result (IsTight width a b) }
         ensures single { (x y : ℕ) → IsUnanswered cond width taken a b x y → IsNone result }
-        ensures settled { (k : ℕ) → cond ≡ Cond.Set → IsOneBit width b k → IfSome result (IsSettled cond width taken b) }
+        ensures settled { (k : ℕ) → cond ≡ Cond.Set → IsOneBit width b k → IfSome result (IsDecided cond width taken b) }
     {
         if KnownBits::excludes(cond, width, a, b, taken) {
             return None;

@@ -8,8 +8,8 @@ use Rattle.std.specs.Option.{option_map}
 use Rattle.insn.specs.declared.instruction.Insn.{Insn}
 use Rattle.insn.specs.Instruction.{Fits, slots_of}
 use Rattle.insn.specs.Program.{IsProgram}
-use Rattle.assembly.specs.Text.{Word, Operand, Register, Number, Target, Line, Blank, Statement, is_empty, before_comment, words_in, labelled, one_word_line, line_of, lines_in, name_of, operands_of, operand_word, SaysOperand, SaysOperands, LeadsTo, labels_in, Says, names_in, AllDiffer, Text, canonical_line, canonical_text}
-use Rattle.assembly.specs.TextWordLaws.{is_plain, plain, PlainWord, list_all-imp, IsShortOperand, plain_operand}
+use Rattle.assembly.specs.Text.{Word, Operand, Register, Number, Target, Line, Blank, Statement, is_empty, before_comment, words_in, labelled, one_word_line, line_of, lines_in, name_of, operands_of, written_operand, SaysOperand, SaysOperands, LeadsTo, labels_in, Says, names_in, AllDiffer, Text, canonical_line, canonical_text}
+use Rattle.assembly.specs.TextWordLaws.{is_plain, plain_code, PlainWord, list_all-imp, IsShortOperand, plain_operand}
 use Rattle.assembly.specs.TextNameLaws.{plain_name, short_operands}
 
 -- ---- splitting
@@ -36,14 +36,14 @@ is_space c = c == 32 || c == 9
 
 -- the operands of a line, with a space before each
 abbrev behind : List Operand → List ℕ
-behind operands = flat_map (λ operand. codes " " ++ operand_word operand) operands
+behind operands = flat_map (λ operand. codes " " ++ written_operand operand) operands
 
 abbrev words : List Operand → List Word
-words operands = map operand_word operands
+words operands = map written_operand operands
 
--- each operand's word is plain
+-- each operand's word is plain_code
 abbrev PlainOperands : List Operand → Type 0
-PlainOperands operands = AllByRecursion (λ o. PlainWord (operand_word o)) operands
+PlainOperands operands = AllByRecursion (λ o. PlainWord (written_operand o)) operands
 
 plain_operands : (operands : List Operand) → AllByRecursion IsShortOperand operands → PlainOperands operands
 plain_operands [] short = tt
@@ -52,16 +52,16 @@ plain_operands (o ∷ operands) short = (plain_operand o short.0, plain_operands
 all_where : (p : ℕ → Bool) → ((c : ℕ) → is_plain c ≡ true → p c ≡ true) → p 32 ≡ true → (word : Word) (operands : List Operand) → PlainWord word → PlainOperands operands → list_all p (word ++ behind operands) ≡ true
 all_where p imp space word [] h hs = ap (list_all p) (append-nil word) ∙ list_all-imp is_plain p imp word h.bytes
 all_where p imp space word (o ∷ operands) h hs =
-    list_all-append p word (behind (o ∷ operands)) ∙ and_from _ _ (list_all-imp is_plain p imp word h.bytes) (and_from _ _ space (all_where p imp space (operand_word o) operands hs.0 hs.1))
+    list_all-append p word (behind (o ∷ operands)) ∙ and_from _ _ (list_all-imp is_plain p imp word h.bytes) (and_from _ _ space (all_where p imp space (written_operand o) operands hs.0 hs.1))
 
 no_feed : (word : Word) (operands : List Operand) → PlainWord word → PlainOperands operands → list_all (λ c. not (is_feed c)) (word ++ behind operands) ≡ true
-no_feed = all_where (λ c. not (is_feed c)) (λ c h. not_from_false (is_feed c) (plain c h).no_feed) refl
+no_feed = all_where (λ c. not (is_feed c)) (λ c h. not_from_false (is_feed c) (plain_code c h).no_feed) refl
 
 no_comment : (word : Word) (operands : List Operand) → PlainWord word → PlainOperands operands → list_all (λ c. not (c == 59)) (word ++ behind operands) ≡ true
-no_comment = all_where (λ c. not (c == 59)) (λ c h. not_from_false (c == 59) (plain c h).no_comment) refl
+no_comment = all_where (λ c. not (c == 59)) (λ c h. not_from_false (c == 59) (plain_code c h).no_comment) refl
 
 no_space : (word : Word) → PlainWord word → list_all (λ c. not (is_space c)) word ≡ true
-no_space word h = list_all-imp is_plain (λ c. not (is_space c)) (λ c k. not_from_false (is_space c) (plain c k).no_space) word h.bytes
+no_space word h = list_all-imp is_plain (λ c. not (is_space c)) (λ c k. not_from_false (is_space c) (plain_code c k).no_space) word h.bytes
 
 before_comment-all : (text : List ℕ) → list_all (λ c. not (c == 59)) text ≡ true → before_comment text ≡ text
 before_comment-all [] h = refl
@@ -72,7 +72,7 @@ before_comment-all (c ∷ text) h =
 split_words : (word : Word) (operands : List Operand) → PlainWord word → PlainOperands operands → slice_split is_space (word ++ behind operands) ≡ word ∷ words operands
 split_words word [] h hs = ap (slice_split is_space) (append-nil word) ∙ split_none is_space word (no_space word h)
 split_words word (o ∷ operands) h hs =
-    split_at is_space word 32 (operand_word o ++ behind operands) (no_space word h) refl ∙ ap (λ ws. word ∷ ws) (split_words (operand_word o) operands hs.0 hs.1)
+    split_at is_space word 32 (written_operand o ++ behind operands) (no_space word h) refl ∙ ap (λ ws. word ∷ ws) (split_words (written_operand o) operands hs.0 hs.1)
 
 abbrev is_some_word : Word → Bool
 is_some_word word = not (is_empty word)
@@ -82,7 +82,7 @@ keep word more h = ap (λ b. cond (not b) (word ∷ filter is_some_word more) (f
 
 keep_all : (operands : List Operand) → PlainOperands operands → filter is_some_word (words operands) ≡ words operands
 keep_all [] hs = refl
-keep_all (o ∷ operands) hs = keep (operand_word o) (words operands) hs.0 ∙ ap (λ ws. operand_word o ∷ ws) (keep_all operands hs.1)
+keep_all (o ∷ operands) hs = keep (written_operand o) (words operands) hs.0 ∙ ap (λ ws. written_operand o ∷ ws) (keep_all operands hs.1)
 
 -- the words of a line
 pub words_in-line : (word : Word) (operands : List Operand) → PlainWord word → PlainOperands operands → words_in (word ++ behind operands) ≡ word ∷ words operands
@@ -95,18 +95,18 @@ words_in-line word operands h hs =
 abbrev the_empty_name : Option Word
 the_empty_name = Some []
 
--- a plain word ends with no colon
-labelled-plain : (word : Word) → list_all is_plain word ≡ true → labelled word ≡ None
-labelled-plain [] h = refl
-labelled-plain (c ∷ []) h =
+-- a plain_code word ends with no colon
+labelled-plain_code : (word : Word) → list_all is_plain word ≡ true → labelled word ≡ None
+labelled-plain_code [] h = refl
+labelled-plain_code (c ∷ []) h =
     let parts = and_parts (is_plain c) true h in
-    ap (λ (b : Bool). cond b the_empty_name None) (plain c parts.0).no_colon
-labelled-plain (c ∷ d ∷ more) h =
+    ap (λ (b : Bool). cond b the_empty_name None) (plain_code c parts.0).no_colon
+labelled-plain_code (c ∷ d ∷ more) h =
     let parts = and_parts (is_plain c) (list_all is_plain (d ∷ more)) h in
-    ap (option_map (λ name. c ∷ name)) (labelled-plain (d ∷ more) parts.1)
+    ap (option_map (λ name. c ∷ name)) (labelled-plain_code (d ∷ more) parts.1)
 
 line_of-words : (word : Word) (more : List Word) → PlainWord word → line_of (word ∷ more) ≡ Statement (word ∷ more)
-line_of-words word [] h = ap (one_word_line word) (labelled-plain word h.bytes)
+line_of-words word [] h = ap (one_word_line word) (labelled-plain_code word h.bytes)
 line_of-words word (w ∷ more) h = refl
 
 -- ---- the lines of a text
@@ -142,7 +142,7 @@ lines_of_canonical_text (i ∷ p) fits =
 
 -- ---- what they say
 
-says_operand : (Leads : Word → ℤ → Type 0) (o : Operand) → SaysOperand Leads o (operand_word o)
+says_operand : (Leads : Word → ℤ → Type 0) (o : Operand) → SaysOperand Leads o (written_operand o)
 says_operand Leads (Register r) = refl
 says_operand Leads (Number n) = refl
 says_operand Leads (Target d) = inl refl

@@ -2,7 +2,7 @@
 
 ghost use Rattle.std.specs.Prelude.{Some};
 ghost use Rattle.std.specs.List.{flat_map};
-ghost use Rattle.assembly.specs.Text.{canonical_line, operand_word, operands_of};
+ghost use Rattle.assembly.specs.Text.{canonical_line, written_operand, operands_of};
 ghost use Rattle.lister.specs.Values.{values_of};
 
 use crate::operand::{Register, Source, Target};
@@ -30,7 +30,7 @@ struct Operands(Insn);
 impl Display for Operands {
     ghost use Rattle.std.specs.Prelude.{codes, ◌++◌};
 
-    ghost output = { λ operands. Some (flat_map (λ operand. codes " " ++ operand_word operand) (operands_of operands.0)) };
+    ghost output = { λ operands. Some (flat_map (λ operand. codes " " ++ written_operand operand) (operands_of operands.0)) };
 
     fn fmt<W: Write>(&self, f: &mut Formatter<W>) -> fmt::Result {
         let values = Values(self.0);
@@ -48,7 +48,7 @@ struct Values(Insn);
 impl Display for Values {
     ghost use Rattle.std.specs.Prelude.{codes, ◌++◌};
 
-    ghost output = { λ values. Some (flat_map (λ operand. codes " " ++ operand_word operand) (values_of values.0)) };
+    ghost output = { λ values. Some (flat_map (λ operand. codes " " ++ written_operand operand) (values_of values.0)) };
 
     fn fmt<W: Write>(&self, f: &mut Formatter<W>) -> fmt::Result {
         match self.0 {

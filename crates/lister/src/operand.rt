@@ -1,7 +1,7 @@
 //! The words of operands.
 
 ghost use Rattle.std.specs.Prelude.{Some};
-ghost use Rattle.assembly.specs.Text.{register_word, source_operand, operand_word, distance_word};
+ghost use Rattle.assembly.specs.Text.{register_word, source_operand, written_operand, distance_word};
 
 use insn::instruction::Operand;
 use insn::register::RegNo;
@@ -25,7 +25,7 @@ impl Display for Register {
 pub struct Source(pub Operand);
 
 impl Display for Source {
-    ghost output = { λ source. Some (operand_word (source_operand source.0)) };
+    ghost output = { λ source. Some (written_operand (source_operand source.0)) };
 
     fn fmt<W: Write>(&self, f: &mut Formatter<W>) -> fmt::Result {
         match self.0 {

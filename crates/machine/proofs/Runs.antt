@@ -12,7 +12,7 @@ use Rattle.insn.specs.Outcomes.{effect}
 use Rattle.insn.specs.OutcomeLaws.{effect_is_done}
 use Rattle.insn.specs.Workings.{done_by}
 use Rattle.insn.specs.Step.{IsStuckAt, Reaches, IsExit, IsStuck}
-use Rattle.insn.specs.RunLaws.{StandsAt, begins_here, begins_nowhere, stands_behind, stands_further, stands_inside, target_along, first_rest, step_falls, step_jumps, stuck_effect, stuck_jump, exits_here, stuck_past, goes_on}
+use Rattle.insn.specs.RunLaws.{StandsAt, begins_here, begins_nowhere, stands_behind, stands_further, stands_inside, target_along, first_rest, step_falls, step_jumps, stuck_effect, stuck_jump, exits_here, stuck_past, run_goes_on}
 
 -- n steps lead to this slot and state, and this is the rest of the program there
 pub record IsAt (layout : Layout) (program : List Insn) (bytes : List ℕ) (slot n : ℕ) (rest : List Insn) (s : State) : Type 0 where
@@ -75,7 +75,7 @@ module _ {layout : Layout} {program : List Insn} {bytes : List ℕ} {slot n : �
   falls s' e = record {
     stands = behind;
     few = let b = slots_of_bounds first in omega (arith, h.few);
-    reached = goes_on layout program bytes n here (record { slot = slot + slots_of first; state = s' }) h.reached (step_falls layout program slot s first begins s' (does e));
+    reached = run_goes_on layout program bytes n here (record { slot = slot + slots_of first; state = s' }) h.reached (step_falls layout program slot s first begins s' (does e));
   }
 
   pub jumps : (k : ℤ) (s' : State) (passed : ℕ) (there : List Insn) → done_by layout first s ≡ Some (Jumps k s') → Some passed ≡ target others 0 k → places there ≡ drop passed (places others) → IsAt layout program bytes (slot + slots_of first + passed) (n + 1) there s'
@@ -84,5 +84,5 @@ module _ {layout : Layout} {program : List Insn} {bytes : List ℕ} {slot n : �
       record {
         stands = stands_further program (slot + slots_of first) passed others there behind p;
         few = let b = slots_of_bounds first in omega (arith, h.few);
-        reached = goes_on layout program bytes n here (record { slot = slot + slots_of first + passed; state = s' }) h.reached (step_jumps layout program slot s first begins k s' (slot + slots_of first + passed) (does e) to);
+        reached = run_goes_on layout program bytes n here (record { slot = slot + slots_of first + passed; state = s' }) h.reached (step_jumps layout program slot s first begins k s' (slot + slots_of first + passed) (does e) to);
       }

@@ -20,17 +20,17 @@ abbrev pub written_value : Insn → List (Option Value) → Option Value
 written_value i registers = written_by i >>= value_of registers
 
 -- what an instruction's effect writes into the register that it names
-abbrev pub written_in : Insn → Effect → Option Value
-written_in i (Falls s) = written_value i s.registers
-written_in i (Jumps distance s) = None
-written_in i (Exits r0) = None
+abbrev pub effect_value : Insn → Effect → Option Value
+effect_value i (Falls s) = written_value i s.registers
+effect_value i (Jumps distance s) = None
+effect_value i (Exits r0) = None
 
 -- what is told of a step from here: its slot, its instruction, and what that writes
 abbrev pub traced_at : Layout → List Insn → Config → Option Traced
 traced_at layout program c = do
   i ← begins_at program c.slot
   e ← effect layout i c.state
-  Some (record { slot = c.slot; insn = i; written = written_in i e })
+  Some (record { slot = c.slot; insn = i; written = effect_value i e })
 
 -- so many steps are all up to the end of a run
 abbrev pub ComeToEnd : Layout → List Insn → List ℕ → Outcome → ℕ → Type 0

@@ -1,8 +1,10 @@
+-- What public clauses cite. docs/DEFINITIONS.md says what to read in which order.
 pub mod Asked
 pub mod Target
 pub mod MediaType
 pub mod Reply
 pub mod Written
 pub mod Small
+-- Laws, each proved: a reader may skip them.
 pub mod SizeLaws
 pub mod SmallLaws

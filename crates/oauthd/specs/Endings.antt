@@ -20,7 +20,8 @@ EndsCall starts of_out of_err (Command command) files status out out' err err' =
 EndsCall starts of_out of_err (Service service) files status out out' err err' = EndsService starts of_out of_err service files status out out' err err'
 
 -- words call for something, which ends on some files, those of the hooks that it names among them
-pub record EndsAsCalled {W E : Type 0} (starts : Startings) (of_out : W → Option (List ℕ)) (of_err : E → Option (List ℕ)) (words : Arguments) (status : Status) (out out' : W) (err err' : E) : Type 0 where
+pub record EndsAsCalled {W E : Type 0} (starts : Startings) (of_out : W → Option (List ℕ)) (of_err : E → Option (List ℕ)) (words : Arguments) (status : Status)
+    (out out' : W) (err err' : E) : Type 0 where
   pub call : Call
   pub files : ServiceFiles
   pub called : IsCall words call

@@ -1,3 +1,4 @@
+-- What public clauses cite. docs/DEFINITIONS.md says what to read in which order.
 pub mod Answers
 pub mod Calls
 pub mod Config
@@ -16,3 +17,5 @@ pub mod Statuses
 pub mod Transcripts
 pub mod Words
 pub mod Hooks
+-- What only the contracts of this crate's own parts and their proofs cite.
+pub mod StatusesParts

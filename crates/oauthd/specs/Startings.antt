@@ -73,13 +73,16 @@ StandsWithOrWithout history with left = StandsFor left history ⊎ StandsFor lef
 
 -- The file was opened, and a server was started on its bytes. Whatever history they stood for: with those of the hooks that it
 -- lacks, the server goes on from that history under these rules, and all that a crash may leave stands for it.
-pub record ComesOfState {R : Type 0} (keeping : Crashes (BatchFile (DiskFile R))) (rules : RegistryRecord) (hooks : List HookFact) (started : Started (DiskFile R) (List Named)) : Type 0 where
+pub record ComesOfState {R : Type 0} (keeping : Crashes (BatchFile (DiskFile R))) (rules : RegistryRecord) (hooks : List HookFact)
+    (started : Started (DiskFile R) (List Named)) : Type 0 where
   pub opened : Opened R
   pub bytes_are : opened.bytes.items ≡ content opened.device.log.calls
   pub serves : OfEachRun opened.bytes.items (λ history. ServesOn chain.ghosts started rules [] (with_hooks started.moment history hooks))
   pub held : OfEachRun opened.bytes.items (λ history. Holds keeping started.keeper (with_hooks started.moment history hooks))
   -- the keeper's file is the one that was opened
-  pub meanwhile : OfEachRun opened.bytes.items (λ history. LeavesOnly (λ d. length d.log.calls) (λ d. LeftSince d.log.calls) opened.device started.keeper.device (StandsWithOrWithout history (with_hooks started.moment history hooks)))
+  pub meanwhile : OfEachRun opened.bytes.items
+      (λ history. LeavesOnly (λ d. length d.log.calls) (λ d. LeftSince d.log.calls) opened.device started.keeper.device
+      (StandsWithOrWithout history (with_hooks started.moment history hooks)))
 
 -- it served connections from there, and kept what happened in that file
 pub record HasResumed {N C J R : Type 0} (p : Promises N C J (BatchFile (DiskFile R)) (List Named)) (handed : Handed) (fault : LoopFault) : Type 0 where
@@ -103,6 +106,8 @@ RefusesState rules hooks fault = ((cause : OpenFault) × (fault ≡ of_opening c
 -- on the machine's sockets, with a chain of hooks: a server that is started anew keeps nothing
 abbrev pub startings : {R C J : Type 0} → Clocks C → Journal J → Keeping (BatchFile (DiskFile R)) → Startings
 startings clocks journal kept = record {
-  anew = λ handed. HasStarted (promises sockets.ghosts clocks journal (keeping_by no_keeper.ghosts no_imaging.ghosts.is_long) chain.ghosts) handed.registry handed.hooks handed.patience;
+  anew = λ handed. HasStarted
+      (promises sockets.ghosts clocks journal
+      (keeping_by no_keeper.ghosts no_imaging.ghosts.is_long) chain.ghosts) handed.registry handed.hooks handed.patience;
   on_state = HasResumed (promises sockets.ghosts clocks journal kept chain.ghosts);
 }

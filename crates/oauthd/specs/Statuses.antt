@@ -1,7 +1,5 @@
 -- The status with which the program ends.
-use Rattle.std.specs.Prelude.{ℕ, Option, None, Result, Ok, Err}
-use Rattle.std.specs.declared.io.ErrorKind.{ErrorKind}
-use Rattle.std.specs.declared.io.ErrorKind.TheVariants as kinds
+use Rattle.std.specs.Prelude.{ℕ}
 use Rattle.hook_commands.specs.declared.answer.HookAnswer.TheVariants as hook_answers
 use Rattle.hook_commands.specs.declared.fault.HookCommandFault.{HookCommandFault}
 use Rattle.hook_commands.specs.declared.fault.HookCommandFault.TheVariants as hook
@@ -55,13 +53,3 @@ end_status CannotWrite = BadUse
 abbrev pub status_of_answer : Answer → Status
 status_of_answer (answers.Hook (hook_answers.Refusal text)) = Refused
 status_of_answer answer = Done
-
--- why a program's words can't be had: memory is refused, or one of them is no text
-abbrev pub words_fault : ErrorKind → PerformFault
-words_fault kinds.OutOfMemory = OutOfMemory
-words_fault kind = BadArguments
-
--- what comes of a file that isn't read: memory is refused, or the command has none
-abbrev pub unread : {File : Type 0} → ErrorKind → Result (Option File) PerformFault
-unread kinds.OutOfMemory = Err OutOfMemory
-unread kind = Ok None

@@ -3,7 +3,7 @@
 
 ghost use Rattle.std.specs.Prelude.{◌≡◌};
 ghost use Rattle.std.specs.IoError.{error_kind};
-ghost use Rattle.oauthd.specs.Statuses.{words_fault};
+ghost use Rattle.oauthd.specs.StatusesParts.{words_fault};
 
 mod answer;
 mod call;

@@ -4,7 +4,7 @@ ghost use Rattle.std.specs.Prelude.{◌≡◌, Ok, Some, IfErr, MatchResult};
 ghost use Rattle.std.specs.IoError.{error_kind};
 ghost use Rattle.std.specs.Option.{option_copied};
 ghost use Rattle.oauthd.specs.NamedFiles.{bytes_in, readers_by};
-ghost use Rattle.oauthd.specs.Statuses.{unread};
+ghost use Rattle.oauthd.specs.StatusesParts.{unread};
 ghost use Rattle.oauthd.specs.declared.fault.PerformFault.TheVariants.{OutOfMemory};
 
 use crate::fault::PerformFault;

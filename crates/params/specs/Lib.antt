@@ -1,6 +1,8 @@
+-- What public clauses cite. docs/DEFINITIONS.md says what to read in which order.
 pub mod Limits
 pub mod Form
 pub mod Scope
 pub mod FaultTexts
+-- Laws, each proved: a reader may skip them.
 pub mod FormLaws
 pub mod ScopeLaws

@@ -1,3 +1,4 @@
+-- What public clauses cite. docs/DEFINITIONS.md says what to read in which order.
 pub mod Domain
 pub mod Sets
 pub mod Conditions
@@ -5,4 +6,10 @@ pub mod Widths
 pub mod Unsigned
 pub mod Signed
 pub mod Half
+-- What only the contracts of this crate's own parts and their proofs cite.
+pub mod ConditionsParts
+pub mod WidthsParts
+pub mod UnsignedParts
+pub mod SignedParts
+-- Laws, each proved: a reader may skip them.
 pub mod MemberLaws

@@ -27,7 +27,7 @@ use Rattle.reg_kind.specs.declared.reg.Reg.{Reg}
 use Rattle.reg_kind.specs.declared.reg.Reg.TheVariants.{Unset, Number, Record, Stack}
 use Rattle.reg_kind.specs.Fits.{NumberFits, SpanFits, RegFits, HasFit, pointer_to}
 use Rattle.reg_kind.specs.Spans.{AmountFits, IsShifted}
-use Rattle.reg_kind.specs.Operations.{LeftFits, KeepsAmount, IsResult, IsComputed, IsSum, IsDifference, IsKindResult, IsMove, in_region, copy_of}
+use Rattle.reg_kind.specs.Operations.{LeftFits, KeepsAmount, IsResult, IsComputed, IsRegSum, IsDifference, IsKindResult, IsMove, in_region, copy_of}
 
 -- ---- what registers hold
 
@@ -322,7 +322,7 @@ taken layout a (Number b) kb x (IsNumber n) hx hy h = absurd kb
 taken layout a (Record s) kb x (IsNumber n) hx hy h = absurd hy
 taken layout a (Stack s) kb x (IsNumber n) hx hy h = absurd hy
 
-pub sum_right : (layout : Layout) (a b : Reg) (r : Result Reg WalkFault) → IsSum layout a b r → IsResult layout W64 Add a b r
+pub sum_right : (layout : Layout) (a b : Reg) (r : Result Reg WalkFault) → IsRegSum layout a b r → IsResult layout W64 Add a b r
 unfolding AreMisused
 sum_right layout a b r = go a b where
   isnt : Add ≢ Mov
@@ -331,7 +331,7 @@ sum_right layout a b r = go a b where
   same : (a b : Reg) (q : Result Reg WalkFault) → r ≡ q → IsRead layout W64 Add a b q → IsResult layout W64 Add a b r
   same a b q e h = same_result layout W64 Add a b q r isnt e h
 
-  go : (a b : Reg) → IsSum layout a b r → IsResult layout W64 Add a b r
+  go : (a b : Reg) → IsRegSum layout a b r → IsResult layout W64 Add a b r
   go Unset b h = same Unset b (Err UnsetRegister) h (unset_left layout W64 Add b)
   go (Number a) Unset h = same (Number a) Unset (Err UnsetRegister) h (unset_right layout W64 Add (Number a))
   go (Record s) Unset h = same (Record s) Unset (Err UnsetRegister) h (unset_right layout W64 Add (Record s))

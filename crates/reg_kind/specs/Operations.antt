@@ -97,15 +97,15 @@ IsComputed w op (Number a) (Number b) r = IsNumberResult w op a b r
 IsComputed w op a b r = r ≡ Err PointerMisuse
 
 -- what a sum gives
-abbrev pub IsSum : Layout → Reg → Reg → Result Reg WalkFault → Type 0
-IsSum layout Unset b r = r ≡ Err UnsetRegister
-IsSum layout a Unset r = r ≡ Err UnsetRegister
-IsSum layout (Number a) (Number b) r = IsNumberResult W64 Add a b r
-IsSum layout (Record span) (Number by) r = IsPointerSum layout InRecord span by r
-IsSum layout (Stack span) (Number by) r = IsPointerSum layout InStack span by r
-IsSum layout (Number by) (Record span) r = IsPointerSum layout InRecord span by r
-IsSum layout (Number by) (Stack span) r = IsPointerSum layout InStack span by r
-IsSum layout a b r = r ≡ Err PointerMisuse
+abbrev pub IsRegSum : Layout → Reg → Reg → Result Reg WalkFault → Type 0
+IsRegSum layout Unset b r = r ≡ Err UnsetRegister
+IsRegSum layout a Unset r = r ≡ Err UnsetRegister
+IsRegSum layout (Number a) (Number b) r = IsNumberResult W64 Add a b r
+IsRegSum layout (Record span) (Number by) r = IsPointerSum layout InRecord span by r
+IsRegSum layout (Stack span) (Number by) r = IsPointerSum layout InStack span by r
+IsRegSum layout (Number by) (Record span) r = IsPointerSum layout InRecord span by r
+IsRegSum layout (Number by) (Stack span) r = IsPointerSum layout InStack span by r
+IsRegSum layout a b r = r ≡ Err PointerMisuse
 
 -- what a difference gives
 abbrev pub IsDifference : Layout → Reg → Reg → Result Reg WalkFault → Type 0
@@ -120,7 +120,7 @@ IsDifference layout a b r = r ≡ Err PointerMisuse
 abbrev pub IsKindResult : Layout → Width → BinOp → Reg → Reg → Result Reg WalkFault → Type 0
 IsKindResult layout W64 Mov a b r = r ≡ copy_of b
 IsKindResult layout W32 Mov a b r = (zero : Scalar) × ShowsOne zero 0 × IsComputed W32 Mov (Number zero) b r
-IsKindResult layout W64 Add a b r = IsSum layout a b r
+IsKindResult layout W64 Add a b r = IsRegSum layout a b r
 IsKindResult layout W64 Sub a b r = IsDifference layout a b r
 IsKindResult layout w op a b r = IsComputed w op a b r
 

@@ -38,10 +38,12 @@ first_span (Some span) other = Some span
 
 -- a span moved up or down by the numbers of a scalar: by what it lies between as a word, or else as a signed number
 abbrev pub span_sum : ℕ → Span → Scalar → Option Span
-span_sum size span by = first_span (span_raised size span (pos (least_word by)) (pos (greatest_word by))) (span_raised size span (least_number by) (greatest_number by))
+span_sum size span by =
+    first_span (span_raised size span (pos (least_word by)) (pos (greatest_word by))) (span_raised size span (least_number by) (greatest_number by))
 
 abbrev pub span_difference : ℕ → Span → Scalar → Option Span
-span_difference size span by = first_span (span_lowered size span (pos (least_word by)) (pos (greatest_word by))) (span_lowered size span (least_number by) (greatest_number by))
+span_difference size span by =
+    first_span (span_lowered size span (pos (least_word by)) (pos (greatest_word by))) (span_lowered size span (least_number by) (greatest_number by))
 
 -- each offset of a span, moved by each of some numbers, lies in the region and in another span; none: the only ones don't
 abbrev pub IsShifted : BinOp → ℕ → Span → Scalar → Option Span → Type 0

@@ -3,7 +3,7 @@
 ghost use Rattle.std.specs.Prelude.{◌≡◌, Some, IsTrue};
 ghost use Rattle.insn.specs.declared.state.Value.TheVariants.{Number as IsNumber};
 ghost use Rattle.reg_kind.specs.Fits.{IsKindCover, IsRegJoin, IsKindJoin, IsRegRefined};
-ghost use Rattle.reg_kind.specs.Operations.{copy_of, in_region, IsComputed, IsDifference, IsKindResult, IsKnownNumber, IsPointerDifference, IsPointerSum, IsSum, IsNumberOf, IsResult, IsImage, IsKindImage, number_in_reg};
+ghost use Rattle.reg_kind.specs.Operations.{copy_of, in_region, IsComputed, IsDifference, IsKindResult, IsKnownNumber, IsPointerDifference, IsPointerSum, IsRegSum, IsNumberOf, IsResult, IsImage, IsKindImage, number_in_reg};
 ghost use Rattle.reg_kind.specs.Accesses.{IsAccess, place_behind};
 ghost use Rattle.insn.specs.Instruction.{size_bytes};
 ghost use Rattle.insn.specs.declared.operation.BinOp.TheVariants.{Add, Sub};
@@ -105,7 +105,7 @@ impl Reg {
 
     /// The sum of two values.
     pub fn add(layout: Layout, a: Reg, b: Reg) -> Result<Reg, WalkFault>
-        ensures { IsSum layout a b result }
+        ensures { IsRegSum layout a b result }
     {
         match (a, b) {
             (Reg::Number(x), Reg::Number(y)) => {

@@ -1,4 +1,7 @@
+-- What public clauses cite. docs/DEFINITIONS.md says what to read in which order.
 pub mod Streams
 pub mod FaultTexts
 pub mod Served
 pub mod Answered
+-- What only the contracts of this crate's own parts and their proofs cite.
+pub mod ServedParts

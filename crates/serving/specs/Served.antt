@@ -3,21 +3,17 @@ use Rattle.std.specs.Prelude.{◌≡◌, ◌⊎◌, ◌++◌, ◌≤◌, ◌<◌
 use Rattle.rand_chacha.specs.ChaCha.{ChaCha}
 use Rattle.hook_host.specs.declared.host.HookHost.{Ghosts as Hosting}
 use Rattle.clients.specs.RegistryRecord.{RegistryRecord}
-use Rattle.http_edge.specs.Schedule.{World, Connection, Happening, Opened, HasEnded, Taken, Forgotten, connection_at}
+use Rattle.http_edge.specs.Schedule.{World, Happening, Opened, HasEnded, Taken, Forgotten, connection_at}
 use Rattle.http_edge.specs.Lanes.{lane_at}
 use Rattle.http_edge.specs.Edges.{SeenEdge, output_of}
 use Rattle.http_edge.specs.Refusals.{IsOpeningRefusal, IsEndingRefusal}
-use Rattle.http_edge.specs.Reached.{Reached, HappeningLeads, PieceLeads, is_closing}
+use Rattle.http_edge.specs.Reached.{Reached, HappeningLeads, is_closing}
 use Rattle.http_edge.specs.Pieces.{WhereReached, PieceGiven, RefusesPiece}
 use Rattle.http_edge.specs.contracts.chance.ChaCha20RngDrawSource.TheImpl as generators
 use Rattle.serving.specs.Streams.{Doing, Received, ReadFailed, Sent, WriteFailed}
 use Rattle.http_edge.specs.declared.fault.EdgeFault.{EdgeFault}
 use Rattle.serving.specs.declared.fault.ServeFault.{ServeFault}
 use Rattle.serving.specs.declared.fault.ServeFault.TheVariants as Fault
-use Rattle.serving.specs.declared.serve.Heard.{Heard}
-use Rattle.serving.specs.declared.serve.Heard.TheVariants as Hears
-use Rattle.serving.specs.declared.serve.Over.{Over}
-use Rattle.serving.specs.declared.serve.Over.TheVariants as Overs
 
 -- so many bytes has a piece at most
 abbrev pub stream_piece_limit : ℕ
@@ -137,29 +133,10 @@ pub data Runs {H S C : Type 0} (hosting : Hosting H) (does : S → Doing → S �
       ServingStep hosting does tells c stage old stage' new →
       Runs hosting does tells c first_stage first stage' new
 
--- whatever led to the one stage and scene, steps lead on to the other
-abbrev pub Goes : {H S C : Type 0} → Hosting H → (S → Doing → S → Type 0) → (C → Option ℕ → C → Type 0) → ℕ → Stage → ServingScene H S C → Stage →
-    ServingScene H S C → Type 0
-Goes {H} {S} {C} hosting does tells c stage old stage' new =
-    (first_stage : Stage) (first : ServingScene H S C) → Runs hosting does tells c first_stage first stage old →
-    Runs hosting does tells c first_stage first stage' new
-
 -- the fault, if any
 abbrev pub any_fault : {T : Type 0} → Result T ServeFault → Option ServeFault
 any_fault (Ok x) = None
 any_fault (Err fault) = Some fault
-
--- the stage behind a read
-abbrev pub stage_heard : ℕ → Result Heard ServeFault → Stage
-stage_heard n (Ok Hears.Piece) = Reading (n + 1)
-stage_heard n (Ok Hears.End) = Finished
-stage_heard n (Err fault) = Served (Some fault)
-
--- the stage behind all reads
-abbrev pub stage_over : Result Over ServeFault → Stage
-stage_over (Ok Overs.Closed) = Served None
-stage_over (Ok Overs.Finished) = Finished
-stage_over (Err fault) = Served (Some fault)
 
 -- events more lead from what the schedule led to
 pub record LeadsOn {H : Type 0} (hosting : Hosting H) (edge : SeenEdge H) (rules : RegistryRecord) (first : H) (schedule : List Happening) : Type 0 where

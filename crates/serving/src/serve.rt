@@ -3,7 +3,8 @@ ghost use Rattle.std.specs.Prelude.{◌≡◌, ◌<◌, ◌+◌, ℕ, List, [], 
 ghost use Rattle.clients.specs.RegistryRecord.{RegistryRecord};
 ghost use Rattle.http_edge.specs.Schedule.{World, Happening};
 ghost use Rattle.http_edge.specs.Reached.{Reached};
-ghost use Rattle.serving.specs.Served.{Runs, Goes, Coming, Reading, Finished, Ended, Served, Left, IsAttentive, IsWritten, WriteFails, serving_scene, LeadsOn, any_fault, stage_heard, stage_over};
+ghost use Rattle.serving.specs.Served.{Runs, Coming, Reading, Finished, Ended, Served, Left, IsAttentive, IsWritten, WriteFails, serving_scene, LeadsOn, any_fault};
+ghost use Rattle.serving.specs.ServedParts.{Goes, stage_heard, stage_over};
 ghost use Rattle.serving.specs.Answered.{ServesConnection};
 ghost use Rattle.serving.specs.declared.fault.ServeFault.TheVariants.{Write};
 

@@ -28,7 +28,7 @@ use Rattle.stack_state.specs.declared.block.Block.{Block}
 use Rattle.stack_state.specs.declared.block.Block.TheVariants as block
 use Rattle.stack_state.specs.declared.stack.Stack.{Stack}
 use Rattle.stack_state.specs.Fits.{BlockFits, MarkFits, StackFits, block_at, block_mark, block_cells, mark_at, value_mark}
-use Rattle.stack_state.specs.Blocks.{IsApart}
+use Rattle.stack_state.specs.Blocks.{IsNotWhole}
 use Rattle.stack_state.specs.Accesses.{HoldsNone, IsLoadFault, IsTouched, IsWholePlace}
 use Rattle.stack_state.proofs.Written.{length-part, length-written, part_item, part_kept, written_at, written_else}
 use Rattle.stack_state.proofs.Spelled.{IsByte, IsPart, NoPointer, none_unset, some_unset, torn_holds_none}
@@ -99,7 +99,7 @@ module _ (stack : Stack) (cells : List Cell) (k : ℕ) (c : Cell) (inside : k < 
   changed_long = let long = fits.long in length-written cells (c ∷ []) k (omega arith) ∙ long
 
   -- what is known of each cell is still so
-  module _ (apart : IsApart (block_at stack (k / 8))) (known : MarkFits false (k % 8) (mark_at stack k) c) where
+  module _ (apart : IsNotWhole (block_at stack (k / 8))) (known : MarkFits false (k % 8) (mark_at stack k) c) where
     mark_changed : (i : ℕ) → i < 512 → MarkFits false (i % 8) (mark_at stack i) (get_or (with_cell cells k c) i cell.Unset)
     mark_changed i lt =
         elim (cases_eq i k) [
@@ -159,7 +159,7 @@ touching span n k some le least greatest =
 
 module _ (stack : Stack) (span : Span) (size : Size) (s : State) (inside : span.greatest + size_bytes size ≤ 512) (some : span.least ≤ span.greatest) where
   -- a block of which a byte may be unset holds no value whole
-  apart_unset : (b : Block) (cells : List Cell) (j : ℕ) → BlockFits false b cells → block_mark b j ≡ Unset → IsApart b
+  apart_unset : (b : Block) (cells : List Cell) (j : ℕ) → BlockFits false b cells → block_mark b j ≡ Unset → IsNotWhole b
   apart_unset block.Unset cells j fits e = tt
   apart_unset (block.Cells marks) cells j fits e = tt
   apart_unset (block.Whole (reg.Number a)) cells j fits e = absurd cc
@@ -274,7 +274,7 @@ module _ (stack : Stack) (span : Span) (size : Size) (s : State) (inside : span.
       pointer_of (cell.Byte b) = record { region = InStack; offset = 0 }
       pointer_of (cell.Part p j) = p
 
-      changed_part : (at k : ℕ) → SpanFits false span at → at % 8 ≡ 0 → at ≤ k → k < at + 8 → mark_at stack k ≡ Part → IsApart (block_at stack (k / 8)) → FailsLoad stack span size s PointerMisuse
+      changed_part : (at k : ℕ) → SpanFits false span at → at % 8 ≡ 0 → at ≤ k → k < at + 8 → mark_at stack k ≡ Part → IsNotWhole (block_at stack (k / 8)) → FailsLoad stack span size s PointerMisuse
       unfolding pointer_of another
       changed_part at k place aligned below above mark apart =
           torn_seen cells at k (cell_changed stack s.stack k (cell.Part q (k % 8)) low fits apart (subst (λ (m : Mark). MarkFits false (k % 8) m (cell.Part q (k % 8))) (sym mark) (q, refl))) place below (omega arith) mark (λ e f. differs) where
@@ -314,12 +314,12 @@ module _ (stack : Stack) (span : Span) (size : Size) (s : State) (inside : span.
         same : k / 8 ≡ at / 8
         same = omega arith
 
-        torn : IsApart (block_at stack (at / 8)) → FailsLoad stack span size s PointerMisuse
-        torn apart = changed_part at k place aligned below above mark (subst (λ (i : ℕ). IsApart (block_at stack i)) (sym same) apart)
+        torn : IsNotWhole (block_at stack (at / 8)) → FailsLoad stack span size s PointerMisuse
+        torn apart = changed_part at k place aligned below above mark (subst (λ (i : ℕ). IsNotWhole (block_at stack i)) (sym same) apart)
 
         by : (b : Block) → block_at stack (at / 8) ≡ b → FailsLoad stack span size s PointerMisuse
-        by block.Unset e = torn (subst IsApart (sym e) tt)
-        by (block.Cells marks) e = torn (subst IsApart (sym e) tt)
+        by block.Unset e = torn (subst IsNotWhole (sym e) tt)
+        by (block.Cells marks) e = torn (subst IsNotWhole (sym e) tt)
         by (block.Whole value) e = beside at k value place aligned same mark e
 
     part_seen : (k : ℕ) → IsTouched span size k → mark_at stack k ≡ Part → HoldsNone stack span size → StackFits false stack s.stack → FailsLoad stack span size s PointerMisuse

@@ -1,7 +1,6 @@
+-- What public clauses cite. docs/DEFINITIONS.md says what to read in which order.
 pub mod Standing
-pub mod StandingLaws
 pub mod Telling
-pub mod TellingLaws
 pub mod Comparing
 pub mod Hooks
 pub mod Resuming
@@ -9,3 +8,11 @@ pub mod FaultTexts
 pub mod Knowing
 pub mod Renewing
 pub mod Accounts
+-- What only the contracts of this crate's own parts and their proofs cite.
+pub mod ComparingParts
+pub mod ResumingParts
+pub mod RenewingParts
+pub mod AccountsParts
+-- Laws, each proved: a reader may skip them.
+pub mod StandingLaws
+pub mod TellingLaws

@@ -1,8 +1,11 @@
+-- What public clauses cite. docs/DEFINITIONS.md says what to read in which order.
 pub mod Grants
-pub mod Issuing
 pub mod Exchange
 pub mod Refresh
 pub mod ClientCredentials
 pub mod TokenPath
+-- What only the contracts of this crate's own parts and their proofs cite.
+pub mod Issuing
 pub mod Parts
+-- Laws, each proved: a reader may skip them.
 pub mod FollowingLaws

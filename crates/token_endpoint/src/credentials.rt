@@ -2,7 +2,8 @@
 ghost use Rattle.std.specs.Prelude.{Ok, IfOk};
 ghost use Rattle.answers.specs.Views.{known_of};
 ghost use Rattle.answers.specs.Short.{IsShortAnswer};
-ghost use Rattle.answers.specs.Told.{DecidesAsking, DecidesBy};
+ghost use Rattle.answers.specs.Told.{DecidesAsking};
+ghost use Rattle.answers.specs.ToldParts.{DecidesBy};
 ghost use Rattle.token_endpoint.specs.ClientCredentials.{client_credentials, granted};
 ghost use Rattle.token_endpoint.specs.Parts.{granted_by};
 

@@ -3,7 +3,7 @@ ghost use Rattle.std.specs.Prelude.{◌≡◌, List, Ok};
 ghost use Rattle.consent.specs.History.{Event};
 ghost use Rattle.answers.specs.Setting.{HostSays};
 ghost use Rattle.answers.specs.Short.{IsShortAnswer};
-ghost use Rattle.answers.specs.Told.{DecidesOf};
+ghost use Rattle.answers.specs.ToldParts.{DecidesOf};
 ghost use Rattle.answers.specs.Views.{Shows, known_of, setting_of};
 ghost use Rattle.token_endpoint.specs.Grants.{access_for, both_for};
 ghost use Rattle.token_endpoint.specs.Issuing.{access_token, refresh_token};

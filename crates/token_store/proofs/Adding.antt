@@ -13,7 +13,8 @@ use Rattle.consent.specs.Growth.{may_end}
 use Rattle.consent.specs.GrowthLaws.{grant_at-push, unexpired_count-push, is_spent-push_other, is_spent-unnamed, has_ended-push_other}
 use Rattle.consent.specs.HistoryLaws.{grant_at-placed}
 use Rattle.token_store.specs.Kept.{Kept, kept_at, kept_unexpired}
-use Rattle.token_store.specs.Fits.{FitsBy, to_keep, with_family_number}
+use Rattle.token_store.specs.Fits.{FitsBy, to_keep}
+use Rattle.token_store.specs.FitsParts.{with_family_number}
 
 -- one more is kept: what look-ups find and what counts say
 pub record KeepsOneMore (kept kept' : List Kept) (moment : ℕ) (k : Kept) : Type 0 where

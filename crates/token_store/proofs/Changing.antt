@@ -19,7 +19,8 @@ use Rattle.token_store.specs.declared.record.Record.{Record}
 use Rattle.token_store.specs.declared.record.Shared.{Shared}
 use Rattle.token_store.specs.Kept.{Kept, kept_at, is_in, HasFamily}
 use Rattle.token_store.specs.Fits.{FitsBy, FitsHistory, to_keep}
-use Rattle.token_store.specs.Records.{shared_at, or_nothing, is_coded, is_live_at, kept_in, all_kept, IsCounted, Tied, TellsSame, RecordMark, marked}
+use Rattle.token_store.specs.Records.{shared_at, or_nothing, is_coded, kept_in, all_kept, IsCounted, Tied}
+use Rattle.token_store.specs.RecordsParts.{is_live_at, TellsSame, RecordMark, marked}
 use Rattle.token_store.specs.Room.{Waits}
 use Rattle.token_store.proofs.Looking.{shown, found}
 use Rattle.token_store.proofs.Families.{unseen, vacant_count}

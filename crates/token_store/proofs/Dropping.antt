@@ -12,7 +12,8 @@ use Rattle.consent.specs.ListLaws.{count_by-cons}
 use Rattle.token_store.specs.declared.record.Record.{Record}
 use Rattle.token_store.specs.declared.record.Shared.{Shared}
 use Rattle.token_store.specs.Kept.{Kept, kept_at, kept_unexpired}
-use Rattle.token_store.specs.Records.{shared_at, or_nothing, is_live_at, kept_in, kept_under, all_kept, member_count, IsCounted, HasLeft, TellsSame}
+use Rattle.token_store.specs.Records.{shared_at, or_nothing, kept_in, kept_under, all_kept, member_count, IsCounted}
+use Rattle.token_store.specs.RecordsParts.{is_live_at, HasLeft, TellsSame}
 use Rattle.token_store.proofs.Looking.{shown, found}
 
 -- a count of the others

@@ -11,7 +11,8 @@ use Rattle.consent.specs.History.Change.{Consented}
 use Rattle.token_store.specs.declared.record.Record.{Record}
 use Rattle.token_store.specs.declared.record.Shared.{Shared}
 use Rattle.token_store.specs.Kept.{Kept}
-use Rattle.token_store.specs.Records.{RecordMark, marked, shared_at, or_nothing, kept_in, kept_under, all_kept, member_count, is_coded, Tied, HasEnded, HasLowered, HasOpened, HasClosed, IsOwned, IsAfter, IsNextOwned, owner_cmp, lowered_by, lowered_shared, is_beyond_mask, terms_by}
+use Rattle.token_store.specs.Records.{shared_at, or_nothing, kept_in, kept_under, all_kept, member_count, is_coded, Tied, IsOwned, owner_cmp, terms_by}
+use Rattle.token_store.specs.RecordsParts.{RecordMark, marked, HasEnded, HasLowered, HasOpened, HasClosed, IsAfter, IsNextOwned, lowered_by, lowered_shared, is_beyond_mask}
 
 -- ENDING
 

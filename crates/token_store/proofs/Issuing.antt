@@ -18,9 +18,11 @@ use Rattle.token_store.specs.declared.record.Shared.{Shared}
 use Rattle.token_store.specs.declared.record.Given.{Given}
 use Rattle.token_store.specs.declared.record.Given.TheVariants.{Code, Token}
 use Rattle.token_store.specs.Kept.{Kept, kept_at, kept_unexpired, is_in, HasFamily}
-use Rattle.token_store.specs.Fits.{FitsBy, IsMember, to_keep, with_family_number, refusal_by, refusal}
+use Rattle.token_store.specs.Fits.{FitsBy, to_keep, refusal_by, refusal}
+use Rattle.token_store.specs.FitsParts.{IsMember, with_family_number}
 use Rattle.consent.specs.Changes.{token_issued, issued_with}
-use Rattle.token_store.specs.Records.{Place, kind_in, owner_in, kept_in, member_count, terms_by, family_place, own_place, shared_at, kept_under, all_kept, token_kept, IsUnused}
+use Rattle.token_store.specs.Records.{kind_in, owner_in, kept_in, member_count, terms_by, shared_at, kept_under, all_kept}
+use Rattle.token_store.specs.RecordsParts.{Place, family_place, own_place, token_kept, IsUnused}
 use Rattle.token_store.proofs.Adding.{Gives, keeps_push, fits_given, fits_named}
 use Rattle.token_store.proofs.Opening.{own_unused}
 

@@ -16,7 +16,8 @@ use Rattle.consent.specs.History.{is_named, is_unexpired}
 use Rattle.token_store.specs.declared.record.Record.{Record}
 use Rattle.token_store.specs.declared.record.Shared.{Shared}
 use Rattle.token_store.specs.Kept.{Kept, kept_at}
-use Rattle.token_store.specs.Records.{is_live_at, kept_in, all_kept, TellsSame}
+use Rattle.token_store.specs.Records.{kept_in, all_kept}
+use Rattle.token_store.specs.RecordsParts.{is_live_at, TellsSame}
 
 -- what is seen of the record of the digest
 abbrev pub shown : List (Option Shared) → List ℕ → ℕ → Option Record → Option Kept

@@ -5,7 +5,7 @@ use Rattle.consent.specs.ListLaws.{count_by-cons}
 use Rattle.consent.specs.History.{Grant, is_named, is_beyond}
 use Rattle.consent.specs.History.Change.{Consented}
 use Rattle.token_store.specs.Kept.{Kept}
-use Rattle.token_store.specs.Records.{RecordMark, marked}
+use Rattle.token_store.specs.RecordsParts.{RecordMark, marked}
 
 -- a change that keeps the grant leaves what is found
 pub find-changed : (f : Kept → Kept) (p : Grant → Bool) (ks : List Kept) → ((k : Kept) → (f k).grant ≡ k.grant) → find (λ k. p k.grant) (map f ks) ≡ option_map f (find (λ k. p k.grant) ks)

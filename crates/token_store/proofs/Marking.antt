@@ -10,7 +10,7 @@ use Rattle.consent.specs.History.Change.{Consented, Spent, FamilyEnded}
 use Rattle.consent.specs.GrowthLaws.{grant_at-push_none, unexpired_count-push_none, code_terms-push_none, is_spent-push, is_spent-push_other, has_ended-push, has_ended-push_other}
 use Rattle.consent.specs.HistoryLaws.{grant_at-now, grant_at-placed, is_history-push_none}
 use Rattle.token_store.specs.Kept.{Kept}
-use Rattle.token_store.specs.Records.{RecordMark, marked}
+use Rattle.token_store.specs.RecordsParts.{RecordMark, marked}
 use Rattle.token_store.specs.Fits.{FitsBy, to_keep}
 use Rattle.token_store.proofs.Marked.{find-changed, count-changed, marked-grant}
 

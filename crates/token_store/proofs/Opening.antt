@@ -8,9 +8,10 @@ use Rattle.consent.specs.GrowthLaws.{code_terms-push, code_terms-push_other, has
 use Rattle.consent.specs.HistoryLaws.{grant_at-placed, code_terms-fresh, has_ended-fresh, is_history-push}
 use Rattle.consent.specs.declared.change.CodeFacts.{CodeFacts}
 use Rattle.token_store.specs.Kept.{Kept}
-use Rattle.token_store.specs.Fits.{FitsBy, to_keep, with_family_number}
+use Rattle.token_store.specs.Fits.{FitsBy, to_keep}
+use Rattle.token_store.specs.FitsParts.{with_family_number}
 use Rattle.consent.specs.Changes.{code_given}
-use Rattle.token_store.specs.Records.{code_kept, IsUnused}
+use Rattle.token_store.specs.RecordsParts.{code_kept, IsUnused}
 use Rattle.token_store.proofs.Adding.{KeepsOneMore, Gives, fits_given, fits_named, named_older}
 
 -- no family so far has an unused number

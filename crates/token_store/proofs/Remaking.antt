@@ -15,9 +15,11 @@ use Rattle.token_store.specs.declared.record.Shared.{Shared}
 use Rattle.token_store.specs.declared.tables.Tables.{Tables}
 use Rattle.token_store.specs.Kept.{Kept, kept_at, kept_unexpired}
 use Rattle.token_store.specs.Fits.{FitsBy, to_keep}
-use Rattle.token_store.specs.Image.{HasDigestTwice, as_kept, kept_record, is_unexpired_record, renumbered, IsRestored}
+use Rattle.token_store.specs.Image.{HasDigestTwice, as_kept, kept_record}
+use Rattle.token_store.specs.ImageParts.{is_unexpired_record, renumbered, IsRestored}
 use Rattle.token_store.specs.Homes.{AreHomes, HasHome, AllHome, HasGrown, number_of_family, renumber_by}
-use Rattle.token_store.specs.Records.{HasEntered, HasOpened, TellsSame, IsTied, kept_of, kept_in, all_kept, is_live_at}
+use Rattle.token_store.specs.Records.{IsTied, kept_of, kept_in, all_kept}
+use Rattle.token_store.specs.RecordsParts.{HasEntered, HasOpened, TellsSame, is_live_at}
 use Rattle.token_store.proofs.Looking.{count-push, same_push, same_on}
 use Rattle.token_store.proofs.Telling.{fits_same}
 

@@ -22,7 +22,8 @@ use Rattle.token_store.specs.declared.record.Record.{Record}
 use Rattle.token_store.specs.declared.record.Shared.{Shared}
 use Rattle.token_store.specs.declared.tables.Tables.{Tables}
 use Rattle.token_store.specs.Kept.{Kept, kept_at}
-use Rattle.token_store.specs.Records.{shared_at, or_nothing, expiry, expiry_of, is_coded, is_live_at, kept_in, kept_under, kept_of, all_kept, ExpireFrom, IsCounted, IsOwned, Tied, IsTied, HasLeft, HasEntered, TellsSame, SharesSame, ForgetsExpired}
+use Rattle.token_store.specs.Records.{shared_at, or_nothing, expiry, expiry_of, is_coded, kept_in, kept_under, kept_of, all_kept, ExpireFrom, IsCounted, IsOwned, Tied, IsTied}
+use Rattle.token_store.specs.RecordsParts.{is_live_at, HasLeft, HasEntered, TellsSame, SharesSame, ForgetsExpired}
 use Rattle.token_store.specs.Room.{Waits}
 use Rattle.token_store.proofs.Looking.{shown, found, count-push, same_as_is}
 use Rattle.token_store.proofs.Waiting.{waits_other}

@@ -12,7 +12,8 @@ use Rattle.std.proofs.lemmas.Map.Keys.{IsDistinct-tail}
 use Rattle.token_store.specs.declared.record.Record.{Record}
 use Rattle.token_store.specs.declared.record.Shared.{Shared}
 use Rattle.token_store.specs.Kept.{Kept, kept_at}
-use Rattle.token_store.specs.Records.{RecordMark, marked, is_live_at, kept_in, all_kept, member_count, expiry_of, Tied, spent_in}
+use Rattle.token_store.specs.Records.{kept_in, all_kept, member_count, expiry_of, Tied}
+use Rattle.token_store.specs.RecordsParts.{RecordMark, marked, is_live_at, spent_in}
 use Rattle.token_store.proofs.Looking.{shown, found}
 
 -- FOUND

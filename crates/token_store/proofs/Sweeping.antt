@@ -12,7 +12,8 @@ use Rattle.std.proofs.lemmas.Map.Keys.{IsDistinct-tail}
 use Rattle.consent.specs.ListLaws.{count_by-cons}
 use Rattle.token_store.specs.declared.record.Record.{Record}
 use Rattle.token_store.specs.declared.record.Shared.{Shared}
-use Rattle.token_store.specs.Records.{shared_at, or_nothing, is_live_at, kept_in, all_kept, member_count, expiry_of, IsCounted, HasLeft, SharesSame, TellsSame, AllLive, ExpireFrom, live_of}
+use Rattle.token_store.specs.Records.{shared_at, or_nothing, kept_in, all_kept, member_count, expiry_of, IsCounted, ExpireFrom}
+use Rattle.token_store.specs.RecordsParts.{is_live_at, HasLeft, SharesSame, TellsSame, AllLive, live_of}
 use Rattle.token_store.proofs.Looking.{shown, found}
 use Rattle.token_store.proofs.Dropping.{HasSlot, has_slot, left_count, same_shared, count_seen, member_counted}
 

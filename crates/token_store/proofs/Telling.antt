@@ -20,7 +20,8 @@ use Rattle.token_store.specs.declared.record.Shared.{Shared}
 use Rattle.token_store.specs.declared.tables.Tables.{Tables}
 use Rattle.token_store.specs.Kept.{Kept, kept_at, kept_unexpired}
 use Rattle.token_store.specs.Fits.{FitsBy, to_keep}
-use Rattle.token_store.specs.Records.{shared_at, is_live_at, expiry, kept_in, kept_of, all_kept, IsTied, IsUnused, AllLive, TellsSame}
+use Rattle.token_store.specs.Records.{shared_at, expiry, kept_in, kept_of, all_kept, IsTied}
+use Rattle.token_store.specs.RecordsParts.{is_live_at, IsUnused, AllLive, TellsSame}
 use Rattle.token_store.proofs.Looking.{shown, found}
 use Rattle.token_store.proofs.Dropping.{count_seen, member_counted}
 

@@ -12,7 +12,8 @@ use Rattle.std.proofs.lemmas.Bool.{eqb-true, eq-eqb, lt-ltb, ltb-true, and_parts
 use Rattle.std.proofs.lemmas.Map.Keys.{le_from_not_gt}
 use Rattle.std.proofs.lemmas.Map.Lookups.{exact_unsigned}
 use Rattle.token_store.specs.declared.record.Shared.{Shared}
-use Rattle.token_store.specs.Records.{or_nothing, is_coded, owner_cmp, IsOwned, IsAfter, start_of}
+use Rattle.token_store.specs.Records.{or_nothing, is_coded, owner_cmp, IsOwned}
+use Rattle.token_store.specs.RecordsParts.{IsAfter, start_of}
 
 -- ORDERS
 

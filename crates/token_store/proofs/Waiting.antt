@@ -6,9 +6,11 @@ use Rattle.std.specs.List.{AllByRecursion}
 use Rattle.consent.specs.declared.change.Change.{Change}
 use Rattle.consent.specs.declared.change.Change.TheVariants.{Consented, CodeGiven, IssuedAlone, Issued, Spent, FamilyEnded, HookSet, HookGone}
 use Rattle.token_store.specs.declared.record.Shared.{Shared}
-use Rattle.token_store.specs.Records.{or_nothing, is_coded, code_shared, own_shared, texts_given, HasEnded, HasLowered, HasOpened}
+use Rattle.token_store.specs.Records.{or_nothing, is_coded, code_shared, own_shared, texts_given}
+use Rattle.token_store.specs.RecordsParts.{HasEnded, HasLowered, HasOpened}
 use Rattle.token_store.specs.Kept.{Expected, Room}
-use Rattle.token_store.specs.Room.{Waits, NextIs, IsFirstReady, AreReady, HasRoomFirst, HasRoomFor, expected_of}
+use Rattle.token_store.specs.Room.{Waits, NextIs, AreReady, HasRoomFor, expected_of}
+use Rattle.token_store.specs.RoomParts.{IsFirstReady, HasRoomFirst}
 use Rattle.token_store.specs.declared.tables.Coming.{Coming}
 use Rattle.token_store.proofs.Families.{unended, unlowered}
 

@@ -1,5 +1,5 @@
 -- When a store's answers are those of a history.
-use Rattle.std.specs.Prelude.{◌≡◌, ◌≤◌, ℕ, List, Bool, Option, Some, None, count_by, option_map, if◌then◌else◌, ◌==◌, not}
+use Rattle.std.specs.Prelude.{◌≡◌, ◌≤◌, ℕ, List, Bool, Option, Some, None, count_by, option_map, if◌then◌else◌, not}
 use Rattle.consent.specs.History.{Event, Grant, grant_at, is_spent, has_ended, code_terms, is_named, unexpired_count, IsHistory, has_room, is_taken}
 use Rattle.token_store.specs.declared.fault.StoreFault.{StoreFault}
 use Rattle.token_store.specs.declared.fault.StoreFault.TheVariants.{Full, DrawTaken}
@@ -23,7 +23,8 @@ pub record FitsBy (kept : List Kept) (history : List Event) (moment : ℕ) (numb
   -- no two unexpired records have one digest
   pub once : (digest : List ℕ) → count_by (λ k. is_named digest moment k.grant) kept ≤ 1
   -- no two families with something unexpired have one number
-  pub apart : (d e : List ℕ) (g h : Grant) → grant_at history d moment ≡ Some g → grant_at history e moment ≡ Some h → number g.family ≡ number h.family → g.family ≡ h.family
+  pub apart : (d e : List ℕ) (g h : Grant) → grant_at history d moment ≡ Some g → grant_at history e moment ≡ Some h → number g.family ≡ number h.family →
+      g.family ≡ h.family
   pub is_history : IsHistory history moment
 
 -- so it does, whatever the numbers
@@ -35,10 +36,6 @@ pub record FitsHistory (kept : List Kept) (history : List Event) (moment : ℕ) 
 abbrev pub FitsStore : Held → List Event → ℕ → Type 0
 FitsStore store history moment = FitsHistory store.kept history moment
 
--- the numbers of the families, with that of one more
-abbrev pub with_family_number : (ℕ → ℕ) → ℕ → ℕ → ℕ → ℕ
-with_family_number number place n family = if family == place then n else number family
-
 -- why codes or tokens are refused: they have no room, or a digest is taken
 abbrev pub refusal_by : (has_room is_taken : Bool) → Option StoreFault
 refusal_by has_room is_taken = if not has_room then Some Full else if is_taken then Some DrawTaken else None
@@ -46,9 +43,3 @@ refusal_by has_room is_taken = if not has_room then Some Full else if is_taken t
 -- why codes or tokens of these digests are refused at the moment
 abbrev pub refusal : List Event → ℕ → List (List ℕ) → Option StoreFault
 refusal history moment digests = refusal_by (has_room history moment digests) (is_taken history moment digests)
-
--- the code or token is unexpired, and the number is that of its family
-pub record IsMember (history : List Event) (number : ℕ → ℕ) (moment family : ℕ) (g : Grant) : Type 0 where
-  pub digest : List ℕ
-  pub is_named : grant_at history digest moment ≡ Some g
-  pub number_is : number g.family ≡ family

@@ -3,7 +3,7 @@ use Rattle.std.specs.Prelude.{◌≡◌, ℕ, List, [], ◌∷◌, true, Option,
 use Rattle.std.specs.Map.{lookup}
 use Rattle.token_store.specs.declared.image.KeptRecord.{KeptRecord}
 use Rattle.token_store.specs.declared.record.Shared.{Shared}
-use Rattle.token_store.specs.Image.{AgreesWithRecord, is_unexpired_record}
+use Rattle.token_store.specs.ImageParts.{AgreesWithRecord, is_unexpired_record}
 
 -- the store's number of a family
 abbrev pub number_of_family : List (ℕ × ℕ) → ℕ → Option ℕ

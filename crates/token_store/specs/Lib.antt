@@ -1,9 +1,16 @@
+-- What public clauses cite. docs/DEFINITIONS.md says what to read in which order.
 pub mod Kept
 pub mod Fits
 pub mod Found
 pub mod Room
 pub mod Records
 pub mod Image
-pub mod Homes
 pub mod FaultTexts
+-- What only the contracts of this crate's own parts and their proofs cite.
+pub mod FitsParts
+pub mod RoomParts
+pub mod RecordsParts
+pub mod ImageParts
+pub mod Homes
+-- Laws, each proved: a reader may skip them.
 pub mod FitsLaws

@@ -50,12 +50,6 @@ pub record OwnNext (families : List (Option Shared)) (items : List Expected) (s 
   pub texts : Option Texts
   pub next : NextIs families items front (record { number = number; texts = texts }) s
 
--- what comes first has its family
-abbrev pub IsFirstReady : List (Option Shared) → List Expected → Change → Type 0
-IsFirstReady families items (CodeGiven facts digest) = CodeNext families items (code_shared facts 0) (texts_given facts)
-IsFirstReady families items (IssuedAlone client token) = OwnNext families items (own_shared client 0)
-IsFirstReady families items _ = Unit {0}
-
 -- each that comes has its family, the first at the end
 abbrev pub AreReady : List (Option Shared) → List Expected → List Change → Type 0
 AreReady families items [] = items ≡ []
@@ -64,11 +58,6 @@ AreReady families items (CodeGiven facts digest ∷ cs) =
 AreReady families items (IssuedAlone client token ∷ cs) =
     (n : OwnNext families items (own_shared client 0)) × AreReady families n.front cs
 AreReady families items (_ ∷ cs) = AreReady families items cs
-
--- there is room for what comes first
-pub record HasRoomFirst (room : Room) (change : Change) : Type 0 where
-  pub spare : HasSpare room (records_by change)
-  pub first : IsFirstReady room.families room.coming change
 
 -- there is room for the changes
 pub record HasRoomFor (room : Room) (changes : List Change) : Type 0 where
@@ -89,9 +78,3 @@ room_of t = record {
   families = t.families.slots;
   coming = map expected_of t.coming.items;
 }
-
--- a family is there for what comes before the changes
-pub record Expects (old new : Room) (s : Shared) (texts : Option Texts) (changes : List Change) : Type 0 where
-  pub ready : AreReady new.families old.coming changes
-  pub number : ℕ
-  pub next : NextIs new.families new.coming old.coming (record { number = number; texts = texts }) s

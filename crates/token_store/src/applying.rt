@@ -5,7 +5,8 @@ ghost use Rattle.consent.specs.Changes.{change_of, changes_of, as_list, code_giv
 ghost use Rattle.consent.specs.declared.change.Change.{Change};
 ghost use Rattle.token_store.specs.Fits.{FitsHistory};
 ghost use Rattle.token_store.specs.Records.{IsTied, kept_of};
-ghost use Rattle.token_store.specs.Room.{HasRoomFor, HasRoomFirst, HasSpare, room_of};
+ghost use Rattle.token_store.specs.Room.{HasRoomFor, HasSpare, room_of};
+ghost use Rattle.token_store.specs.RoomParts.{HasRoomFirst};
 
 use crate::record::{Record, Shared};
 use crate::tables::{Coming, Tables, renew};

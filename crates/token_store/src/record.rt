@@ -1,7 +1,8 @@
 //! A code or token as the store keeps it, and what those of a family share.
 ghost use Rattle.std.specs.Prelude.{◌≡◌, ◌+◌, ℕ, List, IfOk};
 ghost use Rattle.token_store.specs.Found.{found_seen, kept_seen};
-ghost use Rattle.token_store.specs.Records.{is_live_at, kept_under, family_place, code_shared, own_shared, code_kept, token_kept, owner_no, texts_seen, texts_given};
+ghost use Rattle.token_store.specs.Records.{kept_under, code_shared, own_shared, texts_seen, texts_given};
+ghost use Rattle.token_store.specs.RecordsParts.{is_live_at, family_place, code_kept, token_kept, owner_no};
 
 use crate::found::Found;
 use consent::{CODE_LIFE, ClientNo, CodeFacts, Kind, Moment, NewToken, OwnerNo, TokenKind};

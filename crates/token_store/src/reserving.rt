@@ -2,8 +2,10 @@
 ghost use Rattle.std.specs.Prelude.{◌≡◌, ◌+◌, ℕ, List, [], ◌∷◌, OnOk, option_map};
 ghost use Rattle.consent.specs.Changes.{as_list};
 ghost use Rattle.consent.specs.declared.change.Change.{Change};
-ghost use Rattle.token_store.specs.Records.{IsTied, TellsSame, kept_of, texts_seen};
-ghost use Rattle.token_store.specs.Room.{records_by, records_of, AreReady, Expects, HasRoomFor, room_of};
+ghost use Rattle.token_store.specs.Records.{IsTied, kept_of, texts_seen};
+ghost use Rattle.token_store.specs.RecordsParts.{TellsSame};
+ghost use Rattle.token_store.specs.Room.{records_by, records_of, AreReady, HasRoomFor, room_of};
+ghost use Rattle.token_store.specs.RoomParts.{Expects};
 
 use crate::record::{CodeTexts, Shared};
 use crate::tables::{Coming, Tables};

@@ -5,8 +5,10 @@ ghost use Rattle.std.specs.Map.{lookup};
 ghost use Rattle.consent.specs.Limits.{record_limit};
 ghost use Rattle.consent.specs.History.{is_named, is_unexpired};
 ghost use Rattle.token_store.specs.Kept.{kept_unexpired};
-ghost use Rattle.token_store.specs.Records.{kept_under, kept_of, shared_at, HasEntered, TellsSame, IsTied};
-ghost use Rattle.token_store.specs.Image.{as_kept, IsRestored, HasDigestTwice, is_unexpired_record, kept_record, renumbered};
+ghost use Rattle.token_store.specs.Records.{kept_under, kept_of, shared_at, IsTied};
+ghost use Rattle.token_store.specs.RecordsParts.{HasEntered, TellsSame};
+ghost use Rattle.token_store.specs.Image.{as_kept, HasDigestTwice, kept_record};
+ghost use Rattle.token_store.specs.ImageParts.{IsRestored, is_unexpired_record, renumbered};
 ghost use Rattle.token_store.specs.Homes.{AreHomes, HasHome, AllHome, HasGrown, renumber_by};
 
 use crate::image::KeptRecord;

@@ -11,7 +11,8 @@ ghost use Rattle.consent.specs.declared.change.Change.{Change};
 ghost use Rattle.token_store.specs.Kept.{kept_at, kept_unexpired};
 ghost use Rattle.token_store.specs.Fits.{refusal_by};
 ghost use Rattle.token_store.specs.Room.{Waits, HasSpare, HasRoomFor, room_of};
-ghost use Rattle.token_store.specs.Records.{is_live_at, kept_under, kept_of, kept_in, shared_at, IsCounted, IsOwned, IsNextOwned, start_of, owner_cmp, HasEntered, HasLeft, HasEnded, HasOpened, HasClosed, HasLowered, lowered_by, TellsSame, IsTied, AllLive, ExpireFrom, SharesSame, ForgetsExpired, live_of, RecordMark, marked, spent_in};
+ghost use Rattle.token_store.specs.Records.{kept_under, kept_of, kept_in, shared_at, IsCounted, IsOwned, owner_cmp, IsTied, ExpireFrom};
+ghost use Rattle.token_store.specs.RecordsParts.{is_live_at, IsNextOwned, start_of, HasEntered, HasLeft, HasEnded, HasOpened, HasClosed, HasLowered, lowered_by, TellsSame, AllLive, SharesSame, ForgetsExpired, live_of, RecordMark, marked, spent_in};
 
 use crate::fault::StoreFault;
 use crate::record::{CodeTexts, Record, Shared};

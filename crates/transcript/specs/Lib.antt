@@ -1,3 +1,4 @@
+-- What public clauses cite. docs/DEFINITIONS.md says what to read in which order.
 pub mod Numbers
 pub mod Pieces
 pub mod Lines
@@ -5,4 +6,5 @@ pub mod Events
 pub mod Faults
 pub mod Replays
 pub mod Seen
+-- What only the contracts of this crate's own parts and their proofs cite.
 pub mod Running

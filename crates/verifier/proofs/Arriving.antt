@@ -17,7 +17,8 @@ use Rattle.insn.specs.Values.{◌>>=◌, Config, IsRecord, start}
 use Rattle.verifier.specs.declared.known.Known.{Known}
 use Rattle.verifier.specs.declared.explain.Finding.{Finding}
 use Rattle.verifier.specs.declared.explain.Finding.TheVariants.{Accepted, Looked, Refused}
-use Rattle.verifier.specs.Findings.{IsAcceptance, IsKnownAt, IsNoted, IsRefusedWith, IsWalkFinding, NoneComesTo}
+use Rattle.verifier.specs.Findings.{IsAcceptance, IsKnownAt, IsWalkFinding, NoneComesTo}
+use Rattle.verifier.specs.FindingsParts.{IsNoted, IsRefusedWith}
 use Rattle.verifier.specs.Fits.{StateFits}
 use Rattle.verifier.specs.Waits.{IsBegun, IsRefusedHere, IsVisited}
 use Rattle.verifier.proofs.Straight.{later, same_reached}

@@ -32,7 +32,7 @@ use Rattle.insn.specs.Values.{◌>>=◌, State, number_in, pointer_in, region_si
 use Rattle.insn.specs.Workings.{done_by, pointer_of, read, write_value, loaded, stored, operated, result_of, branched}
 use Rattle.insn.specs.Memory.{cells_at, is_writable, low_bytes, may_hold, number_spelled, place_of, value_in, with_value, within}
 use Rattle.insn.specs.MemoryLaws.{each-written, length-low_bytes, length-written, low_bytes_fit}
-use Rattle.insn.specs.FaultLaws.{is_number}
+use Rattle.insn.specs.FaultLaws.{is_number_value}
 use Rattle.insn.specs.Effects.{Effect, Falls, Jumps, Exits, operand_value, sets, word_of}
 use Rattle.insn.specs.Arithmetic.{left_operand}
 use Rattle.insn.specs.Outcomes.{fault_at}
@@ -57,8 +57,9 @@ use Rattle.verifier.specs.declared.known.Known.{Known}
 use Rattle.verifier.specs.declared.known.Test.{Test}
 use Rattle.verifier.specs.declared.known.Flow.{Flow}
 use Rattle.verifier.specs.declared.known.Flow.TheVariants.{Next, Jump, Branch, Exit}
-use Rattle.verifier.specs.Follows.{IsOperand, NoMove, WritesNoR10, comparison_of, converted, extended_into, loaded_into, reg_of}
-use Rattle.verifier.specs.Kinds.{Compares, Computes, Extends, GivenAt, GivenIn, IsOutcome, IsSet, IsWide, Loads, LoadsSigned, Passes, Receives, StoredIn, StoredOf, StoredWhere, Stores, flow_where, kept_in_record, put_at}
+use Rattle.verifier.specs.Follows.{IsOperand, WritesNoR10, comparison_of, reg_of}
+use Rattle.verifier.specs.FollowsParts.{NoMove, converted, extended_into, loaded_into}
+use Rattle.verifier.specs.Kinds.{Compares, Computes, Extends, GivenAt, GivenIn, LeavesKnown, IsSet, IsWide, Loads, LoadsSigned, Passes, Receives, StoredIn, StoredOf, StoredWhere, Stores, flow_where, kept_in_record, put_at}
 use Rattle.verifier.specs.Shows.{RegShows, StateShows}
 use Rattle.verifier.proofs.Accesses.{access_load, with_stack, within_most}
 use Rattle.verifier.proofs.ShownShapes.{blank_shown}
@@ -334,8 +335,8 @@ module _ (layout : Layout) (old : Known) (s : State) (f : StateShows layout old 
 
     -- fewer than eight bytes give numbers
     short_got : (size : SignedSize) (number : Result Kind WalkFault) (g : IsGot number (loaded layout s (read_size size) src offset)) → (n : ℕ) × (g.given ≡ Number n)
-    short_got size number g = by g.given (subst (λ (o : Option Value). IfSome o (λ v. is_number v ≡ true)) g.got (short_number layout s (read_size size) (pointer_of s.registers src) offset (signed_few size))) where
-      by : (v : Value) → is_number v ≡ true → (n : ℕ) × (v ≡ Number n)
+    short_got size number g = by g.given (subst (λ (o : Option Value). IfSome o (λ v. is_number_value v ≡ true)) g.got (short_number layout s (read_size size) (pointer_of s.registers src) offset (signed_few size))) where
+      by : (v : Value) → is_number_value v ≡ true → (n : ℕ) × (v ≡ Number n)
       by (Number n) e = (n, refl)
       by (Address p) e = absurd cc
 
@@ -458,7 +459,7 @@ module _ (layout : Layout) (old : Known) (s : State) (f : StateShows layout old 
   -- ---- each row
 
   module _ (new : Known) (r : Result Flow WalkFault) where
-    passed_shown : (i : Insn) → IsOutcome layout i old new r → WritesNoR10 i → NoMovedPointer i s → first_of (tests_of layout i s) ≡ None → IsShownBy layout new r (effects layout i s)
+    passed_shown : (i : Insn) → LeavesKnown layout i old new r → WritesNoR10 i → NoMovedPointer i s → first_of (tests_of layout i s) ≡ None → IsShownBy layout new r (effects layout i s)
     passed_shown (insn.Alu64Imm op dst imm) h other plain p = straight_shows layout (insn.Alu64Imm op dst imm) new s r refl (operate_shown new dst (λ e. other (ap Some e)) W64 (operation_of op) (Imm imm) tt r h p)
     passed_shown (insn.Alu64Reg op dst src) h other plain p = straight_shows layout (insn.Alu64Reg op dst src) new s r refl (operate_shown new dst (λ e. other (ap Some e)) W64 (operation_of op) (Reg src) (moves_64 op dst src s plain) r h p)
     passed_shown (insn.Alu32Imm op dst imm) h other plain p = straight_shows layout (insn.Alu32Imm op dst imm) new s r refl (operate_shown new dst (λ e. other (ap Some e)) W32 (operation_of op) (Imm imm) tt r h p)
@@ -483,5 +484,5 @@ module _ (layout : Layout) (old : Known) (s : State) (f : StateShows layout old 
     passed_shown (insn.Jump32IfReg cond dst src offset) h other plain p = compares_shown (insn.Jump32IfReg cond dst src offset) (record { cond = cond; width = W32; left = dst; right = Reg src }) offset new r h refl refl p
     passed_shown insn.Exit h other plain p = exit_shown new r h p
 
-    pub outcome_shown : (i : Insn) → IsOutcome layout i old new r → WritesNoR10 i → NoMovedPointer i s → fault_at layout i s ≡ None → IsShownBy layout new r (effects layout i s)
+    pub outcome_shown : (i : Insn) → LeavesKnown layout i old new r → WritesNoR10 i → NoMovedPointer i s → fault_at layout i s ≡ None → IsShownBy layout new r (effects layout i s)
     outcome_shown i h other plain p = passed_shown i h other plain (sym (fault_is_first layout i s) ∙ p)

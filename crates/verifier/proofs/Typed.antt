@@ -29,7 +29,7 @@ use Rattle.verifier.specs.declared.known.Flow.{Flow}
 use Rattle.verifier.specs.declared.known.Flow.TheVariants.{Next, Jump, Branch, Exit}
 use Rattle.verifier.specs.Fits.{StateFits}
 use Rattle.verifier.specs.Follows.{FlowOf, IsEntry, IsJoined, IsLearnt, goes_behind}
-use Rattle.verifier.specs.Kinds.{IsOutcome}
+use Rattle.verifier.specs.Kinds.{LeavesKnown}
 use Rattle.verifier.specs.Shows.{RegShows, StateShows}
 use Rattle.verifier.specs.Typing.{GoesTyped, HasTyping, IsTyping, MayCome}
 use Rattle.verifier.specs.Waits.{Begun, HasWalked, IsBegun, IsMerged, IsPassed, IsPushed, IsRefusedAt, IsRefusedHere, IsSettled, IsTaken, IsVisited, MayPush, PassesWith, Visited}
@@ -140,7 +140,7 @@ module _ (layout : Layout) (program : List Insn) (typing : ℕ → Option State)
     goes : GoesTyped layout program typing at i
     goes = typed.each at i mine.is here
 
-    left : (next : Known) (r : Result Flow WalkFault) → IsOutcome layout i known next r → IsShownBy layout next r (effects layout i mine.shape)
+    left : (next : Known) (r : Result Flow WalkFault) → LeavesKnown layout i known next r → IsShownBy layout next r (effects layout i mine.shape)
     left next r row = outcome_shown layout known mine.shape mine.shows next r i row (writes_low program behind i fine_here.0) goes.still goes.passes
 
     -- a way that leads to a place
@@ -211,7 +211,7 @@ module _ (layout : Layout) (program : List Insn) (typing : ℕ → Option State)
     falls_way test d next (Jumps d' t ∷ []) e h = absurd h
     falls_way test d next (Jumps d' t ∷ x ∷ es) e h = absurd h
 
-    behind_way : (next : Known) (flow : Flow) → IsOutcome layout i known next (Ok flow) → goes_behind flow ≡ true → GoesBehind next
+    behind_way : (next : Known) (flow : Flow) → LeavesKnown layout i known next (Ok flow) → goes_behind flow ≡ true → GoesBehind next
     behind_way next Next row g = next_way next (effects layout i mine.shape) refl (left next (Ok Next) row)
     behind_way next (Branch d test) row g = falls_way test d next (effects layout i mine.shape) refl (left next (Ok (Branch d test)) row)
     behind_way next (Jump d) row g = absurd cc
@@ -232,7 +232,7 @@ module _ (layout : Layout) (program : List Insn) (typing : ℕ → Option State)
     later : AllShown layout typing behind v
     later k a le e = so.shown k a (omega (arith, slots_of_bounds i)) (sym (taken.others k (λ same. absurd (omega (arith, slots_of_bounds i)))) ∙ e)
 
-    settled_shown : (w' : List (Option Known)) (flow : Flow) (next : Known) → IsOutcome layout i known next (Ok flow) → FlowOf i flow → IsSettled flow behind next v w' → AllShown layout typing behind w'
+    settled_shown : (w' : List (Option Known)) (flow : Flow) (next : Known) → LeavesKnown layout i known next (Ok flow) → FlowOf i flow → IsSettled flow behind next v w' → AllShown layout typing behind w'
     settled_shown w' Next next row own p = pushed_shown layout typing v w' behind behind next (omega arith) p.1 (behind_way next Next row refl).1 later
     settled_shown w' (Jump d) next row own p = pushed_shown layout typing v w' behind (behind + p.0) next (omega arith) p.2 (jump_way d p.0 p.1 own next (effects layout i mine.shape) refl (left next (Ok (Jump d)) row)) later
     settled_shown w' (Branch d test) next row own p =

@@ -1,10 +1,8 @@
 -- What is told of a program that is looked at.
-use Rattle.std.specs.Prelude.{◌≡◌, ◌≢◌, ℕ, false, List, [], ◌∷◌, ◌++◌, Option, Some, None, All}
+use Rattle.std.specs.Prelude.{◌≡◌, ◌≢◌, ℕ, false, List, Some, None, All}
 use Rattle.insn.specs.declared.instruction.Insn.{Insn}
 use Rattle.insn.specs.declared.layout.Layout.{Layout}
 use Rattle.insn.specs.declared.verify_fault.WalkFault.{WalkFault}
-use Rattle.insn.specs.declared.verify_fault.VerifyFault.{VerifyFault}
-use Rattle.insn.specs.declared.verify_fault.VerifyFault.TheVariants.{Memory}
 use Rattle.insn.specs.Refusals.{look_verdict, walk_fault_at}
 use Rattle.insn.specs.Program.{begins_at}
 use Rattle.insn.specs.Step.{Reaches, Safe}
@@ -50,15 +48,3 @@ IsWalkFinding layout program (Refused refusal) = IsExplained layout program refu
 abbrev pub IsFinding : Layout → List Insn → Finding → Type 0
 IsFinding layout program (Looked fault) = look_verdict program ≡ Some fault
 IsFinding layout program finding = (look_verdict program ≡ None) × IsWalkFinding layout program finding
-
--- a refusal of an instruction, where this was known before it
-abbrev pub IsRefusedWith : VerifyFault → ℕ → Insn → Option Known → Finding → Type 0
-IsRefusedWith fault slot insn known (Accepted slots) = ⊥
-IsRefusedWith fault slot insn known (Looked other) = ⊥
-IsRefusedWith fault slot insn known (Refused r) =
-    (fault ≢ Memory) × (r.fault ≡ fault) × (r.slot ≡ slot) × (r.insn ≡ insn) × (known ≡ Some r.known.value)
-
--- a slot is added where nothing is known there
-abbrev pub IsNoted : ℕ → Option Known → List ℕ → List ℕ → Type 0
-IsNoted slot None old new = new ≡ old ++ (slot ∷ [])
-IsNoted slot (Some known) old new = new ≡ old

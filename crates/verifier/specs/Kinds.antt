@@ -144,7 +144,8 @@ pub record Storing : Type 0 where
 abbrev pub Stores : Layout → Storing → Known → Known → Result Flow WalkFault → Type 0
 Stores layout store old new r =
     (value : Kind) × (done : Result Unit WalkFault) × IsOperand old store.operand value
-    × StoredOf layout (put_at store.size value (place_behind layout (reg_of old store.dst) store.offset (size_bytes store.size))) done old new × (r ≡ flow_where done Next)
+    × StoredOf layout (put_at store.size value (place_behind layout (reg_of old store.dst) store.offset (size_bytes store.size))) done old new ×
+        (r ≡ flow_where done Next)
 
 -- nothing is changed
 abbrev pub Passes : Result Flow WalkFault → Known → Known → Result Flow WalkFault → Type 0
@@ -156,28 +157,41 @@ Compares test offset old new r =
 
 -- ---- instructions
 
-abbrev pub IsOutcome : Layout → Insn → Known → Known → Result Flow WalkFault → Type 0
-IsOutcome layout (insn.Alu64Imm op dst imm) old new r = Receives dst (Computes layout old (record { width = W64; op = operation_of op; dst = dst; operand = Imm imm })) old new r
-IsOutcome layout (insn.Alu64Reg op dst src) old new r = Receives dst (Computes layout old (record { width = W64; op = operation_of op; dst = dst; operand = Reg src })) old new r
-IsOutcome layout (insn.Alu32Imm op dst imm) old new r = Receives dst (Computes layout old (record { width = W32; op = operation_of op; dst = dst; operand = Imm imm })) old new r
-IsOutcome layout (insn.Alu32Reg op dst src) old new r = Receives dst (Computes layout old (record { width = W32; op = operation_of op; dst = dst; operand = Reg src })) old new r
-IsOutcome layout (insn.Divide w sign dst operand) old new r = Receives dst (Computes layout old (record { width = w; op = division_of sign; dst = dst; operand = operand })) old new r
-IsOutcome layout (insn.Remainder w sign dst operand) old new r = Receives dst (Computes layout old (record { width = w; op = remainder_of sign; dst = dst; operand = operand })) old new r
-IsOutcome layout (insn.Negate w dst) old new r = Receives dst (IsKindImage Neg w (reg_of old dst)) old new r
-IsOutcome layout (insn.MoveSigned x dst src) old new r = Receives dst (IsKindImage (Extend (extended_bits x)) (extended_width x) (reg_of old src)) old new r
-IsOutcome layout (insn.SwapBytes by bits dst) old new r = Receives dst (IsKindImage (Swap by bits) W64 (reg_of old dst)) old new r
-IsOutcome layout (insn.LoadWide dst n) old new r = Receives dst (IsWide n) old new r
-IsOutcome layout (insn.Load size dst src offset) old new r = Receives dst (Loads layout old (record { size = size; src = src; offset = offset })) old new r
-IsOutcome layout (insn.LoadSigned size dst src offset) old new r = Receives dst (LoadsSigned layout old size (record { size = read_size size; src = src; offset = offset })) old new r
-IsOutcome layout (insn.StoreReg size dst src offset) old new r = Stores layout (record { size = size; dst = dst; offset = offset; operand = Reg src }) old new r
-IsOutcome layout (insn.StoreImm size dst offset imm) old new r = Stores layout (record { size = size; dst = dst; offset = offset; operand = Imm imm }) old new r
-IsOutcome layout (insn.Jump offset) old new r = Passes (Ok (Jump offset)) old new r
-IsOutcome layout (insn.JumpLong offset) old new r = Passes (Ok (Jump offset)) old new r
-IsOutcome layout (insn.Jump64IfImm cond dst offset imm) old new r = Compares (record { cond = cond; width = W64; left = dst; right = Imm imm }) offset old new r
-IsOutcome layout (insn.Jump64IfReg cond dst src offset) old new r = Compares (record { cond = cond; width = W64; left = dst; right = Reg src }) offset old new r
-IsOutcome layout (insn.Jump32IfImm cond dst offset imm) old new r = Compares (record { cond = cond; width = W32; left = dst; right = Imm imm }) offset old new r
-IsOutcome layout (insn.Jump32IfReg cond dst src offset) old new r = Compares (record { cond = cond; width = W32; left = dst; right = Reg src }) offset old new r
-IsOutcome layout insn.Exit old new r = Passes (flow_where (number_in_reg (reg_of old R0) ExitsWithPointer) Exit) old new r
+abbrev pub LeavesKnown : Layout → Insn → Known → Known → Result Flow WalkFault → Type 0
+LeavesKnown layout (insn.Alu64Imm op dst imm) old new r =
+    Receives dst (Computes layout old (record { width = W64; op = operation_of op; dst = dst; operand = Imm imm })) old new r
+LeavesKnown layout (insn.Alu64Reg op dst src) old new r =
+    Receives dst (Computes layout old (record { width = W64; op = operation_of op; dst = dst; operand = Reg src })) old new r
+LeavesKnown layout (insn.Alu32Imm op dst imm) old new r =
+    Receives dst (Computes layout old (record { width = W32; op = operation_of op; dst = dst; operand = Imm imm })) old new r
+LeavesKnown layout (insn.Alu32Reg op dst src) old new r =
+    Receives dst (Computes layout old (record { width = W32; op = operation_of op; dst = dst; operand = Reg src })) old new r
+LeavesKnown layout (insn.Divide w sign dst operand) old new r =
+    Receives dst (Computes layout old (record { width = w; op = division_of sign; dst = dst; operand = operand })) old new r
+LeavesKnown layout (insn.Remainder w sign dst operand) old new r =
+    Receives dst (Computes layout old (record { width = w; op = remainder_of sign; dst = dst; operand = operand })) old new r
+LeavesKnown layout (insn.Negate w dst) old new r = Receives dst (IsKindImage Neg w (reg_of old dst)) old new r
+LeavesKnown layout (insn.MoveSigned x dst src) old new r = Receives dst (IsKindImage (Extend (extended_bits x)) (extended_width x) (reg_of old src)) old new r
+LeavesKnown layout (insn.SwapBytes by bits dst) old new r = Receives dst (IsKindImage (Swap by bits) W64 (reg_of old dst)) old new r
+LeavesKnown layout (insn.LoadWide dst n) old new r = Receives dst (IsWide n) old new r
+LeavesKnown layout (insn.Load size dst src offset) old new r = Receives dst (Loads layout old (record { size = size; src = src; offset = offset })) old new r
+LeavesKnown layout (insn.LoadSigned size dst src offset) old new r =
+    Receives dst (LoadsSigned layout old size (record { size = read_size size; src = src; offset = offset })) old new r
+LeavesKnown layout (insn.StoreReg size dst src offset) old new r =
+    Stores layout (record { size = size; dst = dst; offset = offset; operand = Reg src }) old new r
+LeavesKnown layout (insn.StoreImm size dst offset imm) old new r =
+    Stores layout (record { size = size; dst = dst; offset = offset; operand = Imm imm }) old new r
+LeavesKnown layout (insn.Jump offset) old new r = Passes (Ok (Jump offset)) old new r
+LeavesKnown layout (insn.JumpLong offset) old new r = Passes (Ok (Jump offset)) old new r
+LeavesKnown layout (insn.Jump64IfImm cond dst offset imm) old new r =
+    Compares (record { cond = cond; width = W64; left = dst; right = Imm imm }) offset old new r
+LeavesKnown layout (insn.Jump64IfReg cond dst src offset) old new r =
+    Compares (record { cond = cond; width = W64; left = dst; right = Reg src }) offset old new r
+LeavesKnown layout (insn.Jump32IfImm cond dst offset imm) old new r =
+    Compares (record { cond = cond; width = W32; left = dst; right = Imm imm }) offset old new r
+LeavesKnown layout (insn.Jump32IfReg cond dst src offset) old new r =
+    Compares (record { cond = cond; width = W32; left = dst; right = Reg src }) offset old new r
+LeavesKnown layout insn.Exit old new r = Passes (flow_where (number_in_reg (reg_of old R0) ExitsWithPointer) Exit) old new r
 
 -- ---- refusals
 
@@ -196,5 +210,5 @@ CanFail layout i known fault = fault ≢ PointerRange → (s : State) → StateF
 pub record IsRefusedFor (layout : Layout) (i : Insn) (known : Known) (fault : WalkFault) : Type 0 where
   pub faulty : IsFaulty layout i known fault
   pub after : Known
-  pub row : IsOutcome layout i known after (Err fault)
+  pub row : LeavesKnown layout i known after (Err fault)
   pub seen : CanFail layout i known fault

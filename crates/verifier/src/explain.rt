@@ -2,7 +2,8 @@
 
 ghost use Rattle.std.specs.Prelude.{◌≡◌, IfOk, IsOk};
 ghost use Rattle.insn.specs.Refusals.{look_verdict};
-ghost use Rattle.verifier.specs.Findings.{IsFinding, IsNoted, IsRefusedWith, IsWalkFinding};
+ghost use Rattle.verifier.specs.Findings.{IsFinding, IsWalkFinding};
+ghost use Rattle.verifier.specs.FindingsParts.{IsNoted, IsRefusedWith};
 ghost use Rattle.verifier.specs.Follows.{reg_of};
 
 use crate::first_look::first_look;

@@ -2,7 +2,7 @@
 
 ghost use Rattle.std.specs.Prelude.{◌≡◌, ◌≤ℤ◌, ℕ, pos};
 ghost use Rattle.range.specs.Domain.{unary_result, IsSoundImage, IsSoundResult};
-ghost use Rattle.range.specs.Widths.{extended_half};
+ghost use Rattle.range.specs.WidthsParts.{extended_half};
 
 use crate::domain::Domain;
 use crate::signed::SRange;

@@ -1,6 +1,6 @@
 use Rattle.std.proofs.Common.{subst}
 use Rattle.assembler.specs.declared.draft.Jump.{Jump}
-use Rattle.assembler.specs.Drafts.{HasTarget}
+use Rattle.assembler.specs.DraftsParts.{HasTarget}
 use Rattle.assembler.proofs.Jumps.{jump_if_draft}
 use Rattle.assembler.proofs.draft.jump_if.Goals as goal
 

@@ -1,6 +1,6 @@
 use Rattle.std.proofs.Common.{map, take, length}
 use Rattle.httparse.specs.Spans.{header_bytes}
-use Rattle.heads.specs.Places.{IsLookup, IsLookupWithin}
+use Rattle.heads.specs.PlacesParts.{IsLookup, IsLookupWithin}
 use Rattle.heads.proofs.fields.find.Given as goal
 
 abbrev pub invariant-loop-header : goal.invariant-loop-header

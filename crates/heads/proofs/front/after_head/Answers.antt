@@ -1,7 +1,7 @@
 use Rattle.std.proofs.Common.{◌≡◌, ◌+◌, ◌-◌, arith, ◌∙◌, sym, ap, rules, take, drop, map}
 use Rattle.httparse.specs.Spans.{header_bytes}
 use Rattle.heads.specs.Fields.{AreGoodFields}
-use Rattle.heads.specs.Places.{AreFieldsIn}
+use Rattle.heads.specs.PlacesParts.{AreFieldsIn}
 use Rattle.heads.specs.Message.{IsGood, head_fields}
 use Rattle.heads.specs.ReadingLaws.{some_head}
 use Rattle.heads.proofs.Heads.{hopeless_head, wants_body, begins_whole, few_lines, good_fields, within_more}

@@ -1,4 +1,5 @@
-use Rattle.serving.specs.Served.{Goes, Reading, serving_scene}
+use Rattle.serving.specs.Served.{Reading, serving_scene}
+use Rattle.serving.specs.ServedParts.{Goes}
 use Rattle.serving.proofs.serve.hear_all.Given as goal
 
 abbrev pub invariant-loop-pieces : goal.invariant-loop-pieces

@@ -2,7 +2,7 @@ use Rattle.std.proofs.Common.{rules, ◌≡◌, ◌∷◌, ℕ, List, true, fals
 use Rattle.std.specs.Map.Iter.{deref_pair}
 use Rattle.std.proofs.lemmas.Map.Iter.{rest_more}
 use Rattle.token_store.specs.declared.record.Record.{Record}
-use Rattle.token_store.specs.Records.{is_live_at}
+use Rattle.token_store.specs.RecordsParts.{is_live_at}
 use Rattle.token_store.proofs.Sweeping.{left_none, left_live, left_late, left_from}
 use Rattle.token_store.proofs.tables.leave_expired.Goals as goal
 

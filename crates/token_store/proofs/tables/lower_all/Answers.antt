@@ -1,5 +1,5 @@
 use Rattle.std.proofs.Common.{subst}
-use Rattle.token_store.specs.Records.{IsNextOwned}
+use Rattle.token_store.specs.RecordsParts.{IsNextOwned}
 use Rattle.token_store.proofs.Families.{lowered_more, lowered_all}
 use Rattle.token_store.proofs.tables.lower_all.Goals as goal
 

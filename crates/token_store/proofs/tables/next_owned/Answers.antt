@@ -5,7 +5,8 @@ use Rattle.std.specs.Ordering.{is_gt}
 use Rattle.std.specs.BTreeMap.{is_at}
 use Rattle.std.specs.BTreeMap.Range.{IsFromStart}
 use Rattle.std.proofs.lemmas.Bool.{eqb-true, eq-eqb, and_parts, and_from, false≢true}
-use Rattle.token_store.specs.Records.{owner_cmp, IsAfter, IsNextOwned, start_of}
+use Rattle.token_store.specs.Records.{owner_cmp}
+use Rattle.token_store.specs.RecordsParts.{IsAfter, IsNextOwned, start_of}
 use Rattle.token_store.proofs.Tying.{le_owner, squeezed, not_among, after_start, start_after, start_not_gt}
 use Rattle.token_store.proofs.tables.next_owned.Goals as goal
 

@@ -1,5 +1,6 @@
 use Rattle.std.proofs.Common.{◌≡◌, ◌∙◌}
-use Rattle.http_edge.specs.Lanes.{lane_at, is_closing_lane}
+use Rattle.http_edge.specs.Lanes.{lane_at}
+use Rattle.http_edge.specs.LanesParts.{is_closing_lane}
 use Rattle.http_edge.proofs.Showing.{shows_closing}
 use Rattle.http_edge.proofs.edge.Edge.closing.Goals as goal
 

@@ -1,6 +1,6 @@
 use Rattle.std.proofs.Common.{◌≡◌, ◌∙◌, [], false, sym, ap, refl}
 use Rattle.http_edge.specs.Lanes.{SeenLane}
-use Rattle.http_edge.specs.Places.{IsPlace}
+use Rattle.http_edge.specs.PlacesParts.{IsPlace}
 use Rattle.http_edge.specs.Schedule.{ended, has_stream_ended}
 use Rattle.http_edge.proofs.Placing.{lane_is, put_at, apart_put}
 use Rattle.http_edge.proofs.Going.{on_ended}

@@ -1,7 +1,7 @@
 use Rattle.std.proofs.Common.{rules, ◌≡◌, ◌∙◌, Some, refl, sym, ap, arith}
 use Rattle.http_edge.specs.Lanes.{SeenLane}
-use Rattle.http_edge.specs.Places.{IsPlace}
-use Rattle.http_edge.specs.Edges.{MayHear}
+use Rattle.http_edge.specs.PlacesParts.{IsPlace}
+use Rattle.http_edge.specs.EdgesParts.{MayHear}
 use Rattle.http_edge.specs.declared.lane.Phase.TheVariants.{Open, Closing}
 use Rattle.http_edge.proofs.Phases.{closing_by, open_by}
 use Rattle.http_edge.proofs.Placing.{lane_is, put_at, apart_put}

@@ -1,7 +1,7 @@
 use Rattle.std.proofs.Common.{◌≡◌, ◌≤◌, ◌∙◌, None, drop, length, refl, sym, ap, arith}
 use Rattle.std.proofs.Math.Seq.{drop-nil}
 use Rattle.http_edge.specs.Lanes.{SeenLane, lane_at, output_in}
-use Rattle.http_edge.specs.Places.{IsPlace}
+use Rattle.http_edge.specs.PlacesParts.{IsPlace}
 use Rattle.http_edge.proofs.Placing.{lane_is, put_at, output_put, apart_put}
 use Rattle.http_edge.proofs.Going.{on_taken, on_taken_nothing}
 use Rattle.http_edge.proofs.edge.Edge.take.Goals as goal

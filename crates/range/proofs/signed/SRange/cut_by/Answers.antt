@@ -3,7 +3,8 @@ use Rattle.range.specs.declared.unsigned.URange.{URange}
 use Rattle.range.specs.declared.signed.SRange.{SRange}
 use Rattle.range.specs.Sets.{IsMeet}
 use Rattle.range.specs.Unsigned.{InRange}
-use Rattle.range.specs.Signed.{InSignedRange, IsCutBy}
+use Rattle.range.specs.Signed.{InSignedRange}
+use Rattle.range.specs.SignedParts.{IsCutBy}
 use Rattle.range.proofs.signed.SRange.cut_by.Goals as goal
 
 met_by : (a o : SRange) (b : URange) (r : Option SRange) → ((x : ℕ) → InRange b x → InSignedRange o x) → IsMeet InSignedRange a o r → IsCutBy a b r

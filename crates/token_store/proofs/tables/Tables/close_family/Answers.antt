@@ -1,5 +1,6 @@
 use Rattle.std.proofs.Common.{◌∙◌, sym, ap}
-use Rattle.token_store.specs.Records.{or_nothing, HasClosed}
+use Rattle.token_store.specs.Records.{or_nothing}
+use Rattle.token_store.specs.RecordsParts.{HasClosed}
 use Rattle.token_store.proofs.Tying.{owned_without}
 use Rattle.token_store.proofs.Families.{tied_closed, closed_same}
 use Rattle.token_store.proofs.tables.Tables.close_family.Goals as goal

@@ -3,7 +3,8 @@ use Rattle.std.specs.List.{IsDistinct}
 use Rattle.std.specs.Str.{bytes_eq}
 use Rattle.std.specs.Map.{keys_of}
 use Rattle.token_store.specs.declared.record.Record.{Record}
-use Rattle.token_store.specs.Records.{live_of, all_kept, TellsSame, AllLive}
+use Rattle.token_store.specs.Records.{all_kept}
+use Rattle.token_store.specs.RecordsParts.{live_of, TellsSame, AllLive}
 use Rattle.token_store.proofs.Sweeping.{all_live, same_live}
 use Rattle.token_store.proofs.tables.Tables.drop_expired.Goals as goal
 

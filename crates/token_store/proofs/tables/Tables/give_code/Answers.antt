@@ -5,9 +5,10 @@ use Rattle.consent.specs.History.{with_change}
 use Rattle.token_store.specs.declared.record.Shared.{Shared}
 use Rattle.token_store.specs.declared.tables.Tables.{Tables}
 use Rattle.token_store.specs.Kept.{Kept, Texts, Expected, kept_at}
-use Rattle.token_store.specs.Fits.{with_family_number}
+use Rattle.token_store.specs.FitsParts.{with_family_number}
 use Rattle.token_store.specs.Room.{Waits, records_of}
-use Rattle.token_store.specs.Records.{or_nothing, shared_at, kept_of, kept_under, code_shared, code_kept, texts_seen, texts_given}
+use Rattle.token_store.specs.Records.{or_nothing, shared_at, kept_of, kept_under, code_shared, texts_seen, texts_given}
+use Rattle.token_store.specs.RecordsParts.{code_kept}
 use Rattle.token_store.proofs.Adding.{keeps_push, unkept}
 use Rattle.token_store.proofs.Opening.{fits_opened}
 use Rattle.token_store.proofs.Telling.{fits_same, unused_empty}

@@ -5,7 +5,8 @@ use Rattle.consent.specs.Changes.{issued_with}
 use Rattle.consent.specs.History.{with_change}
 use Rattle.token_store.specs.Kept.{Kept, kept_at}
 use Rattle.token_store.specs.Room.{records_of}
-use Rattle.token_store.specs.Records.{shared_at, kept_of, kept_under, kept_in, token_kept, family_place}
+use Rattle.token_store.specs.Records.{shared_at, kept_of, kept_under, kept_in}
+use Rattle.token_store.specs.RecordsParts.{token_kept, family_place}
 use Rattle.token_store.proofs.Adding.{unkept}
 use Rattle.token_store.proofs.Issuing.{fits_joined}
 use Rattle.token_store.proofs.Telling.{fits_same}

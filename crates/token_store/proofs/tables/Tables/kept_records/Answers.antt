@@ -6,7 +6,8 @@ use Rattle.std.specs.Map.Iter.{deref_pair}
 use Rattle.std.proofs.lemmas.Map.Iter.{rest_more}
 use Rattle.token_store.specs.declared.record.Record.{Record}
 use Rattle.token_store.specs.Image.{as_kept, kept_record}
-use Rattle.token_store.specs.Records.{is_live_at, kept_in, kept_under, or_nothing}
+use Rattle.token_store.specs.Records.{kept_in, kept_under, or_nothing}
+use Rattle.token_store.specs.RecordsParts.{is_live_at}
 use Rattle.token_store.proofs.Remaking.{step_expired, step_kept, all_rest}
 use Rattle.token_store.proofs.tables.Tables.kept_records.Goals as goal
 

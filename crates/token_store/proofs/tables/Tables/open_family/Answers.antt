@@ -1,6 +1,6 @@
 use Rattle.std.proofs.Common.{◌≡◌, ◌∙◌, sym, ap, ℕ, None}
 use Rattle.std.specs.Prelude.{slice_index_or}
-use Rattle.token_store.specs.Records.{HasOpened}
+use Rattle.token_store.specs.RecordsParts.{HasOpened}
 use Rattle.token_store.proofs.Families.{opened_same}
 use Rattle.token_store.proofs.tables.Tables.open_family.Goals as goal
 

@@ -2,7 +2,8 @@ use Rattle.std.proofs.Common.{◌∙◌, ◌∷◌, [], refl, ℕ, arith}
 use Rattle.std.specs.List.Sorted.{IsPermutation}
 use Rattle.std.proofs.lemmas.List.Sorted.{IsPermutation-refl}
 use Rattle.token_store.specs.declared.tables.Tables.{Tables}
-use Rattle.token_store.specs.Records.{IsTied, ForgetsExpired, kept_of, kept_under, shared_at}
+use Rattle.token_store.specs.Records.{IsTied, kept_of, kept_under, shared_at}
+use Rattle.token_store.specs.RecordsParts.{ForgetsExpired}
 use Rattle.token_store.proofs.Looking.{same_push, same_on, absent_on}
 use Rattle.token_store.proofs.Waiting.{waits_other}
 use Rattle.token_store.proofs.Settling.{tied_awaiting, same_awaiting, entered_shares, more_from, counted_settled, settled_tells, put_new, count_few}

@@ -2,7 +2,7 @@ use Rattle.std.proofs.Common.{◌≡◌, ◌+◌, ◌∷◌, ◌++◌, [], take,
 use Rattle.std.proofs.lemmas.List.{take_more}
 use Rattle.consent.specs.Limits.{record_limit}
 use Rattle.token_store.specs.Records.{kept_of}
-use Rattle.token_store.specs.Image.{renumbered}
+use Rattle.token_store.specs.ImageParts.{renumbered}
 use Rattle.token_store.specs.Homes.{renumber_by}
 use Rattle.token_store.proofs.Remaking.{parts_at, all_at, all_mapped, full_from, two_from, tells_push, known_push, known_from}
 use Rattle.token_store.proofs.tables.Tables.put_all.Goals as goal

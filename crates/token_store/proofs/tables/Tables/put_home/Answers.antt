@@ -1,6 +1,7 @@
 use Rattle.std.proofs.Common.{rules, ◌≡◌, false}
 use Rattle.token_store.specs.Records.{kept_of}
-use Rattle.token_store.specs.Image.{is_unexpired_record, kept_record, renumbered}
+use Rattle.token_store.specs.Image.{kept_record}
+use Rattle.token_store.specs.ImageParts.{is_unexpired_record, renumbered}
 use Rattle.token_store.specs.Homes.{renumber_by}
 use Rattle.token_store.proofs.Remaking.{expired_push}
 use Rattle.token_store.proofs.tables.Tables.put_home.Goals as goal

@@ -1,0 +1,44 @@
+-- Beside Rulings: only the contracts of this crate's own parts and their proofs cite this, no public clause.
+use Rattle.std.specs.Prelude.{◌≡◌, List, Option, None, Result, Ok, Err}
+use Rattle.consent.specs.History.{Event}
+use Rattle.hook_host.specs.declared.fault.HookFault.{HookFault}
+use Rattle.hook_host.specs.declared.host.HookHost.{Ghosts as Hosting}
+use Rattle.messages.specs.Written.{Written, in_writing}
+use Rattle.answers.specs.Outcomes.{refuse}
+use Rattle.answers.specs.Short.{IsShortReply}
+use Rattle.answers.specs.Told.{Decides}
+use Rattle.answers.specs.declared.decision.Decision.{Decision}
+use Rattle.answers.specs.declared.halt.Halt.{Halt}
+use Rattle.answers.specs.declared.halt.Halt.TheVariants.{Refuse, NoMemory}
+use Rattle.endpoints.specs.declared.reading.Reading.{Reading}
+use Rattle.endpoints.specs.declared.reading.Reading.TheVariants.{InstallHook, RemoveHook}
+use Rattle.endpoints.specs.HookPaths.{hook_change_at}
+use Rattle.endpoints.specs.Hosts.{IsHostFault}
+use Rattle.endpoints.specs.Making.{IsSame}
+use Rattle.endpoints.specs.Server.{SeenServer, IsStep}
+use Rattle.endpoints.specs.Rulings.{Asking, FitsNow, setting_now, comes_to}
+
+-- what was read asks for no change of the hooks
+abbrev pub IsAlone : Reading → Type 0
+IsAlone (InstallHook params) = ⊥
+IsAlone (RemoveHook params) = ⊥
+IsAlone _ = Unit {0}
+
+abbrev pub RulesAlone : {H : Type 0} → Hosting H → SeenServer H → Asking → Result Decision Halt → Type 0
+RulesAlone {H = H} hosting server asking result =
+    (first : H) (history : List Event) → FitsNow hosting server first history →
+    Decides (setting_now hosting server history asking.draws None) result (comes_to hosting server history asking None)
+
+-- the reply tells of the error, and is short; where memory was refused there is none
+abbrev pub IsHalted : Halt → Written → Type 0
+IsHalted (Refuse error) reply = (reply ≡ in_writing (refuse error).reply) × IsShortReply reply
+IsHalted NoMemory reply = ⊥
+
+-- The host has one of its own faults for the change that is asked for, or none. By that the reply is what the request
+-- comes to, and its changes are made. Where memory is refused, nothing is made.
+abbrev pub AnswersRequest : {H E : Type 0} → Hosting H → SeenServer H → Asking → Result Written E → SeenServer H → Type 0
+AnswersRequest {H = H} hosting old asking (Ok reply) new =
+    (first : H) (history : List Event) → FitsNow hosting old first history →
+    (fault : Option HookFault) × IsHostFault hosting.refuses_install hosting.refuses_remove old.host (hook_change_at asking.endpoint asking.asked) fault
+    × IsStep hosting.installs hosting.removes (comes_to hosting old history asking fault) reply old new old.rules first history old.greatest
+AnswersRequest hosting old asking (Err _) new = IsSame hosting old new

@@ -1,0 +1,41 @@
+-- Beside Places: only the contracts of this crate's own parts and their proofs cite this, no public clause.
+use Rattle.std.specs.Prelude.{◌≡◌, ◌≤◌, ℕ, List, [], ◌∷◌, length, Option, Some, codes, ⊤}
+use Rattle.httparse.specs.Spans.{span_bytes, IsWithin}
+use Rattle.httparse.specs.declared.spans.Span.{Span}
+use Rattle.heads.specs.Limits.{body_size_limit}
+use Rattle.heads.specs.Fields.{field_values, field_value, content_length}
+use Rattle.heads.specs.declared.fields.Lookup.{Lookup}
+use Rattle.heads.specs.declared.fields.Lookup.TheVariants.{Absent, One, Twice}
+use Rattle.heads.specs.declared.fields.FieldSpans.{FieldSpans}
+use Rattle.heads.specs.Places.{IsOptionWithin, bytes_at_place}
+
+-- a look-up's answer, where these values have the name
+abbrev pub IsLookupOf : List (List ℕ) → List ℕ → Lookup → Type 0
+IsLookupOf values bytes Absent = values ≡ []
+IsLookupOf values bytes (One span) = values ≡ span_bytes bytes span ∷ []
+IsLookupOf values bytes Twice = 2 ≤ length values
+
+abbrev pub IsLookup : List ℕ → List (List ℕ × List ℕ) → List ℕ → Lookup → Type 0
+IsLookup name fields bytes lookup = IsLookupOf (field_values name fields) bytes lookup
+
+-- the place lies in the first n bytes
+abbrev pub IsLookupWithin : ℕ → Lookup → Type 0
+IsLookupWithin n Absent = ⊤
+IsLookupWithin n (One span) = IsWithin n span
+IsLookupWithin n Twice = ⊤
+
+-- the place of the value of this name, which stands at most once
+pub record IsPlaceOf (name bytes : List ℕ) (fields : List (List ℕ × List ℕ)) (place : Option Span) : Type 0 where
+  pub once : length (field_values name fields) ≤ 1
+  pub value : bytes_at_place bytes place ≡ field_value name fields
+  pub within : IsOptionWithin (length bytes) place
+
+-- the fields are good, and their values lie at these places
+pub record AreFieldsIn (bytes : List ℕ) (fields : List (List ℕ × List ℕ)) (spans : FieldSpans) : Type 0 where
+  pub transfer : field_values (codes "transfer-encoding") fields ≡ []
+  pub authorization : IsPlaceOf (codes "authorization") bytes fields spans.authorization
+  pub content_type : IsPlaceOf (codes "content-type") bytes fields spans.content_type
+  pub owner_key : IsPlaceOf (codes "x-owner-key") bytes fields spans.owner_key
+  pub operator_key : IsPlaceOf (codes "x-operator-key") bytes fields spans.operator_key
+  pub body : content_length fields ≡ Some spans.body_length
+  pub small : spans.body_length ≤ body_size_limit

@@ -1,0 +1,34 @@
+-- Beside Edges: only the contracts of this crate's own parts and their proofs cite this, no public clause.
+use Rattle.std.specs.Prelude.{◌≡◌, ◌≤◌, ◌<◌, ◌++◌, ℕ, List, Option, Some, None, IsSome, length}
+use Rattle.http_edge.specs.Limits.{connection_limit, piece_limit}
+use Rattle.http_edge.specs.Lanes.{SeenLane, lane_at}
+use Rattle.http_edge.specs.LanesParts.{IsHearing}
+use Rattle.http_edge.specs.Heard.{IsHearingRefusal}
+use Rattle.http_edge.specs.declared.lane.Phase.TheVariants.{Open}
+use Rattle.http_edge.specs.declared.fault.EdgeFault.{EdgeFault}
+use Rattle.http_edge.specs.declared.fault.EdgeFault.TheVariants.{TooMany, NotOpen, AlreadyOpen, PieceTooLong, Memory}
+
+-- why a connection is not opened
+abbrev pub IsOpenRefusal : EdgeFault → List SeenLane → ℕ → Type 0
+IsOpenRefusal AlreadyOpen lanes c = IsSome (lane_at lanes c)
+IsOpenRefusal TooMany lanes c = (lane_at lanes c ≡ None) × (connection_limit ≤ length lanes)
+IsOpenRefusal Memory lanes c = (lane_at lanes c ≡ None) × (length lanes < connection_limit)
+IsOpenRefusal fault lanes c = ⊥
+
+-- why a connection's stream does not end
+abbrev pub IsEndRefusal : EdgeFault → List SeenLane → ℕ → Type 0
+IsEndRefusal NotOpen lanes c = ¬ (IsHearing (lane_at lanes c))
+IsEndRefusal fault lanes c = ⊥
+
+-- the connection is open, and the piece is not too long
+pub record MayHear (lanes : List SeenLane) (c : ℕ) (piece : List ℕ) : Type 0 where
+  pub lane : SeenLane
+  pub here : lane_at lanes c ≡ Some lane
+  pub is_open : lane.phase ≡ Open
+  pub short : length piece ≤ piece_limit
+
+-- why a piece is refused
+abbrev pub IsBytesRefusal : EdgeFault → List SeenLane → ℕ → List ℕ → Option ℕ → Type 0
+IsBytesRefusal NotOpen lanes c piece supply = ¬ (IsHearing (lane_at lanes c))
+IsBytesRefusal PieceTooLong lanes c piece supply = IsHearing (lane_at lanes c) × (piece_limit < length piece)
+IsBytesRefusal fault lanes c piece supply = (may : MayHear lanes c piece) × IsHearingRefusal fault (may.lane.rest ++ piece) supply
