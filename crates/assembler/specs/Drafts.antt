@@ -49,7 +49,7 @@ abbrev pub SaysDraft : Mnemonic → List Word → Draft → Type 0
 SaysDraft m words (Whole i) = (mnemonic_of i ≡ m) × Fits i × SaysOperands Nowhere (operands_of i) words
 SaysDraft m words (ToLabel jump name) = ((d : ℤ) → FitsSigned w16 d → SaysJump m jump name.now words d)
     × ((names : List Word) (i : Insn) → mnemonic_of i ≡ m → Fits i → SaysOperands (OneOf names) (operands_of i) words → list_any (bytes_eq name.now) names ≡
-        true)
+    true)
 
 -- the words of a line say a draft
 pub record IsDraft (words : List Word) (draft : Draft) : Type 0 where

@@ -80,7 +80,7 @@ abbrev pub clients_spot : List (List ℕ) → List ClientRecord → Items → Sp
 clients_spot scopes clients no_items = spot.Clients
 clients_spot scopes clients (item d ds) =
     either (client_of scopes clients d) (λ client. clients_spot scopes (clients ++ client ∷ []) ds)
-        (spot.Client (length clients) (client_spot scopes clients d))
+    (spot.Client (length clients) (client_spot scopes clients d))
 
 abbrev pub owners_in : Data → Result Items ConfigFault
 owners_in value = do

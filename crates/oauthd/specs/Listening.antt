@@ -85,7 +85,7 @@ pub record LacksState (service : Service) (files : ServiceFiles) (fault : Perfor
 abbrev pub CannotServe : Service → ServiceFiles → PerformFault → Type 0
 CannotServe service files fault =
     HoldsNoRegistry (config_of service) (registry_bytes files) fault ⊎ LacksHook service files fault ⊎ LacksState service files fault ⊎ IsDeaf
-        (registry_bytes files) fault
+    (registry_bytes files) fault
 
 -- a service keeps its state in a file that is named: of that a torn end is told, where it is cut off
 pub record NamesState (service : Service) : Type 0 where

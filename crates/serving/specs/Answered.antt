@@ -40,7 +40,7 @@ MayLose fault lost = lost ≡ []
 -- a connection was opened, served up to this fault or to its end, and forgotten; at its end all its output is written
 pub record IsConnectionServed {H S : Type 0} (hosting : Hosting H) (does : S → Doing → S →
     Type 0) (c : ℕ) (rules : RegistryRecord) (first : H) (schedule : List Happening) (old : S) (fault : Option ServeFault) (edge : SeenEdge H)
-        (new : S) : Type 0 where
+    (new : S) : Type 0 where
   pub before : SeenEdge H
   pub lost : List ℕ
   pub may_lose : MayLose fault lost

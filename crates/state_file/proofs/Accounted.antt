@@ -13,10 +13,8 @@ use Rattle.token_store.specs.Fits.{FitsHistory, FitsStore}
 use Rattle.token_store.specs.Image.{as_kept}
 use Rattle.token_store.specs.Kept.{Kept}
 use Rattle.token_store.specs.declared.image.KeptRecord.{KeptRecord}
-use Rattle.state_file.specs.Accounts.{IsAccountOf, IsImageIn, RefusesAccount, TellIfAny}
-use Rattle.state_file.specs.AccountsParts.{IsOfTelling, fault_in}
-use Rattle.state_file.specs.Resuming.{AnswersFor, FitsRestored}
-use Rattle.state_file.specs.ResumingParts.{BeginsByBatches, IsOfChanges, RedoesBatches, RefusesImage}
+use Rattle.state_file.specs.Accounts.{IsAccountOf, IsImageIn, IsOfTelling, RefusesAccount, TellIfAny, fault_in}
+use Rattle.state_file.specs.Resuming.{AnswersFor, BeginsByBatches, FitsRestored, IsOfChanges, RedoesBatches, RefusesImage}
 use Rattle.state_file.specs.Standing.{AreTold, IsImageOf}
 use Rattle.state_file.specs.Telling.{Tell, rules_of}
 use Rattle.state_file.specs.declared.account.Account.{Account}

@@ -10,8 +10,7 @@ use Rattle.hook_host.specs.declared.host.HookHost.{Ghosts as Hosting}
 use Rattle.image_codec.specs.Facts.{ImageFact}
 use Rattle.image_codec.specs.Spelling.{ImageFits, image_spelling}
 use Rattle.state_file.specs.Hooks.{hooks_set_in}
-use Rattle.state_file.specs.Resuming.{FitsRestored, HaveNoImage, Replays, WasRun}
-use Rattle.state_file.specs.ResumingParts.{BeginsByBatches, IsMadeOf}
+use Rattle.state_file.specs.Resuming.{BeginsByBatches, FitsRestored, HaveNoImage, IsMadeOf, Replays, WasRun}
 use Rattle.state_file.specs.Standing.{AreTold, Begin, BeginWithImage, StandsFor}
 use Rattle.state_file.specs.declared.restored.Restored.{Restored}
 use Rattle.state_file.proofs.Redone.{right_before}

@@ -14,8 +14,7 @@ use Rattle.endpoints.specs.Bounded.{token_life_limit}
 use Rattle.endpoints.specs.Widening.{AreWider, IsWider}
 use Rattle.image_codec.specs.Facts.{ClientFact, client_fact}
 use Rattle.image_codec.specs.declared.image.ClientRules.{ClientRules}
-use Rattle.state_file.specs.Comparing.{AreAsWide}
-use Rattle.state_file.specs.ComparingParts.{client_names, first_moved, first_narrowed}
+use Rattle.state_file.specs.Comparing.{AreAsWide, client_names, first_moved, first_narrowed}
 use Rattle.state_file.specs.Telling.{client_told, rules_of}
 
 -- a choice that gave nothing was the one way

@@ -12,8 +12,7 @@ use Rattle.endpoints.specs.WideningLaws.{all_right-wider}
 use Rattle.hook_host.specs.declared.host.HookHost.{Ghosts as Hosting}
 use Rattle.image_codec.specs.Facts.{HookFact}
 use Rattle.state_file.specs.Hooks.{AreSet, with_hooks}
-use Rattle.state_file.specs.Resuming.{FitsRestored, Sets, WasRight}
-use Rattle.state_file.specs.ResumingParts.{KeepsNoted}
+use Rattle.state_file.specs.Resuming.{FitsRestored, KeepsNoted, Sets, WasRight}
 use Rattle.state_file.specs.Standing.{StandsFor}
 use Rattle.state_file.specs.StandingLaws.{StandsFor-none}
 use Rattle.state_file.specs.Telling.{TellsRules, rules_of}

@@ -17,9 +17,8 @@ use Rattle.token_store.specs.Fits.{FitsHistory, FitsStore}
 use Rattle.token_store.specs.Image.{as_kept}
 use Rattle.token_store.specs.Kept.{Kept}
 use Rattle.token_store.specs.declared.image.KeptRecord.{KeptRecord}
-use Rattle.state_file.specs.RenewingParts.{IsImageFor}
-use Rattle.state_file.specs.Resuming.{Installs}
-use Rattle.state_file.specs.ResumingParts.{IsMadeOf}
+use Rattle.state_file.specs.Renewing.{IsImageFor}
+use Rattle.state_file.specs.Resuming.{Installs, IsMadeOf}
 use Rattle.state_file.specs.declared.restored.Restored.{Restored}
 
 module _ {H : Type 0} (hosting : Hosting H) where

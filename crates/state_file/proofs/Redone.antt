@@ -15,8 +15,7 @@ use Rattle.change_codec.specs.HappenedLaws.{Happened-split, Happened-front, mean
 use Rattle.state_file.specs.Standing.{AreTold}
 use Rattle.image_codec.specs.Facts.{HookFact}
 use Rattle.state_file.specs.Hooks.{hooks_behind, hooks_by, hooks_set_in}
-use Rattle.state_file.specs.Resuming.{FitsRestored}
-use Rattle.state_file.specs.ResumingParts.{FitsOn, RedoesDated, RedoesBatches}
+use Rattle.state_file.specs.Resuming.{FitsRestored, FitsOn, RedoesDated, RedoesBatches}
 use Rattle.state_file.specs.declared.restored.Restored.{Restored}
 use Rattle.state_file.proofs.Hooked.{hooks_behind-append, hooks_told, hooks_of-with}
 

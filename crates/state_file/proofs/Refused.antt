@@ -15,11 +15,9 @@ use Rattle.hook_host.specs.declared.host.HookHost.{Ghosts as Hosting}
 use Rattle.image_codec.specs.Facts.{HookFact, ImageFact, RulesFact, hook_fact}
 use Rattle.image_codec.specs.Spelling.{ImageFits, image_spelling}
 use Rattle.image_codec.specs.declared.image.KeptHook.{KeptHook}
-use Rattle.state_file.specs.Comparing.{AreNarrower, RefuseBeside, RefuseRules, TakesRules}
-use Rattle.state_file.specs.ComparingParts.{IsUnread}
+use Rattle.state_file.specs.Comparing.{AreNarrower, IsUnread, RefuseBeside, RefuseRules, TakesRules}
 use Rattle.state_file.specs.FaultTexts.{of_redoing}
-use Rattle.state_file.specs.Resuming.{FitsNone, RefusesSetting, RefusesResume}
-use Rattle.state_file.specs.ResumingParts.{IsOfChanges, IsOfImage, RefusesImage}
+use Rattle.state_file.specs.Resuming.{FitsNone, IsOfChanges, IsOfImage, RefusesSetting, RefusesImage, RefusesResume}
 use Rattle.state_file.specs.Telling.{TellsIn}
 use Rattle.state_file.specs.declared.fault.StateFault.{StateFault}
 use Rattle.state_file.specs.declared.fault.StateFault.TheVariants as state

@@ -16,8 +16,7 @@ use Rattle.hook_host.specs.declared.host.HookHost.{Ghosts as Hosting}
 use Rattle.image_keeper.specs.declared.keeper.ImageFault.{ImageFault}
 use Rattle.image_keeper.specs.declared.keeper.ImageFault.TheVariants.{TooLong}
 use Rattle.state_file.specs.Hooks.{hooks_set_in}
-use Rattle.state_file.specs.Renewing.{HasTooMuch}
-use Rattle.state_file.specs.RenewingParts.{IsUnspelled}
+use Rattle.state_file.specs.Renewing.{HasTooMuch, IsUnspelled}
 use Rattle.state_file.specs.Standing.{IsImageOf, StandsFor}
 use Rattle.state_file.specs.StandingLaws.{StandsFor-image, StandsFor-same}
 use Rattle.state_file.specs.Telling.{TellsIn, TellsRules, LeavesRules}

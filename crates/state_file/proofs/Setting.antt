@@ -18,8 +18,7 @@ use Rattle.endpoints.specs.Server.{SeenServer, FitsServer, Notes, NowNotes, AreU
 use Rattle.hook_host.specs.declared.host.HookHost.{Ghosts as Hosting}
 use Rattle.image_codec.specs.Facts.{HookFact}
 use Rattle.state_file.specs.Hooks.{AreSet, hooks_set_in, hook_named, with_hook, with_hooks}
-use Rattle.state_file.specs.Resuming.{FitsRestored, Sets}
-use Rattle.state_file.specs.ResumingParts.{RedoesDated, KeepsNoted}
+use Rattle.state_file.specs.Resuming.{FitsRestored, RedoesDated, Sets, KeepsNoted}
 use Rattle.state_file.specs.declared.restored.Restored.{Restored}
 use Rattle.state_file.proofs.Hooked.{hooks_of-with}
 

@@ -11,7 +11,7 @@ use Rattle.change_codec.specs.Spelling.{FitsFourBytes, IsText}
 use Rattle.image_codec.proofs.Images.{one_rules}
 use Rattle.image_codec.specs.Facts.{ClientFact, ImageFact, RulesFact}
 use Rattle.image_codec.specs.Spelling.{ClientFits, ImageFits, RulesCount, RulesFit, image_spelling, rules_fields, rules_spelling}
-use Rattle.state_file.specs.ComparingParts.{IsUnwritten}
+use Rattle.state_file.specs.Comparing.{IsUnwritten}
 use Rattle.state_file.specs.FaultTexts.{of_batch}
 use Rattle.state_file.specs.Standing.{StandsFor}
 use Rattle.state_file.specs.StandingLaws.{StandsFor-rules, StandsFor-same}

@@ -45,6 +45,17 @@ pub record IsImageIn {H : Type 0} (hosting : Hosting H) (left : List ℕ) (first
 
 -- FAULTS
 
+abbrev pub fault_in : ℕ → StateFault → AccountFault
+fault_in number state.Memory = accounts.Memory
+fault_in number fault = accounts.Batch number fault
+
+-- it is a fault of the rules that a file tells
+abbrev pub IsOfTelling : StateFault → Type 0
+IsOfTelling state.Memory = Unit {0}
+IsOfTelling state.NoRules = Unit {0}
+IsOfTelling (state.Spelling fault) = Unit {0}
+IsOfTelling _ = ⊥
+
 -- it is a fault of a batch
 abbrev pub IsOfBatch : StateFault → Type 0
 IsOfBatch state.NoRules = Unit {0}

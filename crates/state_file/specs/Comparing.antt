@@ -1,13 +1,30 @@
 -- When a registry's rules are as wide as those that a file tells, and where they first are not.
-use Rattle.std.specs.Prelude.{◌≡◌, ◌≤◌, ◌<◌, ◌^◌, ◌⊎◌, ℕ, zero, suc, List, ◌∷◌, length, None, Some, string_bytes}
+use Rattle.std.specs.Prelude.{◌≡◌, ◌≤◌, ◌<◌, ◌^◌, ◌⊎◌, ℕ, zero, suc, List, [], ◌∷◌, length, map, Option, None, Some, if◌then◌else◌, string_bytes}
+use Rattle.std.specs.Str.{bytes_eq}
 use Rattle.change_codec.specs.declared.fault.ChangeFault.{ChangeFault}
-use Rattle.image_codec.specs.Facts.{RulesFact}
+use Rattle.consent.specs.History.{is_within}
+use Rattle.image_codec.specs.Facts.{ClientFact, RulesFact}
 use Rattle.image_codec.specs.Reading.{image_reading, rules_reading}
 use Rattle.image_codec.specs.Spelling.{RulesCount, rules_spelling}
 use Rattle.std.specs.Prelude.{Err}
 use Rattle.state_file.specs.Telling.{last_rules, Tell, TellsIn, BeginWithRules}
 use Rattle.state_file.specs.declared.fault.StateFault.{StateFault}
-use Rattle.state_file.specs.declared.fault.StateFault.TheVariants.{Memory, TooLong, NoRules, Spelling, ScopeMoved, OwnerMoved, ClientMoved, ClientNarrowed, LifeNarrowed}
+use Rattle.state_file.specs.declared.fault.StateFault.TheVariants.{Memory, Device, Full, TooLong, NoRules, Spelling, ScopeMoved, OwnerMoved, ClientMoved, ClientNarrowed, LifeNarrowed}
+
+-- the first of the names told that does not have its place now
+abbrev pub first_moved : List (List ℕ) → List (List ℕ) → Option (List ℕ)
+first_moved [] now = None
+first_moved (name ∷ names) [] = Some name
+first_moved (name ∷ names) (other ∷ others) = if bytes_eq name other then first_moved names others else Some name
+
+-- the first of the clients told that may not be allowed now all that it was
+abbrev pub first_narrowed : List ClientFact → List ClientFact → Option (List ℕ)
+first_narrowed [] now = None
+first_narrowed (c ∷ cs) [] = None
+first_narrowed (c ∷ cs) (d ∷ ds) = if is_within c.allowed d.allowed then first_narrowed cs ds else Some c.name
+
+abbrev pub client_names : List ClientFact → List (List ℕ)
+client_names clients = map (λ c. c.name) clients
 
 -- WHAT STAYS, in the order in which it is looked at: what is told comes first
 
@@ -49,10 +66,24 @@ IsUntold rules TooLong = AreRulesTooLong rules
 IsUntold rules Memory = Unit {0}
 IsUntold rules _ = ⊥
 
+-- why the spelling of rules is not written: the disk failed, or has no room, or memory was refused, or it is too long
+abbrev pub IsUnwritten : List ℕ → StateFault → Type 0
+IsUnwritten bytes TooLong = 2 ^ 32 ≤ length bytes
+IsUnwritten bytes Memory = Unit {0}
+IsUnwritten bytes Device = Unit {0}
+IsUnwritten bytes Full = Unit {0}
+IsUnwritten bytes _ = ⊥
+
 -- the bytes that should tell rules spell none: no image where they begin with a byte 2, and else no rules alone
 abbrev pub IsMisspelled : List ℕ → ChangeFault → Type 0
 IsMisspelled (suc (suc zero) ∷ fields) fault = image_reading (2 ∷ fields) ≡ Err fault
 IsMisspelled batch fault = rules_reading batch ≡ Err fault
+
+-- why what a batch tells is not read
+abbrev pub IsUnread : List ℕ → StateFault → Type 0
+IsUnread batch Memory = Unit {0}
+IsUnread batch (Spelling fault) = IsMisspelled batch fault
+IsUnread batch _ = ⊥
 
 -- why rules are not taken where a batch tells others
 abbrev pub RefuseBeside : List ℕ → RulesFact → StateFault → Type 0

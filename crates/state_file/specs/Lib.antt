@@ -8,11 +8,6 @@ pub mod FaultTexts
 pub mod Knowing
 pub mod Renewing
 pub mod Accounts
--- What only the contracts of this crate's own parts and their proofs cite.
-pub mod ComparingParts
-pub mod ResumingParts
-pub mod RenewingParts
-pub mod AccountsParts
 -- Laws, each proved: a reader may skip them.
 pub mod StandingLaws
 pub mod TellingLaws

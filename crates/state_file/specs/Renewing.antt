@@ -1,15 +1,45 @@
 -- When an image is put in the place of a state file's batches.
-use Rattle.std.specs.Prelude.{◌⊎◌, ◌≤◌, ◌^◌, ℕ, List, length}
+use Rattle.std.specs.Prelude.{◌≡◌, ◌⊎◌, ◌≤◌, ◌^◌, ℕ, List, length}
 use Rattle.endpoints.specs.Server.{SeenServer}
 use Rattle.hook_host.specs.declared.host.HookHost.{Ghosts as Hosting}
-use Rattle.image_codec.specs.Facts.{ImageFact}
-use Rattle.image_codec.specs.Spelling.{ImageCounts, image_spelling}
+use Rattle.image_codec.specs.Facts.{HookFact, ImageFact}
+use Rattle.image_codec.specs.Spelling.{ImageCounts, ImageFits, image_spelling, rules_spelling}
 use Rattle.image_keeper.specs.Imaging.{OfFitted}
+use Rattle.image_keeper.specs.declared.keeper.ImageFault.{ImageFault}
+use Rattle.image_keeper.specs.declared.keeper.ImageFault.TheVariants.{Memory, TooLong, Failed}
+use Rattle.state_file.specs.declared.fault.StateFault.{StateFault}
+use Rattle.state_file.specs.declared.fault.StateFault.TheVariants as state
+use Rattle.state_file.specs.Hooks.{hooks_set_in}
 use Rattle.state_file.specs.Standing.{IsImageOf, StandsFor}
+
+-- memory was refused, or the disk failed
+abbrev pub IsOfDisk : StateFault → Type 0
+IsOfDisk state.Memory = Unit {0}
+IsOfDisk state.Device = Unit {0}
+IsOfDisk _ = ⊥
+
+-- the image is one of each history that the server fits and that sets these hooks
+abbrev pub IsImageFor : {H : Type 0} → Hosting H → SeenServer H → List HookFact → ImageFact → Type 0
+IsImageFor hosting server hooks image = OfFitted hosting server (λ history. hooks ≡ hooks_set_in history → IsImageOf image history)
+
+-- the bytes spell such an image, under the rules that these others spell
+pub record SpellImage {H : Type 0} (hosting : Hosting H) (server : SeenServer H) (hooks : List HookFact) (rules bytes : List ℕ) : Type 0 where
+  pub image : ImageFact
+  pub fits : ImageFits image
+  pub spelled : bytes ≡ image_spelling image
+  pub rules_are : rules ≡ rules_spelling image.rules
+  pub hooks_are : image.hooks ≡ hooks
+  pub is : IsImageFor hosting server hooks image
 
 -- a text or a list of it takes more than four bytes to count, or it is too long to be a batch
 abbrev pub IsTooLarge : ImageFact → Type 0
 IsTooLarge image = (¬ ImageCounts image) ⊎ (2 ^ 32 ≤ length (image_spelling image))
+
+-- why no image of the server is spelled: memory was refused, or such an image is too large
+abbrev pub IsUnspelled : {H : Type 0} → Hosting H → SeenServer H → List HookFact → ImageFault → Type 0
+IsUnspelled hosting server hooks Memory = Unit {0}
+IsUnspelled hosting server hooks TooLong = (image : ImageFact) × IsImageFor hosting server hooks image × IsTooLarge image
+IsUnspelled hosting server hooks Failed = ⊥
 
 -- an image is too large that is one of each history that the server fits and for which the bytes stand
 abbrev pub HasTooMuch : {H : Type 0} → Hosting H → SeenServer H → List ℕ → Type 0

@@ -3,10 +3,8 @@
 ghost use Rattle.std.specs.Prelude.{◌≡◌, List, ℕ, IfOk, IfErr, OnOk};
 ghost use Rattle.batch_file.specs.Frames.{lists, recovered};
 ghost use Rattle.image_codec.specs.Facts.{RulesFact, image_fact};
-ghost use Rattle.state_file.specs.Accounts.{IsAccountOf, IsImageIn, RefusesAccount};
-ghost use Rattle.state_file.specs.AccountsParts.{fault_in};
-ghost use Rattle.state_file.specs.Resuming.{AnswersFor};
-ghost use Rattle.state_file.specs.ResumingParts.{RedoesBatches};
+ghost use Rattle.state_file.specs.Accounts.{IsAccountOf, IsImageIn, RefusesAccount, fault_in};
+ghost use Rattle.state_file.specs.Resuming.{AnswersFor, RedoesBatches};
 ghost use Rattle.state_file.specs.declared.account.AccountFault.TheVariants.{Memory};
 
 use crate::beginning::{Beginning, begin};

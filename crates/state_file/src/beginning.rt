@@ -3,8 +3,7 @@
 ghost use Rattle.std.specs.Prelude.{◌≡◌, ◌∷◌, true, IfOk, IfErr, IfSome, IfNone};
 ghost use Rattle.batch_file.specs.Frames.{lists};
 ghost use Rattle.state_file.specs.Knowing.{image_size};
-ghost use Rattle.state_file.specs.Resuming.{HaveNoImage};
-ghost use Rattle.state_file.specs.ResumingParts.{BeginsByBatches, RefusesImage};
+ghost use Rattle.state_file.specs.Resuming.{BeginsByBatches, HaveNoImage, RefusesImage};
 ghost use Rattle.state_file.specs.Standing.{begins_image};
 
 use crate::fault::StateFault;

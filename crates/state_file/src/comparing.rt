@@ -2,8 +2,7 @@
 
 ghost use Rattle.std.specs.Prelude.{◌≡◌, OnOk, IfErr, map, option_copied};
 ghost use Rattle.image_codec.specs.Facts.{client_fact, rules_fact};
-ghost use Rattle.state_file.specs.Comparing.{AreAsWide, AreNarrower};
-ghost use Rattle.state_file.specs.ComparingParts.{client_names, first_moved, first_narrowed};
+ghost use Rattle.state_file.specs.Comparing.{AreAsWide, AreNarrower, client_names, first_moved, first_narrowed};
 
 use crate::fault::StateFault;
 use image_codec::{ClientRules, Rules};

@@ -2,7 +2,7 @@
 
 ghost use Rattle.std.specs.Prelude.{◌≡◌, ◌⊎◌, [], IfOk, IfErr};
 ghost use Rattle.batch_file.specs.Frames.{lists};
-ghost use Rattle.state_file.specs.AccountsParts.{IsOfTelling};
+ghost use Rattle.state_file.specs.Accounts.{IsOfTelling};
 ghost use Rattle.state_file.specs.Comparing.{TakesRules};
 ghost use Rattle.state_file.specs.Telling.{IsOfRules, Tell, rules_of};
 

@@ -3,9 +3,8 @@
 ghost use Rattle.std.specs.Prelude.{◌≡◌, IfOk, IfErr, OnOk, map};
 ghost use Rattle.endpoints.specs.Layouts.{layout_of};
 ghost use Rattle.image_codec.specs.Facts.{hook_fact, image_fact, rules_fact};
-ghost use Rattle.state_file.specs.RenewingParts.{IsImageFor};
-ghost use Rattle.state_file.specs.Resuming.{Installs};
-ghost use Rattle.state_file.specs.ResumingParts.{IsMadeOf, IsOfImage};
+ghost use Rattle.state_file.specs.Renewing.{IsImageFor};
+ghost use Rattle.state_file.specs.Resuming.{Installs, IsMadeOf, IsOfImage};
 
 use crate::fault::StateFault;
 use crate::hooks::SetHooks;

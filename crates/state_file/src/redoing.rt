@@ -3,7 +3,7 @@
 ghost use Rattle.std.specs.Prelude.{OnOk, IfErr, [], ◌∷◌};
 ghost use Rattle.batch_file.specs.Frames.{lists};
 ghost use Rattle.change_codec.specs.Spelling.{dated_facts};
-ghost use Rattle.state_file.specs.ResumingParts.{IsOfChanges, RedoesDated, RedoesBatches};
+ghost use Rattle.state_file.specs.Resuming.{IsOfChanges, RedoesDated, RedoesBatches};
 
 use crate::fault::StateFault;
 use crate::restored::Restored;

@@ -4,8 +4,7 @@ ghost use Rattle.std.specs.Prelude.{◌≡◌, ◌<◌, ◌^◌, true, false, le
 ghost use Rattle.image_keeper.specs.Imaging.{KeepsImage, KeepsNoImage};
 ghost use Rattle.image_keeper.specs.declared.keeper.ImageFault.TheVariants.{Memory, TooLong, Failed};
 ghost use Rattle.state_file.specs.Knowing.{IsLong, IsLongFile, file_crashes};
-ghost use Rattle.state_file.specs.Renewing.{HasTooMuch};
-ghost use Rattle.state_file.specs.RenewingParts.{IsUnspelled, SpellImage};
+ghost use Rattle.state_file.specs.Renewing.{HasTooMuch, IsUnspelled, SpellImage};
 ghost use Rattle.state_file.specs.Telling.{KeepRules};
 
 use crate::hooks::SetHooks;

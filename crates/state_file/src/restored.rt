@@ -9,8 +9,7 @@ ghost use Rattle.endpoints.specs.Redo.{RefusesRedo};
 ghost use Rattle.endpoints.specs.Server.{Notes};
 ghost use Rattle.image_codec.specs.Facts.{hook_fact};
 ghost use Rattle.state_file.specs.Hooks.{hook_named};
-ghost use Rattle.state_file.specs.Resuming.{FitsRestored, RefusesSetting, RefusesSettings, Sets};
-ghost use Rattle.state_file.specs.ResumingParts.{RedoesDated};
+ghost use Rattle.state_file.specs.Resuming.{FitsRestored, RedoesDated, RefusesSetting, RefusesSettings, Sets};
 
 use crate::fault::StateFault;
 use crate::hooks::SetHooks;

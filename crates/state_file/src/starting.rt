@@ -11,10 +11,8 @@ ghost use Rattle.image_codec.specs.Facts.{hook_fact};
 ghost use Rattle.image_keeper.specs.Imaging.{KeepsImage};
 ghost use Rattle.state_file.specs.Hooks.{AreSet, with_hooks};
 ghost use Rattle.state_file.specs.Knowing.{IsLongFile, file_crashes};
-ghost use Rattle.state_file.specs.Renewing.{HasTooMuch};
-ghost use Rattle.state_file.specs.RenewingParts.{IsOfDisk};
-ghost use Rattle.state_file.specs.Resuming.{AnswersFor, OfEachHistory, RefusesResume, RefusesSome, ServesOn};
-ghost use Rattle.state_file.specs.ResumingParts.{KeepsNoted};
+ghost use Rattle.state_file.specs.Renewing.{HasTooMuch, IsOfDisk};
+ghost use Rattle.state_file.specs.Resuming.{AnswersFor, KeepsNoted, OfEachHistory, RefusesResume, RefusesSome, ServesOn};
 ghost use Rattle.state_file.specs.Standing.{StandsFor};
 ghost use Rattle.state_file.specs.Telling.{KeepRules, LeavesRules, TellsRules, rules_of};
 

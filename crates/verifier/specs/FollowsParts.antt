@@ -101,10 +101,10 @@ IsBranch known test offset (Err fault) =
 abbrev pub IsStoredAt : Layout → Known → Known → Place → Size → Kind → Result Unit WalkFault → Type 0
 IsStoredAt layout known after place size value (Ok done) =
     (exact : Bool) (s : State) (at : ℕ) (v : Value) → StateFits exact layout known s → SpanFits exact place.span at →
-        at + size_bytes size ≤ region_size layout place.region
+    at + size_bytes size ≤ region_size layout place.region
     → ValueFits exact value v
     → (is_writable layout place.region at (size_bytes size) ≡ true) × (may_hold place.region at size v ≡ true) × StateFits exact layout after
-        (with_value s place.region at size v)
+    (with_value s place.region at size v)
 IsStoredAt layout known after place size value (Err fault) =
     (fault ≢ FallsOff)
     × ((at : ℕ) (v : Value) → SpanFits true place.span at → ValueFits true value v → first_of (write_tests layout place.region size v (Some at)) ≡ Some fault)

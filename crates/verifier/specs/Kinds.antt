@@ -145,7 +145,7 @@ abbrev pub Stores : Layout → Storing → Known → Known → Result Flow WalkF
 Stores layout store old new r =
     (value : Kind) × (done : Result Unit WalkFault) × IsOperand old store.operand value
     × StoredOf layout (put_at store.size value (place_behind layout (reg_of old store.dst) store.offset (size_bytes store.size))) done old new ×
-        (r ≡ flow_where done Next)
+    (r ≡ flow_where done Next)
 
 -- nothing is changed
 abbrev pub Passes : Result Flow WalkFault → Known → Known → Result Flow WalkFault → Type 0

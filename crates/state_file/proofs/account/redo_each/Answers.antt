@@ -2,7 +2,7 @@ use Rattle.std.proofs.Common.{◌≡◌, ◌∙◌, ◌+◌, ◌-◌, ◌++◌, 
 use Rattle.std.proofs.lemmas.List.{map-append, take_all}
 use Rattle.std.specs.declared.alloc.Global.{Global}
 use Rattle.batch_file.specs.Frames.{lists}
-use Rattle.state_file.specs.ResumingParts.{RedoesBatches}
+use Rattle.state_file.specs.Resuming.{RedoesBatches}
 use Rattle.state_file.proofs.Redone.{redoes_batches, redoes_no_batch}
 use Rattle.state_file.proofs.account.redo_each.Goals as goal
 

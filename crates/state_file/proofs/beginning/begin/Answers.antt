@@ -3,7 +3,7 @@ use Rattle.std.specs.Prelude.{IfErr}
 use Rattle.batch_file.specs.Frames.{lists}
 use Rattle.change_codec.specs.FieldLaws.{ok_is}
 use Rattle.image_codec.specs.Facts.{image_fact}
-use Rattle.state_file.specs.ResumingParts.{RefusesImage}
+use Rattle.state_file.specs.Resuming.{RefusesImage}
 use Rattle.state_file.proofs.Begun.{begins_made}
 use Rattle.state_file.proofs.Refused.{not_made_of}
 use Rattle.state_file.proofs.beginning.begin.Goals as goal

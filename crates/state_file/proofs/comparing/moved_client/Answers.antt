@@ -2,7 +2,7 @@ use Rattle.std.proofs.Common.{◌≡◌, ℕ, List, [], map, get_or, true, false
 use Rattle.std.specs.Str.{bytes_eq}
 use Rattle.image_codec.specs.Facts.{client_fact}
 use Rattle.image_codec.specs.declared.image.ClientRules.{ClientRules}
-use Rattle.state_file.specs.ComparingParts.{client_names}
+use Rattle.state_file.specs.Comparing.{client_names}
 use Rattle.state_file.proofs.Compared.{same_if, other_if, names_at, step_on, step_other, step_past}
 use Rattle.state_file.proofs.comparing.moved_client.Goals.{then-i-now-via-then-i-now, then-i-now-via-else-i-now+then-ne}
 use Rattle.state_file.proofs.comparing.moved_client.Goals as goal

@@ -1,6 +1,6 @@
 use Rattle.std.proofs.Common.{◌≡◌, map, drop}
 use Rattle.image_codec.specs.Facts.{client_fact}
-use Rattle.state_file.specs.ComparingParts.{client_names, first_moved}
+use Rattle.state_file.specs.Comparing.{client_names, first_moved}
 use Rattle.state_file.proofs.comparing.moved_client.Given as goal
 
 abbrev pub invariant-loop-i : goal.invariant-loop-i

@@ -1,5 +1,5 @@
 use Rattle.std.proofs.Common.{◌≡◌, map, drop}
-use Rattle.state_file.specs.ComparingParts.{first_moved}
+use Rattle.state_file.specs.Comparing.{first_moved}
 use Rattle.state_file.proofs.comparing.moved_scope.Given as goal
 
 abbrev pub invariant-loop-i : goal.invariant-loop-i

@@ -3,7 +3,7 @@ use Rattle.std.proofs.lemmas.Grind.{common_steps}
 use Rattle.std.proofs.lemmas.List.{take_all}
 use Rattle.std.specs.declared.alloc.Global.{Global}
 use Rattle.batch_file.specs.Frames.{lists}
-use Rattle.state_file.specs.ResumingParts.{RedoesBatches}
+use Rattle.state_file.specs.Resuming.{RedoesBatches}
 use Rattle.state_file.proofs.Redone.{redoes_batches}
 use Rattle.state_file.proofs.redoing.redo_all.Goals as goal
 

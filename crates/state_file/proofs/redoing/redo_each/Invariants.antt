@@ -1,6 +1,6 @@
 use Rattle.std.proofs.Common.{take}
 use Rattle.change_codec.specs.Spelling.{dated_facts}
-use Rattle.state_file.specs.ResumingParts.{RedoesDated}
+use Rattle.state_file.specs.Resuming.{RedoesDated}
 use Rattle.state_file.proofs.redoing.redo_each.Given as goal
 
 abbrev pub invariant-loop-dated : goal.invariant-loop-dated

@@ -8,8 +8,7 @@ use Rattle.state_file.specs.Comparing.{TakesRules}
 use Rattle.image_codec.specs.Facts.{HookFact}
 use Rattle.state_file.specs.Hooks.{hooks_behind, hooks_set_in}
 use Rattle.state_file.specs.Knowing.{image_size}
-use Rattle.state_file.specs.Resuming.{RefusesResume}
-use Rattle.state_file.specs.ResumingParts.{RefusesImage}
+use Rattle.state_file.specs.Resuming.{RefusesImage, RefusesResume}
 use Rattle.state_file.specs.Standing.{AreTold, StandsFor}
 use Rattle.state_file.specs.StandingLaws.{StandsFor-same}
 use Rattle.state_file.specs.Telling.{BeginWithRules, LeavesRules, Tell, TellsRules, rules_of}
