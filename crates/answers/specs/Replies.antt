@@ -9,7 +9,6 @@ use Rattle.clients.specs.Owners.{sub_of}
 use Rattle.token_store.specs.Found.{owner_number}
 use Rattle.hook_host.specs.Faults.{hook_fault_text}
 use Rattle.messages.specs.declared.request.Draws.{Draws}
-use Rattle.messages.specs.declared.token.ActiveToken.{ActiveToken}
 use Rattle.messages.specs.Reply.{Reply, Body as body, plain, sent_back}
 use Rattle.messages.specs.Written.{error_text}
 use Rattle.answers.specs.Outcomes.{status_of}
@@ -24,10 +23,6 @@ access_reply rules draw scope life = plain 200 (body.Tokens (token_text draw) li
 abbrev pub both_reply : RegistryRecord → Draws → ℕ → ℕ → Reply
 both_reply rules draws scope life =
     plain 200 (body.Tokens (token_text draws.first) life (Some (token_text draws.second)) (scope_text rules.scopes scope))
-
--- what is told of a live token
-abbrev pub live_body : ActiveToken → body
-live_body token = body.Active token.client.now token.expires token.issued token.scope.now (option_copied token.sub) token.kind
 
 -- the id of the client of the number
 abbrev pub id_of : RegistryRecord → ℕ → List ℕ

@@ -11,7 +11,8 @@ ghost use Rattle.messages.specs.Written.{error_text, in_writing};
 ghost use Rattle.pkce.specs.Token.{token_text};
 ghost use Rattle.hook_host.specs.Faults.{hook_fault_text};
 ghost use Rattle.params.specs.Scope.{scope_text};
-ghost use Rattle.answers.specs.Replies.{access_reply, both_reply, id_of, live_body, reply_of};
+ghost use Rattle.answers.specs.Replies.{access_reply, both_reply, id_of, reply_of};
+ghost use Rattle.messages.specs.Live.{live_body};
 ghost use Rattle.answers.specs.Short.{IsShortReply, IsShortAnswer, IsShortLive, IsShortReturn};
 
 use crate::answer::Answer;

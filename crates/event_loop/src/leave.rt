@@ -80,20 +80,21 @@ impl Service {
         k: u32,
     )
         requires bound { k < 64 }
-        ensures { LeadsToTidy (promises N.Sockets C.Clocks J.Journal (keeping K.Keeper K.ImageKeeper.own) H.HookHost) k self.old tools.old self.new tools.new }
+        ensures tidies { LeadsToTidy (promises N.Sockets C.Clocks J.Journal (keeping K.Keeper K.ImageKeeper.own) H.HookHost) k self.old tools.old self.new tools.new }
+        ensures due { (j : ℕ) → j ≢ k → slice_get self.new.due j ≡ slice_get self.old.due j }
     {
         let place = self.place_at(k);
-        self.due[k as usize] = false;
+        self.due.remove(k);
         if is_over(&tools.edge, place, k) {
             self.leave(tools, k, place);
             return;
         }
         if may_read(&tools.edge, place, k) {
-            self.due[k as usize] = true;
+            self.due.add(k);
             return;
         }
         if may_write(&tools.edge, place, k) {
-            self.due[k as usize] = true;
+            self.due.add(k);
         }
     }
 

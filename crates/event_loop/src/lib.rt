@@ -5,6 +5,7 @@
 
 mod admit;
 mod clocks;
+mod due;
 mod fault;
 mod image;
 mod journal;

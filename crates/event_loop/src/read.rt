@@ -101,7 +101,8 @@ impl Service {
         requires here { slice_get self.old.places k ≡ Some place }
         requires readable { place.readable ≡ true }
         requires may { WhereKnown H.HookHost tools.old.edge k (MayRead place) }
-        ensures { LeadsToActs (promises N.Sockets C.Clocks J.Journal (keeping K.Keeper K.ImageKeeper.own) H.HookHost) k (Reading k) NeedsNoRead self.old tools.old self.new tools.new }
+        ensures acts { LeadsToActs (promises N.Sockets C.Clocks J.Journal (keeping K.Keeper K.ImageKeeper.own) H.HookHost) k (Reading k) NeedsNoRead self.old tools.old self.new tools.new }
+        ensures due { self.new.due ≡ self.old.due }
     {
         let i = k as usize;
         match tools.sockets.read(k, &mut self.buffer) {
@@ -149,7 +150,8 @@ impl Service {
         k: u32,
     )
         requires bound { k < 64 }
-        ensures { LeadsToActs (promises N.Sockets C.Clocks J.Journal (keeping K.Keeper K.ImageKeeper.own) H.HookHost) k (Reading k) NeedsNoRead self.old tools.old self.new tools.new }
+        ensures acts { LeadsToActs (promises N.Sockets C.Clocks J.Journal (keeping K.Keeper K.ImageKeeper.own) H.HookHost) k (Reading k) NeedsNoRead self.old tools.old self.new tools.new }
+        ensures due { self.new.due ≡ self.old.due }
     {
         let place = self.place_at(k);
         if may_read(&tools.edge, place, k) {

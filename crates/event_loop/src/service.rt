@@ -5,7 +5,8 @@ ghost use Rattle.event_loop.specs.Places.{AllFree};
 ghost use Rattle.event_loop.specs.Goes.{IsDueSomewhere, IsDueNowhere};
 
 use crate::clocks::Times;
-use crate::limits::{Limits, PLACES, READ_LIMIT};
+use crate::due::DuePlaces;
+use crate::limits::{Limits, READ_LIMIT};
 use crate::place::{FREE_PLACE, Place};
 use crate::queue::Queue;
 use crate::report::LastTold;
@@ -14,8 +15,8 @@ use crate::report::LastTold;
 #[derive(Drop)]
 pub struct Service {
     pub(crate) places: [Place; 64],
-    // Whether something may be due at a place: a read, a write or a close.
-    pub(crate) due: [bool; 64],
+    // Where something may be due.
+    pub(crate) due: DuePlaces,
     // Where bytes are read to.
     pub(crate) buffer: [u8; READ_LIMIT],
     pub(crate) limits: Limits,
@@ -52,7 +53,7 @@ impl Service {
         let steady = times.steady;
         Service {
             places: [FREE_PLACE; 64],
-            due: [false; 64],
+            due: DuePlaces::nowhere(),
             buffer: [0; READ_LIMIT],
             limits,
             times,
@@ -74,21 +75,13 @@ impl Service {
         self.places[k as usize]
     }
 
-    /// Whether something may be due at a place.
-    pub(crate) fn is_due(&self, k: u32) -> bool
-        requires bound { k < 64 }
-        ensures { slice_get self.now.due k ≡ Some result }
-    {
-        self.due[k as usize]
-    }
-
     /// Whether something may be due at some place.
     pub(crate) fn has_due(&self) -> bool
         ensures due { result ≡ true → IsDueSomewhere self.now }
         ensures none { result ≡ false → IsDueNowhere self.now }
     {
-        for k in 0..PLACES {
-            if self.is_due(k) {
+        for k in 0..self.due.end() {
+            if self.due.is_at(k) {
                 return true;
             }
         }

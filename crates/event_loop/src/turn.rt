@@ -1,5 +1,5 @@
 //! Turns.
-ghost use Rattle.std.specs.Prelude.{◌<◌, List, [], ◌∷◌};
+ghost use Rattle.std.specs.Prelude.{◌≡◌, ◌≢◌, ◌<◌, ℕ, List, [], ◌∷◌, slice_get};
 ghost use Rattle.event_loop.specs.declared.sockets.Ready.{Ready};
 ghost use Rattle.event_loop.specs.Goes.{LeadsToHearing, LeadsReading, LeadsWriting, LeadsToRest};
 ghost use Rattle.event_loop.specs.Scenes.{promises};
@@ -36,7 +36,7 @@ impl Service {
                 }
                 let place = self.place_at(k);
                 self.places[k as usize] = place.told(readable, writable, hung);
-                self.due[k as usize] = true;
+                self.due.add(k);
             }
         }
     }
@@ -61,8 +61,8 @@ impl Service {
     )
         ensures { LeadsReading (promises N.Sockets C.Clocks J.Journal (keeping K.Keeper K.ImageKeeper.own) H.HookHost) 64 self.old tools.old self.new tools.new }
     {
-        for k in 0..PLACES {
-            if !self.is_due(k) {
+        for k in 0..self.due.end() {
+            if !self.due.is_at(k) {
                 continue;
             }
             self.read(tools, k);
@@ -76,7 +76,8 @@ impl Service {
         k: u32,
     )
         requires bound { k < 64 }
-        ensures { LeadsToRest (promises N.Sockets C.Clocks J.Journal (keeping K.Keeper K.ImageKeeper.own) H.HookHost) k self.old tools.old self.new tools.new }
+        ensures rests { LeadsToRest (promises N.Sockets C.Clocks J.Journal (keeping K.Keeper K.ImageKeeper.own) H.HookHost) k self.old tools.old self.new tools.new }
+        ensures due { (j : ℕ) → j ≢ k → slice_get self.new.due j ≡ slice_get self.old.due j }
     {
         self.write(tools, k);
         self.settle(tools, k);
@@ -89,8 +90,8 @@ impl Service {
     )
         ensures { LeadsWriting (promises N.Sockets C.Clocks J.Journal (keeping K.Keeper K.ImageKeeper.own) H.HookHost) 64 self.old tools.old self.new tools.new }
     {
-        for k in 0..PLACES {
-            if !self.is_due(k) {
+        for k in 0..self.due.end() {
+            if !self.due.is_at(k) {
                 continue;
             }
             self.turn(tools, k);

@@ -43,7 +43,8 @@ impl Service {
         k: u32,
     )
         requires bound { k < 64 }
-        ensures { LeadsToActs (promises N.Sockets C.Clocks J.Journal (keeping K.Keeper K.ImageKeeper.own) H.HookHost) k (Writing k) NeedsNoWrite self.old tools.old self.new tools.new }
+        ensures acts { LeadsToActs (promises N.Sockets C.Clocks J.Journal (keeping K.Keeper K.ImageKeeper.own) H.HookHost) k (Writing k) NeedsNoWrite self.old tools.old self.new tools.new }
+        ensures due { self.new.due ≡ self.old.due }
     {
         let i = k as usize;
         let place = self.place_at(k);

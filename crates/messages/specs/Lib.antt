@@ -2,6 +2,7 @@
 pub mod Asked
 pub mod Target
 pub mod MediaType
+pub mod Live
 pub mod Reply
 pub mod Written
 pub mod Small

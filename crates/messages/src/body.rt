@@ -3,7 +3,8 @@ ghost use Rattle.std.specs.Prelude.{◌≡◌, [], ◌∷◌, ◌++◌, Some, If
 ghost use Rattle.json.specs.Token.{end_object};
 ghost use Rattle.json.specs.Tree.{members_tokens};
 ghost use Rattle.serde_json.specs.Written.{members_outline};
-ghost use Rattle.messages.specs.Reply.Body.{Failure, Tokens, Consent, Active, Inactive, Hook, HookRefused, Hooks};
+ghost use Rattle.messages.specs.Live.{live_body};
+ghost use Rattle.messages.specs.Reply.Body.{Failure, Tokens, Consent, Inactive, Hook, HookRefused, Hooks};
 ghost use Rattle.messages.specs.Written.{body_text, type_member};
 
 use crate::error::ErrorName;
@@ -64,7 +65,7 @@ pub(crate) fn consent(alloc: Global, scope: &str) -> Result<Vec<u8>, AllocError>
 }
 
 pub(crate) fn active(alloc: Global, token: ActiveToken<'_>) -> Result<Vec<u8>, AllocError>
-    ensures { IfOk result (λ text. body_text (Active token.entry.client.now token.entry.expires token.entry.issued token.entry.scope.now (option_copied token.entry.sub) token.entry.kind) ≡ Some text.items) }
+    ensures { IfOk result (λ text. body_text (live_body token.entry) ≡ Some text.items) }
 {
     let mut json = Object::new(alloc, token.scope.len())?;
     json.boolean("active", true)?;

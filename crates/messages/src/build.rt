@@ -1,7 +1,8 @@
 //! Replies, each with what its body says.
 ghost use Rattle.std.specs.Prelude.{◌≡◌, IfOk, map, option_copied};
 ghost use Rattle.messages.specs.Reply.{plain, sent_back};
-ghost use Rattle.messages.specs.Reply.Body.{Failure, Tokens, Consent, Active, Inactive, Hook, HookRefused, Hooks};
+ghost use Rattle.messages.specs.Live.{live_body};
+ghost use Rattle.messages.specs.Reply.Body.{Failure, Tokens, Consent, Inactive, Hook, HookRefused, Hooks};
 ghost use Rattle.messages.specs.Written.{in_writing};
 
 use crate::body;
@@ -43,9 +44,7 @@ pub fn consent(alloc: Global, scope: &str) -> Result<Response, AllocError>
 
 /// What is told of a live token (RFC 7662, section 2.2).
 pub fn active(alloc: Global, token: ActiveToken<'_>) -> Result<Response, AllocError>
-    ensures { IfOk result (λ reply. reply ≡ in_writing (plain 200
-        (Active token.entry.client.now token.entry.expires token.entry.issued token.entry.scope.now
-        (option_copied token.entry.sub) token.entry.kind))) }
+    ensures { IfOk result (λ reply. reply ≡ in_writing (plain 200 (live_body token.entry))) }
 {
     Ok(Response::with_body(StatusCode::OK, body::active(alloc, token)?))
 }

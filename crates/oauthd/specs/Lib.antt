@@ -7,6 +7,7 @@ pub mod Faults
 pub mod Help
 pub mod Listening
 pub mod NamedFiles
+pub mod Outputs
 pub mod Performed
 pub mod Printed
 pub mod Registries

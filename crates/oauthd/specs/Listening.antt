@@ -23,6 +23,7 @@ use Rattle.hook_commands.specs.File.{File}
 use Rattle.oauthd.specs.Hooks.{AreFactsOf, HookInFile, in_file, RefusesHooks, TakesHooks}
 use Rattle.hook_chain.specs.Chains.{Named}
 use Rattle.image_codec.specs.Facts.{HookFact}
+use Rattle.oauthd.specs.Outputs.{Output, Outputs, IsUntouched}
 use Rattle.oauthd.specs.Printed.{told_text}
 use Rattle.oauthd.specs.Services.{config_of, patience_of}
 use Rattle.oauthd.specs.Startings.{RefusesState, Startings, handed, starting_of}
@@ -41,14 +42,14 @@ abbrev pub registry_bytes : ServiceFiles → File
 registry_bytes files = bytes_in files.named
 
 -- a service's file holds a registry, and it was printed where its server listens
-pub record HasListened (file : File) (old new : Option (List ℕ)) : Type 0 where
+pub record HasListened {W : Type 0} (file : File) (out : Output W) : Type 0 where
   pub registry : RegistryRecord
   pub held : HoldsRegistry file registry
-  pub announced : Announces old new
+  pub announced : Announces (out.seen out.old) (out.seen out.new)
 
 -- `serve` served its connections
-pub record ServeEnded (service : Service) (files : ServiceFiles) (old new : Option (List ℕ)) : Type 0 where
-  pub listened : HasListened (registry_bytes files) old new
+pub record ServeEnded {W : Type 0} (service : Service) (files : ServiceFiles) (out : Output W) : Type 0 where
+  pub listened : HasListened (registry_bytes files) out
   pub given : ServeWords
   pub service_is : service ≡ Serve given
 
@@ -94,18 +95,18 @@ pub record NamesState (service : Service) : Type 0 where
   pub named : IsSome given.options.state
 
 -- why a service serves nothing is told, behind what was told of its state's file, and the status is that of the fault
-pub record TellsNoService (service : Service) (files : ServiceFiles) (status : Status) (old new : Option (List ℕ)) : Type 0 where
+pub record TellsNoService {E : Type 0} (service : Service) (files : ServiceFiles) (status : Status) (err : Output E) : Type 0 where
   pub fault : PerformFault
   pub cause : CannotServe service files fault
   pub ended : status ≡ end_status fault
   pub lines : Option (List ℕ)
-  pub unlined : (lines ≡ old) ⊎ NamesState service
-  pub told : Appends lines new (told_text fault)
+  pub unlined : (lines ≡ err.seen err.old) ⊎ NamesState service
+  pub told : Appends lines (err.seen err.new) (told_text fault)
 
 -- `start` had all its hooks, and its server, on the file of its state where one is named, served connections until it could not
 -- go on, for this fault
-pub record HasStopped (starts : Startings) (service : Service) (files : ServiceFiles) (fault : PerformFault) (old new : Option (List ℕ)) : Type 0 where
-  pub listened : HasListened (registry_bytes files) old new
+pub record HasStopped {W : Type 0} (starts : Startings) (service : Service) (files : ServiceFiles) (fault : PerformFault) (out : Output W) : Type 0 where
+  pub listened : HasListened (registry_bytes files) out
   pub given : StartWords
   pub service_is : service ≡ Start given
   pub hooks : List Named
@@ -116,24 +117,20 @@ pub record HasStopped (starts : Startings) (service : Service) (files : ServiceF
   pub started : starting_of starts given.options.state (handed listened.registry hooks codes (patience_of given.options)) cause
   pub fault_is : fault ≡ Stopped cause
 
--- A service ends with a fault, with what it prints seen as the bytes so far: it serves nothing, and has told nothing, but of its
--- state's file, or it stopped.
-abbrev pub FailsService : {W E : Type 0} → Startings → (W → Option (List ℕ)) → Service → ServiceFiles → PerformFault → W → W → E → E → Type 0
-FailsService starts of_out service files fault out out' err err' =
-    (((err' ≡ err) ⊎ NamesState service) × CannotServe service files fault) ⊎ HasStopped starts service files fault (of_out out) (of_out out')
+-- A service ends with a fault: it serves nothing, and has told nothing, but of its state's file, or it stopped.
+abbrev pub FailsService : {W E : Type 0} → Startings → Service → ServiceFiles → PerformFault → Outputs W E → Type 0
+FailsService starts service files fault to =
+    ((IsUntouched to.err ⊎ NamesState service) × CannotServe service files fault) ⊎ HasStopped starts service files fault to.out
 
 -- so it did, which is told behind the lines of connections that ended, and the status is that of the fault
-pub record TellsStop (starts : Startings) (service : Service) (files : ServiceFiles) (status : Status) (old new told_then : Option (List ℕ)) : Type 0 where
+pub record TellsStop {W E : Type 0} (starts : Startings) (service : Service) (files : ServiceFiles) (status : Status) (to : Outputs W E) : Type 0 where
   pub fault : PerformFault
-  pub stopped : HasStopped starts service files fault old new
+  pub stopped : HasStopped starts service files fault to.out
   pub ended : status ≡ end_status fault
   pub lines : Option (List ℕ)
-  pub told : Appends lines told_then (told_text fault)
+  pub told : Appends lines (to.err.seen to.err.new) (told_text fault)
 
--- A service ends, with what it prints and what it tells, each seen as the bytes so far: it served, or serves nothing, or
--- stopped.
-abbrev pub EndsService : {W E : Type 0} → Startings → (W → Option (List ℕ)) → (E → Option (List ℕ)) → Service → ServiceFiles → Status → W → W → E → E → Type 0
-EndsService starts of_out of_err service files status out out' err err' =
-    ((status ≡ Done) × ServeEnded service files (of_out out) (of_out out'))
-    ⊎ TellsNoService service files status (of_err err) (of_err err')
-    ⊎ TellsStop starts service files status (of_out out) (of_out out') (of_err err')
+-- A service ends, with what it prints and what it tells: it served, or serves nothing, or stopped.
+abbrev pub EndsService : {W E : Type 0} → Startings → Service → ServiceFiles → Status → Outputs W E → Type 0
+EndsService starts service files status to =
+    ((status ≡ Done) × ServeEnded service files to.out) ⊎ TellsNoService service files status to.err ⊎ TellsStop starts service files status to

@@ -1,11 +1,11 @@
 //! The program without its surroundings: words in, lines and a status out.
 
 ghost use Rattle.std.specs.Prelude.{◌≡◌, ◌⊎◌, OnOk, IfOk, IfErr, IfSome};
-ghost use Rattle.std.specs.Io.KnownBytes.{Appends};
 ghost use Rattle.std.specs.Option.{option_copied};
 ghost use Rattle.daemon.specs.Started.{keeping_by};
 ghost use Rattle.oauthd.specs.Endings.{EndsCall, EndsWords};
 ghost use Rattle.oauthd.specs.Listening.{EndsService, FailsService, files_in, ServeEnded};
+ghost use Rattle.oauthd.specs.Outputs.{GetsText, output, outputs};
 ghost use Rattle.oauthd.specs.Performed.{EndsCommand};
 ghost use Rattle.oauthd.specs.Printed.{told_text};
 ghost use Rattle.oauthd.specs.Startings.{startings};
@@ -58,8 +58,8 @@ pub fn carry_out<W: Write, E: Write>(
     out: &mut W,
     err: &mut E,
 ) -> Result<Status, Unwritten>
-    ensures { IfOk result (λ status.
-        EndsCommand W.contents E.contents command.entry (option_copied file.entry) status out.old out.new err.old err.new) }
+    ensures { IfOk result (λ status. EndsCommand command.entry (option_copied file.entry) status
+        (outputs (output W.contents out.old out.new) (output E.contents err.old err.new))) }
 {
     match command.answer(alloc, file, now) {
         Ok(answer) => match answer.write_to(out) {
@@ -81,7 +81,8 @@ pub fn perform_command<W: Write, E: Write>(
 ) -> Status
     // Bad use may be that of a write that failed.
     ensures { (result ≡ Status.BadUse)
-        ⊎ EndsCommand W.contents E.contents command.entry (option_copied file.entry) result out.old out.new err.old err.new }
+        ⊎ EndsCommand command.entry (option_copied file.entry) result
+        (outputs (output W.contents out.old out.new) (output E.contents err.old err.new)) }
 {
     match carry_out(alloc, command, file, now, out, err) {
         Ok(status) => status,
@@ -104,7 +105,7 @@ pub fn failed<E: Write>(unwritten: Unwritten, err: &mut E) -> Status
 
 /// Writes a text, to where it is to go.
 pub fn write_text<W: Write, D: Display + Drop>(to: &mut W, text: D) -> io::Result<()>
-    ensures { OnOk result (IfSome (D.output text) (Appends (W.contents to.old) (W.contents to.new))) }
+    ensures { OnOk result (IfSome (D.output text) (GetsText (output W.contents to.old to.new))) }
 {
     write!(to, "{text}")?;
     to.flush()
@@ -113,7 +114,7 @@ pub fn write_text<W: Write, D: Display + Drop>(to: &mut W, text: D) -> io::Resul
 /// Reports a fault in one line, and gives the status that it has.
 pub fn report<E: Write>(fault: PerformFault<'_>, err: &mut E) -> Result<Status, Unwritten>
     ensures { IfOk result (λ status.
-        (status ≡ end_status fault.entry) × Appends (E.contents err.old) (E.contents err.new) (told_text fault.entry)) }
+        (status ≡ end_status fault.entry) × GetsText (output E.contents err.old err.new) (told_text fault.entry)) }
 {
     match write_text(err, format_args!("oauthd: {fault}\n")) {
         Ok(()) => Ok(fault.status()),
@@ -124,7 +125,7 @@ pub fn report<E: Write>(fault: PerformFault<'_>, err: &mut E) -> Result<Status, 
 /// Tells a fault in one line, and says how the program then ends. A write that fails is bad use.
 pub fn told<E: Write>(fault: PerformFault<'_>, err: &mut E) -> Status
     ensures { (result ≡ Status.BadUse)
-        ⊎ ((result ≡ end_status fault.entry) × Appends (E.contents err.old) (E.contents err.new) (told_text fault.entry)) }
+        ⊎ ((result ≡ end_status fault.entry) × GetsText (output E.contents err.old err.new) (told_text fault.entry)) }
 {
     match report(fault, err) {
         Ok(status) => status,
@@ -147,11 +148,12 @@ fn serve_as<
     out: &mut W,
     err: &mut E,
 ) -> Result<(), PerformFault<'w>>
-    ensures done { OnOk result (ServeEnded service.now (files_in files.entry) (W.contents out.old) (W.contents out.new)) }
+    ensures done { OnOk result (ServeEnded service.now (files_in files.entry) (output W.contents out.old out.new)) }
     ensures fault { IfErr result (λ fault.
         FailsService (startings ⟦<MachineClocks<'r, R> as Clocks>⟧
         ⟦<LineJournal<'e, E> as Journal>⟧ (keeping_by ⟦<OnDisk<'r, R> as Keeper>⟧ ⟦<OnDisk<'r, R> as ImageKeeper>⟧.is_long))
-        W.contents service.now (files_in files.entry) fault out.old out.new err.old err.new) }
+        service.now (files_in files.entry) fault
+        (outputs (output W.contents out.old out.new) (output E.contents err.old err.new))) }
 {
     let CallFiles { named, hooks } = files;
     let registry = registry_of(rt.alloc(), service.config(), named)?;
@@ -194,7 +196,8 @@ pub fn perform_service<
     ensures { (result ≡ Status.BadUse)
         ⊎ EndsService (startings ⟦<MachineClocks<'r, R> as Clocks>⟧
         ⟦<LineJournal<'e, E> as Journal>⟧ (keeping_by ⟦<OnDisk<'r, R> as Keeper>⟧ ⟦<OnDisk<'r, R> as ImageKeeper>⟧.is_long))
-        W.contents E.contents service.now (files_in files.entry) result out.old out.new err.old err.new }
+        service.now (files_in files.entry) result
+        (outputs (output W.contents out.old out.new) (output E.contents err.old err.new)) }
 {
     match serve_as(rt, service, files, out, err) {
         Ok(()) => Status::Done,
@@ -214,7 +217,8 @@ fn perform_call<
     ensures { (result ≡ Status.BadUse)
         ⊎ EndsCall (startings ⟦<MachineClocks<'r, R> as Clocks>⟧
         ⟦<LineJournal<'e, E> as Journal>⟧ (keeping_by ⟦<OnDisk<'r, R> as Keeper>⟧ ⟦<OnDisk<'r, R> as ImageKeeper>⟧.is_long))
-        W.contents E.contents call.now (files_in files.entry) result out.old out.new err.old err.new }
+        call.now (files_in files.entry) result
+        (outputs (output W.contents out.old out.new) (output E.contents err.old err.new)) }
 {
     match call {
         Call::Command(command) => {
@@ -238,7 +242,7 @@ pub fn perform<
     ensures { (result ≡ Status.BadUse)
         ⊎ EndsWords (startings ⟦<MachineClocks<'r, R> as Clocks>⟧
         ⟦<LineJournal<'e, E> as Journal>⟧ (keeping_by ⟦<OnDisk<'r, R> as Keeper>⟧ ⟦<OnDisk<'r, R> as ImageKeeper>⟧.is_long))
-        W.contents E.contents words.now result out.old out.new err.old err.new }
+        words.now result (outputs (output W.contents out.old out.new) (output E.contents err.old err.new)) }
 {
     let call = match Call::from_words(rt.alloc(), words) {
         Ok(call) => call,

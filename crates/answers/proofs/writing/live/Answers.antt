@@ -1,6 +1,6 @@
 use Rattle.std.proofs.Common.{rules, refl}
 use Rattle.messages.specs.Reply.{plain}
-use Rattle.answers.specs.Replies.{live_body}
+use Rattle.messages.specs.Live.{live_body}
 use Rattle.answers.proofs.Sizes.{if_short}
 use Rattle.answers.proofs.writing.live.Goals as goal
 

@@ -1,0 +1,28 @@
+-- What a program writes to.
+use Rattle.std.specs.Prelude.{◌≡◌, ℕ, List, Option}
+use Rattle.std.specs.Io.KnownBytes.{Appends}
+
+-- what is written to, as it was and as it is, each seen as the bytes so far
+pub record Output (W : Type 0) : Type 0 where
+  pub seen : W → Option (List ℕ)
+  pub old : W
+  pub new : W
+
+abbrev pub output : {W : Type 0} → (W → Option (List ℕ)) → W → W → Output W
+output seen old new = record { seen = seen; old = old; new = new }
+
+-- standard output, where answers go, and standard error, where faults go
+pub record Outputs (W E : Type 0) : Type 0 where
+  pub out : Output W
+  pub err : Output E
+
+abbrev pub outputs : {W E : Type 0} → Output W → Output E → Outputs W E
+outputs out err = record { out = out; err = err }
+
+-- nothing is written to it
+abbrev pub IsUntouched : {W : Type 0} → Output W → Type 0
+IsUntouched to = to.new ≡ to.old
+
+-- the text is written to it, behind all that was
+abbrev pub GetsText : {W : Type 0} → Output W → List ℕ → Type 0
+GetsText to text = Appends (to.seen to.old) (to.seen to.new) text
