@@ -1,11 +1,11 @@
 //! Replies as values, before they are written.
 
 use crate::want::Want;
-use consent::{ClientNo, OwnerNo, TokenKind};
+use consent::{ClientNo, OwnerNo, ScopeSet, TokenKind};
 use hook_host::HookFault;
 use messages::{Draws, ErrorName};
 
-/// What is answered. A scope has one bit for each name; a life is in seconds.
+/// What is answered. A life is in seconds.
 #[derive(Clone, Copy)]
 pub enum Answer<'a> {
     /// 200 and nothing else.
@@ -23,18 +23,18 @@ pub enum Answer<'a> {
     /// An access token (RFC 6749, section 5.1).
     Access {
         draw: [u8; 32],
-        scope: u64,
+        scope: ScopeSet,
         life: u32,
     },
     /// And a refresh token, of the second draw.
     Both {
         draws: Draws,
-        scope: u64,
+        scope: ScopeSet,
         life: u32,
     },
     /// What an owner consents to.
     Consented {
-        mask: u64,
+        mask: ScopeSet,
     },
     /// The user agent is sent back with a code (RFC 6749, section 4.1.2).
     CodeSent {
@@ -53,7 +53,7 @@ pub enum Answer<'a> {
         client: ClientNo,
         issued: u64,
         expires: u64,
-        scope: u64,
+        scope: ScopeSet,
         /// `None` where it is the client's own.
         owner: Option<OwnerNo>,
         kind: TokenKind,

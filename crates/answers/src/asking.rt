@@ -11,6 +11,7 @@ use crate::halt::Halt;
 use crate::view::KnownClient;
 use authentication::{AuthFault, authenticate};
 use clients::{OwnerNo, Registry};
+use consent::ScopeSet;
 use messages::{ErrorName, Request};
 use params::{ParamFault, Params};
 use std::alloc::Global;
@@ -77,7 +78,7 @@ pub fn owner(rules: &Registry, request: &Request<'_>) -> Option<OwnerNo>
 }
 
 /// The scope that is asked for, and this one where none is. None: the text is no scope text (RFC 6749, section 3.3).
-pub fn scope(rules: &Registry, otherwise: u64, params: &Params) -> Option<u64>
+pub fn scope(rules: &Registry, otherwise: ScopeSet, params: &Params) -> Option<ScopeSet>
     ensures { result ≡ scope_asked rules.now otherwise params.now }
 {
     match params.get("scope") {
@@ -87,11 +88,11 @@ pub fn scope(rules: &Registry, otherwise: u64, params: &Params) -> Option<u64>
 }
 
 /// The scope that is asked for, which is within the limit, and the limit where none is asked for.
-pub fn scope_within(rules: &Registry, limit: u64, params: &Params) -> Option<u64>
+pub fn scope_within(rules: &Registry, limit: ScopeSet, params: &Params) -> Option<ScopeSet>
     ensures { result ≡ scope_within rules.now limit params.now }
 {
     let scope = scope(rules, limit, params)?;
-    if scope & limit == scope {
+    if scope.is_within(limit) {
         Some(scope)
     } else {
         None

@@ -9,7 +9,7 @@ ghost use Rattle.token_store.specs.Fits.{refusal};
 
 use crate::want::{Want, want_of};
 use clients::{Client, ClientNo, Registry};
-use consent::{Consents, Moment, OwnerNo};
+use consent::{Consents, Digest, Moment, OwnerNo, ScopeSet};
 use messages::Draws;
 use token_store::{Found, Store};
 
@@ -25,7 +25,7 @@ pub struct View<'a> {
 
 impl<'a> View<'a> {
     /// The unexpired code or token that the digest names.
-    pub fn at(&self, digest: &[u8; 32]) -> Option<Found<'a>>
+    pub fn at(&self, digest: &Digest) -> Option<Found<'a>>
         ensures value { Finds self.now digest.now result (λ history. grant_at history digest.now self.now.moment) }
         ensures found { (history : List Event) → Shows self.now history →
             IfSome result (IsFound history digest.now self.now.moment) }
@@ -34,28 +34,28 @@ impl<'a> View<'a> {
     }
 
     /// Whether codes or tokens of these digests may be given.
-    pub fn is_free(&self, digests: &[[u8; 32]]) -> bool
+    pub fn is_free(&self, digests: &[Digest]) -> bool
         ensures { (history : List Event) → Shows self.now history → result ≡ is_free history self.now.moment digests.now }
     {
         self.store.refusal(digests, self.moment).is_none()
     }
 
     /// What is wanting where codes or tokens of these digests may not be given.
-    pub fn want(&self, digests: &[[u8; 32]]) -> Want
+    pub fn want(&self, digests: &[Digest]) -> Want
         ensures { (history : List Event) → Shows self.now history →
             result ≡ want_of (refusal history self.now.moment digests.now) }
     {
         want_of(self.store.refusal(digests, self.moment))
     }
 
-    /// The scope that the owner, if there is one, consents to the client's having: one bit for each name.
-    pub fn consented(&self, owner: Option<OwnerNo>, client: ClientNo) -> u64
+    /// The scope that the owner, if there is one, consents to the client's having.
+    pub fn consented(&self, owner: Option<OwnerNo>, client: ClientNo) -> ScopeSet
         ensures { (history : List Event) → Shows self.now history →
             result ≡ consented_scope history (owner_number owner) client }
     {
         match owner {
             Some(owner) => self.consents.get(owner, client),
-            None => 0,
+            None => ScopeSet::empty(),
         }
     }
 }

@@ -18,7 +18,7 @@ ghost use Rattle.answers.specs.Short.{IsShortReply, IsShortAnswer, IsShortLive, 
 use crate::answer::Answer;
 use crate::halt::status_of;
 use clients::Registry;
-use consent::{ClientNo, OwnerNo};
+use consent::{ClientNo, OwnerNo, ScopeSet};
 use hook_host::{HookFault, HookHost};
 use http::StatusCode;
 use messages::{
@@ -32,7 +32,7 @@ fn access(
     alloc: Global,
     rules: &Registry,
     draw: &[u8; 32],
-    scope: u64,
+    scope: ScopeSet,
     life: u32,
 ) -> Result<Response, AllocError>
     ensures value { IfOk result (λ reply. reply ≡ in_writing (access_reply rules.now draw.now scope life)) }
@@ -47,7 +47,7 @@ fn both(
     alloc: Global,
     rules: &Registry,
     draws: &Draws,
-    scope: u64,
+    scope: ScopeSet,
     life: u32,
 ) -> Result<Response, AllocError>
     ensures value { IfOk result (λ reply. reply ≡ in_writing (both_reply rules.now draws.now scope life)) }
@@ -59,7 +59,7 @@ fn both(
     tokens(alloc, &token, life, Some(&refresh), &scope)
 }
 
-fn consented(alloc: Global, rules: &Registry, mask: u64) -> Result<Response, AllocError>
+fn consented(alloc: Global, rules: &Registry, mask: ScopeSet) -> Result<Response, AllocError>
     ensures value { IfOk result (λ reply. reply ≡ in_writing (plain 200 (Consent (scope_text rules.now.scopes mask)))) }
     ensures short { IfOk result IsShortReply }
 {

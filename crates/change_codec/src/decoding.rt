@@ -10,7 +10,9 @@ use crate::fault::{ChangeFault, DecodeFault};
 use crate::field::{
     counted_of, digest_of, moment_of, party_of, short_of, text_of, version_of, wide_of,
 };
-use consent::{Change, ClientNo, CodeFacts, Moment, NewToken, OwnerNo, TokenKind};
+use consent::{
+    Change, ClientNo, CodeFacts, Digest, Moment, NewToken, OwnerNo, ScopeSet, TokenKind,
+};
 use std::alloc::Global;
 
 #[tactic(auto, unfolding(crate::specs::Reading::token_kind_at))]
@@ -35,8 +37,8 @@ fn token_of(bytes: &[u8]) -> Result<(NewToken, &[u8]), DecodeFault>
     let (life, rest) = short_of(rest)?;
     let token = NewToken {
         kind,
-        digest,
-        scope,
+        digest: Digest::new(digest),
+        scope: ScopeSet::new(scope),
         life,
     };
     Ok((token, rest))
@@ -54,7 +56,7 @@ fn code_facts_of(bytes: &[u8]) -> Result<(CodeFacts, &[u8]), DecodeFault>
     let facts = CodeFacts {
         client: ClientNo::new(client),
         owner: OwnerNo::new(owner),
-        scope,
+        scope: ScopeSet::new(scope),
         redirect,
         challenge,
     };
@@ -71,7 +73,7 @@ fn consented_of(bytes: &[u8]) -> Result<(Change, &[u8]), DecodeFault>
     let change = Change::Consented {
         owner: OwnerNo::new(owner),
         client: ClientNo::new(client),
-        mask,
+        mask: ScopeSet::new(mask),
     };
     Ok((change, rest))
 }
@@ -83,6 +85,7 @@ fn code_given_of(bytes: &[u8]) -> Result<(Change, &[u8]), DecodeFault>
     match code_facts_of(bytes) {
         Ok((facts, rest)) => {
             let (digest, rest) = digest_of(rest)?;
+            let digest = Digest::new(digest);
             Ok((Change::CodeGiven { facts, digest }, rest))
         }
         Err(fault) => Err(fault),
@@ -94,9 +97,11 @@ fn issued_alone_of(bytes: &[u8]) -> Result<(Change, &[u8]), DecodeFault>
     ensures { GivesReading (λ x. (fact_of x.0, x.1.now)) result (issued_alone_at bytes.now) }
 {
     let (client, rest) = party_of(bytes)?;
-    let (token, rest) = token_of(rest)?;
     let client = ClientNo::new(client);
-    Ok((Change::IssuedAlone { client, token }, rest))
+    match token_of(rest) {
+        Ok((token, rest)) => Ok((Change::IssuedAlone { client, token }, rest)),
+        Err(fault) => Err(fault),
+    }
 }
 
 #[tactic(auto, unfolding(crate::specs::Reading::issued_at))]
@@ -104,8 +109,11 @@ fn issued_of(bytes: &[u8]) -> Result<(Change, &[u8]), DecodeFault>
     ensures { GivesReading (λ x. (fact_of x.0, x.1.now)) result (issued_at bytes.now) }
 {
     let (of, rest) = digest_of(bytes)?;
-    let (token, rest) = token_of(rest)?;
-    Ok((Change::Issued { of, token }, rest))
+    let of = Digest::new(of);
+    match token_of(rest) {
+        Ok((token, rest)) => Ok((Change::Issued { of, token }, rest)),
+        Err(fault) => Err(fault),
+    }
 }
 
 #[tactic(auto, unfolding(crate::specs::Reading::spent_at))]
@@ -113,6 +121,7 @@ fn spent_of(bytes: &[u8]) -> Result<(Change, &[u8]), DecodeFault>
     ensures { GivesReading (λ x. (fact_of x.0, x.1.now)) result (spent_at bytes.now) }
 {
     let (digest, rest) = digest_of(bytes)?;
+    let digest = Digest::new(digest);
     Ok((Change::Spent { digest }, rest))
 }
 
@@ -121,6 +130,7 @@ fn family_ended_of(bytes: &[u8]) -> Result<(Change, &[u8]), DecodeFault>
     ensures { GivesReading (λ x. (fact_of x.0, x.1.now)) result (family_ended_at bytes.now) }
 {
     let (of, rest) = digest_of(bytes)?;
+    let of = Digest::new(of);
     Ok((Change::FamilyEnded { of }, rest))
 }
 

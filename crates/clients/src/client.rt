@@ -22,7 +22,7 @@ use crate::scope::scope;
 use crate::secret::{Secrets, client_secrets};
 use crate::spot::{ClientSpot, Spot};
 use crate::text::identifier;
-use consent::ClientNo;
+use consent::{ClientNo, ScopeSet};
 use params::Catalogue;
 use serde_json::Value;
 use std::alloc::{AllocError, Global};
@@ -42,7 +42,7 @@ pub struct Client {
     id: String,
     secrets: Secrets,
     redirects: Vec<String>,
-    allowed: u64,
+    allowed: ScopeSet,
     grants: Grants,
 }
 
@@ -85,7 +85,7 @@ impl Client {
     }
 
     /// The mask of the scope names that the client may be allowed.
-    pub fn allowed(&self) -> u64
+    pub fn allowed(&self) -> ScopeSet
         ensures { result ≡ self.now.allowed }
     {
         self.allowed
@@ -215,7 +215,7 @@ fn redirects_member(alloc: Global, value: &Value) -> Result<Vec<String>, ConfigF
 }
 
 // The member `scope`.
-fn scope_member(catalogue: &Catalogue, value: &Value) -> Result<u64, ConfigFault>
+fn scope_member(catalogue: &Catalogue, value: &Value) -> Result<ScopeSet, ConfigFault>
     ensures { result ≡ scope_member catalogue.now (view value.now) }
 {
     scope(catalogue, member(value, "scope")?)

@@ -8,21 +8,23 @@ ghost use Rattle.clients.specs.Keys.{digest_in, written_digest, made_digest, key
 use crate::fault::ConfigFault;
 use crate::json::{member, text};
 use crate::text::key;
+use consent::Digest;
 use hex::FromHex;
 use serde_json::Value;
-use sha2::{Digest, Sha256};
+use sha2::{Digest as _, Sha256};
 
 // The digest of a key or a secret that was sent.
-pub(crate) fn digest_of(key: &[u8]) -> [u8; 32]
+pub(crate) fn digest_of(key: &[u8]) -> Digest
     ensures { result ≡ sha256 key.now }
 {
-    Sha256::digest(key)
+    Digest::new(Sha256::digest(key))
 }
 
 // Whether the digests are the same. All their bytes are compared, so that the time tells nothing of them.
-pub(crate) fn are_same(one: &[u8; 32], other: &[u8; 32]) -> bool
+pub(crate) fn are_same(one: &Digest, other: &Digest) -> bool
     ensures { result ≡ bytes_eq one.now other.now }
 {
+    let (one, other) = (one.bytes(), other.bytes());
     let mut same = true;
     for place in 0..32 {
         same &= one[place] == other[place];
@@ -31,31 +33,31 @@ pub(crate) fn are_same(one: &[u8; 32], other: &[u8; 32]) -> bool
 }
 
 // The 32 bytes of 64 hexadecimal digits, in either case.
-fn digest_in(text: &str) -> Result<[u8; 32], ConfigFault>
+fn digest_in(text: &str) -> Result<Digest, ConfigFault>
     ensures { result ≡ digest_in text.now }
 {
     match <[u8; 32] as FromHex>::from_hex(text) {
-        Ok(digest) => Ok(digest),
+        Ok(bytes) => Ok(Digest::new(bytes)),
         Err(_) => Err(ConfigFault::OutOfRange),
     }
 }
 
 // The digest in an object's member `sha256`.
-fn written_digest(value: &Value) -> Result<[u8; 32], ConfigFault>
+fn written_digest(value: &Value) -> Result<Digest, ConfigFault>
     ensures { result ≡ written_digest (view value.now) }
 {
     digest_in(text(member(value, "sha256")?)?)
 }
 
 // The digest of a string that is a key.
-fn made_digest(value: &Value) -> Result<[u8; 32], ConfigFault>
+fn made_digest(value: &Value) -> Result<Digest, ConfigFault>
     ensures { result ≡ made_digest (view value.now) }
 {
     Ok(digest_of(key(value)?.as_bytes()))
 }
 
 // The digest of a key or a secret: of the key itself, or as an object has it.
-pub(crate) fn key_digest(value: &Value) -> Result<[u8; 32], ConfigFault>
+pub(crate) fn key_digest(value: &Value) -> Result<Digest, ConfigFault>
     ensures { result ≡ key_digest (view value.now) }
 {
     if value.is_object() {

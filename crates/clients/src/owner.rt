@@ -13,7 +13,7 @@ ghost use Rattle.clients.specs.Spots.{owner_at_fault};
 use crate::digest::{are_same, digest_of, key_digest};
 use crate::fault::ConfigFault;
 use crate::text::key;
-use consent::OwnerNo;
+use consent::{Digest, OwnerNo};
 use serde_json::Value;
 use std::alloc::{AllocError, Global};
 use std::marker::Model;
@@ -21,7 +21,7 @@ use std::marker::Model;
 // An owner of what is protected (RFC 6749, section 1.1).
 #[derive(Drop)]
 pub(crate) struct Owner {
-    key: [u8; 32],
+    key: Digest,
     sub: Option<String>,
 }
 
@@ -40,7 +40,7 @@ impl Model for Owner {
 
 impl Owner {
     // Whether this is the digest of the owner's key.
-    fn has_key(&self, digest: &[u8; 32]) -> bool
+    fn has_key(&self, digest: &Digest) -> bool
         ensures { result ≡ bytes_eq digest.now self.now.key }
     {
         are_same(digest, &self.key)
@@ -87,7 +87,7 @@ impl Owners {
 
     // The number of the owner with this digest of a key. The digest is compared with that of each owner, whichever is
     // the right one.
-    fn number(&self, digest: &[u8; 32]) -> Option<OwnerNo>
+    fn number(&self, digest: &Digest) -> Option<OwnerNo>
         ensures value { result ≡ number_among digest.now (keys self.now) }
         ensures listed { IfSome result (λ number. number ≤ length self.now) }
     {
@@ -111,7 +111,7 @@ impl Owners {
     }
 
     // Whether this is the digest of an owner's key.
-    pub(crate) fn have_key(&self, digest: &[u8; 32]) -> bool
+    pub(crate) fn have_key(&self, digest: &Digest) -> bool
         ensures { result ≡ is_some (number_among digest.now (keys self.now)) }
     {
         self.number(digest).is_some()
@@ -158,7 +158,7 @@ fn key_in(value: &Value) -> &Value
 }
 
 // The digest of an owner's key, which none of the owners has.
-fn new_key(owners: &Owners, value: &Value) -> Result<[u8; 32], ConfigFault>
+fn new_key(owners: &Owners, value: &Value) -> Result<Digest, ConfigFault>
     ensures { result ≡ new_key owners.now (view value.now) }
 {
     let digest = key_digest(key_in(value))?;

@@ -19,7 +19,7 @@ use crate::json::{items, life, member};
 use crate::owner::{Owners, owner_at_fault, owner_list};
 use crate::scope::{scope_at_fault, scope_list};
 use crate::spot::Spot;
-use consent::{ClientNo, OwnerNo};
+use consent::{ClientNo, Digest, OwnerNo};
 use params::Catalogue;
 use serde_json::{Category, Value};
 use std::alloc::{AllocError, Global};
@@ -38,7 +38,7 @@ const MOST_CLIENTS: usize = 256;
 pub struct Registry {
     access_life: u32,
     refresh_life: u32,
-    operator: [u8; 32],
+    operator: Digest,
     owners: Owners,
     catalogue: Catalogue,
     clients: Clients,
@@ -220,7 +220,7 @@ fn life_member(value: &Value, name: &str) -> Result<u32, ConfigFault>
 }
 
 // The member `operator`.
-fn operator_member(value: &Value) -> Result<[u8; 32], ConfigFault>
+fn operator_member(value: &Value) -> Result<Digest, ConfigFault>
     ensures { result ≡ operator_member (view value.now) }
 {
     key_digest(member(value, "operator")?)

@@ -8,6 +8,7 @@ ghost use Rattle.clients.specs.Spots.{scope_name_after, scope_at_fault};
 
 use crate::fault::ConfigFault;
 use crate::json::text;
+use consent::ScopeSet;
 use params::Catalogue;
 use serde_json::Value;
 use std::alloc::{AllocError, Global};
@@ -49,7 +50,7 @@ fn push_name(catalogue: &mut Catalogue, value: &Value) -> Result<(), ConfigFault
 }
 
 // The mask of a scope text.
-pub(crate) fn scope(catalogue: &Catalogue, value: &Value) -> Result<u64, ConfigFault>
+pub(crate) fn scope(catalogue: &Catalogue, value: &Value) -> Result<ScopeSet, ConfigFault>
     ensures { result ≡ scope_of catalogue.now (view value.now) }
 {
     catalogue

@@ -7,6 +7,7 @@ ghost use Rattle.clients.specs.Clients.{one_or_two, secrets_of};
 
 use crate::digest::{are_same, key_digest};
 use crate::fault::ConfigFault;
+use consent::Digest;
 use serde_json::Value;
 use std::marker::Model;
 use std::slice;
@@ -14,8 +15,8 @@ use std::slice;
 // The digests of a client's secrets.
 #[derive(Drop)]
 pub(crate) struct Secrets {
-    first: [u8; 32],
-    second: Option<[u8; 32]>,
+    first: Digest,
+    second: Option<Digest>,
 }
 
 impl Model for Secrets {
@@ -28,7 +29,7 @@ impl Model for Secrets {
 
 impl Secrets {
     // Whether this is the digest of one of the secrets. It is compared with each.
-    pub(crate) fn has(&self, digest: &[u8; 32]) -> bool
+    pub(crate) fn has(&self, digest: &Digest) -> bool
         ensures { result ≡ list_any (bytes_eq digest.now) self.now }
     {
         let is_second = match &self.second {

@@ -11,6 +11,7 @@ use crate::kept_consent::{KeptConsent, ListFault};
 use crate::limits::CONSENT_LIMIT;
 use crate::numbers::{ClientNo, OwnerNo};
 use crate::parties::Parties;
+use crate::scope::ScopeSet;
 use std::alloc::{AllocError, Global};
 use std::collections::HashMap;
 use std::fmt::{self, Display, Formatter, Write};
@@ -39,7 +40,7 @@ impl Display for ConsentFault {
 /// The scopes that owners last consented to clients' having, without the empty ones.
 #[derive(Drop)]
 pub struct Consents {
-    masks: HashMap<Parties, u64>,
+    masks: HashMap<Parties, ScopeSet>,
 }
 
 impl Model for Consents {
@@ -63,25 +64,25 @@ impl Consents {
         }
     }
 
-    /// The scope that the owner last consented to the client's having: one bit for each name, none
-    /// where there is no consent.
-    pub fn get(&self, owner: OwnerNo, client: ClientNo) -> u64
+    /// The scope that the owner last consented to the client's having: the empty one where
+    /// there is no consent.
+    pub fn get(&self, owner: OwnerNo, client: ClientNo) -> ScopeSet
         ensures { (history : List Event) → FitsConsents self.now history →
             result ≡ consented_scope history owner client }
     {
         self.masks
             .get(&Parties { owner, client })
             .copied()
-            .unwrap_or(0)
+            .unwrap_or(ScopeSet::empty())
     }
 
     /// Whether a consent to that scope is not one too many: there are fewer than `CONSENT_LIMIT`, or it
     /// takes the place of another one, or it is to nothing.
-    pub fn has_room(&self, owner: OwnerNo, client: ClientNo, mask: u64) -> bool
+    pub fn has_room(&self, owner: OwnerNo, client: ClientNo, mask: ScopeSet) -> bool
         ensures { (history : List Event) → FitsConsents self.now history →
             result ≡ has_consent_room history owner client mask }
     {
-        mask == 0
+        mask.is_empty()
             || self.masks.contains_key(&Parties { owner, client })
             || self.masks.len() < CONSENT_LIMIT
     }
@@ -103,7 +104,7 @@ impl Consents {
 
     /// Sets the scope that the owner consents to the client's having. The empty one takes the consent
     /// away.
-    pub fn put(&mut self, owner: OwnerNo, client: ClientNo, mask: u64)
+    pub fn put(&mut self, owner: OwnerNo, client: ClientNo, mask: ScopeSet)
         requires room { 1 ≤ self.old.room }
         ensures fits { (history : List Event) (moment : ℕ) → FitsConsents self.old history →
             FitsConsents self.new (with_change history moment (Consented owner client mask)) }
@@ -112,7 +113,7 @@ impl Consents {
         // No owner has number 0, which stands for none.
         let _ = owner.get();
         let parties = Parties { owner, client };
-        if mask == 0 {
+        if mask.is_empty() {
             let _ = self.masks.remove(&parties);
         } else {
             let put: Result<_, _> = self.masks.insert(parties, mask);
@@ -122,7 +123,12 @@ impl Consents {
 
     /// Sets the scope that the owner consents to the client's having. The empty one takes the
     /// consent away, and is never refused.
-    pub fn set(&mut self, owner: OwnerNo, client: ClientNo, mask: u64) -> Result<(), ConsentFault>
+    pub fn set(
+        &mut self,
+        owner: OwnerNo,
+        client: ClientNo,
+        mask: ScopeSet,
+    ) -> Result<(), ConsentFault>
         ensures fits { OnOk result ((history : List Event) (moment : ℕ) → FitsConsents self.old history →
             FitsConsents self.new (with_change history moment (Consented owner client mask))) }
         // Full comes before Memory.

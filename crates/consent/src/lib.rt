@@ -4,6 +4,7 @@
 
 mod change;
 mod consents;
+mod digest;
 mod grant;
 mod kept_consent;
 mod limits;
@@ -14,10 +15,11 @@ mod scope;
 
 pub use change::{Change, Changes, CodeFacts, NewToken};
 pub use consents::{ConsentFault, Consents};
+pub use digest::Digest;
 pub use grant::{Kind, TokenKind};
 pub use kept_consent::{KeptConsent, ListFault};
 pub use limits::{CODE_LIFE, CONSENT_LIMIT, RECORD_LIMIT, limits_are_the_defined_ones};
 pub use numbers::{ClientNo, Moment, OwnerNo};
 pub use parties::Parties;
 pub use record_version::RecordVersion;
-pub use scope::is_within;
+pub use scope::ScopeSet;

@@ -5,6 +5,7 @@ ghost use Rattle.params.specs.FaultTexts.{catalogue_fault_text};
 ghost use Rattle.params.specs.Limits.{scope_text_limit};
 ghost use Rattle.params.specs.Scope.{IsNameRefusal, IsReadBack, name_fault, scope_mask, scope_text, text_with_name, place_among, is_among, is_scope_token, is_scope_character};
 
+use consent::ScopeSet;
 use std::alloc::{AllocError, AllocFailed, Global};
 use std::fmt;
 use std::marker::Model;
@@ -111,7 +112,7 @@ impl Catalogue {
 
     /// The set that a scope text stands for: tokens of the catalogue with one space between two, in any order, where
     /// a token may stand twice (RFC 6749, section 3.3). `None` for any other text, the empty one too.
-    pub fn scope_mask(&self, text: &str) -> Option<u64>
+    pub fn scope_mask(&self, text: &str) -> Option<ScopeSet>
         ensures mask { result ≡ scope_mask self.now text.now }
         ensures within { IfSome result (λ mask. (0 < mask) × (mask < 2 ^ length self.now)) }
     {
@@ -119,19 +120,19 @@ impl Catalogue {
         for token in text.split(' ') {
             mask |= 1 << place_among(&self.names, token)?;
         }
-        Some(mask)
+        Some(ScopeSet::new(mask))
     }
 
     /// The one written text of a set: its names in catalogue order, one space between two (RFC 6749, section 3.3).
     /// Bits past the catalogue stand for nothing, and the empty set has the empty text, which takes no memory.
-    pub fn scope_text(&self, alloc: Global, mask: u64) -> Result<String, AllocError>
+    pub fn scope_text(&self, alloc: Global, mask: ScopeSet) -> Result<String, AllocError>
         ensures text { IfOk result (λ text. string_bytes text ≡ scope_text self.now mask) }
         ensures read_back { IfOk result (λ text. IsReadBack self.now mask (string_bytes text)) }
         ensures short { IfOk result (λ text. length (string_bytes text) ≤ scope_text_limit) }
         ensures err { IfErr result (λ _. 0 < length (scope_text self.now mask)) }
     {
         let mut text = String::new(alloc);
-        let mut left = mask;
+        let mut left = mask.bits();
         for name in &self.names {
             if left % 2 == 1 {
                 append_name(&mut text, name)?;

@@ -4,7 +4,8 @@ ghost use Rattle.sha2.specs.Sha256.{sha256};
 ghost use Rattle.pkce.specs.Token.{token_text, token_bytes};
 
 use base64::engine::general_purpose::URL_SAFE_NO_PAD;
-use sha2::{Digest, Sha256};
+use consent::Digest;
+use sha2::{Digest as _, Sha256};
 use std::alloc::{AllocError, Global};
 
 /// The one text of the 32 bytes of a code or a token: base64url without padding (RFC 4648, section 5).
@@ -24,10 +25,10 @@ pub fn read_token(text: &str) -> Option<[u8; 32]>
 }
 
 /// The SHA-256 of the 32 bytes of a code or a token.
-pub fn digest_of(bytes: &[u8; 32]) -> [u8; 32]
+pub fn digest_of(bytes: &[u8; 32]) -> Digest
     ensures { result ≡ sha256 bytes.now }
 {
-    Sha256::digest(bytes)
+    Digest::new(Sha256::digest(bytes))
 }
 
 // `read_token` at bytes. The decoder takes no text whose last character has other unused bits.

@@ -10,14 +10,14 @@ ghost use Rattle.token_endpoint.specs.Parts.{granted_by};
 use crate::granting::{Wish, access_token, ask_for};
 use answers::{Answer, Decision, Halt, KnownClient, View, scope_within};
 use clients::ClientNo;
-use consent::{Change, Changes};
+use consent::{Change, Changes, ScopeSet};
 use hook_host::{HookHost, decided};
 use hook_record::{Kind, Narrowed};
 use messages::ErrorName;
 use params::Params;
 
 // An access token of the client's own, in a family of its own.
-fn issue_own<'c>(view: &View<'_>, client: ClientNo, scope: u64, life: u32) -> Decision<'c>
+fn issue_own<'c>(view: &View<'_>, client: ClientNo, scope: ScopeSet, life: u32) -> Decision<'c>
     ensures decides { DecidesBy view.now (Ok result) (λ s. granted s client (record { scope = scope; life = life })) }
     ensures short { IsShortAnswer result.answer }
 {
@@ -44,7 +44,9 @@ fn granted<'c>(view: &View<'_>, client: ClientNo, left: Narrowed) -> Result<Deci
     match left {
         Narrowed::Denied => Ok(Decision::denied(ErrorName::UnauthorizedClient)),
         Narrowed::EmptyScope => Err(Halt::Refuse(ErrorName::InvalidScope)),
-        Narrowed::Allowed { scope, life } => Ok(issue_own(view, client, scope, life)),
+        Narrowed::Allowed { scope, life } => {
+            Ok(issue_own(view, client, ScopeSet::new(scope), life))
+        }
     }
 }
 

@@ -13,7 +13,7 @@ ghost use Rattle.token_endpoint.specs.Parts.{exchange_at, exchanged_by};
 use crate::granting::{Wish, access_for, ask_for, both_for, ending};
 use answers::{Answer, Decision, Halt, KnownClient, View, digest_told};
 use clients::{ClientNo, GrantType};
-use consent::{Change, Changes, Kind};
+use consent::{Change, Changes, Digest, Kind, ScopeSet};
 use hook_host::{HookHost, decided};
 use hook_record::Narrowed;
 use messages::ErrorName;
@@ -24,13 +24,13 @@ use token_store::Found;
 /// What is sent for a code: its digest, the redirect URI and the code verifier.
 #[derive(Clone, Copy)]
 pub(crate) struct Presented<'a> {
-    pub(crate) digest: [u8; 32],
+    pub(crate) digest: Digest,
     pub(crate) uri: &'a str,
     pub(crate) verifier: &'a str,
 }
 
 // The unexpired code of the digest, spent or not, which is the client's.
-fn own_code<'a>(view: &View<'a>, client: ClientNo, digest: &[u8; 32]) -> Option<Found<'a>>
+fn own_code<'a>(view: &View<'a>, client: ClientNo, digest: &Digest) -> Option<Found<'a>>
     ensures value { Finds view.now digest.now result (λ history. code_of_client history view.now.moment client digest.now) }
     ensures found { (history : List Event) → Shows view.now history →
         IfSome result (IsFound history digest.now view.now.moment) }
@@ -49,7 +49,7 @@ fn own_code<'a>(view: &View<'a>, client: ClientNo, digest: &[u8; 32]) -> Option<
 }
 
 // The host leaves nothing, and the code is spent.
-fn spending<'c>(error: ErrorName, digest: &[u8; 32]) -> Decision<'c>
+fn spending<'c>(error: ErrorName, digest: &Digest) -> Decision<'c>
     ensures { result ≡ record { answer = Answer.Failure error; changes = Changes.One (Change.Spent digest.now) } }
 {
     Decision {
@@ -59,7 +59,7 @@ fn spending<'c>(error: ErrorName, digest: &[u8; 32]) -> Decision<'c>
 }
 
 // The host denies the grant, and the code is spent.
-fn denying<'c>(error: ErrorName, digest: &[u8; 32]) -> Decision<'c>
+fn denying<'c>(error: ErrorName, digest: &Digest) -> Decision<'c>
     ensures { result ≡ record { answer = Answer.Denied error; changes = Changes.One (Change.Spent digest.now) } }
 {
     Decision {
@@ -73,7 +73,7 @@ fn denying<'c>(error: ErrorName, digest: &[u8; 32]) -> Decision<'c>
 fn exchanged<'c>(
     view: &View<'_>,
     known: &KnownClient<'_>,
-    digest: &[u8; 32],
+    digest: &Digest,
     code: &Found<'_>,
     left: Narrowed,
 ) -> Decision<'c>
@@ -84,6 +84,7 @@ fn exchanged<'c>(
         Narrowed::Denied => denying(ErrorName::InvalidGrant, digest),
         Narrowed::EmptyScope => spending(ErrorName::InvalidScope, digest),
         Narrowed::Allowed { scope, life } => {
+            let scope = ScopeSet::new(scope);
             if known.client.has_grant(GrantType::RefreshToken) {
                 both_for(view, digest, code, scope, life, scope)
             } else {

@@ -10,7 +10,7 @@ ghost use Rattle.token_endpoint.specs.Issuing.{access_token, refresh_token};
 ghost use Rattle.token_endpoint.specs.Parts.{wished};
 
 use answers::{Answer, Decision, KnownClient, View};
-use consent::{Change, Changes, NewToken, OwnerNo, TokenKind};
+use consent::{Change, Changes, Digest, NewToken, OwnerNo, ScopeSet, TokenKind};
 use hook_record::{Ask, Kind};
 use messages::ErrorName;
 use pkce::digest_of;
@@ -21,7 +21,7 @@ use token_store::Found;
 pub(crate) struct Wish {
     pub(crate) kind: Kind,
     pub(crate) owner: Option<OwnerNo>,
-    pub(crate) scope: u64,
+    pub(crate) scope: ScopeSet,
 }
 
 // The ask of a grant to the client.
@@ -38,18 +38,18 @@ pub(crate) fn ask_for(view: &View<'_>, known: &KnownClient<'_>, wish: Wish) -> A
         now: view.moment.get(),
         client: u64::from(known.number.get()),
         owner,
-        asked: wish.scope,
-        scope: wish.scope,
+        asked: wish.scope.bits(),
+        scope: wish.scope.bits(),
         life: view.rules.access_life(),
-        allowed: known.client.allowed(),
-        consented: view.consented(wish.owner, known.number),
+        allowed: known.client.allowed().bits(),
+        consented: view.consented(wish.owner, known.number).bits(),
         access_limit: view.rules.access_life(),
         refresh_limit: view.rules.refresh_life(),
     }
 }
 
 // The access token of the first draw.
-pub(crate) fn access_token(view: &View<'_>, scope: u64, life: u32) -> NewToken
+pub(crate) fn access_token(view: &View<'_>, scope: ScopeSet, life: u32) -> NewToken
     ensures { result ≡ access_token view.now.draws.now scope life }
 {
     NewToken {
@@ -61,7 +61,7 @@ pub(crate) fn access_token(view: &View<'_>, scope: u64, life: u32) -> NewToken
 }
 
 // The refresh token of the second draw.
-fn refresh_token(view: &View<'_>, scope: u64) -> NewToken
+fn refresh_token(view: &View<'_>, scope: ScopeSet) -> NewToken
     ensures { result ≡ refresh_token view.now.rules.now view.now.draws.now scope }
 {
     NewToken {
@@ -73,7 +73,7 @@ fn refresh_token(view: &View<'_>, scope: u64) -> NewToken
 }
 
 // invalid_grant, with which the family of what the digest names ends.
-pub(crate) fn ending<'c>(of: [u8; 32]) -> Decision<'c>
+pub(crate) fn ending<'c>(of: Digest) -> Decision<'c>
     ensures { result ≡ record { answer = Answer.Failure ErrorName.InvalidGrant; changes = Changes.One (Change.FamilyEnded of) } }
 {
     Decision {
@@ -85,9 +85,9 @@ pub(crate) fn ending<'c>(of: [u8; 32]) -> Decision<'c>
 // An access token in the family of what is used up, which is spent.
 pub(crate) fn access_for<'c>(
     view: &View<'_>,
-    digest: &[u8; 32],
+    digest: &Digest,
     used: &Found<'_>,
-    scope: u64,
+    scope: ScopeSet,
     life: u32,
 ) -> Decision<'c>
     ensures decides { DecidesOf view.now digest.now used.now (Ok result)
@@ -114,11 +114,11 @@ pub(crate) fn access_for<'c>(
 #[tactic(auto, using(crate::proofs::Meaning::both_meant))]
 pub(crate) fn both_for<'c>(
     view: &View<'_>,
-    digest: &[u8; 32],
+    digest: &Digest,
     used: &Found<'_>,
-    scope: u64,
+    scope: ScopeSet,
     life: u32,
-    kept: u64,
+    kept: ScopeSet,
 ) -> Decision<'c>
     ensures decides { DecidesOf view.now digest.now used.now (Ok result)
         (λ s used. both_for s used (record { scope = scope; life = life }) kept) }

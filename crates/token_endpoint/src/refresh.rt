@@ -13,7 +13,7 @@ ghost use Rattle.token_endpoint.specs.Refresh.{refresh};
 use crate::granting::{Wish, ask_for, both_for, ending};
 use answers::{Decision, Halt, KnownClient, View, digest_told, scope_within};
 use clients::ClientNo;
-use consent::{Kind, TokenKind};
+use consent::{Digest, Kind, ScopeSet, TokenKind};
 use hook_host::{HookHost, decided};
 use hook_record::Narrowed;
 use messages::ErrorName;
@@ -21,7 +21,7 @@ use params::Params;
 use token_store::Found;
 
 // The unexpired refresh token of the digest, spent or not, which is the client's.
-fn own_token<'a>(view: &View<'a>, client: ClientNo, digest: &[u8; 32]) -> Option<Found<'a>>
+fn own_token<'a>(view: &View<'a>, client: ClientNo, digest: &Digest) -> Option<Found<'a>>
     ensures value { Finds view.now digest.now result (λ history. refresh_of_client history view.now.moment client digest.now) }
     ensures found { (history : List Event) → Shows view.now history →
         IfSome result (IsFound history digest.now view.now.moment) }
@@ -42,7 +42,7 @@ fn own_token<'a>(view: &View<'a>, client: ClientNo, digest: &[u8; 32]) -> Option
 // What the host leaves is issued, and the token is spent; a refused token stays unspent.
 fn refreshed<'c>(
     view: &View<'_>,
-    digest: &[u8; 32],
+    digest: &Digest,
     token: &Found<'_>,
     left: Narrowed,
 ) -> Result<Decision<'c>, Halt>
@@ -53,6 +53,7 @@ fn refreshed<'c>(
         Narrowed::Denied => Ok(Decision::denied(ErrorName::InvalidGrant)),
         Narrowed::EmptyScope => Err(Halt::Refuse(ErrorName::InvalidScope)),
         Narrowed::Allowed { scope, life } => {
+            let scope = ScopeSet::new(scope);
             Ok(both_for(view, digest, token, scope, life, token.scope))
         }
     }

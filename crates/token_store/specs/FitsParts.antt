@@ -1,6 +1,6 @@
 -- Beside Fits: only the contracts of this crate's own parts and their proofs cite this, no public clause.
 use Rattle.std.specs.Prelude.{◌≡◌, ℕ, List, Some, if◌then◌else◌, ◌==◌}
-use Rattle.consent.specs.History.{Event, Grant, grant_at, is_named}
+use Rattle.consent.specs.History.{Event, Grant, grant_at}
 
 -- the numbers of the families, with that of one more
 abbrev pub with_family_number : (ℕ → ℕ) → ℕ → ℕ → ℕ → ℕ

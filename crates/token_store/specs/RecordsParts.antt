@@ -10,7 +10,6 @@ use Rattle.consent.specs.declared.grant.Kind.TheVariants as kind
 use Rattle.consent.specs.Limits.{code_life}
 use Rattle.consent.specs.History.{is_named, is_beyond, is_within}
 use Rattle.consent.specs.History.Change.{Consented}
-use Rattle.token_store.specs.declared.record.Given.TheVariants.{Code, Token}
 use Rattle.token_store.specs.declared.record.Record.{Record}
 use Rattle.token_store.specs.declared.record.Shared.{Shared}
 use Rattle.token_store.specs.declared.tables.Tables.{Tables}

@@ -1,6 +1,5 @@
 -- Beside Room: only the contracts of this crate's own parts and their proofs cite this, no public clause.
 use Rattle.std.specs.Prelude.{ℕ, List, Option}
-use Rattle.std.specs.HashMap.{spare}
 use Rattle.consent.specs.declared.change.Change.{Change}
 use Rattle.consent.specs.declared.change.Change.TheVariants.{CodeGiven, IssuedAlone}
 use Rattle.token_store.specs.declared.record.Shared.{Shared}

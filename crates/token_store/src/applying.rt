@@ -10,11 +10,11 @@ ghost use Rattle.token_store.specs.RoomParts.{HasRoomFirst};
 
 use crate::record::{Record, Shared};
 use crate::tables::{Coming, Tables, renew};
-use consent::{Change, Changes, ClientNo, CodeFacts, Moment, NewToken};
+use consent::{Change, Changes, ClientNo, CodeFacts, Digest, Moment, NewToken};
 
 impl Tables {
     // Gives a code.
-    fn give_code(&mut self, facts: &CodeFacts<'_>, digest: &[u8; 32], moment: Moment)
+    fn give_code(&mut self, facts: &CodeFacts<'_>, digest: &Digest, moment: Moment)
         requires tied { IsTied self.old [] }
         requires room { HasRoomFirst (room_of self.old) (Change.CodeGiven facts.now digest.now) }
         ensures tied { IsTied self.new [] }
@@ -51,7 +51,7 @@ impl Tables {
     }
 
     // Issues a token in the family of what has the digest.
-    fn issue_with(&mut self, of: &[u8; 32], token: &NewToken, moment: Moment)
+    fn issue_with(&mut self, of: &Digest, token: &NewToken, moment: Moment)
         requires tied { IsTied self.old [] }
         requires room { HasSpare (room_of self.old) 1 }
         ensures tied { IsTied self.new [] }
@@ -68,7 +68,7 @@ impl Tables {
     }
 
     // Marks what has the digest as spent.
-    fn spend_at(&mut self, digest: &[u8; 32], moment: Moment)
+    fn spend_at(&mut self, digest: &Digest, moment: Moment)
         requires tied { IsTied self.old [] }
         ensures tied { IsTied self.new [] }
         ensures fits { (history : List Event) → FitsHistory (kept_of self.old) history moment →
@@ -81,7 +81,7 @@ impl Tables {
     }
 
     // Ends the family of what has the digest.
-    fn end_at(&mut self, of: &[u8; 32], moment: Moment)
+    fn end_at(&mut self, of: &Digest, moment: Moment)
         requires tied { IsTied self.old [] }
         ensures tied { IsTied self.new [] }
         ensures fits { (history : List Event) (g : Grant) → FitsHistory (kept_of self.old) history moment → grant_at history of.now moment ≡ Some g →

@@ -1,6 +1,6 @@
 //! What the store answers of a code or token.
 
-use consent::{ClientNo, Kind, Moment, OwnerNo};
+use consent::{ClientNo, Kind, Moment, OwnerNo, ScopeSet};
 
 /// A code or token that has not expired. The texts are a code's, and empty for a token.
 #[derive(Clone, Copy)]
@@ -9,8 +9,7 @@ pub struct Found<'a> {
     pub client: ClientNo,
     /// `None` where it is the client's own.
     pub owner: Option<OwnerNo>,
-    /// One bit for each name.
-    pub scope: u64,
+    pub scope: ScopeSet,
     /// When it was given.
     pub moment: Moment,
     /// For how many seconds from then on it is good.

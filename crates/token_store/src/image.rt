@@ -6,7 +6,7 @@ ghost use Rattle.token_store.specs.ImageParts.{AgreesWithRecord, is_unexpired_re
 ghost use Rattle.token_store.specs.Records.{kept_under};
 
 use crate::record::{CodeTexts, Given, Record, Shared};
-use consent::{ClientNo, Moment, OwnerNo, TokenKind};
+use consent::{ClientNo, Digest, Moment, OwnerNo, ScopeSet, TokenKind};
 use std::alloc::{AllocError, Global};
 
 /// What was given.
@@ -23,18 +23,18 @@ pub enum KeptKind<'a> {
 /// A code or token as a store keeps it, with what it shares with its family.
 #[derive(Clone, Copy)]
 pub struct KeptRecord<'a> {
-    pub digest: [u8; 32],
+    pub digest: Digest,
     pub kind: KeptKind<'a>,
     /// One number for each family, and no two with the same.
     pub family: u64,
     pub client: ClientNo,
     /// 0 where the family is the client's own.
     pub owner: u32,
-    pub scope: u64,
+    pub scope: ScopeSet,
     pub moment: Moment,
     pub life: u32,
     /// The scope of the family's code, if one opened it.
-    pub code_scope: Option<u64>,
+    pub code_scope: Option<ScopeSet>,
     pub spent: bool,
     pub ended: bool,
 }
@@ -104,7 +104,7 @@ impl KeptRecord<'_> {
 
 impl Record {
     // What the record is under the digest, with what its family shares.
-    pub(crate) fn kept(&self, digest: &[u8; 32], shared: &Shared) -> KeptRecord<'_>
+    pub(crate) fn kept(&self, digest: &Digest, shared: &Shared) -> KeptRecord<'_>
         ensures { kept_record result ≡ kept_under shared.now digest.now self.now }
     {
         let kind = match &self.given {

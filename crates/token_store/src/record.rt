@@ -5,7 +5,9 @@ ghost use Rattle.token_store.specs.Records.{kept_under, code_shared, own_shared,
 ghost use Rattle.token_store.specs.RecordsParts.{is_live_at, family_place, code_kept, token_kept, owner_no};
 
 use crate::found::Found;
-use consent::{CODE_LIFE, ClientNo, CodeFacts, Kind, Moment, NewToken, OwnerNo, TokenKind};
+use consent::{
+    CODE_LIFE, ClientNo, CodeFacts, Kind, Moment, NewToken, OwnerNo, ScopeSet, TokenKind,
+};
 use std::alloc::{AllocError, Global};
 
 /// What an authorization code has and a token has not.
@@ -28,7 +30,7 @@ pub(crate) enum Given {
 pub(crate) struct Record {
     pub(crate) given: Given,
     pub(crate) family: usize,
-    pub(crate) scope: u64,
+    pub(crate) scope: ScopeSet,
     pub(crate) moment: Moment,
     pub(crate) life: u32,
     pub(crate) spent: bool,
@@ -41,7 +43,7 @@ pub(crate) struct Shared {
     /// 0 where the family is the client's own.
     pub(crate) owner: u32,
     /// The scope of the family's code, if one opened it.
-    pub(crate) code_scope: Option<u64>,
+    pub(crate) code_scope: Option<ScopeSet>,
     pub(crate) ended: bool,
     /// How many records are of the family.
     pub(crate) count: usize,

@@ -14,7 +14,7 @@ ghost use Rattle.token_store.specs.Homes.{AreHomes, HasHome, AllHome, HasGrown, 
 use crate::image::KeptRecord;
 use crate::record::Record;
 use crate::tables::{Tables, enter};
-use consent::Moment;
+use consent::{Digest, Moment};
 use std::alloc::{AllocError, Global};
 use std::collections::HashMap;
 
@@ -33,7 +33,7 @@ pub enum RestoreFault {
 
 impl Tables {
     // Keeps a record under a digest that nothing is kept under.
-    fn put_new(&mut self, digest: &[u8; 32], new: Record) -> Result<(), AllocError>
+    fn put_new(&mut self, digest: &Digest, new: Record) -> Result<(), AllocError>
         requires tied { IsTied self.old [] }
         requires open { is_some (slice_index_or self.old.families.slots new.family None) ≡ true }
         requires absent { lookup (bytes_eq digest.now) self.old.records.entries ≡ None }

@@ -10,7 +10,7 @@ use crate::found::Found;
 use crate::image::KeptRecord;
 use crate::restoring::RestoreFault;
 use crate::tables::Tables;
-use consent::{Changes, Moment};
+use consent::{Changes, Digest, Moment};
 use std::alloc::{AllocError, Global};
 use std::marker::Model;
 
@@ -79,7 +79,7 @@ impl Store {
     }
 
     /// What the digest names, if it is unexpired.
-    pub fn at(&self, digest: &[u8; 32], moment: Moment) -> Option<Found<'_>>
+    pub fn at(&self, digest: &Digest, moment: Moment) -> Option<Found<'_>>
         ensures { (history : List Event) → FitsStore self.now history moment →
             option_map found_seen result ≡ seen_at history digest.now moment }
     {
@@ -88,7 +88,7 @@ impl Store {
     }
 
     /// Why codes or tokens of these digests may not be given. Full comes before DrawTaken.
-    pub fn refusal(&self, digests: &[[u8; 32]], moment: Moment) -> Option<StoreFault>
+    pub fn refusal(&self, digests: &[Digest], moment: Moment) -> Option<StoreFault>
         ensures { (history : List Event) → FitsStore self.now history moment →
             result ≡ refusal history moment digests.now }
     {

@@ -16,7 +16,7 @@ ghost use Rattle.token_store.specs.RecordsParts.{is_live_at, IsNextOwned, start_
 
 use crate::fault::StoreFault;
 use crate::record::{CodeTexts, Record, Shared};
-use consent::{ClientNo, Moment, OwnerNo, RECORD_LIMIT, is_within};
+use consent::{ClientNo, Digest, Moment, OwnerNo, RECORD_LIMIT, ScopeSet};
 use slab::Slab;
 use std::alloc::{AllocError, Global};
 use std::collections::{BTreeSet, HashMap};
@@ -32,7 +32,7 @@ pub(crate) struct Coming {
 
 #[derive(Drop)]
 pub(crate) struct Tables {
-    pub(crate) records: HashMap<[u8; 32], Record>,
+    pub(crate) records: HashMap<Digest, Record>,
     /// None of the records expires before this.
     pub(crate) earliest: u64,
     pub(crate) families: Slab<Shared>,
@@ -65,7 +65,7 @@ impl Tables {
 
     /// The unexpired record of the digest.
     #[tactic(auto, using(crate::proofs::Looking::found))]
-    pub(crate) fn record_at(&self, digest: &[u8; 32], moment: Moment) -> Option<&Record>
+    pub(crate) fn record_at(&self, digest: &Digest, moment: Moment) -> Option<&Record>
         requires { IsDistinct bytes_eq (keys_of self.now.records.entries) }
         ensures { option_map (λ r. kept_in self.now.families.slots (digest.now, r)) (option_copied result)
             ≡ kept_at (kept_of self.now) digest.now moment }
@@ -78,7 +78,7 @@ impl Tables {
     }
 
     /// The unexpired record of the digest, and what its family shares.
-    pub(crate) fn at(&self, digest: &[u8; 32], moment: Moment) -> Option<(&Record, &Shared)>
+    pub(crate) fn at(&self, digest: &Digest, moment: Moment) -> Option<(&Record, &Shared)>
         requires { IsTied self.now [] }
         ensures { option_map (λ p. kept_under p.1.now digest.now p.0.now) result ≡ kept_at (kept_of self.now) digest.now moment }
     {
@@ -119,7 +119,7 @@ impl Tables {
     }
 
     // One of the digests is that of an unexpired record, or of another of them.
-    fn is_taken(&self, digests: &[[u8; 32]], moment: Moment) -> bool
+    fn is_taken(&self, digests: &[Digest], moment: Moment) -> bool
         requires { IsDistinct bytes_eq (keys_of self.now.records.entries) }
         ensures { result ≡ are_taken (λ d. is_some (kept_at (kept_of self.now) d moment)) digests.now }
     {
@@ -136,7 +136,7 @@ impl Tables {
     }
 
     /// Why codes or tokens of these digests may not be given.
-    pub(crate) fn refusal(&self, digests: &[[u8; 32]], moment: Moment) -> Option<StoreFault>
+    pub(crate) fn refusal(&self, digests: &[Digest], moment: Moment) -> Option<StoreFault>
         requires { IsTied self.now [] }
         ensures { result ≡ refusal_by (nat_le (kept_unexpired (kept_of self.now) moment + length digests.now) record_limit)
             (are_taken (λ d. is_some (kept_at (kept_of self.now) d moment)) digests.now) }
@@ -177,7 +177,7 @@ impl Tables {
     }
 
     /// Ends each family of the two whose code's scope is not within the mask.
-    pub(crate) fn lower(&mut self, owner: OwnerNo, client: ClientNo, mask: u64)
+    pub(crate) fn lower(&mut self, owner: OwnerNo, client: ClientNo, mask: ScopeSet)
         requires { IsTied self.old [] }
         ensures tied { IsTied self.new [] }
         ensures marked { kept_of self.new ≡ map (marked (RecordMark.Lowered owner client mask)) (kept_of self.old) }
@@ -193,7 +193,7 @@ impl Tables {
     }
 
     /// Marks the record of the digest as spent.
-    pub(crate) fn spend(&mut self, digest: &[u8; 32])
+    pub(crate) fn spend(&mut self, digest: &Digest)
         requires { IsTied self.old [] }
         ensures tied { IsTied self.new [] }
         ensures marked { (moment : ℕ) → is_some (kept_at (kept_of self.old) digest.now moment) ≡ true →
@@ -216,7 +216,8 @@ impl Tables {
     {
         self.families.reserve(1)?;
         let number = self.families.vacant_key();
-        add_owner(&mut self.owners, &shared, number)?;
+        let parties = (shared.owner, shared.client.get());
+        add_owner(&mut self.owners, shared.code_scope, parties, number)?;
         self.families.insert_reserved(shared);
         Ok(number)
     }
@@ -252,7 +253,7 @@ impl Tables {
     }
 
     // Lets go of what has expired under the digest of a record that is about to come.
-    fn forget(&mut self, digest: &[u8; 32])
+    fn forget(&mut self, digest: &Digest)
         ensures forgotten { (n : ℕ) → IsTied self.old (n ∷ []) → ForgetsExpired self.old self.new digest.now n }
         ensures waiting { (n k : ℕ) (s : Shared) → IsTied self.old (k ∷ []) → Waits self.old.families.slots n s → Waits self.new.families.slots n s }
         ensures spare { spare self.old.records ≤ spare self.new.records }
@@ -265,7 +266,7 @@ impl Tables {
     }
 
     /// Keeps the record in its family.
-    pub(crate) fn put(&mut self, digest: &[u8; 32], new: Record)
+    pub(crate) fn put(&mut self, digest: &Digest, new: Record)
         requires tied { IsTied self.old [] }
         requires open { is_some (slice_index_or self.old.families.slots new.family None) ≡ true }
         requires room { HasSpare (room_of self.old) 1 }
@@ -287,21 +288,22 @@ impl Tables {
     }
 }
 
-// Puts a family that a code opened into the index.
+// Puts the family of the two into the index, if a code of some scope opened it.
 fn add_owner(
     owners: &mut BTreeSet<((u32, u32), usize)>,
-    shared: &Shared,
+    code_scope: Option<ScopeSet>,
+    parties: (u32, u32),
     number: usize,
 ) -> Result<(), AllocError>
-    ensures coded { OnOk result (is_some shared.now.code_scope ≡ true → (q : (ℕ × ℕ) × ℕ) → list_any (is_at (owner_cmp q)) owners.new.keys
-        ≡ (if is_at (owner_cmp ((shared.now.owner, shared.now.client), number)) q then true else list_any (is_at (owner_cmp q)) owners.old.keys)) }
-    ensures uncoded { OnOk result (is_some shared.now.code_scope ≡ false → owners.new.keys ≡ owners.old.keys) }
+    ensures coded { OnOk result (is_some code_scope ≡ true → (q : (ℕ × ℕ) × ℕ) → list_any (is_at (owner_cmp q)) owners.new.keys
+        ≡ (if is_at (owner_cmp (parties, number)) q then true else list_any (is_at (owner_cmp q)) owners.old.keys)) }
+    ensures uncoded { OnOk result (is_some code_scope ≡ false → owners.new.keys ≡ owners.old.keys) }
     ensures err { OnErr result (owners.new.keys ≡ owners.old.keys) }
 {
-    if shared.code_scope.is_none() {
+    if code_scope.is_none() {
         return Ok(());
     }
-    owners.insert(((shared.owner, shared.client.get()), number))?;
+    owners.insert((parties, number))?;
     Ok(())
 }
 
@@ -333,7 +335,7 @@ fn end_one(families: &mut Slab<Shared>, number: usize)
     }
 }
 
-fn spend_one(records: &mut HashMap<[u8; 32], Record>, digest: &[u8; 32])
+fn spend_one(records: &mut HashMap<Digest, Record>, digest: &Digest)
     ensures spare { spare records.new ≡ spare records.old }
     ensures spent { records.new.entries ≡ spent_in digest.now records.old.entries (lookup (bytes_eq digest.now) records.old.entries) }
 {
@@ -347,7 +349,7 @@ fn lower_all(
     owners: &BTreeSet<((u32, u32), usize)>,
     owner: u32,
     client: u32,
-    mask: u64,
+    mask: ScopeSet,
 )
     requires owned { IsOwned families.old.slots owners.now.keys }
     ensures lowered { HasLowered families.old.slots families.new.slots owner client mask }
@@ -385,13 +387,13 @@ fn start_of(owner: u32, client: u32, after: Option<usize>) -> Bound<((u32, u32),
     }
 }
 
-fn lower_one(families: &mut Slab<Shared>, number: usize, mask: u64)
+fn lower_one(families: &mut Slab<Shared>, number: usize, mask: ScopeSet)
     ensures lowered { slice_index_or families.new.slots number None ≡ option_map (lowered_by mask) (slice_index_or families.old.slots number None) }
     ensures others { (k : ℕ) → k ≢ number → slice_index_or families.new.slots k None ≡ slice_index_or families.old.slots k None }
 {
     if let Some(shared) = families.get_mut(number) {
         if let Some(scope) = shared.code_scope {
-            if !is_within(scope, mask) {
+            if !scope.is_within(mask) {
                 shared.ended = true;
             }
         }
@@ -402,7 +404,7 @@ fn lower_one(families: &mut Slab<Shared>, number: usize, mask: u64)
 fn leave_expired(
     families: &mut Slab<Shared>,
     owners: &mut BTreeSet<((u32, u32), usize)>,
-    records: &HashMap<[u8; 32], Record>,
+    records: &HashMap<Digest, Record>,
     moment: Moment,
 ) -> u64
     requires counted { IsCounted families.old.slots records.now.entries [] }
@@ -423,7 +425,7 @@ fn leave_expired(
 }
 
 // The records that are unexpired stay.
-fn retain_live(records: &mut HashMap<[u8; 32], Record>, moment: Moment)
+fn retain_live(records: &mut HashMap<Digest, Record>, moment: Moment)
     ensures live { records.new.entries ≡ live_of moment records.old.entries }
     ensures once { IsDistinct bytes_eq (keys_of records.new.entries) }
     ensures spare { spare records.old ≤ spare records.new }
@@ -432,7 +434,7 @@ fn retain_live(records: &mut HashMap<[u8; 32], Record>, moment: Moment)
 }
 
 // How many of the records are unexpired.
-fn count_live(records: &HashMap<[u8; 32], Record>, moment: Moment) -> usize
+fn count_live(records: &HashMap<Digest, Record>, moment: Moment) -> usize
     ensures { result ≡ count_by (is_live_at moment) (values_of records.now.entries) }
 {
     records
@@ -441,7 +443,7 @@ fn count_live(records: &HashMap<[u8; 32], Record>, moment: Moment) -> usize
         .count()
 }
 
-fn is_among(digest: &[u8; 32], digests: &[[u8; 32]]) -> bool
+fn is_among(digest: &Digest, digests: &[Digest]) -> bool
     ensures { result ≡ list_any (bytes_eq digest.now) digests.now }
 {
     digests.iter().any(|other| *digest == *other)

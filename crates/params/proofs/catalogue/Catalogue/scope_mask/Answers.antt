@@ -46,7 +46,7 @@ pub returns-clause-mask : goal.returns-clause-mask
 returns-clause-mask c =
     let step : split_steps FindsChar (λ a b. b ≡ a) c.loop-token.token-iterator None c.next.new.self = search rules in
     let none = left-none c.loop-token.token-iterator c.next.new.self c.loop-token.invariant.0 c.loop-token.invariant.1 step in
-    sym (scope_after-nil c.args.self.now c.loop-token.mask) ∙ ap (λ left. scope_after c.args.self.now c.loop-token.mask left) (sym none) ∙ c.loop-token.invariant.2
+    ap Some c.new.ensures ∙ sym (scope_after-nil c.args.self.now c.loop-token.mask) ∙ ap (λ left. scope_after c.args.self.now c.loop-token.mask left) (sym none) ∙ c.loop-token.invariant.2
 
 pub returns-clause-within : goal.returns-clause-within
-returns-clause-within c = scope_mask-within c.args.self.now c.args.text.now c.loop-token.mask (sym (returns-clause-mask c))
+returns-clause-within c = scope_mask-within c.args.self.now c.args.text.now c.new.result (sym (returns-clause-mask c))
