@@ -30,8 +30,8 @@ use Rattle.endpoints.specs.Ruling.{CanMakeAll}
 use Rattle.endpoints.specs.Paths.{endpoint_at, method_at}
 use Rattle.endpoints.specs.Replies.{request_outcome, hook_change}
 use Rattle.endpoints.specs.Rulings.{Asking, FitsNow, IsRuling, comes_to, setting_now}
-use Rattle.endpoints.specs.RulingsParts.{AnswersRequest}
-use Rattle.endpoints.specs.Server.{SeenServer, FitsServer, AreUnkept, AreNoted, IsStep}
+use Rattle.endpoints.specs.RulingsParts.{AnswersRequest, before_now}
+use Rattle.endpoints.specs.Server.{SeenServer, Outset, Before, FitsServer, AreUnkept, AreNoted, IsStep, outset_of}
 use Rattle.endpoints.proofs.Ruled.{told_changes, told_reply}
 
 pub at_moment : (greatest m moment n : ℕ) → n ≡ max greatest moment → greatest ≡ m → (m ≤ n) × (n ≡ max m moment)
@@ -53,10 +53,10 @@ still_noted old new history same kept noted = rw (append-nil history) (subst (λ
 
 module _ {H : Type 0} (hosting : Hosting H) where
   -- time goes on, and what has expired is let go of
-  pub swept : (old : SeenServer H) (rules : RegistryRecord) (first : H) (history : List Event) (n m : ℕ) (kept : Held) → n ≤ m →
-      FitsServer hosting.installs hosting.removes old rules first history n → (FitsStore old.store history m → FitsStore kept history m) →
-      FitsServer hosting.installs hosting.removes (record old { store = kept; greatest = m }) rules first history m
-  swept old rules first history n m kept le fits dropped = record {
+  pub swept : (old : SeenServer H) (outset : Outset H) (history : List Event) (n m : ℕ) (kept : Held) → n ≤ m →
+      FitsServer hosting old outset history n → (FitsStore old.store history m → FitsStore kept history m) →
+      FitsServer hosting (record old { store = kept; greatest = m }) outset history m
+  swept old outset history n m kept le fits dropped = record {
     rules_are = fits.rules_are;
     greatest_is = refl;
     store = dropped (fits_later old.store history n m le fits.store);
@@ -66,31 +66,32 @@ module _ {H : Type 0} (hosting : Hosting H) where
   }
 
   -- nothing happens
-  pub bare_step : (old new : SeenServer H) (rules : RegistryRecord) (first : H) (history : List Event) (m status : ℕ) (reply : Written) →
-      FitsServer hosting.installs hosting.removes new rules first history m → reply ≡ in_writing (bare status).reply →
-      new.unkept ≡ old.unkept → IsStep hosting.installs hosting.removes (bare status) reply old new rules first history m
-  bare_step old new rules first history m status reply fits is same =
-      record { reply_is = is; fits = rw (append-nil history) fits; noted = still_noted old new history same }
+  pub bare_step : (before : Before H) (new : SeenServer H) (status : ℕ) (reply : Written) →
+      FitsServer hosting new before.outset before.history before.moment → reply ≡ in_writing (bare status).reply →
+      new.unkept ≡ before.server.unkept → IsStep hosting before (bare status) reply new
+  bare_step before new status reply fits is same =
+      record { reply_is = is; fits = rw (append-nil before.history) fits; noted = still_noted before.server new before.history same }
 
   -- the ruling is written, room is made for its changes, and they are made
   pub answered : (old mid new : SeenServer H) (first : H) (history : List Event) (asking : Asking) (ruling : Ruling H) (reply : Written) →
       IsRuling hosting old history asking ruling → IsSame hosting old mid → Makes hosting mid (as_list ruling.decision.changes) ruling.checked new →
       new.unkept ≡ with_notes mid.unkept mid.greatest ruling.decision.changes →
       reply ≡ in_writing (reply_of old.rules (hosting.names old.host) ruling.decision.answer) → FitsNow hosting old first history →
-      (fault : Option HookFault) × IsHostFault hosting.refuses_install hosting.refuses_remove old.host (hook_change_at asking.endpoint asking.asked) fault
-      × IsStep hosting.installs hosting.removes (comes_to hosting old history asking fault) reply old new old.rules first history old.greatest
+      (fault : Option HookFault) × IsHostFault hosting old.host (hook_change_at asking.endpoint asking.asked) fault
+      × IsStep hosting (before_now old first history) (comes_to hosting old history asking fault) reply new
   answered old mid new first history asking ruling reply r same makes noted is fits =
+      let outset = outset_of old.rules first in
       let o = comes_to hosting old history asking r.fault in
       let changes = told_changes hosting (setting_now hosting old history asking.draws r.fault) ruling.decision o r.told_is in
-      let go = subst (λ (n : ℕ). FitsServer hosting.installs hosting.removes mid old.rules first history n → changes_of history n (as_list ruling.decision.changes) ≡ Some o.changes →
+      let go = subst (λ (n : ℕ). FitsServer hosting mid outset history n → changes_of history n (as_list ruling.decision.changes) ≡ Some o.changes →
       AllFollow history n o.changes → AllRightAfter old.rules history n o.changes → StandsAlone (as_list ruling.decision.changes) →
-      CanMakeAll hosting mid.host (as_list ruling.decision.changes) ruling.checked → FitsServer hosting.installs hosting.removes new old.rules first (with_changes history n o.changes) n)
-      same.greatest (makes old.rules first history o.changes) in (
+      CanMakeAll hosting mid.host (as_list ruling.decision.changes) ruling.checked → FitsServer hosting new outset (with_changes history n o.changes) n)
+      same.greatest (makes outset history o.changes) in (
         r.fault,
         r.host_has,
         record {
           reply_is = is ∙ ap in_writing (sym (told_reply hosting (setting_now hosting old history asking.draws r.fault) ruling.decision o r.told_is));
-          fits = go (same.fits old.rules first history old.greatest fits) changes r.follow r.right r.alone (rw same.host r.hooks);
+          fits = go (same.fits outset history old.greatest fits) changes r.follow r.right r.alone (rw same.host r.hooks);
           noted = λ kept before.
               let now : new.unkept ≡ with_notes old.unkept old.greatest ruling.decision.changes =
               noted ∙ ap (λ u. with_notes u mid.greatest ruling.decision.changes) same.unkept ∙ ap (λ n. with_notes old.unkept n ruling.decision.changes) same.greatest in
@@ -106,22 +107,21 @@ module _ {H : Type 0} (hosting : Hosting H) where
   none_made old new asking (Err e) none made = made
 
   -- what was noted before time went on is noted still
-  noted_before : (older old new : SeenServer H) (outcome : Outcome) (reply : Written) (rules : RegistryRecord) (first : H) (history : List Event) (m : ℕ) → old.unkept ≡ older.unkept →
-      IsStep hosting.installs hosting.removes outcome reply old new rules first history m → IsStep hosting.installs hosting.removes outcome reply older new rules first history m
-  noted_before older old new outcome reply rules first history m same step = record {
+  noted_before : (older : SeenServer H) (before : Before H) (new : SeenServer H) (outcome : Outcome) (reply : Written) → before.server.unkept ≡ older.unkept →
+      IsStep hosting before outcome reply new → IsStep hosting (record before { server = older }) outcome reply new
+  noted_before older before new outcome reply same step = record {
     reply_is = step.reply_is;
     fits = step.fits;
-    noted = λ kept before. step.noted kept (subst (λ u. AreUnkept u kept history) (sym same) before);
+    noted = λ kept notes. step.noted kept (subst (λ u. AreUnkept u kept before.history) (sym same) notes);
   }
 
   -- what has expired is let go of, behind a step
-  pub swept_step : (old mid : SeenServer H) (kept : Held) (outcome : Outcome) (reply : Written) (rules : RegistryRecord) (first : H) (history : List Event) (m : ℕ) →
+  pub swept_step : (before : Before H) (mid : SeenServer H) (kept : Held) (outcome : Outcome) (reply : Written) →
       ((history : List Event) → FitsStore mid.store history mid.greatest → FitsStore kept history mid.greatest) →
-      IsStep hosting.installs hosting.removes outcome reply old mid rules first history m →
-      IsStep hosting.installs hosting.removes outcome reply old (record mid { store = kept }) rules first history m
-  swept_step old mid kept outcome reply rules first history m dropped step =
+      IsStep hosting before outcome reply mid → IsStep hosting before outcome reply (record mid { store = kept })
+  swept_step before mid kept outcome reply dropped step =
       let fits = step.fits in
-      let after = with_changes history m outcome.changes in
+      let after = with_changes before.history before.moment outcome.changes in
       record {
         reply_is = step.reply_is;
         fits = record {
@@ -137,20 +137,22 @@ module _ {H : Type 0} (hosting : Hosting H) where
       }
 
   -- what happens at an endpoint is what happens at its path
-  pub stepped : (older old new : SeenServer H) (wanted : RegistryRecord) (first : H) (history : List Event) (endpoint : Endpoint) (asked : Asked) (draws : Draws) (reply : Written) →
+  pub stepped : (older old new : SeenServer H) (outset : Outset H) (history : List Event) (endpoint : Endpoint) (asked : Asked) (draws : Draws) (reply : Written) →
       endpoint_at (path_of asked.target) ≡ Some endpoint → bytes_eq asked.method (method_at endpoint) ≡ true →
-      FitsServer hosting.installs hosting.removes old wanted first history old.greatest →
+      FitsServer hosting old outset history old.greatest →
       AnswersRequest {E = ℕ} hosting old (record { endpoint = endpoint; asked = asked; draws = draws }) (Ok reply) new → old.host ≡ older.host → old.unkept ≡ older.unkept →
-      (refused : Bool) × (fault : Option HookFault) × IsHostFault hosting.refuses_install hosting.refuses_remove older.host (hook_change asked) fault
-      × IsStep hosting.installs hosting.removes (request_outcome refused (record { rules = wanted; history = history; host = says_with hosting older.host fault; moment = old.greatest; draws = draws }) asked) reply older new wanted first history old.greatest
-  stepped older old new wanted first history endpoint asked draws reply at method fits answers host_same unkept_same =
-      let own = subst (λ (r : RegistryRecord). FitsServer hosting.installs hosting.removes old r first history old.greatest) (sym fits.rules_are) fits in
-      let done = answers first history own in
-      let Stepped : RegistryRecord → H → Type 0 = λ r host. (refused : Bool) × (fault : Option HookFault) × IsHostFault hosting.refuses_install hosting.refuses_remove host (hook_change asked) fault
-      × IsStep hosting.installs hosting.removes (request_outcome refused (record { rules = r; history = history; host = says_with hosting host fault; moment = old.greatest; draws = draws }) asked) reply older new r first history old.greatest in
+      (refused : Bool) × (fault : Option HookFault) × IsHostFault hosting older.host (hook_change asked) fault
+      × IsStep hosting (record { server = older; outset = outset; history = history; moment = old.greatest })
+      (request_outcome refused (record { rules = outset.rules; history = history; host = says_with hosting older.host fault; moment = old.greatest; draws = draws }) asked) reply new
+  stepped older old new outset history endpoint asked draws reply at method fits answers host_same unkept_same =
+      let own = subst (λ (r : RegistryRecord). FitsServer hosting old (outset_of r outset.first) history old.greatest) (sym fits.rules_are) fits in
+      let done = answers outset.first history own in
+      let Stepped : RegistryRecord → H → Type 0 = λ r host. (refused : Bool) × (fault : Option HookFault) × IsHostFault hosting host (hook_change asked) fault
+      × IsStep hosting (record { server = older; outset = outset_of r outset.first; history = history; moment = old.greatest })
+      (request_outcome refused (record { rules = r; history = history; host = says_with hosting host fault; moment = old.greatest; draws = draws }) asked) reply new in
       let here : Stepped old.rules old.host =
-      rw (at, method) (false, done.0, done.1, noted_before older old new (comes_to hosting old history (record { endpoint = endpoint; asked = asked; draws = draws }) done.0) reply old.rules first history old.greatest unkept_same done.2) in
-      subst (λ (host : H). Stepped wanted host) host_same (subst (λ (r : RegistryRecord). Stepped r old.host) fits.rules_are here)
+      rw (at, method) (false, done.0, done.1, noted_before older (before_now old outset.first history) new (comes_to hosting old history (record { endpoint = endpoint; asked = asked; draws = draws }) done.0) reply unkept_same done.2) in
+      subst (λ (host : H). Stepped outset.rules host) host_same (subst (λ (r : RegistryRecord). Stepped r old.host) fits.rules_are here)
 
 -- two that are seen alike have noted the same, and have the same host
 pub unkept_as : {H : Type 0} (one other : SeenServer H) → one ≡ other → one.unkept ≡ other.unkept

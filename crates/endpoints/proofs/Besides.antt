@@ -97,7 +97,7 @@ many_consents kept (Three a b c) other = λ history m next alone. plain_consents
 module _ {H : Type 0} (hosting : Hosting H) where
   pub plain_host : (host : H) (cs : List Change) (checked : Checked H) → AllPlain cs → MakesHost hosting host cs checked host
   plain_host host cs checked are first history m next alone can is run =
-      quiet_host hosting.installs hosting.removes first host history m next (all_quiet history m cs next are is) run
+      quiet_host hosting first host history m next (all_quiet history m cs next are is) run
 
   pub many_host : (host : H) (changes : Changes) (checked : Checked H) → ((c : Change) → changes ≡ One c → ⊥) → MakesHost hosting host (as_list changes) checked host
   many_host host Nothing checked other = plain_host host [] checked tt
@@ -106,10 +106,10 @@ module _ {H : Type 0} (hosting : Hosting H) where
   many_host host (Three a b c) checked other = λ first history m next alone. plain_host host (a ∷ b ∷ c ∷ []) checked alone first history m next alone
 
   step_host : (old new : H) (c : Change) (checked : Checked H) (wanted : happening) → ((history : List Event) (m : ℕ) → change_of history m c ≡ Some wanted) →
-      HostStep hosting.installs hosting.removes old wanted new → MakesHost hosting old (c ∷ []) checked new
+      HostStep hosting old wanted new → MakesHost hosting old (c ∷ []) checked new
   step_host old new c checked wanted meant step first history m next alone can is run =
-      subst (λ n. HostRun hosting.installs hosting.removes first (with_changes history m n) new) (sym (one_meant history m c next wanted is (meant history m)))
-      (host_push hosting.installs hosting.removes first old new history (event_at m wanted) run step)
+      subst (λ n. HostRun hosting first (with_changes history m n) new) (sym (one_meant history m c next wanted is (meant history m)))
+      (host_push hosting first old new history (event_at m wanted) run step)
 
   pub consented_host : (host : H) (c : Change) (checked : Checked H) (owner client mask : ℕ) → c ≡ Consented owner client mask → MakesHost hosting host (c ∷ []) checked host
   consented_host host c checked owner client mask same = step_host host host c checked (told.Consented owner client mask) (λ history m. ap (change_of history m) same) refl
@@ -150,11 +150,11 @@ module _ {H : Type 0} (hosting : Hosting H) where
       ((history : List Event) (next : List happening) → FitsStore old.store history old.greatest → changes_of history old.greatest cs ≡ Some next →
       AllFollow history old.greatest next → FitsStore store (with_changes history old.greatest next) old.greatest) →
       Makes hosting old cs checked (record { rules = old.rules; host = host; store = store; consents = consents; greatest = old.greatest; unkept = unkept; prepared = prepared })
-  made old host store consents unkept prepared cs checked puts runs keeps rules first history next fits is follow right alone can = record {
+  made old host store consents unkept prepared cs checked puts runs keeps outset history next fits is follow right alone can = record {
     rules_are = fits.rules_are;
     greatest_is = refl;
     store = keeps history next fits.store is follow;
     consents = puts history old.greatest next alone is fits.consents;
-    hosts = runs first history old.greatest next alone can is fits.hosts;
-    right = all_right-more rules history old.greatest next fits.right right;
+    hosts = runs outset.first history old.greatest next alone can is fits.hosts;
+    right = all_right-more outset.rules history old.greatest next fits.right right;
   }

@@ -99,11 +99,11 @@ module _ {H : Type 0} (hosting : Hosting H) where
       ((history : List Event) → FitsStore server.store history moment → FitsConsents server.consents history → Some fault ≡ history_refusal history moment change) →
       RefusesRedo hosting server moment change fault
   refused server moment change MomentBack le own is = absurd own
-  refused server moment change Unknown le own is = λ rules first history m fits.
+  refused server moment change Unknown le own is = λ outset history m fits.
       sym (is history (fits_later server.store history m moment (omega (arith, le, fits.greatest_is)) fits.store) fits.consents)
-  refused server moment change (Store fault) le own is = λ rules first history m fits.
+  refused server moment change (Store fault) le own is = λ outset history m fits.
       sym (is history (fits_later server.store history m moment (omega (arith, le, fits.greatest_is)) fits.store) fits.consents)
-  refused server moment change ConsentsFull le own is = λ rules first history m fits.
+  refused server moment change ConsentsFull le own is = λ outset history m fits.
       sym (is history (fits_later server.store history m moment (omega (arith, le, fits.greatest_is)) fits.store) fits.consents)
   refused server moment change (Hook fault) le own is = absurd own
   refused server moment change Memory le own is = absurd own
@@ -112,12 +112,12 @@ module _ {H : Type 0} (hosting : Hosting H) where
   pub followed : (server : SeenServer H) (moment : ℕ) (change : Change) (found : Option RedoFault) → server.greatest ≤ moment → ((fault : RedoFault) → found ≡ Some fault → ⊥) →
       ((history : List Event) → FitsStore server.store history moment → FitsConsents server.consents history → found ≡ history_refusal history moment change) →
       FollowsEach hosting server moment change
-  followed server moment change found le none is rules first history m fits =
+  followed server moment change found le none is outset history m fits =
       sym (is history (fits_later server.store history m moment (omega (arith, le, fits.greatest_is)) fits.store) fits.consents) ∙ none_left found none
 
   -- nothing has changed
   pub same_self : (server : SeenServer H) → IsSame hosting server server
-  same_self server = record { rules = refl; host = refl; greatest = refl; unkept = refl; fits = λ rules first history m fits. fits }
+  same_self server = record { rules = refl; host = refl; greatest = refl; unkept = refl; fits = λ outset history m fits. fits }
 
   -- room was made, time went on, the change was made, and what had expired was let go of
   pub redone : (old mid applied : SeenServer H) (store : Held) (moment : ℕ) (change : Change) (changes : List Change) (checked : Checked H) → changes ≡ change ∷ [] →
@@ -125,17 +125,17 @@ module _ {H : Type 0} (hosting : Hosting H) where
       Makes hosting (record mid { greatest = moment }) changes checked applied →
       ((history : List Event) → FitsStore applied.store history moment → FitsStore store history moment) →
       RedoesChange hosting old moment change (record applied { store = store })
-  redone old mid applied store moment change changes checked only le follows can same wide dropped rules first history m fits =
+  redone old mid applied store moment change changes checked only le follows can same wide dropped outset history m fits =
       let makes = subst (λ cs. Makes hosting (record mid { greatest = moment }) cs checked applied) only wide in
-      let now = swept hosting mid rules first history m moment mid.store (omega (arith, le, fits.greatest_is)) (same.fits rules first history m fits) (λ f. f) in
-      let n = next_of history moment change (store_history mid.store history moment now.store) (follows rules first history m fits) in
+      let now = swept hosting mid outset history m moment mid.store (omega (arith, le, fits.greatest_is)) (same.fits outset history m fits) (λ f. f) in
+      let n = next_of history moment change (store_history mid.store history moment now.store) (follows outset history m fits) in
       let meant : changes_of history moment (change ∷ []) ≡ Some (n.next ∷ []) =
       ap (λ o. option_and_then (λ (c : Happening). option_map (λ later. c ∷ later) (changes_of (with_change history moment c) moment [])) o) n.meant in (
         n.next,
         n.meant,
         n.can,
         λ right.
-            let done = makes rules first history (n.next ∷ []) now meant (n.can, tt) (right, tt) tt (rw same.host can) in record {
+            let done = makes outset history (n.next ∷ []) now meant (n.can, tt) (right, tt) tt (rw same.host can) in record {
               rules_are = done.rules_are;
               greatest_is = done.greatest_is;
               store = dropped (with_change history moment n.next) done.store;

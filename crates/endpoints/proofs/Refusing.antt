@@ -28,7 +28,7 @@ fault_told change Memory other = absurd (other refl)
 
 -- the host's own fault for the change that was asked for
 pub refused_rules : {H : Type 0} (hosting : Hosting H) (host : H) (s : Setting) (change : Option Change) (asked : Change) (fault : HookFault) (result : Result (Ruling H) Halt) →
-    change ≡ Some asked → IsHostFault hosting.refuses_install hosting.refuses_remove host (Some asked) (Some fault) → IsHookRefused fault result → RulesHooks hosting host s change result
+    change ≡ Some asked → IsHostFault hosting host (Some asked) (Some fault) → IsHookRefused fault result → RulesHooks hosting host s change result
 refused_rules hosting host s change asked fault (Err (Refuse error)) is host_fault refusal = absurd refusal
 refused_rules hosting host s change asked fault (Err NoMemory) is host_fault refusal = tt
 refused_rules hosting host s change asked fault (Ok ruling) is host_fault refusal =

@@ -343,7 +343,7 @@ module _ {H : Type 0} (hosting : Hosting H) (server : SeenServer H) (history : L
       let changes = told_changes hosting (setting_now hosting server history asking.draws fault) ruling.decision (comes_to hosting server history asking fault) told_is in
       record {
         fault = fault;
-        host_has = subst (λ c. IsHostFault hosting.refuses_install hosting.refuses_remove server.host c fault) (sym same) rules.1;
+        host_has = subst (λ c. IsHostFault hosting server.host c fault) (sym same) rules.1;
         told_is = told_is;
         follow = one_follows history server.greatest _ one;
         right = one_right server.rules history server.greatest _ one;

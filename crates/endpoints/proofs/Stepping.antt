@@ -1,6 +1,5 @@
 -- What a request does to the server, by what it does to the store.
 use Rattle.std.proofs.Common.{◌≡◌, ℕ, List, [], ◌∷◌, ◌++◌, false, refl, sym, append_assoc, append-nil, subst}
-use Rattle.insn.specs.declared.layout.Layout.{Layout}
 use Rattle.clients.specs.RegistryRecord.{RegistryRecord}
 use Rattle.consent.specs.History.{Event, Change, event_at, with_change, with_changes}
 use Rattle.consent.specs.History.Change.{Consented, CodeGiven, Issued, Spent, FamilyEnded, HookSet, HookGone}
@@ -8,6 +7,7 @@ use Rattle.consent.specs.Growth.{is_consent}
 use Rattle.consent.specs.GrowthLaws.{with_changes-cons}
 use Rattle.consent.specs.Consents.{KeptConsents, FitsConsents}
 use Rattle.consent.specs.ConsentLaws.{fits_consents-push_other}
+use Rattle.hook_host.specs.declared.host.HookHost.{Ghosts as Hosting}
 use Rattle.endpoints.specs.Hosts.{HostStep, HostRun}
 use Rattle.endpoints.specs.Bounded.{IsRightChange, AllRight, AllRightAfter}
 
@@ -41,14 +41,14 @@ quiet_consents kept history m (c ∷ cs) q fits =
     rw (with_changes-cons history m c cs)
     (quiet_consents kept (with_change history m c) m cs q.1 (fits_consents-push_other kept history (event_at m c) (no_consent c q.0) fits))
 
-module _ {H : Type 0} (installs : H → List ℕ → Layout → List ℕ → H → Type 0) (removes : H → List ℕ → H → Type 0) where
+module _ {H : Type 0} (hosting : Hosting H) where
   -- the host goes on by one more event
-  pub host_push : (first mid new : H) (history : List Event) (e : Event) → HostRun installs removes first history mid →
-      HostStep installs removes mid e.change new → HostRun installs removes first (history ++ e ∷ []) new
-  host_push first mid new [] e run step = (new, subst (λ (h : H). HostStep installs removes h e.change new) run step, refl)
+  pub host_push : (first mid new : H) (history : List Event) (e : Event) → HostRun hosting first history mid →
+      HostStep hosting mid e.change new → HostRun hosting first (history ++ e ∷ []) new
+  host_push first mid new [] e run step = (new, subst (λ (h : H). HostStep hosting h e.change new) run step, refl)
   host_push first mid new (x ∷ later) e run step = (run.0, run.1, host_push (run.0) mid new later e run.2 step)
 
-  quiet_step : (host : H) (c : Change) → IsQuiet c → HostStep installs removes host c host
+  quiet_step : (host : H) (c : Change) → IsQuiet c → HostStep hosting host c host
   quiet_step host (Consented owner client mask) q = absurd q
   quiet_step host (HookSet name version code) q = absurd q
   quiet_step host (HookGone name) q = absurd q
@@ -58,7 +58,7 @@ module _ {H : Type 0} (installs : H → List ℕ → Layout → List ℕ → H �
   quiet_step host (FamilyEnded family) q = refl
 
   pub quiet_host : (first host : H) (history : List Event) (m : ℕ) (changes : List Change) → AllQuiet changes →
-      HostRun installs removes first history host → HostRun installs removes first (with_changes history m changes) host
+      HostRun hosting first history host → HostRun hosting first (with_changes history m changes) host
   quiet_host first host history m [] q run = rw (append-nil history) run
   quiet_host first host history m (c ∷ cs) q run =
       rw (with_changes-cons history m c cs)

@@ -1,33 +1,32 @@
 -- What a step leaves is swept and bounded.
 use Rattle.std.proofs.Common.{◌≡◌, ℕ, List, length, max, ap, sym, ◌∙◌, arith, subst}
-use Rattle.clients.specs.RegistryRecord.{RegistryRecord}
 use Rattle.consent.specs.History.{Event, unexpired_count}
 use Rattle.hook_host.specs.declared.host.HookHost.{Ghosts as Hosting}
 use Rattle.messages.specs.Written.{Written}
 use Rattle.token_store.specs.Fits.{FitsStore}
 use Rattle.token_store.specs.Kept.{Held}
 use Rattle.endpoints.specs.BoundedLaws.{tokens_keep_their_bounds}
-use Rattle.endpoints.specs.Server.{SeenServer, FitsServer}
+use Rattle.endpoints.specs.Server.{SeenServer, Outset, FitsServer}
 use Rattle.endpoints.specs.Steps.{Arrival, IsSwept, KeepsBounds, Steps, Sweeps}
 use Rattle.endpoints.proofs.Answering.{swept_step}
 
 module _ {H : Type 0} (hosting : Hosting H) where
   pub bounded : (server : SeenServer H) → KeepsBounds hosting server
-  bounded server rules first history m fits = tokens_keep_their_bounds rules history m fits.store.fits.is_history fits.right
+  bounded server outset history m fits = tokens_keep_their_bounds outset.rules history m fits.store.fits.is_history fits.right
 
   pub swept_steps : (old mid : SeenServer H) (kept : Held) (arrival : Arrival) (reply : Written) →
       ((history : List Event) → FitsStore mid.store history mid.greatest → FitsStore kept history mid.greatest) →
       Steps hosting old arrival reply mid → Steps hosting old arrival reply (record mid { store = kept })
-  swept_steps old mid kept arrival reply dropped steps rules first history m fits =
-      let s = steps rules first history m fits in
-      (s.0, s.1, s.2, swept_step hosting old mid kept _ reply rules first history (max m arrival.moment) dropped s.3)
+  swept_steps old mid kept arrival reply dropped steps outset history m fits =
+      let s = steps outset history m fits in
+      (s.0, s.1, s.2, swept_step hosting (record { server = old; outset = outset; history = history; moment = max m arrival.moment }) mid kept _ reply dropped s.3)
 
   -- what is kept is as much as is unexpired of one history, and so of each
-  swept_each : (mid : SeenServer H) (kept : Held) (rules : RegistryRecord) (first : H) (after : List Event) (n : ℕ) →
+  swept_each : (mid : SeenServer H) (kept : Held) (outset : Outset H) (after : List Event) (n : ℕ) →
       ((history : List Event) → FitsStore mid.store history mid.greatest → FitsStore kept history mid.greatest) →
       ((history : List Event) → FitsStore mid.store history mid.greatest → length kept.kept ≡ unexpired_count history mid.greatest) →
-      FitsServer hosting.installs hosting.removes mid rules first after n → IsSwept hosting (record mid { store = kept })
-  swept_each mid kept rules first after n dropped few fits wanted host history m fits' =
+      FitsServer hosting mid outset after n → IsSwept hosting (record mid { store = kept })
+  swept_each mid kept outset after n dropped few fits other_outset history m fits' =
       let there : FitsStore mid.store after mid.greatest = subst (λ (n : ℕ). FitsStore mid.store after n) (sym fits.greatest_is) fits.store in
       let here : FitsStore kept after mid.greatest = dropped after there in
       let other : FitsStore kept history mid.greatest = subst (λ (n : ℕ). FitsStore kept history n) (sym fits'.greatest_is) fits'.store in
@@ -38,5 +37,5 @@ module _ {H : Type 0} (hosting : Hosting H) where
       ((history : List Event) → FitsStore mid.store history mid.greatest → FitsStore kept history mid.greatest) →
       ((history : List Event) → FitsStore mid.store history mid.greatest → length kept.kept ≡ unexpired_count history mid.greatest) →
       Steps hosting old arrival reply mid → Sweeps hosting old (record mid { store = kept })
-  sweeps old mid kept arrival reply dropped few steps rules first history m fits =
-      let s = steps rules first history m fits in swept_each mid kept rules first _ (max m arrival.moment) dropped few s.3.fits
+  sweeps old mid kept arrival reply dropped few steps outset history m fits =
+      let s = steps outset history m fits in swept_each mid kept outset _ (max m arrival.moment) dropped few s.3.fits

@@ -1,6 +1,5 @@
 -- What is made of changes.
 use Rattle.std.specs.Prelude.{◌≡◌, ◌≤◌, ℕ, List, [], ◌∷◌, Some}
-use Rattle.clients.specs.RegistryRecord.{RegistryRecord}
 use Rattle.consent.specs.Changes.{changes_of, as_list, AllFollow}
 use Rattle.consent.specs.Consents.{KeptConsents}
 use Rattle.consent.specs.History.{Event, Change as Happening, with_changes}
@@ -13,7 +12,7 @@ use Rattle.endpoints.specs.Bounded.{AllRightAfter}
 use Rattle.endpoints.specs.Noting.{ArePrepared}
 use Rattle.endpoints.specs.Ruling.{CanMakeAll, CanTake}
 use Rattle.endpoints.specs.declared.ruling.Checked.{Checked}
-use Rattle.endpoints.specs.Server.{SeenServer, FitsServer}
+use Rattle.endpoints.specs.Server.{SeenServer, Outset, FitsServer}
 
 -- the change is no consent and no hook's
 abbrev pub IsPlain : Change → Type 0
@@ -48,8 +47,7 @@ pub record IsSame {H : Type 0} (hosting : Hosting H) (old new : SeenServer H) : 
   pub host : new.host ≡ old.host
   pub greatest : new.greatest ≡ old.greatest
   pub unkept : new.unkept ≡ old.unkept
-  pub fits : (rules : RegistryRecord) (first : H) (history : List Event) (m : ℕ) →
-      FitsServer hosting.installs hosting.removes old rules first history m → FitsServer hosting.installs hosting.removes new rules first history m
+  pub fits : (outset : Outset H) (history : List Event) (m : ℕ) → FitsServer hosting old outset history m → FitsServer hosting new outset history m
 
 -- the server can make and note the changes of a ruling, without memory
 pub record IsReadyToMake {H : Type 0} (hosting : Hosting H) (server : SeenServer H) (changes : Changes) (checked : Checked H) : Type 0 where
@@ -60,8 +58,7 @@ pub record IsReadyToMake {H : Type 0} (hosting : Hosting H) (server : SeenServer
 -- stand alone if they have to, and the host can make its own.
 abbrev pub Makes : {H : Type 0} → Hosting H → SeenServer H → List Change → Checked H → SeenServer H → Type 0
 Makes {H = H} hosting old changes checked new =
-    (rules : RegistryRecord) (first : H) (history : List Event) (next : List Happening) →
-    FitsServer hosting.installs hosting.removes old rules first history old.greatest →
-    changes_of history old.greatest changes ≡ Some next → AllFollow history old.greatest next → AllRightAfter rules history old.greatest next →
+    (outset : Outset H) (history : List Event) (next : List Happening) → FitsServer hosting old outset history old.greatest →
+    changes_of history old.greatest changes ≡ Some next → AllFollow history old.greatest next → AllRightAfter outset.rules history old.greatest next →
     StandsAlone changes → CanMakeAll hosting old.host changes checked →
-    FitsServer hosting.installs hosting.removes new rules first (with_changes history old.greatest next) old.greatest
+    FitsServer hosting new outset (with_changes history old.greatest next) old.greatest

@@ -20,5 +20,4 @@ MakesConsents old changes new =
 abbrev pub MakesHost : {H : Type 0} → Hosting H → H → List Change → Checked H → H → Type 0
 MakesHost {H = H} hosting old changes checked new =
     (first : H) (history : List Event) (m : ℕ) (next : List Happening) → StandsAlone changes → CanMakeAll hosting old changes checked →
-    changes_of history m changes ≡ Some next → HostRun hosting.installs hosting.removes first history old →
-    HostRun hosting.installs hosting.removes first (with_changes history m next) new
+    changes_of history m changes ≡ Some next → HostRun hosting first history old → HostRun hosting first (with_changes history m next) new

@@ -1,6 +1,5 @@
 -- What becomes of a change that happened before, when it is made again.
 use Rattle.std.specs.Prelude.{◌≡◌, ◌<◌, ℕ, List, [], ◌∷◌, Bool, Option, Some, None, is_some, option_map, if◌then◌else◌}
-use Rattle.clients.specs.RegistryRecord.{RegistryRecord}
 use Rattle.consent.specs.Changes.{change_of}
 use Rattle.consent.specs.History.{Event, Change as Happening, grant_at, has_consent_room, with_change, CanFollow}
 use Rattle.consent.specs.declared.change.Change.{Change}
@@ -9,7 +8,7 @@ use Rattle.endpoints.specs.Layouts.{layout_of}
 use Rattle.hook_host.specs.declared.host.HookHost.{Ghosts as Hosting}
 use Rattle.token_store.specs.Fits.{refusal}
 use Rattle.endpoints.specs.Bounded.{IsRightChange}
-use Rattle.endpoints.specs.Server.{SeenServer, FitsServer}
+use Rattle.endpoints.specs.Server.{SeenServer, Outset, FitsServer}
 use Rattle.endpoints.specs.declared.redo.RedoFault.{RedoFault}
 use Rattle.endpoints.specs.declared.redo.RedoFault.TheVariants.{MomentBack, Unknown, Store, ConsentsFull, Hook, Memory}
 
@@ -17,9 +16,9 @@ use Rattle.endpoints.specs.declared.redo.RedoFault.TheVariants.{MomentBack, Unkn
 -- history with it, at its moment.
 abbrev pub RedoesChange : {H : Type 0} → Hosting H → SeenServer H → ℕ → Change → SeenServer H → Type 0
 RedoesChange {H = H} hosting old moment change new =
-    (rules : RegistryRecord) (first : H) (history : List Event) (m : ℕ) → FitsServer hosting.installs hosting.removes old rules first history m →
+    (outset : Outset H) (history : List Event) (m : ℕ) → FitsServer hosting old outset history m →
     (next : Happening) × (change_of history moment change ≡ Some next) × CanFollow history moment next
-    × (IsRightChange rules history next → FitsServer hosting.installs hosting.removes new rules first (with_change history moment next) moment)
+    × (IsRightChange outset.rules history next → FitsServer hosting new outset (with_change history moment next) moment)
 
 -- WHY IT IS NOT MADE
 
@@ -51,5 +50,5 @@ RefusesRedo hosting server moment change MomentBack = moment < server.greatest
 RefusesRedo hosting server moment change Memory = Unit {0}
 RefusesRedo hosting server moment change (Hook fault) = RefusesHookChange hosting server.host change (Hook fault)
 RefusesRedo {H = H} hosting server moment change fault =
-    (rules : RegistryRecord) (first : H) (history : List Event) (m : ℕ) → FitsServer hosting.installs hosting.removes server rules first history m →
+    (outset : Outset H) (history : List Event) (m : ℕ) → FitsServer hosting server outset history m →
     history_refusal history moment change ≡ Some fault

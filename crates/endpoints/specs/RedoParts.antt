@@ -1,10 +1,9 @@
 -- Beside Redo: only the contracts of this crate's own parts and their proofs cite this, no public clause.
 use Rattle.std.specs.Prelude.{◌≡◌, ℕ, List, None}
-use Rattle.clients.specs.RegistryRecord.{RegistryRecord}
 use Rattle.consent.specs.History.{Event}
 use Rattle.consent.specs.declared.change.Change.{Change}
 use Rattle.hook_host.specs.declared.host.HookHost.{Ghosts as Hosting}
-use Rattle.endpoints.specs.Server.{SeenServer, FitsServer}
+use Rattle.endpoints.specs.Server.{SeenServer, Outset, FitsServer}
 use Rattle.endpoints.specs.declared.redo.RedoFault.{RedoFault}
 use Rattle.endpoints.specs.declared.redo.RedoFault.TheVariants.{Unknown, Store, ConsentsFull}
 use Rattle.endpoints.specs.Redo.{history_refusal}
@@ -12,7 +11,7 @@ use Rattle.endpoints.specs.Redo.{history_refusal}
 -- each history that the server fits goes on with it
 abbrev pub FollowsEach : {H : Type 0} → Hosting H → SeenServer H → ℕ → Change → Type 0
 FollowsEach {H = H} hosting server moment change =
-    (rules : RegistryRecord) (first : H) (history : List Event) (m : ℕ) → FitsServer hosting.installs hosting.removes server rules first history m →
+    (outset : Outset H) (history : List Event) (m : ℕ) → FitsServer hosting server outset history m →
     history_refusal history moment change ≡ None
 
 -- the fault is one that a history has

@@ -30,5 +30,5 @@ IsHookRefused fault (Ok ruling) =
 abbrev pub RulesHooks : {H : Type 0} → Hosting H → H → Setting → Option history.Change → Result (Ruling H) Halt → Type 0
 RulesHooks hosting host s change (Err halt) = Halts halt (hook_points change None)
 RulesHooks hosting host s change (Ok ruling) =
-    (fault : Option HookFault) × IsHostFault hosting.refuses_install hosting.refuses_remove host change fault
+    (fault : Option HookFault) × IsHostFault hosting host change fault
     × (outcome_told s ruling.decision ≡ Some (hook_points change fault)) × CanMakeAll hosting host (as_list ruling.decision.changes) ruling.checked

@@ -21,7 +21,7 @@ use Rattle.endpoints.specs.Making.{StandsAlone}
 use Rattle.endpoints.specs.Reading.{endpoint_of}
 use Rattle.endpoints.specs.Replies.{outcome_at}
 use Rattle.endpoints.specs.Ruling.{CanMakeAll}
-use Rattle.endpoints.specs.Server.{SeenServer, FitsServer}
+use Rattle.endpoints.specs.Server.{SeenServer, FitsServer, outset_of}
 
 -- a request at an endpoint, with the random bytes of what its reply may give
 pub record Asking : Type 0 where
@@ -34,8 +34,7 @@ asking_of asked reading draws = record { endpoint = endpoint_of reading; asked =
 
 -- the server fits the history under its own rules, at its own greatest moment
 abbrev pub FitsNow : {H : Type 0} → Hosting H → SeenServer H → H → List Event → Type 0
-FitsNow hosting server first history =
-    FitsServer hosting.installs hosting.removes server server.rules first history server.greatest
+FitsNow hosting server first history = FitsServer hosting server (outset_of server.rules first) history server.greatest
 
 -- what a decision is taken in, where the host has this fault
 abbrev pub setting_now : {H : Type 0} → Hosting H → SeenServer H → List Event → Draws → Option HookFault → Setting
@@ -56,7 +55,7 @@ comes_to hosting server history asking fault =
 -- right, and the server can make them.
 pub record IsRuling {H : Type 0} (hosting : Hosting H) (server : SeenServer H) (history : List Event) (asking : Asking) (ruling : Ruling H) : Type 0 where
   pub fault : Option HookFault
-  pub host_has : IsHostFault hosting.refuses_install hosting.refuses_remove server.host (hook_change_at asking.endpoint asking.asked) fault
+  pub host_has : IsHostFault hosting server.host (hook_change_at asking.endpoint asking.asked) fault
   pub told_is : outcome_told (setting_now hosting server history asking.draws fault) ruling.decision ≡ Some (comes_to hosting server history asking fault)
   pub follow : AllFollow history server.greatest (comes_to hosting server history asking fault).changes
   pub right : AllRightAfter server.rules history server.greatest (comes_to hosting server history asking fault).changes

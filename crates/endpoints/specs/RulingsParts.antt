@@ -15,7 +15,7 @@ use Rattle.endpoints.specs.declared.reading.Reading.TheVariants.{InstallHook, Re
 use Rattle.endpoints.specs.HookPaths.{hook_change_at}
 use Rattle.endpoints.specs.Hosts.{IsHostFault}
 use Rattle.endpoints.specs.Making.{IsSame}
-use Rattle.endpoints.specs.Server.{SeenServer, IsStep}
+use Rattle.endpoints.specs.Server.{SeenServer, Before, IsStep, outset_of}
 use Rattle.endpoints.specs.Rulings.{Asking, FitsNow, setting_now, comes_to}
 
 -- what was read asks for no change of the hooks
@@ -34,11 +34,15 @@ abbrev pub IsHalted : Halt → Written → Type 0
 IsHalted (Refuse error) reply = (reply ≡ in_writing (refuse error).reply) × IsShortReply reply
 IsHalted NoMemory reply = ⊥
 
+-- what is before an answer: the server, under its own rules and at its own greatest moment
+abbrev pub before_now : {H : Type 0} → SeenServer H → H → List Event → Before H
+before_now server first history = record { server = server; outset = outset_of server.rules first; history = history; moment = server.greatest }
+
 -- The host has one of its own faults for the change that is asked for, or none. By that the reply is what the request
 -- comes to, and its changes are made. Where memory is refused, nothing is made.
 abbrev pub AnswersRequest : {H E : Type 0} → Hosting H → SeenServer H → Asking → Result Written E → SeenServer H → Type 0
 AnswersRequest {H = H} hosting old asking (Ok reply) new =
     (first : H) (history : List Event) → FitsNow hosting old first history →
-    (fault : Option HookFault) × IsHostFault hosting.refuses_install hosting.refuses_remove old.host (hook_change_at asking.endpoint asking.asked) fault
-    × IsStep hosting.installs hosting.removes (comes_to hosting old history asking fault) reply old new old.rules first history old.greatest
+    (fault : Option HookFault) × IsHostFault hosting old.host (hook_change_at asking.endpoint asking.asked) fault
+    × IsStep hosting (before_now old first history) (comes_to hosting old history asking fault) reply new
 AnswersRequest hosting old asking (Err _) new = IsSame hosting old new

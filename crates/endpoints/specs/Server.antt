@@ -1,6 +1,6 @@
 -- When a server fits a history, and what one request does.
 use Rattle.std.specs.Prelude.{◌≡◌, ℕ, List, [], Option, Some, None}
-use Rattle.insn.specs.declared.layout.Layout.{Layout}
+use Rattle.hook_host.specs.declared.host.HookHost.{Ghosts as Hosting}
 use Rattle.clients.specs.RegistryRecord.{RegistryRecord}
 use Rattle.consent.specs.History.{Event, with_changes}
 use Rattle.consent.specs.Consents.{KeptConsents, FitsConsents}
@@ -26,17 +26,24 @@ pub record SeenServer (H : Type 0) : Type 0 where
   -- what is ready to be noted next, without memory
   pub prepared : Option (List DatedFact)
 
--- From its greatest moment on the server answers as the history says, under these rules, and its host comes from the
--- first one by the history's hooks. `installs` and `removes` are the host's own relations.
-pub record FitsServer {H : Type 0} (installs : H → List ℕ → Layout → List ℕ → H → Type 0) (removes : H → List ℕ → H → Type 0) (server : SeenServer H)
-    (rules : RegistryRecord) (first : H) (history : List Event) (m : ℕ) : Type 0 where
-  pub rules_are : server.rules ≡ rules
+-- what a server begins with: its rules, and its host before all that happens
+pub record Outset (H : Type 0) : Type 0 where
+  pub rules : RegistryRecord
+  pub first : H
+
+abbrev pub outset_of : {H : Type 0} → RegistryRecord → H → Outset H
+outset_of rules first = record { rules = rules; first = first }
+
+-- From its greatest moment on the server answers as the history says, under the outset's rules, and its host comes from the
+-- first one by the history's hooks.
+pub record FitsServer {H : Type 0} (hosting : Hosting H) (server : SeenServer H) (outset : Outset H) (history : List Event) (m : ℕ) : Type 0 where
+  pub rules_are : server.rules ≡ outset.rules
   pub greatest_is : server.greatest ≡ m
   pub store : FitsStore server.store history m
   pub consents : FitsConsents server.consents history
-  pub hosts : HostRun installs removes first history server.host
+  pub hosts : HostRun hosting outset.first history server.host
   -- what the bounds of all tokens follow from
-  pub right : AllRight rules [] history
+  pub right : AllRight outset.rules [] history
 
 -- the facts lead from the history that was kept last to this one; where none is kept, there are none
 abbrev pub AreUnkept : Option (List DatedFact) → Option (List Event) → List Event → Type 0
@@ -56,9 +63,15 @@ AreNoted old new before after = (kept : Option (List Event)) → Notes old kept 
 abbrev pub NowNotes : {H : Type 0} → SeenServer H → SeenServer H → Option (List DatedFact) → Type 0
 NowNotes old new unkept = new ≡ record old { unkept = unkept; prepared = new.prepared }
 
+-- what is before a step: the server, a history that it fits, and the moment of the step
+pub record Before (H : Type 0) : Type 0 where
+  pub server : SeenServer H
+  pub outset : Outset H
+  pub history : List Event
+  pub moment : ℕ
+
 -- the reply is the outcome's, the server fits the history with the outcome's changes, and just these are noted
-pub record IsStep {H : Type 0} (installs : H → List ℕ → Layout → List ℕ → H → Type 0) (removes : H → List ℕ → H → Type 0) (outcome : Outcome) (reply : Written)
-    (old new : SeenServer H) (rules : RegistryRecord) (first : H) (history : List Event) (m : ℕ) : Type 0 where
+pub record IsStep {H : Type 0} (hosting : Hosting H) (before : Before H) (outcome : Outcome) (reply : Written) (new : SeenServer H) : Type 0 where
   pub reply_is : reply ≡ in_writing outcome.reply
-  pub fits : FitsServer installs removes new rules first (with_changes history m outcome.changes) m
-  pub noted : AreNoted old new history (with_changes history m outcome.changes)
+  pub fits : FitsServer hosting new before.outset (with_changes before.history before.moment outcome.changes) before.moment
+  pub noted : AreNoted before.server new before.history (with_changes before.history before.moment outcome.changes)

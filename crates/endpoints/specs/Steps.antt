@@ -10,7 +10,7 @@ use Rattle.messages.specs.declared.request.Draws.{Draws}
 use Rattle.endpoints.specs.Bounded.{IsBounded}
 use Rattle.endpoints.specs.Hosts.{IsHostFault, says_with}
 use Rattle.endpoints.specs.Replies.{request_outcome, hook_change}
-use Rattle.endpoints.specs.Server.{SeenServer, FitsServer, IsStep}
+use Rattle.endpoints.specs.Server.{SeenServer, Outset, FitsServer, IsStep}
 
 -- a request as it comes: what it asks, when, and the random bytes of what its reply may give
 pub record Arrival : Type 0 where
@@ -23,23 +23,22 @@ pub record Arrival : Type 0 where
 -- refused, and which of its own faults the host has, if it has one.
 abbrev pub Steps : {H : Type 0} → Hosting H → SeenServer H → Arrival → Written → SeenServer H → Type 0
 Steps {H = H} hosting server arrival reply server' =
-    (rules : RegistryRecord) (first : H) (history : List Event) (m : ℕ) → FitsServer hosting.installs hosting.removes server rules first history m →
-    (refused : Bool) × (fault : Option HookFault) × IsHostFault hosting.refuses_install hosting.refuses_remove server.host (hook_change arrival.asked) fault
-    × IsStep hosting.installs hosting.removes
+    (outset : Outset H) (history : List Event) (m : ℕ) → FitsServer hosting server outset history m →
+    (refused : Bool) × (fault : Option HookFault) × IsHostFault hosting server.host (hook_change arrival.asked) fault
+    × IsStep hosting (record { server = server; outset = outset; history = history; moment = max m arrival.moment })
     (request_outcome refused (record {
-      rules = rules;
+      rules = outset.rules;
       history = history;
       host = says_with hosting server.host fault;
       moment = max m arrival.moment;
       draws = arrival.draws;
     }) arrival.asked)
-    reply server server' rules first history (max m arrival.moment)
+    reply server'
 
 -- so it is of each history that the server fits, and of the moment from which it fits it
 abbrev pub OfEach : {H : Type 0} → Hosting H → SeenServer H → (RegistryRecord → List Event → ℕ → Type 0) → Type 0
 OfEach {H = H} hosting server fact =
-    (rules : RegistryRecord) (first : H) (history : List Event) (m : ℕ) →
-    FitsServer hosting.installs hosting.removes server rules first history m → fact rules history m
+    (outset : Outset H) (history : List Event) (m : ℕ) → FitsServer hosting server outset history m → fact outset.rules history m
 
 -- each code and token of the history keeps to allowance, consent and life
 abbrev pub KeepsBounds : {H : Type 0} → Hosting H → SeenServer H → Type 0

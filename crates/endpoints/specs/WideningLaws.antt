@@ -3,14 +3,14 @@ use Rattle.std.proofs.Common.{◌≡◌, ℕ, List, [], ◌∷◌, ◌++◌, Boo
 use Rattle.std.specs.Prelude.{◌==◌, if◌then◌else◌, is_some, slice_get}
 use Rattle.std.specs.Int.Bits.{and_zero_l}
 use Rattle.std.specs.Option.{option_map_or}
-use Rattle.insn.specs.declared.layout.Layout.{Layout}
+use Rattle.hook_host.specs.declared.host.HookHost.{Ghosts as Hosting}
 use Rattle.clients.specs.ClientRecord.{ClientRecord}
 use Rattle.clients.specs.RegistryRecord.{RegistryRecord}
 use Rattle.consent.specs.CoveredLaws.{is_within-trans}
 use Rattle.consent.specs.History.{Event, Change, is_within}
 use Rattle.consent.specs.History.Change.{Consented, CodeGiven, Issued, Spent, FamilyEnded, HookSet, HookGone}
 use Rattle.endpoints.specs.Bounded.{IsRightChange, AllRight, MayHave, allowed_to}
-use Rattle.endpoints.specs.Server.{SeenServer, FitsServer}
+use Rattle.endpoints.specs.Server.{SeenServer, FitsServer, outset_of}
 use Rattle.endpoints.specs.Widening.{AreWider, IsWider}
 
 -- what a client may be allowed, if there is one
@@ -71,9 +71,9 @@ module _ (old new : RegistryRecord) (wider : IsWider old new) where
   all_right-wider before (e ∷ later) all = (right_wider before e.change all.0, all_right-wider (before ++ e ∷ []) later all.1)
 
   -- and a server under wider rules fits what it fitted
-  pub fits_server-wider : {H : Type 0} (installs : H → List ℕ → Layout → List ℕ → H → Type 0) (removes : H → List ℕ → H → Type 0) (server : SeenServer H) (first : H) (history : List Event) (m : ℕ) →
-      FitsServer installs removes server old first history m → FitsServer installs removes (record server { rules = new }) new first history m
-  fits_server-wider installs removes server first history m fits = record {
+  pub fits_server-wider : {H : Type 0} (hosting : Hosting H) (server : SeenServer H) (first : H) (history : List Event) (m : ℕ) →
+      FitsServer hosting server (outset_of old first) history m → FitsServer hosting (record server { rules = new }) (outset_of new first) history m
+  fits_server-wider hosting server first history m fits = record {
     rules_are = refl;
     greatest_is = fits.greatest_is;
     store = fits.store;

@@ -18,7 +18,7 @@ ghost use Rattle.endpoints.specs.RulingsParts.{AnswersRequest, IsAlone, IsHalted
 ghost use Rattle.endpoints.specs.Bounded.{AllRight};
 ghost use Rattle.endpoints.specs.Hosts.{HostRun};
 ghost use Rattle.endpoints.specs.Restoring.{AreOf, RefusesRestore};
-ghost use Rattle.endpoints.specs.Server.{FitsServer, Notes, NowNotes};
+ghost use Rattle.endpoints.specs.Server.{FitsServer, Notes, NowNotes, outset_of};
 ghost use Rattle.endpoints.specs.Steps.{KeepsBounds, Steps, Sweeps};
 ghost use Rattle.token_store.specs.Fits.{FitsHistory, FitsStore};
 ghost use Rattle.token_store.specs.Image.{as_kept};
@@ -105,7 +105,7 @@ impl<H: HookHost> Server<H> {
     /// A server under the rules, to which nothing has happened yet, and which notes nothing. What it keeps takes memory
     /// from `alloc`.
     pub fn new(alloc: Global, rules: Registry, host: H) -> Self
-        ensures fits { FitsServer H.installs H.removes result rules host [] 0 }
+        ensures fits { FitsServer H.HookHost result (outset_of rules host) [] 0 }
         ensures notes { Notes result None [] }
     {
         Server {
@@ -131,8 +131,8 @@ impl<H: HookHost> Server<H> {
         consents: &[KeptConsent],
     ) -> Result<Self, RestoreFault>
         ensures fits { IfOk result (λ server. (first : H) (history : List Event) → AreOf records.now consents.now history moment →
-            HostRun H.installs H.removes first history host → AllRight rules [] history →
-            FitsServer H.installs H.removes server rules first history moment) }
+            HostRun H.HookHost first history host → AllRight rules [] history →
+            FitsServer H.HookHost server (outset_of rules first) history moment) }
         ensures notes { IfOk result (λ server. Notes server None []) }
         ensures refused { IfErr result (RefusesRestore records.now consents.now moment) }
     {

@@ -1,57 +1,54 @@
 -- An edge goes on by one event.
-use Rattle.std.proofs.Common.{◌≡◌, ◌≤◌, ◌<◌, ◌+◌, inl, inr, ℕ, List, [], ◌∷◌, ◌++◌, Bool, true, false, cond, Some, None, length, length-append, append_assoc, drop, refl, ap, ◌∙◌, sym, subst, arith}
+use Rattle.std.proofs.Common.{◌≡◌, ◌≤◌, ◌<◌, ◌+◌, inl, inr, ℕ, List, [], ◌∷◌, ◌++◌, Bool, true, false, cond, Some, None, length, length-append, append_assoc, append-nil, drop, refl, ap, ◌∙◌, sym, subst, arith}
 use Rattle.std.proofs.lemmas.List.{length-drop, drop-drop, drop-append-le}
 use Rattle.std.specs.Prelude.{Option, IsSome, option_map}
 use Rattle.hook_host.specs.declared.host.HookHost.{Ghosts as Hosting}
-use Rattle.clients.specs.RegistryRecord.{RegistryRecord}
 use Rattle.consent.specs.History.{Event, with_changes}
 use Rattle.change_codec.specs.Spelling.{DatedFact}
-use Rattle.answers.specs.Outcomes.{Outcome}
 use Rattle.endpoints.specs.Bounded.{IsBounded}
 use Rattle.endpoints.specs.BoundedLaws.{tokens_keep_their_bounds}
-use Rattle.endpoints.specs.Server.{SeenServer, FitsServer, AreUnkept, NowNotes}
+use Rattle.endpoints.specs.Server.{SeenServer, Outset, FitsServer, AreUnkept, NowNotes}
 use Rattle.heads.specs.Message.{Message}
 use Rattle.heads.specs.ReadingLaws.{messages_cut, nothing_has_none}
-use Rattle.http_edge.specs.Answers.{changes_made, replies_of}
-use Rattle.http_edge.specs.Schedule.{World, Connection, Happening, Opened, Came, HasEnded, Taken, Forgotten, Kept, Happens, Run, ended, has_stream_ended, is_closing_phase, first_world, resumed, fresh, heard, with_connection, without_connection, moment_after, faulty_if}
+use Rattle.http_edge.specs.Answers.{AnsweredRequest, changes_made, draws_in, marks_in, replies_of}
+use Rattle.http_edge.specs.Schedule.{World, Connection, Piece, AnsweredPiece, Happening, Opened, Came, HasEnded, Taken, Forgotten, Kept, Happens, Run, ended, has_stream_ended, is_closing_phase, first_world, resumed, fresh, heard, piece_of, with_connection, without_connection, moment_after, faulty_if}
 use Rattle.http_edge.specs.Lanes.{SeenLane, lane_at, ShowsConnection, ShowsConnections}
 use Rattle.http_edge.specs.LanesParts.{with_lane, without_lane, fresh_lane}
-use Rattle.http_edge.specs.Heard.{AreMessagesRead, LaneHeard}
+use Rattle.http_edge.specs.Heard.{AreMessagesRead, HearingLane, LaneHeard, hearing_lane}
 use Rattle.http_edge.specs.Edges.{SeenEdge}
-use Rattle.http_edge.specs.Reached.{Reached, BeginsOver, ResumesOver, GoesOn, HappeningLeads, PieceLeads}
-use Rattle.http_edge.specs.Pieces.{PieceGiven}
+use Rattle.http_edge.specs.Reached.{Journey, Reached, BeginsOver, ResumesOver, GoesOn, HappeningLeads, PieceLeads}
+use Rattle.http_edge.specs.Pieces.{PieceGiven, supplied}
 use Rattle.http_edge.specs.Sources.{draws_for}
 use Rattle.http_edge.specs.declared.source.DrawSource.{Ghosts as Sources}
 use Rattle.http_edge.specs.declared.lane.Phase.{Phase}
 use Rattle.http_edge.specs.declared.lane.Phase.TheVariants.{Open, Closing}
-use Rattle.http_edge.proofs.Drawing.{draws_length}
 use Rattle.http_edge.proofs.Phases.{ended_not_open}
 use Rattle.http_edge.proofs.Showing.{shows_here, shows_none, shows_put, shows_without, shows_added, shows_length}
 use Rattle.http_edge.proofs.Supplying.{suffices_none}
 
 -- what a server fits is bounded
-pub fits_bounded : {H : Type 0} (hosting : Hosting H) (server : SeenServer H) (rules : RegistryRecord) (first : H) (history : List Event) (m : ℕ) → FitsServer hosting.installs hosting.removes server rules first history m →
-    IsBounded rules history
-fits_bounded hosting server rules first history m fits = tokens_keep_their_bounds rules history m fits.store.fits.is_history fits.right
+pub fits_bounded : {H : Type 0} (hosting : Hosting H) (server : SeenServer H) (outset : Outset H) (history : List Event) (m : ℕ) → FitsServer hosting server outset history m →
+    IsBounded outset.rules history
+fits_bounded hosting server outset history m fits = tokens_keep_their_bounds outset.rules history m fits.store.fits.is_history fits.right
 
-pub run_push : {H : Type 0} (hosting : Hosting H) (rules : RegistryRecord) (first : H) (old middle new : World) (es : List Happening) (e : Happening) →
-    Run hosting rules first old es middle → Happens hosting rules first middle e new → Run hosting rules first old (es ++ e ∷ []) new
-run_push hosting rules first old middle new [] e same happens = (new, (let P : World → Type 0 = λ w. Happens hosting rules first w e new in subst P same happens), refl)
-run_push hosting rules first old middle new (x ∷ es) e run happens = (run.0, run.1, run_push hosting rules first run.0 middle new es e run.2 happens)
+pub run_push : {H : Type 0} (hosting : Hosting H) (outset : Outset H) (old middle new : World) (es : List Happening) (e : Happening) →
+    Run hosting outset old es middle → Happens hosting outset middle e new → Run hosting outset old (es ++ e ∷ []) new
+run_push hosting outset old middle new [] e same happens = (new, (let P : World → Type 0 = λ w. Happens hosting outset w e new in subst P same happens), refl)
+run_push hosting outset old middle new (x ∷ es) e run happens = (run.0, run.1, run_push hosting outset run.0 middle new es e run.2 happens)
 
 -- the world with other connections
 abbrev pub changed : World → List Connection → World
 changed world connections = record world { connections = connections }
 
 -- an event after which the same server has other lanes
-goes_on : {H : Type 0} (hosting : Hosting H) (edge edge' : SeenEdge H) (rules : RegistryRecord) (first : H) (schedule : List Happening) (world : World) (connections : List Connection) (e : Happening) →
-    Reached hosting edge rules first schedule world → edge'.server ≡ edge.server → ShowsConnections edge'.lanes connections → Happens hosting rules first world e (changed world connections) →
-    GoesOn hosting edge' rules first schedule world e
-goes_on hosting edge edge' rules first schedule world connections e reached same shows happens = record {
-  world = changed world connections;
+goes_on : {H : Type 0} (hosting : Hosting H) (edge edge' : SeenEdge H) (journey : Journey H) (connections : List Connection) (e : Happening) →
+    Reached hosting edge journey → edge'.server ≡ edge.server → ShowsConnections edge'.lanes connections → Happens hosting journey.outset journey.world e (changed journey.world connections) →
+    GoesOn hosting edge' journey e
+goes_on hosting edge edge' journey connections e reached same shows happens = record {
+  world = changed journey.world connections;
   happens = happens;
   reached = record {
-    run = run_push hosting rules first first_world world (changed world connections) schedule e reached.run happens;
+    run = run_push hosting journey.outset first_world journey.world (changed journey.world connections) journey.schedule e reached.run happens;
     server = rw same reached.server;
     notes = rw same reached.notes;
     shows = shows;
@@ -68,20 +65,20 @@ shows_fresh c = record { number = refl; phase = refl; within = omega arith; outp
 
 pub on_opened : {H : Type 0} (hosting : Hosting H) (edge edge' : SeenEdge H) (c : ℕ) → edge'.server ≡ edge.server → lane_at edge.lanes c ≡ None → length edge.lanes < 64 →
     edge'.lanes ≡ edge.lanes ++ fresh_lane c ∷ [] → HappeningLeads hosting edge edge' (Opened c)
-on_opened hosting edge edge' c same none few lanes rules first schedule world reached =
-    let size = shows_length edge.lanes world.connections reached.shows in
-    goes_on hosting edge edge' rules first schedule world (world.connections ++ fresh c ∷ []) _ reached same
-    (shows_as _ _ _ lanes (shows_added edge.lanes world.connections (fresh_lane c) (fresh c) reached.shows (shows_fresh c)))
-    (record { absent = shows_none edge.lanes world.connections c reached.shows none; few = omega (arith, size, few); still = record { greatest = refl; history = refl; kept = refl }; connections = refl })
+on_opened hosting edge edge' c same none few lanes journey reached =
+    let size = shows_length edge.lanes journey.world.connections reached.shows in
+    goes_on hosting edge edge' journey (journey.world.connections ++ fresh c ∷ []) _ reached same
+    (shows_as _ _ _ lanes (shows_added edge.lanes journey.world.connections (fresh_lane c) (fresh c) reached.shows (shows_fresh c)))
+    (record { absent = shows_none edge.lanes journey.world.connections c reached.shows none; few = omega (arith, size, few); still = record { greatest = refl; history = refl; kept = refl }; connections = refl })
 
 pub on_ended : {H : Type 0} (hosting : Hosting H) (edge edge' : SeenEdge H) (c : ℕ) (lane : SeenLane) → edge'.server ≡ edge.server → lane_at edge.lanes c ≡ Some lane → has_stream_ended lane.phase ≡ false →
     edge'.lanes ≡ with_lane c (record { number = lane.number; phase = ended lane.phase; rest = []; output = lane.output }) edge.lanes → HappeningLeads hosting edge edge' (HasEnded c)
-on_ended hosting edge edge' c lane same here not_ended lanes rules first schedule world reached =
-    let at = shows_here edge.lanes world.connections c lane reached.shows here in
+on_ended hosting edge edge' c lane same here not_ended lanes journey reached =
+    let at = shows_here edge.lanes journey.world.connections c lane reached.shows here in
     let shows = at.2 in
     let k : Connection = record at.0 { phase = ended at.0.phase } in
-    goes_on hosting edge edge' rules first schedule world (with_connection c k world.connections) _ reached same
-    (shows_as _ _ _ lanes (shows_put edge.lanes world.connections c _ k reached.shows
+    goes_on hosting edge edge' journey (with_connection c k journey.world.connections) _ reached same
+    (shows_as _ _ _ lanes (shows_put edge.lanes journey.world.connections c _ k reached.shows
     (record {
       number = shows.number;
       phase = ap ended shows.phase;
@@ -94,8 +91,8 @@ on_ended hosting edge edge' c lane same here not_ended lanes rules first schedul
 
 pub on_taken : {H : Type 0} (hosting : Hosting H) (edge edge' : SeenEdge H) (c n : ℕ) (lane : SeenLane) → edge'.server ≡ edge.server → lane_at edge.lanes c ≡ Some lane → n ≤ length lane.output →
     edge'.lanes ≡ with_lane c (record { number = lane.number; phase = lane.phase; rest = lane.rest; output = drop n lane.output }) edge.lanes → HappeningLeads hosting edge edge' (Taken c n)
-on_taken hosting edge edge' c n lane same here fits lanes rules first schedule world reached =
-    let at = shows_here edge.lanes world.connections c lane reached.shows here in
+on_taken hosting edge edge' c n lane same here fits lanes journey reached =
+    let at = shows_here edge.lanes journey.world.connections c lane reached.shows here in
     let shows = at.2 in
     let x = at.0 in
     let k : Connection = record x { taken = x.taken + n } in
@@ -103,16 +100,16 @@ on_taken hosting edge edge' c n lane same here fits lanes rules first schedule w
     let within = shows.within in
     let left = length-drop x.taken x.output in
     let enough : x.taken + n ≤ length x.output = omega (arith, size, within, left, fits) in
-    goes_on hosting edge edge' rules first schedule world (with_connection c k world.connections) _ reached same
-    (shows_as _ _ _ lanes (shows_put edge.lanes world.connections c _ k reached.shows
+    goes_on hosting edge edge' journey (with_connection c k journey.world.connections) _ reached same
+    (shows_as _ _ _ lanes (shows_put edge.lanes journey.world.connections c _ k reached.shows
     (record { number = shows.number; phase = shows.phase; within = enough; output = ap (drop n) shows.output ∙ drop-drop n x.taken x.output; rest = shows.rest; nothing_held = shows.nothing_held })))
     (inl (record { before = x; here = at.1; fits = enough; still = record { greatest = refl; history = refl; kept = refl }; connections = refl }))
 
 pub on_taken_nothing : {H : Type 0} (hosting : Hosting H) (edge edge' : SeenEdge H) (c n : ℕ) → edge'.server ≡ edge.server → lane_at edge.lanes c ≡ None → n ≡ 0 → edge'.lanes ≡ edge.lanes →
     HappeningLeads hosting edge edge' (Taken c n)
-on_taken_nothing hosting edge edge' c n same none zero lanes rules first schedule world reached =
-    goes_on hosting edge edge' rules first schedule world world.connections _ reached same (shows_as _ _ _ lanes reached.shows)
-    (inr (record { absent = shows_none edge.lanes world.connections c reached.shows none; nothing = zero; same = refl }))
+on_taken_nothing hosting edge edge' c n same none zero lanes journey reached =
+    goes_on hosting edge edge' journey journey.world.connections _ reached same (shows_as _ _ _ lanes reached.shows)
+    (inr (record { absent = shows_none edge.lanes journey.world.connections c reached.shows none; nothing = zero; same = refl }))
 
 -- a server that notes does so from a history that was kept
 kept_before : (unkept : Option (List DatedFact)) (kept : Option (List Event)) (history : List Event) → IsSome unkept → AreUnkept unkept kept history →
@@ -127,29 +124,29 @@ notes_anew None history noting = absurd (cc)
 notes_anew (Some facts) history noting = refl
 
 -- what is noted changes no answer
-fits_noting : {H : Type 0} (hosting : Hosting H) (old new : SeenServer H) (unkept : Option (List DatedFact)) (rules : RegistryRecord) (first : H) (history : List Event) (m : ℕ) → NowNotes old new unkept →
-    FitsServer hosting.installs hosting.removes old rules first history m → FitsServer hosting.installs hosting.removes new rules first history m
-fits_noting {H = H} hosting old new unkept rules first history m same fits =
-    let P : SeenServer H → Type 0 = λ server. FitsServer hosting.installs hosting.removes server rules first history m in
+fits_noting : {H : Type 0} (hosting : Hosting H) (old new : SeenServer H) (unkept : Option (List DatedFact)) (outset : Outset H) (history : List Event) (m : ℕ) → NowNotes old new unkept →
+    FitsServer hosting old outset history m → FitsServer hosting new outset history m
+fits_noting {H = H} hosting old new unkept outset history m same fits =
+    let P : SeenServer H → Type 0 = λ server. FitsServer hosting server outset history m in
     subst P (sym same)
     (record { rules_are = fits.rules_are; greatest_is = fits.greatest_is; store = fits.store; consents = fits.consents; hosts = fits.hosts; right = fits.right })
 
 -- what has happened was kept
 pub on_kept : {H : Type 0} (hosting : Hosting H) (edge edge' : SeenEdge H) → NowNotes edge.server edge'.server (option_map (λ facts. []) edge.server.unkept) → edge'.lanes ≡ edge.lanes →
     IsSome edge.server.unkept → HappeningLeads hosting edge edge' Kept
-on_kept hosting edge edge' same lanes noting rules first schedule world reached =
-    let before = kept_before edge.server.unkept world.kept world.history noting reached.notes in
-    let world' : World = record world { kept = Some world.history } in
-    let happens : Happens hosting rules first world Kept world' = record { before = before.0; kept_before = before.1; kept = refl } in
+on_kept hosting edge edge' same lanes noting journey reached =
+    let before = kept_before edge.server.unkept journey.world.kept journey.world.history noting reached.notes in
+    let world' : World = record journey.world { kept = Some journey.world.history } in
+    let happens : Happens hosting journey.outset journey.world Kept world' = record { before = before.0; kept_before = before.1; kept = refl } in
     record {
       world = world';
       happens = happens;
       reached = record {
-        run = run_push hosting rules first first_world world world' schedule _ reached.run happens;
-        server = fits_noting hosting edge.server edge'.server _ rules first world.history world.greatest same reached.server;
+        run = run_push hosting journey.outset first_world journey.world world' journey.schedule _ reached.run happens;
+        server = fits_noting hosting edge.server edge'.server _ journey.outset journey.world.history journey.world.greatest same reached.server;
         notes =
-            (let P : Option (List DatedFact) → Type 0 = λ unkept. AreUnkept unkept (Some world.history) world.history in
-            subst P (sym (ap (λ server. server.unkept) same)) (notes_anew edge.server.unkept world.history noting));
+            (let P : Option (List DatedFact) → Type 0 = λ unkept. AreUnkept unkept (Some journey.world.history) journey.world.history in
+            subst P (sym (ap (λ server. server.unkept) same)) (notes_anew edge.server.unkept journey.world.history noting));
         shows = shows_as _ _ _ lanes reached.shows;
         bounded = reached.bounded;
       };
@@ -157,40 +154,41 @@ on_kept hosting edge edge' same lanes noting rules first schedule world reached 
 
 -- an edge without connections over a server
 pub begun : {H : Type 0} (hosting : Hosting H) (edge : SeenEdge H) → edge.lanes ≡ [] → BeginsOver hosting edge.server edge
-begun hosting edge none rules first fits notes =
-    record { run = refl; server = fits; notes = notes; shows = shows_as _ _ [] none tt; bounded = fits_bounded hosting edge.server rules first [] 0 fits }
+begun hosting edge none outset fits notes =
+    record { run = refl; server = fits; notes = notes; shows = shows_as _ _ [] none tt; bounded = fits_bounded hosting edge.server outset [] 0 fits }
 
 -- that goes on from a history
 pub goes_on_from : {H : Type 0} (hosting : Hosting H) (edge : SeenEdge H) → edge.lanes ≡ [] → ResumesOver hosting edge.server edge
-goes_on_from hosting edge none rules first history m fits notes = record {
+goes_on_from hosting edge none outset history m fits notes = record {
   run = (resumed history m, record { first = refl; is_history = fits.store.fits.is_history; right = fits.right; resumed = refl }, refl);
   server = fits;
   notes = notes;
   shows = shows_as _ _ [] none tt;
-  bounded = fits_bounded hosting edge.server rules first history m fits;
+  bounded = fits_bounded hosting edge.server outset history m fits;
 }
 
 pub on_forgotten : {H : Type 0} (hosting : Hosting H) (edge edge' : SeenEdge H) (c : ℕ) → edge'.server ≡ edge.server → edge'.lanes ≡ without_lane c edge.lanes → HappeningLeads hosting edge edge' (Forgotten c)
-on_forgotten hosting edge edge' c same lanes rules first schedule world reached =
-    goes_on hosting edge edge' rules first schedule world (without_connection c world.connections) _ reached same
-    (shows_as _ _ _ lanes (shows_without edge.lanes world.connections c reached.shows))
+on_forgotten hosting edge edge' c same lanes journey reached =
+    goes_on hosting edge edge' journey (without_connection c journey.world.connections) _ reached same
+    (shows_as _ _ _ lanes (shows_without edge.lanes journey.world.connections c reached.shows))
     (record { still = record { greatest = refl; history = refl; kept = refl }; connections = refl })
 
 -- bytes after the 400 of a faulty head
-pub on_passed : {H S : Type 0} (hosting : Hosting H) (sources : Sources S) (edge edge' : SeenEdge H) (c : ℕ) (lane : SeenLane) (piece : List ℕ) (moment : ℕ) (source source' : S) → edge'.server ≡ edge.server → edge'.lanes ≡ edge.lanes →
-    lane_at edge.lanes c ≡ Some lane → lane.phase ≡ Closing → length piece ≤ 65536 → source' ≡ source → PieceGiven hosting sources edge edge' c piece moment source source'
-on_passed hosting sources edge edge' c lane piece moment source source' same lanes here closing short undrawn = record {
+pub on_passed : {H S : Type 0} (hosting : Hosting H) (sources : Sources S) (edge edge' : SeenEdge H) (piece : Piece) (lane : SeenLane) (source source' : S) → edge'.server ≡ edge.server → edge'.lanes ≡ edge.lanes →
+    lane_at edge.lanes piece.connection ≡ Some lane → lane.phase ≡ Closing → length piece.bytes ≤ 65536 → source' ≡ source →
+    PieceGiven hosting sources (supplied edge source) piece (supplied edge' source')
+on_passed hosting sources edge edge' piece lane source source' same lanes here closing short undrawn = record {
   messages = [];
-  brought = λ rules first schedule world reached.
-      let at = shows_here edge.lanes world.connections c lane reached.shows here in
+  brought = λ journey reached.
+      let at = shows_here edge.lanes journey.world.connections piece.connection lane reached.shows here in
       inr (rw at.1 (ap is_closing_phase (sym at.2.phase ∙ closing)), refl);
   enough = suffices_none (sources.supply source);
-  leads = λ rules first schedule world reached.
-      let at = shows_here edge.lanes world.connections c lane reached.shows here in
+  leads = λ journey reached.
+      let at = shows_here edge.lanes journey.world.connections piece.connection lane reached.shows here in
       record {
         marks = [];
         closes = false;
-        on = goes_on hosting edge edge' rules first schedule world world.connections _ reached same (shows_as _ _ _ lanes reached.shows)
+        on = goes_on hosting edge edge' journey journey.world.connections _ reached same (shows_as _ _ _ lanes reached.shows)
             (short, inr (record { before = at.0; here = at.1; is_closing = sym at.2.phase ∙ closing; no_marks = refl; no_more = refl; same = refl }));
       };
   source_is = undrawn;
@@ -205,29 +203,37 @@ nothing_kept true kept rest e p = e
 nothing_kept false kept rest e p = absurd (p refl)
 
 -- the lane after a piece shows the connection after it
-shows_heard : (lane lane' : SeenLane) (k : Connection) (piece : List ℕ) (messages : List Message) (outcomes : List Outcome) (middle : List ℕ) (closes : Bool) → k.phase ≡ Open →
+shows_heard : (lane lane' : SeenLane) (k : Connection) (piece : List ℕ) (messages : List Message) (requests : List AnsweredRequest) (middle : List ℕ) (closes : Bool) → k.phase ≡ Open →
     ShowsConnection lane k → lane'.number ≡ lane.number → AreMessagesRead (lane.rest ++ piece) lane'.rest messages closes → lane'.phase ≡ cond closes Closing Open →
-    lane'.output ≡ middle ++ faulty_if closes → middle ≡ lane.output ++ replies_of outcomes → ShowsConnection lane' (heard k piece messages outcomes closes)
-shows_heard lane lane' k piece messages outcomes middle closes is_open shows number read phase output said =
+    lane'.output ≡ middle ++ faulty_if closes → middle ≡ lane.output ++ replies_of requests → ShowsConnection lane' (heard k piece messages requests closes)
+shows_heard lane lane' k piece messages requests middle closes is_open shows number read phase output said =
     let le = shows.within in
-    let new : List ℕ = replies_of outcomes ++ faulty_if closes in
+    let new : List ℕ = replies_of requests ++ faulty_if closes in
     let n = length-append k.output new in
     record {
       number = number ∙ shows.number;
       phase = phase;
       within = omega (arith, le, n);
       output =
-          output ∙ ap (λ o. o ++ faulty_if closes) (said ∙ ap (λ o. o ++ replies_of outcomes) shows.output)
-          ∙ append_assoc (drop k.taken k.output) (replies_of outcomes) (faulty_if closes) ∙ sym (drop-append-le k.taken k.output new le);
+          output ∙ ap (λ o. o ++ faulty_if closes) (said ∙ ap (λ o. o ++ replies_of requests) shows.output)
+          ∙ append_assoc (drop k.taken k.output) (replies_of requests) (faulty_if closes) ∙ sym (drop-append-le k.taken k.output new le);
       rest = λ now. rw (rest_kept closes lane'.rest read.rest read.kept_is now) (messages_cut k.stream piece k.messages messages lane.rest read.rest (shows.rest is_open) read.reads);
       nothing_held = nothing_kept closes lane'.rest read.rest read.kept_is;
     }
 
+-- what was heard on a lane is of whatever connection it is looked for by
+pub heard_of : {H S : Type 0} (hosting : Hosting H) (sources : Sources S) (old : HearingLane H S) (piece : Piece) (new : HearingLane H S) (c : ℕ) →
+    LaneHeard hosting sources old piece new → LaneHeard hosting sources old (piece_of c piece.bytes piece.moment) new
+heard_of hosting sources old piece new c l = record { closes = l.closes; number_is = l.number_is; phase_is = l.phase_is; heard = l.heard }
+
 -- a piece that was heard leads on
-leads_heard : {H S : Type 0} (hosting : Hosting H) (sources : Sources S) (edge edge' : SeenEdge H) (c : ℕ) (lane lane' : SeenLane) (piece : List ℕ) (moment : ℕ) (source source' : S) →
-    lane_at edge.lanes c ≡ Some lane → lane.phase ≡ Open → length piece ≤ 65536 → (l : LaneHeard hosting sources edge.server edge'.server lane lane' piece moment source source') → edge'.lanes ≡ with_lane c lane' edge.lanes →
-    PieceLeads hosting edge edge' c piece moment (draws_for sources source l.heard.messages)
-leads_heard hosting sources edge edge' c lane lane' piece moment source source' here is_open short lane_heard lanes rules first schedule world reached =
+leads_heard : {H S : Type 0} (hosting : Hosting H) (sources : Sources S) (edge edge' : SeenEdge H) (piece : Piece) (lane lane' : SeenLane) (source source' : S) →
+    lane_at edge.lanes piece.connection ≡ Some lane → lane.phase ≡ Open → length piece.bytes ≤ 65536 →
+    (l : LaneHeard hosting sources (hearing_lane edge.server lane source) piece (hearing_lane edge'.server lane' source')) → edge'.lanes ≡ with_lane piece.connection lane' edge.lanes →
+    PieceLeads hosting edge edge' piece (draws_for sources source l.heard.messages)
+leads_heard hosting sources edge edge' piece lane lane' source source' here is_open short lane_heard lanes journey reached =
+    let world = journey.world in
+    let c = piece.connection in
     let at = shows_here edge.lanes world.connections c lane reached.shows here in
     let k = at.0 in
     let shows = at.2 in
@@ -235,11 +241,12 @@ leads_heard hosting sources edge edge' c lane lane' piece moment source source' 
     let hears = lane_heard.heard in
     let closes = lane_heard.closes in
     let messages = hears.messages in
-    let served = hears.serves rules first world.history world.greatest reached.server in
-    let m = moment_after world.greatest moment messages in
-    let k' = heard k piece messages served.outcomes closes in
-    let world' : World = record { connections = with_connection c k' world.connections; greatest = m; history = with_changes world.history m (changes_made served.outcomes); kept = world.kept } in
-    let happens : Happens hosting rules first world (Came c piece moment (draws_for sources source messages) served.marks closes) world' = (
+    let served = hears.serves journey.outset world.history world.greatest reached.server in
+    let m = moment_after world.greatest piece.moment messages in
+    let k' = heard k piece.bytes messages served.requests closes in
+    let world' : World = record { connections = with_connection c k' world.connections; greatest = m; history = with_changes world.history m (changes_made served.requests); kept = world.kept } in
+    let came : AnsweredPiece = record { piece = piece; draws = draws_for sources source messages; marks = marks_in served.requests; closes = closes } in
+    let happens : Happens hosting journey.outset world (Came came) world' = (
       short,
       inl (record {
         before = k;
@@ -247,10 +254,13 @@ leads_heard hosting sources edge edge' c lane lane' piece moment source source' 
         is_open = opened;
         messages = messages;
         rest = hears.read.rest;
-        reads = messages_cut k.stream piece k.messages messages lane.rest hears.read.rest (shows.rest opened) hears.read.reads;
+        reads = messages_cut k.stream piece.bytes k.messages messages lane.rest hears.read.rest (shows.rest opened) hears.read.reads;
         few = hears.read.few;
-        enough = (let each = draws_length sources source messages in omega (arith, each));
-        outcomes = served.outcomes;
+        requests = served.requests;
+        asked = served.asked;
+        left = [];
+        draws = served.draws ∙ sym (append-nil (draws_in served.requests));
+        marks = refl;
         answered = served.answered;
         may_tell = hears.read.may_tell;
         must_tell = hears.read.must_tell;
@@ -261,31 +271,32 @@ leads_heard hosting sources edge edge' c lane lane' piece moment source source' 
       }),
     ) in
     let shown : ShowsConnection lane' k' =
-    shows_heard lane lane' k piece messages served.outcomes hears.middle closes opened shows lane_heard.number_is hears.read lane_heard.phase_is hears.output_is served.output_is in
+    shows_heard lane lane' k piece.bytes messages served.requests hears.middle closes opened shows lane_heard.number_is hears.read lane_heard.phase_is hears.output_is served.output_is in
     record {
-      marks = served.marks;
+      marks = marks_in served.requests;
       closes = closes;
       on = record {
         world = world';
         happens = happens;
         reached = record {
-          run = run_push hosting rules first first_world world world' schedule _ reached.run happens;
+          run = run_push hosting journey.outset first_world world world' journey.schedule _ reached.run happens;
           server = served.fits;
           notes = served.noted world.kept reached.notes;
           shows = shows_as _ _ _ lanes (shows_put edge.lanes world.connections c lane' k' reached.shows shown);
-          bounded = fits_bounded hosting edge'.server rules first world'.history m served.fits;
+          bounded = fits_bounded hosting edge'.server journey.outset world'.history m served.fits;
         };
       };
     }
 
 -- a piece was heard
-pub on_heard : {H S : Type 0} (hosting : Hosting H) (sources : Sources S) (edge edge' : SeenEdge H) (c : ℕ) (lane lane' : SeenLane) (piece : List ℕ) (moment : ℕ) (source source' : S) →
-    lane_at edge.lanes c ≡ Some lane → lane.phase ≡ Open → length piece ≤ 65536 → LaneHeard hosting sources edge.server edge'.server lane lane' piece moment source source' → edge'.lanes ≡ with_lane c lane' edge.lanes →
-    PieceGiven hosting sources edge edge' c piece moment source source'
-on_heard hosting sources edge edge' c lane lane' piece moment source source' here is_open short lane_heard lanes = record {
+pub on_heard : {H S : Type 0} (hosting : Hosting H) (sources : Sources S) (edge edge' : SeenEdge H) (piece : Piece) (lane lane' : SeenLane) (source source' : S) →
+    lane_at edge.lanes piece.connection ≡ Some lane → lane.phase ≡ Open → length piece.bytes ≤ 65536 →
+    LaneHeard hosting sources (hearing_lane edge.server lane source) piece (hearing_lane edge'.server lane' source') → edge'.lanes ≡ with_lane piece.connection lane' edge.lanes →
+    PieceGiven hosting sources (supplied edge source) piece (supplied edge' source')
+on_heard hosting sources edge edge' piece lane lane' source source' here is_open short lane_heard lanes = record {
   messages = lane_heard.heard.messages;
-  brought = λ rules first schedule world reached.
-      let at = shows_here edge.lanes world.connections c lane reached.shows here in
+  brought = λ journey reached.
+      let at = shows_here edge.lanes journey.world.connections piece.connection lane reached.shows here in
       let opened : at.0.phase ≡ Open = sym at.2.phase ∙ is_open in
       inl (record {
         connection = at.0;
@@ -293,9 +304,9 @@ on_heard hosting sources edge edge' c lane lane' piece moment source source' her
         is_open = opened;
         short = short;
         rest = lane_heard.heard.read.rest;
-        reads = messages_cut at.0.stream piece at.0.messages lane_heard.heard.messages lane.rest lane_heard.heard.read.rest (at.2.rest opened) lane_heard.heard.read.reads;
+        reads = messages_cut at.0.stream piece.bytes at.0.messages lane_heard.heard.messages lane.rest lane_heard.heard.read.rest (at.2.rest opened) lane_heard.heard.read.reads;
       });
   enough = lane_heard.heard.enough;
-  leads = leads_heard hosting sources edge edge' c lane lane' piece moment source source' here is_open short lane_heard lanes;
+  leads = leads_heard hosting sources edge edge' piece lane lane' source source' here is_open short lane_heard lanes;
   source_is = lane_heard.heard.source_is;
 }

@@ -1,18 +1,17 @@
 -- Draws that are handed in with a piece.
-use Rattle.std.proofs.Common.{◌≡◌, ◌≤◌, ◌+◌, inl, inr, ℕ, List, [], ◌∷◌, ◌++◌, Bool, length, length-append, drop, refl, ap, subst, arith}
+use Rattle.std.proofs.Common.{◌≡◌, ◌≤◌, ◌+◌, inl, inr, ℕ, List, [], ◌∷◌, ◌++◌, Bool, length, append_assoc, drop, refl, ap, ◌∙◌, subst, arith}
 use Rattle.std.specs.Prelude.{OnOk, Result, Ok, Err}
 use Rattle.hook_host.specs.declared.host.HookHost.{Ghosts as Hosting}
-use Rattle.clients.specs.RegistryRecord.{RegistryRecord}
 use Rattle.messages.specs.declared.request.Draws.{Draws}
+use Rattle.endpoints.specs.Server.{Outset}
 use Rattle.heads.specs.Message.{Message}
-use Rattle.http_edge.specs.Answers.{AnswerMark}
-use Rattle.http_edge.specs.Schedule.{World, Happening, Came, Happens, PieceComes, first_world}
+use Rattle.http_edge.specs.Answers.{AnswerMark, draws_in}
+use Rattle.http_edge.specs.Schedule.{World, Piece, Came, Happens, PieceComes, PiecePasses, first_world}
 use Rattle.http_edge.specs.Edges.{SeenEdge}
-use Rattle.http_edge.specs.Reached.{Reached, PieceGoesOn, PieceLeads}
+use Rattle.http_edge.specs.Reached.{Journey, Reached, PieceGoesOn, PieceLeads}
 use Rattle.http_edge.specs.Sources.{draws_for}
-use Rattle.http_edge.specs.Pieces.{PieceGiven}
+use Rattle.http_edge.specs.Pieces.{PieceGiven, supplied}
 use Rattle.http_edge.specs.contracts.draw_list.DrawListDrawSource.TheImpl as list
-use Rattle.http_edge.proofs.Serving.{answered_beside}
 use Rattle.http_edge.proofs.Going.{run_push}
 
 -- each request has its own, and the others are left
@@ -21,10 +20,11 @@ list_draws draws [] enough = refl
 list_draws [] (x ∷ messages) enough = absurd (omega (arith, enough))
 list_draws (d ∷ draws) (x ∷ messages) enough = ap (λ (ds : List Draws). d ∷ ds) (list_draws draws messages (omega (arith, enough)))
 
-module _ {H : Type 0} (hosting : Hosting H) (rules : RegistryRecord) (first : H) (c : ℕ) (piece : List ℕ) (moment : ℕ) (draws more : List Draws) where
-  comes_beside : (old new : World) (marks : List AnswerMark) (closes : Bool) → PieceComes hosting rules first old new c piece moment draws marks closes →
-      PieceComes hosting rules first old new c piece moment (draws ++ more) marks closes
-  comes_beside old new marks closes comes = record {
+module _ {H : Type 0} (hosting : Hosting H) (piece : Piece) (draws more : List Draws) where
+  comes_beside : (outset : Outset H) (old new : World) (marks : List AnswerMark) (closes : Bool) →
+      PieceComes hosting outset old (record { piece = piece; draws = draws; marks = marks; closes = closes }) new →
+      PieceComes hosting outset old (record { piece = piece; draws = draws ++ more; marks = marks; closes = closes }) new
+  comes_beside outset old new marks closes comes = record {
     before = comes.before;
     here = comes.here;
     is_open = comes.is_open;
@@ -32,9 +32,12 @@ module _ {H : Type 0} (hosting : Hosting H) (rules : RegistryRecord) (first : H)
     rest = comes.rest;
     reads = comes.reads;
     few = comes.few;
-    enough = (let enough = comes.enough in let all = length-append draws more in omega (arith, enough, all));
-    outcomes = comes.outcomes;
-    answered = answered_beside hosting rules first new.greatest old.history _ draws more marks comes.outcomes comes.answered;
+    requests = comes.requests;
+    asked = comes.asked;
+    left = comes.left ++ more;
+    draws = ap (λ (ds : List Draws). ds ++ more) comes.draws ∙ append_assoc (draws_in comes.requests) comes.left more;
+    marks = comes.marks;
+    answered = comes.answered;
     may_tell = comes.may_tell;
     must_tell = comes.must_tell;
     greatest = comes.greatest;
@@ -43,13 +46,19 @@ module _ {H : Type 0} (hosting : Hosting H) (rules : RegistryRecord) (first : H)
     connections = comes.connections;
   }
 
+  passes_beside : (old new : World) (marks : List AnswerMark) (closes : Bool) → PiecePasses old (record { piece = piece; draws = draws; marks = marks; closes = closes }) new →
+      PiecePasses old (record { piece = piece; draws = draws ++ more; marks = marks; closes = closes }) new
+  passes_beside old new marks closes passes =
+      record { before = passes.before; here = passes.here; is_closing = passes.is_closing; no_marks = passes.no_marks; no_more = passes.no_more; same = passes.same }
+
   -- a piece that leads on with some draws does so with more
-  leads_beside : (edge edge' : SeenEdge H) (schedule : List Happening) (world : World) → Reached hosting edge rules first schedule world →
-      PieceGoesOn hosting edge' rules first schedule world c piece moment draws → PieceGoesOn hosting edge' rules first schedule world c piece moment (draws ++ more)
-  leads_beside edge edge' schedule world reached goes =
+  leads_beside : (edge edge' : SeenEdge H) (journey : Journey H) → Reached hosting edge journey →
+      PieceGoesOn hosting edge' journey piece draws → PieceGoesOn hosting edge' journey piece (draws ++ more)
+  leads_beside edge edge' journey reached goes =
       let on = goes.on in
-      let happens : Happens hosting rules first world (Came c piece moment (draws ++ more) goes.marks goes.closes) on.world =
-      (on.happens.0, elim on.happens.1 [ inl comes ↦ inl (comes_beside world on.world goes.marks goes.closes comes) | inr passes ↦ inr passes ]) in
+      let happens : Happens hosting journey.outset journey.world (Came (record { piece = piece; draws = draws ++ more; marks = goes.marks; closes = goes.closes })) on.world =
+      (on.happens.0, elim on.happens.1 [ inl comes ↦ inl (comes_beside journey.outset journey.world on.world goes.marks goes.closes comes)
+      | inr passes ↦ inr (passes_beside journey.world on.world goes.marks goes.closes passes) ]) in
       record {
         marks = goes.marks;
         closes = goes.closes;
@@ -57,7 +66,7 @@ module _ {H : Type 0} (hosting : Hosting H) (rules : RegistryRecord) (first : H)
           world = on.world;
           happens = happens;
           reached = record {
-            run = run_push hosting rules first first_world world on.world schedule _ reached.run happens;
+            run = run_push hosting journey.outset first_world journey.world on.world journey.schedule _ reached.run happens;
             server = on.reached.server;
             notes = on.reached.notes;
             shows = on.reached.shows;
@@ -67,14 +76,13 @@ module _ {H : Type 0} (hosting : Hosting H) (rules : RegistryRecord) (first : H)
       }
 
 -- what is given with a list of draws leads on with these
-pub list_leads : {H : Type 0} (hosting : Hosting H) (edge edge' : SeenEdge H) (c : ℕ) (piece : List ℕ) (moment : ℕ) (draws left : List Draws) →
-    PieceGiven hosting list.ghosts edge edge' c piece moment draws left → PieceLeads hosting edge edge' c piece moment draws
-list_leads hosting edge edge' c piece moment draws left given rules first schedule world reached =
-    subst (λ (ds : List Draws). PieceGoesOn hosting edge' rules first schedule world c piece moment ds) (list_draws draws given.messages given.enough)
-    (leads_beside hosting rules first c piece moment (draws_for list.ghosts draws given.messages) (drop (length given.messages) draws) edge edge' schedule world reached
-    (given.leads rules first schedule world reached))
+pub list_leads : {H : Type 0} (hosting : Hosting H) (edge edge' : SeenEdge H) (piece : Piece) (draws left : List Draws) →
+    PieceGiven hosting list.ghosts (supplied edge draws) piece (supplied edge' left) → PieceLeads hosting edge edge' piece draws
+list_leads hosting edge edge' piece draws left given journey reached =
+    subst (λ (ds : List Draws). PieceGoesOn hosting edge' journey piece ds) (list_draws draws given.messages given.enough)
+    (leads_beside hosting piece (draws_for list.ghosts draws given.messages) (drop (length given.messages) draws) edge edge' journey reached (given.leads journey reached))
 
-pub list_leads_where_ok : {H A E : Type 0} (hosting : Hosting H) (edge edge' : SeenEdge H) (c : ℕ) (piece : List ℕ) (moment : ℕ) (draws left : List Draws) (r : Result A E) →
-    OnOk r (PieceGiven hosting list.ghosts edge edge' c piece moment draws left) → OnOk r (PieceLeads hosting edge edge' c piece moment draws)
-list_leads_where_ok hosting edge edge' c piece moment draws left (Ok x) given = list_leads hosting edge edge' c piece moment draws left given
-list_leads_where_ok hosting edge edge' c piece moment draws left (Err e) given = given
+pub list_leads_where_ok : {H A E : Type 0} (hosting : Hosting H) (edge edge' : SeenEdge H) (piece : Piece) (draws left : List Draws) (r : Result A E) →
+    OnOk r (PieceGiven hosting list.ghosts (supplied edge draws) piece (supplied edge' left)) → OnOk r (PieceLeads hosting edge edge' piece draws)
+list_leads_where_ok hosting edge edge' piece draws left (Ok x) given = list_leads hosting edge edge' piece draws left given
+list_leads_where_ok hosting edge edge' piece draws left (Err e) given = given

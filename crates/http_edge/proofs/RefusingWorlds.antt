@@ -5,7 +5,7 @@ use Rattle.std.proofs.lemmas.Bool.{false≢true}
 use Rattle.hook_host.specs.declared.host.HookHost.{Ghosts as Hosting}
 use Rattle.heads.specs.Message.{Message, Messages}
 use Rattle.heads.specs.ReadingLaws.{messages_cut}
-use Rattle.http_edge.specs.Schedule.{Connection, connection_at, has_stream_ended}
+use Rattle.http_edge.specs.Schedule.{Connection, Piece, connection_at, has_stream_ended}
 use Rattle.http_edge.specs.Lanes.{SeenLane, lane_at, ShowsConnections}
 use Rattle.http_edge.specs.LanesParts.{IsHearing}
 use Rattle.http_edge.specs.Edges.{SeenEdge}
@@ -72,23 +72,23 @@ err_map (Err e) P Q f is = f e is
 pub open_refuses : {H A : Type 0} (hosting : Hosting H) (edge : SeenEdge H) (c : ℕ) (e : Event) (r : Result A EdgeFault) → e ≡ event.Open c → IfErr r (λ fault. IsOpenRefusal fault edge.lanes c) → IfErr r (λ fault. RefusesEvent hosting edge e fault)
 open_refuses hosting edge c e r same is =
     err_map r (λ fault. IsOpenRefusal fault edge.lanes c) (λ fault. RefusesEvent hosting edge e fault)
-    (λ fault x rules first schedule world reached. subst (λ y. IsEventRefusal fault world.connections y) (sym same) (opening_refused edge.lanes world.connections c reached.shows fault x)) is
+    (λ fault x journey reached. subst (λ y. IsEventRefusal fault journey.world.connections y) (sym same) (opening_refused edge.lanes journey.world.connections c reached.shows fault x)) is
 
 pub end_refuses : {H A : Type 0} (hosting : Hosting H) (edge : SeenEdge H) (c : ℕ) (e : Event) (r : Result A EdgeFault) → e ≡ event.End c → IfErr r (λ fault. IsEndRefusal fault edge.lanes c) → IfErr r (λ fault. RefusesEvent hosting edge e fault)
 end_refuses hosting edge c e r same is =
     err_map r (λ fault. IsEndRefusal fault edge.lanes c) (λ fault. RefusesEvent hosting edge e fault)
-    (λ fault x rules first schedule world reached. subst (λ y. IsEventRefusal fault world.connections y) (sym same) (ending_refused edge.lanes world.connections c reached.shows fault x)) is
+    (λ fault x journey reached. subst (λ y. IsEventRefusal fault journey.world.connections y) (sym same) (ending_refused edge.lanes journey.world.connections c reached.shows fault x)) is
 
-pub piece_refuses : {H A : Type 0} (hosting : Hosting H) (edge : SeenEdge H) (c : ℕ) (piece : List ℕ) (supply : Option ℕ) (r : Result A EdgeFault) →
-    IfErr r (λ fault. IsBytesRefusal fault edge.lanes c piece supply) → IfErr r (RefusesPiece hosting edge c piece supply)
-piece_refuses hosting edge c piece supply r is =
-    err_map r (λ fault. IsBytesRefusal fault edge.lanes c piece supply) (RefusesPiece hosting edge c piece supply)
-    (λ fault x rules first schedule world reached. piece_refused edge.lanes world.connections c reached.shows fault piece supply x) is
+pub piece_refuses : {H A : Type 0} (hosting : Hosting H) (edge : SeenEdge H) (piece : Piece) (supply : Option ℕ) (r : Result A EdgeFault) →
+    IfErr r (λ fault. IsBytesRefusal fault edge.lanes piece.connection piece.bytes supply) → IfErr r (RefusesPiece hosting edge piece supply)
+piece_refuses hosting edge piece supply r is =
+    err_map r (λ fault. IsBytesRefusal fault edge.lanes piece.connection piece.bytes supply) (RefusesPiece hosting edge piece supply)
+    (λ fault x journey reached. piece_refused edge.lanes journey.world.connections piece.connection reached.shows fault piece.bytes supply x) is
 
 -- an event is refused for what its piece is refused for
-pub bytes_refuse : {H A : Type 0} (hosting : Hosting H) (edge : SeenEdge H) (c : ℕ) (piece : List ℕ) (supply : Option ℕ) (e : Event) (r : Result A EdgeFault) →
-    ((fault : EdgeFault) (connections : List Connection) → IsPieceRefusal fault connections c piece supply → IsEventRefusal fault connections e) →
-    IfErr r (RefusesPiece hosting edge c piece supply) → IfErr r (λ fault. RefusesEvent hosting edge e fault)
-bytes_refuse hosting edge c piece supply e r same is =
-    err_map r (RefusesPiece hosting edge c piece supply) (λ fault. RefusesEvent hosting edge e fault)
-    (λ fault x rules first schedule world reached. same fault world.connections (x rules first schedule world reached)) is
+pub bytes_refuse : {H A : Type 0} (hosting : Hosting H) (edge : SeenEdge H) (piece : Piece) (supply : Option ℕ) (e : Event) (r : Result A EdgeFault) →
+    ((fault : EdgeFault) (connections : List Connection) → IsPieceRefusal fault connections piece.connection piece.bytes supply → IsEventRefusal fault connections e) →
+    IfErr r (RefusesPiece hosting edge piece supply) → IfErr r (λ fault. RefusesEvent hosting edge e fault)
+bytes_refuse hosting edge piece supply e r same is =
+    err_map r (RefusesPiece hosting edge piece supply) (λ fault. RefusesEvent hosting edge e fault)
+    (λ fault x journey reached. same fault journey.world.connections (x journey reached)) is

@@ -2,16 +2,14 @@
 use Rattle.std.proofs.Common.{◌≡◌, ℕ, List, Bool, true, false, cond, Some, None, codes, refl}
 use Rattle.std.specs.Prelude.{Option, ◌&&◌, ◌||◌, bytes_eq}
 use Rattle.hook_host.specs.declared.host.HookHost.{Ghosts as Hosting}
-use Rattle.clients.specs.RegistryRecord.{RegistryRecord}
 use Rattle.consent.specs.History.{Event}
 use Rattle.messages.specs.declared.request.Draws.{Draws}
-use Rattle.messages.specs.Asked.{Asked}
 use Rattle.messages.specs.Target.{path_of}
-use Rattle.answers.specs.Outcomes.{Outcome}
+use Rattle.endpoints.specs.Server.{Outset}
 use Rattle.endpoints.specs.declared.endpoint.Endpoint.{Endpoint}
 use Rattle.endpoints.specs.declared.endpoint.Endpoint.TheVariants.{Authorize, GiveConsent, IssueToken, RevokeToken, Introspect, InstallHook, RemoveHook, ListHooks}
 use Rattle.endpoints.specs.Paths.{endpoint_at}
-use Rattle.http_edge.specs.Answers.{AnswerMark, IsOutcomeOfRequest}
+use Rattle.http_edge.specs.Answers.{AnsweredRequest, IsOutcomeOfRequest}
 use Rattle.http_edge.specs.Sources.{wants_draws}
 
 -- the endpoint by what is told of a path
@@ -55,9 +53,9 @@ second_method false b true true is none = absurd (cc)
 second_method a b false true is none = refl
 second_method a b c false is none = absurd (cc)
 
-module _ {H : Type 0} (hosting : Hosting H) (asked : Asked) (none : wants_draws asked ≡ false) (rules : RegistryRecord) (first : H) (m : ℕ) (history : List Event) (draws draws' : Draws) (mark : AnswerMark) (outcome : Outcome) where
-  unread_at : (endpoint : Option Endpoint) → endpoint_at (path_of asked.target) ≡ endpoint → IsOutcomeOfRequest hosting rules first m history asked draws mark outcome →
-      IsOutcomeOfRequest hosting rules first m history asked draws' mark outcome
+module _ {H : Type 0} (hosting : Hosting H) (outset : Outset H) (m : ℕ) (history : List Event) (request : AnsweredRequest) (draws : Draws) (none : wants_draws request.asked ≡ false) where
+  unread_at : (endpoint : Option Endpoint) → endpoint_at (path_of request.asked.target) ≡ endpoint → IsOutcomeOfRequest hosting outset m history request →
+      IsOutcomeOfRequest hosting outset m history (record request { draws = draws })
   unread_at None found o = record { host = o.host; comes = o.comes; fault = o.fault; outcome_is = rw found (rw found at o.outcome_is) }
   unread_at (Some GiveConsent) found o = record { host = o.host; comes = o.comes; fault = o.fault; outcome_is = rw found (rw found at o.outcome_is) }
   unread_at (Some RevokeToken) found o = record { host = o.host; comes = o.comes; fault = o.fault; outcome_is = rw found (rw found at o.outcome_is) }
@@ -66,13 +64,13 @@ module _ {H : Type 0} (hosting : Hosting H) (asked : Asked) (none : wants_draws 
   unread_at (Some RemoveHook) found o = record { host = o.host; comes = o.comes; fault = o.fault; outcome_is = rw found (rw found at o.outcome_is) }
   unread_at (Some ListHooks) found o = record { host = o.host; comes = o.comes; fault = o.fault; outcome_is = rw found (rw found at o.outcome_is) }
   unread_at (Some Authorize) found o =
-      let here = first_holds (bytes_eq (path_of asked.target) (codes "/authorize")) (bytes_eq (path_of asked.target) (codes "/consent")) (bytes_eq (path_of asked.target) (codes "/token")) (bytes_eq (path_of asked.target) (codes "/revoke")) (bytes_eq (path_of asked.target) (codes "/introspect")) (bytes_eq (path_of asked.target) (codes "/hooks")) (bytes_eq (path_of asked.target) (codes "/hooks/remove")) (bytes_eq (path_of asked.target) (codes "/hooks/list")) found in
-      let other : bytes_eq asked.method (codes "GET") ≡ false = first_method (bytes_eq asked.method (codes "GET")) (bytes_eq (path_of asked.target) (codes "/authorize")) (bytes_eq asked.method (codes "POST")) (bytes_eq (path_of asked.target) (codes "/token")) here none in
+      let here = first_holds (bytes_eq (path_of request.asked.target) (codes "/authorize")) (bytes_eq (path_of request.asked.target) (codes "/consent")) (bytes_eq (path_of request.asked.target) (codes "/token")) (bytes_eq (path_of request.asked.target) (codes "/revoke")) (bytes_eq (path_of request.asked.target) (codes "/introspect")) (bytes_eq (path_of request.asked.target) (codes "/hooks")) (bytes_eq (path_of request.asked.target) (codes "/hooks/remove")) (bytes_eq (path_of request.asked.target) (codes "/hooks/list")) found in
+      let other : bytes_eq request.asked.method (codes "GET") ≡ false = first_method (bytes_eq request.asked.method (codes "GET")) (bytes_eq (path_of request.asked.target) (codes "/authorize")) (bytes_eq request.asked.method (codes "POST")) (bytes_eq (path_of request.asked.target) (codes "/token")) here none in
       record { host = o.host; comes = o.comes; fault = o.fault; outcome_is = rw (found, other) (rw (found, other) at o.outcome_is) }
   unread_at (Some IssueToken) found o =
-      let here = third_holds (bytes_eq (path_of asked.target) (codes "/authorize")) (bytes_eq (path_of asked.target) (codes "/consent")) (bytes_eq (path_of asked.target) (codes "/token")) (bytes_eq (path_of asked.target) (codes "/revoke")) (bytes_eq (path_of asked.target) (codes "/introspect")) (bytes_eq (path_of asked.target) (codes "/hooks")) (bytes_eq (path_of asked.target) (codes "/hooks/remove")) (bytes_eq (path_of asked.target) (codes "/hooks/list")) found in
-      let other : bytes_eq asked.method (codes "POST") ≡ false = second_method (bytes_eq asked.method (codes "GET")) (bytes_eq (path_of asked.target) (codes "/authorize")) (bytes_eq asked.method (codes "POST")) (bytes_eq (path_of asked.target) (codes "/token")) here none in
+      let here = third_holds (bytes_eq (path_of request.asked.target) (codes "/authorize")) (bytes_eq (path_of request.asked.target) (codes "/consent")) (bytes_eq (path_of request.asked.target) (codes "/token")) (bytes_eq (path_of request.asked.target) (codes "/revoke")) (bytes_eq (path_of request.asked.target) (codes "/introspect")) (bytes_eq (path_of request.asked.target) (codes "/hooks")) (bytes_eq (path_of request.asked.target) (codes "/hooks/remove")) (bytes_eq (path_of request.asked.target) (codes "/hooks/list")) found in
+      let other : bytes_eq request.asked.method (codes "POST") ≡ false = second_method (bytes_eq request.asked.method (codes "GET")) (bytes_eq (path_of request.asked.target) (codes "/authorize")) (bytes_eq request.asked.method (codes "POST")) (bytes_eq (path_of request.asked.target) (codes "/token")) here none in
       record { host = o.host; comes = o.comes; fault = o.fault; outcome_is = rw (found, other) (rw (found, other) at o.outcome_is) }
 
-  pub unread : IsOutcomeOfRequest hosting rules first m history asked draws mark outcome → IsOutcomeOfRequest hosting rules first m history asked draws' mark outcome
-  unread o = unread_at (endpoint_at (path_of asked.target)) refl o
+  pub unread : IsOutcomeOfRequest hosting outset m history request → IsOutcomeOfRequest hosting outset m history (record request { draws = draws })
+  unread o = unread_at (endpoint_at (path_of request.asked.target)) refl o

@@ -1,15 +1,13 @@
 -- A piece that was read and answered.
-use Rattle.std.specs.Prelude.{◌≡◌, ◌≤◌, ◌<◌, ℕ, List, [], ◌++◌, Bool, true, Option, length, map, if◌then◌else◌}
+use Rattle.std.specs.Prelude.{◌≡◌, ◌≤◌, ◌<◌, ℕ, List, [], ◌++◌, Bool, true, Option, length, if◌then◌else◌}
 use Rattle.hook_host.specs.declared.host.HookHost.{Ghosts as Hosting}
-use Rattle.clients.specs.RegistryRecord.{RegistryRecord}
 use Rattle.consent.specs.History.{Event, with_changes}
 use Rattle.messages.specs.declared.request.Draws.{Draws}
-use Rattle.answers.specs.Outcomes.{Outcome}
-use Rattle.endpoints.specs.Server.{SeenServer, FitsServer, AreNoted}
-use Rattle.heads.specs.Message.{Message, HasNone, ReadsMessages, Messages, IsHopeless, MustTell, asked_of_message}
+use Rattle.endpoints.specs.Server.{SeenServer, Outset, Before, FitsServer, AreNoted}
+use Rattle.heads.specs.Message.{Message, HasNone, ReadsMessages, Messages, IsHopeless, MustTell}
 use Rattle.http_edge.specs.Limits.{request_limit}
-use Rattle.http_edge.specs.Answers.{AnswerMark, AreAnswered, changes_made, replies_of}
-use Rattle.http_edge.specs.Schedule.{faulty_if, moment_after}
+use Rattle.http_edge.specs.Answers.{AnsweredRequest, AreAnswered, AreAskedBy, draws_in, changes_made, replies_of}
+use Rattle.http_edge.specs.Schedule.{Piece, faulty_if, moment_after}
 use Rattle.http_edge.specs.Supply.{Suffices, FallsShort}
 use Rattle.http_edge.specs.Sources.{draws_for, draws_behind}
 use Rattle.http_edge.specs.declared.source.DrawSource.{Ghosts as Sources}
@@ -30,22 +28,45 @@ pub record HasMessages (bytes : List ℕ) (count : ℕ) : Type 0 where
   pub reads : ReadsMessages bytes messages rest
   pub count_is : length messages ≡ count
 
+-- a server, and the output behind which it writes its replies
+pub record Replying (H : Type 0) : Type 0 where
+  pub server : SeenServer H
+  pub output : List ℕ
+
+abbrev pub replying : {H : Type 0} → SeenServer H → List ℕ → Replying H
+replying server output = record { server = server; output = output }
+
+-- messages that came at a moment, with the draws of their requests
+pub record Incoming : Type 0 where
+  pub messages : List Message
+  pub moment : ℕ
+  pub draws : List Draws
+
+-- they come with the source's next draws
+abbrev pub drawn_for : {S : Type 0} → Sources S → S → List Message → ℕ → Incoming
+drawn_for sources source messages moment = record { messages = messages; moment = moment; draws = draws_for sources source messages }
+
 -- the messages have outcomes, whose replies were written behind the output, the server fits what they changed, and just
 -- that is noted
-pub record AreMessagesServed {H : Type 0} (hosting : Hosting H) (server server' : SeenServer H) (output output' : List ℕ) (rules : RegistryRecord) (first : H)
-    (history : List Event) (m : ℕ) (messages : List Message) (draws : List Draws) : Type 0 where
-  pub marks : List AnswerMark
-  pub outcomes : List Outcome
-  pub answered : AreAnswered hosting rules first m history (map asked_of_message messages) draws marks outcomes
-  pub output_is : output' ≡ output ++ replies_of outcomes
-  pub fits : FitsServer hosting.installs hosting.removes server' rules first (with_changes history m (changes_made outcomes)) m
-  pub noted : AreNoted server server' history (with_changes history m (changes_made outcomes))
+pub record AreMessagesServed {H : Type 0} (hosting : Hosting H) (before : Before H) (output : List ℕ) (incoming : Incoming) (new : Replying H) : Type 0 where
+  pub requests : List AnsweredRequest
+  pub asked : AreAskedBy incoming.messages requests
+  pub draws : incoming.draws ≡ draws_in requests
+  pub answered : AreAnswered hosting before.outset before.moment before.history requests
+  pub output_is : new.output ≡ output ++ replies_of requests
+  pub fits : FitsServer hosting new.server before.outset (with_changes before.history before.moment (changes_made requests)) before.moment
+  pub noted : AreNoted before.server new.server before.history (with_changes before.history before.moment (changes_made requests))
+
+-- what is before the messages, where the server fits the history from the moment on
+abbrev pub before_messages : {H : Type 0} → SeenServer H → Outset H → List Event → ℕ → Incoming → Before H
+before_messages server outset history m incoming =
+    record { server = server; outset = outset; history = history; moment = moment_after m incoming.moment incoming.messages }
 
 -- whatever history the server fitted
-abbrev pub ServesMessages : {H : Type 0} → Hosting H → SeenServer H → SeenServer H → List ℕ → List ℕ → List Message → ℕ → List Draws → Type 0
-ServesMessages hosting server server' output output' messages moment draws =
-    (rules : RegistryRecord) (first : _) (history : List Event) (m : ℕ) → FitsServer hosting.installs hosting.removes server rules first history m →
-    AreMessagesServed hosting server server' output output' rules first history (moment_after m moment messages) messages draws
+abbrev pub ServesMessages : {H : Type 0} → Hosting H → Replying H → Incoming → Replying H → Type 0
+ServesMessages hosting old incoming new =
+    (outset : Outset _) (history : List Event) (m : ℕ) → FitsServer hosting old.server outset history m →
+    AreMessagesServed hosting (before_messages old.server outset history m incoming) old.output incoming new
 
 -- the messages of the bytes, how many there may be, and what is kept of the bytes
 pub record AreMessagesRead (bytes kept : List ℕ) (messages : List Message) (closes : Bool) : Type 0 where
@@ -56,24 +77,34 @@ pub record AreMessagesRead (bytes kept : List ℕ) (messages : List Message) (cl
   pub may_tell : closes ≡ true → IsHopeless rest
   pub must_tell : MustTell rest → closes ≡ true
 
--- what bytes are heard with: a server, the output behind which it writes, and what its requests have their draws from
-pub record HeardWith (H S : Type 0) : Type 0 where
-  pub server : SeenServer H
-  pub output : List ℕ
+-- what hears bytes at a moment: a server, the bytes, the output behind which it writes, and what its requests have their draws from
+pub record BeforeHearing (H S : Type 0) : Type 0 where
+  pub replying : Replying H
+  pub bytes : List ℕ
+  pub moment : ℕ
   pub source : S
 
-abbrev pub heard_with : {H S : Type 0} → SeenServer H → List ℕ → S → HeardWith H S
-heard_with server output source = record { server = server; output = output; source = source }
+-- what is then: the server and its output, what is kept of the bytes, the source, and whether a faulty head was told of
+pub record AfterHearing (H S : Type 0) : Type 0 where
+  pub replying : Replying H
+  pub kept : List ℕ
+  pub source : S
+  pub closes : Bool
+
+abbrev pub before_hearing : {H S : Type 0} → Replying H → List ℕ → ℕ → S → BeforeHearing H S
+before_hearing replying bytes moment source = record { replying = replying; bytes = bytes; moment = moment; source = source }
+
+abbrev pub after_hearing : {H S : Type 0} → Replying H → List ℕ → S → Bool → AfterHearing H S
+after_hearing replying kept source closes = record { replying = replying; kept = kept; source = source; closes = closes }
 
 -- the messages of the bytes were answered, each with the source's next draws, and after them a faulty head
-pub record IsHeard {H S : Type 0} (hosting : Hosting H) (sources : Sources S) (old new : HeardWith H S) (bytes kept : List ℕ) (moment : ℕ)
-    (closes : Bool) : Type 0 where
+pub record IsHeard {H S : Type 0} (hosting : Hosting H) (sources : Sources S) (old : BeforeHearing H S) (new : AfterHearing H S) : Type 0 where
   pub messages : List Message
-  pub read : AreMessagesRead bytes kept messages closes
+  pub read : AreMessagesRead old.bytes new.kept messages new.closes
   pub enough : Suffices (sources.supply old.source) (length messages)
   pub middle : List ℕ
-  pub serves : ServesMessages hosting old.server new.server old.output middle messages moment (draws_for sources old.source messages)
-  pub output_is : new.output ≡ middle ++ faulty_if closes
+  pub serves : ServesMessages hosting old.replying (drawn_for sources old.source messages old.moment) (replying new.replying.server middle)
+  pub output_is : new.replying.output ≡ middle ++ faulty_if new.closes
   pub source_is : new.source ≡ draws_behind sources old.source messages
 
 -- why bytes are refused
@@ -85,11 +116,21 @@ IsHearingRefusal Memory bytes supply = (messages : List Message) × (rest : List
     Suffices supply (length messages)
 IsHearingRefusal fault bytes supply = ⊥
 
--- a piece was heard on a lane
-pub record LaneHeard {H S : Type 0} (hosting : Hosting H) (sources : Sources S) (server server' : SeenServer H) (lane lane' : SeenLane)
-    (piece : List ℕ) (moment : ℕ) (source source' : S) : Type 0 where
+-- a lane that may hear a piece: its server, and what the requests have their draws from
+pub record HearingLane (H S : Type 0) : Type 0 where
+  pub server : SeenServer H
+  pub lane : SeenLane
+  pub source : S
+
+abbrev pub hearing_lane : {H S : Type 0} → SeenServer H → SeenLane → S → HearingLane H S
+hearing_lane server lane source = record { server = server; lane = lane; source = source }
+
+-- bytes were heard on a lane at the moment
+pub record LaneHeard {H S : Type 0} (hosting : Hosting H) (sources : Sources S) (old : HearingLane H S) (piece : Piece) (new : HearingLane H S) :
+    Type 0 where
   pub closes : Bool
-  pub number_is : lane'.number ≡ lane.number
-  pub phase_is : lane'.phase ≡ (if closes then Closing else Open)
-  pub heard : IsHeard hosting sources (heard_with server lane.output source) (heard_with server' lane'.output source')
-      (lane.rest ++ piece) lane'.rest moment closes
+  pub number_is : new.lane.number ≡ old.lane.number
+  pub phase_is : new.lane.phase ≡ (if closes then Closing else Open)
+  pub heard : IsHeard hosting sources
+      (before_hearing (replying old.server old.lane.output) (old.lane.rest ++ piece.bytes) piece.moment old.source)
+      (after_hearing (replying new.server new.lane.output) new.lane.rest new.source closes)

@@ -1,23 +1,39 @@
 -- What came and went on connections, what was kept, and what the server's outputs are then.
-use Rattle.std.specs.Prelude.{◌≡◌, ◌⊎◌, ◌≤◌, ◌<◌, ◌+◌, ℕ, List, [], ◌∷◌, ◌++◌, Bool, true, false, not, Option, Some, None, ◌==◌, if◌then◌else◌, find, filter, length, drop, map, max}
+use Rattle.std.specs.Prelude.{◌≡◌, ◌⊎◌, ◌≤◌, ◌<◌, ◌+◌, ℕ, List, [], ◌∷◌, ◌++◌, Bool, true, false, not, Option, Some, None, ◌==◌, if◌then◌else◌, find, filter, length, drop, max}
 use Rattle.hook_host.specs.declared.host.HookHost.{Ghosts as Hosting}
 use Rattle.clients.specs.RegistryRecord.{RegistryRecord}
 use Rattle.consent.specs.History.{Event, IsHistory, with_changes}
 use Rattle.messages.specs.declared.request.Draws.{Draws}
 use Rattle.messages.specs.Written.{faulty_bytes}
-use Rattle.answers.specs.Outcomes.{Outcome}
 use Rattle.endpoints.specs.Bounded.{AllRight}
-use Rattle.heads.specs.Message.{Message, Messages, IsHopeless, MustTell, asked_of_message}
+use Rattle.endpoints.specs.Server.{Outset}
+use Rattle.heads.specs.Message.{Message, Messages, IsHopeless, MustTell}
 use Rattle.http_edge.specs.Limits.{connection_limit, piece_limit, request_limit}
-use Rattle.http_edge.specs.Answers.{AnswerMark, AreAnswered, changes_made, replies_of}
+use Rattle.http_edge.specs.Answers.{AnswerMark, AnsweredRequest, AreAnswered, AreAskedBy, draws_in, marks_in, changes_made, replies_of}
 use Rattle.http_edge.specs.declared.lane.Phase.{Phase}
 use Rattle.http_edge.specs.declared.lane.Phase.TheVariants.{Open, Closing, Ended, Closed}
 
--- an accepted event, with what was free in it: a mark for each request that it completed, and whether the 400 of a
--- faulty head was given
+-- a piece of a connection's stream, which came at a moment
+pub record Piece : Type 0 where
+  pub connection : ℕ
+  pub bytes : List ℕ
+  pub moment : ℕ
+
+abbrev pub piece_of : ℕ → List ℕ → ℕ → Piece
+piece_of c bytes moment = record { connection = c; bytes = bytes; moment = moment }
+
+-- a piece that was answered: with draws for the requests that it completed, and with what was free, which is a mark for each
+-- of these, and whether the 400 of a faulty head was given
+pub record AnsweredPiece : Type 0 where
+  pub piece : Piece
+  pub draws : List Draws
+  pub marks : List AnswerMark
+  pub closes : Bool
+
+-- an accepted event
 pub data Happening : Type 0 where
   Opened : (c : ℕ) → Happening
-  Came : (c : ℕ) → (piece : List ℕ) → (moment : ℕ) → (draws : List Draws) → (marks : List AnswerMark) → (closes : Bool) → Happening
+  Came : (came : AnsweredPiece) → Happening
   HasEnded : (c : ℕ) → Happening
   Taken : (c n : ℕ) → Happening
   Forgotten : (c : ℕ) → Happening
@@ -103,37 +119,42 @@ abbrev pub moment_after : ℕ → ℕ → List Message → ℕ
 moment_after greatest moment [] = greatest
 moment_after greatest moment (message ∷ messages) = max greatest moment
 
--- the connection after a piece, with what it completes
-abbrev pub heard : Connection → List ℕ → List Message → List Outcome → Bool → Connection
-heard k piece messages outcomes closes = record {
+-- the connection after bytes, with what they complete
+abbrev pub heard : Connection → List ℕ → List Message → List AnsweredRequest → Bool → Connection
+heard k bytes messages requests closes = record {
   number = k.number;
   phase = if closes then Closing else Open;
-  stream = k.stream ++ piece;
+  stream = k.stream ++ bytes;
   messages = k.messages ++ messages;
-  output = k.output ++ (replies_of outcomes ++ faulty_if closes);
+  output = k.output ++ (replies_of requests ++ faulty_if closes);
   taken = k.taken;
 }
 
--- bytes came on an open connection: the messages that they complete are those of its whole stream, and are answered
-pub record PieceComes {H : Type 0} (hosting : Hosting H) (rules : RegistryRecord) (first : H) (old new : World) (c : ℕ) (piece : List ℕ) (moment : ℕ)
-    (draws : List Draws) (marks : List AnswerMark) (closes : Bool) : Type 0 where
+-- bytes came on an open connection: the messages that they complete are those of its whole stream, and are answered, each with
+-- draws of its own
+pub record PieceComes {H : Type 0} (hosting : Hosting H) (outset : Outset H) (old : World) (came : AnsweredPiece) (new : World) : Type 0 where
   pub before : Connection
-  pub here : connection_at old.connections c ≡ Some before
+  pub here : connection_at old.connections came.piece.connection ≡ Some before
   pub is_open : before.phase ≡ Open
   pub messages : List Message
   pub rest : List ℕ
-  pub reads : Messages (before.stream ++ piece) (before.messages ++ messages) rest
+  pub reads : Messages (before.stream ++ came.piece.bytes) (before.messages ++ messages) rest
   pub few : length messages ≤ request_limit
-  pub enough : length messages ≤ length draws
-  pub outcomes : List Outcome
-  pub answered : AreAnswered hosting rules first new.greatest old.history (map asked_of_message messages) draws marks outcomes
+  pub requests : List AnsweredRequest
+  pub asked : AreAskedBy messages requests
+  -- draws may be left
+  pub left : List Draws
+  pub draws : came.draws ≡ draws_in requests ++ left
+  pub marks : came.marks ≡ marks_in requests
+  pub answered : AreAnswered hosting outset new.greatest old.history requests
   -- a faulty head is told of only where nothing good can come, and at the latest where it must be
-  pub may_tell : closes ≡ true → IsHopeless rest
-  pub must_tell : MustTell rest → closes ≡ true
-  pub greatest : new.greatest ≡ moment_after old.greatest moment messages
-  pub history : new.history ≡ with_changes old.history new.greatest (changes_made outcomes)
+  pub may_tell : came.closes ≡ true → IsHopeless rest
+  pub must_tell : MustTell rest → came.closes ≡ true
+  pub greatest : new.greatest ≡ moment_after old.greatest came.piece.moment messages
+  pub history : new.history ≡ with_changes old.history new.greatest (changes_made requests)
   pub kept : new.kept ≡ old.kept
-  pub connections : new.connections ≡ with_connection c (heard before piece messages outcomes closes) old.connections
+  pub connections : new.connections ≡
+      with_connection came.piece.connection (heard before came.piece.bytes messages requests came.closes) old.connections
 
 -- the server's side is as it was
 pub record IsServerStill (old new : World) : Type 0 where
@@ -142,12 +163,12 @@ pub record IsServerStill (old new : World) : Type 0 where
   pub kept : new.kept ≡ old.kept
 
 -- bytes that come after the 400 of a faulty head change nothing
-pub record PiecePasses (old new : World) (c : ℕ) (marks : List AnswerMark) (closes : Bool) : Type 0 where
+pub record PiecePasses (old : World) (came : AnsweredPiece) (new : World) : Type 0 where
   pub before : Connection
-  pub here : connection_at old.connections c ≡ Some before
+  pub here : connection_at old.connections came.piece.connection ≡ Some before
   pub is_closing : before.phase ≡ Closing
-  pub no_marks : marks ≡ []
-  pub no_more : closes ≡ false
+  pub no_marks : came.marks ≡ []
+  pub no_more : came.closes ≡ false
   pub same : new ≡ old
 
 -- a connection is opened that was not there, and there are not too many
@@ -197,19 +218,19 @@ pub record Resumes (rules : RegistryRecord) (old new : World) (history : List Ev
   pub right : AllRight rules [] history
   pub resumed : new ≡ resumed history greatest
 
-abbrev pub Happens : {H : Type 0} → Hosting H → RegistryRecord → H → World → Happening → World → Type 0
-Happens hosting rules first old (Opened c) new = Opens old new c
-Happens hosting rules first old (Came c piece moment draws marks closes) new =
-    (length piece ≤ piece_limit) × (PieceComes hosting rules first old new c piece moment draws marks closes ⊎ PiecePasses old new c marks closes)
-Happens hosting rules first old (HasEnded c) new = StreamEnds old new c
-Happens hosting rules first old (Taken c n) new = TakesOutput old new c n ⊎ TakesNothing old new c n
-Happens hosting rules first old (Forgotten c) new = ForgetsConnection old new c
-Happens hosting rules first old Kept new = KeepsHistory old new
-Happens hosting rules first old (Resumed history greatest) new = Resumes rules old new history greatest
+abbrev pub Happens : {H : Type 0} → Hosting H → Outset H → World → Happening → World → Type 0
+Happens hosting outset old (Opened c) new = Opens old new c
+Happens hosting outset old (Came came) new =
+    (length came.piece.bytes ≤ piece_limit) × (PieceComes hosting outset old came new ⊎ PiecePasses old came new)
+Happens hosting outset old (HasEnded c) new = StreamEnds old new c
+Happens hosting outset old (Taken c n) new = TakesOutput old new c n ⊎ TakesNothing old new c n
+Happens hosting outset old (Forgotten c) new = ForgetsConnection old new c
+Happens hosting outset old Kept new = KeepsHistory old new
+Happens hosting outset old (Resumed history greatest) new = Resumes outset.rules old new history greatest
 
 -- A SCHEDULE
 
-abbrev pub Run : {H : Type 0} → Hosting H → RegistryRecord → H → World → List Happening → World → Type 0
-Run hosting rules first old [] new = new ≡ old
-Run hosting rules first old (e ∷ later) new =
-    (middle : World) × Happens hosting rules first old e middle × Run hosting rules first middle later new
+abbrev pub Run : {H : Type 0} → Hosting H → Outset H → World → List Happening → World → Type 0
+Run hosting outset old [] new = new ≡ old
+Run hosting outset old (e ∷ later) new =
+    (middle : World) × Happens hosting outset old e middle × Run hosting outset middle later new

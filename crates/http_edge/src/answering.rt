@@ -3,8 +3,8 @@ ghost use Rattle.std.specs.Prelude.{◌≡◌, ◌≤◌, ◌+◌, ◌*◌, ℕ,
 ghost use Rattle.messages.specs.Small.{reply_limit};
 ghost use Rattle.heads.specs.Message.{Message, ReadsMessages};
 ghost use Rattle.heads.specs.Front.{IsFront};
-ghost use Rattle.http_edge.specs.Heard.{HasMessages, ServesMessages};
-ghost use Rattle.http_edge.specs.Sources.{draws_for, draws_behind};
+ghost use Rattle.http_edge.specs.Heard.{HasMessages, ServesMessages, drawn_for, replying};
+ghost use Rattle.http_edge.specs.Sources.{draws_behind};
 ghost use Rattle.http_edge.specs.Supply.{Suffices};
 
 use crate::source::DrawSource;
@@ -30,8 +30,8 @@ pub(crate) fn answer_all<H: HookHost, S: DrawSource>(
     requires draws { Suffices (S.supply source.old) count }
     requires room { vec_len output.old + count * reply_limit ≤ vec_capacity output.old }
     ensures served { (messages : List Message) (rest : List ℕ) → ReadsMessages bytes.now messages rest → length messages ≡ count →
-        ServesMessages H.HookHost server.old server.new output.old.items output.new.items messages moment
-        (draws_for S.DrawSource source.old messages) }
+        ServesMessages H.HookHost (replying server.old output.old.items) (drawn_for S.DrawSource source.old messages moment)
+        (replying server.new output.new.items) }
     ensures drawn { (messages : List Message) (rest : List ℕ) → ReadsMessages bytes.now messages rest → length messages ≡ count →
         source.new ≡ draws_behind S.DrawSource source.old messages }
     ensures room { vec_capacity output.old ≤ vec_capacity output.new }

@@ -6,16 +6,16 @@ ghost use Rattle.change_codec.specs.Batches.{facts_in};
 ghost use Rattle.endpoints.specs.Server.{AreUnkept};
 ghost use Rattle.http_edge.specs.declared.lane.Phase.TheVariants.{Open};
 ghost use Rattle.http_edge.specs.Limits.{piece_limit, room_to_hear};
-ghost use Rattle.http_edge.specs.Schedule.{HasEnded, Opened, Taken, Forgotten, Kept, connection_at, ended, untaken};
+ghost use Rattle.http_edge.specs.Schedule.{HasEnded, Opened, Taken, Forgotten, Kept, connection_at, ended, piece_of, untaken};
 ghost use Rattle.http_edge.specs.Lanes.{lane_at, rest_in, output_in};
 ghost use Rattle.http_edge.specs.LanesParts.{fresh_lane, without_lane, is_closing_lane};
 ghost use Rattle.http_edge.specs.Places.{AreApart};
 ghost use Rattle.http_edge.specs.PlacesParts.{IsPosition};
-ghost use Rattle.http_edge.specs.Heard.{LaneHeard, IsHearingRefusal};
+ghost use Rattle.http_edge.specs.Heard.{LaneHeard, IsHearingRefusal, hearing_lane};
 ghost use Rattle.http_edge.specs.Edges.{output_of, unkept_of};
 ghost use Rattle.http_edge.specs.EdgesParts.{IsOpenRefusal, IsEndRefusal, IsBytesRefusal};
 ghost use Rattle.http_edge.specs.Reached.{BeginsOver, ResumesOver, InEach, HappeningLeads, is_closing, IsHeld};
-ghost use Rattle.http_edge.specs.Pieces.{PieceGiven, RefusesPiece};
+ghost use Rattle.http_edge.specs.Pieces.{PieceGiven, RefusesPiece, supplied};
 ghost use Rattle.http_edge.specs.Events.{EventLeads};
 ghost use Rattle.http_edge.specs.Refusals.{RefusesEvent};
 
@@ -192,8 +192,8 @@ fn hear_lane<H: HookHost, S: DrawSource>(
     requires short { length piece.now ≤ piece_limit }
     requires empty { vec_len work.old ≡ 0 }
     requires room { room_to_hear ≤ vec_capacity work.old }
-    ensures heard { OnOk result (LaneHeard H.HookHost S.DrawSource server.old server.new lane.old lane.new
-        piece.now moment source.old source.new) }
+    ensures heard { OnOk result (LaneHeard H.HookHost S.DrawSource (hearing_lane server.old lane.old source.old)
+        (piece_of lane.old.number piece.now moment) (hearing_lane server.new lane.new source.new)) }
     ensures refused { IfErr result (λ fault. IsHearingRefusal fault (lane.old.rest ++ piece.now) (S.supply source.old)) }
     ensures server_kept { OnErr result (server.new ≡ server.old) }
     ensures lane_kept { OnErr result (lane.new ≡ lane.old) }
@@ -313,7 +313,8 @@ impl<H: HookHost> Edge<H> {
         moment: Moment,
         source: &mut S,
     ) -> Result<(), EdgeFault>
-        ensures given { OnOk result (PieceGiven H.HookHost S.DrawSource self.old self.new c piece.now moment source.old source.new) }
+        ensures given { OnOk result (PieceGiven H.HookHost S.DrawSource (supplied self.old source.old) (piece_of c piece.now moment)
+            (supplied self.new source.new)) }
         ensures refused { IfErr result (λ fault. IsBytesRefusal fault self.old.lanes c piece.now (S.supply source.old)) }
         ensures err { OnErr result (self.new ≡ self.old) }
         ensures undrawn { OnErr result (source.new ≡ source.old) }
@@ -368,9 +369,10 @@ impl<H: HookHost> Edge<H> {
         moment: Moment,
         source: &mut S,
     ) -> Result<(), EdgeFault>
-        ensures given { OnOk result (PieceGiven H.HookHost S.DrawSource self.old self.new c piece.now moment source.old source.new) }
+        ensures given { OnOk result (PieceGiven H.HookHost S.DrawSource (supplied self.old source.old) (piece_of c piece.now moment)
+            (supplied self.new source.new)) }
         // In the order NotOpen, PieceTooLong, TooManyRequests, DrawsShort, Memory.
-        ensures refused { IfErr result (RefusesPiece H.HookHost self.old c piece.now (S.supply source.old)) }
+        ensures refused { IfErr result (RefusesPiece H.HookHost self.old (piece_of c piece.now moment) (S.supply source.old)) }
         ensures err { OnErr result (self.new ≡ self.old) }
         ensures undrawn { OnErr result (source.new ≡ source.old) }
     {

@@ -5,7 +5,7 @@ ghost use Rattle.heads.specs.Scan.{IsScan};
 ghost use Rattle.http_edge.specs.Limits.{piece_limit, request_limit, room_to_hear};
 ghost use Rattle.http_edge.specs.Schedule.{faulty_if};
 ghost use Rattle.http_edge.specs.Supply.{Suffices};
-ghost use Rattle.http_edge.specs.Heard.{IsHeard, IsHearingRefusal, heard_with};
+ghost use Rattle.http_edge.specs.Heard.{IsHeard, IsHearingRefusal, after_hearing, before_hearing, replying};
 
 use crate::answering::answer_all;
 use crate::fault::EdgeFault;
@@ -90,8 +90,9 @@ fn answer_bytes<H: HookHost, S: DrawSource>(
     moment: Moment,
     source: &mut S,
 ) -> Result<bool, EdgeFault>
-    ensures heard { IfOk result (λ closes. IsHeard H.HookHost S.DrawSource (heard_with server.old output.old.items source.old)
-        (heard_with server.new output.new.items source.new) bytes.now rest.new moment closes) }
+    ensures heard { IfOk result (λ closes. IsHeard H.HookHost S.DrawSource
+        (before_hearing (replying server.old output.old.items) bytes.now moment source.old)
+        (after_hearing (replying server.new output.new.items) rest.new source.new closes)) }
     ensures refused { IfErr result (λ fault. IsHearingRefusal fault bytes.now (S.supply source.old)) }
     ensures server_kept { OnErr result (server.new ≡ server.old) }
     ensures rest_kept { OnErr result (rest.new ≡ rest.old) }
@@ -126,8 +127,9 @@ pub(crate) fn hear<H: HookHost, S: DrawSource>(
     requires short { length piece.now ≤ piece_limit }
     requires empty { vec_len work.old ≡ 0 }
     requires room { room_to_hear ≤ vec_capacity work.old }
-    ensures heard { IfOk result (λ closes. IsHeard H.HookHost S.DrawSource (heard_with server.old output.old.items source.old)
-        (heard_with server.new output.new.items source.new) (rest.old ++ piece.now) rest.new moment closes) }
+    ensures heard { IfOk result (λ closes. IsHeard H.HookHost S.DrawSource
+        (before_hearing (replying server.old output.old.items) (rest.old ++ piece.now) moment source.old)
+        (after_hearing (replying server.new output.new.items) rest.new source.new closes)) }
     ensures refused { IfErr result (λ fault. IsHearingRefusal fault (rest.old ++ piece.now) (S.supply source.old)) }
     ensures server_kept { OnErr result (server.new ≡ server.old) }
     ensures rest_kept { OnErr result (rest.new ≡ rest.old) }

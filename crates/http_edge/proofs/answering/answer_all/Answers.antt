@@ -11,7 +11,7 @@ use Rattle.heads.specs.WaitingLaws.{front_whole}
 use Rattle.http_edge.proofs.Fronts.{tail_is, target_fits}
 use Rattle.http_edge.specs.Sources.{wants_draws, draws_for, draws_behind}
 use Rattle.http_edge.proofs.Serving.{served_none, served_push}
-use Rattle.http_edge.proofs.Drawing.{draws_length, draws_push, behind_push}
+use Rattle.http_edge.proofs.Drawing.{draws_push, behind_push}
 use Rattle.http_edge.proofs.Supplying.{suffices_one, suffices_behind, suffices_for}
 use Rattle.http_edge.proofs.answering.answer_all.Goals as goal
 
@@ -35,7 +35,7 @@ loop-i-init g c = record {
   reads = refl;
   begun = omega arith;
   front = λ e. refl;
-  served = λ rules first history m fits. served_none g.H.HookHost c.args.server.now c.args.output.now.items rules first history m [] fits;
+  served = λ outset history m fits. served_none g.H.HookHost c.args.server.now c.args.output.now.items c.args.moment outset history m fits;
   drawn = refl;
   left = suffices_for _ c.args.count (c.args.count - 0) (omega arith) c.requires.draws;
   len = omega arith;
@@ -99,12 +99,11 @@ loop-i-preserved g c =
       reads = reads_push bytes before.messages rest message (drop (start + f.end) bytes) before.reads begins;
       begun = omega (arith, fits, here, begun);
       front = λ e. absurd (omega (arith, e));
-      served = λ rules first history m fit.
+      served = λ outset history m fit.
           rw (← all_drawn, c.push.ensures.items)
-          (served_push g.H.HookHost c.args.server.now c.loop-i.server c.step-reply.new.self c.args.output.now.items c.loop-i.output.items rules first history m c.args.moment before.messages drawn message c.draw-draws.result c.step-reply.result (asked_of c.lend-request.result) asked
-          (draws_length sources c.args.source.now before.messages)
-          (before.served rules first history m fit)
-          (c.step-reply.ensures.replies rules first));
+          (served_push g.H.HookHost c.args.server.now c.loop-i.server c.step-reply.new.self c.args.output.now.items c.loop-i.output.items outset history m c.args.moment before.messages drawn message c.draw-draws.result c.step-reply.result (asked_of c.lend-request.result) asked
+          (before.served outset history m fit)
+          c.step-reply.ensures.replies);
       drawn =
           c.draw-draws.ensures.after ∙ ap (λ (w : Bool). sources.behind c.loop-i.source w) wants ∙ ap (λ s. sources.behind s (wants_draws (asked_of_message message))) before.drawn
           ∙ sym (behind_push sources c.args.source.now before.messages message);
@@ -118,13 +117,13 @@ loop-i-preserved g c =
     }
 
 pub returns-clause-served : goal.returns-clause-served
-returns-clause-served g c = λ messages rest reads count rules first history m fits.
+returns-clause-served g c = λ messages rest reads count outset history m fits.
     let before = c.loop-i.invariant in
     let test = c.loop-i-test.false in
     let le = c.loop-i.auto.i-end in
     let end : c.loop-i.i ≡ c.args.count = omega (arith, test, le) in
     let same = reads_same c.args.bytes.now before.messages messages _ rest (before.count ∙ end ∙ sym count) before.reads reads in
-    rw (← same.0) (before.served rules first history m fits)
+    rw (← same.0) (before.served outset history m fits)
 
 pub returns-clause-drawn : goal.returns-clause-drawn
 returns-clause-drawn g c = λ messages rest reads count.

@@ -1,7 +1,7 @@
 use Rattle.std.proofs.Common.{◌≡◌, ◌≤◌, ◌+◌, ◌*◌, ◌-◌, List, drop, length, vec_len, vec_capacity}
 use Rattle.heads.specs.Message.{Message, ReadsMessages}
-use Rattle.http_edge.specs.Heard.{ServesMessages}
-use Rattle.http_edge.specs.Sources.{draws_for, draws_behind}
+use Rattle.http_edge.specs.Heard.{ServesMessages, drawn_for, replying}
+use Rattle.http_edge.specs.Sources.{draws_behind}
 use Rattle.http_edge.specs.Supply.{Suffices}
 use Rattle.http_edge.proofs.answering.answer_all.Given as goal
 
@@ -12,7 +12,7 @@ invariant-loop-i g l = record {
   reads : ReadsMessages l.bytes messages (drop l.start l.bytes);
   begun : l.start ≤ length l.bytes;
   front : l.i ≡ 0 → l.start ≡ 0;
-  served : ServesMessages g.H.HookHost l.fn.server l.server l.fn.output.items l.output.items messages l.moment (draws_for g.S.DrawSource l.fn.source messages);
+  served : ServesMessages g.H.HookHost (replying l.fn.server l.fn.output.items) (drawn_for g.S.DrawSource l.fn.source messages l.moment) (replying l.server l.output.items);
   drawn : l.source ≡ draws_behind g.S.DrawSource l.fn.source messages;
   left : Suffices (g.S.DrawSource.supply l.source) (l.fn.count - l.i);
   len : vec_len l.output ≤ vec_len l.fn.output + l.i * 32768;

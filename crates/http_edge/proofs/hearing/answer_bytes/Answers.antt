@@ -1,7 +1,6 @@
 use Rattle.std.proofs.Common.{ℕ, List, drop, ◌∙◌, arith}
 use Rattle.heads.specs.Scan.{IsScan}
-use Rattle.http_edge.specs.Heard.{ServesMessages}
-use Rattle.http_edge.specs.Sources.{draws_for}
+use Rattle.http_edge.specs.Heard.{ServesMessages, drawn_for, replying}
 use Rattle.http_edge.proofs.Supplying.{suffices_for}
 use Rattle.http_edge.proofs.hearing.answer_bytes.Goals as goal
 
@@ -10,7 +9,7 @@ returns-clause-heard g c =
     let bytes : List ℕ = c.args.bytes.now in
     let scan = c.scan_behind-scan.result in
     let all : IsScan bytes scan = c.scan_behind-scan.ensures in
-    let serves : ServesMessages g.H.HookHost c.args.server.now c.answer_all.new.server c.make_room.new.output.items c.answer_all.new.output.items all.messages c.args.moment (draws_for g.S.DrawSource c.args.source.now all.messages) =
+    let serves : ServesMessages g.H.HookHost (replying c.args.server.now c.make_room.new.output.items) (drawn_for g.S.DrawSource c.args.source.now all.messages c.args.moment) (replying c.answer_all.new.server c.answer_all.new.output.items) =
     c.answer_all.ensures.served all.messages (drop scan.end bytes) all.reads.reads all.count in
     let count = all.count in
     let few = c.in_default.ensures.few in

@@ -1,5 +1,7 @@
+use Rattle.std.proofs.Common.{◌∙◌, ap}
+use Rattle.http_edge.specs.Sources.{wants_draws}
 use Rattle.http_edge.proofs.Unread.{unread}
 use Rattle.http_edge.proofs.wanting.unwanted_draws_are_unread.Goals as goal
 
 pub returns : goal.returns
-returns g c = λ asked none rules first m history draws draws' mark outcome o. unread g.H.HookHost asked none rules first m history draws draws' mark outcome o
+returns g c = λ asked none outset m history request draws same o. unread g.H.HookHost outset m history request draws (ap wants_draws same ∙ none) o

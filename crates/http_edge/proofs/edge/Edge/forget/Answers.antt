@@ -6,9 +6,9 @@ use Rattle.http_edge.specs.Places.{AreApart}
 use Rattle.http_edge.proofs.edge.Edge.forget.Goals as goal
 
 pub returns-clause-forgotten : goal.returns-clause-forgotten
-returns-clause-forgotten g c = λ rules first schedule world reached.
+returns-clause-forgotten g c = λ journey reached.
     let now = rw (← c.self.view_is) at reached in
-    on_forgotten g.H.HookHost _ _ c.args.c refl c.remove_lane.ensures.without rules first schedule world now
+    on_forgotten g.H.HookHost _ _ c.args.c refl c.remove_lane.ensures.without journey now
 
 pub returns-clause-gone : goal.returns-clause-gone
 returns-clause-gone g c = ap (λ lanes. lane_at lanes c.args.c) c.remove_lane.ensures.without ∙ without_is_gone c.self.inside.lanes.items c.args.c

@@ -1,12 +1,13 @@
 use Rattle.std.proofs.Common.{rules, ◌≡◌, ◌∙◌, Some, refl, sym, ap, arith}
 use Rattle.http_edge.specs.Lanes.{SeenLane}
 use Rattle.http_edge.specs.PlacesParts.{IsPlace}
+use Rattle.http_edge.specs.Schedule.{piece_of}
 use Rattle.http_edge.specs.EdgesParts.{MayHear}
 use Rattle.http_edge.specs.declared.lane.Phase.TheVariants.{Open, Closing}
 use Rattle.http_edge.proofs.Phases.{closing_by, open_by}
 use Rattle.http_edge.proofs.Placing.{lane_is, put_at, apart_put}
 use Rattle.http_edge.proofs.Refusing.{refused_is}
-use Rattle.http_edge.proofs.Going.{on_passed, on_heard}
+use Rattle.http_edge.proofs.Going.{heard_of, on_passed, on_heard}
 use Rattle.http_edge.proofs.edge.Edge.hear_piece.Goals as goal
 
 pub returns-then-is_closing-clause-given : goal.returns-then-is_closing-clause-given
@@ -21,7 +22,7 @@ returns-then-is_closing-clause-given g c =
     let told = rw seen-2 at (sym c.is_closing.ensures ∙ c.if-is_closing.true) in
     let closing : place.lane.phase ≡ Closing = closing_by place.lane.phase not_ended told in
     rw (← c.self.view_is)
-    (on_passed g.H.HookHost g.S.DrawSource _ _ c.args.c place.lane c.args.piece.now c.args.moment c.args.source.now _ refl refl place.here closing (let test = c.if-piece-gt-PIECE_LIMIT.false in omega (arith, test)) refl)
+    (on_passed g.H.HookHost g.S.DrawSource _ _ (piece_of c.args.c c.args.piece.now c.args.moment) place.lane c.args.source.now _ refl refl place.here closing (let test = c.if-piece-gt-PIECE_LIMIT.false in omega (arith, test)) refl)
 
 pub returns-clause-given : goal.returns-clause-given
 returns-clause-given g c =
@@ -37,7 +38,8 @@ returns-clause-given g c =
     let not_closing = rw seen-2 at (sym c.is_closing.ensures ∙ c.if-is_closing.false) in
     let opened : r.phase ≡ Open = open_by r.phase not_ended not_closing in
     rw (← c.self.view_is)
-    (on_heard g.H.HookHost g.S.DrawSource _ _ c.args.c r c.hear_lane.new.lane c.args.piece.now c.args.moment c.args.source.now _ (place.here ∙ ap Some same) opened (let test = c.if-piece-gt-PIECE_LIMIT.false in omega (arith, test)) c.in_default-hear_lane.ensures.heard
+    (on_heard g.H.HookHost g.S.DrawSource _ _ (piece_of c.args.c c.args.piece.now c.args.moment) r c.hear_lane.new.lane c.args.source.now _ (place.here ∙ ap Some same) opened (let test = c.if-piece-gt-PIECE_LIMIT.false in omega (arith, test))
+    (heard_of g.H.HookHost g.S.DrawSource _ _ _ c.args.c c.in_default-hear_lane.ensures.heard)
     (put_at lanes c.args.c c.in-Some.i place c.hear_lane.new.lane c.hear_lane.new.lane refl))
 
 pub returns-in-Err-clause-refused : goal.returns-in-Err-clause-refused

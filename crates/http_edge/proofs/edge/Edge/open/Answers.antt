@@ -8,13 +8,13 @@ use Rattle.http_edge.proofs.Going.{on_opened}
 use Rattle.http_edge.proofs.edge.Edge.open.Goals as goal
 
 pub returns-clause-done : goal.returns-clause-done
-returns-clause-done g c = λ rules first schedule world reached.
+returns-clause-done g c = λ journey reached.
     let lanes = c.self.inside.lanes.items in
     let now = rw (← c.self.view_is) at reached in
     let known : c.has_lane.result ≡ is_some (lane_at lanes c.args.c) = rw c.deref.ensures.value at c.has_lane.ensures in
     let none : lane_at lanes c.args.c ≡ None = is_none (lane_at lanes c.args.c) (sym known ∙ c.if-has_lane.false) in
     let few : length lanes < 64 = (let size = c.len.ensures in let test = c.if-len-ge-CONNECTION_LIMIT.false in omega (arith, size, test)) in
-    on_opened g.H.HookHost _ _ c.args.c refl none few c.in-Ok-add_lane.ensures.added rules first schedule world now
+    on_opened g.H.HookHost _ _ c.args.c refl none few c.in-Ok-add_lane.ensures.added journey now
 
 pub invariant_of-self-2 : goal.invariant_of-self-2
 invariant_of-self-2 g c =

@@ -7,7 +7,7 @@ use Rattle.http_edge.proofs.Going.{on_taken, on_taken_nothing}
 use Rattle.http_edge.proofs.edge.Edge.take.Goals as goal
 
 pub returns-in-Some-clause-taken : goal.returns-in-Some-clause-taken
-returns-in-Some-clause-taken g c = λ rules first schedule world reached.
+returns-in-Some-clause-taken g c = λ journey reached.
     let lanes = c.self.inside.lanes.items in
     let now = rw (← c.self.view_is) at reached in
     let place : IsPlace lanes c.args.c c.in-Some.i = rw c.deref.ensures.value at c.in-Some.ensures in
@@ -15,16 +15,16 @@ returns-in-Some-clause-taken g c = λ rules first schedule world reached.
     let fits : c.args.n ≤ length place.lane.output = rw place.here at whole in
     let same = lane_is lanes c.args.c c.in-Some.i c.index_mut.result.now place c.index_mut.ensures.value in
     let new = c.take_output.ensures ∙ ap (λ (l : SeenLane). record { number = l.number; phase = l.phase; rest = l.rest; output = drop c.args.n l.output }) (sym same) in
-    on_taken g.H.HookHost _ _ c.args.c c.args.n place.lane refl place.here fits (put_at lanes c.args.c c.in-Some.i place _ _ new) rules first schedule world now
+    on_taken g.H.HookHost _ _ c.args.c c.args.n place.lane refl place.here fits (put_at lanes c.args.c c.in-Some.i place _ _ new) journey now
 
 pub returns-in_default-clause-taken : goal.returns-in_default-clause-taken
-returns-in_default-clause-taken g c = λ rules first schedule world reached.
+returns-in_default-clause-taken g c = λ journey reached.
     let lanes = c.self.inside.lanes.items in
     let now = rw (← c.self.view_is) at reached in
     let none : lane_at lanes c.args.c ≡ None = rw c.deref.ensures.value at c.in_default.ensures in
     let whole : c.args.n ≤ length (output_in (lane_at lanes c.args.c)) = rw (← c.self.view_is) at c.requires in
     let fits : c.args.n ≤ 0 = rw none at whole in
-    rw (← c.self.view_is) (on_taken_nothing g.H.HookHost _ _ c.args.c c.args.n refl none (omega (arith, fits)) refl rules first schedule world now)
+    rw (← c.self.view_is) (on_taken_nothing g.H.HookHost _ _ c.args.c c.args.n refl none (omega (arith, fits)) refl journey now)
 
 pub returns-in-Some-clause-left : goal.returns-in-Some-clause-left
 returns-in-Some-clause-left g c =
