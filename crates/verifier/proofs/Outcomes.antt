@@ -12,10 +12,10 @@ use Rattle.reg_kind.specs.declared.reg.Reg.TheVariants as kind
 use Rattle.reg_kind.specs.Accesses.{place_behind}
 use Rattle.verifier.specs.declared.known.Known.{Known}
 use Rattle.verifier.specs.declared.known.Flow.{Flow}
-use Rattle.verifier.specs.Kinds.{GivenAt, GivenIn, LeavesKnown, StoredOf, put_at}
+use Rattle.verifier.specs.Kinds.{GivenAt, GivenIn, LeavesRow, StoredOf, put_at}
 
 -- what is said of one instruction is said of the same one under another name
-pub outcome_of : (layout : Layout) (i j : Insn) (old new : Known) (r : Result Flow WalkFault) → i ≡ j → LeavesKnown layout j old new r → LeavesKnown layout i old new r
+pub outcome_of : (layout : Layout) (i j : Insn) (old new : Known) (r : Result Flow WalkFault) → i ≡ j → LeavesRow layout j old new r → LeavesRow layout i old new r
 outcome_of layout i j old new r is h = rw is h
 
 -- ---- loads

@@ -34,7 +34,7 @@ use Rattle.verifier.specs.declared.known.Known.{Known}
 use Rattle.verifier.specs.declared.known.Flow.{Flow}
 use Rattle.verifier.specs.Fits.{StateFits}
 use Rattle.verifier.specs.Follows.{IsOperand, reg_of}
-use Rattle.verifier.specs.Kinds.{CanFail, Computes, LeavesKnown, IsSeen, flow_where}
+use Rattle.verifier.specs.Kinds.{CanFail, Computes, LeavesRow, IsSeen, flow_where}
 use Rattle.verifier.proofs.Accesses.{set_holds}
 use Rattle.verifier.proofs.Branches.{number_alone}
 use Rattle.verifier.proofs.Seen.{Sees, changed, compare_seen, image_refused, loads_seen, number_seen, signed_seen, stores_seen, there, unset_or_not, unset_there}
@@ -244,7 +244,7 @@ module _ (layout : Layout) (old new : Known) (fault : WalkFault) (s : State) (f 
   seen : (i : Insn) (tests : State → List Check) → ((t : State) → first_of (tests t) ≡ first_of (tests_of layout i t)) → Sees layout old tests fault → IsSeen layout i old fault
   seen i tests same x = record { state = x.state; fits = x.fits; fails = fault_is_first layout i x.state ∙ sym (same x.state) ∙ x.fails }
 
-  pub outcome_seen : (i : Insn) → fault ≢ PointerRange → LeavesKnown layout i old new (Err fault) → IsSeen layout i old fault
+  pub outcome_seen : (i : Insn) → fault ≢ PointerRange → LeavesRow layout i old new (Err fault) → IsSeen layout i old fault
   outcome_seen (insn.Alu64Imm op dst imm) range h = seen (insn.Alu64Imm op dst imm) _ (λ t. refl) (operate_seen layout old s f W64 (operation_of op) dst (Imm imm) fault range h.0)
   outcome_seen (insn.Alu64Reg op dst src) range h = seen (insn.Alu64Reg op dst src) _ (λ t. refl) (operate_seen layout old s f W64 (operation_of op) dst (Reg src) fault range h.0)
   outcome_seen (insn.Alu32Imm op dst imm) range h = seen (insn.Alu32Imm op dst imm) _ (λ t. refl) (operate_seen layout old s f W32 (operation_of op) dst (Imm imm) fault range h.0)
@@ -267,6 +267,6 @@ module _ (layout : Layout) (old new : Known) (fault : WalkFault) (s : State) (f 
   outcome_seen (insn.Jump32IfReg cond dst src offset) range h = seen (insn.Jump32IfReg cond dst src offset) _ (λ t. refl) (compare_seen layout old s f dst (Reg src) h.0 h.1 fault (flow_refused _ _ fault h.2.0))
   outcome_seen insn.Exit range h = seen insn.Exit _ (λ t. refl) (number_seen layout old s f R0 ExitsWithPointer fault (flow_refused _ _ fault h.0))
 
-pub result_seen : (layout : Layout) (i : Insn) (old new : Known) (r : Result Flow WalkFault) → LeavesKnown layout i old new r → IfErr r (λ fault. CanFail layout i old fault)
+pub result_seen : (layout : Layout) (i : Insn) (old new : Known) (r : Result Flow WalkFault) → LeavesRow layout i old new r → IfErr r (λ fault. CanFail layout i old fault)
 result_seen layout i old new (Ok flow) h = tt
 result_seen layout i old new (Err fault) h = λ range s f. outcome_seen layout old new fault s f i range h

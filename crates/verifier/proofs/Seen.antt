@@ -46,6 +46,7 @@ use Rattle.verifier.specs.Fits.{StateFits}
 use Rattle.verifier.specs.Follows.{IsOperand, comparison_of, reg_of}
 use Rattle.verifier.specs.Kinds.{Extends, GivenAt, Loads, LoadsSigned, StoredAt, StoredOf, StoredWhere, Stores, flow_where, kept_in_record, put_at}
 use Rattle.verifier.proofs.Accesses.{set_holds}
+use Rattle.verifier.proofs.Linked.{IsNoNumber, changed_holds}
 use Rattle.verifier.proofs.States.{reg_below, reg_fits}
 use Rattle.verifier.proofs.Steps.{operand_fits}
 
@@ -160,8 +161,9 @@ module _ (layout : Layout) (old : Known) (s : State) (f : StateFits false layout
   pub there : (r : RegNo) (o : Option Value) → get_or (set s.registers (reg_number r) o) (reg_number r) None ≡ o
   there r o = get_or-set_same s.registers (reg_number r) o None (let l = f.long in let b = reg_below r in omega arith)
 
-  changed_fits : (r : RegNo) (o : Option Value) (cells : List Cell) → RegFits false (reg_of old r) o → StackFits false old.stack cells → StateFits false layout old (changed s r o cells)
-  changed_fits r o cells h stack = record {
+  changed_fits : (r : RegNo) (o : Option Value) (cells : List Cell) → IsNoNumber o → RegFits false (reg_of old r) o → StackFits false old.stack cells → StateFits false layout old (changed s r o cells)
+  changed_fits r o cells none h stack = record {
+    links = changed_holds old.links s.registers (reg_number r) o (let l = f.long in let b = reg_below r in omega arith) none f.links;
     long = length-set s.registers (reg_number r) o ∙ f.long;
     record_fits = f.record_fits;
     registers = λ k lt.
@@ -174,7 +176,7 @@ module _ (layout : Layout) (old : Known) (s : State) (f : StateFits false layout
 
   -- a register of which nothing is known may be unset
   pub unset_there : (r : RegNo) → reg_of old r ≡ kind.Unset → StateFits false layout old (changed s r None s.stack)
-  unset_there r e = changed_fits r None s.stack (subst (λ (k : Kind). RegFits false k None) (sym e) tt) f.stack
+  unset_there r e = changed_fits r None s.stack tt (subst (λ (k : Kind). RegFits false k None) (sym e) tt) f.stack
 
   -- one that is a pointer may be at each of its offsets
   pointer_fits : (g : Region) (span : Span) (o : ℕ) → SpanFits false span o → RegFits false (pointer_to g span) (Some (Address (at g o)))
@@ -182,7 +184,7 @@ module _ (layout : Layout) (old : Known) (s : State) (f : StateFits false layout
   pointer_fits region.Stack span o h = (refl, h)
 
   pointer_there : (r : RegNo) (g : Region) (span : Span) (o : ℕ) (cells : List Cell) → reg_of old r ≡ pointer_to g span → SpanFits false span o → StackFits false old.stack cells → StateFits false layout old (changed s r (Some (Address (at g o))) cells)
-  pointer_there r g span o cells e h stack = changed_fits r (Some (Address (at g o))) cells (subst (λ (k : Kind). RegFits false k (Some (Address (at g o)))) (sym e) (pointer_fits g span o h)) stack
+  pointer_there r g span o cells e h stack = changed_fits r (Some (Address (at g o))) cells tt (subst (λ (k : Kind). RegFits false k (Some (Address (at g o)))) (sym e) (pointer_fits g span o h)) stack
 
   -- what registers hold
   is_number : (r : RegNo) (a : Scalar) → reg_of old r ≡ kind.Number a → (n : ℕ) × (value_of s.registers r ≡ Some (Number n))

@@ -59,7 +59,7 @@ use Rattle.verifier.specs.declared.known.Flow.{Flow}
 use Rattle.verifier.specs.declared.known.Flow.TheVariants.{Next, Jump, Branch, Exit}
 use Rattle.verifier.specs.Follows.{IsOperand, WritesNoR10, comparison_of, reg_of}
 use Rattle.verifier.specs.FollowsParts.{NoMove, converted, extended_into, loaded_into}
-use Rattle.verifier.specs.Kinds.{Compares, Computes, Extends, GivenAt, GivenIn, LeavesKnown, IsSet, IsWide, Loads, LoadsSigned, Passes, Receives, StoredIn, StoredOf, StoredWhere, Stores, flow_where, kept_in_record, put_at}
+use Rattle.verifier.specs.Kinds.{Compares, Computes, Extends, GivenAt, GivenIn, LeavesKnown, LeavesRow, IsSet, IsWide, Loads, LoadsSigned, Passes, Receives, StoredIn, StoredOf, StoredWhere, Stores, flow_where, kept_in_record, put_at}
 use Rattle.verifier.specs.Shows.{RegShows, StateShows}
 use Rattle.verifier.proofs.Accesses.{access_load, with_stack, within_most}
 use Rattle.verifier.proofs.ShownShapes.{blank_shown}
@@ -93,6 +93,22 @@ FlowShows layout known flow es = ⊥
 abbrev pub IsShownBy : Layout → Known → Result Flow WalkFault → List Effect → Type 0
 IsShownBy layout known (Ok flow) es = FlowShows layout known flow es
 IsShownBy layout known (Err fault) es = ⊥
+
+-- what is shown is of the registers and the stack
+same_shown : (layout : Layout) (a b : Known) (s : State) → b.registers ≡ a.registers → b.stack ≡ a.stack → StateShows layout a s → StateShows layout b s
+same_shown layout a b s registers stack h = record {
+  long = h.long;
+  record_fits = h.record_fits;
+  registers = λ k lt. subst (λ (xs : List Kind). RegShows (get_or xs k kind.Unset) (get_or s.registers k None)) (sym registers) (h.registers k lt);
+  stack = rw stack h.stack;
+}
+
+flow_shown : (layout : Layout) (a b : Known) (flow : Flow) (es : List Effect) → b.registers ≡ a.registers → b.stack ≡ a.stack → FlowShows layout a flow es → FlowShows layout b flow es
+flow_shown layout a b Next (Falls s ∷ []) registers stack h = same_shown layout a b (shape_of s) registers stack h
+flow_shown layout a b (Jump d) (Jumps e s ∷ []) registers stack h = (h.0, same_shown layout a b (shape_of s) registers stack h.1)
+flow_shown layout a b (Branch d test) (Falls s ∷ Jumps e t ∷ []) registers stack h = (h.0, same_shown layout a b (shape_of s) registers stack h.1, same_shown layout a b (shape_of t) registers stack h.2)
+flow_shown layout a b Exit (Exits r0 ∷ []) registers stack h = tt
+flow_shown layout a b flow es registers stack h = absurd h
 
 falls_shows : (layout : Layout) (after : Known) (s : State) (o : Option Effect) → FallsShown layout after o → FlowShows layout after Next (both_ways None s o)
 falls_shows layout after s None h = h
@@ -459,7 +475,7 @@ module _ (layout : Layout) (old : Known) (s : State) (f : StateShows layout old 
   -- ---- each row
 
   module _ (new : Known) (r : Result Flow WalkFault) where
-    passed_shown : (i : Insn) → LeavesKnown layout i old new r → WritesNoR10 i → NoMovedPointer i s → first_of (tests_of layout i s) ≡ None → IsShownBy layout new r (effects layout i s)
+    passed_shown : (i : Insn) → LeavesRow layout i old new r → WritesNoR10 i → NoMovedPointer i s → first_of (tests_of layout i s) ≡ None → IsShownBy layout new r (effects layout i s)
     passed_shown (insn.Alu64Imm op dst imm) h other plain p = straight_shows layout (insn.Alu64Imm op dst imm) new s r refl (operate_shown new dst (λ e. other (ap Some e)) W64 (operation_of op) (Imm imm) tt r h p)
     passed_shown (insn.Alu64Reg op dst src) h other plain p = straight_shows layout (insn.Alu64Reg op dst src) new s r refl (operate_shown new dst (λ e. other (ap Some e)) W64 (operation_of op) (Reg src) (moves_64 op dst src s plain) r h p)
     passed_shown (insn.Alu32Imm op dst imm) h other plain p = straight_shows layout (insn.Alu32Imm op dst imm) new s r refl (operate_shown new dst (λ e. other (ap Some e)) W32 (operation_of op) (Imm imm) tt r h p)
@@ -484,5 +500,10 @@ module _ (layout : Layout) (old : Known) (s : State) (f : StateShows layout old 
     passed_shown (insn.Jump32IfReg cond dst src offset) h other plain p = compares_shown (insn.Jump32IfReg cond dst src offset) (record { cond = cond; width = W32; left = dst; right = Reg src }) offset new r h refl refl p
     passed_shown insn.Exit h other plain p = exit_shown new r h p
 
-    pub outcome_shown : (i : Insn) → LeavesKnown layout i old new r → WritesNoR10 i → NoMovedPointer i s → fault_at layout i s ≡ None → IsShownBy layout new r (effects layout i s)
-    outcome_shown i h other plain p = passed_shown i h other plain (sym (fault_is_first layout i s) ∙ p)
+  row_shown : (new : Known) (r : Result Flow WalkFault) (i : Insn) → LeavesRow layout i old new r → WritesNoR10 i → NoMovedPointer i s → fault_at layout i s ≡ None → IsShownBy layout new r (effects layout i s)
+  row_shown new r i h other plain p = passed_shown new r i h other plain (sym (fault_is_first layout i s) ∙ p)
+
+  -- a link that is made changes nothing of what is shown
+  pub outcome_shown : (new : Known) (r : Result Flow WalkFault) (i : Insn) → LeavesKnown layout i old new r → WritesNoR10 i → NoMovedPointer i s → fault_at layout i s ≡ None → IsShownBy layout new r (effects layout i s)
+  outcome_shown new (Ok flow) i h other plain p = flow_shown layout h.0 new flow (effects layout i s) h.2.registers h.2.stack (row_shown h.0 (Ok flow) i h.1 other plain p)
+  outcome_shown new (Err fault) i h other plain p = row_shown new (Err fault) i h other plain p

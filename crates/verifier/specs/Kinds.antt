@@ -35,14 +35,16 @@ use Rattle.verifier.specs.declared.known.Flow.{Flow}
 use Rattle.verifier.specs.declared.known.Flow.TheVariants.{Next, Jump, Branch, Exit}
 use Rattle.verifier.specs.Fits.{StateFits}
 use Rattle.verifier.specs.Follows.{IsFaulty, IsOperand, comparison_of, reg_of}
+use Rattle.verifier.specs.Links.{AreLeft, link_made, links_with}
 
 -- ---- what a register receives
 
--- of the eleven registers one holds a value, and all else stays
+-- of the eleven registers one holds a value, its links are lost, and all else stays
 pub record IsSet (dst : RegNo) (value : Kind) (old new : Known) : Type 0 where
   pub eleven : length old.registers ≡ 11
   pub registers : new.registers ≡ slice_set old.registers (reg_number dst) value
   pub stack : new.stack ≡ old.stack
+  pub links : AreLeft dst old.links new.links
 
 -- what is given goes to a register; where nothing is given, nothing is changed
 abbrev pub Receives : RegNo → (Result Kind WalkFault → Type 0) → Known → Known → Result Flow WalkFault → Type 0
@@ -157,41 +159,52 @@ Compares test offset old new r =
 
 -- ---- instructions
 
-abbrev pub LeavesKnown : Layout → Insn → Known → Known → Result Flow WalkFault → Type 0
-LeavesKnown layout (insn.Alu64Imm op dst imm) old new r =
+abbrev pub LeavesRow : Layout → Insn → Known → Known → Result Flow WalkFault → Type 0
+LeavesRow layout (insn.Alu64Imm op dst imm) old new r =
     Receives dst (Computes layout old (record { width = W64; op = operation_of op; dst = dst; operand = Imm imm })) old new r
-LeavesKnown layout (insn.Alu64Reg op dst src) old new r =
+LeavesRow layout (insn.Alu64Reg op dst src) old new r =
     Receives dst (Computes layout old (record { width = W64; op = operation_of op; dst = dst; operand = Reg src })) old new r
-LeavesKnown layout (insn.Alu32Imm op dst imm) old new r =
+LeavesRow layout (insn.Alu32Imm op dst imm) old new r =
     Receives dst (Computes layout old (record { width = W32; op = operation_of op; dst = dst; operand = Imm imm })) old new r
-LeavesKnown layout (insn.Alu32Reg op dst src) old new r =
+LeavesRow layout (insn.Alu32Reg op dst src) old new r =
     Receives dst (Computes layout old (record { width = W32; op = operation_of op; dst = dst; operand = Reg src })) old new r
-LeavesKnown layout (insn.Divide w sign dst operand) old new r =
+LeavesRow layout (insn.Divide w sign dst operand) old new r =
     Receives dst (Computes layout old (record { width = w; op = division_of sign; dst = dst; operand = operand })) old new r
-LeavesKnown layout (insn.Remainder w sign dst operand) old new r =
+LeavesRow layout (insn.Remainder w sign dst operand) old new r =
     Receives dst (Computes layout old (record { width = w; op = remainder_of sign; dst = dst; operand = operand })) old new r
-LeavesKnown layout (insn.Negate w dst) old new r = Receives dst (IsKindImage Neg w (reg_of old dst)) old new r
-LeavesKnown layout (insn.MoveSigned x dst src) old new r = Receives dst (IsKindImage (Extend (extended_bits x)) (extended_width x) (reg_of old src)) old new r
-LeavesKnown layout (insn.SwapBytes by bits dst) old new r = Receives dst (IsKindImage (Swap by bits) W64 (reg_of old dst)) old new r
-LeavesKnown layout (insn.LoadWide dst n) old new r = Receives dst (IsWide n) old new r
-LeavesKnown layout (insn.Load size dst src offset) old new r = Receives dst (Loads layout old (record { size = size; src = src; offset = offset })) old new r
-LeavesKnown layout (insn.LoadSigned size dst src offset) old new r =
+LeavesRow layout (insn.Negate w dst) old new r = Receives dst (IsKindImage Neg w (reg_of old dst)) old new r
+LeavesRow layout (insn.MoveSigned x dst src) old new r = Receives dst (IsKindImage (Extend (extended_bits x)) (extended_width x) (reg_of old src)) old new r
+LeavesRow layout (insn.SwapBytes by bits dst) old new r = Receives dst (IsKindImage (Swap by bits) W64 (reg_of old dst)) old new r
+LeavesRow layout (insn.LoadWide dst n) old new r = Receives dst (IsWide n) old new r
+LeavesRow layout (insn.Load size dst src offset) old new r = Receives dst (Loads layout old (record { size = size; src = src; offset = offset })) old new r
+LeavesRow layout (insn.LoadSigned size dst src offset) old new r =
     Receives dst (LoadsSigned layout old size (record { size = read_size size; src = src; offset = offset })) old new r
-LeavesKnown layout (insn.StoreReg size dst src offset) old new r =
+LeavesRow layout (insn.StoreReg size dst src offset) old new r =
     Stores layout (record { size = size; dst = dst; offset = offset; operand = Reg src }) old new r
-LeavesKnown layout (insn.StoreImm size dst offset imm) old new r =
+LeavesRow layout (insn.StoreImm size dst offset imm) old new r =
     Stores layout (record { size = size; dst = dst; offset = offset; operand = Imm imm }) old new r
-LeavesKnown layout (insn.Jump offset) old new r = Passes (Ok (Jump offset)) old new r
-LeavesKnown layout (insn.JumpLong offset) old new r = Passes (Ok (Jump offset)) old new r
-LeavesKnown layout (insn.Jump64IfImm cond dst offset imm) old new r =
+LeavesRow layout (insn.Jump offset) old new r = Passes (Ok (Jump offset)) old new r
+LeavesRow layout (insn.JumpLong offset) old new r = Passes (Ok (Jump offset)) old new r
+LeavesRow layout (insn.Jump64IfImm cond dst offset imm) old new r =
     Compares (record { cond = cond; width = W64; left = dst; right = Imm imm }) offset old new r
-LeavesKnown layout (insn.Jump64IfReg cond dst src offset) old new r =
+LeavesRow layout (insn.Jump64IfReg cond dst src offset) old new r =
     Compares (record { cond = cond; width = W64; left = dst; right = Reg src }) offset old new r
-LeavesKnown layout (insn.Jump32IfImm cond dst offset imm) old new r =
+LeavesRow layout (insn.Jump32IfImm cond dst offset imm) old new r =
     Compares (record { cond = cond; width = W32; left = dst; right = Imm imm }) offset old new r
-LeavesKnown layout (insn.Jump32IfReg cond dst src offset) old new r =
+LeavesRow layout (insn.Jump32IfReg cond dst src offset) old new r =
     Compares (record { cond = cond; width = W32; left = dst; right = Reg src }) offset old new r
-LeavesKnown layout insn.Exit old new r = Passes (flow_where (number_in_reg (reg_of old R0) ExitsWithPointer) Exit) old new r
+LeavesRow layout insn.Exit old new r = Passes (flow_where (number_in_reg (reg_of old R0) ExitsWithPointer) Exit) old new r
+
+-- the link that an instruction makes is there, and all else stays
+pub record IsLinked (i : Insn) (old between new : Known) : Type 0 where
+  pub registers : new.registers ≡ between.registers
+  pub stack : new.stack ≡ between.stack
+  pub links : new.links ≡ links_with (link_made old.links i) between.links
+
+-- a row of the table, and then the instruction's link
+abbrev pub LeavesKnown : Layout → Insn → Known → Known → Result Flow WalkFault → Type 0
+LeavesKnown layout i old new (Ok flow) = (between : Known) × LeavesRow layout i old between (Ok flow) × IsLinked i old between new
+LeavesKnown layout i old new (Err fault) = LeavesRow layout i old new (Err fault)
 
 -- ---- refusals
 

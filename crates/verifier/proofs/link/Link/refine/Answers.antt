@@ -1,0 +1,5 @@
+use Rattle.verifier.proofs.Narrowing.{numbers_linked}
+use Rattle.verifier.proofs.link.Link.refine.Goals as goal
+
+pub returns : goal.returns
+returns c = rw (c.in-Number-Number.is-0, c.in-Number-Number.is-1) (numbers_linked c.args.self c.in-Number-Number.a c.in-Number-Number.b c.in_ok-a.a c.in_ok-a.b c.in_ok-a.ensures)

@@ -1,0 +1,39 @@
+-- Beside Links: only the contracts of this crate's own parts and their proofs cite this, no public clause.
+use Rattle.std.specs.Prelude.{◌≡◌, ℕ, Bool, true, false, Option, Some, None}
+use Rattle.insn.specs.declared.layout.Layout.{Layout}
+use Rattle.insn.specs.declared.state.Value.{Value}
+use Rattle.insn.specs.Values.{State}
+use Rattle.scalar.specs.declared.scalar.Scalar.{Scalar}
+use Rattle.scalar.specs.Members.{InScalar}
+use Rattle.reg_kind.specs.declared.reg.Reg.{Reg as Kind}
+use Rattle.reg_kind.specs.Fits.{RegFits}
+use Rattle.verifier.specs.declared.known.Known.{Known}
+use Rattle.verifier.specs.declared.link.Link.{Link}
+use Rattle.verifier.specs.Fits.{StateFits}
+use Rattle.verifier.specs.Links.{AreLinked, AreValuesLinked}
+use Rattle.verifier.specs.Shows.{StateShows}
+
+-- two sets keep all numbers that are linked; none where there are no such numbers
+abbrev pub AreNumbersRefined : Link → Scalar → Scalar → Option (Scalar × Scalar) → Type 0
+AreNumbersRefined link a b None = (x y : ℕ) → InScalar a x → InScalar b y → AreLinked link x y → ⊥
+AreNumbersRefined link a b (Some r) = (x y : ℕ) → InScalar a x → InScalar b y → AreLinked link x y → InScalar r.0 x × InScalar r.1 y
+
+-- a link keeps all values that are linked, and every shape; none where there are no such values
+abbrev pub IsLinkRefined : Link → Kind → Kind → Option (Kind × Kind) → Type 0
+IsLinkRefined link a b None = (v u : Option Value) → RegFits false a v → RegFits false b u → AreValuesLinked link v u → ⊥
+IsLinkRefined link a b (Some r) =
+    ((v u : Option Value) → RegFits false a v → RegFits false b u → AreValuesLinked link v u → RegFits false r.0 v × RegFits false r.1 u)
+    × ((o : Option Value) → RegFits true a o → RegFits true r.0 o) × ((o : Option Value) → RegFits true b o → RegFits true r.1 o)
+
+-- what is known is narrowed: it is known of the same states, and shown of the same shapes
+pub record IsNarrowed (known new : Known) : Type 0 where
+  pub states : (layout : Layout) (s : State) → StateFits false layout known s → StateFits false layout new s
+  pub shapes : (layout : Layout) (s : State) → StateFits true layout known s → StateFits true layout new s
+  pub shown : (layout : Layout) (s : State) → StateShows layout known s → StateShows layout new s
+  pub stack : new.stack ≡ known.stack
+  pub links : new.links ≡ known.links
+
+-- what links leave of what is known, or that it is known of no state
+abbrev pub IsNarrowedOrNone : Known → Known → Bool → Type 0
+IsNarrowedOrNone known new true = IsNarrowed known new
+IsNarrowedOrNone known new false = (layout : Layout) (s : State) → StateFits false layout known s → ⊥

@@ -1,0 +1,194 @@
+//! Registers whose number is another's plus a constant.
+
+ghost use Rattle.std.specs.Prelude.{◌≡◌, ◌<◌, ℕ, None, Some, length, slice_set};
+ghost use Rattle.insn.specs.Instruction.{reg_number};
+ghost use Rattle.verifier.specs.Links.{AreLeft, AreLinksJoined, IsLinkJoin, copied, lesser, link_at, link_left, link_made, link_of as spec_link_of, raised, raised_of};
+ghost use Rattle.verifier.specs.LinksParts.{AreNumbersRefined, IsLinkRefined};
+
+use insn::instruction::Insn;
+use insn::operation::{AluOp, BinOp, Cond, Width};
+use insn::register::RegNo;
+use range::domain::Domain;
+use reg_kind::Reg;
+use scalar::Scalar;
+
+/// In the bits of a width a register's number is that of another plus a constant.
+#[derive(Clone, Copy, PartialEq, Eq)]
+pub struct Link {
+    of: RegNo,
+    plus: u64,
+    width: Width,
+}
+
+impl Link {
+    /// The link of a copy.
+    fn copied(of: RegNo, width: Width) -> Link
+        ensures { result ≡ copied of width }
+    {
+        Link { of, plus: 0, width }
+    }
+
+    /// The link after a constant was added to its register.
+    fn raised(self, width: Width, imm: i32) -> Link
+        ensures { result ≡ raised width imm self }
+    {
+        Link {
+            of: self.of,
+            plus: self.plus.wrapping_add(i64::from(imm).cast_unsigned()),
+            width: match width {
+                Width::W32 => Width::W32,
+                Width::W64 => self.width,
+            },
+        }
+    }
+
+    /// The link with its register, unless that is the other one, too.
+    fn of_register(self, register: RegNo) -> Option<(RegNo, Link)>
+        ensures { result ≡ spec_link_of register self }
+    {
+        if register.number() == self.of.number() {
+            None
+        } else {
+            Some((register, self))
+        }
+    }
+
+    /// The other register.
+    pub(crate) fn of(self) -> RegNo
+        ensures { result ≡ self.of }
+    {
+        self.of
+    }
+
+    /// The same link, where a way that meets has it, too.
+    fn agreed(a: Option<Link>, b: Option<Link>) -> Option<Link>
+        ensures { IsLinkJoin a b result }
+    {
+        match (a, b) {
+            (Some(one), Some(other)) if one == other => a,
+            _ => None,
+        }
+    }
+
+    /// What is left of a register's link when a register is written.
+    fn left(link: Option<Link>, written: RegNo, number: usize) -> Option<Link>
+        ensures { result ≡ link_left written number link }
+    {
+        match link {
+            Some(link) if written.number() == number || written.number() == link.of.number() =>
+                None,
+            _ => link,
+        }
+    }
+
+    /// What two linked numbers can still be; `None` where there are none.
+    fn refine_numbers(self, a: Scalar, b: Scalar) -> Option<(Scalar, Scalar)>
+        ensures { AreNumbersRefined self a b result }
+    {
+        let plus = Scalar::exact(self.plus);
+        let sums = Scalar::apply(BinOp::Add, self.width, a, plus);
+        let (b, _) = Scalar::refine(Cond::Eq, self.width, b, sums, true)?;
+        let differences = Scalar::apply(BinOp::Sub, self.width, b, plus);
+        let (a, _) = Scalar::refine(Cond::Eq, self.width, a, differences, true)?;
+        Some((a, b))
+    }
+
+    /// What the two registers can still hold; `None` where there is nothing. Those of which one holds no number stay
+    /// as they are.
+    pub(crate) fn refine(self, of: Reg, register: Reg) -> Option<(Reg, Reg)>
+        ensures { IsLinkRefined self of register result }
+    {
+        let (Reg::Number(a), Reg::Number(b)) = (of, register) else {
+            return Some((of, register));
+        };
+        let (a, b) = self.refine_numbers(a, b)?;
+        Some((Reg::Number(a), Reg::Number(b)))
+    }
+}
+
+/// The links of the registers.
+#[derive(Clone, Copy)]
+pub struct Links {
+    each: [Option<Link>; 11],
+}
+
+impl Links {
+    /// No links.
+    pub(crate) fn none() -> Links
+        ensures { (k : ℕ) → link_at result k ≡ None }
+    {
+        Links { each: [None; 11] }
+    }
+
+    /// The link of the register of a number.
+    pub(crate) fn at(&self, number: usize) -> Option<Link>
+        requires { number < 11 }
+        ensures { result ≡ link_at self.now number }
+    {
+        self.each[number]
+    }
+
+    /// Loses the links of a register that is written, and those with it.
+    pub(crate) fn lose(&mut self, written: RegNo)
+        ensures { AreLeft written self.old self.new }
+    {
+        for i in 0..11 {
+            self.each[i] = Link::left(self.each[i], written, i);
+        }
+    }
+
+    /// Keeps the links that others are, too.
+    pub(crate) fn join(&mut self, other: &Links)
+        ensures { AreLinksJoined self.old other.now self.new }
+    {
+        for i in 0..11 {
+            self.each[i] = Link::agreed(self.each[i], other.each[i]);
+        }
+    }
+
+    /// The link that an instruction makes.
+    pub(crate) fn made(&self, insn: Insn) -> Option<(RegNo, Link)>
+        ensures { result ≡ link_made self.now insn }
+    {
+        match insn {
+            Insn::Alu64Reg {
+                op: AluOp::Mov,
+                dst,
+                src,
+            } => Link::copied(src, Width::W64).of_register(dst),
+            Insn::Alu32Reg {
+                op: AluOp::Mov,
+                dst,
+                src,
+            } => Link::copied(src, Width::W32).of_register(dst),
+            Insn::Alu64Imm {
+                op: AluOp::Add,
+                dst,
+                imm,
+            } => self.raised(dst, Width::W64, imm),
+            Insn::Alu32Imm {
+                op: AluOp::Add,
+                dst,
+                imm,
+            } => self.raised(dst, Width::W32, imm),
+            _ => None,
+        }
+    }
+
+    /// A register's link after a constant was added to it.
+    fn raised(&self, register: RegNo, width: Width, imm: i32) -> Option<(RegNo, Link)>
+        ensures { result ≡ raised_of register width imm (link_at self.now (reg_number register)) }
+    {
+        self.at(register.number())?
+            .raised(width, imm)
+            .of_register(register)
+    }
+
+    /// Sets the link of a register.
+    pub(crate) fn put(&mut self, register: RegNo, link: Link)
+        ensures eleven { length self.old.each ≡ 11 }
+        ensures set { self.new.each ≡ slice_set self.old.each (reg_number register) (Some link) }
+    {
+        self.each[register.number()] = Some(link);
+    }
+}
