@@ -1,0 +1,51 @@
+-- What is left of a history under other rules.
+use Rattle.std.specs.Prelude.{◌≡◌, ℕ, List, Bool, true, false, not, min, bit_and, map, Option, Some, None, is_some, if◌then◌else◌}
+use Rattle.clients.specs.Clients.{client_at}
+use Rattle.clients.specs.RegistryRecord.{RegistryRecord}
+use Rattle.consent.specs.History.{Event, Change, Terms, event_at, is_within, code_terms}
+use Rattle.consent.specs.History.Change.{CodeGiven, Issued, FamilyEnded}
+use Rattle.consent.specs.declared.grant.TokenKind.{TokenKind}
+use Rattle.endpoints.specs.Bounded.{allowed_to, token_life_limit}
+
+-- the client may not be allowed all of the scope
+abbrev pub goes_beyond : RegistryRecord → ℕ → ℕ → Bool
+goes_beyond rules client scope = not (is_within scope (allowed_to rules client))
+
+-- a code of these terms goes beyond the rules
+abbrev pub do_go_beyond : RegistryRecord → Option Terms → Bool
+do_go_beyond rules None = false
+do_go_beyond rules (Some terms) = goes_beyond rules terms.client terms.scope
+
+-- the family's code goes beyond the rules
+abbrev pub is_beyond_rules : RegistryRecord → List Event → ℕ → Bool
+is_beyond_rules rules history family = do_go_beyond rules (code_terms history family)
+
+-- for how long a token is good that was issued for a life: no longer than one of its kind may be, and not at all where it goes
+-- beyond the rules
+abbrev pub life_under : RegistryRecord → ℕ → TokenKind → ℕ → ℕ → ℕ
+life_under rules client kind scope life = if goes_beyond rules client scope then 0 else min life (token_life_limit rules kind)
+
+-- what of the scope the client may be allowed
+abbrev pub scope_under : RegistryRecord → ℕ → ℕ → ℕ
+scope_under rules client scope = bit_and scope (allowed_to rules client)
+
+-- What is left of a change, where these families are beyond the rules: their end stands in the place of each of their codes and
+-- tokens. Other tokens keep to the rules.
+abbrev pub left_of : RegistryRecord → (ℕ → Bool) → Change → Change
+left_of rules beyond (CodeGiven family client owner scope redirect challenge digest) =
+    if beyond family then FamilyEnded family else CodeGiven family client owner scope redirect challenge digest
+left_of rules beyond (Issued family client owner kind digest scope life) =
+    if beyond family then FamilyEnded family
+    else Issued family client owner kind digest (scope_under rules client scope) (life_under rules client kind scope life)
+left_of rules beyond change = change
+
+abbrev pub left_event : RegistryRecord → (ℕ → Bool) → Event → Event
+left_event rules beyond e = event_at e.moment (left_of rules beyond e.change)
+
+-- what is left of the history: each change has its moment and its place
+abbrev pub left_under : RegistryRecord → List Event → List Event
+left_under rules history = map (left_event rules (is_beyond_rules rules history)) history
+
+-- each client is still one
+abbrev pub KeepsClients : RegistryRecord → RegistryRecord → Type 0
+KeepsClients old new = (client : ℕ) → is_some (client_at client old.clients) ≡ true → is_some (client_at client new.clients) ≡ true

@@ -1,0 +1,9 @@
+-- What public clauses cite. docs/DEFINITIONS.md says what to read in which order.
+pub mod Left
+-- What only the contracts of this crate's own parts and their proofs cite.
+pub mod LeftParts
+-- Laws, each proved: a reader may skip them.
+pub mod ListsLaws
+pub mod LeftLaws
+pub mod RightLaws
+pub mod KeptLaws

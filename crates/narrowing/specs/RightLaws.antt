@@ -1,0 +1,164 @@
+-- What is left of a right history under other rules is right under them, and the host came through it as it did.
+use Rattle.std.proofs.Common.{◌≡◌, ◌≤◌, ◌⊎◌, inl, inr, ℕ, List, [], ◌∷◌, ◌++◌, Bool, true, false, cond, Some, refl, ap, sym, subst, ◌∙◌, append_assoc, arith}
+use Rattle.std.specs.Prelude.{◌==◌, not, min, find, count_by, option_map, bit_and}
+use Rattle.std.specs.List.{cons_option}
+use Rattle.std.proofs.lemmas.Bool.{eqb-true, eq-eqb, and_from}
+use Rattle.std.proofs.lemmas.List.{map-append}
+use Rattle.std.proofs.lemmas.List.Elements.{filter_map-append}
+use Rattle.std.proofs.lemmas.Nat.{and_assoc}
+use Rattle.std.proofs.lemmas.Nat.Bits.{same_from_bits, bit_at_and}
+use Rattle.std.specs.Int.{bit_at}
+use Rattle.insn.specs.declared.layout.Layout.{Layout}
+use Rattle.clients.specs.RegistryRecord.{RegistryRecord}
+use Rattle.consent.specs.CoveredLaws.{is_within-trans, is_within-self}
+use Rattle.consent.specs.ListLaws.{count_by-cons}
+use Rattle.consent.specs.History.{Event, Change, Grant, event_at, grant_of, grants, is_code, is_code_of, is_within, terms_of, IsHistory}
+use Rattle.consent.specs.History.Change.{Consented, CodeGiven, Issued, Spent, FamilyEnded, HookSet, HookGone}
+use Rattle.consent.specs.declared.grant.TokenKind.{TokenKind}
+use Rattle.endpoints.specs.Bounded.{IsRightChange, AllRight, IsOwn, IsOfCode, allowed_to, token_life_limit}
+use Rattle.endpoints.specs.Hosts.{HostRun, HostStep}
+use Rattle.narrowing.specs.Left.{goes_beyond, do_go_beyond, is_beyond_rules, life_under, scope_under, left_of, left_event, left_under, KeepsClients}
+use Rattle.narrowing.specs.LeftLaws.{left_events, consented_left, no_code_left, code_terms_left, ended_left}
+
+-- SCOPES AND LIVES
+
+met_within : (scope mask : ℕ) → is_within (bit_and scope mask) mask ≡ true
+met_within scope mask =
+    eq-eqb (bit_and (bit_and scope mask) mask) (bit_and scope mask)
+    (and_assoc mask scope mask ∙ ap (bit_and scope) (eqb-true (bit_and mask mask) mask (is_within-self mask)))
+
+met_below : (scope mask : ℕ) → is_within (bit_and scope mask) scope ≡ true
+met_below scope mask =
+    eq-eqb (bit_and (bit_and scope mask) scope) (bit_and scope mask)
+    (same_from_bits (bit_and (bit_and scope mask) scope) (bit_and scope mask) (λ i. bit_at_and (bit_and scope mask) scope i
+    ∙ ap (λ n. min n (bit_at scope i)) (bit_at_and scope mask i) ∙ (least (bit_at scope i) (bit_at mask i) ∙ sym (bit_at_and scope mask i))))
+  where
+    least : (m n : ℕ) → min (min m n) m ≡ min m n
+    least m n = omega arith
+
+within_if : (b : Bool) → not b ≡ false → b ≡ true
+within_if true is = refl
+within_if false is = cc
+
+short_if : (b : Bool) (life limit : ℕ) → cond b 0 (min life limit) ≤ limit
+short_if true life limit = omega arith
+short_if false life limit = omega arith
+
+-- THE ONE THAT IS FOUND
+
+one_there : {X : Type 0} (p : X → Bool) (xs ys : List X) (x : X) → p x ≡ true → 1 ≤ count_by p (xs ++ x ∷ ys)
+one_there p [] ys x is = let c = count_by-cons p x ys in let one = ap (λ b. cond {A = ℕ} b 1 0) is in omega (arith, c, one)
+one_there p (y ∷ xs) ys x is = let c = count_by-cons p y (xs ++ x ∷ ys) in let more = one_there p xs ys x is in omega (arith, c, more)
+
+find-only : {X : Type 0} (p : X → Bool) (xs ys : List X) (x : X) → p x ≡ true → count_by p (xs ++ x ∷ ys) ≤ 1 → find p (xs ++ x ∷ ys) ≡ Some x
+find-only p [] ys x is one = ap (λ b. cond b (Some x) (find p ys)) is
+find-only {X = X} p (y ∷ xs) ys x is one = only_step (p y) refl (find-only p xs ys x is)
+  where
+    only_step : (b : Bool) → p y ≡ b → (count_by p (xs ++ x ∷ ys) ≤ 1 → find p (xs ++ x ∷ ys) ≡ Some x) →
+        cond b (Some y) (find p (xs ++ x ∷ ys)) ≡ Some x
+    only_step true e more =
+        let c = count_by-cons p y (xs ++ x ∷ ys) in let first = ap (λ b. cond {A = ℕ} b 1 0) e in let there = one_there p xs ys x is in
+        absurd (omega (arith, c, first, there, one))
+    only_step false e more = let c = count_by-cons p y (xs ++ x ∷ ys) in more (omega (arith, c, one))
+
+-- RIGHT CHANGES
+
+module _ (old new : RegistryRecord) (clients : KeepsClients old new) (history : List Event)
+    (one_code : (family : ℕ) → count_by (is_code_of family) (grants history) ≤ 1) where
+  abbrev beyond : ℕ → Bool
+  beyond family = is_beyond_rules new history family
+
+  abbrev left : List Event → List Event
+  left es = left_events new beyond es
+
+  -- a code of a family that stays is within what its client may be allowed
+  code_within : (before later : List Event) (e : Event) (g : Grant) → history ≡ before ++ e ∷ later → grant_of e ≡ Some g → is_code g.kind ≡ true →
+      beyond g.family ≡ false → is_within g.scope (allowed_to new g.client) ≡ true
+  code_within before later e g whole gives_it code stays =
+      let are = ap grants whole ∙ filter_map-append grant_of before (e ∷ later) ∙ ap (λ o. grants before ++ cons_option o (grants later)) gives_it in
+      let here = and_from (is_code g.kind) (g.family == g.family) code (eq-eqb g.family g.family refl) in
+      let one = subst (λ (gs : List Grant). count_by (is_code_of g.family) gs ≤ 1) are (one_code g.family) in
+      let found = ap (find (is_code_of g.family)) are ∙ find-only (is_code_of g.family) (grants before) (grants later) g here one in
+      within_if (is_within g.scope (allowed_to new g.client)) (sym (ap (λ o. do_go_beyond new (option_map terms_of o)) found) ∙ stays)
+
+  abbrev IsHome : List Event → ℕ → ℕ → ℕ → ℕ → Type 0
+  IsHome before family client owner scope = IsOwn before family owner ⊎ IsOfCode before family client owner scope
+
+  home_left : (before : List Event) (family client owner scope less : ℕ) → beyond family ≡ false → is_within less scope ≡ true →
+      IsHome before family client owner scope → IsHome (left before) family client owner less
+  home_left before family client owner scope less stays lower (inl own) =
+      inl (record { no_owner = own.no_owner; no_code = no_code_left new beyond family stays before own.no_code })
+  home_left before family client owner scope less stays lower (inr of) =
+      inr (of.0, code_terms_left new beyond family stays before ∙ of.1, is_within-trans less scope of.0 lower of.2, ended_left new beyond family stays before ∙ of.3)
+
+  right_code : (b : Bool) (before : List Event) (f c o scope : ℕ) (redirect challenge digest : List ℕ) → beyond f ≡ b →
+      (beyond f ≡ false → is_within scope (allowed_to new c) ≡ true) → IsRightChange old before (CodeGiven f c o scope redirect challenge digest) →
+      IsRightChange new (left before) (cond b (FamilyEnded f) (CodeGiven f c o scope redirect challenge digest))
+  right_code true before f c o scope redirect challenge digest is within right = tt
+  right_code false before f c o scope redirect challenge digest is within right = (
+    record { is_client = clients c right.0.is_client; within = within is },
+    ap (is_within scope) (consented_left new beyond before o c) ∙ right.1,
+  )
+
+  right_token : (b : Bool) (before : List Event) (f c o : ℕ) (kind : TokenKind) (digest : List ℕ) (scope life : ℕ) → beyond f ≡ b →
+      IsRightChange old before (Issued f c o kind digest scope life) →
+      IsRightChange new (left before) (cond b (FamilyEnded f) (Issued f c o kind digest (scope_under new c scope) (life_under new c kind scope life)))
+  right_token true before f c o kind digest scope life is right = tt
+  right_token false before f c o kind digest scope life is right = (
+    record { is_client = clients c right.0.is_client; within = met_within scope (allowed_to new c) },
+    short_if (goes_beyond new c scope) life (token_life_limit new kind),
+    home_left before f c o scope (scope_under new c scope) is (met_below scope (allowed_to new c)) right.2,
+  )
+
+  right_left : (before later : List Event) (e : Event) → history ≡ before ++ e ∷ later → IsRightChange old before e.change →
+      IsRightChange new (left before) (left_of new beyond e.change)
+  right_left before later e whole right = by e.moment e.change whole right
+    where
+      by : (moment : ℕ) (change : Change) → history ≡ before ++ event_at moment change ∷ later → IsRightChange old before change →
+          IsRightChange new (left before) (left_of new beyond change)
+      by moment (CodeGiven f c o scope redirect challenge digest) whole right =
+          right_code (beyond f) before f c o scope redirect challenge digest refl
+          (code_within before later (event_at moment (CodeGiven f c o scope redirect challenge digest)) _ whole refl refl) right
+      by moment (Issued f c o kind digest scope life) whole right = right_token (beyond f) before f c o kind digest scope life refl right
+      by moment (Consented o c mask) whole right = tt
+      by moment (Spent digest) whole right = tt
+      by moment (FamilyEnded family) whole right = tt
+      by moment (HookSet name version code) whole right = tt
+      by moment (HookGone name) whole right = tt
+
+  all_left : (before later : List Event) → history ≡ before ++ later → AllRight old before later → AllRight new (left before) (left later)
+  all_left before [] whole all = tt
+  all_left before (e ∷ later) whole all = (
+    right_left before later e whole all.0,
+    subst (λ (b : List Event). AllRight new b (left later)) (map-append (left_event new beyond) before (e ∷ []))
+        (all_left (before ++ e ∷ []) later (whole ∙ sym (append_assoc before (e ∷ []) later)) all.1),
+  )
+
+pub all_right-left : (old new : RegistryRecord) (history : List Event) (moment : ℕ) → KeepsClients old new → IsHistory history moment →
+    AllRight old [] history → AllRight new [] (left_under new history)
+all_right-left old new history moment clients is all = all_left old new clients history is.one_code [] history refl all
+
+-- THE HOST
+
+module _ {H : Type 0} (installs : H → List ℕ → Layout → List ℕ → H → Type 0) (removes : H → List ℕ → H → Type 0) (rules : RegistryRecord)
+    (beyond : ℕ → Bool) where
+  gone_step : (b : Bool) (f : ℕ) (change : Change) (old now : H) → HostStep installs removes old (FamilyEnded f) now →
+      HostStep installs removes old change now → HostStep installs removes old (cond b (FamilyEnded f) change) now
+  gone_step true f change old now gone step = gone
+  gone_step false f change old now gone step = step
+
+  host_step : (change : Change) (old now : H) → HostStep installs removes old change now → HostStep installs removes old (left_of rules beyond change) now
+  host_step (CodeGiven f c o scope redirect challenge digest) old now step =
+      gone_step (beyond f) f (CodeGiven f c o scope redirect challenge digest) old now step step
+  host_step (Issued f c o kind digest scope life) old now step =
+      gone_step (beyond f) f (Issued f c o kind digest (scope_under rules c scope) (life_under rules c kind scope life)) old now step step
+  host_step (Consented o c mask) old now step = step
+  host_step (Spent digest) old now step = step
+  host_step (FamilyEnded family) old now step = step
+  host_step (HookSet name version code) old now step = step
+  host_step (HookGone name) old now step = step
+
+  -- it came through what is left
+  pub host_run-left : (es : List Event) (first now : H) → HostRun installs removes first es now → HostRun installs removes first (left_events rules beyond es) now
+  host_run-left [] first now run = run
+  host_run-left (e ∷ es) first now run = (run.0, host_step e.change first run.0 run.1, host_run-left es run.0 now run.2)

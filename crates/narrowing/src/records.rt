@@ -1,0 +1,154 @@
+//! Codes and tokens that are left under other rules.
+
+ghost use Rattle.std.specs.Prelude.{◌≡◌, List, IfOk, option_map};
+ghost use Rattle.std.specs.List.{filter_map};
+ghost use Rattle.consent.specs.History.{Event, is_unexpired};
+ghost use Rattle.endpoints.specs.Bounded.{allowed_to, token_life_limit};
+ghost use Rattle.narrowing.specs.Left.{do_go_beyond, goes_beyond, left_under, life_under, scope_under};
+ghost use Rattle.narrowing.specs.LeftParts.{kept_left, left_kept};
+ghost use Rattle.token_store.specs.Fits.{FitsHistory};
+ghost use Rattle.token_store.specs.Image.{as_kept, kept_record};
+
+use clients::Registry;
+use consent::{ClientNo, Moment, TokenKind, is_within};
+use std::alloc::{AllocError, Global};
+use token_store::{KeptKind, KeptRecord};
+
+// What the client may be allowed.
+fn allowed_to(rules: &Registry, client: ClientNo) -> u64
+    ensures { result ≡ allowed_to rules.now client }
+{
+    match rules.client_numbered(client) {
+        Some(client) => client.allowed(),
+        None => 0,
+    }
+}
+
+// Whether the client may not be allowed all of the scope.
+fn goes_beyond(rules: &Registry, client: ClientNo, scope: u64) -> bool
+    ensures { result ≡ goes_beyond rules.now client scope }
+{
+    !is_within(scope, allowed_to(rules, client))
+}
+
+// What of the scope the client may be allowed.
+fn scope_under(rules: &Registry, client: ClientNo, scope: u64) -> u64
+    ensures { result ≡ scope_under rules.now client scope }
+{
+    scope & allowed_to(rules, client)
+}
+
+// How long a token of the kind may be good.
+fn life_limit(rules: &Registry, kind: TokenKind) -> u32
+    ensures { result ≡ token_life_limit rules.now kind }
+{
+    match kind {
+        TokenKind::Access => rules.access_life(),
+        TokenKind::Refresh => rules.refresh_life(),
+    }
+}
+
+// For how long a token is good that was issued for a life.
+fn life_under(rules: &Registry, client: ClientNo, kind: TokenKind, scope: u64, life: u32) -> u32
+    ensures { result ≡ life_under rules.now client kind scope life }
+{
+    if goes_beyond(rules, client, scope) {
+        return 0;
+    }
+    let limit = life_limit(rules, kind);
+    if life < limit { life } else { limit }
+}
+
+// Whether the family's code goes beyond the rules.
+fn is_beyond(rules: &Registry, of: &KeptRecord<'_>) -> bool
+    ensures { result ≡ do_go_beyond rules.now (kept_record of.now).terms }
+{
+    match of.code_scope {
+        Some(scope) => goes_beyond(rules, of.client, scope),
+        None => false,
+    }
+}
+
+// A code keeps to the rules where its family is not beyond them, and a token lives no longer than it may.
+fn within_rules<'a>(rules: &Registry, of: &KeptRecord<'a>) -> KeptRecord<'a>
+    ensures { kept_record result ≡ left_kept rules.now (kept_record of.now) }
+{
+    match of.kind {
+        KeptKind::Code {
+            owner,
+            redirect,
+            challenge,
+        } => KeptRecord {
+            digest: of.digest,
+            kind: KeptKind::Code {
+                owner,
+                redirect,
+                challenge,
+            },
+            family: of.family,
+            client: of.client,
+            owner: of.owner,
+            scope: of.scope,
+            moment: of.moment,
+            life: of.life,
+            code_scope: of.code_scope,
+            spent: of.spent,
+            ended: of.ended,
+        },
+        KeptKind::Token(kind) => KeptRecord {
+            digest: of.digest,
+            kind: KeptKind::Token(kind),
+            family: of.family,
+            client: of.client,
+            owner: of.owner,
+            scope: scope_under(rules, of.client, of.scope),
+            moment: of.moment,
+            life: life_under(rules, of.client, kind, of.scope, of.life),
+            code_scope: of.code_scope,
+            spent: of.spent,
+            ended: of.ended,
+        },
+    }
+}
+
+// Whether it is good at the moment.
+fn is_unexpired(moment: Moment, of: &KeptRecord<'_>) -> bool
+    ensures { result ≡ is_unexpired moment (kept_record of.now).grant }
+{
+    moment.get() < of.moment.get() + u64::from(of.life)
+}
+
+// What of the code or token is left to be kept at the moment.
+fn left_of<'a>(rules: &Registry, moment: Moment, of: &KeptRecord<'a>) -> Option<KeptRecord<'a>>
+    ensures { option_map kept_record result ≡ kept_left rules.now moment (kept_record of.now) }
+{
+    if is_beyond(rules, of) {
+        return None;
+    }
+    let left = within_rules(rules, of);
+    if is_unexpired(moment, &left) {
+        return Some(left);
+    }
+    None
+}
+
+/// The codes and tokens that are left of these at the moment, under the rules: those of each history that these are of, when
+/// what goes beyond the rules has ended.
+pub fn records_left<'a>(
+    alloc: Global,
+    rules: &Registry,
+    moment: Moment,
+    records: &[KeptRecord<'a>],
+) -> Result<Vec<KeptRecord<'a>>, AllocError>
+    ensures exact { IfOk result (λ left. as_kept left.items ≡ filter_map (kept_left rules.now moment) (as_kept records.now)) }
+    ensures fits { IfOk result (λ left. (history : List Event) → FitsHistory (as_kept records.now) history moment →
+        FitsHistory (as_kept left.items) (left_under rules.now history) moment) }
+{
+    let mut left = Vec::new(alloc);
+    for of in records {
+        if let Some(kept) = left_of(rules, moment, of) {
+            left.extend_from_slice(&[kept])?;
+        }
+    }
+    Ok(left)
+}
