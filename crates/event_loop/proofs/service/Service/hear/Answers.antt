@@ -14,7 +14,7 @@ returns-then-k-ge-PLACES g c = λ more rules host first past h rested.
     (goes h (hears_of_none _ _ _ _ more (ap (λ r. r ∷ more) c.in-Connection.is) (slice_get_past c.args.self.now.places c.in-Connection.k size)), rested)
 
 pub returns-else-k-ge-PLACES : goal.returns-else-k-ge-PLACES
-returns-else-k-ge-PLACES g c = λ more rules host first past h rested. (
+returns-else-k-ge-PLACES g c = λ more rules host first past h rested. rw c.add.ensures (
   goes h (hears_of c.in-Connection.k c.in-Connection.readable c.in-Connection.writable c.in-Connection.hung more c.place_at-place.result c.told.result (ap (λ r. r ∷ more) c.in-Connection.is) c.place_at-place.ensures c.told.ensures),
   told_rested c.in-Connection.k c.args.self.now (record c.args.self.now { places = slice_set c.args.self.now.places c.in-Connection.k c.told.result; due = slice_set c.args.self.now.due c.in-Connection.k true }) past.world c.told.result refl refl rested,
 )

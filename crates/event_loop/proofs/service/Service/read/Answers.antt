@@ -9,8 +9,8 @@ use Rattle.event_loop.proofs.Putting.{same_some}
 use Rattle.event_loop.proofs.Resting.{no_others}
 use Rattle.event_loop.proofs.service.Service.read.Goals as goal
 
-pub returns-else-may_read : goal.returns-else-may_read
-returns-else-may_read g c = λ rules host first found past undone ready h. record {
+pub returns-else-may_read-clause-acts : goal.returns-else-may_read-clause-acts
+returns-else-may_read-clause-acts g c = λ rules host first found past undone ready h. record {
   goes = record { next = past; served = h; done = none_more past.deeds; others = no_others c.args.k c.args.self.now past.world; alone = λ other differs not. not; ready = λ was. was };
   due = refl;
   acts = inl (record {

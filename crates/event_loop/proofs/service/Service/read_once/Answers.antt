@@ -17,8 +17,8 @@ use Rattle.event_loop.proofs.Putting.{taken_length}
 use Rattle.event_loop.proofs.Resting.{put_others}
 use Rattle.event_loop.proofs.service.Service.read_once.Goals as goal
 
-pub returns-in-Ok : goal.returns-in-Ok
-returns-in-Ok g c = λ rules host first found past undone ready h.
+pub returns-in-Ok-clause-acts : goal.returns-in-Ok-clause-acts
+returns-in-Ok-clause-acts g c = λ rules host first found past undone ready h.
     let reached = (served_answered (promises g.N.Sockets g.C.Clocks g.J.Journal (keeping g.K.Keeper g.K.ImageKeeper) g.H.HookHost) rules host first _ h).reached in
     let count = c.in-Bytes.count in
     let bytes : List ℕ = take count c.read.new.buffer in
@@ -43,8 +43,8 @@ returns-in-Ok g c = λ rules host first found past undone ready h.
       acts = inr (inl refl);
     }
 
-pub returns-in-Err : goal.returns-in-Err
-returns-in-Err g c = λ rules host first found past undone ready h.
+pub returns-in-Err-clause-acts : goal.returns-in-Err-clause-acts
+returns-in-Err-clause-acts g c = λ rules host first found past undone ready h.
     let reached = (served_answered (promises g.N.Sockets g.C.Clocks g.J.Journal (keeping g.K.Keeper g.K.ImageKeeper) g.H.HookHost) rules host first _ h).reached in
     let count = c.in-Bytes.count in
     let bytes : List ℕ = take count c.read.new.buffer in
@@ -69,8 +69,8 @@ returns-in-Err g c = λ rules host first found past undone ready h.
       acts = inr (inl refl);
     }
 
-pub returns-in-Ok-event : goal.returns-in-Ok-event
-returns-in-Ok-event g c = λ rules host first found past undone ready h.
+pub returns-in-Ok-event-clause-acts : goal.returns-in-Ok-event-clause-acts
+returns-in-Ok-event-clause-acts g c = λ rules host first found past undone ready h.
     let reached = (served_answered (promises g.N.Sockets g.C.Clocks g.J.Journal (keeping g.K.Keeper g.K.ImageKeeper) g.H.HookHost) rules host first _ h).reached in
     let on = c.in-Ok-event.ensures.done rules host past.schedule past.world reached in
     record {
@@ -91,8 +91,8 @@ returns-in-Ok-event g c = λ rules host first found past undone ready h.
       acts = inr (inl refl);
     }
 
-pub returns-in-Later : goal.returns-in-Later
-returns-in-Later g c = λ rules host first found past undone ready h.
+pub returns-in-Later-clause-acts : goal.returns-in-Later-clause-acts
+returns-in-Later-clause-acts g c = λ rules host first found past undone ready h.
     let reached = (served_answered (promises g.N.Sockets g.C.Clocks g.J.Journal (keeping g.K.Keeper g.K.ImageKeeper) g.H.HookHost) rules host first _ h).reached in
     record {
       goes = record {
@@ -110,8 +110,8 @@ returns-in-Later g c = λ rules host first found past undone ready h.
       acts = inr (inl refl);
     }
 
-pub returns-in-Failed : goal.returns-in-Failed
-returns-in-Failed g c = λ rules host first found past undone ready h.
+pub returns-in-Failed-clause-acts : goal.returns-in-Failed-clause-acts
+returns-in-Failed-clause-acts g c = λ rules host first found past undone ready h.
     let reached = (served_answered (promises g.N.Sockets g.C.Clocks g.J.Journal (keeping g.K.Keeper g.K.ImageKeeper) g.H.HookHost) rules host first _ h).reached in
     record {
       goes = record {
@@ -129,8 +129,8 @@ returns-in-Failed g c = λ rules host first found past undone ready h.
       acts = inr (inl refl);
     }
 
-pub returns-in-Err-event : goal.returns-in-Err-event
-returns-in-Err-event g c = λ rules host first found past undone ready h.
+pub returns-in-Err-event-clause-acts : goal.returns-in-Err-event-clause-acts
+returns-in-Err-event-clause-acts g c = λ rules host first found past undone ready h.
     let reached = (served_answered (promises g.N.Sockets g.C.Clocks g.J.Journal (keeping g.K.Keeper g.K.ImageKeeper) g.H.HookHost) rules host first _ h).reached in
     let fault = c.in-Err-event.fault in
     rw c.in-Err-event.ensures.err

@@ -16,8 +16,8 @@ use Rattle.event_loop.proofs.Putting.{set_other}
 use Rattle.event_loop.proofs.Resting.{put_others, put_settled, free_rests, stays_tidy, not_due, not_rested}
 use Rattle.event_loop.proofs.service.Service.settle.Goals as goal
 
-pub returns-then-is_over : goal.returns-then-is_over
-returns-then-is_over g c = λ rules host first found past h.
+pub returns-then-is_over-clause-tidies : goal.returns-then-is_over-clause-tidies
+returns-then-is_over-clause-tidies g c = λ rules host first found past h.
     let p = promises g.N.Sockets g.C.Clocks g.J.Journal (keeping g.K.Keeper g.K.ImageKeeper) g.H.HookHost in
     let k = c.args.k in
     let reached = (served_answered p rules host first _ h).reached in
@@ -25,7 +25,7 @@ returns-then-is_over g c = λ rules host first found past h.
     let away = c.leave.ensures.away rules host found past reached in
     let over : IsOver place (connection_at past.world.connections k) = c.is_over.ensures.over c.if-is_over.true rules host past.schedule past.world reached in
     let places : c.leave.new.self.places ≡ slice_set c.args.self.now.places k (record place { stage = Free }) = ap (λ (s : Service). s.places) c.leave.ensures.rest in
-    let due : c.leave.new.self.due ≡ slice_set c.args.self.now.due k false = ap (λ (s : Service). s.due) c.leave.ensures.rest in
+    let due : c.leave.new.self.due ≡ slice_set c.args.self.now.due k false = ap (λ (s : Service). s.due) c.leave.ensures.rest ∙ c.remove.ensures in
     let settled = put_settled k c.args.self.now c.leave.new.self (record place { stage = Free }) away.next places (free_rests _ _ refl) (λ e. closes_some p rules host k place _ _ away.closes) in
     record {
       goes = record {
@@ -43,38 +43,38 @@ returns-then-is_over g c = λ rules host first found past h.
       left = λ e. absurd (not_due c.args.self.now.due k (ap (λ l. slice_get l k) (sym due) ∙ e));
     }
 
-pub returns-then-may_read : goal.returns-then-may_read
-returns-then-may_read g c = λ rules host first found past h.
+pub returns-then-may_read-clause-tidies : goal.returns-then-may_read-clause-tidies
+returns-then-may_read-clause-tidies g c = λ rules host first found past h.
     let p = promises g.N.Sockets g.C.Clocks g.J.Journal (keeping g.K.Keeper g.K.ImageKeeper) g.H.HookHost in
     let reached = (served_answered p rules host first _ h).reached in
     let due = c.args.self.now.due in
     let k = c.args.k in
-    stays_tidy p rules host first found k c.args.self.now c.args.tools.now past c.place_at-place.result (slice_set (slice_set due k false) k true) c.place_at-place.ensures
+    rw (c.add.ensures, c.remove.ensures) (stays_tidy p rules host first found k c.args.self.now c.args.tools.now past c.place_at-place.result (slice_set (slice_set due k false) k true) c.place_at-place.ensures
     (c.is_over.ensures.goes_on c.if-is_over.false rules host past.schedule past.world reached) (λ j other. set_other (slice_set due k false) k j true other ∙ set_other due k j false other)
     (λ none. absurd (not_rested (slice_set due k false) k none))
-    (λ e. a_read (c.may_read.ensures.readable c.if-may_read.true) (c.may_read.ensures.may c.if-may_read.true rules host past.schedule past.world reached)) h
+    (λ e. a_read (c.may_read.ensures.readable c.if-may_read.true) (c.may_read.ensures.may c.if-may_read.true rules host past.schedule past.world reached)) h)
 
-pub returns-then-may_write : goal.returns-then-may_write
-returns-then-may_write g c = λ rules host first found past h.
+pub returns-then-may_write-clause-tidies : goal.returns-then-may_write-clause-tidies
+returns-then-may_write-clause-tidies g c = λ rules host first found past h.
     let p = promises g.N.Sockets g.C.Clocks g.J.Journal (keeping g.K.Keeper g.K.ImageKeeper) g.H.HookHost in
     let reached = (served_answered p rules host first _ h).reached in
     let due = c.args.self.now.due in
     let k = c.args.k in
-    stays_tidy p rules host first found k c.args.self.now c.args.tools.now past c.place_at-place.result (slice_set (slice_set due k false) k true) c.place_at-place.ensures
+    rw (c.add-then-may_write.ensures, c.remove.ensures) (stays_tidy p rules host first found k c.args.self.now c.args.tools.now past c.place_at-place.result (slice_set (slice_set due k false) k true) c.place_at-place.ensures
     (c.is_over.ensures.goes_on c.if-is_over.false rules host past.schedule past.world reached) (λ j other. set_other (slice_set due k false) k j true other ∙ set_other due k j false other)
     (λ none. absurd (not_rested (slice_set due k false) k none))
-    (λ e. a_write (c.may_write.ensures.writable c.if-may_write.true) (c.may_write.ensures.may c.if-may_write.true rules host past.schedule past.world reached)) h
+    (λ e. a_write (c.may_write.ensures.writable c.if-may_write.true) (c.may_write.ensures.may c.if-may_write.true rules host past.schedule past.world reached)) h)
 
-pub returns-else-may_write : goal.returns-else-may_write
-returns-else-may_write g c = λ rules host first found past h.
+pub returns-else-may_write-clause-tidies : goal.returns-else-may_write-clause-tidies
+returns-else-may_write-clause-tidies g c = λ rules host first found past h.
     let p = promises g.N.Sockets g.C.Clocks g.J.Journal (keeping g.K.Keeper g.K.ImageKeeper) g.H.HookHost in
     let reached = (served_answered p rules host first _ h).reached in
     let due = c.args.self.now.due in
     let k = c.args.k in
-    stays_tidy p rules host first found k c.args.self.now c.args.tools.now past c.place_at-place.result (slice_set due k false) c.place_at-place.ensures
+    rw c.remove.ensures (stays_tidy p rules host first found k c.args.self.now c.args.tools.now past c.place_at-place.result (slice_set due k false) c.place_at-place.ensures
     (c.is_over.ensures.goes_on c.if-is_over.false rules host past.schedule past.world reached) (λ j other. set_other due k j false other)
     (λ none. record {
       unread = λ readable. c.may_read.ensures.rests c.if-may_read.false readable rules host past.schedule past.world reached;
       unwritten = λ writable. c.may_write.ensures.rests c.if-may_write.false writable rules host past.schedule past.world reached;
       goes_on = c.is_over.ensures.goes_on c.if-is_over.false rules host past.schedule past.world reached;
-    }) (λ e. absurd (not_due due k e)) h
+    }) (λ e. absurd (not_due due k e)) h)

@@ -17,8 +17,8 @@ use Rattle.event_loop.proofs.Putting.{same_some}
 use Rattle.event_loop.proofs.Resting.{put_others, no_others}
 use Rattle.event_loop.proofs.service.Service.write.Goals as goal
 
-pub returns-in-Bytes : goal.returns-in-Bytes
-returns-in-Bytes g c = λ rules host first found past undone kept h.
+pub returns-in-Bytes-clause-acts : goal.returns-in-Bytes-clause-acts
+returns-in-Bytes-clause-acts g c = λ rules host first found past undone kept h.
     let reached = (served_answered (promises g.N.Sockets g.C.Clocks g.J.Journal (keeping g.K.Keeper g.K.ImageKeeper) g.H.HookHost) rules host first _ h).reached in
     let place = c.place_at-place.result in
     let out = c.output-output.ensures.output rules host past.schedule past.world reached in
@@ -42,8 +42,8 @@ returns-in-Bytes g c = λ rules host first found past undone kept h.
       acts = inr (inl refl);
     }
 
-pub returns-in-Later : goal.returns-in-Later
-returns-in-Later g c = λ rules host first found past undone kept h.
+pub returns-in-Later-clause-acts : goal.returns-in-Later-clause-acts
+returns-in-Later-clause-acts g c = λ rules host first found past undone kept h.
     let reached = (served_answered (promises g.N.Sockets g.C.Clocks g.J.Journal (keeping g.K.Keeper g.K.ImageKeeper) g.H.HookHost) rules host first _ h).reached in
     let place = c.place_at-place.result in
     let may = c.may_write.ensures.may c.if-not-may_write.false rules host past.schedule past.world reached in
@@ -60,8 +60,8 @@ returns-in-Later g c = λ rules host first found past undone kept h.
       acts = inr (inl refl);
     }
 
-pub returns-in-Failed : goal.returns-in-Failed
-returns-in-Failed g c = λ rules host first found past undone kept h.
+pub returns-in-Failed-clause-acts : goal.returns-in-Failed-clause-acts
+returns-in-Failed-clause-acts g c = λ rules host first found past undone kept h.
     let reached = (served_answered (promises g.N.Sockets g.C.Clocks g.J.Journal (keeping g.K.Keeper g.K.ImageKeeper) g.H.HookHost) rules host first _ h).reached in
     let place = c.place_at-place.result in
     let may = c.may_write.ensures.may c.if-not-may_write.false rules host past.schedule past.world reached in
@@ -78,8 +78,8 @@ returns-in-Failed g c = λ rules host first found past undone kept h.
       acts = inr (inl refl);
     }
 
-pub returns-then-not-may_write : goal.returns-then-not-may_write
-returns-then-not-may_write g c = λ rules host first found past undone kept h. record {
+pub returns-then-not-may_write-clause-acts : goal.returns-then-not-may_write-clause-acts
+returns-then-not-may_write-clause-acts g c = λ rules host first found past undone kept h. record {
   goes = record { next = past; served = h; done = none_more past.deeds; others = no_others c.args.k c.args.self.now past.world; alone = λ other differs not. not; ready = λ was. was };
   due = refl;
   acts = inl (record {
