@@ -14,7 +14,7 @@ ghost use Rattle.endpoints.specs.Parts.{DecidesCode, InEachSetting, code_by, kno
 
 use answers::{Answer, Decision, Halt, KnownClient, View, named_client, owner, scope_within};
 use clients::{GrantType, Registry};
-use consent::{Change, Changes, CodeFacts, is_within};
+use consent::{Change, Changes, CodeFacts};
 use messages::{ErrorName, Request};
 use params::{ParamFault, Params};
 use pkce::{challenge_ok, digest_of};
@@ -95,7 +95,7 @@ fn code_facts<'p>(
     let challenge = challenge(params).ok_or(ErrorName::InvalidRequest)?;
     let scope = scope_within(view.rules, client.allowed(), params).ok_or(ErrorName::InvalidScope)?;
     let owner = owner(view.rules, request).ok_or(ErrorName::AccessDenied)?;
-    if !is_within(scope, view.consents.get(owner, number)) {
+    if !scope.is_within(view.consents.get(owner, number)) {
         return Err(ErrorName::AccessDenied);
     }
     Ok(CodeFacts {

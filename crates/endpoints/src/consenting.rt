@@ -8,17 +8,17 @@ ghost use Rattle.endpoints.specs.ConsentPath.{give_consent};
 ghost use Rattle.endpoints.specs.Parts.{InEachSetting, consent_by, consent_points};
 
 use answers::{Answer, Decision, Halt, View, Want, form, named_client, owner, scope};
-use consent::{Change, Changes, ClientNo, OwnerNo};
+use consent::{Change, Changes, ClientNo, OwnerNo, ScopeSet};
 use messages::{ErrorName, Request};
 use params::Params;
 use std::alloc::Global;
 
-/// What an owner consents to a client's having: one bit for each name.
+/// What an owner consents to a client's having.
 #[derive(Clone, Copy)]
 pub(crate) struct NewConsent {
     pub(crate) owner: OwnerNo,
     pub(crate) client: ClientNo,
-    pub(crate) mask: u64,
+    pub(crate) mask: ScopeSet,
 }
 
 // The owner, the client and what the one consents to the other's having.
@@ -32,7 +32,7 @@ fn consented(view: &View<'_>, request: &Request<'_>, params: &Params) -> Result<
     let Some(known) = named_client(view.rules, params) else {
         return Err(Halt::Refuse(ErrorName::InvalidRequest));
     };
-    let Some(mask) = scope(view.rules, 0, params) else {
+    let Some(mask) = scope(view.rules, ScopeSet::empty(), params) else {
         return Err(Halt::Refuse(ErrorName::InvalidScope));
     };
     Ok(NewConsent {

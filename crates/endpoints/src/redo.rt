@@ -11,7 +11,7 @@ ghost use Rattle.endpoints.specs.RedoParts.{IsOfHistory};
 ghost use Rattle.endpoints.specs.Ruling.{CanMake};
 
 use crate::ruling::Checked;
-use consent::{Change, Changes, CodeFacts, Consents, Moment, RecordVersion};
+use consent::{Change, Changes, CodeFacts, Consents, Digest, Moment, RecordVersion};
 use hook_host::{HookFault, HookHost};
 use insn::layout::Layout;
 use std::fmt::{self, Display, Formatter, Write};
@@ -115,14 +115,14 @@ pub(crate) fn alone<'a>(change: &Change<'a>) -> Changes<'a>
 }
 
 // Whether the digest names something that is unexpired.
-fn is_known(store: &Store, digest: &[u8; 32], moment: Moment) -> bool
+fn is_known(store: &Store, digest: &Digest, moment: Moment) -> bool
     ensures { (history : List Event) → FitsStore store.now history moment → result ≡ is_some (grant_at history digest.now moment) }
 {
     store.at(digest, moment).is_some()
 }
 
 // Why nothing may be given under the digest.
-fn digest_refusal(store: &Store, digest: &[u8; 32], moment: Moment) -> Option<RedoFault>
+fn digest_refusal(store: &Store, digest: &Digest, moment: Moment) -> Option<RedoFault>
     ensures refusal { (history : List Event) → FitsStore store.now history moment →
         result ≡ option_map RedoFault.Store (refusal history moment (digest.now ∷ [])) }
     ensures own { IfSome result IsOfHistory }

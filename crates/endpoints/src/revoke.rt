@@ -10,7 +10,7 @@ ghost use Rattle.endpoints.specs.Revoke.{revoke_token};
 
 use answers::{Answer, Decision, Halt, View, authenticated_client, digest_told, form};
 use clients::Registry;
-use consent::{Change, Changes, ClientNo, Kind, TokenKind};
+use consent::{Change, Changes, ClientNo, Digest, Kind, TokenKind};
 use messages::{ErrorName, Request};
 use std::alloc::Global;
 use token_store::Found;
@@ -19,7 +19,7 @@ use token_store::Found;
 #[derive(Clone, Copy)]
 pub(crate) struct Presented {
     pub(crate) client: ClientNo,
-    pub(crate) digest: Option<[u8; 32]>,
+    pub(crate) digest: Option<Digest>,
 }
 
 // The client is authenticated, and a token is named.
@@ -49,7 +49,7 @@ pub(crate) fn presented_by(
 }
 
 // The live access or refresh token of the digest.
-pub(crate) fn live_token<'a>(view: &View<'a>, digest: &[u8; 32]) -> Option<Found<'a>>
+pub(crate) fn live_token<'a>(view: &View<'a>, digest: &Digest) -> Option<Found<'a>>
     ensures { InEachSetting view.now (λ s. FindsLive digest.now s result) }
 {
     let Some(found) = view.at(digest) else {
