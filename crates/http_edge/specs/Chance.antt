@@ -1,8 +1,10 @@
 -- Draws by a generator.
-use Rattle.std.specs.Prelude.{ℕ, zero, suc, ◌+◌, ◌%◌, ◌^◌, List, [], ◌++◌, Bool, if◌then◌else◌, replicate}
+use Rattle.std.specs.Prelude.{ℕ, zero, suc, ◌+◌, ◌%◌, ◌^◌, List, [], ◌++◌, replicate}
 use Rattle.std.specs.Int.{w32, to_le_bytes}
 use Rattle.rand_chacha.specs.ChaCha.{ChaCha, word_at}
 use Rattle.messages.specs.declared.request.Draws.{Draws}
+use Rattle.http_edge.specs.declared.source.Demand.{Demand}
+use Rattle.http_edge.specs.declared.source.Demand.TheVariants.{Fresh, Nothing}
 
 -- one of the words that a generator of 20 rounds gives from now on, counted from 0
 abbrev pub next_word_at : ChaCha → ℕ → ℕ
@@ -21,14 +23,16 @@ next_draws g = record { first = bytes_from g 0 8; second = bytes_from g 8 8 }
 abbrev pub moved : ChaCha → ℕ → ChaCha
 moved g n = record g { word_pos = (g.word_pos + n) % 2 ^ 68 }
 
--- those of a request that wants none
+-- those of a request that demands none
 abbrev pub no_draws : Draws
 no_draws = record { first = replicate 32 0; second = replicate 32 0 }
 
--- the draws of a request: the generator's next ones, where it wants some
-abbrev pub draws_by : ChaCha → Bool → Draws
-draws_by g wanted = if wanted then next_draws g else no_draws
+-- the draws of a request: the generator's next ones, where it demands some
+abbrev pub draws_by : ChaCha → Demand → Draws
+draws_by g Fresh = next_draws g
+draws_by g Nothing = no_draws
 
 -- the generator behind them
-abbrev pub moved_by : ChaCha → Bool → ChaCha
-moved_by g wanted = if wanted then moved g 16 else g
+abbrev pub moved_by : ChaCha → Demand → ChaCha
+moved_by g Fresh = moved g 16
+moved_by g Nothing = g

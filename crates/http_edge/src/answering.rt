@@ -8,7 +8,7 @@ ghost use Rattle.http_edge.specs.Sources.{draws_behind};
 ghost use Rattle.http_edge.specs.Supply.{Suffices};
 
 use crate::source::DrawSource;
-use crate::wanting::wants_draws;
+use crate::wanting::demand_of;
 use endpoints::{Moment, Server};
 use heads::{Front, front_of, lend};
 use hook_host::HookHost;
@@ -44,7 +44,7 @@ pub(crate) fn answer_all<H: HookHost, S: DrawSource>(
             unreachable!();
         };
         let request = lend(here, &found);
-        let draws = source.draw(wants_draws(&request));
+        let draws = source.draw(demand_of(&request));
         let reply = server.step(&request, moment, &draws);
         reply.push(output);
         start += found.end;

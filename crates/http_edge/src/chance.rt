@@ -2,7 +2,7 @@
 ghost use Rattle.std.specs.Prelude.{◌≡◌, None};
 ghost use Rattle.http_edge.specs.Chance.{next_draws, moved, draws_by, moved_by};
 
-use crate::source::DrawSource;
+use crate::source::{Demand, DrawSource};
 use messages::Draws;
 use rand_chacha::ChaCha20Rng;
 use rand_core::utils::fill_bytes_via_u32;
@@ -27,7 +27,7 @@ fn draw(rng: &mut ChaCha20Rng) -> Draws
     Draws { first, second }
 }
 
-/// It gives its next draws to each request that wants some, and never ends.
+/// It gives its next draws to each request that demands some, and never ends.
 impl DrawSource for ChaCha20Rng {
     ghost supply = { λ _. None };
 
@@ -39,7 +39,10 @@ impl DrawSource for ChaCha20Rng {
         true
     }
 
-    fn draw(&mut self, wanted: bool) -> Draws {
-        if wanted { draw(self) } else { NO_DRAWS }
+    fn draw(&mut self, demand: Demand) -> Draws {
+        match demand {
+            Demand::Fresh => draw(self),
+            Demand::Nothing => NO_DRAWS,
+        }
     }
 }

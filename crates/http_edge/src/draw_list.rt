@@ -2,11 +2,11 @@
 ghost use Rattle.std.specs.Prelude.{◌≡◌, Some, length, drop, get_or};
 ghost use Rattle.http_edge.specs.Chance.{no_draws};
 
-use crate::source::DrawSource;
+use crate::source::{Demand, DrawSource};
 use messages::Draws;
 use std::marker::Model;
 
-/// The k-th request has the k-th draws, whether it wants some or not.
+/// The k-th request has the k-th draws, whatever it demands.
 #[derive(Drop)]
 pub(crate) struct DrawList<'a> {
     left: &'a [Draws],
@@ -40,7 +40,7 @@ impl DrawSource for DrawList<'_> {
         count <= self.left.len()
     }
 
-    fn draw(&mut self, _wanted: bool) -> Draws {
+    fn draw(&mut self, _demand: Demand) -> Draws {
         let next = self.left[0];
         self.left = &self.left[1..];
         next

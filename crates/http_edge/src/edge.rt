@@ -313,8 +313,8 @@ impl<H: HookHost> Edge<H> {
         moment: Moment,
         source: &mut S,
     ) -> Result<(), EdgeFault>
-        ensures given { OnOk result (PieceGiven H.HookHost S.DrawSource (supplied self.old source.old) (piece_of c piece.now moment)
-            (supplied self.new source.new)) }
+        ensures given { OnOk result (PieceGiven H.HookHost S.DrawSource (supplied self.old source.old)
+            (piece_of c piece.now moment) (supplied self.new source.new)) }
         ensures refused { IfErr result (λ fault. IsBytesRefusal fault self.old.lanes c piece.now (S.supply source.old)) }
         ensures err { OnErr result (self.new ≡ self.old) }
         ensures undrawn { OnErr result (source.new ≡ source.old) }
@@ -369,8 +369,8 @@ impl<H: HookHost> Edge<H> {
         moment: Moment,
         source: &mut S,
     ) -> Result<(), EdgeFault>
-        ensures given { OnOk result (PieceGiven H.HookHost S.DrawSource (supplied self.old source.old) (piece_of c piece.now moment)
-            (supplied self.new source.new)) }
+        ensures given { OnOk result (PieceGiven H.HookHost S.DrawSource (supplied self.old source.old)
+            (piece_of c piece.now moment) (supplied self.new source.new)) }
         // In the order NotOpen, PieceTooLong, TooManyRequests, DrawsShort, Memory.
         ensures refused { IfErr result (RefusesPiece H.HookHost self.old (piece_of c piece.now moment) (S.supply source.old)) }
         ensures err { OnErr result (self.new ≡ self.old) }

@@ -21,5 +21,5 @@ pub use fault::EdgeFault;
 pub use limits::{
     CONNECTION_LIMIT, PIECE_LIMIT, REPLY_LIMIT, REQUEST_LIMIT, limits_are_the_defined_ones,
 };
-pub use source::DrawSource;
+pub use source::{Demand, DrawSource};
 pub use wanting::unwanted_draws_are_unread;

@@ -4,7 +4,7 @@ use clients::{ConfigFault, Registry};
 use consent::Moment;
 use endpoints::Server;
 use hook_chain::Chain;
-use http_edge::{DrawSource, Edge};
+use http_edge::{Demand, DrawSource, Edge};
 use rand_chacha::ChaCha20Rng;
 use rand_core::SeedableRng;
 use serving::{Clock, ServeFault, serve_one};
@@ -322,7 +322,7 @@ const BLOCKS: [[u8; 32]; 4] = [
 fn draws_are_in_order(rt: HostRuntime) {
     let mut rng = ChaCha20Rng::from_seed([0; 32]);
     for i in 0..2 {
-        let draws = rng.draw(true);
+        let draws = rng.draw(Demand::Fresh);
         assert_eq!(rt; draws.first, BLOCKS[2 * i]);
         assert_eq!(rt; draws.second, BLOCKS[2 * i + 1]);
     }

@@ -1,4 +1,4 @@
-use Rattle.std.proofs.Common.{◌≡◌, ◌≤◌, ◌+◌, ◌-◌, ℕ, List, ◌++◌, [], ◌∷◌, Bool, length, take, drop, refl, ap, ◌∙◌, sym, arith, length-append}
+use Rattle.std.proofs.Common.{◌≡◌, ◌≤◌, ◌+◌, ◌-◌, ℕ, List, ◌++◌, [], ◌∷◌, length, take, drop, refl, ap, ◌∙◌, sym, arith, length-append}
 use Rattle.std.proofs.lemmas.List.{length-drop, drop-drop}
 use Rattle.messages.specs.declared.request.Draws.{Draws}
 use Rattle.messages.specs.Asked.{Asked, asked_of}
@@ -9,7 +9,8 @@ use Rattle.heads.specs.declared.front.Found.{Found}
 use Rattle.heads.specs.ReadingLaws.{reads_push, reads_next, reads_same}
 use Rattle.heads.specs.WaitingLaws.{front_whole}
 use Rattle.http_edge.proofs.Fronts.{tail_is, target_fits}
-use Rattle.http_edge.specs.Sources.{wants_draws, draws_for, draws_behind}
+use Rattle.http_edge.specs.declared.source.Demand.{Demand}
+use Rattle.http_edge.specs.Sources.{demand_of, draws_for, draws_behind}
 use Rattle.http_edge.proofs.Serving.{served_none, served_push}
 use Rattle.http_edge.proofs.Drawing.{draws_push, behind_push}
 use Rattle.http_edge.proofs.Supplying.{suffices_one, suffices_behind, suffices_for}
@@ -89,9 +90,9 @@ loop-i-preserved g c =
     let test = c.loop-i-test.true in
     let sources = g.S.DrawSource in
     let drawn : List Draws = draws_for sources c.args.source.now before.messages in
-    let wants : c.wants_draws.result ≡ wants_draws (asked_of_message message) = c.wants_draws.ensures ∙ ap wants_draws asked in
-    let d_is : c.draw-draws.result ≡ sources.draws (draws_behind sources c.args.source.now before.messages) (wants_draws (asked_of_message message)) =
-    c.draw-draws.ensures.value ∙ ap (λ (w : Bool). sources.draws c.loop-i.source w) wants ∙ ap (λ s. sources.draws s (wants_draws (asked_of_message message))) before.drawn in
+    let wants : c.demand_of.result ≡ demand_of (asked_of_message message) = c.demand_of.ensures ∙ ap demand_of asked in
+    let d_is : c.draw-draws.result ≡ sources.draws (draws_behind sources c.args.source.now before.messages) (demand_of (asked_of_message message)) =
+    c.draw-draws.ensures.value ∙ ap (λ (w : Demand). sources.draws c.loop-i.source w) wants ∙ ap (λ s. sources.draws s (demand_of (asked_of_message message))) before.drawn in
     let all_drawn = ap (λ (d : Draws). drawn ++ d ∷ []) d_is ∙ sym (draws_push sources c.args.source.now before.messages message) in
     record {
       messages = before.messages ++ message ∷ [];
@@ -105,7 +106,7 @@ loop-i-preserved g c =
           (before.served outset history m fit)
           c.step-reply.ensures.replies);
       drawn =
-          c.draw-draws.ensures.after ∙ ap (λ (w : Bool). sources.behind c.loop-i.source w) wants ∙ ap (λ s. sources.behind s (wants_draws (asked_of_message message))) before.drawn
+          c.draw-draws.ensures.after ∙ ap (λ (w : Demand). sources.behind c.loop-i.source w) wants ∙ ap (λ s. sources.behind s (demand_of (asked_of_message message))) before.drawn
           ∙ sym (behind_push sources c.args.source.now before.messages message);
       left = suffices_behind _ _ c.args.count c.loop-i.i c.draw-draws.ensures.left before.left;
       len =
