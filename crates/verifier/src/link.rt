@@ -74,9 +74,9 @@ impl Link {
     fn left(link: Option<Link>, written: RegNo, number: usize) -> Option<Link>
         ensures { result ≡ link_left written number link }
     {
+        let lost = written.number();
         match link {
-            Some(link) if written.number() == number || written.number() == link.of.number() =>
-                None,
+            Some(link) if lost == number || lost == link.of.number() => None,
             _ => link,
         }
     }
