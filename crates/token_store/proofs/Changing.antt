@@ -19,6 +19,7 @@ use Rattle.token_store.specs.declared.record.Record.{Record}
 use Rattle.token_store.specs.declared.record.Shared.{Shared}
 use Rattle.token_store.specs.Kept.{Kept, kept_at, is_in, HasFamily}
 use Rattle.token_store.specs.Fits.{FitsBy, FitsHistory, to_keep}
+use Rattle.token_store.specs.declared.agenda.Agenda.{Agenda}
 use Rattle.token_store.specs.Records.{shared_at, or_nothing, is_coded, kept_in, all_kept, IsCounted, Tied}
 use Rattle.token_store.specs.RecordsParts.{is_live_at, TellsSame, RecordMark, marked}
 use Rattle.token_store.specs.Room.{Waits}
@@ -78,9 +79,9 @@ unspent_same (k ∷ ks) digest m none = none_cases (is_named digest m k.grant) r
 -- A FAMILY THAT WAITED
 
 -- nothing is seen of what it shares
-pub renewed_same : (old new : List (Option Shared)) (es : List (List ℕ × Record)) (earliest : ℕ) (owners : List ((ℕ × ℕ) × ℕ)) (n : ℕ) (s : Shared) → Tied old es earliest owners [] → Waits old n s →
+pub renewed_same : (old new : List (Option Shared)) (es : List (List ℕ × Record)) (agenda : Agenda) (owners : List ((ℕ × ℕ) × ℕ)) (n : ℕ) (s : Shared) → Tied old es agenda owners [] → Waits old n s →
     ((k : ℕ) → k ≢ n → slice_index_or new k None ≡ slice_index_or old k None) → all_kept new es ≡ all_kept old es
-renewed_same old new es earliest owners n s tied waits others = unseen old new n es others (vacant_count old es earliest owners n tied waits.empty)
+renewed_same old new es agenda owners n s tied waits others = unseen old new n es others (vacant_count old es agenda owners n tied waits.empty)
 
 renewed_by : {X : Type 0} (g : Option Shared → X) (old new : List (Option Shared)) (n : ℕ) (s : Shared) → slice_index_or new n None ≡ Some s → ((k : ℕ) → k ≢ n → slice_index_or new k None ≡ slice_index_or old k None) →
     g (Some s) ≡ g (slice_index_or old n None) → (k : ℕ) → g (slice_index_or new k None) ≡ g (slice_index_or old k None)
@@ -90,11 +91,12 @@ renewed_by g old new n s here others same k = number_cases (eqb k n) refl
     number_cases true is = ap (λ i. g (slice_index_or new i None)) (eqb-true k n is) ∙ ap g here ∙ same ∙ ap (λ i. g (slice_index_or old i None)) (sym (eqb-true k n is))
     number_cases false is = ap g (others k (λ e. false≢true (sym is ∙ eq-eqb k n e)))
 
-pub tied_renewed : (old new : List (Option Shared)) (es : List (List ℕ × Record)) (earliest : ℕ) (owners : List ((ℕ × ℕ) × ℕ)) (n : ℕ) (s : Shared) → s.count ≡ 0 → Tied old es earliest owners [] → Waits old n s →
-    slice_index_or new n None ≡ Some s → ((k : ℕ) → k ≢ n → slice_index_or new k None ≡ slice_index_or old k None) → Tied new es earliest owners []
-tied_renewed old new es earliest owners n s empty tied waits here others = record {
+pub tied_renewed : (old new : List (Option Shared)) (es : List (List ℕ × Record)) (agenda : Agenda) (owners : List ((ℕ × ℕ) × ℕ)) (n : ℕ) (s : Shared) → s.count ≡ 0 → Tied old es agenda owners [] → Waits old n s →
+    slice_index_or new n None ≡ Some s → ((k : ℕ) → k ≢ n → slice_index_or new k None ≡ slice_index_or old k None) → Tied new es agenda owners []
+tied_renewed old new es agenda owners n s empty tied waits here others = record {
   once = tied.once;
-  bounded = tied.bounded;
+  listed = tied.listed;
+  exact = tied.exact;
   counted = λ k. renewed_by (λ o. (or_nothing o).count) old new n s here others (empty ∙ sym waits.empty) k ∙ tied.counted k;
   owned = λ q. tied.owned q ∙ sym (renewed_by (is_coded q.0.0 q.0.1) old new n s here others (sym (waits.alike q.0.0 q.0.1)) q.1);
 }

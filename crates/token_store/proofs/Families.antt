@@ -11,6 +11,7 @@ use Rattle.consent.specs.History.Change.{Consented}
 use Rattle.token_store.specs.declared.record.Record.{Record}
 use Rattle.token_store.specs.declared.record.Shared.{Shared}
 use Rattle.token_store.specs.Kept.{Kept}
+use Rattle.token_store.specs.declared.agenda.Agenda.{Agenda}
 use Rattle.token_store.specs.Records.{shared_at, or_nothing, kept_in, kept_under, all_kept, member_count, is_coded, Tied, IsOwned, owner_cmp, terms_by}
 use Rattle.token_store.specs.RecordsParts.{RecordMark, marked, HasEnded, HasLowered, HasOpened, HasClosed, IsAfter, IsNextOwned, lowered_by, lowered_shared, is_beyond_mask}
 
@@ -32,11 +33,12 @@ unended g old new n ended same k = number_cases (eqb k n) refl
         ap (λ i. g (slice_index_or new i None)) number ∙ ap g ended.here ∙ mark_cases (slice_index_or old n None)
         ∙ ap (λ i. g (slice_index_or old i None)) (sym number)
 
-pub tied_ended : (old new : List (Option Shared)) (n : ℕ) (es : List (List ℕ × Record)) (earliest : ℕ) (owners : List ((ℕ × ℕ) × ℕ)) → HasEnded old new n →
-    Tied old es earliest owners [] → Tied new es earliest owners []
-tied_ended old new n es earliest owners ended tied = record {
+pub tied_ended : (old new : List (Option Shared)) (n : ℕ) (es : List (List ℕ × Record)) (agenda : Agenda) (owners : List ((ℕ × ℕ) × ℕ)) → HasEnded old new n →
+    Tied old es agenda owners [] → Tied new es agenda owners []
+tied_ended old new n es agenda owners ended tied = record {
   once = tied.once;
-  bounded = tied.bounded;
+  listed = tied.listed;
+  exact = tied.exact;
   counted = λ k. unended (λ o. (or_nothing o).count) old new n ended (λ s. refl) k ∙ tied.counted k;
   owned = λ q. tied.owned q ∙ sym (unended (is_coded q.0.0 q.0.1) old new n ended (λ s. refl) q.1);
 }
@@ -175,11 +177,12 @@ unlowered {X = X} g old new owner client mask lowered same k = ap g (lowered k) 
     state_cases None = refl
     state_cases (Some s) = mark_cases s (is_beyond (Consented owner client mask) (option_map (terms_by s.client s.owner) s.code_scope))
 
-pub tied_lowered : (old new : List (Option Shared)) (owner client mask : ℕ) (es : List (List ℕ × Record)) (earliest : ℕ) (owners : List ((ℕ × ℕ) × ℕ)) →
-    HasLowered old new owner client mask → Tied old es earliest owners [] → Tied new es earliest owners []
-tied_lowered old new owner client mask es earliest owners lowered tied = record {
+pub tied_lowered : (old new : List (Option Shared)) (owner client mask : ℕ) (es : List (List ℕ × Record)) (agenda : Agenda) (owners : List ((ℕ × ℕ) × ℕ)) →
+    HasLowered old new owner client mask → Tied old es agenda owners [] → Tied new es agenda owners []
+tied_lowered old new owner client mask es agenda owners lowered tied = record {
   once = tied.once;
-  bounded = tied.bounded;
+  listed = tied.listed;
+  exact = tied.exact;
   counted = λ k. unlowered (λ o. (or_nothing o).count) old new owner client mask lowered (λ s. refl) k ∙ tied.counted k;
   owned = λ q. tied.owned q ∙ sym (unlowered (is_coded q.0.0 q.0.1) old new owner client mask lowered (λ s. refl) q.1);
 }
@@ -202,18 +205,18 @@ unseen old new n (e ∷ es) others none =
         let tail = more (omega (arith, sums, none)) in
         λ i. kept_under (or_nothing (same i)) e.0 e.1 ∷ tail i
 
-pub vacant_count : (families : List (Option Shared)) (es : List (List ℕ × Record)) (earliest : ℕ) (owners : List ((ℕ × ℕ) × ℕ)) (n : ℕ) → Tied families es earliest owners [] →
+pub vacant_count : (families : List (Option Shared)) (es : List (List ℕ × Record)) (agenda : Agenda) (owners : List ((ℕ × ℕ) × ℕ)) (n : ℕ) → Tied families es agenda owners [] →
     (shared_at families n).count ≡ 0 → member_count es n ≡ 0
-vacant_count families es earliest owners n tied none = let same = tied.counted n in omega (arith, same, none)
+vacant_count families es agenda owners n tied none = let same = tied.counted n in omega (arith, same, none)
 
-pub closed_same : (old new : List (Option Shared)) (es : List (List ℕ × Record)) (earliest : ℕ) (owners : List ((ℕ × ℕ) × ℕ)) (n : ℕ) → (shared_at old n).count ≡ 0 → Tied old es earliest owners [] →
+pub closed_same : (old new : List (Option Shared)) (es : List (List ℕ × Record)) (agenda : Agenda) (owners : List ((ℕ × ℕ) × ℕ)) (n : ℕ) → (shared_at old n).count ≡ 0 → Tied old es agenda owners [] →
     HasClosed old new n → all_kept new es ≡ all_kept old es
-closed_same old new es earliest owners n empty tied closed = unseen old new n es closed.others (vacant_count old es earliest owners n tied empty)
+closed_same old new es agenda owners n empty tied closed = unseen old new n es closed.others (vacant_count old es agenda owners n tied empty)
 
-pub opened_same : (old new : List (Option Shared)) (es : List (List ℕ × Record)) (earliest : ℕ) (owners : List ((ℕ × ℕ) × ℕ)) (n : ℕ) (s : Shared) → Tied old es earliest owners [] →
+pub opened_same : (old new : List (Option Shared)) (es : List (List ℕ × Record)) (agenda : Agenda) (owners : List ((ℕ × ℕ) × ℕ)) (n : ℕ) (s : Shared) → Tied old es agenda owners [] →
     HasOpened old new n s → all_kept new es ≡ all_kept old es
-opened_same old new es earliest owners n s tied opened =
-    unseen old new n es opened.others (vacant_count old es earliest owners n tied (ap (λ o. (or_nothing o).count) opened.vacant))
+opened_same old new es agenda owners n s tied opened =
+    unseen old new n es opened.others (vacant_count old es agenda owners n tied (ap (λ o. (or_nothing o).count) opened.vacant))
 
 opened_counts : (old new : List (Option Shared)) (n : ℕ) (s : Shared) → s.count ≡ 0 → HasOpened old new n s → (k : ℕ) → (shared_at new k).count ≡ (shared_at old k).count
 opened_counts old new n s empty opened k = number_cases (eqb k n) refl
@@ -224,11 +227,12 @@ opened_counts old new n s empty opened k = number_cases (eqb k n) refl
         ∙ sym (ap (λ i. (shared_at old i).count) (eqb-true k n is) ∙ ap (λ o. (or_nothing o).count) opened.vacant)
     number_cases false is = ap (λ o. (or_nothing o).count) (opened.others k (λ e. false≢true (sym is ∙ eq-eqb k n e)))
 
-pub tied_opened : (old new : List (Option Shared)) (es : List (List ℕ × Record)) (earliest : ℕ) (owners owners' : List ((ℕ × ℕ) × ℕ)) (n : ℕ) (s : Shared) → s.count ≡ 0 →
-    HasOpened old new n s → IsOwned new owners' → Tied old es earliest owners [] → Tied new es earliest owners' []
-tied_opened old new es earliest owners owners' n s empty opened owned tied = record {
+pub tied_opened : (old new : List (Option Shared)) (es : List (List ℕ × Record)) (agenda : Agenda) (owners owners' : List ((ℕ × ℕ) × ℕ)) (n : ℕ) (s : Shared) → s.count ≡ 0 →
+    HasOpened old new n s → IsOwned new owners' → Tied old es agenda owners [] → Tied new es agenda owners' []
+tied_opened old new es agenda owners owners' n s empty opened owned tied = record {
   once = tied.once;
-  bounded = tied.bounded;
+  listed = tied.listed;
+  exact = tied.exact;
   counted = λ k. opened_counts old new n s empty opened k ∙ tied.counted k;
   owned = owned;
 }
@@ -246,11 +250,12 @@ owned_uncoded old new owners n s none opened owned q = number_cases (eqb q.1 n) 
 
 -- CLOSING
 
-pub tied_closed : (old new : List (Option Shared)) (es : List (List ℕ × Record)) (earliest : ℕ) (owners owners' : List ((ℕ × ℕ) × ℕ)) (n : ℕ) → (shared_at old n).count ≡ 0 →
-    HasClosed old new n → IsOwned new owners' → Tied old es earliest owners [] → Tied new es earliest owners' []
-tied_closed old new es earliest owners owners' n empty closed owned tied = record {
+pub tied_closed : (old new : List (Option Shared)) (es : List (List ℕ × Record)) (agenda : Agenda) (owners owners' : List ((ℕ × ℕ) × ℕ)) (n : ℕ) → (shared_at old n).count ≡ 0 →
+    HasClosed old new n → IsOwned new owners' → Tied old es agenda owners [] → Tied new es agenda owners' []
+tied_closed old new es agenda owners owners' n empty closed owned tied = record {
   once = tied.once;
-  bounded = tied.bounded;
+  listed = tied.listed;
+  exact = tied.exact;
   counted = λ k. count_cases k (eqb k n) refl ∙ tied.counted k;
   owned = owned;
 }

@@ -13,5 +13,6 @@ pub mod Remaking
 pub mod Settling
 pub mod Spending
 pub mod Telling
+pub mod Timing
 pub mod Tying
 pub mod Waiting

@@ -1,7 +1,7 @@
 -- The tables as a record that was about to come has come.
 use Rattle.std.proofs.Common.{◌≡◌, ◌≢◌, ◌<◌, ◌≤◌, ℕ, ◌+◌, List, [], ◌∷◌, ◌++◌, Option, Some, None, Bool, true, false, cond, eqb, length, refl, ap, ◌∙◌, sym, arith}
-use Rattle.std.specs.Prelude.{◌&&◌, ◌==◌, is_some, slice_index_or, count_by, option_map, find}
-use Rattle.std.specs.List.{IsDistinct}
+use Rattle.std.specs.Prelude.{◌&&◌, ◌||◌, ◌==◌, is_some, slice_index_or, count_by, option_map, find}
+use Rattle.std.specs.List.{IsDistinct, list_any}
 use Rattle.std.specs.List.Sorted.{IsPermutation}
 use Rattle.std.specs.Option.{option_or, MatchOption}
 use Rattle.std.specs.Str.{bytes_eq}
@@ -10,7 +10,7 @@ use Rattle.std.specs.declared.result.Result.{Result}
 use Rattle.std.specs.declared.result.Result.TheVariants.{Ok, Err}
 use Rattle.std.specs.Map.{lookup, remove_entry, set_value, values_of, keys_of}
 use Rattle.std.proofs.lemmas.Bool.{eqb-true, eq-eqb, false≢true, lt-ltb}
-use Rattle.std.proofs.lemmas.List.Folds.{find-append}
+use Rattle.std.proofs.lemmas.List.Folds.{find-append, list_any-append}
 use Rattle.std.proofs.lemmas.List.Sums.{count_by-le-length}
 use Rattle.std.proofs.lemmas.List.{length-map}
 use Rattle.std.proofs.lemmas.List.Sorted.{IsPermutation-map, sum_by_pushed}
@@ -21,8 +21,11 @@ use Rattle.consent.specs.History.{is_named, is_unexpired}
 use Rattle.token_store.specs.declared.record.Record.{Record}
 use Rattle.token_store.specs.declared.record.Shared.{Shared}
 use Rattle.token_store.specs.declared.tables.Tables.{Tables}
+use Rattle.token_store.specs.declared.agenda.Agenda.{Agenda}
+use Rattle.token_store.specs.declared.agenda.Deadline.{Deadline}
+use Rattle.token_store.specs.Agenda.{deadlines_of, is_deadline, IsExact}
 use Rattle.token_store.specs.Kept.{Kept, kept_at}
-use Rattle.token_store.specs.Records.{shared_at, or_nothing, expiry, expiry_of, is_coded, kept_in, kept_under, kept_of, all_kept, ExpireFrom, IsCounted, IsOwned, Tied, IsTied}
+use Rattle.token_store.specs.Records.{shared_at, or_nothing, expiry, expiry_of, is_coded, kept_in, kept_under, kept_of, all_kept, AllListed, IsCounted, IsOwned, Tied, IsTied}
 use Rattle.token_store.specs.RecordsParts.{is_live_at, HasLeft, HasEntered, TellsSame, SharesSame, ForgetsExpired}
 use Rattle.token_store.specs.Room.{Waits}
 use Rattle.token_store.proofs.Looking.{shown, found, count-push, same_as_is}
@@ -30,6 +33,15 @@ use Rattle.token_store.proofs.Waiting.{waits_other}
 use Rattle.token_store.proofs.Dropping.{counted_without, dropped_one, same_shared, count_seen, member_counted}
 
 -- FORGETTING
+
+-- what is found without one was found with it
+pub fewer_found : (es es' : List (List ℕ × Record)) (digest : List ℕ) → ((d : List ℕ) → lookup (bytes_eq d) es' ≡ cond (bytes_eq digest d) None (lookup (bytes_eq d) es)) →
+    (d : List ℕ) (t : ℕ) → expiry_of (lookup (bytes_eq d) es') ≡ Some t → expiry_of (lookup (bytes_eq d) es) ≡ Some t
+fewer_found es es' digest taken d t at = fewer_cases (bytes_eq digest d) refl
+  where
+    fewer_cases : (b : Bool) → bytes_eq digest d ≡ b → expiry_of (lookup (bytes_eq d) es) ≡ Some t
+    fewer_cases true is = let none : None ≡ Some t = sym (ap expiry_of (taken d ∙ ap (λ b. cond {A = Option Record} b None (lookup (bytes_eq d) es)) is)) ∙ at in cc
+    fewer_cases false is = sym (ap expiry_of (taken d ∙ ap (λ b. cond {A = Option Record} b None (lookup (bytes_eq d) es)) is)) ∙ at
 
 -- where it is not kept at the moment it has expired
 pub late_from : (families : List (Option Shared)) (es : List (List ℕ × Record)) (digest : List ℕ) (r : Record) (m : ℕ) → IsDistinct bytes_eq (keys_of es) → lookup (bytes_eq digest) es ≡ Some r →
@@ -40,25 +52,22 @@ late_from families es digest r m once at none = live_cases (is_live_at m r) refl
     live_cases true is h = cc
     live_cases false is h = let not_before : ¬ (m < r.moment + r.life) = (λ lt. false≢true (sym is ∙ lt-ltb m (r.moment + r.life) lt)) in omega (arith, not_before)
 
--- fewer records expire no earlier
-fewer_from : (es es' : List (List ℕ × Record)) (earliest : ℕ) (digest : List ℕ) → ((d : List ℕ) → lookup (bytes_eq d) es' ≡ cond (bytes_eq digest d) None (lookup (bytes_eq d) es)) →
-    ExpireFrom earliest es → ExpireFrom earliest es'
-fewer_from es es' earliest digest taken from d t at = fewer_cases (bytes_eq digest d) refl
-  where
-    fewer_cases : (b : Bool) → bytes_eq digest d ≡ b → earliest ≤ t
-    fewer_cases true is = let none : None ≡ Some t = sym (ap expiry_of (taken d ∙ ap (λ b. cond {A = Option Record} b None (lookup (bytes_eq d) es)) is)) ∙ at in cc
-    fewer_cases false is = from d t (sym (ap expiry_of (taken d ∙ ap (λ b. cond {A = Option Record} b None (lookup (bytes_eq d) es)) is)) ∙ at)
+-- fewer records have their deadlines
+fewer_listed : (es es' : List (List ℕ × Record)) (deadlines : List Deadline) (digest : List ℕ) → ((d : List ℕ) → lookup (bytes_eq d) es' ≡ cond (bytes_eq digest d) None (lookup (bytes_eq d) es)) →
+    AllListed deadlines es → AllListed deadlines es'
+fewer_listed es es' deadlines digest taken listed d t at = listed d t (fewer_found es es' digest taken d t at)
 
 pub forgotten : (t t' : Tables) (digest : List ℕ) (n : ℕ) (r : Record) → IsTied t (n ∷ []) → lookup (bytes_eq digest) t.records.entries ≡ Some r → IsDistinct bytes_eq (keys_of t'.records.entries) →
     IsPermutation (remove_entry (bytes_eq digest) t.records.entries) t'.records.entries →
     ((d : List ℕ) → lookup (bytes_eq d) t'.records.entries ≡ cond (bytes_eq digest d) None (lookup (bytes_eq d) t.records.entries)) →
-    HasLeft t.families.slots t'.families.slots r.family → IsOwned t'.families.slots t'.owners.keys → t'.earliest ≡ t.earliest → lookup (bytes_eq digest) t'.records.entries ≡ None → ForgetsExpired t t' digest n
-forgotten t t' digest n r tied at once' moved taken left owned earliest absent =
+    HasLeft t.families.slots t'.families.slots r.family → IsOwned t'.families.slots t'.owners.keys → t'.agenda ≡ t.agenda → lookup (bytes_eq digest) t'.records.entries ≡ None → ForgetsExpired t t' digest n
+forgotten t t' digest n r tied at once' moved taken left owned agenda absent =
     let counted' = counted_without t.families.slots t'.families.slots t.records.entries t'.records.entries (n ∷ []) digest r tied.counted at moved left in
     record {
       tied = record {
         once = once';
-        bounded = rw earliest (fewer_from t.records.entries t'.records.entries t.earliest digest taken tied.bounded);
+        listed = rw agenda (fewer_listed t.records.entries t'.records.entries (deadlines_of t.agenda) digest taken tied.listed);
+        exact = rw agenda tied.exact;
         counted = counted';
         owned = owned;
       };
@@ -88,19 +97,30 @@ waits_left families families' es awaited digest r n s counted at left waits =
 
 -- COMING
 
--- one record more, which may expire before the others
-pub more_from : (es es' : List (List ℕ × Record)) (earliest earliest' : ℕ) (digest : List ℕ) (r : Record) → earliest' ≤ earliest → earliest' ≤ expiry r →
-    ((d : List ℕ) → lookup (bytes_eq d) es' ≡ cond (bytes_eq digest d) (Some r) (lookup (bytes_eq d) es)) → ExpireFrom earliest es → ExpireFrom earliest' es'
-more_from es es' earliest earliest' digest r le here finds from d t at = with_cases (bytes_eq digest d) refl
+-- one record more, with its deadline
+pub more_listed : (es es' : List (List ℕ × Record)) (deadlines deadlines' : List Deadline) (digest : List ℕ) (r : Record) →
+    deadlines' ≡ deadlines ++ (record { digest = digest; moment = expiry r }) ∷ [] →
+    ((d : List ℕ) → lookup (bytes_eq d) es' ≡ cond (bytes_eq digest d) (Some r) (lookup (bytes_eq d) es)) → AllListed deadlines es → AllListed deadlines' es'
+more_listed es es' deadlines deadlines' digest r added finds listed d t at =
+    ap (list_any (is_deadline d t)) added ∙ list_any-append (is_deadline d t) deadlines (e ∷ []) ∙ with_cases (bytes_eq digest d) refl
   where
-    with_cases : (b : Bool) → bytes_eq digest d ≡ b → earliest' ≤ t
+    e : Deadline
+    e = record { digest = digest; moment = expiry r }
+
+    or_true : (a b : Bool) → b ≡ true → (a || (b || false)) ≡ true
+    or_true true b h = refl
+    or_true false b h = ap (λ x. x || false) h
+
+    with_cases : (b : Bool) → bytes_eq digest d ≡ b → (list_any (is_deadline d t) deadlines || list_any (is_deadline d t) (e ∷ [])) ≡ true
     with_cases true is =
         let time : Some (expiry r) ≡ Some t = sym (ap expiry_of (finds d ∙ ap (λ b. cond {A = Option Record} b (Some r) (lookup (bytes_eq d) es)) is)) ∙ at in
-        let e : expiry r ≡ t = cc in
-        omega (arith, here, e)
+        let same : expiry r ≡ t = cc in
+        let name : digest ≡ d = (bytes_eq-Decides digest d).0 is in
+        let here : is_deadline d t e ≡ true = ap (λ b. b && eqb (expiry r) t) ((bytes_eq-Decides d digest).1 (sym name)) ∙ eq-eqb (expiry r) t same in
+        or_true (list_any (is_deadline d t) deadlines) (is_deadline d t e) here
     with_cases false is =
-        let before = from d t (sym (ap expiry_of (finds d ∙ ap (λ b. cond {A = Option Record} b (Some r) (lookup (bytes_eq d) es)) is)) ∙ at) in
-        omega (arith, le, before)
+        let before = listed d t (sym (ap expiry_of (finds d ∙ ap (λ b. cond {A = Option Record} b (Some r) (lookup (bytes_eq d) es)) is)) ∙ at) in
+        ap (λ b. b || list_any (is_deadline d t) (e ∷ [])) before
 
 -- counts of the values with one more
 pub count_pushed : (p : Record → Bool) (digest : List ℕ) (r : Record) (es es' : List (List ℕ × Record)) → IsPermutation ((digest, r) ∷ es) es' →
@@ -189,11 +209,12 @@ entered_count old new n more k entered there = number_cases (eqb n k) refl (slic
         ∙ ap (λ m. m + more) (sym (ap (λ i. (shared_at old i).count) (sym number) ∙ ap (λ o. (or_nothing o).count) is))
 
 -- the one about to come is counted
-pub tied_awaiting : (families families' : List (Option Shared)) (es : List (List ℕ × Record)) (earliest : ℕ) (owners : List ((ℕ × ℕ) × ℕ)) (n : ℕ) →
-    Tied families es earliest owners [] → HasEntered families families' n 1 → is_some (slice_index_or families n None) ≡ true → Tied families' es earliest owners (n ∷ [])
-tied_awaiting families families' es earliest owners n tied entered there = record {
+pub tied_awaiting : (families families' : List (Option Shared)) (es : List (List ℕ × Record)) (agenda : Agenda) (owners : List ((ℕ × ℕ) × ℕ)) (n : ℕ) →
+    Tied families es agenda owners [] → HasEntered families families' n 1 → is_some (slice_index_or families n None) ≡ true → Tied families' es agenda owners (n ∷ [])
+tied_awaiting families families' es agenda owners n tied entered there = record {
   once = tied.once;
-  bounded = tied.bounded;
+  listed = tied.listed;
+  exact = tied.exact;
   counted = λ k. (let now = entered_count families families' n 1 k entered there in let was = tied.counted k in let sums = count_by-cons (λ (c : ℕ). c == k) n [] in omega (arith, now, was, sums));
   owned = λ q. tied.owned q ∙ sym (entered_same (is_coded q.0.0 q.0.1) families families' n 1 entered (λ s. refl) q.1);
 }
@@ -230,11 +251,23 @@ on_ok_so (Ok v) P Q so h = so h
 on_ok_so (Err e) P Q so h = tt
 
 -- the records in another order
-pub tied_reordered : (families : List (Option Shared)) (es es' : List (List ℕ × Record)) (earliest : ℕ) (owners : List ((ℕ × ℕ) × ℕ)) → IsDistinct bytes_eq (keys_of es') → IsPermutation es es' →
-    ((d : List ℕ) → lookup (bytes_eq d) es' ≡ lookup (bytes_eq d) es) → Tied families es earliest owners [] → Tied families es' earliest owners []
-tied_reordered families es es' earliest owners once' moved finds tied = record {
+pub tied_reordered : (families : List (Option Shared)) (es es' : List (List ℕ × Record)) (agenda : Agenda) (owners : List ((ℕ × ℕ) × ℕ)) → IsDistinct bytes_eq (keys_of es') → IsPermutation es es' →
+    ((d : List ℕ) → lookup (bytes_eq d) es' ≡ lookup (bytes_eq d) es) → Tied families es agenda owners [] → Tied families es' agenda owners []
+tied_reordered families es es' agenda owners once' moved finds tied = record {
   once = once';
-  bounded = λ d t at. tied.bounded d t (sym (ap expiry_of (finds d)) ∙ at);
+  listed = λ d t at. tied.listed d t (sym (ap expiry_of (finds d)) ∙ at);
+  exact = tied.exact;
   counted = λ k. tied.counted k ∙ ap (λ n. n + 0) (sym (sum_by_values_permutation (λ (x : Record). cond {A = ℕ} (x.family == k) 1 0) es es' moved));
+  owned = tied.owned;
+}
+
+-- the same deadlines in another agenda
+pub tied_turned : (families : List (Option Shared)) (es : List (List ℕ × Record)) (agenda agenda' : Agenda) (owners : List ((ℕ × ℕ) × ℕ)) → deadlines_of agenda' ≡ deadlines_of agenda →
+    (IsExact agenda → IsExact agenda') → Tied families es agenda owners [] → Tied families es agenda' owners []
+tied_turned families es agenda agenda' owners same exact tied = record {
+  once = tied.once;
+  listed = λ d t at. ap (list_any (is_deadline d t)) same ∙ tied.listed d t at;
+  exact = exact tied.exact;
+  counted = tied.counted;
   owned = tied.owned;
 }

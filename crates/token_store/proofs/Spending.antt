@@ -12,6 +12,7 @@ use Rattle.std.proofs.lemmas.Map.Keys.{IsDistinct-tail}
 use Rattle.token_store.specs.declared.record.Record.{Record}
 use Rattle.token_store.specs.declared.record.Shared.{Shared}
 use Rattle.token_store.specs.Kept.{Kept, kept_at}
+use Rattle.token_store.specs.declared.agenda.Agenda.{Agenda}
 use Rattle.token_store.specs.Records.{kept_in, all_kept, member_count, expiry_of, Tied}
 use Rattle.token_store.specs.RecordsParts.{RecordMark, marked, is_live_at, spent_in}
 use Rattle.token_store.proofs.Looking.{shown, found}
@@ -35,17 +36,18 @@ spent_lookup (e ∷ es) digest d r at g same = head_cases (bytes_eq digest e.0) 
     head_cases false is h false is' more = ap (λ b. g (cond b (Some e.1) (lookup (bytes_eq d) (set_value (bytes_eq digest) es r')))) is' ∙ more h
 
 -- ties
-pub tied_spent : (families : List (Option Shared)) (es : List (List ℕ × Record)) (earliest : ℕ) (owners : List ((ℕ × ℕ) × ℕ)) (digest : List ℕ) →
-    Tied families es earliest owners [] → Tied families (spent_in digest es (lookup (bytes_eq digest) es)) earliest owners []
-tied_spent families es earliest owners digest tied = tied_cases (lookup (bytes_eq digest) es) refl
+pub tied_spent : (families : List (Option Shared)) (es : List (List ℕ × Record)) (agenda : Agenda) (owners : List ((ℕ × ℕ) × ℕ)) (digest : List ℕ) →
+    Tied families es agenda owners [] → Tied families (spent_in digest es (lookup (bytes_eq digest) es)) agenda owners []
+tied_spent families es agenda owners digest tied = tied_cases (lookup (bytes_eq digest) es) refl
   where
-    tied_cases : (o : Option Record) → lookup (bytes_eq digest) es ≡ o → Tied families (spent_in digest es o) earliest owners []
+    tied_cases : (o : Option Record) → lookup (bytes_eq digest) es ≡ o → Tied families (spent_in digest es o) agenda owners []
     tied_cases None is = tied
     tied_cases (Some r) is =
         let r' : Record = record r { spent = true } in
         record {
           once = rw (keys-set_value (bytes_eq digest) es r') tied.once;
-          bounded = λ d t at. tied.bounded d t (sym (spent_lookup es digest d r is expiry_of refl) ∙ at);
+          listed = λ d t at. tied.listed d t (sym (spent_lookup es digest d r is expiry_of refl) ∙ at);
+          exact = tied.exact;
           counted = λ n. (let sums = sum_by-set_value (λ (x : Record). cond {A = ℕ} (x.family == n) 1 0) (bytes_eq digest) es r r' is in
               let same : member_count (set_value (bytes_eq digest) es r') n ≡ member_count es n = omega (arith, sums) in
               let was = tied.counted n in omega (arith, was, same));

@@ -1,5 +1,5 @@
 -- The store's tables, and what is seen of them.
-use Rattle.std.specs.Prelude.{◌≡◌, ◌+◌, ◌≤◌, ℕ, List, [], Bool, false, ◌==◌, ◌&&◌, Option, Some, None, is_some, unwrap_or, option_map, map, count_by, string_bytes, slice_index_or}
+use Rattle.std.specs.Prelude.{◌≡◌, ◌+◌, ℕ, List, [], Bool, true, false, ◌==◌, ◌&&◌, Option, Some, None, is_some, unwrap_or, option_map, map, count_by, string_bytes, slice_index_or}
 use Rattle.std.specs.List.{list_any, IsDistinct}
 use Rattle.std.specs.declared.boxed.Box.{Box}
 use Rattle.std.specs.declared.alloc.Global.{Global}
@@ -11,6 +11,8 @@ use Rattle.std.specs.Map.{lookup, keys_of, values_of}
 use Rattle.consent.specs.declared.grant.Kind.{Kind}
 use Rattle.consent.specs.declared.grant.Kind.TheVariants as kind
 use Rattle.consent.specs.History.{Terms}
+use Rattle.token_store.specs.declared.agenda.Agenda.{Agenda}
+use Rattle.token_store.specs.declared.agenda.Deadline.{Deadline}
 use Rattle.token_store.specs.declared.record.CodeTexts.{CodeTexts}
 use Rattle.token_store.specs.declared.record.Given.{Given}
 use Rattle.token_store.specs.declared.record.Given.TheVariants.{Code, Token}
@@ -18,6 +20,7 @@ use Rattle.token_store.specs.declared.record.Record.{Record}
 use Rattle.token_store.specs.declared.record.Shared.{Shared}
 use Rattle.token_store.specs.declared.tables.Tables.{Tables}
 use Rattle.consent.specs.declared.change.CodeFacts.{CodeFacts}
+use Rattle.token_store.specs.Agenda.{deadlines_of, IsExact, is_deadline}
 use Rattle.token_store.specs.Kept.{Kept, Texts}
 
 -- RECORDS
@@ -97,9 +100,10 @@ expiry r = r.moment + r.life
 abbrev pub expiry_of : Option Record → Option ℕ
 expiry_of o = option_map expiry o
 
--- no record expires before this moment
-abbrev pub ExpireFrom : ℕ → List (List ℕ × Record) → Type 0
-ExpireFrom earliest records = (digest : List ℕ) (t : ℕ) → expiry_of (lookup (bytes_eq digest) records) ≡ Some t → earliest ≤ t
+-- each record has its deadline
+abbrev pub AllListed : List Deadline → List (List ℕ × Record) → Type 0
+AllListed deadlines records =
+    (digest : List ℕ) (t : ℕ) → expiry_of (lookup (bytes_eq digest) records) ≡ Some t → list_any (is_deadline digest t) deadlines ≡ true
 
 -- how many records are of the family
 abbrev pub member_count : List (List ℕ × Record) → ℕ → ℕ
@@ -123,16 +127,17 @@ abbrev pub IsCounted : List (Option Shared) → List (List ℕ × Record) → Li
 IsCounted families records awaited = (n : ℕ) → (shared_at families n).count ≡ member_count records n + count_by (λ k. k == n) awaited
 
 -- The tables tell of the same records and families.
-pub record Tied (families : List (Option Shared)) (records : List (List ℕ × Record)) (earliest : ℕ) (owners : List ((ℕ × ℕ) × ℕ))
+pub record Tied (families : List (Option Shared)) (records : List (List ℕ × Record)) (agenda : Agenda) (owners : List ((ℕ × ℕ) × ℕ))
     (awaited : List ℕ) : Type 0 where
   -- each digest is there once
   pub once : IsDistinct bytes_eq (keys_of records)
-  pub bounded : ExpireFrom earliest records
+  pub listed : AllListed (deadlines_of agenda) records
+  pub exact : IsExact agenda
   pub counted : IsCounted families records awaited
   pub owned : IsOwned families owners
 
 abbrev pub IsTied : Tables → List ℕ → Type 0
-IsTied t awaited = Tied t.families.slots t.records.entries t.earliest t.owners.keys awaited
+IsTied t awaited = Tied t.families.slots t.records.entries t.agenda t.owners.keys awaited
 
 -- CHANGES
 

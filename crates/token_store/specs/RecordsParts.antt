@@ -1,22 +1,24 @@
 -- Beside Records: only the contracts of this crate's own parts and their proofs cite this, no public clause.
-use Rattle.std.specs.Prelude.{◌≡◌, ◌≢◌, ◌+◌, ◌-◌, ◌<◌, ◌≤◌, ℕ, List, [], ◌∷◌, Bool, true, false, not, nat_lt, nat_le, ◌==◌, if◌then◌else◌, Option, Some, None, option_map, filter, slice_index_or}
-use Rattle.std.specs.List.{list_any}
+use Rattle.std.specs.Prelude.{◌≡◌, ◌≢◌, ◌+◌, ◌-◌, ◌<◌, ◌≤◌, ℕ, List, [], ◌∷◌, Bool, true, false, not, nat_lt, nat_le, ◌==◌, if◌then◌else◌, Option, Some, None, option_map, slice_index_or}
+use Rattle.std.specs.List.{list_any, IsDistinct}
 use Rattle.std.specs.Str.{bytes_eq}
 use Rattle.std.specs.declared.ops.Bound.{Bound}
 use Rattle.std.specs.declared.ops.Bound.TheVariants.{Included, Excluded}
 use Rattle.std.specs.BTreeMap.{is_at}
-use Rattle.std.specs.Map.{lookup, set_value}
+use Rattle.std.specs.Map.{lookup, keys_of, set_value}
 use Rattle.consent.specs.declared.grant.Kind.TheVariants as kind
 use Rattle.consent.specs.Limits.{code_life}
 use Rattle.consent.specs.History.{is_named, is_beyond, is_within}
 use Rattle.consent.specs.History.Change.{Consented}
+use Rattle.token_store.specs.declared.agenda.Deadline.{Deadline}
 use Rattle.token_store.specs.declared.record.Record.{Record}
 use Rattle.token_store.specs.declared.record.Shared.{Shared}
 use Rattle.token_store.specs.declared.tables.Tables.{Tables}
 use Rattle.consent.specs.declared.change.CodeFacts.{CodeFacts}
 use Rattle.consent.specs.declared.change.NewToken.{NewToken}
+use Rattle.token_store.specs.Agenda.{is_deadline}
 use Rattle.token_store.specs.Kept.{Kept, kept_at, kept_unexpired}
-use Rattle.token_store.specs.Records.{terms_by, kept_under, shared_at, kept_of, expiry_of, owner_cmp, IsTied}
+use Rattle.token_store.specs.Records.{terms_by, kept_under, shared_at, kept_of, all_kept, expiry_of, owner_cmp, IsCounted, IsTied}
 
 abbrev pub is_live_at : ℕ → Record → Bool
 is_live_at moment r = nat_lt moment (r.moment + r.life)
@@ -30,9 +32,18 @@ pub record TellsSame (kept kept' : List Kept) (moment : ℕ) : Type 0 where
 abbrev pub AllLive : List (List ℕ × Record) → ℕ → Type 0
 AllLive records moment = (digest : List ℕ) (t : ℕ) → expiry_of (lookup (bytes_eq digest) records) ≡ Some t → moment < t
 
--- those that are unexpired
-abbrev pub live_of : ℕ → List (List ℕ × Record) → List (List ℕ × Record)
-live_of moment records = filter (λ e. is_live_at moment e.1) records
+-- those of these deadlines that are there expire after the moment
+abbrev pub AllGone : List Deadline → List (List ℕ × Record) → ℕ → Type 0
+AllGone deadlines records moment = (digest : List ℕ) (t : ℕ) → list_any (is_deadline digest t) deadlines ≡ true →
+    expiry_of (lookup (bytes_eq digest) records) ≡ Some t → moment < t
+
+-- Some records are gone that had expired, and their families with the last of them.
+pub record Sheds (families : List (Option Shared)) (records : List (List ℕ × Record)) (families' : List (Option Shared)) (records' : List (List ℕ × Record))
+    (moment : ℕ) : Type 0 where
+  pub once : IsDistinct bytes_eq (keys_of records')
+  pub counted : IsCounted families' records' []
+  pub same : TellsSame (all_kept families records) (all_kept families' records') moment
+  pub fewer : (digest : List ℕ) (t : ℕ) → expiry_of (lookup (bytes_eq digest) records') ≡ Some t → expiry_of (lookup (bytes_eq digest) records) ≡ Some t
 
 -- so many records more are of the family
 pub record HasEntered (old new : List (Option Shared)) (n more : ℕ) : Type 0 where

@@ -1,5 +1,5 @@
 -- What room a store has for changes.
-use Rattle.std.specs.Prelude.{◌≡◌, ◌≢◌, ◌+◌, ◌≤◌, ℕ, List, [], ◌∷◌, ◌++◌, true, Option, Some, None, is_some, map, option_map, slice_index_or}
+use Rattle.std.specs.Prelude.{◌≡◌, ◌≢◌, ◌+◌, ◌≤◌, ℕ, List, [], ◌∷◌, ◌++◌, true, Option, Some, None, is_some, map, min, option_map, slice_index_or}
 use Rattle.std.specs.List.{AllByRecursion}
 use Rattle.std.specs.HashMap.{spare}
 use Rattle.consent.specs.declared.change.Change.{Change}
@@ -7,6 +7,7 @@ use Rattle.consent.specs.declared.change.Change.TheVariants.{CodeGiven, IssuedAl
 use Rattle.token_store.specs.declared.record.Shared.{Shared}
 use Rattle.token_store.specs.declared.tables.Coming.{Coming}
 use Rattle.token_store.specs.declared.tables.Tables.{Tables}
+use Rattle.token_store.specs.Agenda.{agenda_room}
 use Rattle.token_store.specs.Kept.{Texts, Expected, Room, Held}
 use Rattle.token_store.specs.Records.{shared_at, is_coded, code_shared, own_shared, texts_seen, texts_given}
 
@@ -74,7 +75,7 @@ expected_of c = record { number = c.number; texts = option_map texts_seen c.text
 -- what room the tables have
 abbrev pub room_of : Tables → Room
 room_of t = record {
-  records = spare t.records;
+  records = min (spare t.records) (agenda_room t.agenda);
   families = t.families.slots;
   coming = map expected_of t.coming.items;
 }

@@ -5,7 +5,9 @@
 //! call's is below an earlier one's. A digest is the SHA-256 of the bytes that a code or token spells.
 #![tactic(auto)]
 
+mod agenda;
 mod applying;
+mod expiring;
 mod fault;
 mod found;
 mod image;

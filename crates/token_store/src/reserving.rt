@@ -58,7 +58,7 @@ impl Tables {
         ensures tied { IsTied self.new [] }
         ensures same { kept_of self.new ≡ kept_of self.old }
         ensures records { self.new.records ≡ self.old.records }
-        ensures earliest { self.new.earliest ≡ self.old.earliest }
+        ensures agenda { self.new.agenda ≡ self.old.agenda }
         ensures next { OnOk result ((changes : List Change) → AreReady self.old.families.slots (room_of self.old).coming changes →
             Expects (room_of self.old) (room_of self.new) shared (option_map texts_seen texts) changes) }
     {
@@ -76,7 +76,7 @@ impl Tables {
         ensures tied { IsTied self.new [] }
         ensures same { kept_of self.new ≡ kept_of self.old }
         ensures records { self.new.records ≡ self.old.records }
-        ensures earliest { self.new.earliest ≡ self.old.earliest }
+        ensures agenda { self.new.agenda ≡ self.old.agenda }
         ensures ready { OnOk result ((changes : List Change) → AreReady self.old.families.slots (room_of self.old).coming changes →
             AreReady self.new.families.slots (room_of self.new).coming (change.now ∷ changes)) }
     {
@@ -102,7 +102,7 @@ impl Tables {
         ensures tied { IsTied self.new [] }
         ensures same { kept_of self.new ≡ kept_of self.old }
         ensures records { self.new.records ≡ self.old.records }
-        ensures earliest { self.new.earliest ≡ self.old.earliest }
+        ensures agenda { self.new.agenda ≡ self.old.agenda }
         ensures ready { OnOk result (AreReady self.new.families.slots (room_of self.new).coming (as_list changes.now)) }
     {
         match changes {
@@ -130,6 +130,7 @@ impl Tables {
         let count = records_of(changes);
         self.forget_coming();
         self.records.reserve(count)?;
+        self.agenda.reserve(alloc, count)?;
         self.prepare_all(alloc, changes)
     }
 }

@@ -33,7 +33,7 @@ pub enum RestoreFault {
 
 impl Tables {
     // Keeps a record under a digest that nothing is kept under.
-    fn put_new(&mut self, digest: &Digest, new: Record) -> Result<(), AllocError>
+    fn put_new(&mut self, alloc: Global, digest: &Digest, new: Record) -> Result<(), AllocError>
         requires tied { IsTied self.old [] }
         requires open { is_some (slice_index_or self.old.families.slots new.family None) ≡ true }
         requires absent { lookup (bytes_eq digest.now) self.old.records.entries ≡ None }
@@ -47,8 +47,9 @@ impl Tables {
         // There are fewer than 2^63, and so there are of the family.
         let _ = self.records.len();
         self.records.reserve(1)?;
+        self.agenda.reserve(alloc, 1)?;
         enter(&mut self.families, new.family, 1);
-        self.earliest = self.earliest.min(new.expiry());
+        self.agenda.add(digest, new.expiry());
         let Ok(_) = self.records.insert(*digest, new) else {
             unreachable!()
         };
@@ -152,7 +153,7 @@ impl Tables {
         let Ok(record) = kept.record(alloc, *number) else {
             return Err(RestoreFault::Memory);
         };
-        let Ok(()) = self.put_new(&kept.digest, record) else {
+        let Ok(()) = self.put_new(alloc, &kept.digest, record) else {
             return Err(RestoreFault::Memory);
         };
         Ok(())

@@ -1,5 +1,5 @@
 //! The tables: records by digest, the families, and those of each owner and client.
-ghost use Rattle.std.specs.Prelude.{◌≡◌, ◌≢◌, ◌+◌, ◌<◌, ◌≤◌, ◌^◌, ℕ, List, [], ◌∷◌, ◌++◌, None, Some, true, false, not, nat_le, if◌then◌else◌, length, count_by, map, is_some, option_map, option_copied, slice_index_or, IfOk, OnOk, OnErr};
+ghost use Rattle.std.specs.Prelude.{◌≡◌, ◌≢◌, ◌+◌, ◌<◌, ◌≤◌, ◌^◌, ℕ, List, [], ◌∷◌, ◌++◌, None, Some, true, false, not, nat_le, nat_lt, if◌then◌else◌, length, count_by, map, is_some, option_map, option_copied, slice_index_or, IfOk, OnOk, OnErr};
 ghost use Rattle.std.specs.List.{list_any, IsDistinct};
 ghost use Rattle.std.specs.Str.{bytes_eq};
 ghost use Rattle.std.specs.Map.{lookup, keys_of, values_of};
@@ -11,9 +11,10 @@ ghost use Rattle.consent.specs.declared.change.Change.{Change};
 ghost use Rattle.token_store.specs.Kept.{kept_at, kept_unexpired};
 ghost use Rattle.token_store.specs.Fits.{refusal_by};
 ghost use Rattle.token_store.specs.Room.{Waits, HasSpare, HasRoomFor, room_of};
-ghost use Rattle.token_store.specs.Records.{kept_under, kept_of, kept_in, shared_at, IsCounted, IsOwned, owner_cmp, IsTied, ExpireFrom};
-ghost use Rattle.token_store.specs.RecordsParts.{is_live_at, IsNextOwned, start_of, HasEntered, HasLeft, HasEnded, HasOpened, HasClosed, HasLowered, lowered_by, TellsSame, AllLive, SharesSame, ForgetsExpired, live_of, RecordMark, marked, spent_in};
+ghost use Rattle.token_store.specs.Records.{kept_under, kept_of, kept_in, shared_at, IsCounted, IsOwned, owner_cmp, IsTied};
+ghost use Rattle.token_store.specs.RecordsParts.{is_live_at, IsNextOwned, start_of, HasEntered, HasLeft, HasEnded, HasOpened, HasClosed, HasLowered, lowered_by, TellsSame, AllLive, SharesSame, ForgetsExpired, RecordMark, marked, spent_in};
 
+use crate::agenda::Agenda;
 use crate::fault::StoreFault;
 use crate::record::{CodeTexts, Record, Shared};
 use consent::{ClientNo, Digest, Moment, OwnerNo, RECORD_LIMIT, ScopeSet};
@@ -33,8 +34,8 @@ pub(crate) struct Coming {
 #[derive(Drop)]
 pub(crate) struct Tables {
     pub(crate) records: HashMap<Digest, Record>,
-    /// None of the records expires before this.
-    pub(crate) earliest: u64,
+    /// When each of the records expires.
+    pub(crate) agenda: Agenda,
     pub(crate) families: Slab<Shared>,
     /// The families that a code opened, by its owner and client.
     pub(crate) owners: BTreeSet<((u32, u32), usize)>,
@@ -49,7 +50,7 @@ impl Tables {
     {
         Tables {
             records: HashMap::new(alloc),
-            earliest: u64::MAX,
+            agenda: Agenda::new(alloc),
             families: Slab::new(alloc),
             owners: BTreeSet::new(alloc),
             coming: Vec::new(alloc),
@@ -99,11 +100,12 @@ impl Tables {
     }
 
     // Whether the moment comes before any record expires.
-    fn is_none_expired(&self, moment: Moment) -> bool
+    pub(crate) fn is_none_expired(&self, moment: Moment) -> bool
         requires { IsTied self.now [] }
+        ensures value { result ≡ nat_lt moment self.now.agenda.earliest }
         ensures live { result ≡ true → AllLive self.now.records.entries moment }
     {
-        moment.get() < self.earliest
+        self.agenda.is_ahead(moment)
     }
 
     /// So many more would be one too many.
@@ -148,20 +150,6 @@ impl Tables {
             return Some(StoreFault::DrawTaken);
         }
         None
-    }
-
-    /// Lets go of all that has expired.
-    pub(crate) fn drop_expired(&mut self, moment: Moment)
-        requires { IsTied self.old [] }
-        ensures tied { IsTied self.new [] }
-        ensures same { TellsSame (kept_of self.old) (kept_of self.new) moment }
-        ensures live { AllLive self.new.records.entries moment }
-    {
-        if self.is_none_expired(moment) {
-            return;
-        }
-        self.earliest = leave_expired(&mut self.families, &mut self.owners, &self.records, moment);
-        retain_live(&mut self.records, moment);
     }
 }
 
@@ -211,7 +199,7 @@ impl Tables {
         ensures opened { IfOk result (λ n. HasOpened self.old.families.slots self.new.families.slots n shared) }
         ensures same { kept_of self.new ≡ kept_of self.old }
         ensures records { self.new.records ≡ self.old.records }
-        ensures earliest { self.new.earliest ≡ self.old.earliest }
+        ensures agenda { self.new.agenda ≡ self.old.agenda }
         ensures coming { self.new.coming ≡ self.old.coming }
     {
         self.families.reserve(1)?;
@@ -257,7 +245,7 @@ impl Tables {
         ensures forgotten { (n : ℕ) → IsTied self.old (n ∷ []) → ForgetsExpired self.old self.new digest.now n }
         ensures waiting { (n k : ℕ) (s : Shared) → IsTied self.old (k ∷ []) → Waits self.old.families.slots n s → Waits self.new.families.slots n s }
         ensures spare { spare self.old.records ≤ spare self.new.records }
-        ensures earliest { self.new.earliest ≡ self.old.earliest }
+        ensures agenda { self.new.agenda ≡ self.old.agenda }
         ensures coming { self.new.coming ≡ self.old.coming }
     {
         if let Some(old) = self.records.remove(digest) {
@@ -281,7 +269,7 @@ impl Tables {
         let _ = self.records.len();
         enter(&mut self.families, new.family, 1);
         self.forget(digest);
-        self.earliest = self.earliest.min(new.expiry());
+        self.agenda.add(digest, new.expiry());
         let Ok(_) = self.records.insert(*digest, new) else {
             unreachable!()
         };
@@ -398,39 +386,6 @@ fn lower_one(families: &mut Slab<Shared>, number: usize, mask: ScopeSet)
             }
         }
     }
-}
-
-// Each record that has expired is gone of its family. The answer is when the first of the others expires.
-fn leave_expired(
-    families: &mut Slab<Shared>,
-    owners: &mut BTreeSet<((u32, u32), usize)>,
-    records: &HashMap<Digest, Record>,
-    moment: Moment,
-) -> u64
-    requires counted { IsCounted families.old.slots records.now.entries [] }
-    ensures counted { IsCounted families.new.slots (live_of moment records.now.entries) [] }
-    ensures shares { (n : ℕ) → 0 < (shared_at families.new.slots n).count → SharesSame families.old.slots families.new.slots n }
-    ensures owned { IsOwned families.old.slots owners.old.keys → IsOwned families.new.slots owners.new.keys }
-    ensures earliest { ExpireFrom result (live_of moment records.now.entries) }
-{
-    let mut earliest = u64::MAX;
-    for (_, record) in records.iter() {
-        if record.is_unexpired(moment) {
-            earliest = earliest.min(record.expiry());
-        } else {
-            leave(families, owners, record.family);
-        }
-    }
-    earliest
-}
-
-// The records that are unexpired stay.
-fn retain_live(records: &mut HashMap<Digest, Record>, moment: Moment)
-    ensures live { records.new.entries ≡ live_of moment records.old.entries }
-    ensures once { IsDistinct bytes_eq (keys_of records.new.entries) }
-    ensures spare { spare records.old ≤ spare records.new }
-{
-    records.retain(|_digest, record| record.is_unexpired(moment));
 }
 
 // How many of the records are unexpired.

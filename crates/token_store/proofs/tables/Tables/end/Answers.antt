@@ -7,7 +7,7 @@ use Rattle.token_store.proofs.tables.Tables.end.Goals as goal
 pub returns-clause-tied : goal.returns-clause-tied
 returns-clause-tied c =
     let t = c.args.self.now in
-    tied_ended t.families.slots c.end_one.new.families.slots c.args.number t.records.entries t.earliest t.owners.keys c.end_one.ensures.ended c.requires
+    tied_ended t.families.slots c.end_one.new.families.slots c.args.number t.records.entries t.agenda t.owners.keys c.end_one.ensures.ended c.requires
 
 pub returns-clause-marked : goal.returns-clause-marked
 returns-clause-marked c =

@@ -25,7 +25,7 @@ put-requires-clause-tied c =
     let first = c.requires.room.first in
     let waits : Waits t.families.slots n s = taken_waits t.families.slots t.coming.items c.pop.new.self.items c.in-Some.coming first.front (record { number = first.number; texts = first.texts }) s c.in-Some.ensures.items first.next in
     let here : slice_index_or slots' n None ≡ Some s = c.renew.ensures.here waits.there ∙ ap (λ x. Some x) c.of_client.ensures in
-    tied_renewed t.families.slots slots' t.records.entries t.earliest t.owners.keys n s refl c.requires.tied waits here c.renew.ensures.others
+    tied_renewed t.families.slots slots' t.records.entries t.agenda t.owners.keys n s refl c.requires.tied waits here c.renew.ensures.others
 
 pub returns-clause-fits : goal.returns-clause-fits
 returns-clause-fits c = λ history fits none.
@@ -41,7 +41,7 @@ returns-clause-fits c = λ history fits none.
     let r = c.of_token.result in
     let k : Kept = token_kept (own_place n c.args.client) m c.args.token.now in
     let t1 : Tables = record t { families = c.renew.new.families; coming = c.pop.new.self } in
-    let same : kept_of t1 ≡ kept_of t = renewed_same t.families.slots slots' t.records.entries t.earliest t.owners.keys n s c.requires.tied waits c.renew.ensures.others in
+    let same : kept_of t1 ≡ kept_of t = renewed_same t.families.slots slots' t.records.entries t.agenda t.owners.keys n s c.requires.tied waits c.renew.ensures.others in
     let is : kept_under (shared_at slots' r.family) d r ≡ k =
     ap (λ i. kept_under (shared_at slots' i) d r) c.of_token.ensures.family ∙ ap (λ o. kept_under (or_nothing o) d r) here ∙ c.of_token.ensures.kept s in
     let tells = tells_put (kept_of t1) (kept_of t) (kept_under (shared_at slots' r.family) d r) k (kept_of c.put.new.self) m same is

@@ -6,7 +6,7 @@ use Rattle.token_store.proofs.tables.Tables.lower.Goals as goal
 pub returns-clause-tied : goal.returns-clause-tied
 returns-clause-tied c =
     let t = c.args.self.now in
-    tied_lowered t.families.slots c.lower_all.new.families.slots c.args.owner c.args.client c.args.mask t.records.entries t.earliest t.owners.keys
+    tied_lowered t.families.slots c.lower_all.new.families.slots c.args.owner c.args.client c.args.mask t.records.entries t.agenda t.owners.keys
     (rw (c.get.ensures.value, c.get-2.ensures.value) at c.lower_all.ensures.lowered) c.requires
 
 pub returns-clause-marked : goal.returns-clause-marked

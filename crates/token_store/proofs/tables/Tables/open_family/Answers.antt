@@ -16,4 +16,4 @@ returns-clause-same c =
       here = ap (λ k. slice_index_or slots' k None) (sym same_number) ∙ c.insert_reserved.ensures.updates.changed;
       others = λ k ne. c.insert_reserved.ensures.updates.others k (λ e. ne (e ∙ same_number)) ∙ ap (λ s. slice_index_or s k None) slots;
     } in
-    opened_same t.families.slots slots' t.records.entries t.earliest t.owners.keys n c.args.shared c.requires.tied opened
+    opened_same t.families.slots slots' t.records.entries t.agenda t.owners.keys n c.args.shared c.requires.tied opened

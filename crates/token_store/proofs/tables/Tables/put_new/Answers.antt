@@ -1,10 +1,12 @@
-use Rattle.std.proofs.Common.{◌≡◌, ◌∙◌, ◌∷◌, [], ap, ℕ, None, Some, cond, arith}
+use Rattle.std.proofs.Common.{◌≡◌, ◌∙◌, ◌++◌, ◌∷◌, [], ap, ℕ, None, Some, cond, arith}
 use Rattle.std.specs.List.Sorted.{IsPermutation}
 use Rattle.std.specs.Str.{bytes_eq}
 use Rattle.std.specs.Map.{lookup}
+use Rattle.token_store.specs.declared.agenda.Deadline.{Deadline}
+use Rattle.token_store.specs.Agenda.{deadlines_of}
 use Rattle.token_store.specs.Records.{Tied, kept_under, shared_at, all_kept}
 use Rattle.token_store.proofs.Looking.{same_push, same_on}
-use Rattle.token_store.proofs.Settling.{tied_reordered, tied_awaiting, same_awaiting, entered_shares, more_from, counted_settled, settled_tells, put_new, count_few}
+use Rattle.token_store.proofs.Settling.{tied_reordered, tied_turned, tied_awaiting, same_awaiting, entered_shares, more_listed, counted_settled, settled_tells, put_new, count_few}
 use Rattle.token_store.proofs.tables.Tables.put_new.Goals as goal
 
 pub enter-requires : goal.enter-requires
@@ -19,13 +21,19 @@ returns-clause-tied c =
     let es1 = c.reserve.new.self.entries in
     let es' = c.insert.new.self.entries in
     let e = c.reserve.ensures in
-    let before : Tied t.families.slots es1 t.earliest t.owners.keys [] = tied_reordered t.families.slots t.records.entries es1 t.earliest t.owners.keys e.unique e.entries.0 e.entries.2 c.requires.tied in
-    let tied : Tied slots' es1 t.earliest t.owners.keys (r.family ∷ []) = tied_awaiting t.families.slots slots' es1 t.earliest t.owners.keys r.family before c.enter.ensures.entered c.requires.open in
+    let agenda = c.reserve-2.new.self in
+    let due : ℕ → Deadline = (λ n. record { digest = d; moment = n }) in
+    let before : Tied t.families.slots es1 agenda t.owners.keys [] =
+    tied_turned t.families.slots es1 t.agenda agenda t.owners.keys c.reserve-2.ensures.same c.reserve-2.ensures.exact
+    (tied_reordered t.families.slots t.records.entries es1 t.agenda t.owners.keys e.unique e.entries.0 e.entries.2 c.requires.tied) in
+    let tied : Tied slots' es1 agenda t.owners.keys (r.family ∷ []) = tied_awaiting t.families.slots slots' es1 agenda t.owners.keys r.family before c.enter.ensures.entered c.requires.open in
     let absent : lookup (bytes_eq d) es1 ≡ None = e.entries.2 d ∙ c.requires.absent in
     let moved : IsPermutation ((d, r) ∷ es1) es' = put_new c.in-Ok.field-0 d r es1 es' (c.in-Ok.ensures.old ∙ absent) c.in-Ok.ensures.entries in
     record {
       once = c.insert.ensures.unique;
-      bounded = more_from es1 es' t.earliest c.min-self.result d r (omega (arith, c.min-self.ensures)) (omega (arith, c.min-self.ensures, c.expiry.ensures)) c.in-Ok.ensures.updates.0 tied.bounded;
+      listed = more_listed es1 es' (deadlines_of agenda) (deadlines_of c.add.new.self) d r
+          (c.add.ensures.added ∙ ap (λ n. deadlines_of agenda ++ due n ∷ []) c.expiry.ensures) c.in-Ok.ensures.updates.0 tied.listed;
+      exact = c.add.ensures.exact tied.exact;
       counted = counted_settled slots' es1 es' d r moved tied.counted;
       owned = tied.owned;
     }

@@ -6,7 +6,7 @@ use Rattle.token_store.proofs.tables.Tables.spend.Goals as goal
 pub returns-clause-tied : goal.returns-clause-tied
 returns-clause-tied c =
     let t = c.args.self.now in
-    rw c.spend_one.ensures.spent (tied_spent t.families.slots t.records.entries t.earliest t.owners.keys c.args.digest.now c.requires)
+    rw c.spend_one.ensures.spent (tied_spent t.families.slots t.records.entries t.agenda t.owners.keys c.args.digest.now c.requires)
 
 pub returns-clause-marked : goal.returns-clause-marked
 returns-clause-marked c = λ m there.

@@ -1,0 +1,41 @@
+-- When which records expire, and what the store's bounds say of it.
+use Rattle.std.specs.Prelude.{◌≡◌, ◌++◌, ◌-◌, ◌==◌, ◌&&◌, ℕ, List, [], ◌∷◌, Bool, min}
+use Rattle.std.specs.List.{flat_map, AllByRecursion}
+use Rattle.std.specs.Str.{bytes_eq}
+use Rattle.token_store.specs.declared.agenda.Deadline.{Deadline}
+use Rattle.token_store.specs.declared.agenda.Page.{Page}
+use Rattle.token_store.specs.declared.agenda.Agenda.{Agenda}
+
+-- the least of the bound and these moments
+abbrev pub least_from : ℕ → List Deadline → ℕ
+least_from bound [] = bound
+least_from bound (e ∷ es) = least_from (min bound e.moment) es
+
+-- the least of these moments; where there is none, the greatest number of 64 bits
+abbrev pub least : List Deadline → ℕ
+least deadlines = least_from 18446744073709551615 deadlines
+
+-- a page's bound is the least moment on it
+abbrev pub IsBounded : Page → Type 0
+IsBounded page = page.earliest ≡ least page.deadlines.items
+
+abbrev pub deadlines_in : List Page → List Deadline
+deadlines_in pages = flat_map (λ (page : Page). page.deadlines.items) pages
+
+-- all, in their order
+abbrev pub deadlines_of : Agenda → List Deadline
+deadlines_of agenda = deadlines_in agenda.pages.items ++ agenda.newest.deadlines.items
+
+-- each bound is the least moment of what it is for
+pub record IsExact (agenda : Agenda) : Type 0 where
+  pub pages : AllByRecursion IsBounded agenda.pages.items
+  pub newest : IsBounded agenda.newest
+  pub all : agenda.earliest ≡ least (deadlines_of agenda)
+
+-- so many more can be noted
+abbrev pub agenda_room : Agenda → ℕ
+agenda_room agenda = agenda.newest.deadlines.cap - agenda.newest.deadlines.len
+
+-- what is kept under the digest is expired from this moment on
+abbrev pub is_deadline : List ℕ → ℕ → Deadline → Bool
+is_deadline digest moment e = bytes_eq digest e.digest && (e.moment == moment)

@@ -1,0 +1,12 @@
+-- Beside Agenda: only the contracts of this crate's own parts and their proofs cite this, no public clause.
+use Rattle.std.specs.Prelude.{ℕ, Bool, nat_lt, ◌-◌}
+use Rattle.token_store.specs.declared.agenda.Deadline.{Deadline}
+use Rattle.token_store.specs.declared.agenda.Page.{Page}
+
+-- the deadline is still to come
+abbrev pub is_ahead : ℕ → Deadline → Bool
+is_ahead moment e = nat_lt moment e.moment
+
+-- so many more have room on the page
+abbrev pub page_room : Page → ℕ
+page_room page = page.deadlines.cap - page.deadlines.len

@@ -1,0 +1,131 @@
+//! What has expired goes.
+ghost use Rattle.std.specs.Prelude.{[], ◌∷◌};
+ghost use Rattle.std.specs.List.{AllByRecursion, IsDistinct};
+ghost use Rattle.std.specs.Str.{bytes_eq};
+ghost use Rattle.std.specs.Map.{keys_of};
+ghost use Rattle.token_store.specs.Agenda.{IsBounded, deadlines_in};
+ghost use Rattle.token_store.specs.Records.{IsCounted, IsOwned, IsTied, kept_of};
+ghost use Rattle.token_store.specs.RecordsParts.{AllGone, AllLive, Sheds, TellsSame};
+
+use crate::agenda::{Deadline, Page};
+use crate::record::{Record, Shared};
+use crate::tables::{Tables, leave};
+use consent::{Digest, Moment};
+use slab::Slab;
+use std::collections::{BTreeSet, HashMap};
+
+impl Tables {
+    /// Lets go of all that has expired.
+    pub(crate) fn drop_expired(&mut self, moment: Moment)
+        requires { IsTied self.old [] }
+        ensures tied { IsTied self.new [] }
+        ensures same { TellsSame (kept_of self.old) (kept_of self.new) moment }
+        ensures live { AllLive self.new.records.entries moment }
+    {
+        if self.is_none_expired(moment) {
+            return;
+        }
+        drop_pages(
+            &mut self.records,
+            &mut self.families,
+            &mut self.owners,
+            &self.agenda.pages,
+            moment,
+        );
+        drop_page(
+            &mut self.records,
+            &mut self.families,
+            &mut self.owners,
+            &self.agenda.newest,
+            moment,
+        );
+        self.agenda.strike(moment);
+    }
+}
+
+// Lets go of the record of the deadline, if it has come and the record has expired.
+fn drop_one(
+    records: &mut HashMap<Digest, Record>,
+    families: &mut Slab<Shared>,
+    owners: &mut BTreeSet<((u32, u32), usize)>,
+    deadline: &Deadline,
+    moment: Moment,
+)
+    requires once { IsDistinct bytes_eq (keys_of records.old.entries) }
+    requires counted { IsCounted families.old.slots records.old.entries [] }
+    ensures sheds { Sheds families.old.slots records.old.entries families.new.slots records.new.entries moment }
+    ensures owned { IsOwned families.old.slots owners.old.keys → IsOwned families.new.slots owners.new.keys }
+    ensures gone { AllGone (deadline.now ∷ []) records.new.entries moment }
+{
+    if moment.get() < deadline.moment {
+        return;
+    }
+    let Some(record) = records.get(&deadline.digest) else {
+        return;
+    };
+    if record.is_unexpired(moment) {
+        return;
+    }
+    let family = record.family;
+    records.remove(&deadline.digest);
+    leave(families, owners, family);
+}
+
+// Lets go of the records of these deadlines that have expired.
+fn drop_all(
+    records: &mut HashMap<Digest, Record>,
+    families: &mut Slab<Shared>,
+    owners: &mut BTreeSet<((u32, u32), usize)>,
+    deadlines: &[Deadline],
+    moment: Moment,
+)
+    requires once { IsDistinct bytes_eq (keys_of records.old.entries) }
+    requires counted { IsCounted families.old.slots records.old.entries [] }
+    ensures sheds { Sheds families.old.slots records.old.entries families.new.slots records.new.entries moment }
+    ensures owned { IsOwned families.old.slots owners.old.keys → IsOwned families.new.slots owners.new.keys }
+    ensures gone { AllGone deadlines.now records.new.entries moment }
+{
+    for deadline in deadlines {
+        drop_one(records, families, owners, deadline, moment);
+    }
+}
+
+// Lets go of the records of the page that have expired, if one can have.
+fn drop_page(
+    records: &mut HashMap<Digest, Record>,
+    families: &mut Slab<Shared>,
+    owners: &mut BTreeSet<((u32, u32), usize)>,
+    page: &Page,
+    moment: Moment,
+)
+    requires once { IsDistinct bytes_eq (keys_of records.old.entries) }
+    requires counted { IsCounted families.old.slots records.old.entries [] }
+    requires bounded { IsBounded page.now }
+    ensures sheds { Sheds families.old.slots records.old.entries families.new.slots records.new.entries moment }
+    ensures owned { IsOwned families.old.slots owners.old.keys → IsOwned families.new.slots owners.new.keys }
+    ensures gone { AllGone page.now.deadlines.items records.new.entries moment }
+{
+    if page.earliest <= moment.get() {
+        drop_all(records, families, owners, page.deadlines.as_slice(), moment);
+    }
+}
+
+// Lets go of the records of these pages that have expired.
+fn drop_pages(
+    records: &mut HashMap<Digest, Record>,
+    families: &mut Slab<Shared>,
+    owners: &mut BTreeSet<((u32, u32), usize)>,
+    pages: &[Page],
+    moment: Moment,
+)
+    requires once { IsDistinct bytes_eq (keys_of records.old.entries) }
+    requires counted { IsCounted families.old.slots records.old.entries [] }
+    requires bounded { AllByRecursion IsBounded pages.now }
+    ensures sheds { Sheds families.old.slots records.old.entries families.new.slots records.new.entries moment }
+    ensures owned { IsOwned families.old.slots owners.old.keys → IsOwned families.new.slots owners.new.keys }
+    ensures gone { AllGone (deadlines_in pages.now) records.new.entries moment }
+{
+    for page in pages {
+        drop_page(records, families, owners, page, moment);
+    }
+}
