@@ -5,6 +5,7 @@ mod c_hooks;
 mod chains;
 mod examples;
 mod hooks;
+mod links;
 mod machines;
 mod program;
 mod run;

@@ -18,7 +18,7 @@ use Rattle.scalar.specs.Members.{InScalar}
 use Rattle.insn.specs.Word.{int_width, word_holds, word_result, wrapped}
 use Rattle.verifier.specs.declared.link.Link.{Link}
 use Rattle.verifier.specs.declared.link.Links.{Links}
-use Rattle.verifier.specs.Links.{AreLeft, AreLinked, AreLinksJoined, IsLinkJoin, LinkHolds, LinksHold, lesser, link_at, link_left, links_with}
+use Rattle.verifier.specs.Links.{AreLeft, AreLinked, AreLinksJoined, AreMade, IsLinkJoin, LinkHolds, LinksHold, lesser, link_at, link_left}
 
 -- ---- numbers
 
@@ -113,13 +113,33 @@ module _ (links : Links) (registers : List (Option Value)) (j : ℕ) (o : Option
 
 -- ---- a link that is made
 
-module _ (links : Links) (registers : List (Option Value)) (register : RegNo) (link : Link) (eleven : length links.each ≡ 11) (below : reg_number register < 11) where
-  pub made_too : LinkHolds (Some link) (reg_number register) registers → LinksHold false links registers → LinksHold false (links_with (Some (register, link)) links) registers
-  made_too made h = λ k lt.
-      elim (cases_eq k (reg_number register)) [
-        | inl q ↦ let e : get_or (set links.each (reg_number register) (Some link)) (reg_number register) None ≡ Some link = get_or-set_same links.each (reg_number register) (Some link) None (omega arith) in rw (q, e) made
-        | inr ne ↦ rw (get_or-set_other links.each (reg_number register) k (Some link) None ne) (h k lt)
-      ]
+chosen : (k n : ℕ) (x y : Option Link) → k ≡ n → (if k == n then x else y) ≡ x
+chosen k n x y q = rw (same_is k n q) refl
+
+not_chosen : (k n : ℕ) (x y : Option Link) → k ≢ n → (if k == n then x else y) ≡ y
+not_chosen k n x y ne = by (k == n) refl where
+  by : (t : Bool) → (k == n) ≡ t → (if t then x else y) ≡ y
+  by true e = absurd (ne (grind (arith)))
+  by false e = refl
+
+pub put_there : (a b : Links) (register : RegNo) (link : Link) → length b.each ≡ 11 → reg_number register < 11 → b.any ≡ true → ((k : ℕ) → k < 11 → link_at b k ≡ link_at a k)
+    → AreMade (Some (register, link)) a (record { any = b.any; each = set b.each (reg_number register) (Some link) })
+put_there a b register link eleven below any same = λ k lt.
+    elim (cases_eq k (reg_number register)) [
+      | inl q ↦
+          let e : get_or (set b.each (reg_number register) (Some link)) (reg_number register) None ≡ Some link = get_or-set_same b.each (reg_number register) (Some link) None (omega arith) in
+          rw (any, q, e) (sym (chosen (reg_number register) (reg_number register) (Some link) (link_at a (reg_number register)) refl))
+      | inr ne ↦
+          let was : link_at b k ≡ get_or b.each k None = rw any refl in
+          rw (any, get_or-set_other b.each (reg_number register) k (Some link) None ne) (sym was ∙ same k lt ∙ sym (not_chosen k (reg_number register) (Some link) (link_at a k) ne))
+    ]
+
+pub made_too : (a b : Links) (registers : List (Option Value)) (made : RegNo × Link) → AreMade (Some made) a b → LinkHolds (Some made.1) (reg_number made.0) registers → LinksHold false a registers → LinksHold false b registers
+made_too a b registers made are holds h = λ k lt.
+    elim (cases_eq k (reg_number made.0)) [
+      | inl q ↦ let e : link_at b k ≡ Some made.1 = are k lt ∙ chosen k (reg_number made.0) (Some made.1) (link_at a k) q in rw (e, q) holds
+      | inr ne ↦ let e : link_at b k ≡ link_at a k = are k lt ∙ not_chosen k (reg_number made.0) (Some made.1) (link_at a k) ne in rw e (h k lt)
+    ]
 
 -- ---- the links one after the other
 
@@ -144,6 +164,17 @@ made_one P a now i r lt h p = record {
         | inr ne ↦ rw (get_or-set_other now i k r None ne) (h.below k (omega arith))
       ];
   above = λ k le. get_or-set_other now i k r None (λ same. absurd (omega arith)) ∙ h.above k (omega arith);
+}
+
+pub made_kept : (P : ℕ → Option Link → Option Link → Type 0) (a now : List (Option Link)) (i : ℕ) → MadeBelow P a now i → P i (get_or now i None) (get_or now i None) → MadeBelow P a now (i + 1)
+made_kept P a now i h p = record {
+  eleven = h.eleven;
+  below = λ k le.
+      elim (cases_eq k i) [
+        | inl q ↦ let was : get_or now i None ≡ get_or a i None = h.above i (omega arith) in rw q (subst (λ (o : Option Link). P i o (get_or now i None)) was p)
+        | inr ne ↦ h.below k (omega arith)
+      ];
+  above = λ k le. h.above k (omega arith);
 }
 
 -- what the links that are left are, and the links of two ways

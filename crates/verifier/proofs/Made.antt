@@ -35,7 +35,7 @@ use Rattle.verifier.specs.declared.link.Links.{Links}
 use Rattle.verifier.specs.Fits.{StateFits}
 use Rattle.verifier.specs.Follows.{FlowFits, FlowIs, Follows, WritesNoR10}
 use Rattle.verifier.specs.Kinds.{IsLinked, LeavesRow}
-use Rattle.verifier.specs.Links.{AreValuesLinked, LinkHolds, LinksHold, copied, link_at, link_made, link_of, links_with, raised, raised_of}
+use Rattle.verifier.specs.Links.{AreMade, AreValuesLinked, LinkHolds, LinksHold, copied, link_at, link_made, link_of, raised, raised_of}
 use Rattle.verifier.proofs.Linked.{links_same, made_too, sum_linked}
 use Rattle.verifier.proofs.States.{reg_below, set_to}
 
@@ -169,9 +169,12 @@ module _ (layout : Layout) (i : Insn) (old between new : Known) (linked : IsLink
   flow_is flow es h = absurd h
 
   -- where no link is made
-  module _ (none : links_with (link_made old.links i) between.links ≡ between.links) where
+  module _ (none : link_made old.links i ≡ None) where
+    same_links : new.links ≡ between.links
+    same_links = subst (λ (o : Option (RegNo × Link)). AreMade o between.links new.links) none linked.links
+
     to : (s : State) → StateFits false layout between s → StateFits false layout new s
-    to s f = same_fits false layout between new s linked.registers linked.stack (links_same false between.links new.links s.registers (linked.links ∙ none) f.links) f
+    to s f = same_fits false layout between new s linked.registers linked.stack (links_same false between.links new.links s.registers same_links f.links) f
 
     flow_fits : (flow : Flow) (o : Option Effect) → FlowFits layout between flow o → FlowFits layout new flow o
     flow_fits Next (Some (Falls s)) h = to s h
@@ -182,15 +185,15 @@ module _ (layout : Layout) (i : Insn) (old between new : Known) (linked : IsLink
     flow_fits flow o h = absurd h
 
   -- where one is
-  module _ (made : RegNo × Link) (is : link_made old.links i ≡ Some made) (eleven : length between.links.each ≡ 11) (other : WritesNoR10 i) where
+  module _ (made : RegNo × Link) (is : link_made old.links i ≡ Some made) (other : WritesNoR10 i) where
     made_fits : (s : State) (o : Option Effect) → StateFits false layout old s → done_by layout i s ≡ o → FlowFits layout between Next o → FlowFits layout new Next o
     made_fits s None f done h = h
     made_fits s (Some (Jumps e t)) f done h = h
     made_fits s (Some (Exits r0)) f done h = h
     made_fits s (Some (Falls t)) f done h =
         let holds = made_holds layout old.links s t f.long f.links i made other is done in
-        let all : LinksHold false (links_with (Some made) between.links) t.registers = made_too between.links t.registers made.0 made.1 eleven (reg_below made.0) holds h.links in
-        same_fits false layout between new t linked.registers linked.stack (links_same false (links_with (Some made) between.links) new.links t.registers (linked.links ∙ ap (λ (o : Option (RegNo × Link)). links_with o between.links) is) all) h
+        let are : AreMade (Some made) between.links new.links = subst (λ (o : Option (RegNo × Link)). AreMade o between.links new.links) is linked.links in
+        same_fits false layout between new t linked.registers linked.stack (made_too between.links new.links t.registers made are holds h.links) h
 
 pub made_next : (layout : Layout) (links : Links) (i : Insn) (made : RegNo × Link) (old between : Known) (flow : Flow) → link_made links i ≡ Some made → LeavesRow layout i old between (Ok flow) → flow ≡ Next
 made_next layout links (insn.Alu64Imm op dst imm) made old between Next e row = refl
@@ -204,19 +207,16 @@ made_next layout links (insn.Alu32Reg op dst src) made old between flow e row = 
 made_next layout links i made old between flow e row = absurd cc
 
 -- what follows an instruction follows it with its link
-pub with_link : (layout : Layout) (i : Insn) (old between new : Known) (flow : Flow) → WritesNoR10 i → length between.links.each ≡ 11 → IsLinked i old between new → LeavesRow layout i old between (Ok flow)
+pub with_link : (layout : Layout) (i : Insn) (old between new : Known) (flow : Flow) → WritesNoR10 i → IsLinked i old between new → LeavesRow layout i old between (Ok flow)
     → Follows layout i old between flow → Follows layout i old new flow
-with_link layout i old between new flow other eleven linked row h = record {
+with_link layout i old between new flow other linked row h = record {
   own = h.own;
   states = λ s f. by (link_made old.links i) refl s f;
   shape = λ s plain f. flow_is layout i old between new linked flow (effects layout i s) (h.shape s plain f);
 } where
   by : (o : Option (RegNo × Link)) → link_made old.links i ≡ o → (s : State) → StateFits false layout old s → FlowFits layout new flow (effect layout i s)
-  by None e s f = flow_fits layout i old between new linked (ap (λ (o : Option (RegNo × Link)). links_with o between.links) e) flow (effect layout i s) (h.states s f)
+  by None e s f = flow_fits layout i old between new linked e flow (effect layout i s) (h.states s f)
   by (Some made) e s f =
       let next = made_next layout old.links i made old between flow e row in
       let there : FlowFits layout between Next (effect layout i s) = subst (λ (x : Flow). FlowFits layout between x (effect layout i s)) next (h.states s f) in
-      subst (λ (x : Flow). FlowFits layout new x (effect layout i s)) (sym next) (made_fits layout i old between new linked made e eleven other s (effect layout i s) f (sym (effect_is_done layout i s)) there)
-
-pub put_is : (made : Option (RegNo × Link)) (register : RegNo) (link : Link) (a b : Links) → made ≡ Some (register, link) → b.each ≡ set a.each (reg_number register) (Some link) → b ≡ links_with made a
-put_is made register link a b is e = let same : record { each = b.each } ≡ links_with (Some (register, link)) a = rw e refl in rw is same
+      subst (λ (x : Flow). FlowFits layout new x (effect layout i s)) (sym next) (made_fits layout i old between new linked made e other s (effect layout i s) f (sym (effect_is_done layout i s)) there)

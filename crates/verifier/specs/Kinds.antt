@@ -35,7 +35,7 @@ use Rattle.verifier.specs.declared.known.Flow.{Flow}
 use Rattle.verifier.specs.declared.known.Flow.TheVariants.{Next, Jump, Branch, Exit}
 use Rattle.verifier.specs.Fits.{StateFits}
 use Rattle.verifier.specs.Follows.{IsFaulty, IsOperand, comparison_of, reg_of}
-use Rattle.verifier.specs.Links.{AreLeft, link_made, links_with}
+use Rattle.verifier.specs.Links.{AreLeft, AreMade, link_made}
 
 -- ---- what a register receives
 
@@ -199,7 +199,7 @@ LeavesRow layout insn.Exit old new r = Passes (flow_where (number_in_reg (reg_of
 pub record IsLinked (i : Insn) (old between new : Known) : Type 0 where
   pub registers : new.registers ≡ between.registers
   pub stack : new.stack ≡ between.stack
-  pub links : new.links ≡ links_with (link_made old.links i) between.links
+  pub links : AreMade (link_made old.links i) between.links new.links
 
 -- a row of the table, and then the instruction's link
 abbrev pub LeavesKnown : Layout → Insn → Known → Known → Result Flow WalkFault → Type 0

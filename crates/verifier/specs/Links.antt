@@ -1,5 +1,5 @@
 -- Registers whose number is another's plus a constant, and what instructions leave of that.
-use Rattle.std.specs.Prelude.{◌≡◌, ◌⊎◌, ℕ, ◌+◌, ◌<◌, ◌==◌, ◌||◌, ℤ, List, slice_index_or, slice_set, Bool, true, false, if◌then◌else◌, Option, Some, None}
+use Rattle.std.specs.Prelude.{◌≡◌, ◌⊎◌, ℕ, ◌+◌, ◌<◌, ◌==◌, ◌||◌, ℤ, List, slice_index_or, Bool, true, false, if◌then◌else◌, Option, Some, None}
 use Rattle.std.specs.Int.{w64, cast_unsigned}
 use Rattle.insn.specs.declared.register.RegNo.{RegNo}
 use Rattle.insn.specs.declared.operation.AluOp.TheVariants.{Add, Mov}
@@ -30,7 +30,7 @@ LinkHolds (Some link) k registers = AreValuesLinked link (value_of registers lin
 
 -- the link of register k
 abbrev pub link_at : Links → ℕ → Option Link
-link_at links k = slice_index_or links.each k None
+link_at links k = if links.any then slice_index_or links.each k None else None
 
 -- each link holds; of shapes nothing is said
 abbrev pub LinksHold : Bool → Links → List (Option Value) → Type 0
@@ -74,9 +74,10 @@ link_made links (Alu64Imm Add dst imm) = raised_of dst W64 imm (link_at links (r
 link_made links (Alu32Imm Add dst imm) = raised_of dst W32 imm (link_at links (reg_number dst))
 link_made links i = None
 
-abbrev pub links_with : Option (RegNo × Link) → Links → Links
-links_with None links = links
-links_with (Some made) links = record { each = slice_set links.each (reg_number made.0) (Some made.1) }
+-- a link is there, and all others stay
+abbrev pub AreMade : Option (RegNo × Link) → Links → Links → Type 0
+AreMade None old new = new ≡ old
+AreMade (Some made) old new = (k : ℕ) → k < 11 → link_at new k ≡ (if k == reg_number made.0 then Some made.1 else link_at old k)
 
 -- ---- two ways that meet
 

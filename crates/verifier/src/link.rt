@@ -1,8 +1,8 @@
 //! Registers whose number is another's plus a constant.
 
-ghost use Rattle.std.specs.Prelude.{◌≡◌, ◌<◌, ℕ, None, Some, length, slice_set};
+ghost use Rattle.std.specs.Prelude.{◌≡◌, ◌<◌, ℕ, None, Some, if◌then◌else◌, IfNone, IfSome, length, slice_index_or, true};
 ghost use Rattle.insn.specs.Instruction.{reg_number};
-ghost use Rattle.verifier.specs.Links.{AreLeft, AreLinksJoined, IsLinkJoin, copied, lesser, link_at, link_left, link_made, link_of as spec_link_of, raised, raised_of};
+ghost use Rattle.verifier.specs.Links.{AreLeft, AreLinksJoined, AreMade, IsLinkJoin, copied, lesser, link_at, link_left, link_made, link_of as spec_link_of, raised, raised_of};
 ghost use Rattle.verifier.specs.LinksParts.{AreNumbersRefined, IsLinkRefined};
 
 use insn::instruction::Insn;
@@ -70,14 +70,14 @@ impl Link {
         }
     }
 
-    /// What is left of a register's link when a register is written.
-    fn left(link: Option<Link>, written: RegNo, number: usize) -> Option<Link>
-        ensures { result ≡ link_left written number link }
+    /// Whether a link of a register joins another one, or this is its own: then it is lost when that is written.
+    fn joins(link: Option<Link>, other: RegNo, number: usize) -> bool
+        ensures { link_left other number link ≡ (if result then None else link) }
     {
-        let lost = written.number();
+        let other = other.number();
         match link {
-            Some(link) if lost == number || lost == link.of.number() => None,
-            _ => link,
+            Some(link) => other == number || other == link.of.number(),
+            None => false,
         }
     }
 
@@ -106,9 +106,10 @@ impl Link {
     }
 }
 
-/// The links of the registers.
+/// The links of the registers. Where there are not any, what stands in the list is none.
 #[derive(Clone, Copy)]
 pub struct Links {
+    any: bool,
     each: [Option<Link>; 11],
 }
 
@@ -117,7 +118,10 @@ impl Links {
     pub(crate) fn none() -> Links
         ensures { (k : ℕ) → link_at result k ≡ None }
     {
-        Links { each: [None; 11] }
+        Links {
+            any: false,
+            each: [None; 11],
+        }
     }
 
     /// The link of the register of a number.
@@ -125,15 +129,41 @@ impl Links {
         requires { number < 11 }
         ensures { result ≡ link_at self.now number }
     {
-        self.each[number]
+        if self.any { self.each[number] } else { None }
+    }
+
+    /// The same, where the link joins this register.
+    pub(crate) fn joining(&self, register: RegNo, number: usize) -> Option<Link>
+        requires { number < 11 }
+        ensures own { IfSome result (λ link. link_at self.now number ≡ Some link) }
+        ensures others { IfNone result (link_left register number (link_at self.now number) ≡ link_at self.now number) }
+    {
+        let link = self.at(number);
+        if Link::joins(link, register, number) {
+            link
+        } else {
+            None
+        }
     }
 
     /// Loses the links of a register that is written, and those with it.
     pub(crate) fn lose(&mut self, written: RegNo)
         ensures { AreLeft written self.old self.new }
     {
+        if self.any {
+            self.lose_each(written);
+        }
+    }
+
+    /// The same, where there may be some.
+    fn lose_each(&mut self, written: RegNo)
+        ensures same { self.new.any ≡ self.old.any }
+        ensures each { (k : ℕ) → k < 11 → slice_index_or self.new.each k None ≡ link_left written k (slice_index_or self.old.each k None) }
+    {
         for i in 0..11 {
-            self.each[i] = Link::left(self.each[i], written, i);
+            if Link::joins(self.each[i], written, i) {
+                self.each[i] = None;
+            }
         }
     }
 
@@ -141,8 +171,20 @@ impl Links {
     pub(crate) fn join(&mut self, other: &Links)
         ensures { AreLinksJoined self.old other.now self.new }
     {
+        if self.any && other.any {
+            self.join_each(&other.each);
+        } else {
+            self.any = false;
+        }
+    }
+
+    /// The same, where there may be some of both.
+    fn join_each(&mut self, other: &[Option<Link>; 11])
+        ensures same { self.new.any ≡ self.old.any }
+        ensures each { (k : ℕ) → k < 11 → IsLinkJoin (slice_index_or self.old.each k None) (slice_index_or other.now k None) (slice_index_or self.new.each k None) }
+    {
         for i in 0..11 {
-            self.each[i] = Link::agreed(self.each[i], other.each[i]);
+            self.each[i] = Link::agreed(self.each[i], other[i]);
         }
     }
 
@@ -184,11 +226,23 @@ impl Links {
             .of_register(register)
     }
 
+    /// Clears the list where it was not looked at.
+    fn open(&mut self)
+        ensures eleven { length self.new.each ≡ 11 }
+        ensures any { self.new.any ≡ true }
+        ensures same { (k : ℕ) → k < 11 → link_at self.new k ≡ link_at self.old k }
+    {
+        if !self.any {
+            self.each = [None; 11];
+            self.any = true;
+        }
+    }
+
     /// Sets the link of a register.
     pub(crate) fn put(&mut self, register: RegNo, link: Link)
-        ensures eleven { length self.old.each ≡ 11 }
-        ensures set { self.new.each ≡ slice_set self.old.each (reg_number register) (Some link) }
+        ensures { AreMade (Some (register, link)) self.old self.new }
     {
+        self.open();
         self.each[register.number()] = Some(link);
     }
 }

@@ -9,7 +9,7 @@ returns-then-not-refine_by-clause-narrowed c =
 
 pub loop-i-preserved : goal.loop-i-preserved
 loop-i-preserved c =
-    elim c.match-at.branch [
+    elim c.match-joining.branch [
       | in-Some+else-not-refine_by w ↦ rw w.self-is (narrowed_then c.args.self.now c.loop-i.self w.refine_by.new.self true c.loop-i.invariant (rw w.if-not-refine_by.false at w.refine_by.ensures.narrowed))
       | in_default w ↦ rw w.self-is c.loop-i.invariant
     ]

@@ -1,5 +1,0 @@
-use Rattle.verifier.proofs.Linked.{IsLeft, MadeBelow}
-use Rattle.verifier.proofs.link.Links.lose.Given as goal
-
-abbrev pub invariant-loop-i : goal.invariant-loop-i
-invariant-loop-i l = MadeBelow (IsLeft l.written) l.initial.self.each l.self.each l.i
