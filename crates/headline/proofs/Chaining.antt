@@ -5,13 +5,15 @@ use Rattle.std.specs.Str.{bytes_eq}
 use Rattle.std.proofs.lemmas.List.Elements.{All-append, All-filter}
 use Rattle.hook_host.specs.declared.host.HookHost.{Ghosts as Hosting}
 use Rattle.hook_record.specs.declared.Ask.{Ask}
-use Rattle.hook_chain.specs.Chains.{Named, IsInstalled, IsRemoved, hooks_of}
+use Rattle.hook_chain.specs.Chains.{Named, hooks_of}
+use Rattle.hook_chain.specs.contracts.chain.ChainHookHost.TheImpl as chains
 use Rattle.hook_chain.specs.Exits.{narrowed_by}
 use Rattle.hook_chain.specs.ExitLaws.{exits_are_runs}
 use Rattle.clients.specs.RegistryRecord.{RegistryRecord}
 use Rattle.consent.specs.History.{Event, Change}
 use Rattle.consent.specs.History.Change.{Consented, CodeGiven, Issued, Spent, FamilyEnded, HookSet, HookGone}
 use Rattle.endpoints.specs.Hosts.{HostStep, HostRun}
+use Rattle.endpoints.specs.Server.{outset_of}
 use Rattle.http_edge.specs.Edges.{SeenEdge}
 use Rattle.http_edge.specs.Schedule.{Happens, first_world}
 use Rattle.headline.specs.declared.call.EdgeCall.{EdgeCall}
@@ -32,7 +34,7 @@ all_one : (h : Named) → SafeNamed h → All SafeNamed (h ∷ [])
 all_one h safe zero d below = safe
 all_one h safe (suc k) d below = absurd (omega (arith, below))
 
-step_safe : (old new : List Named) (change : Change) → HostStep IsInstalled IsRemoved old change new → All SafeNamed old → All SafeNamed new
+step_safe : (old new : List Named) (change : Change) → HostStep chains.ghosts old change new → All SafeNamed old → All SafeNamed new
 step_safe old new (HookSet name version code) step safe =
     let hook = step.hook in
     let accepted = step.accepted in
@@ -48,16 +50,16 @@ step_safe old new (Spent digest) step safe = subst (λ hooks. All SafeNamed hook
 step_safe old new (FamilyEnded family) step safe = subst (λ hooks. All SafeNamed hooks) (sym step) safe
 
 -- all hooks of the chain are safe
-run_safe : (first now : List Named) (history : List Event) → HostRun IsInstalled IsRemoved first history now → All SafeNamed first → All SafeNamed now
+run_safe : (first now : List Named) (history : List Event) → HostRun chains.ghosts first history now → All SafeNamed first → All SafeNamed now
 run_safe first now [] run safe = subst (λ hooks. All SafeNamed hooks) (sym run) safe
 run_safe first now (e ∷ later) run safe = run_safe run.0 now later run.2 (step_safe first run.0 e.change run.1 safe)
 
 pub all_made : (hosting : Hosting (List Named)) (rules : RegistryRecord) (calls : List EdgeCall) (upshots : List Upshot) (edge : SeenEdge (List Named)) →
-    ((history : List Event) (host : List Named) → HostRun hosting.installs hosting.removes [] history host → HostRun IsInstalled IsRemoved [] history host) →
+    ((history : List Event) (host : List Named) → HostRun hosting [] history host → HostRun chains.ghosts [] history host) →
     ((host : List Named) (ask : Ask) → hosting.answer host ask ≡ narrowed_by (hooks_of host) ask) →
-    Progress hosting rules [] calls upshots edge → IsMade hosting rules calls upshots edge
+    Progress hosting (outset_of rules []) calls upshots edge → IsMade hosting rules calls upshots edge
 all_made hosting rules calls upshots edge chain answers p =
-    let happens = Happens hosting rules [] in
+    let happens = Happens hosting (outset_of rules []) in
     record {
       schedule = p.schedule;
       last = p.world;
@@ -70,8 +72,9 @@ all_made hosting rules calls upshots edge chain answers p =
             given_is = talk.stream;
             none_passed = talk.none;
             rest = talk.rest;
+            reads = talk.reads;
             requests = talk.requests;
-            outcomes = talk.outcomes;
+            asked = talk.asked;
             each = talk.each;
             replies = talk.replies;
             answers_are = ap (λ l. taken_after c [] calls upshots ++ l) (shown edge.lanes p.world.connections c connection p.reached.shows here).1 ∙ talk.output;

@@ -1,10 +1,10 @@
 -- Calls that lead from one world to another, one more at a time.
 use Rattle.std.proofs.Common.{◌≡◌, ℕ, List, [], ◌∷◌, ◌++◌, length, take, append-nil, refl, sym, ap, subst, ◌∙◌}
 use Rattle.hook_host.specs.declared.host.HookHost.{Ghosts as Hosting}
-use Rattle.clients.specs.RegistryRecord.{RegistryRecord}
-use Rattle.http_edge.specs.Schedule.{World, Happening, Opened, Came, HasEnded, Taken, Forgotten, Happens, connection_at, first_world, untaken}
+use Rattle.endpoints.specs.Server.{Outset}
+use Rattle.http_edge.specs.Schedule.{World, Happening, Opened, Came, HasEnded, Taken, Forgotten, Happens, connection_at, first_world, piece_of, untaken}
 use Rattle.http_edge.specs.Edges.{SeenEdge}
-use Rattle.http_edge.specs.Reached.{Reached}
+use Rattle.http_edge.specs.Reached.{Journey, Reached, new_journey}
 use Rattle.http_edge.proofs.Showing.{shows_output}
 use Rattle.http_edge.specs.declared.event.Event.TheVariants as event
 use Rattle.headline.specs.declared.call.EdgeCall.{EdgeCall}
@@ -89,16 +89,19 @@ module _ (happens : World → Happening → World → Type 0) where
   taken_on old (x ∷ calls) (Done bytes ∷ upshots) (e ∷ schedule) new l c before call upshot =
       taken_on l.2 calls upshots schedule new l.4 c (taken_by c before x bytes.items) call upshot
 
-module _ {H : Type 0} (hosting : Hosting H) (rules : RegistryRecord) (first : H) where
+module _ {H : Type 0} (hosting : Hosting H) (outset : Outset H) where
   -- the calls so far were made, and left this edge
   pub record Progress (calls : List EdgeCall) (upshots : List Upshot) (edge : SeenEdge H) : Type 0 where
     pub schedule : List Happening
     pub world : World
-    pub reached : Reached hosting edge rules first schedule world
-    pub lead : Lead (Happens hosting rules first) first_world calls upshots schedule world
-    pub talks : Talks hosting rules first world.connections (λ c. given_after c [] calls upshots) (λ c. taken_after c [] calls upshots)
+    pub reached : Reached hosting edge (record { outset = outset; schedule = schedule; world = world })
+    pub lead : Lead (Happens hosting outset) first_world calls upshots schedule world
+    pub talks : Talks hosting outset world.connections (λ c. given_after c [] calls upshots) (λ c. taken_after c [] calls upshots)
 
-  pub nothing_made : (edge : SeenEdge H) → Reached hosting edge rules first [] first_world → Progress [] [] edge
+  abbrev journey_of : {calls : List EdgeCall} {upshots : List Upshot} {edge : SeenEdge H} → Progress calls upshots edge → Journey H
+  journey_of p = record { outset = outset; schedule = p.schedule; world = p.world }
+
+  pub nothing_made : (edge : SeenEdge H) → Reached hosting edge (new_journey outset) → Progress [] [] edge
   nothing_made edge reached = record { schedule = []; world = first_world; reached = reached; lead = refl; talks = λ d k here. absurd (cc) }
 
   -- with one more
@@ -110,50 +113,50 @@ module _ {H : Type 0} (hosting : Hosting H) (rules : RegistryRecord) (first : H)
     taken c = taken_after c [] calls upshots
 
     goes_on : (call : EdgeCall) (upshot : Upshot) (added : List Happening) (world : World) →
-        Lead (Happens hosting rules first) p.world (call ∷ []) (upshot ∷ []) added world →
-        Reached hosting new rules first (p.schedule ++ added) world →
-        Talks hosting rules first world.connections (λ c. given_after c (given c) (call ∷ []) (upshot ∷ [])) (λ c. taken_after c (taken c) (call ∷ []) (upshot ∷ [])) →
+        Lead (Happens hosting outset) p.world (call ∷ []) (upshot ∷ []) added world →
+        Reached hosting new (record { outset = outset; schedule = p.schedule ++ added; world = world }) →
+        Talks hosting outset world.connections (λ c. given_after c (given c) (call ∷ []) (upshot ∷ [])) (λ c. taken_after c (taken c) (call ∷ []) (upshot ∷ [])) →
         Progress (calls ++ call ∷ []) (upshots ++ upshot ∷ []) new
     goes_on call upshot added world lead reached talks =
-        let happens = Happens hosting rules first in
+        let happens = Happens hosting outset in
         record {
           schedule = p.schedule ++ added;
           world = world;
           reached = reached;
           lead = lead_join happens first_world calls upshots p.schedule p.world (call ∷ []) (upshot ∷ []) added world p.lead lead;
           talks = λ d k here.
-              subst (λ g. Talk hosting rules first g (taken_after d [] (calls ++ call ∷ []) (upshots ++ upshot ∷ [])) k)
+              subst (λ g. Talk hosting outset g (taken_after d [] (calls ++ call ∷ []) (upshots ++ upshot ∷ [])) k)
               (sym (given_on happens first_world calls upshots p.schedule p.world p.lead d [] call upshot))
-              (subst (λ t. Talk hosting rules first (given_after d (given d) (call ∷ []) (upshot ∷ [])) t k)
+              (subst (λ t. Talk hosting outset (given_after d (given d) (call ∷ []) (upshot ∷ [])) t k)
               (sym (taken_on happens first_world calls upshots p.schedule p.world p.lead d [] call upshot)) (talks d k here));
         }
 
     pub one_more : (call : EdgeCall) (upshot : Upshot) → CallLeads hosting old new call upshot → Progress (calls ++ call ∷ []) (upshots ++ upshot ∷ []) new
     one_more call (Refused fault) leads =
-        goes_on call (Refused fault) [] p.world (leads.1 rules first p.schedule p.world p.reached, refl)
-        (subst (λ edge. Reached hosting edge rules first (p.schedule ++ []) p.world) (sym leads.0)
-        (subst (λ schedule. Reached hosting old rules first schedule p.world) (sym (append-nil p.schedule)) p.reached)) p.talks
+        goes_on call (Refused fault) [] p.world (leads.1 (journey_of p) p.reached, refl)
+        (subst (λ edge. Reached hosting edge (record { outset = outset; schedule = p.schedule ++ []; world = p.world })) (sym leads.0)
+        (subst (λ schedule. Reached hosting old (record { outset = outset; schedule = schedule; world = p.world })) (sym (append-nil p.schedule)) p.reached)) p.talks
     one_more (Event (event.Open c)) (Done bytes) leads =
-        let on = leads.1 rules first p.schedule p.world p.reached in
+        let on = leads.1 (journey_of p) p.reached in
         goes_on (Event (event.Open c)) (Done bytes) (Opened c ∷ []) on.world (refl, leads.0, on.world, on.happens, refl) on.reached
-        (talks_opened hosting rules first p.world on.world c given taken p.talks on.happens)
+        (talks_opened hosting outset p.world on.world c given taken p.talks on.happens)
     one_more (Event (event.Bytes c piece moment draws)) (Done bytes) leads =
-        let came = leads.1 rules first p.schedule p.world p.reached in
-        let e = Came c piece.now moment draws.now came.marks came.closes in
+        let came = leads.1 (journey_of p) p.reached in
+        let e = Came (record { piece = piece_of c piece.now moment; draws = draws.now; marks = came.marks; closes = came.closes }) in
         goes_on (Event (event.Bytes c piece moment draws)) (Done bytes) (e ∷ []) came.on.world
         ((came.marks, came.closes, refl), leads.0, came.on.world, came.on.happens, refl) came.on.reached
-        (talks_came hosting rules first p.world came.on.world c given taken p.talks old.lanes p.reached.shows piece.now moment draws.now came.marks came.closes came.on.happens.1)
+        (talks_came hosting outset p.world came.on.world c given taken p.talks old.lanes p.reached.shows piece.now moment draws.now came.marks came.closes came.on.happens.1)
     one_more (Event (event.End c)) (Done bytes) leads =
-        let on = leads.1 rules first p.schedule p.world p.reached in
+        let on = leads.1 (journey_of p) p.reached in
         goes_on (Event (event.End c)) (Done bytes) (HasEnded c ∷ []) on.world (refl, leads.0, on.world, on.happens, refl) on.reached
-        (talks_ended hosting rules first p.world on.world c given taken p.talks on.happens)
+        (talks_ended hosting outset p.world on.world c given taken p.talks on.happens)
     one_more (Take c most) (Done bytes) leads =
-        let on = leads.1 rules first p.schedule p.world p.reached in
+        let on = leads.1 (journey_of p) p.reached in
         let is : bytes.items ≡ take most (untaken (connection_at p.world.connections c)) =
         leads.0 ∙ ap (take most) (shows_output old.lanes p.world.connections c p.reached.shows) in
         goes_on (Take c most) (Done bytes) (Taken c (length bytes.items) ∷ []) on.world (refl, is, on.world, on.happens, refl) on.reached
-        (talks_taken hosting rules first p.world on.world c given taken p.talks most bytes.items is on.happens)
+        (talks_taken hosting outset p.world on.world c given taken p.talks most bytes.items is on.happens)
     one_more (Forget c) (Done bytes) leads =
-        let on = leads.1 rules first p.schedule p.world p.reached in
+        let on = leads.1 (journey_of p) p.reached in
         goes_on (Forget c) (Done bytes) (Forgotten c ∷ []) on.world (refl, leads.0, on.world, on.happens, refl) on.reached
-        (talks_forgotten hosting rules first p.world on.world c given taken p.talks on.happens)
+        (talks_forgotten hosting outset p.world on.world c given taken p.talks on.happens)

@@ -1,5 +1,5 @@
 -- What the server is proved to do, in one sentence.
-use Rattle.std.specs.Prelude.{◌≡◌, ◌↔◌, ⊤, ℕ, List, [], ◌∷◌, ◌++◌, All, Some, false, length}
+use Rattle.std.specs.Prelude.{◌≡◌, ◌↔◌, ℕ, List, [], ◌++◌, All, Some, false, length}
 use Rattle.insn.specs.Step.{Safe}
 use Rattle.insn.specs.Values.{IsRecord, start}
 use Rattle.hook_host.specs.declared.host.HookHost.{Ghosts as Hosting}
@@ -9,11 +9,10 @@ use Rattle.hook_chain.specs.Chains.{Named, hooks_of}
 use Rattle.hook_chain.specs.Exits.{Exit, IsRunTo, exit_within, narrowed_by}
 use Rattle.clients.specs.RegistryRecord.{RegistryRecord}
 use Rattle.consent.specs.History.{Event}
-use Rattle.messages.specs.declared.request.Draws.{Draws}
-use Rattle.answers.specs.Outcomes.{Outcome}
-use Rattle.heads.specs.Message.{Message, Messages, asked_of_message}
+use Rattle.heads.specs.Message.{Messages}
 use Rattle.endpoints.specs.Bounded.{IsBounded}
-use Rattle.http_edge.specs.Answers.{IsOutcomeOfRequest, AnswerMark, replies_of}
+use Rattle.endpoints.specs.Server.{Outset, outset_of}
+use Rattle.http_edge.specs.Answers.{AnsweredRequest, IsOutcomeOfRequest, AreAskedBy, replies_of}
 use Rattle.http_edge.specs.Edges.{SeenEdge, output_of}
 use Rattle.http_edge.specs.Schedule.{World, Connection, Happening, Happens, Run, connection_at, faulty_if, is_closing_phase}
 use Rattle.http_edge.specs.Schedule as world
@@ -21,22 +20,11 @@ use Rattle.headline.specs.declared.call.EdgeCall.{EdgeCall}
 use Rattle.headline.specs.declared.call.Upshot.{Upshot}
 use Rattle.headline.specs.Calls.{AreSchedule, AreUpshots, given_after, taken_after}
 
--- The request has the outcome at a moment and after a history, by draws of its own. Which ones they are is said by the
--- schedule.
-pub record HasOutcome {H : Type 0} (hosting : Hosting H) (rules : RegistryRecord) (first : H) (request : Message)
-    (outcome : Outcome) : Type 0 where
+-- The request has its outcome at a moment and after a history. Which ones they are is said by the schedule.
+pub record HasOutcome {H : Type 0} (hosting : Hosting H) (outset : Outset H) (request : AnsweredRequest) : Type 0 where
   pub moment : ℕ
   pub history : List Event
-  pub draws : Draws
-  pub mark : AnswerMark
-  pub answered : IsOutcomeOfRequest hosting rules first moment history (asked_of_message request) draws mark outcome
-
--- each request has its outcome, in their order
-abbrev pub HaveOutcomes : {H : Type 0} → Hosting H → RegistryRecord → H → List Message → List Outcome → Type 0
-HaveOutcomes hosting rules first [] [] = ⊤
-HaveOutcomes hosting rules first (request ∷ requests) (outcome ∷ outcomes) =
-    HasOutcome hosting rules first request outcome × HaveOutcomes hosting rules first requests outcomes
-HaveOutcomes hosting rules first requests outcomes = ⊥
+  pub answered : IsOutcomeOfRequest hosting outset moment history request
 
 -- What was given to a connection is its stream and, behind a faulty head, what passed by; its requests are the messages in
 -- the stream; and what is answered is all its output: the written replies to the requests, in their order, and behind them
@@ -47,11 +35,12 @@ pub record Conversation (hosting : Hosting (List Named)) (rules : RegistryRecord
   pub given_is : given ≡ connection.stream ++ passed
   pub none_passed : is_closing_phase connection.phase ≡ false → passed ≡ []
   pub rest : List ℕ
-  pub requests : Messages connection.stream connection.messages rest
+  pub reads : Messages connection.stream connection.messages rest
   pub answers_are : answers ≡ connection.output
-  pub outcomes : List Outcome
-  pub each : HaveOutcomes hosting rules [] connection.messages outcomes
-  pub replies : connection.output ≡ replies_of outcomes ++ faulty_if (is_closing_phase connection.phase)
+  pub requests : List AnsweredRequest
+  pub asked : AreAskedBy connection.messages requests
+  pub each : All (λ request. HasOutcome hosting (outset_of rules []) request) requests
+  pub replies : connection.output ≡ replies_of requests ++ faulty_if (is_closing_phase connection.phase)
 
 -- On each record of its version the hook's program exits after at most as many steps as it has instructions, and the exit
 -- by which it answers is the one of its run.
@@ -69,7 +58,7 @@ pub record IsMade (hosting : Hosting (List Named)) (rules : RegistryRecord) (cal
   -- the calls that were not refused are the schedule
   pub scheduled : AreSchedule calls upshots schedule
   -- the world is that of the schedule
-  pub led : Run hosting rules [] world.first_world schedule last
+  pub led : Run hosting (outset_of rules []) world.first_world schedule last
   -- the bytes of each connection, taken and to be taken, are the replies to the requests in the bytes given to it
   pub answered : (c : ℕ) (connection : Connection) → connection_at last.connections c ≡ Some connection →
       Conversation hosting rules (given_after c [] calls upshots) (taken_after c [] calls upshots ++ output_of edge c) connection
@@ -79,4 +68,4 @@ pub record IsMade (hosting : Hosting (List Named)) (rules : RegistryRecord) (cal
   pub hooks : All (λ named. IsSafeHook named.hook) edge.server.host
   pub answers : (ask : Ask) → hosting.answer edge.server.host ask ≡ narrowed_by (hooks_of edge.server.host) ask
   -- each call had its upshot where those before it lead: one that was refused has its cause there
-  pub caused : AreUpshots (Happens hosting rules []) world.first_world calls upshots schedule
+  pub caused : AreUpshots (Happens hosting (outset_of rules [])) world.first_world calls upshots schedule

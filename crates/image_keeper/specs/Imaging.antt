@@ -1,16 +1,14 @@
 -- What a keeper holds once an image of a server stands in the place of what it kept.
 use Rattle.std.specs.Prelude.{ℕ, List}
 use Rattle.change_codec.specs.Keeping.{Crashes, Keeps, KeepsNot}
-use Rattle.clients.specs.RegistryRecord.{RegistryRecord}
 use Rattle.consent.specs.History.{Event}
-use Rattle.endpoints.specs.Server.{SeenServer, FitsServer}
+use Rattle.endpoints.specs.Server.{SeenServer, Outset, FitsServer}
 use Rattle.hook_host.specs.declared.host.HookHost.{Ghosts as Hosting}
 
 -- so it is of each history that the server fits
 abbrev pub OfFitted : {H : Type 0} → Hosting H → SeenServer H → (List Event → Type 0) → Type 0
 OfFitted {H = H} hosting server claim =
-    (rules : RegistryRecord) (first : H) (history : List Event) (m : ℕ) →
-    FitsServer hosting.installs hosting.removes server rules first history m → claim history
+    (outset : Outset H) (history : List Event) (m : ℕ) → FitsServer hosting server outset history m → claim history
 
 -- The keeper held the history: it holds it still, and a crash meanwhile left what stands for it.
 abbrev pub KeepsImage : {H K : Type 0} → Hosting H → Crashes K → SeenServer H → K → K → Type 0

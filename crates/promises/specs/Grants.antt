@@ -11,7 +11,7 @@ use Rattle.hook_host.specs.declared.host.HookHost.{Ghosts as Hosting}
 use Rattle.messages.specs.Reply.{Body}
 use Rattle.messages.specs.Reply.Body.{Active}
 use Rattle.endpoints.specs.Bounded.{IsOwn, MayHave, token_life_limit}
-use Rattle.endpoints.specs.Server.{SeenServer, FitsServer}
+use Rattle.endpoints.specs.Server.{SeenServer, Outset, FitsServer}
 use Rattle.promises.specs.Occasions.{Occasion, reply_on}
 
 -- the scope is within what the client may have and, unless the token is the client's own, within what the owner consents to now
@@ -63,5 +63,5 @@ AreOfClients rules history =
 -- so it is of the rules and the history of each server
 abbrev pub InEachHistory : {H : Type 0} → Hosting H → (RegistryRecord → List Event → Type 0) → Type 0
 InEachHistory {H = H} hosting fact =
-    (server : SeenServer H) (rules : RegistryRecord) (first : H) (history : List Event) (m : ℕ) →
-    FitsServer hosting.installs hosting.removes server rules first history m → fact rules history
+    (server : SeenServer H) (outset : Outset H) (history : List Event) (m : ℕ) →
+    FitsServer hosting server outset history m → fact outset.rules history

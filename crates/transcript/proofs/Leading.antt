@@ -1,13 +1,13 @@
 -- Lines that lead from one edge to another.
-use Rattle.std.proofs.Common.{◌≡◌, ◌<◌, ◌≤◌, ◌+◌, ℕ, suc, zero, List, [], ◌∷◌, ◌++◌, false, Bor, map, take, drop, get_or, length, flat_map, Result, Err, IfErr, refl, sym, ap, ◌∙◌, subst, append_assoc, append-nil, arith, rules}
+use Rattle.std.proofs.Common.{◌≡◌, ◌<◌, ◌≤◌, ◌+◌, ℕ, suc, zero, List, [], ◌∷◌, ◌++◌, false, Bor, map, take, drop, get_or, length, flat_map, Result, Err, IfErr, refl, sym, ap, ◌∙◌, subst, append_assoc, append-nil, arith}
 use Rattle.std.proofs.lemmas.List.{take_all}
 use Rattle.hook_host.specs.declared.host.HookHost.{Ghosts as Hosting}
-use Rattle.http_edge.specs.Schedule.{Happening, Opened, Came, HasEnded, first_world}
+use Rattle.http_edge.specs.Schedule.{Happening, Opened, Came, HasEnded, first_world, piece_of}
 use Rattle.http_edge.specs.Edges.{SeenEdge}
 use Rattle.transcript.specs.Lines.{Statement, Opens, Brings, Ends, States}
 use Rattle.transcript.specs.Events.{LineStandsFor, StandFor}
 use Rattle.transcript.specs.Faults.{IsLineFault}
-use Rattle.transcript.specs.Running.{StatementLeads, LineLeads, LineFails, RunTo, RunsLines, LinesFail, opened_at, opened_by}
+use Rattle.transcript.specs.Running.{StatementLeads, LineLeads, LineFails, RunTo, RunsLines, LinesFail, edge_opened, opened_at, opened_by}
 use Rattle.transcript.specs.declared.fault.ReplayFault.{ReplayFault}
 
 abbrev pub texts : List (Bor (List ℕ)) → List (List ℕ)
@@ -48,16 +48,16 @@ stand_on (l ∷ lines) (f ∷ schedule) line e h one = (h.0, stand_on lines sche
 -- ---- runs
 
 pub nothing_run : {H : Type 0} (hosting : Hosting H) (edge : SeenEdge H) → RunsLines hosting edge edge [] []
-nothing_run hosting edge = λ rules first reached. record { schedule = []; stand_for = tt {0}; world = first_world; reached = reached; opened_are = refl }
+nothing_run hosting edge = λ outset reached. record { schedule = []; stand_for = tt {0}; world = first_world; reached = reached; opened_are = refl }
 
 pub run_on : {H : Type 0} (hosting : Hosting H) (old middle new : SeenEdge H) (lines : List (List ℕ)) (line opened opened' : List ℕ)
-    → RunsLines hosting old middle lines opened → LineLeads hosting middle new opened opened' line → RunsLines hosting old new (lines ++ line ∷ []) opened'
-run_on hosting old middle new lines line opened opened' before step = λ rules first reached. by_statement rules first (before rules first reached) step.statement step.states step.leads step.opened_are
+    → RunsLines hosting old middle lines opened → LineLeads hosting (edge_opened middle opened) line (edge_opened new opened') → RunsLines hosting old new (lines ++ line ∷ []) opened'
+run_on hosting old middle new lines line opened opened' before step = λ outset reached. by_statement outset (before outset reached) step.statement step.states step.leads step.opened_are
   where
-    by_statement : (rules : _) (first : _) (run : RunTo hosting rules first lines middle opened) (statement : Statement) → States line statement → StatementLeads hosting middle new statement
-        → opened' ≡ opened ++ opened_by statement → RunTo hosting rules first (lines ++ line ∷ []) new opened'
-    by_statement rules first run (Opens c) states leads opened_are =
-        let on = leads rules first run.schedule run.world run.reached in
+    by_statement : (outset : _) (run : RunTo hosting outset lines middle opened) (statement : Statement) → States line statement → StatementLeads hosting middle new statement
+        → opened' ≡ opened ++ opened_by statement → RunTo hosting outset (lines ++ line ∷ []) new opened'
+    by_statement outset run (Opens c) states leads opened_are =
+        let on = leads (record { outset = outset; schedule = run.schedule; world = run.world }) run.reached in
         record {
           schedule = run.schedule ++ Opened c ∷ [];
           stand_for = stand_on lines run.schedule line (Opened c) run.stand_for (record { statement = Opens c; states = states; marks = []; closes = false; event_is = refl });
@@ -65,17 +65,18 @@ run_on hosting old middle new lines line opened opened' before step = λ rules f
           reached = on.reached;
           opened_are = opened_are ∙ ap (λ (o : List ℕ). o ++ c ∷ []) run.opened_are ∙ sym (opened_on run.schedule (Opened c));
         }
-    by_statement rules first run (Brings c moment draws piece) states leads opened_are =
-        let on = leads rules first run.schedule run.world run.reached in
+    by_statement outset run (Brings c moment draws piece) states leads opened_are =
+        let on = leads (record { outset = outset; schedule = run.schedule; world = run.world }) run.reached in
+        let e = Came (record { piece = piece_of c piece moment; draws = draws; marks = on.marks; closes = on.closes }) in
         record {
-          schedule = run.schedule ++ Came c piece moment draws on.marks on.closes ∷ [];
-          stand_for = stand_on lines run.schedule line (Came c piece moment draws on.marks on.closes) run.stand_for (record { statement = Brings c moment draws piece; states = states; marks = on.marks; closes = on.closes; event_is = refl });
+          schedule = run.schedule ++ e ∷ [];
+          stand_for = stand_on lines run.schedule line e run.stand_for (record { statement = Brings c moment draws piece; states = states; marks = on.marks; closes = on.closes; event_is = refl });
           world = on.on.world;
           reached = on.on.reached;
-          opened_are = opened_are ∙ ap (λ (o : List ℕ). o ++ []) run.opened_are ∙ sym (opened_on run.schedule (Came c piece moment draws on.marks on.closes));
+          opened_are = opened_are ∙ ap (λ (o : List ℕ). o ++ []) run.opened_are ∙ sym (opened_on run.schedule e);
         }
-    by_statement rules first run (Ends c) states leads opened_are =
-        let on = leads rules first run.schedule run.world run.reached in
+    by_statement outset run (Ends c) states leads opened_are =
+        let on = leads (record { outset = outset; schedule = run.schedule; world = run.world }) run.reached in
         record {
           schedule = run.schedule ++ HasEnded c ∷ [];
           stand_for = stand_on lines run.schedule line (HasEnded c) run.stand_for (record { statement = Ends c; states = states; marks = []; closes = false; event_is = refl });
@@ -86,7 +87,7 @@ run_on hosting old middle new lines line opened opened' before step = λ rules f
 
 -- one line more was run
 pub run_line_on : {H : Type 0} (hosting : Hosting H) (old middle new : SeenEdge H) (lines : List (Bor (List ℕ))) (i : ℕ) (d : Bor (List ℕ)) (opened opened' : List ℕ) → i < length lines
-    → RunsLines hosting old middle (texts (take i lines)) opened → LineLeads hosting middle new opened opened' (get_or lines i d).now → RunsLines hosting old new (texts (take (i + 1) lines)) opened'
+    → RunsLines hosting old middle (texts (take i lines)) opened → LineLeads hosting (edge_opened middle opened) (get_or lines i d).now (edge_opened new opened') → RunsLines hosting old new (texts (take (i + 1) lines)) opened'
 run_line_on hosting old middle new lines i d opened opened' below before step =
     subst (λ (front : List (List ℕ)). RunsLines hosting old new front opened') (sym (ap (λ (n : ℕ). texts (take n lines)) (next i) ∙ texts_to lines i d below))
     (run_on hosting old middle new (texts (take i lines)) (get_or lines i d).now opened opened' before step)
@@ -94,8 +95,8 @@ run_line_on hosting old middle new lines i d opened opened' below before step =
 -- a line has a fault behind those that were run
 pub stops_at : {H : Type 0} (hosting : Hosting H) (old middle : SeenEdge H) (lines : List (Bor (List ℕ))) (i : ℕ) (d : Bor (List ℕ)) (opened : List ℕ) (number : ℕ) (fault : ReplayFault) → i < length lines
     → number ≡ i + 2 → RunsLines hosting old middle (texts (take i lines)) opened → LineFails hosting middle number (get_or lines i d).now fault → LinesFail hosting old (texts lines) fault
-stops_at hosting old middle lines i d opened number fault below number_is before fails = λ not_memory rules first reached.
-    let run = before rules first reached in
+stops_at hosting old middle lines i d opened number fault below number_is before fails = λ not_memory outset reached.
+    let run = before outset reached in
     let count : number ≡ length (texts (take i lines)) + 2 = let l = texts_length lines i below in omega arith in
     record {
       before = texts (take i lines);
@@ -104,7 +105,7 @@ stops_at hosting old middle lines i d opened number fault below number_is before
       lines_are = texts_at lines i d below;
       world = run.world;
       lead = record { schedule = run.schedule; stand_for = run.stand_for; run = run.reached.run };
-      fault_is = subst (λ (n : ℕ). IsLineFault run.world.connections n (get_or lines i d).now fault) count (fails rules first run.schedule run.world run.reached);
+      fault_is = subst (λ (n : ℕ). IsLineFault run.world.connections n (get_or lines i d).now fault) count (fails (record { outset = outset; schedule = run.schedule; world = run.world }) run.reached);
     }
 
 -- all lines were run

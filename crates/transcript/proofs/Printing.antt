@@ -1,9 +1,9 @@
 -- What is printed of an edge is all that went to its connections.
-use Rattle.std.proofs.Common.{◌≡◌, ◌≢◌, ℕ, List, [], ◌∷◌, ◌++◌, Bool, true, false, Option, Some, None, inl, inr, ◌==◌, map, flat_map, drop, refl, sym, ap, ◌∙◌, subst, append_assoc, append-nil, ◌⊎◌, arith, rules}
+use Rattle.std.proofs.Common.{◌≡◌, ◌≢◌, ℕ, List, [], ◌∷◌, ◌++◌, Bool, true, false, Option, Some, None, inl, inr, ◌==◌, map, flat_map, drop, refl, sym, ap, ◌∙◌, subst, append_assoc, append-nil, ◌⊎◌, arith}
 use Rattle.std.specs.List.{AllByRecursion}
 use Rattle.std.proofs.lemmas.Bool.Decides.{nat_tests}
 use Rattle.hook_host.specs.declared.host.HookHost.{Ghosts as Hosting}
-use Rattle.clients.specs.RegistryRecord.{RegistryRecord}
+use Rattle.endpoints.specs.Server.{Outset}
 use Rattle.http_edge.specs.Answers.{AnswerMark}
 use Rattle.http_edge.specs.Schedule.{ended, World, Connection, Happening, Opened, Came, HasEnded, Taken, Forgotten, Kept, Resumed, PieceComes, PiecePasses, Happens, Run, first_world, fresh, heard, connection_at, with_connection}
 use Rattle.http_edge.specs.Lanes.{SeenLane, lane_at, output_in, ShowsConnections}
@@ -95,7 +95,7 @@ same_numbers ks ns whole = subst (AreWhole ks) (sym (append-nil ns)) whole
 -- what a statement is
 abbrev IsStated : Happening → Type 0
 IsStated (Opened c) = Unit {0}
-IsStated (Came c piece moment draws marks closes) = Unit {0}
+IsStated (Came came) = Unit {0}
 IsStated (HasEnded c) = Unit {0}
 IsStated (Taken c n) = ⊥
 IsStated (Forgotten c) = ⊥
@@ -110,31 +110,31 @@ all_stated (Ends c) marks closes = tt
 is_stated : (line : List ℕ) (e : Happening) → LineStandsFor line e → IsStated e
 is_stated line e stands = subst IsStated (sym stands.event_is) (all_stated stands.statement stands.marks stands.closes)
 
-happens_whole : {H : Type 0} (hosting : Hosting H) (rules : RegistryRecord) (first : H) (old new : World) (line : List ℕ) (e : Happening) (ns : List ℕ) → LineStandsFor line e
-    → Happens hosting rules first old e new → AreWhole old.connections ns → AreWhole new.connections (ns ++ opened_at e)
-happens_whole hosting rules first old new line (Opened c) ns stands h whole =
+happens_whole : {H : Type 0} (hosting : Hosting H) (outset : Outset H) (old new : World) (line : List ℕ) (e : Happening) (ns : List ℕ) → LineStandsFor line e
+    → Happens hosting outset old e new → AreWhole old.connections ns → AreWhole new.connections (ns ++ opened_at e)
+happens_whole hosting outset old new line (Opened c) ns stands h whole =
     subst (λ (ks : List Connection). AreWhole ks (ns ++ c ∷ [])) (sym h.connections) (added_whole old.connections ns c h.absent whole)
-happens_whole hosting rules first old new line (Came c piece moment draws marks closes) ns stands h whole = same_numbers new.connections ns (by_way h.1)
+happens_whole hosting outset old new line (Came came) ns stands h whole = same_numbers new.connections ns (by_way h.1)
   where
-    by_way : (PieceComes hosting rules first old new c piece moment draws marks closes ⊎ PiecePasses old new c marks closes) → AreWhole new.connections ns
+    by_way : (PieceComes hosting outset old came new ⊎ PiecePasses old came new) → AreWhole new.connections ns
     by_way (inl comes) = subst (λ (ks : List Connection). AreWhole ks ns) (sym comes.connections)
-        (with_whole old.connections ns c comes.before (heard comes.before piece comes.messages comes.outcomes closes) comes.here refl refl whole)
+        (with_whole old.connections ns came.piece.connection comes.before (heard comes.before came.piece.bytes comes.messages comes.requests came.closes) comes.here refl refl whole)
     by_way (inr passes) = subst (λ (w : World). AreWhole w.connections ns) (sym passes.same) whole
-happens_whole hosting rules first old new line (HasEnded c) ns stands h whole =
+happens_whole hosting outset old new line (HasEnded c) ns stands h whole =
     same_numbers new.connections ns (subst (λ (ks : List Connection). AreWhole ks ns) (sym h.connections) (with_whole old.connections ns c h.before (record h.before { phase = ended h.before.phase }) h.here refl refl whole))
-happens_whole hosting rules first old new line (Taken c n) ns stands h whole = absurd (is_stated line (Taken c n) stands)
-happens_whole hosting rules first old new line (Forgotten c) ns stands h whole = absurd (is_stated line (Forgotten c) stands)
-happens_whole hosting rules first old new line Kept ns stands h whole = absurd (is_stated line Kept stands)
-happens_whole hosting rules first old new line (Resumed history greatest) ns stands h whole = absurd (is_stated line (Resumed history greatest) stands)
+happens_whole hosting outset old new line (Taken c n) ns stands h whole = absurd (is_stated line (Taken c n) stands)
+happens_whole hosting outset old new line (Forgotten c) ns stands h whole = absurd (is_stated line (Forgotten c) stands)
+happens_whole hosting outset old new line Kept ns stands h whole = absurd (is_stated line Kept stands)
+happens_whole hosting outset old new line (Resumed history greatest) ns stands h whole = absurd (is_stated line (Resumed history greatest) stands)
 
-run_whole : {H : Type 0} (hosting : Hosting H) (rules : RegistryRecord) (first : H) (lines : List (List ℕ)) (schedule : List Happening) (old new : World) (ns : List ℕ) → StandFor lines schedule
-    → Run hosting rules first old schedule new → AreWhole old.connections ns → AreWhole new.connections (ns ++ flat_map opened_at schedule)
-run_whole hosting rules first [] [] old new ns stand run whole = same_numbers new.connections ns (subst (λ (w : World). AreWhole w.connections ns) (sym run) whole)
-run_whole hosting rules first [] (e ∷ schedule) old new ns stand run whole = absurd stand
-run_whole hosting rules first (line ∷ lines) [] old new ns stand run whole = absurd stand
-run_whole hosting rules first (line ∷ lines) (e ∷ schedule) old new ns stand run whole =
+run_whole : {H : Type 0} (hosting : Hosting H) (outset : Outset H) (lines : List (List ℕ)) (schedule : List Happening) (old new : World) (ns : List ℕ) → StandFor lines schedule
+    → Run hosting outset old schedule new → AreWhole old.connections ns → AreWhole new.connections (ns ++ flat_map opened_at schedule)
+run_whole hosting outset [] [] old new ns stand run whole = same_numbers new.connections ns (subst (λ (w : World). AreWhole w.connections ns) (sym run) whole)
+run_whole hosting outset [] (e ∷ schedule) old new ns stand run whole = absurd stand
+run_whole hosting outset (line ∷ lines) [] old new ns stand run whole = absurd stand
+run_whole hosting outset (line ∷ lines) (e ∷ schedule) old new ns stand run whole =
     subst (AreWhole new.connections) (append_assoc ns (opened_at e) (flat_map opened_at schedule))
-    (run_whole hosting rules first lines schedule run.0 new (ns ++ opened_at e) stand.1 run.2 (happens_whole hosting rules first old run.0 line e ns stand.0 run.1 whole))
+    (run_whole hosting outset lines schedule run.0 new (ns ++ opened_at e) stand.1 run.2 (happens_whole hosting outset old run.0 line e ns stand.0 run.1 whole))
 
 -- ---- printing
 
@@ -177,12 +177,12 @@ shown_printed (lane ∷ lanes) (k ∷ ks) shows untaken differ =
 -- lines that were run are answered by what is printed of the edge
 pub answered : {H : Type 0} (hosting : Hosting H) (old new : SeenEdge H) (lines : List (List ℕ)) (opened output : List ℕ)
     → RunsLines hosting old new lines opened → output ≡ printed_from new opened → AnswersLines hosting old lines output
-answered hosting old new lines opened output runs is = λ rules first reached. from_run rules first (runs rules first reached)
+answered hosting old new lines opened output runs is = λ outset reached. from_run outset (runs outset reached)
   where
-    from_run : (rules : RegistryRecord) (first : _) → RunTo hosting rules first lines new opened → IsOutputOfLines hosting rules first lines output
-    from_run rules first run =
+    from_run : (outset : Outset _) → RunTo hosting outset lines new opened → IsOutputOfLines hosting outset lines output
+    from_run outset run =
         let whole : AreWhole run.world.connections (flat_map opened_at run.schedule) =
-        run_whole hosting rules first lines run.schedule first_world run.world [] run.stand_for run.reached.run (record { numbers_are = refl; untaken = tt {0}; differ = tt {0} }) in
+        run_whole hosting outset lines run.schedule first_world run.world [] run.stand_for run.reached.run (record { numbers_are = refl; untaken = tt {0}; differ = tt {0} }) in
         let opened_are : opened ≡ numbers run.world.connections = run.opened_are ∙ sym whole.numbers_are in
         let differ : Differ (numbers run.world.connections) = subst Differ (sym whole.numbers_are) whole.differ in
         record {

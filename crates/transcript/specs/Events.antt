@@ -1,7 +1,7 @@
 -- What the lines of a transcript stand for.
 use Rattle.std.specs.Prelude.{◌≡◌, ℕ, List, [], ◌∷◌, Bool, Some, length, ⊤}
 use Rattle.http_edge.specs.Answers.{AnswerMark}
-use Rattle.http_edge.specs.Schedule.{Connection, Happening, Opened, Came, HasEnded}
+use Rattle.http_edge.specs.Schedule.{Connection, Happening, Opened, Came, HasEnded, piece_of}
 use Rattle.http_edge.specs.Refusals.{IsOpeningRefusal, IsPieceRefusal, IsEndingRefusal}
 use Rattle.http_edge.specs.declared.fault.EdgeFault.{EdgeFault}
 use Rattle.transcript.specs.Lines.{Statement, Opens, Brings, Ends, States}
@@ -9,7 +9,7 @@ use Rattle.transcript.specs.Lines.{Statement, Opens, Brings, Ends, States}
 -- the event that a statement is, with what was free in it
 abbrev pub happening : Statement → List AnswerMark → Bool → Happening
 happening (Opens c) marks closes = Opened c
-happening (Brings c moment draws piece) marks closes = Came c piece moment draws marks closes
+happening (Brings c moment draws piece) marks closes = Came (record { piece = piece_of c piece moment; draws = draws; marks = marks; closes = closes })
 happening (Ends c) marks closes = HasEnded c
 
 -- a line stands for an event

@@ -6,6 +6,7 @@ use Rattle.hook_host.specs.declared.host.HookHost.{Ghosts as Hosting}
 use Rattle.clients.specs.Registry.{registry_in}
 use Rattle.clients.specs.RegistryRecord.{RegistryRecord}
 use Rattle.clients.specs.declared.fault.ConfigFault.TheVariants as config
+use Rattle.endpoints.specs.Server.{Outset, outset_of}
 use Rattle.http_edge.specs.Schedule.{World, Happening, Run, first_world}
 use Rattle.transcript.specs.Lines.{transcript_lines, HandsIn}
 use Rattle.transcript.specs.Events.{StandFor}
@@ -38,25 +39,25 @@ pub record Configures (text : List ℕ) (rules : RegistryRecord) (later : List (
   pub registry : registry_in json ≡ Ok rules
 
 -- the events that lines stand for are accepted one after the other, and lead to this world
-pub record LeadTo {H : Type 0} (hosting : Hosting H) (rules : RegistryRecord) (first : H) (lines : List (List ℕ)) (world : World) : Type 0 where
+pub record LeadTo {H : Type 0} (hosting : Hosting H) (outset : Outset H) (lines : List (List ℕ)) (world : World) : Type 0 where
   pub schedule : List Happening
   pub stand_for : StandFor lines schedule
-  pub run : Run hosting rules first first_world schedule world
+  pub run : Run hosting outset first_world schedule world
 
 -- lines are answered by all that went to all connections, after the last line
-pub record IsOutputOfLines {H : Type 0} (hosting : Hosting H) (rules : RegistryRecord) (first : H) (lines : List (List ℕ)) (output : List ℕ) : Type 0 where
+pub record IsOutputOfLines {H : Type 0} (hosting : Hosting H) (outset : Outset H) (lines : List (List ℕ)) (output : List ℕ) : Type 0 where
   pub world : World
-  pub lead : LeadTo hosting rules first lines world
+  pub lead : LeadTo hosting outset lines world
   pub output_is : output ≡ printed_all world
 
 -- one of the lines behind the first has a fault, and those before it are accepted
-pub record Stops {H : Type 0} (hosting : Hosting H) (rules : RegistryRecord) (first : H) (lines : List (List ℕ)) (fault : ReplayFault) : Type 0 where
+pub record Stops {H : Type 0} (hosting : Hosting H) (outset : Outset H) (lines : List (List ℕ)) (fault : ReplayFault) : Type 0 where
   pub before : List (List ℕ)
   pub line : List ℕ
   pub behind : List (List ℕ)
   pub lines_are : lines ≡ before ++ line ∷ behind
   pub world : World
-  pub lead : LeadTo hosting rules first before world
+  pub lead : LeadTo hosting outset before world
   pub fault_is : IsLineFault world.connections (length before + 2) line fault
 
 -- a transcript's answer
@@ -64,14 +65,14 @@ pub record IsReplay {H : Type 0} (hosting : Hosting H) (first : H) (text output 
   pub rules : RegistryRecord
   pub later : List (List ℕ)
   pub configures : Configures text rules later
-  pub answer : IsOutputOfLines hosting rules first later output
+  pub answer : IsOutputOfLines hosting (outset_of rules first) later output
 
 -- a transcript stops behind its first line
 pub record StopsLater {H : Type 0} (hosting : Hosting H) (first : H) (text : List ℕ) (fault : ReplayFault) : Type 0 where
   pub rules : RegistryRecord
   pub later : List (List ℕ)
   pub configures : Configures text rules later
-  pub stops : Stops hosting rules first later fault
+  pub stops : Stops hosting (outset_of rules first) later fault
 
 -- why a transcript has no answer
 abbrev pub IsReplayFault : {H : Type 0} → Hosting H → H → List ℕ → ReplayFault → Type 0

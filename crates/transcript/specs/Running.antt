@@ -2,10 +2,10 @@
 use Rattle.std.specs.Prelude.{◌≡◌, ◌≢◌, ◌++◌, ℕ, List, [], ◌∷◌}
 use Rattle.std.specs.List.{flat_map}
 use Rattle.hook_host.specs.declared.host.HookHost.{Ghosts as Hosting}
-use Rattle.clients.specs.RegistryRecord.{RegistryRecord}
-use Rattle.http_edge.specs.Schedule.{World, Happening, Opened, Came, HasEnded, Taken, Forgotten, Kept, Resumed, first_world}
+use Rattle.endpoints.specs.Server.{Outset}
+use Rattle.http_edge.specs.Schedule.{World, Happening, Opened, Came, HasEnded, Taken, Forgotten, Kept, Resumed, piece_of}
 use Rattle.http_edge.specs.Edges.{SeenEdge, output_of}
-use Rattle.http_edge.specs.Reached.{Reached, HappeningLeads, PieceLeads}
+use Rattle.http_edge.specs.Reached.{Reached, InEach, HappeningLeads, PieceLeads, new_journey}
 use Rattle.http_edge.specs.declared.fault.EdgeFault.{EdgeFault}
 use Rattle.transcript.specs.Lines.{Statement, Opens, Brings, Ends, States}
 use Rattle.transcript.specs.Events.{StandFor, IsStatementRefusal}
@@ -17,14 +17,12 @@ use Rattle.transcript.specs.declared.fault.ReplayFault.TheVariants.{Memory}
 -- wherever the one edge was reached, the statement's event leads to the other
 abbrev pub StatementLeads : {H : Type 0} → Hosting H → SeenEdge H → SeenEdge H → Statement → Type 0
 StatementLeads hosting old new (Opens c) = HappeningLeads hosting old new (Opened c)
-StatementLeads hosting old new (Brings c moment draws piece) = PieceLeads hosting old new c piece moment draws
+StatementLeads hosting old new (Brings c moment draws piece) = PieceLeads hosting old new (piece_of c piece moment) draws
 StatementLeads hosting old new (Ends c) = HappeningLeads hosting old new (HasEnded c)
 
 -- the fault is that of the statement's event, wherever the edge was reached
 abbrev pub StatementRefuses : {H : Type 0} → Hosting H → SeenEdge H → Statement → EdgeFault → Type 0
-StatementRefuses hosting edge statement fault =
-    (rules : RegistryRecord) (first : _) (schedule : List Happening) (world : World) → Reached hosting edge rules first schedule world →
-    IsStatementRefusal fault world.connections statement
+StatementRefuses hosting edge statement fault = InEach hosting edge (λ world. IsStatementRefusal fault world.connections statement)
 
 -- the connection that a statement opens
 abbrev pub opened_by : Statement → List ℕ
@@ -32,23 +30,29 @@ opened_by (Opens c) = c ∷ []
 opened_by (Brings c moment draws piece) = []
 opened_by (Ends c) = []
 
+-- an edge, and the connections that lines opened on it, in their order
+pub record EdgeOpened (H : Type 0) : Type 0 where
+  pub edge : SeenEdge H
+  pub opened : List ℕ
+
+abbrev pub edge_opened : {H : Type 0} → SeenEdge H → List ℕ → EdgeOpened H
+edge_opened edge opened = record { edge = edge; opened = opened }
+
 -- what a line states leads from the one edge to the other, and a connection that it opens comes behind the others
-pub record LineLeads {H : Type 0} (hosting : Hosting H) (old new : SeenEdge H) (opened opened' : List ℕ) (line : List ℕ) : Type 0 where
+pub record LineLeads {H : Type 0} (hosting : Hosting H) (old : EdgeOpened H) (line : List ℕ) (new : EdgeOpened H) : Type 0 where
   pub statement : Statement
   pub states : States line statement
-  pub leads : StatementLeads hosting old new statement
-  pub opened_are : opened' ≡ opened ++ opened_by statement
+  pub leads : StatementLeads hosting old.edge new.edge statement
+  pub opened_are : new.opened ≡ old.opened ++ opened_by statement
 
 -- the fault is that of the line, wherever the edge was reached
 abbrev pub LineFails : {H : Type 0} → Hosting H → SeenEdge H → ℕ → List ℕ → ReplayFault → Type 0
-LineFails hosting edge number line fault =
-    (rules : RegistryRecord) (first : _) (schedule : List Happening) (world : World) → Reached hosting edge rules first schedule world →
-    IsLineFault world.connections number line fault
+LineFails hosting edge number line fault = InEach hosting edge (λ world. IsLineFault world.connections number line fault)
 
 -- the connection that an event opens
 abbrev pub opened_at : Happening → List ℕ
 opened_at (Opened c) = c ∷ []
-opened_at (Came c piece moment draws marks closes) = []
+opened_at (Came came) = []
 opened_at (HasEnded c) = []
 opened_at (Taken c n) = []
 opened_at (Forgotten c) = []
@@ -56,28 +60,27 @@ opened_at Kept = []
 opened_at (Resumed history greatest) = []
 
 -- lines were run: their events lead to the edge, and these connections were opened
-pub record RunTo {H : Type 0} (hosting : Hosting H) (rules : RegistryRecord) (first : H) (lines : List (List ℕ)) (edge : SeenEdge H)
-    (opened : List ℕ) : Type 0 where
+pub record RunTo {H : Type 0} (hosting : Hosting H) (outset : Outset H) (lines : List (List ℕ)) (edge : SeenEdge H) (opened : List ℕ) : Type 0 where
   pub schedule : List Happening
   pub stand_for : StandFor lines schedule
   pub world : World
-  pub reached : Reached hosting edge rules first schedule world
+  pub reached : Reached hosting edge (record { outset = outset; schedule = schedule; world = world })
   pub opened_are : opened ≡ flat_map opened_at schedule
 
 -- from a new edge on the lines were run
 abbrev pub RunsLines : {H : Type 0} → Hosting H → SeenEdge H → SeenEdge H → List (List ℕ) → List ℕ → Type 0
 RunsLines hosting old new lines opened =
-    (rules : RegistryRecord) (first : _) → Reached hosting old rules first [] first_world → RunTo hosting rules first lines new opened
+    (outset : Outset _) → Reached hosting old (new_journey outset) → RunTo hosting outset lines new opened
 
 -- from a new edge on the lines have this answer
 abbrev pub AnswersLines : {H : Type 0} → Hosting H → SeenEdge H → List (List ℕ) → List ℕ → Type 0
 AnswersLines hosting edge lines output =
-    (rules : RegistryRecord) (first : _) → Reached hosting edge rules first [] first_world → IsOutputOfLines hosting rules first lines output
+    (outset : Outset _) → Reached hosting edge (new_journey outset) → IsOutputOfLines hosting outset lines output
 
 -- from a new edge on one of the lines has this fault, unless memory was refused
 abbrev pub LinesFail : {H : Type 0} → Hosting H → SeenEdge H → List (List ℕ) → ReplayFault → Type 0
 LinesFail hosting edge lines fault =
-    fault ≢ Memory → (rules : RegistryRecord) (first : _) → Reached hosting edge rules first [] first_world → Stops hosting rules first lines fault
+    fault ≢ Memory → (outset : Outset _) → Reached hosting edge (new_journey outset) → Stops hosting outset lines fault
 
 -- the output of all these connections
 abbrev pub printed_from : {H : Type 0} → SeenEdge H → List ℕ → List ℕ

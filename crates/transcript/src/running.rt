@@ -4,7 +4,7 @@ ghost use Rattle.std.specs.Prelude.{◌≡◌, ◌++◌, [], codes, map, IfOk, I
 ghost use Rattle.std.specs.Fmt.{decimal};
 ghost use Rattle.transcript.specs.Seen.{stated};
 ghost use Rattle.transcript.specs.Replays.{printed, IsReplay, IsReplayFault};
-ghost use Rattle.transcript.specs.Running.{opened_by, printed_from, AnswersLines, LinesFail, LineFails, LineLeads, RunsLines, StatementLeads, StatementRefuses};
+ghost use Rattle.transcript.specs.Running.{edge_opened, opened_by, printed_from, AnswersLines, LinesFail, LineFails, LineLeads, RunsLines, StatementLeads, StatementRefuses};
 
 use crate::fault::ReplayFault;
 use crate::line::{Line, json, lines, statement};
@@ -56,7 +56,8 @@ fn run_line<H: HookHost>(
     number: usize,
     text: &str,
 ) -> Result<(), ReplayFault>
-    ensures done { OnOk result (LineLeads H.HookHost edge.old edge.new opened.old.items opened.new.items text.now) }
+    ensures done { OnOk result (LineLeads H.HookHost (edge_opened edge.old opened.old.items) text.now
+        (edge_opened edge.new opened.new.items)) }
     ensures fault { IfErr result (LineFails H.HookHost edge.old number text.now) }
 {
     let Some(line) = statement(alloc, text)? else {

@@ -1,9 +1,9 @@
-use Rattle.std.proofs.Common.{ℕ, List, [], Result, Ok, Err, IfOk, rules}
+use Rattle.std.proofs.Common.{ℕ, List, Result, Ok, Err, IfOk, rules}
 use Rattle.hook_host.specs.declared.host.HookHost.{Ghosts as Hosting}
 use Rattle.clients.specs.RegistryRecord.{RegistryRecord}
-use Rattle.http_edge.specs.Schedule.{first_world}
+use Rattle.endpoints.specs.Server.{outset_of}
 use Rattle.http_edge.specs.Edges.{SeenEdge}
-use Rattle.http_edge.specs.Reached.{Reached}
+use Rattle.http_edge.specs.Reached.{Reached, new_journey}
 use Rattle.transcript.specs.Replays.{Configures, IsReplay}
 use Rattle.transcript.specs.Running.{AnswersLines}
 use Rattle.transcript.specs.declared.fault.ReplayFault.{ReplayFault}
@@ -13,19 +13,19 @@ use Rattle.transcript.proofs.running.replay_on.Goals as goal
 
 -- what answers the lines behind the first is the transcript's answer
 answers_later : {H T : Type 0} (hosting : Hosting H) (edge : SeenEdge H) (first : H) (text : List ℕ) (rules : RegistryRecord) (later : List (List ℕ)) (r : Result T ReplayFault) (items : T → List ℕ)
-    → Configures text rules later → Reached hosting edge rules first [] first_world → IfOk r (λ x. AnswersLines hosting edge later (items x)) → IfOk r (λ x. IsReplay hosting first text (items x))
+    → Configures text rules later → Reached hosting edge (new_journey (outset_of rules first)) → IfOk r (λ x. AnswersLines hosting edge later (items x)) → IfOk r (λ x. IsReplay hosting first text (items x))
 answers_later hosting edge first text rules later (Ok x) items configures reached answers =
-    record { rules = rules; later = later; configures = configures; answer = answers rules first reached }
+    record { rules = rules; later = later; configures = configures; answer = answers (outset_of rules first) reached }
 answers_later hosting edge first text rules later (Err fault) items configures reached answers = answers
 
 pub returns-clause-done : goal.returns-clause-done
 returns-clause-done g c =
     let configures : Configures c.args.text.now c.in_ok-registry.registry (texts c.in-Some.later.now) = search rules in
-    let reached : Reached g.H.HookHost c.new.result c.in_ok-registry.registry c.args.host [] first_world = c.new.ensures.begun c.in_ok-registry.registry c.args.host c.new-server.ensures.fits c.new-server.ensures.notes in
+    let reached : Reached g.H.HookHost c.new.result (new_journey (outset_of c.in_ok-registry.registry c.args.host)) = c.new.ensures.begun (outset_of c.in_ok-registry.registry c.args.host) c.new-server.ensures.fits c.new-server.ensures.notes in
     answers_later g.H.HookHost c.new.result c.args.host c.args.text.now c.in_ok-registry.registry (texts c.in-Some.later.now) c.answer.result (λ out. out.items) configures reached c.answer.ensures.done
 
 pub returns-clause-fault : goal.returns-clause-fault
 returns-clause-fault g c =
     let configures : Configures c.args.text.now c.in_ok-registry.registry (texts c.in-Some.later.now) = search rules in
-    let reached : Reached g.H.HookHost c.new.result c.in_ok-registry.registry c.args.host [] first_world = c.new.ensures.begun c.in_ok-registry.registry c.args.host c.new-server.ensures.fits c.new-server.ensures.notes in
+    let reached : Reached g.H.HookHost c.new.result (new_journey (outset_of c.in_ok-registry.registry c.args.host)) = c.new.ensures.begun (outset_of c.in_ok-registry.registry c.args.host) c.new-server.ensures.fits c.new-server.ensures.notes in
     fails_later g.H.HookHost c.new.result c.args.host c.args.text.now c.in_ok-registry.registry (texts c.in-Some.later.now) c.answer.result configures reached c.answer.ensures.fault
