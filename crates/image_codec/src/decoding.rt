@@ -11,7 +11,7 @@ use change_codec::field::{
     counted_of, digest_of, moment_of, party_of, short_of, text_of, version_of, wide_of,
 };
 use change_codec::{ChangeFault, DecodeFault};
-use consent::{ClientNo, KeptConsent, Moment, OwnerNo, TokenKind};
+use consent::{ClientNo, Digest, KeptConsent, Moment, OwnerNo, ScopeSet, TokenKind};
 use std::alloc::Global;
 use token_store::{KeptKind, KeptRecord};
 
@@ -72,6 +72,7 @@ fn client_of(bytes: &[u8]) -> Result<(ClientRules, &[u8]), DecodeFault>
 {
     let (name, rest) = text_of(bytes)?;
     let (allowed, rest) = wide_of(rest)?;
+    let allowed = ScopeSet::new(allowed);
     Ok((ClientRules { name, allowed }, rest))
 }
 
@@ -158,15 +159,15 @@ fn record_of(bytes: &[u8]) -> Result<(KeptRecord, &[u8]), DecodeFault>
             let (spent, rest) = mark_of(rest)?;
             let (ended, rest) = mark_of(rest)?;
             let record = KeptRecord {
-                digest,
+                digest: Digest::new(digest),
                 kind,
                 family,
                 client: ClientNo::new(client),
                 owner,
-                scope,
+                scope: ScopeSet::new(scope),
                 moment: Moment::new(moment),
                 life,
-                code_scope,
+                code_scope: code_scope.map(ScopeSet::new),
                 spent,
                 ended,
             };
@@ -205,7 +206,7 @@ fn consent_of(bytes: &[u8]) -> Result<(KeptConsent, &[u8]), DecodeFault>
     let consent = KeptConsent {
         owner: OwnerNo::new(owner),
         client: ClientNo::new(client),
-        mask,
+        mask: ScopeSet::new(mask),
     };
     Ok((consent, rest))
 }

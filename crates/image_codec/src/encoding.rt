@@ -9,10 +9,10 @@ ghost use Rattle.image_codec.specs.Spelling.{ClientFits, ConsentFits, ListFits, 
 use crate::image::{ClientRules, Image, KeptHook, Rules};
 use change_codec::EncodeFault;
 use change_codec::field::{
-    is_short, put_client, put_counted, put_digest, put_moment, put_owner, put_short, put_text,
-    put_version, put_wide,
+    is_short, put_client, put_counted, put_digest, put_moment, put_owner, put_scope_set, put_short,
+    put_text, put_version, put_wide,
 };
-use consent::{KeptConsent, OwnerNo, TokenKind};
+use consent::{KeptConsent, OwnerNo, ScopeSet, TokenKind};
 use std::alloc::AllocError;
 use token_store::{KeptKind, KeptRecord};
 
@@ -140,7 +140,7 @@ fn put_client_rules(out: &mut Vec<u8>, client: &ClientRules) -> Result<(), Alloc
     ensures fits { OnOk result (ClientFits (client_fact client.now)) }
 {
     put_text(out, client.name)?;
-    put_wide(out, client.allowed)?;
+    put_scope_set(out, client.allowed)?;
     Ok(())
 }
 
@@ -178,14 +178,14 @@ fn put_mark(out: &mut Vec<u8>, holds: bool) -> Result<(), AllocError>
     Ok(())
 }
 
-fn put_optional(out: &mut Vec<u8>, number: Option<u64>) -> Result<(), AllocError>
-    ensures written { OnOk result (out.new.items ≡ out.old.items ++ optional number) }
-    ensures fits { OnOk result (OptionFits number) }
+fn put_optional(out: &mut Vec<u8>, scope: Option<ScopeSet>) -> Result<(), AllocError>
+    ensures written { OnOk result (out.new.items ≡ out.old.items ++ optional scope) }
+    ensures fits { OnOk result (OptionFits scope) }
 {
-    match number {
-        Some(number) => {
+    match scope {
+        Some(scope) => {
             out.push(1)?;
-            put_wide(out, number)?;
+            put_scope_set(out, scope)?;
         }
         None => out.push(0)?,
     }
@@ -257,7 +257,7 @@ fn put_grant(out: &mut Vec<u8>, kept: &KeptRecord) -> Result<(), AllocError>
     ensures written { OnOk result (out.new.items ≡ out.old.items ++ grant_spelling (record_fact kept.now)) }
     ensures fits { OnOk result (GrantFits (record_fact kept.now)) }
 {
-    put_wide(out, kept.scope)?;
+    put_scope_set(out, kept.scope)?;
     put_moment(out, kept.moment)?;
     put_short(out, kept.life)?;
     Ok(())
@@ -306,7 +306,7 @@ fn put_consent(out: &mut Vec<u8>, consent: &KeptConsent) -> Result<(), AllocErro
 {
     put_owner(out, consent.owner)?;
     put_client(out, consent.client)?;
-    put_wide(out, consent.mask)?;
+    put_scope_set(out, consent.mask)?;
     Ok(())
 }
 

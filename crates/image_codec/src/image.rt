@@ -1,13 +1,13 @@
 //! What is left of a server when what has expired goes.
 
-use consent::{KeptConsent, Moment, RecordVersion};
+use consent::{KeptConsent, Moment, RecordVersion, ScopeSet};
 use token_store::KeptRecord;
 
 /// A client by its name, with the scope that it may be allowed.
 #[derive(Clone, Copy)]
 pub struct ClientRules<'a> {
     pub name: &'a str,
-    pub allowed: u64,
+    pub allowed: ScopeSet,
 }
 
 /// The rules under which a server's history is right: what its numbers mean, and how far its grants may reach.

@@ -9,7 +9,7 @@ ghost use Rattle.state_listing.specs.Lines.{client_members, code_scope_members, 
 
 use crate::facts::FileFacts;
 use crate::line::{begin_line, end_line};
-use consent::{ClientNo, KeptConsent, Moment, TokenKind};
+use consent::{ClientNo, KeptConsent, Moment, ScopeSet, TokenKind};
 use image_codec::{KeptHook, Rules};
 use messages::Object;
 use std::alloc::{AllocError, Global};
@@ -27,11 +27,15 @@ fn client_name<'a>(rules: &Rules<'a>, client: ClientNo) -> Option<&'a str>
 }
 
 // The names of a scope, in the order of the rules.
-fn names_of<'a>(alloc: Global, rules: &Rules<'a>, scope: u64) -> Result<Vec<&'a str>, AllocError>
+fn names_of<'a>(
+    alloc: Global,
+    rules: &Rules<'a>,
+    scope: ScopeSet,
+) -> Result<Vec<&'a str>, AllocError>
     ensures { IfOk result (λ names. map (λ s. s.now) names.items ≡ names_in_mask (rules_fact rules.now).scopes scope) }
 {
     let mut names = Vec::new(alloc);
-    let mut left = scope;
+    let mut left = scope.bits();
     for name in rules.scopes.as_slice() {
         if left % 2 == 1 {
             names.extend_from_slice(&[*name])?;
@@ -57,7 +61,7 @@ fn push_scope(
     alloc: Global,
     line: &mut Object,
     rules: &Rules<'_>,
-    scope: u64,
+    scope: ScopeSet,
 ) -> Result<(), AllocError>
     ensures { OnOk result (line.new.json.tokens ≡ line.old.json.tokens ++ scope_members (rules_fact rules.now) scope) }
 {
@@ -96,7 +100,7 @@ fn push_code_scope(
     alloc: Global,
     line: &mut Object,
     rules: &Rules<'_>,
-    code_scope: Option<u64>,
+    code_scope: Option<ScopeSet>,
 ) -> Result<(), AllocError>
     ensures { OnOk result (line.new.json.tokens ≡ line.old.json.tokens ++ code_scope_members (rules_fact rules.now) code_scope) }
 {
@@ -145,7 +149,7 @@ pub(crate) fn push_token(
     ensures { OnOk result (lines.new.items ≡ lines.old.items ++ token_line (rules_fact rules.now) (record_fact kept.now)) }
 {
     let mut line = begin_line(alloc, kind_name(&kept.kind))?;
-    let digits = hex::encode(alloc, &kept.digest[..4])?;
+    let digits = hex::encode(alloc, &kept.digest.bytes()[..4])?;
     line.text("digest", digits.as_str())?;
     line.number("family", kept.family)?;
     push_scope(alloc, &mut line, rules, kept.scope)?;

@@ -1,4 +1,4 @@
-use Rattle.std.proofs.Common.{rules, ◌<◌, ◌^◌, length, map, arith}
+use Rattle.std.proofs.Common.{rules, ◌<◌, ◌^◌, length, map, subst, arith}
 use Rattle.std.specs.Prelude.{IsTrue}
 use Rattle.std.proofs.lemmas.List.{length-map}
 use Rattle.std.proofs.lemmas.List.Elements.{All-more}
@@ -11,13 +11,15 @@ pub returns-then-not-client_counts : goal.returns-then-not-client_counts
 returns-then-not-client_counts c = (
   λ f. absurd cc,
   λ all.
-      let yes : IsTrue c.client_counts.result = c.client_counts.ensures.1 (each_of client_fact (λ c. FitsFourBytes (length c.name)) c.args.clients.now all.1 c.loop-client.client-index _ c.loop-client-test.true) in
+      let here : FitsFourBytes (length (client_fact c.client-item.result).name) = rw c.client-item.is (each_of client_fact (λ c. FitsFourBytes (length c.name)) c.args.clients.now all.1 c.loop-client.client-index c.client-item.result c.loop-client-test.true) in
+      let yes : IsTrue c.client_counts.result = c.client_counts.ensures.1 here in
       search rules,
 )
 
 pub loop-client-preserved : goal.loop-client-preserved
 loop-client-preserved c =
-    All-more (λ x. FitsFourBytes (length (client_fact x).name)) c.args.clients.now c.loop-client.client-index _ c.loop-client-test.true c.loop-client.invariant (c.client_counts.ensures.0 c.if-not-client_counts.false)
+    let here : FitsFourBytes (length (client_fact c.client-item.result).name) = c.client_counts.ensures.0 c.if-not-client_counts.false in
+    All-more (λ x. FitsFourBytes (length (client_fact x).name)) c.args.clients.now c.loop-client.client-index c.client-item.result c.loop-client-test.true c.loop-client.invariant (subst (λ x. FitsFourBytes (length (client_fact x).name)) c.client-item.is here)
 
 pub returns : goal.returns
 returns c =
