@@ -56,9 +56,13 @@ module _ {H : Type 0} (hosting : Hosting H) (piece : Piece) (draws more : List D
       PieceGoesOn hosting edge' journey piece draws → PieceGoesOn hosting edge' journey piece (draws ++ more)
   leads_beside edge edge' journey reached goes =
       let on = goes.on in
-      let happens : Happens hosting journey.outset journey.world (Came (record { piece = piece; draws = draws ++ more; marks = goes.marks; closes = goes.closes })) on.world =
-      (on.happens.0, elim on.happens.1 [ inl comes ↦ inl (comes_beside journey.outset journey.world on.world goes.marks goes.closes comes)
-      | inr passes ↦ inr (passes_beside journey.world on.world goes.marks goes.closes passes) ]) in
+      let happens : Happens hosting journey.outset journey.world (Came (record { piece = piece; draws = draws ++ more; marks = goes.marks; closes = goes.closes })) on.world = (
+        on.happens.0,
+        elim on.happens.1 [
+          | inl comes ↦ inl (comes_beside journey.outset journey.world on.world goes.marks goes.closes comes)
+          | inr passes ↦ inr (passes_beside journey.world on.world goes.marks goes.closes passes)
+        ],
+      ) in
       record {
         marks = goes.marks;
         closes = goes.closes;

@@ -116,7 +116,8 @@ fn a_register_that_was_changed_is_no_sum_any_more(rt: HostRuntime) {
 
 #[test]
 fn a_sum_on_both_ways_is_one_where_they_meet(rt: HostRuntime) {
-    let text = "mov64 r0 1\nldxdw r2 r1 8\nmov64 r3 r2\nadd64 r3 -8\nldxdw r5 r1 16\njeq64 r5 0 +1\nmov64 r0 2\n\
+    let text =
+        "mov64 r0 1\nldxdw r2 r1 8\nmov64 r3 r2\nadd64 r3 -8\nldxdw r5 r1 16\njeq64 r5 0 +1\nmov64 r0 2\n\
                 jgt64 r3 7 +4\nmov64 r4 r10\nadd64 r4 -16\nadd64 r4 r2\nstb r4 0 0\nexit";
     assert_checks(&rt, text, Ending::Done("accepted 13\n"));
 }
