@@ -496,6 +496,27 @@ int hook(struct record *record)
 C
 answers 1 5 16 'allowed 7 300'
 answers 1 5 17 denied
+taken 'a test of both ends in one' <<'C'
+int hook(struct record *record)
+{
+    const u8 *bytes = (const u8 *)record;
+    u64 at = record->owner;
+    return 5 <= at && at <= 40 && bytes[at] ? ALLOW : DENY;
+}
+C
+answers 1 5 16 'allowed 7 300'
+answers 1 5 17 denied
+answers 1 5 4 denied
+taken 'the same in 32 bits' <<'C'
+int hook(struct record *record)
+{
+    const u8 *bytes = (const u8 *)record;
+    u32 at = (u32)record->owner;
+    return 5 <= at && at <= 40 && bytes[at] ? ALLOW : DENY;
+}
+C
+answers 1 5 16 'allowed 7 300'
+answers 1 5 4 denied
 faulty 'a test of the record against null' 'Verify PointerMisuse' <<'C'
 int hook(struct record *record)
 {
