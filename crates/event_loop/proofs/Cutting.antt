@@ -5,15 +5,15 @@ use Rattle.std.proofs.Math.Seq.{take-add}
 use Rattle.rand_chacha.specs.ChaCha.{ChaCha}
 use Rattle.hook_host.specs.declared.host.HookHost.{Ghosts as Hosting}
 use Rattle.clients.specs.RegistryRecord.{RegistryRecord}
-use Rattle.http_edge.specs.Schedule.{World, Happening, Came, connection_at}
+use Rattle.http_edge.specs.Schedule.{World, Happening, Came, connection_at, piece_of}
 use Rattle.http_edge.specs.Edges.{SeenEdge}
 use Rattle.http_edge.specs.Reached.{Reached, is_closing}
 use Rattle.http_edge.specs.declared.fault.EdgeFault.{EdgeFault}
 use Rattle.http_edge.specs.declared.fault.EdgeFault.TheVariants.{TooManyRequests}
 use Rattle.http_edge.specs.Sources.{draws_for}
-use Rattle.http_edge.specs.Pieces.{PieceGiven, RefusesPiece}
+use Rattle.http_edge.specs.Pieces.{PieceGiven, RefusesPiece, supplied}
 use Rattle.http_edge.specs.contracts.chance.ChaCha20RngDrawSource.TheImpl as generators
-use Rattle.event_loop.specs.Courses.{Course}
+use Rattle.event_loop.specs.Courses.{Course, journey_of}
 use Rattle.event_loop.specs.Giving.{GivesPieces, nothing, gives, cut_limit}
 use Rattle.event_loop.specs.GivingParts.{GivesAll, GivesSome}
 
@@ -26,19 +26,19 @@ module _ {H : Type 0} (hosting : Hosting H) (rules : RegistryRecord) (host : H) 
 
   -- one more piece was given
   pub gives_piece : (first course : Course H) (front piece : List ℕ) (edge : SeenEdge H) (generator : ChaCha) → GivesPieces hosting rules host k moment first front course →
-      Reached hosting course.edge rules host course.schedule course.world → is_closing (connection_at course.world.connections k) ≡ false →
-      PieceGiven hosting generators.ghosts course.edge edge k piece moment course.generator generator → GivesFront first (front ++ piece) edge generator
+      Reached hosting course.edge (journey_of rules host course) → is_closing (connection_at course.world.connections k) ≡ false →
+      PieceGiven hosting generators.ghosts (supplied course.edge course.generator) (piece_of k piece moment) (supplied edge generator) → GivesFront first (front ++ piece) edge generator
   gives_piece first course front piece edge generator given reached stays piece_given =
-      let on = piece_given.leads rules host course.schedule course.world reached in
+      let on = piece_given.leads (journey_of rules host course) reached in
       record {
-        schedule = course.schedule ++ Came k piece moment (draws_for generators.ghosts course.generator piece_given.messages) on.marks on.closes ∷ [];
+        schedule = course.schedule ++ Came (record { piece = piece_of k piece moment; draws = draws_for generators.ghosts course.generator piece_given.messages; marks = on.marks; closes = on.closes }) ∷ [];
         world = on.on.world;
-        given = gives piece given stays (record { edge = edge; generator = generator; messages = piece_given.messages; brought = piece_given.brought rules host course.schedule course.world reached; after = piece_given.source_is; on = on });
+        given = gives piece given stays (record { edge = edge; generator = generator; messages = piece_given.messages; brought = piece_given.brought (journey_of rules host course) reached; after = piece_given.source_is; on = on });
       }
 
   -- all was given at once
-  pub heard_at_once : (course : Course H) (bytes : List ℕ) (edge : SeenEdge H) (generator : ChaCha) → Reached hosting course.edge rules host course.schedule course.world →
-      is_closing (connection_at course.world.connections k) ≡ false → PieceGiven hosting generators.ghosts course.edge edge k bytes moment course.generator generator → GivesAll hosting rules host k moment bytes course edge generator
+  pub heard_at_once : (course : Course H) (bytes : List ℕ) (edge : SeenEdge H) (generator : ChaCha) → Reached hosting course.edge (journey_of rules host course) →
+      is_closing (connection_at course.world.connections k) ≡ false → PieceGiven hosting generators.ghosts (supplied course.edge course.generator) (piece_of k bytes moment) (supplied edge generator) → GivesAll hosting rules host k moment bytes course edge generator
   heard_at_once course bytes edge generator reached stays piece_given =
       let front = gives_piece course course [] bytes edge generator nothing reached stays piece_given in
       record {
@@ -49,7 +49,7 @@ module _ {H : Type 0} (hosting : Hosting H) (rules : RegistryRecord) (host : H) 
 
   -- a piece behind the front was refused, and is not cut
   pub unheard_behind : (first course : Course H) (bytes front piece rest : List ℕ) (fault : EdgeFault) (edge : SeenEdge H) (generator : ChaCha) → GivesPieces hosting rules host k moment first front course →
-      Reached hosting course.edge rules host course.schedule course.world → bytes ≡ front ++ (piece ++ rest) → RefusesPiece hosting course.edge k piece None fault → edge ≡ course.edge → generator ≡ course.generator →
+      Reached hosting course.edge (journey_of rules host course) → bytes ≡ front ++ (piece ++ rest) → RefusesPiece hosting course.edge (piece_of k piece moment) None fault → edge ≡ course.edge → generator ≡ course.generator →
       (fault ≡ TooManyRequests → length piece ≤ cut_limit) → GivesSome hosting rules host k moment bytes fault first edge generator
   unheard_behind first course bytes front piece rest fault edge generator given reached all refused same undrawn cut = record {
     schedule = course.schedule;
@@ -60,7 +60,7 @@ module _ {H : Type 0} (hosting : Hosting H) (rules : RegistryRecord) (host : H) 
       rest = rest;
       all = all;
       gives = rw (same, undrawn) given;
-      refused = refused rules host course.schedule course.world reached;
+      refused = refused (journey_of rules host course) reached;
       cut = cut;
     };
   }

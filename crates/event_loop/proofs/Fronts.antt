@@ -1,15 +1,14 @@
 -- Each crash leaves what stands for what was kept at some scene.
-use Rattle.std.proofs.Common.{◌≡◌, ◌⊎◌, inl, inr, ◌≤◌, ℕ, List, [], ◌++◌, Bool, Some, refl, sym, ap, subst, ◌∙◌, arith}
+use Rattle.std.proofs.Common.{◌≡◌, ◌⊎◌, inl, inr, ◌≤◌, ℕ, List, [], ◌++◌, Some, refl, sym, ap, subst, ◌∙◌, arith}
 use Rattle.hook_host.specs.declared.host.HookHost.{Ghosts as Hosting}
 use Rattle.consent.specs.History.{Event}
 use Rattle.clients.specs.RegistryRecord.{RegistryRecord}
-use Rattle.messages.specs.declared.request.Draws.{Draws}
-use Rattle.http_edge.specs.Answers.{AnswerMark}
-use Rattle.http_edge.specs.Schedule.{World, PieceComes, PiecePasses, TakesOutput, TakesNothing}
+use Rattle.http_edge.specs.Schedule.{World, PieceComes, PiecePasses, TakesOutput, TakesNothing, AnsweredPiece}
+use Rattle.endpoints.specs.Server.{outset_of, Outset}
 use Rattle.event_loop.specs.declared.fault.LoopFault.{LoopFault}
 use Rattle.event_loop.specs.declared.place.Place.{Place}
 use Rattle.change_codec.specs.Keeping.{Crashes, IsFrontOf, Holds, Keeps, KeepsNot, LeavesEither}
-use Rattle.event_loop.specs.Courses.{Course}
+use Rattle.event_loop.specs.Courses.{Course, journey_of}
 use Rattle.event_loop.specs.Giving.{GivesPieces, nothing, gives}
 use Rattle.event_loop.specs.Scenes.{Promises, Scene, IsAllKept, IsUnkept}
 use Rattle.event_loop.specs.Coming.{AcceptsOne, opens, denies, finds_nobody, fails, asks}
@@ -35,16 +34,16 @@ grows_not old new same = record { kept = ap (λ (w : World). w.kept) same; front
 grows_then : (a b c : World) → Grows a b → Grows b c → Grows a c
 grows_then a b c one two = record { kept = two.kept ∙ one.kept; front = front_then a.history b.history c.history one.front two.front }
 
-came_grows : {H : Type 0} (hosting : Hosting H) (rules : RegistryRecord) (host : H) (old new : World) (c : ℕ) (piece : List ℕ) (moment : ℕ) (draws : List Draws) (marks : List AnswerMark) (closed : Bool) →
-    PieceComes hosting rules host old new c piece moment draws marks closed ⊎ PiecePasses old new c marks closed → Grows old new
-came_grows hosting rules host old new c piece moment draws marks closed (inl came) = record { kept = came.kept; front = (_, came.history) }
-came_grows hosting rules host old new c piece moment draws marks closed (inr passes) = grows_not old new passes.same
+came_grows : {H : Type 0} (hosting : Hosting H) (outset : Outset H) (old new : World) (came : AnsweredPiece) →
+    PieceComes hosting outset old came new ⊎ PiecePasses old came new → Grows old new
+came_grows hosting outset old new came (inl answers) = record { kept = answers.kept; front = (_, answers.history) }
+came_grows hosting outset old new came (inr passes) = grows_not old new passes.same
 
 gives_grows : {H : Type 0} (hosting : Hosting H) (rules : RegistryRecord) (host : H) (k moment : ℕ) (first : Course H) (bytes : List ℕ) (course : Course H) → GivesPieces hosting rules host k moment first bytes course →
     Grows first.world course.world
 gives_grows hosting rules host k moment first bytes course nothing = grows_not _ _ refl
 gives_grows hosting rules host k moment first bytes course (gives {bytes = front} {course = before} piece given still g) =
-    grows_then first.world before.world _ (gives_grows hosting rules host k moment first front before given) (came_grows hosting rules host before.world g.on.on.world k piece moment _ g.on.marks g.on.closes g.on.on.happens.1)
+    grows_then first.world before.world _ (gives_grows hosting rules host k moment first front before given) (came_grows hosting (outset_of rules host) before.world g.on.on.world _ g.on.on.happens.1)
 
 takes_grows : (old new : World) (c n : ℕ) → TakesOutput old new c n ⊎ TakesNothing old new c n → Grows old new
 takes_grows old new c n (inl takes) = record { kept = takes.still.kept; front = same_front _ _ takes.still.history }
@@ -101,7 +100,7 @@ module _ {N C J K H : Type 0} (p : Promises N C J K H) (rules : RegistryRecord) 
 
   -- what was kept is a front of what happened, wherever steps lead to
   served_front : (first s : Scene N C J K H) → Served p rules host first s → (kept : List Event) → s.course.world.kept ≡ Some kept → IsFrontOf kept s.course.world.history
-  served_front first s served kept is = reached_front p.hosting s.course.edge rules host s.course.schedule s.course.world (served_answered p rules host first s served).reached kept is
+  served_front first s served kept is = reached_front p.hosting s.course.edge (journey_of rules host s.course) (served_answered p rules host first s served).reached kept is
 
   moves_held : (s s' : Scene N C J K H) → Moves p s s' → KeeperHolds p s → KeeperHolds p s'
   moves_held s s' (goes_on same grows) held = λ kept is c left. held kept (sym grows.kept ∙ is) c (subst (λ k. p.keeping.may_leave k c) same left)

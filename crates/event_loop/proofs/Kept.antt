@@ -4,15 +4,14 @@ use Rattle.std.specs.Prelude.{◌↔◌, Bool, false, IsTrue}
 use Rattle.std.proofs.lemmas.Bool.{false≢true}
 use Rattle.std.proofs.lemmas.List.{length-append}
 use Rattle.hook_host.specs.declared.host.HookHost.{Ghosts as Hosting}
-use Rattle.clients.specs.RegistryRecord.{RegistryRecord}
 use Rattle.consent.specs.History.{Event, event_at, with_change}
 use Rattle.change_codec.specs.Spelling.{DatedFact}
 use Rattle.change_codec.specs.Happened.{Happened}
 use Rattle.change_codec.specs.HappenedLaws.{Happened-front}
 use Rattle.endpoints.specs.Server.{AreUnkept}
 use Rattle.http_edge.specs.Edges.{SeenEdge}
-use Rattle.http_edge.specs.Schedule.{World, Happening, KeepsHistory, TakesOutput, TakesNothing}
-use Rattle.http_edge.specs.Reached.{Reached}
+use Rattle.http_edge.specs.Schedule.{World, KeepsHistory, TakesOutput, TakesNothing}
+use Rattle.http_edge.specs.Reached.{Reached, Journey}
 use Rattle.change_codec.specs.Keeping.{IsFrontOf}
 use Rattle.event_loop.specs.Scenes.{IsAllKept, IsUnkept}
 
@@ -50,9 +49,9 @@ front_noted (Some facts) o history noted kept is =
     subst (λ front. IsFrontOf front history) e (Happened-front from.kept history facts from.happened)
 
 -- what was kept is a front of what happened
-pub reached_front : {H : Type 0} (hosting : Hosting H) (edge : SeenEdge H) (rules : RegistryRecord) (host : H) (schedule : List Happening) (world : World) → Reached hosting edge rules host schedule world →
-    (kept : List Event) → world.kept ≡ Some kept → IsFrontOf kept world.history
-reached_front hosting edge rules host schedule world reached kept is = front_noted edge.server.unkept world.kept world.history reached.notes kept is
+pub reached_front : {H : Type 0} (hosting : Hosting H) (edge : SeenEdge H) (journey : Journey H) → Reached hosting edge journey →
+    (kept : List Event) → journey.world.kept ≡ Some kept → IsFrontOf kept journey.world.history
+reached_front hosting edge journey reached kept is = front_noted edge.server.unkept journey.world.kept journey.world.history reached.notes kept is
 
 -- where something happened, the history is longer
 happened_more : (before after : List Event) (facts : List DatedFact) → facts ≢ [] → Happened before facts after → before ≢ after

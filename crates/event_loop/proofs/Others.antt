@@ -1,13 +1,11 @@
 -- Other connections.
-use Rattle.std.proofs.Common.{◌≡◌, ◌≢◌, ◌⊎◌, inl, inr, ℕ, List, Bool, true, refl, ap}
+use Rattle.std.proofs.Common.{◌≡◌, ◌≢◌, ◌⊎◌, inl, inr, ℕ, true, refl, ap}
 use Rattle.std.specs.Prelude.{◌==◌}
 use Rattle.std.proofs.lemmas.Bool.{eq-eqb}
 use Rattle.hook_host.specs.declared.host.HookHost.{Ghosts as Hosting}
-use Rattle.clients.specs.RegistryRecord.{RegistryRecord}
-use Rattle.messages.specs.declared.request.Draws.{Draws}
-use Rattle.http_edge.specs.Answers.{AnswerMark}
-use Rattle.http_edge.specs.Schedule.{World, Connection, PieceComes, PiecePasses, Opens, StreamEnds, TakesOutput, TakesNothing, ForgetsConnection, connection_at, with_connection, without_connection, fresh}
+use Rattle.http_edge.specs.Schedule.{World, Connection, PieceComes, PiecePasses, Opens, StreamEnds, TakesOutput, TakesNothing, ForgetsConnection, connection_at, with_connection, without_connection, fresh, AnsweredPiece}
 use Rattle.http_edge.proofs.Connections.{added_other, found_number, put_other, without_other}
+use Rattle.endpoints.specs.Server.{Outset}
 
 pub is_itself : (c : ℕ) → (c == c) ≡ true
 is_itself c = eq-eqb c c refl
@@ -17,11 +15,11 @@ is_itself c = eq-eqb c c refl
 pub opens_other : (old new : World) (c d : ℕ) → Opens old new c → d ≢ c → connection_at new.connections d ≡ connection_at old.connections d
 opens_other old new c d opens other = rw opens.connections (added_other old.connections c d other)
 
-pub comes_other : {H : Type 0} (hosting : Hosting H) (rules : RegistryRecord) (first : H) (old new : World) (c d : ℕ) (piece : List ℕ) (moment : ℕ) (draws : List Draws) (marks : List AnswerMark) (closes : Bool) →
-    PieceComes hosting rules first old new c piece moment draws marks closes ⊎ PiecePasses old new c marks closes → d ≢ c → connection_at new.connections d ≡ connection_at old.connections d
-comes_other hosting rules first old new c d piece moment draws marks closes (inl comes) other =
-    rw comes.connections (put_other old.connections c d _ (found_number old.connections c comes.before comes.here) other)
-comes_other hosting rules first old new c d piece moment draws marks closes (inr passes) other = ap (λ (w : World). connection_at w.connections d) passes.same
+pub comes_other : {H : Type 0} (hosting : Hosting H) (outset : Outset H) (old new : World) (came : AnsweredPiece) (d : ℕ) →
+    PieceComes hosting outset old came new ⊎ PiecePasses old came new → d ≢ came.piece.connection → connection_at new.connections d ≡ connection_at old.connections d
+comes_other hosting outset old new came d (inl comes) other =
+    rw comes.connections (put_other old.connections came.piece.connection d _ (found_number old.connections came.piece.connection comes.before comes.here) other)
+comes_other hosting outset old new came d (inr passes) other = ap (λ (w : World). connection_at w.connections d) passes.same
 
 pub ends_other : (old new : World) (c d : ℕ) → StreamEnds old new c → d ≢ c → connection_at new.connections d ≡ connection_at old.connections d
 ends_other old new c d ends other = rw ends.connections (put_other old.connections c d _ (found_number old.connections c ends.before ends.here) other)

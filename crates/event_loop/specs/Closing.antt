@@ -10,7 +10,7 @@ use Rattle.event_loop.specs.declared.place.Stage.TheVariants.{Free}
 use Rattle.event_loop.specs.declared.queue.Queue.{Queue}
 use Rattle.event_loop.specs.declared.queue.Queue.TheVariants.{Told, Empty, Barred, Asked, Waits}
 use Rattle.event_loop.specs.Deeds as deed
-use Rattle.event_loop.specs.Courses.{known, led}
+use Rattle.event_loop.specs.Courses.{known, led, journey_of}
 use Rattle.event_loop.specs.Noting.{NotesEnd}
 use Rattle.event_loop.specs.Places.{IsOccupied, IsOver}
 use Rattle.event_loop.specs.Scenes.{Promises, Scene}
@@ -42,7 +42,7 @@ freed_queue Waits = Told
 -- A connection is closed and forgotten, its fault is noted, and its place is free.
 pub data Closes {N C J K H : Type 0} (p : Promises N C J K H) (rules : RegistryRecord) (host : H) (k : ℕ) (place : Place)
     (s : Scene N C J K H) : Scene N C J K H → Type 0 where
-  leaves : (n : N) (e : SeenEdge H) (on : GoesOn p.hosting e rules host s.course.schedule s.course.world (Forgotten k)) (last : Option ℕ) (journal : J) →
+  leaves : (n : N) (e : SeenEdge H) (on : GoesOn p.hosting e (journey_of rules host s.course) (Forgotten k)) (last : Option ℕ) (journal : J) →
       p.does s.sockets (deed.Closed k) n →
       NotesEnd p.notes place.stage s.times.steady s.noted s.journal last journal →
       Closes p rules host k place s (record s {

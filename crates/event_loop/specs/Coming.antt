@@ -12,7 +12,7 @@ use Rattle.event_loop.specs.declared.place.Stage.TheVariants.{Open}
 use Rattle.event_loop.specs.declared.queue.Queue.{Queue}
 use Rattle.event_loop.specs.declared.queue.Queue.TheVariants.{Told, Empty, Barred, Asked, Waits}
 use Rattle.event_loop.specs.Deeds as deed
-use Rattle.event_loop.specs.Courses.{led}
+use Rattle.event_loop.specs.Courses.{led, journey_of}
 use Rattle.event_loop.specs.Noting.{NotesFault}
 use Rattle.event_loop.specs.Places.{IsFreeAt, AllTaken, places_limit}
 use Rattle.event_loop.specs.Scenes.{Promises, Scene}
@@ -31,7 +31,7 @@ told_queue Waits = Waits
 
 -- Where somebody may wait, a connection is accepted, if there is a free place for it.
 pub data AcceptsOne {N C J K H : Type 0} (p : Promises N C J K H) (rules : RegistryRecord) (host : H) (s : Scene N C J K H) : Scene N C J K H → Type 0 where
-  opens : (k : ℕ) (n : N) (e : SeenEdge H) (on : GoesOn p.hosting e rules host s.course.schedule s.course.world (Opened k)) →
+  opens : (k : ℕ) (n : N) (e : SeenEdge H) (on : GoesOn p.hosting e (journey_of rules host s.course) (Opened k)) →
       k < places_limit → IsFreeAt s.places k → p.does s.sockets (deed.Came k) n →
       AcceptsOne p rules host s (record s {
         sockets = n;

@@ -16,6 +16,7 @@ use Rattle.event_loop.specs.Places.{AllFree}
 use Rattle.event_loop.specs.Scenes.{Promises, Scene, IsAllKept, IsUnkept}
 use Rattle.event_loop.specs.Answered.{IsAllAnswered}
 use Rattle.event_loop.specs.Served.{IsFirst, MayWait, Served, Shuts}
+use Rattle.event_loop.specs.Courses.{journey_to}
 
 -- these are the tools of the scene
 pub record AreTools {N C J K H : Type 0} (tools : Tools N C J K H) (s : Scene N C J K H) : Type 0 where
@@ -79,5 +80,5 @@ pub record ServesNothing {N C J K H : Type 0} (p : Promises N C J K H) (tools : 
 -- wherever the edge was reached
 abbrev pub RunEnds : {N C J K H : Type 0} → Promises N C J K H → Limits → Tools N C J K H → LoopFault → Tools N C J K H → Type 0
 RunEnds {N} {C} {J} {K} {H} p limits tools fault tools' =
-    (rules : RegistryRecord) (host : H) (schedule : List Happening) (world : World) → Reached p.hosting tools.edge rules host schedule world →
+    (rules : RegistryRecord) (host : H) (schedule : List Happening) (world : World) → Reached p.hosting tools.edge (journey_to rules host schedule world) →
     HasServed p rules host limits tools schedule world fault tools' ⊎ ServesNothing p tools fault tools'

@@ -4,7 +4,7 @@ use Rattle.rand_chacha.specs.ChaCha.{ChaCha}
 use Rattle.hook_host.specs.declared.host.HookHost.{Ghosts as Hosting}
 use Rattle.clients.specs.RegistryRecord.{RegistryRecord}
 use Rattle.heads.specs.Message.{Message}
-use Rattle.http_edge.specs.Schedule.{Came}
+use Rattle.http_edge.specs.Schedule.{Came, piece_of}
 use Rattle.http_edge.specs.Edges.{SeenEdge}
 use Rattle.http_edge.specs.Reached.{PieceGoesOn, is_closing}
 use Rattle.http_edge.specs.Refusals.{IsPieceRefusal}
@@ -13,7 +13,7 @@ use Rattle.http_edge.specs.declared.fault.EdgeFault.TheVariants.{TooManyRequests
 use Rattle.http_edge.specs.Sources.{draws_for, draws_behind}
 use Rattle.http_edge.specs.Pieces.{IsBrought}
 use Rattle.http_edge.specs.contracts.chance.ChaCha20RngDrawSource.TheImpl as generators
-use Rattle.event_loop.specs.Courses.{Course, known, led}
+use Rattle.event_loop.specs.Courses.{Course, known, led, journey_of}
 
 -- where a piece completes too many requests, it is given in cuts of so many bytes
 abbrev pub cut_limit : ℕ
@@ -26,9 +26,10 @@ pub record IsPieceGiven {H : Type 0} (hosting : Hosting H) (rules : RegistryReco
   pub edge : SeenEdge H
   pub generator : ChaCha
   pub messages : List Message
-  pub brought : IsBrought course.world.connections k piece messages
+  pub brought : IsBrought course.world.connections (piece_of k piece moment) messages
   pub after : generator ≡ draws_behind generators.ghosts course.generator messages
-  pub on : PieceGoesOn hosting edge rules host course.schedule course.world k piece moment (draws_for generators.ghosts course.generator messages)
+  pub on : PieceGoesOn hosting edge (journey_of rules host course) (piece_of k piece moment)
+      (draws_for generators.ghosts course.generator messages)
 
 -- bytes are given in pieces, one after another, none after the 400 of a faulty head
 pub data GivesPieces {H : Type 0} (hosting : Hosting H) (rules : RegistryRecord) (host : H) (k moment : ℕ) (first : Course H) : List ℕ → Course H → Type 0 where
@@ -37,8 +38,12 @@ pub data GivesPieces {H : Type 0} (hosting : Hosting H) (rules : RegistryRecord)
       is_closing (known course k) ≡ false →
       (g : IsPieceGiven hosting rules host k moment piece course) →
       GivesPieces hosting rules host k moment first (bytes ++ piece)
-      (record (led course g.edge (Came k piece moment (draws_for generators.ghosts course.generator g.messages) g.on.marks g.on.closes) g.on.on.world)
-      { generator = g.generator })
+      (record (led course g.edge (Came (record {
+        piece = piece_of k piece moment;
+        draws = draws_for generators.ghosts course.generator g.messages;
+        marks = g.on.marks;
+        closes = g.on.closes;
+      })) g.on.on.world) { generator = g.generator })
 
 -- All bytes were given, or the rest comes behind the 400 of a faulty head.
 pub record AreBytesHeard {H : Type 0} (hosting : Hosting H) (rules : RegistryRecord) (host : H) (k moment : ℕ) (bytes : List ℕ)

@@ -21,6 +21,7 @@ use Rattle.event_loop.specs.Scenes.{Promises, Scene, IsAllKept}
 use Rattle.event_loop.specs.Closing.{IsSilentLongest, AreWithin, Closes}
 use Rattle.event_loop.specs.Served.{HadTurn, Served, Shuts}
 use Rattle.event_loop.specs.Ends.{CannotGoOn}
+use Rattle.event_loop.specs.Courses.{journey_to}
 
 -- it holds of the connection, wherever the edge was reached
 abbrev pub WhereKnown : {H : Type 0} → Hosting H → SeenEdge H → ℕ → (Option Connection → Type 0) → Type 0
@@ -84,12 +85,12 @@ pub record DoneAfter (earlier later : List Deed) : Type 0 where
 -- wherever the edge was reached, the bytes are given to it
 abbrev pub LeadsToGiving : {H : Type 0} → Hosting H → ℕ → ℕ → List ℕ → SeenEdge H → ChaCha → SeenEdge H → ChaCha → Type 0
 LeadsToGiving hosting k moment bytes edge generator edge' generator' =
-    (rules : RegistryRecord) (host : _) (schedule : List Happening) (world : World) → Reached hosting edge rules host schedule world →
+    (rules : RegistryRecord) (host : _) (schedule : List Happening) (world : World) → Reached hosting edge (journey_to rules host schedule world) →
     GivesAll hosting rules host k moment bytes (record { edge = edge; generator = generator; schedule = schedule; world = world }) edge' generator'
 
 abbrev pub LeadsToRefusal : {H : Type 0} → Hosting H → ℕ → ℕ → List ℕ → EdgeFault → SeenEdge H → ChaCha → SeenEdge H → ChaCha → Type 0
 LeadsToRefusal hosting k moment bytes fault edge generator edge' generator' =
-    (rules : RegistryRecord) (host : _) (schedule : List Happening) (world : World) → Reached hosting edge rules host schedule world →
+    (rules : RegistryRecord) (host : _) (schedule : List Happening) (world : World) → Reached hosting edge (journey_to rules host schedule world) →
     GivesSome hosting rules host k moment bytes fault (record { edge = edge; generator = generator; schedule = schedule; world = world }) edge' generator'
 
 -- AT ONE PLACE
@@ -209,7 +210,7 @@ pub record GoesAway {N C J K H : Type 0} (p : Promises N C J K H) (rules : Regis
 
 abbrev pub LeadsAway : {N C J K H : Type 0} → Promises N C J K H → ℕ → Place → Service → Tools N C J K H → Service → Tools N C J K H → Type 0
 LeadsAway {N} {C} {J} {K} {H} p k place service tools service' tools' =
-    (rules : RegistryRecord) (host : H) (found : List Ready) (past : Past) → Reached p.hosting tools.edge rules host past.schedule past.world →
+    (rules : RegistryRecord) (host : H) (found : List Ready) (past : Past) → Reached p.hosting tools.edge (journey_to rules host past.schedule past.world) →
     GoesAway p rules host found k place service tools past service' tools'
 
 -- AT ALL PLACES
@@ -381,10 +382,10 @@ pub record GoesShut {N C J K H : Type 0} (p : Promises N C J K H) (rules : Regis
     (service' : Service) (tools' : Tools N C J K H) : Type 0 where
   pub next : Past
   pub shuts : Shuts p rules host first (scene_of service' tools' found next)
-  pub reached : Reached p.hosting tools'.edge rules host next.schedule next.world
+  pub reached : Reached p.hosting tools'.edge (journey_to rules host next.schedule next.world)
 
 abbrev pub LeadsShut : {N C J K H : Type 0} → Promises N C J K H → Service → Tools N C J K H → Service → Tools N C J K H → Type 0
 LeadsShut {N} {C} {J} {K} {H} p service tools service' tools' =
     (rules : RegistryRecord) (host : H) (first : Scene N C J K H) (found : List Ready) (past : Past) →
     Shuts p rules host first (scene_of service tools found past) →
-    Reached p.hosting tools.edge rules host past.schedule past.world → GoesShut p rules host first found service' tools'
+    Reached p.hosting tools.edge (journey_to rules host past.schedule past.world) → GoesShut p rules host first found service' tools'

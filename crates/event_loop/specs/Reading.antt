@@ -10,7 +10,7 @@ use Rattle.event_loop.specs.declared.fault.ConnectionFault.TheVariants.{Read, Re
 use Rattle.event_loop.specs.declared.place.Place.{Place}
 use Rattle.event_loop.specs.declared.place.Stage.TheVariants.{Ended, Broken}
 use Rattle.event_loop.specs.Deeds as deed
-use Rattle.event_loop.specs.Courses.{Course, led}
+use Rattle.event_loop.specs.Courses.{Course, led, journey_of}
 use Rattle.event_loop.specs.Giving.{AreBytesHeard, IsUnheard}
 use Rattle.event_loop.specs.Places.{read_limit}
 use Rattle.event_loop.specs.Scenes.{Promises, Scene}
@@ -40,7 +40,7 @@ pub data ReadsPlace {N C J K H : Type 0} (p : Promises N C J K H) (rules : Regis
         course = course;
         places = slice_set s.places k (record place { stage = Broken (Refused fault) });
       })
-  ends : (n : N) (e : SeenEdge H) (on : GoesOn p.hosting e rules host s.course.schedule s.course.world (HasEnded k)) → p.does s.sockets (deed.ReadEnd k) n →
+  ends : (n : N) (e : SeenEdge H) (on : GoesOn p.hosting e (journey_of rules host s.course) (HasEnded k)) → p.does s.sockets (deed.ReadEnd k) n →
       ReadsPlace p rules host k place s (record s {
         sockets = n;
         deeds = deed.ReadEnd k ∷ s.deeds;

@@ -8,7 +8,7 @@ use Rattle.event_loop.specs.declared.sockets.Ready.{Ready}
 use Rattle.event_loop.specs.declared.sockets.Ready.TheVariants as ready
 use Rattle.event_loop.specs.Deeds as deed
 use Rattle.event_loop.specs.Deeds.{Deed, Reading, Keeping, Writing, Accepting, IsDone, done_since}
-use Rattle.event_loop.specs.Courses.{known, led, IsReached}
+use Rattle.event_loop.specs.Courses.{known, led, IsReached, journey_of}
 use Rattle.change_codec.specs.Keeping.{Keeps}
 use Rattle.http_edge.specs.Edges.{SeenEdge}
 use Rattle.http_edge.specs.Reached.{GoesOn}
@@ -99,7 +99,7 @@ pub data LoopStep {N C J K H : Type 0} (p : Promises N C J K H) (rules : Registr
   -- the journal alone is another
   reports : (notice : Notice) (told : LastTold) (journal : J) → IsDue p s notice told → p.reports s.journal notice journal →
       LoopStep p rules host s (record s { journal = journal; told = told })
-  keeps : (keeper : K) (e : SeenEdge H) (unkept : IsUnkept s.course.world) (on : GoesOn p.hosting e rules host s.course.schedule s.course.world Kept) →
+  keeps : (keeper : K) (e : SeenEdge H) (unkept : IsUnkept s.course.world) (on : GoesOn p.hosting e (journey_of rules host s.course) Kept) →
       ¬ (IsDone Keeping s.deeds) →
       Keeps p.keeping unkept.kept s.course.world.history s.keeper keeper →
       LoopStep p rules host s (record s { keeper = keeper; course = led s.course e Kept on.world; deeds = deed.Kept ∷ s.deeds })

@@ -1,20 +1,15 @@
 -- Beside Served: only the contracts of this crate's own parts and their proofs cite this, no public clause.
 use Rattle.std.specs.Prelude.{◌+◌, ℕ, Option, Some, None, Result, Ok, Err}
-use Rattle.hook_host.specs.declared.host.HookHost.{Ghosts as Hosting}
-use Rattle.serving.specs.Streams.{Doing}
 use Rattle.serving.specs.declared.fault.ServeFault.{ServeFault}
 use Rattle.serving.specs.declared.serve.Heard.{Heard}
 use Rattle.serving.specs.declared.serve.Heard.TheVariants as Hears
 use Rattle.serving.specs.declared.serve.Over.{Over}
 use Rattle.serving.specs.declared.serve.Over.TheVariants as Overs
-use Rattle.serving.specs.Served.{ServingScene, Stage, Runs, Reading, Finished, Served}
+use Rattle.serving.specs.Served.{ServingScene, Stage, StreamService, Runs, Reading, Finished, Served}
 
--- whatever led to the one stage and scene, steps lead on to the other
-abbrev pub Goes : {H S C : Type 0} → Hosting H → (S → Doing → S → Type 0) → (C → Option ℕ → C → Type 0) → ℕ → Stage → ServingScene H S C → Stage →
-    ServingScene H S C → Type 0
-Goes {H} {S} {C} hosting does tells c stage old stage' new =
-    (first_stage : Stage) (first : ServingScene H S C) → Runs hosting does tells c first_stage first stage old →
-    Runs hosting does tells c first_stage first stage' new
+-- whatever led to the one scene, steps lead on to the other
+abbrev pub Goes : {H S C : Type 0} → StreamService H S → (C → Option ℕ → C → Type 0) → ServingScene H S C → ServingScene H S C → Type 0
+Goes t tells old new = (first : ServingScene _ _ _) → Runs t tells first old → Runs t tells first new
 
 -- the stage behind a read
 abbrev pub stage_heard : ℕ → Result Heard ServeFault → Stage

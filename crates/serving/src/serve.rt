@@ -1,9 +1,7 @@
 //! A connection served from its opening on.
 ghost use Rattle.std.specs.Prelude.{◌≡◌, ◌<◌, ◌+◌, ℕ, List, [], Option, true, false, Some, None, OnOk, OnErr, IfOk, IfErr};
-ghost use Rattle.clients.specs.RegistryRecord.{RegistryRecord};
-ghost use Rattle.http_edge.specs.Schedule.{World, Happening};
-ghost use Rattle.http_edge.specs.Reached.{Reached};
-ghost use Rattle.serving.specs.Served.{Runs, Coming, Reading, Finished, Ended, Served, Left, IsAttentive, IsWritten, WriteFails, serving_scene, LeadsOn, any_fault};
+ghost use Rattle.http_edge.specs.Reached.{Journey, Reached};
+ghost use Rattle.serving.specs.Served.{Runs, Coming, Reading, Finished, Ended, Served, Left, IsAttentive, IsWritten, WriteFails, edge_stream, serving_scene, stream_service, LeadsOn, any_fault};
 ghost use Rattle.serving.specs.ServedParts.{Goes, stage_heard, stage_over};
 ghost use Rattle.serving.specs.Answered.{ServesConnection};
 ghost use Rattle.serving.specs.declared.fault.ServeFault.TheVariants.{Write};
@@ -37,7 +35,9 @@ fn hear<H: HookHost, S: Stream, C: Clock>(
     rng: &mut ChaCha20Rng,
 ) -> Result<Heard, ServeFault>
     requires attentive { IsAttentive H.HookHost edge.old c }
-    ensures { (n : ℕ) → n < 1048576 → Goes H.HookHost S.does C.tells c (Reading n) (serving_scene edge.old stream.old clock.old rng.old) (stage_heard n result) (serving_scene edge.new stream.new clock.new rng.new) }
+    ensures { (n : ℕ) → n < 1048576 → Goes (stream_service H.HookHost S.does c) C.tells
+        (serving_scene (Reading n) edge.old stream.old clock.old rng.old)
+        (serving_scene (stage_heard n result) edge.new stream.new clock.new rng.new) }
 {
     let mut buffer = [0; PIECE_LIMIT];
     let Ok(count) = stream.receive(&mut buffer) else {
@@ -61,9 +61,11 @@ fn write_output<H: HookHost, S: Stream>(
     c: u32,
     stream: &mut S,
 ) -> Result<(), ServeFault>
-    ensures written { OnOk result (IsWritten H.HookHost S.does c edge.old stream.old edge.new stream.new) }
+    ensures written { OnOk result (IsWritten (stream_service H.HookHost S.does c) (edge_stream edge.old stream.old)
+        (edge_stream edge.new stream.new)) }
     ensures fault { IfErr result (λ fault. fault ≡ Write) }
-    ensures failed { OnErr result (WriteFails H.HookHost S.does c edge.old stream.old edge.new stream.new) }
+    ensures failed { OnErr result (WriteFails (stream_service H.HookHost S.does c) (edge_stream edge.old stream.old)
+        (edge_stream edge.new stream.new)) }
 {
     'writes: while !edge.output(c).is_empty() {
         let output = edge.output(c);
@@ -95,7 +97,9 @@ fn hear_all<H: HookHost, S: Stream, C: Clock>(
     clock: &mut C,
     rng: &mut ChaCha20Rng,
 ) -> Result<Over, ServeFault>
-    ensures { Goes H.HookHost S.does C.tells c (Reading 0) (serving_scene edge.old stream.old clock.old rng.old) (stage_over result) (serving_scene edge.new stream.new clock.new rng.new) }
+    ensures { Goes (stream_service H.HookHost S.does c) C.tells
+        (serving_scene (Reading 0) edge.old stream.old clock.old rng.old)
+        (serving_scene (stage_over result) edge.new stream.new clock.new rng.new) }
 {
     for pieces in 0..READ_LIMIT {
         write_output(edge, c, stream)?;
@@ -118,7 +122,9 @@ fn attend<H: HookHost, S: Stream, C: Clock>(
     clock: &mut C,
     rng: &mut ChaCha20Rng,
 ) -> Result<(), ServeFault>
-    ensures { Goes H.HookHost S.does C.tells c (Reading 0) (serving_scene edge.old stream.old clock.old rng.old) (Served (any_fault result)) (serving_scene edge.new stream.new clock.new rng.new) }
+    ensures { Goes (stream_service H.HookHost S.does c) C.tells
+        (serving_scene (Reading 0) edge.old stream.old clock.old rng.old)
+        (serving_scene (Served (any_fault result)) edge.new stream.new clock.new rng.new) }
 {
     match hear_all(edge, c, stream, clock, rng)? {
         Over::Closed => Ok(()),
@@ -143,11 +149,14 @@ pub fn serve_one<H: HookHost, S: Stream, C: Clock>(
     clock: &mut C,
     rng: &mut ChaCha20Rng,
 ) -> Result<(), ServeFault>
-    ensures served { Runs H.HookHost S.does C.tells c Coming (serving_scene edge.old stream.old clock.old rng.old) (Left (any_fault result)) (serving_scene edge.new stream.new clock.new rng.new) }
-    ensures reached { (rules : RegistryRecord) (first : H) (schedule : List Happening) (world : World) → Reached H.HookHost edge.old rules first schedule world →
-        LeadsOn H.HookHost edge.new rules first schedule }
+    ensures served { Runs (stream_service H.HookHost S.does c) C.tells
+        (serving_scene Coming edge.old stream.old clock.old rng.old)
+        (serving_scene (Left (any_fault result)) edge.new stream.new clock.new rng.new) }
+    ensures reached { (journey : Journey H) → Reached H.HookHost edge.old journey →
+        LeadsOn H.HookHost edge.new journey }
     // All that was written is a front of the replies to the requests in what was read.
-    ensures written { ServesConnection H.HookHost S.does c edge.old stream.old (any_fault result) edge.new stream.new }
+    ensures written { ServesConnection (stream_service H.HookHost S.does c)
+        (edge_stream edge.old stream.old) (any_fault result) (edge_stream edge.new stream.new) }
 {
     if let Err(fault) = edge.event(Event::Open(c)) {
         return Err(ServeFault::Refused(fault));

@@ -10,6 +10,7 @@ use Rattle.event_loop.proofs.Answering.{served_answered}
 use Rattle.event_loop.proofs.Doing.{none_more, kept_more, not_another}
 use Rattle.event_loop.proofs.Kept.{none_unkept, nothing_unkept, something_unkept, unkept_happened, kept_connections, all_kept_now, not_empty}
 use Rattle.event_loop.proofs.keep.keep_all.Goals as goal
+use Rattle.event_loop.specs.Courses.{journey_to}
 
 pub returns-in_default-clause-kept : goal.returns-in_default-clause-kept
 returns-in_default-clause-kept g c = λ rules host first found service past undone h.
@@ -17,7 +18,7 @@ returns-in_default-clause-kept g c = λ rules host first found service past undo
     record {
       next = past;
       served = h;
-      kept = none_unkept past.world (c.in_default.ensures.unkept rules host past.schedule past.world reached);
+      kept = none_unkept past.world (c.in_default.ensures.unkept (journey_to rules host past.schedule past.world) reached);
       connections = refl;
       done = none_more past.deeds;
       alone = λ other differs not. not;
@@ -30,7 +31,7 @@ returns-then-is_empty-clause-kept g c = λ rules host first found service past u
     record {
       next = past;
       served = h;
-      kept = nothing_unkept past.world batch.facts (c.is_empty.ensures.0 c.if-is_empty.true) (c.in-Some.ensures.unkept rules host past.schedule past.world reached);
+      kept = nothing_unkept past.world batch.facts (c.is_empty.ensures.0 c.if-is_empty.true) (c.in-Some.ensures.unkept (journey_to rules host past.schedule past.world) reached);
       connections = refl;
       done = none_more past.deeds;
       alone = λ other differs not. not;
@@ -41,7 +42,7 @@ returns-in_default-keep-clause-lost g c = λ rules host first found service past
     let reached = (served_answered (promises g.N.Sockets g.C.Clocks g.J.Journal (keeping g.K.Keeper g.K.ImageKeeper) g.H.HookHost) rules host first _ h).reached in
     let facts = c.in-Some.batch.now.facts in
     let some = not_empty _ facts c.is_empty.ensures c.if-is_empty.false in
-    let noted = c.in-Some.ensures.unkept rules host past.schedule past.world reached in
+    let noted = c.in-Some.ensures.unkept (journey_to rules host past.schedule past.world) reached in
     let unkept = something_unkept past.world facts some noted in
     not_kept c.keep.new.self unkept undone (c.in_default-keep.ensures.lost unkept.kept past.world.history (unkept_happened past.world facts some noted))
 
@@ -50,9 +51,9 @@ returns-clause-kept g c = λ rules host first found service past undone h.
     let reached = (served_answered (promises g.N.Sockets g.C.Clocks g.J.Journal (keeping g.K.Keeper g.K.ImageKeeper) g.H.HookHost) rules host first _ h).reached in
     let facts = c.in-Some.batch.now.facts in
     let some = not_empty _ facts c.is_empty.ensures c.if-is_empty.false in
-    let noted = c.in-Some.ensures.unkept rules host past.schedule past.world reached in
+    let noted = c.in-Some.ensures.unkept (journey_to rules host past.schedule past.world) reached in
     let unkept = something_unkept past.world facts some noted in
-    let on = c.forget_unkept.ensures.kept rules host past.schedule past.world reached in
+    let on = c.forget_unkept.ensures.kept (journey_to rules host past.schedule past.world) reached in
     record {
       next = record { deeds = deed.Kept ∷ past.deeds; schedule = past.schedule ++ Kept ∷ []; world = on.world };
       served = goes h (keeps c.keep.new.self c.forget_unkept.new.self unkept on undone (c.in-Ok.ensures.kept unkept.kept past.world.history (unkept_happened past.world facts some noted)));

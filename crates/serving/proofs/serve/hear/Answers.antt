@@ -4,20 +4,20 @@ use Rattle.serving.proofs.Pieces.{piece_comes, piece_fits}
 use Rattle.serving.proofs.serve.hear.Goals as goal
 
 pub returns-in_default : goal.returns-in_default
-returns-in_default g c = λ n few s0 first run. goes run (breaks n few c.requires.attentive c.in_default.ensures.done)
+returns-in_default g c = λ n few first run. goes run (breaks n few c.requires.attentive c.in_default.ensures.done)
 
 pub returns-then-count-eq0 : goal.returns-then-count-eq0
-returns-then-count-eq0 g c = λ n few s0 first run. goes run (finishes n few c.requires.attentive (rw c.if-count-eq0.true at c.in-Ok.ensures.done))
+returns-then-count-eq0 g c = λ n few first run. goes run (finishes n few c.requires.attentive (rw c.if-count-eq0.true at c.in-Ok.ensures.done))
 
 pub returns-in_default-now : goal.returns-in_default-now
-returns-in_default-now g c = λ n few s0 first run.
+returns-in_default-now g c = λ n few first run.
     goes run (loses_time n _ few c.requires.attentive (piece_comes _ _ (search rules) c.in-Ok.ensures.within.0) (piece_fits _ _ (search rules)) c.in-Ok.ensures.done c.in_default-now.ensures)
 
 pub returns-in-Err : goal.returns-in-Err
-returns-in-Err g c = λ n few s0 first run.
+returns-in-Err g c = λ n few first run.
     rw (c.in-Err.ensures.err, c.in-Err.ensures.undrawn)
     (goes run (refuses n _ _ c.in-Err.fault few c.requires.attentive (piece_comes _ _ (search rules) c.in-Ok.ensures.within.0) (piece_fits _ _ (search rules)) c.in-Ok.ensures.done c.in-Some.ensures c.in-Err.ensures.refused))
 
 pub returns : goal.returns
-returns g c = λ n few s0 first run.
+returns g c = λ n few first run.
     goes run (hears n _ _ few c.requires.attentive (piece_comes _ _ (search rules) c.in-Ok.ensures.within.0) (piece_fits _ _ (search rules)) c.in-Ok.ensures.done c.in-Some.ensures c.in_default-hear.ensures.given)

@@ -17,13 +17,14 @@ use Rattle.event_loop.proofs.Telling.{opened_here}
 use Rattle.event_loop.proofs.Answering.{served_answered}
 use Rattle.event_loop.proofs.Resting.{put_others, put_settled, all_settled, settled_then, fresh_rests}
 use Rattle.event_loop.proofs.service.Service.admit.Goals as goal
+use Rattle.event_loop.specs.Courses.{journey_to}
 
 pub returns-in-Ok-clause-leads : goal.returns-in-Ok-clause-leads
 returns-in-Ok-clause-leads g c = λ found rules host first past h settled.
     let reached = (served_answered (promises g.N.Sockets g.C.Clocks g.J.Journal (keeping g.K.Keeper g.K.ImageKeeper) g.H.HookHost) rules host first _ h).reached in
     let k = c.args.k in
     let place = fresh_place c.args.self.now.times.steady in
-    let on = c.in-Ok.ensures.done rules host past.schedule past.world reached in
+    let on = c.in-Ok.ensures.done (journey_to rules host past.schedule past.world) reached in
     let here : connection_at on.world.connections k ≡ Some (fresh k) = opened_here past.world on.world k on.happens in
     let rests : IsPlaceAtRest place (connection_at on.world.connections k) = subst (λ o. IsPlaceAtRest place o) (sym here) (fresh_rests c.args.self.now.times.steady (fresh k) refl refl) in
     let next : Past = record { deeds = deed.Came k ∷ past.deeds; schedule = past.schedule ++ Opened k ∷ []; world = on.world } in
@@ -51,7 +52,7 @@ returns-in-Err-clause-leads g c = λ found rules host first past h settled.
         served =
             goes h
             (comes _ c.requires.told
-            (denies k c.accept.new.self c.close.new.self c.in-Err.fault c.note.new.noted c.note.new.journal c.requires.bound c.requires.free c.in-Taken.ensures (c.in-Err.ensures.refused rules host past.schedule past.world reached) c.close.ensures c.note.ensures));
+            (denies k c.accept.new.self c.close.new.self c.in-Err.fault c.note.new.noted c.note.new.journal c.requires.bound c.requires.free c.in-Taken.ensures (c.in-Err.ensures.refused (journey_to rules host past.schedule past.world) reached) c.close.ensures c.note.ensures));
         settled = settled_then c.args.self.now past _ _ refl refl refl (done_then _ (deed.Came k ∷ past.deeds) _ (one_more _ _ refl refl (λ task t. inr t)) (one_more _ _ refl refl (λ task t. inr t))) settled;
         done = done_then _ (deed.Came k ∷ past.deeds) _ (one_more _ _ refl refl (λ task t. inr t)) (one_more _ _ refl refl (λ task t. inr t));
       };

@@ -3,10 +3,11 @@ use Rattle.http_edge.specs.Schedule.{Forgotten}
 use Rattle.event_loop.specs.Deeds as deed
 use Rattle.event_loop.specs.Closing.{leaves}
 use Rattle.event_loop.proofs.service.Service.leave.Goals as goal
+use Rattle.event_loop.specs.Courses.{journey_to}
 
 pub returns-clause-away : goal.returns-clause-away
 returns-clause-away g c = λ rules host found past reached.
-    let on = c.forget.ensures.forgotten rules host past.schedule past.world reached in
+    let on = c.forget.ensures.forgotten (journey_to rules host past.schedule past.world) reached in
     rw c.freed-self.ensures
     (record {
       next = record { deeds = deed.Closed c.args.k ∷ past.deeds; schedule = past.schedule ++ Forgotten c.args.k ∷ []; world = on.world };

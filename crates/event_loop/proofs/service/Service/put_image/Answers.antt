@@ -1,6 +1,6 @@
 use Rattle.std.proofs.Common.{rules, ◌≡◌, true, false, Err, Some, refl, sym, ap, subst}
 use Rattle.image_keeper.specs.declared.keeper.ImageFault.{ImageFault}
-use Rattle.endpoints.specs.Server.{SeenServer, FitsServer}
+use Rattle.endpoints.specs.Server.{SeenServer, FitsServer, outset_of}
 use Rattle.event_loop.specs.declared.service.Service.{Service}
 use Rattle.event_loop.specs.Ends.{not_imaged}
 use Rattle.event_loop.specs.Goes.{scene_of}
@@ -9,31 +9,32 @@ use Rattle.event_loop.specs.Served.{Served, goes, no_image, puts_image}
 use Rattle.image_keeper.specs.Keeping.{keeping}
 use Rattle.event_loop.proofs.Answering.{served_answered}
 use Rattle.event_loop.proofs.service.Service.put_image.Goals as goal
+use Rattle.event_loop.specs.Courses.{journey_to}
 
 pub returns-then-not-is_all_kept-clause-put : goal.returns-then-not-is_all_kept-clause-put
 returns-then-not-is_all_kept-clause-put g c = λ rules host first found past h.
     let reached = (served_answered (promises g.N.Sockets g.C.Clocks g.J.Journal (keeping g.K.Keeper g.K.ImageKeeper) g.H.HookHost) rules host first _ h).reached in
     let none : c.is_all_kept.result ≡ false = search rules in
-    let unkept = c.is_all_kept.ensures.unkept none rules host past.schedule past.world reached in
+    let unkept = c.is_all_kept.ensures.unkept none (journey_to rules host past.schedule past.world) reached in
     (h, λ all long. absurd (unkept.more (all unkept.kept unkept.here)))
 
 pub returns-in-Ok-clause-put : goal.returns-in-Ok-clause-put
 returns-in-Ok-clause-put g c = λ rules host first found past h.
     let reached = (served_answered (promises g.N.Sockets g.C.Clocks g.J.Journal (keeping g.K.Keeper g.K.ImageKeeper) g.H.HookHost) rules host first _ h).reached in
     let kept : c.is_all_kept.result ≡ true = search rules in
-    let all : IsAllKept past.world = c.is_all_kept.ensures.kept kept rules host past.schedule past.world reached in
-    let fits : FitsServer g.H.HookHost.installs g.H.HookHost.removes c.server.result.now rules host past.world.history past.world.greatest =
-    subst (λ (s : SeenServer g.row.H.Denot). FitsServer g.H.HookHost.installs g.H.HookHost.removes s rules host past.world.history past.world.greatest) (sym c.server.ensures) reached.server in
-    (goes h (puts_image c.put_image.new.self all (c.in-Ok.ensures.kept rules host past.world.history past.world.greatest fits)), λ still long. absurd (c.in-Ok.ensures.short long))
+    let all : IsAllKept past.world = c.is_all_kept.ensures.kept kept (journey_to rules host past.schedule past.world) reached in
+    let fits : FitsServer g.H.HookHost c.server.result.now (outset_of rules host) past.world.history past.world.greatest =
+    subst (λ (s : SeenServer g.row.H.Denot). FitsServer g.H.HookHost s (outset_of rules host) past.world.history past.world.greatest) (sym c.server.ensures) reached.server in
+    (goes h (puts_image c.put_image.new.self all (c.in-Ok.ensures.kept (outset_of rules host) past.world.history past.world.greatest fits)), λ still long. absurd (c.in-Ok.ensures.short long))
 
 pub returns-in-Err-Failed-clause-failed : goal.returns-in-Err-Failed-clause-failed
 returns-in-Err-Failed-clause-failed g c = λ rules host first found past h.
     let reached = (served_answered (promises g.N.Sockets g.C.Clocks g.J.Journal (keeping g.K.Keeper g.K.ImageKeeper) g.H.HookHost) rules host first _ h).reached in
     let kept : c.is_all_kept.result ≡ true = search rules in
-    let all : IsAllKept past.world = c.is_all_kept.ensures.kept kept rules host past.schedule past.world reached in
-    let fits : FitsServer g.H.HookHost.installs g.H.HookHost.removes c.server.result.now rules host past.world.history past.world.greatest =
-    subst (λ (s : SeenServer g.row.H.Denot). FitsServer g.H.HookHost.installs g.H.HookHost.removes s rules host past.world.history past.world.greatest) (sym c.server.ensures) reached.server in
-    not_imaged c.put_image.new.self all (c.in-Err-Failed.ensures.failed (ap (λ (fault : ImageFault). Err fault) c.in-Err-Failed.field-0-is) rules host past.world.history past.world.greatest fits)
+    let all : IsAllKept past.world = c.is_all_kept.ensures.kept kept (journey_to rules host past.schedule past.world) reached in
+    let fits : FitsServer g.H.HookHost c.server.result.now (outset_of rules host) past.world.history past.world.greatest =
+    subst (λ (s : SeenServer g.row.H.Denot). FitsServer g.H.HookHost s (outset_of rules host) past.world.history past.world.greatest) (sym c.server.ensures) reached.server in
+    not_imaged c.put_image.new.self all (c.in-Err-Failed.ensures.failed (ap (λ (fault : ImageFault). Err fault) c.in-Err-Failed.field-0-is) (outset_of rules host) past.world.history past.world.greatest fits)
 
 pub returns-in-Err-Memory-clause-put : goal.returns-in-Err-Memory-clause-put
 returns-in-Err-Memory-clause-put g c = λ rules host first found past h.

@@ -16,6 +16,7 @@ use Rattle.event_loop.proofs.Doing.{one_more, not_another}
 use Rattle.event_loop.proofs.Putting.{taken_length}
 use Rattle.event_loop.proofs.Resting.{put_others}
 use Rattle.event_loop.proofs.service.Service.read_once.Goals as goal
+use Rattle.event_loop.specs.Courses.{journey_to}
 
 pub returns-in-Ok-clause-acts : goal.returns-in-Ok-clause-acts
 returns-in-Ok-clause-acts g c = λ rules host first found past undone ready h.
@@ -30,7 +31,7 @@ returns-in-Ok-clause-acts g c = λ rules host first found past undone ready h.
         next = record { deeds = deed.Read c.args.k read_limit bytes ∷ past.deeds; schedule = given.schedule; world = given.world };
         served =
             goes h
-            (reads c.args.k c.args.place _ c.requires.here c.requires.readable undone (c.requires.may rules host past.schedule past.world reached)
+            (reads c.args.k c.args.place _ c.requires.here c.requires.readable undone (c.requires.may (journey_to rules host past.schedule past.world) reached)
             (hears bytes c.read.new.self _ c.read-in-Ok.result (subst (λ n. 0 < n) (sym size) c.in-Bytes.ensures.within.0) (omega (arith, size, c.in-Bytes.ensures.within)) (subst (λ n. g.N.Sockets.does c.args.tools.now.sockets (deed.Read c.args.k n bytes) c.read.new.self) room c.in-Bytes.ensures.done) given.heard (c.read-in-Ok.ensures ∙ ap (read_place c.args.place) (sym size))));
         others =
             put_others c.args.k c.args.self.now _ c.read-in-Ok.result past.world given.world refl (λ j other. refl)
@@ -56,7 +57,7 @@ returns-in-Err-clause-acts g c = λ rules host first found past undone ready h.
         next = record { deeds = deed.Read c.args.k read_limit bytes ∷ past.deeds; schedule = some.schedule; world = some.world };
         served =
             goes h
-            (reads c.args.k c.args.place _ c.requires.here c.requires.readable undone (c.requires.may rules host past.schedule past.world reached)
+            (reads c.args.k c.args.place _ c.requires.here c.requires.readable undone (c.requires.may (journey_to rules host past.schedule past.world) reached)
             (refuses bytes c.read.new.self c.in-Err.fault _ (subst (λ n. 0 < n) (sym size) c.in-Bytes.ensures.within.0) (omega (arith, size, c.in-Bytes.ensures.within)) (subst (λ n. g.N.Sockets.does c.args.tools.now.sockets (deed.Read c.args.k n bytes) c.read.new.self) room c.in-Bytes.ensures.done) some.unheard));
         others =
             put_others c.args.k c.args.self.now _ (record c.args.place { stage = Broken (Refused c.in-Err.fault) }) past.world some.world refl (λ j other. refl)
@@ -72,13 +73,13 @@ returns-in-Err-clause-acts g c = λ rules host first found past undone ready h.
 pub returns-in-Ok-event-clause-acts : goal.returns-in-Ok-event-clause-acts
 returns-in-Ok-event-clause-acts g c = λ rules host first found past undone ready h.
     let reached = (served_answered (promises g.N.Sockets g.C.Clocks g.J.Journal (keeping g.K.Keeper g.K.ImageKeeper) g.H.HookHost) rules host first _ h).reached in
-    let on = c.in-Ok-event.ensures.done rules host past.schedule past.world reached in
+    let on = c.in-Ok-event.ensures.done (journey_to rules host past.schedule past.world) reached in
     record {
       goes = record {
         next = record { deeds = deed.ReadEnd c.args.k ∷ past.deeds; schedule = past.schedule ++ HasEnded c.args.k ∷ []; world = on.world };
         served =
             goes h
-            (reads c.args.k c.args.place _ c.requires.here c.requires.readable undone (c.requires.may rules host past.schedule past.world reached)
+            (reads c.args.k c.args.place _ c.requires.here c.requires.readable undone (c.requires.may (journey_to rules host past.schedule past.world) reached)
             (ends c.read.new.self c.event.new.self on c.in-End.ensures.done));
         others =
             put_others c.args.k c.args.self.now _ (record c.args.place { stage = Ended }) past.world on.world refl (λ j other. refl)
@@ -99,7 +100,7 @@ returns-in-Later-clause-acts g c = λ rules host first found past undone ready h
         next = record past { deeds = deed.ReadNothing c.args.k ∷ past.deeds };
         served =
             goes h
-            (reads c.args.k c.args.place _ c.requires.here c.requires.readable undone (c.requires.may rules host past.schedule past.world reached)
+            (reads c.args.k c.args.place _ c.requires.here c.requires.readable undone (c.requires.may (journey_to rules host past.schedule past.world) reached)
             (finds_nothing c.read.new.self c.in-Later.ensures.done));
         others = put_others c.args.k c.args.self.now _ (record c.args.place { readable = false }) past.world past.world refl (λ j other. refl) (λ j other. refl);
         done = one_more _ _ refl refl (λ task t. inr t);
@@ -118,7 +119,7 @@ returns-in-Failed-clause-acts g c = λ rules host first found past undone ready 
         next = record past { deeds = deed.ReadFailed c.args.k ∷ past.deeds };
         served =
             goes h
-            (reads c.args.k c.args.place _ c.requires.here c.requires.readable undone (c.requires.may rules host past.schedule past.world reached)
+            (reads c.args.k c.args.place _ c.requires.here c.requires.readable undone (c.requires.may (journey_to rules host past.schedule past.world) reached)
             (fails c.read.new.self c.in-Failed.ensures.done));
         others = put_others c.args.k c.args.self.now _ (record c.args.place { stage = Broken Read }) past.world past.world refl (λ j other. refl) (λ j other. refl);
         done = one_more _ _ refl refl (λ task t. inr t);
@@ -139,8 +140,8 @@ returns-in-Err-event-clause-acts g c = λ rules host first found past undone rea
         next = record past { deeds = deed.ReadEnd c.args.k ∷ past.deeds };
         served =
             goes h
-            (reads c.args.k c.args.place _ c.requires.here c.requires.readable undone (c.requires.may rules host past.schedule past.world reached)
-            (ends_nothing c.read.new.self fault c.in-End.ensures.done (c.in-Err-event.ensures.refused rules host past.schedule past.world reached)));
+            (reads c.args.k c.args.place _ c.requires.here c.requires.readable undone (c.requires.may (journey_to rules host past.schedule past.world) reached)
+            (ends_nothing c.read.new.self fault c.in-End.ensures.done (c.in-Err-event.ensures.refused (journey_to rules host past.schedule past.world) reached)));
         others = put_others c.args.k c.args.self.now _ (record c.args.place { stage = Broken (Refused fault) }) past.world past.world refl (λ j other. refl) (λ j other. refl);
         done = one_more _ _ refl refl (λ task t. inr t);
         alone = λ other differs not. not_another (Reading c.args.k) other past.deeds differs not;

@@ -15,6 +15,7 @@ use Rattle.event_loop.proofs.Leading.{closes_other, closes_kept}
 use Rattle.event_loop.proofs.Putting.{set_other}
 use Rattle.event_loop.proofs.Resting.{put_others, put_settled, free_rests, stays_tidy, not_due, not_rested}
 use Rattle.event_loop.proofs.service.Service.settle.Goals as goal
+use Rattle.event_loop.specs.Courses.{journey_to}
 
 pub returns-then-is_over-clause-tidies : goal.returns-then-is_over-clause-tidies
 returns-then-is_over-clause-tidies g c = λ rules host first found past h.
@@ -23,7 +24,7 @@ returns-then-is_over-clause-tidies g c = λ rules host first found past h.
     let reached = (served_answered p rules host first _ h).reached in
     let place = c.place_at-place.result in
     let away = c.leave.ensures.away rules host found past reached in
-    let over : IsOver place (connection_at past.world.connections k) = c.is_over.ensures.over c.if-is_over.true rules host past.schedule past.world reached in
+    let over : IsOver place (connection_at past.world.connections k) = c.is_over.ensures.over c.if-is_over.true (journey_to rules host past.schedule past.world) reached in
     let places : c.leave.new.self.places ≡ slice_set c.args.self.now.places k (record place { stage = Free }) = ap (λ (s : Service). s.places) c.leave.ensures.rest in
     let due : c.leave.new.self.due ≡ slice_set c.args.self.now.due k false = ap (λ (s : Service). s.due) c.leave.ensures.rest ∙ c.remove.ensures in
     let settled = put_settled k c.args.self.now c.leave.new.self (record place { stage = Free }) away.next places (free_rests _ _ refl) (λ e. closes_some p rules host k place _ _ away.closes) in
@@ -50,9 +51,9 @@ returns-then-may_read-clause-tidies g c = λ rules host first found past h.
     let due = c.args.self.now.due in
     let k = c.args.k in
     rw (c.add.ensures, c.remove.ensures) (stays_tidy p rules host first found k c.args.self.now c.args.tools.now past c.place_at-place.result (slice_set (slice_set due k false) k true) c.place_at-place.ensures
-    (c.is_over.ensures.goes_on c.if-is_over.false rules host past.schedule past.world reached) (λ j other. set_other (slice_set due k false) k j true other ∙ set_other due k j false other)
+    (c.is_over.ensures.goes_on c.if-is_over.false (journey_to rules host past.schedule past.world) reached) (λ j other. set_other (slice_set due k false) k j true other ∙ set_other due k j false other)
     (λ none. absurd (not_rested (slice_set due k false) k none))
-    (λ e. a_read (c.may_read.ensures.readable c.if-may_read.true) (c.may_read.ensures.may c.if-may_read.true rules host past.schedule past.world reached)) h)
+    (λ e. a_read (c.may_read.ensures.readable c.if-may_read.true) (c.may_read.ensures.may c.if-may_read.true (journey_to rules host past.schedule past.world) reached)) h)
 
 pub returns-then-may_write-clause-tidies : goal.returns-then-may_write-clause-tidies
 returns-then-may_write-clause-tidies g c = λ rules host first found past h.
@@ -61,9 +62,9 @@ returns-then-may_write-clause-tidies g c = λ rules host first found past h.
     let due = c.args.self.now.due in
     let k = c.args.k in
     rw (c.add-then-may_write.ensures, c.remove.ensures) (stays_tidy p rules host first found k c.args.self.now c.args.tools.now past c.place_at-place.result (slice_set (slice_set due k false) k true) c.place_at-place.ensures
-    (c.is_over.ensures.goes_on c.if-is_over.false rules host past.schedule past.world reached) (λ j other. set_other (slice_set due k false) k j true other ∙ set_other due k j false other)
+    (c.is_over.ensures.goes_on c.if-is_over.false (journey_to rules host past.schedule past.world) reached) (λ j other. set_other (slice_set due k false) k j true other ∙ set_other due k j false other)
     (λ none. absurd (not_rested (slice_set due k false) k none))
-    (λ e. a_write (c.may_write.ensures.writable c.if-may_write.true) (c.may_write.ensures.may c.if-may_write.true rules host past.schedule past.world reached)) h)
+    (λ e. a_write (c.may_write.ensures.writable c.if-may_write.true) (c.may_write.ensures.may c.if-may_write.true (journey_to rules host past.schedule past.world) reached)) h)
 
 pub returns-else-may_write-clause-tidies : goal.returns-else-may_write-clause-tidies
 returns-else-may_write-clause-tidies g c = λ rules host first found past h.
@@ -72,9 +73,9 @@ returns-else-may_write-clause-tidies g c = λ rules host first found past h.
     let due = c.args.self.now.due in
     let k = c.args.k in
     rw c.remove.ensures (stays_tidy p rules host first found k c.args.self.now c.args.tools.now past c.place_at-place.result (slice_set due k false) c.place_at-place.ensures
-    (c.is_over.ensures.goes_on c.if-is_over.false rules host past.schedule past.world reached) (λ j other. set_other due k j false other)
+    (c.is_over.ensures.goes_on c.if-is_over.false (journey_to rules host past.schedule past.world) reached) (λ j other. set_other due k j false other)
     (λ none. record {
-      unread = λ readable. c.may_read.ensures.rests c.if-may_read.false readable rules host past.schedule past.world reached;
-      unwritten = λ writable. c.may_write.ensures.rests c.if-may_write.false writable rules host past.schedule past.world reached;
-      goes_on = c.is_over.ensures.goes_on c.if-is_over.false rules host past.schedule past.world reached;
+      unread = λ readable. c.may_read.ensures.rests c.if-may_read.false readable (journey_to rules host past.schedule past.world) reached;
+      unwritten = λ writable. c.may_write.ensures.rests c.if-may_write.false writable (journey_to rules host past.schedule past.world) reached;
+      goes_on = c.is_over.ensures.goes_on c.if-is_over.false (journey_to rules host past.schedule past.world) reached;
     }) (λ e. absurd (not_due due k e)) h)

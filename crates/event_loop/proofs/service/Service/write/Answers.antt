@@ -16,14 +16,15 @@ use Rattle.event_loop.proofs.Doing.{none_more, one_more, not_another}
 use Rattle.event_loop.proofs.Putting.{same_some}
 use Rattle.event_loop.proofs.Resting.{put_others, no_others}
 use Rattle.event_loop.proofs.service.Service.write.Goals as goal
+use Rattle.event_loop.specs.Courses.{journey_to}
 
 pub returns-in-Bytes-clause-acts : goal.returns-in-Bytes-clause-acts
 returns-in-Bytes-clause-acts g c = λ rules host first found past undone kept h.
     let reached = (served_answered (promises g.N.Sockets g.C.Clocks g.J.Journal (keeping g.K.Keeper g.K.ImageKeeper) g.H.HookHost) rules host first _ h).reached in
     let place = c.place_at-place.result in
-    let out = c.output-output.ensures.output rules host past.schedule past.world reached in
-    let may = c.may_write.ensures.may c.if-not-may_write.false rules host past.schedule past.world reached in
-    let on = c.take.ensures.taken rules host past.schedule past.world reached in
+    let out = c.output-output.ensures.output (journey_to rules host past.schedule past.world) reached in
+    let may = c.may_write.ensures.may c.if-not-may_write.false (journey_to rules host past.schedule past.world) reached in
+    let on = c.take.ensures.taken (journey_to rules host past.schedule past.world) reached in
     record {
       goes = record {
         next = record { deeds = deed.Wrote c.args.k (take c.in-Bytes.count c.output-output.result.now) ∷ past.deeds; schedule = past.schedule ++ Taken c.args.k c.in-Bytes.count ∷ []; world = on.world };
@@ -46,7 +47,7 @@ pub returns-in-Later-clause-acts : goal.returns-in-Later-clause-acts
 returns-in-Later-clause-acts g c = λ rules host first found past undone kept h.
     let reached = (served_answered (promises g.N.Sockets g.C.Clocks g.J.Journal (keeping g.K.Keeper g.K.ImageKeeper) g.H.HookHost) rules host first _ h).reached in
     let place = c.place_at-place.result in
-    let may = c.may_write.ensures.may c.if-not-may_write.false rules host past.schedule past.world reached in
+    let may = c.may_write.ensures.may c.if-not-may_write.false (journey_to rules host past.schedule past.world) reached in
     record {
       goes = record {
         next = record past { deeds = deed.WroteNothing c.args.k ∷ past.deeds };
@@ -64,7 +65,7 @@ pub returns-in-Failed-clause-acts : goal.returns-in-Failed-clause-acts
 returns-in-Failed-clause-acts g c = λ rules host first found past undone kept h.
     let reached = (served_answered (promises g.N.Sockets g.C.Clocks g.J.Journal (keeping g.K.Keeper g.K.ImageKeeper) g.H.HookHost) rules host first _ h).reached in
     let place = c.place_at-place.result in
-    let may = c.may_write.ensures.may c.if-not-may_write.false rules host past.schedule past.world reached in
+    let may = c.may_write.ensures.may c.if-not-may_write.false (journey_to rules host past.schedule past.world) reached in
     record {
       goes = record {
         next = record past { deeds = deed.WriteFailed c.args.k ∷ past.deeds };
@@ -87,7 +88,7 @@ returns-then-not-may_write-clause-acts g c = λ rules host first found past undo
     world_is = refl;
     rests = λ place here.
         let reached = (served_answered (promises g.N.Sockets g.C.Clocks g.J.Journal (keeping g.K.Keeper g.K.ImageKeeper) g.H.HookHost) rules host first _ h).reached in
-        let unwritten : NeedsNoWrite c.place_at-place.result (connection_at past.world.connections c.args.k) = λ writable. c.may_write.ensures.rests c.if-not-may_write.true writable rules host past.schedule past.world reached in
+        let unwritten : NeedsNoWrite c.place_at-place.result (connection_at past.world.connections c.args.k) = λ writable. c.may_write.ensures.rests c.if-not-may_write.true writable (journey_to rules host past.schedule past.world) reached in
         subst (λ q. NeedsNoWrite q (connection_at past.world.connections c.args.k)) (same_some c.place_at-place.result place (sym c.place_at-place.ensures ∙ here)) unwritten;
   });
 }
