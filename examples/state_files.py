@@ -1,5 +1,6 @@
 """Hands a server state files of all kinds: cut at every byte, changed in places, drawn at random, on a full disk, in a
-folder that may not be written, and paths that are no files. It is started on each, or says in one line why not. Those that are taken are listed first.
+folder that may not be written, paths that are no files, and registries that allow less. It is started on each, or says in one line why not.
+Those that are taken are listed first.
 
 Words: PROGRAM REGISTRY [DRAWS]. Ends by itself, with 0 where all is as wanted. SEED=n draws as before."""
 
@@ -18,6 +19,9 @@ from crashes import APP, Client, Gone, Server, consents
 # The line that tells what a start cuts off.
 CUT = "oauthd: state: cut "
 
+# The line that tells how much ended beyond the registry, behind how many that were.
+ENDED = " codes and tokens ended, beyond the registry\n"
+
 # What may follow `oauthd: State` where the bytes of a file are wrong.
 OF_BYTES = {"NoRules", "Spelling", "ScopeMoved", "OwnerMoved", "ClientMoved", "ClientNarrowed", "LifeNarrowed", "Follows", "Image", "Hook"}
 
@@ -29,10 +33,10 @@ class Trials:
         self.program, self.registry, self.room = program, registry, room
         self.faults = []
 
-    def start(self, path, run_as=()):
+    def start(self, path, run_as=(), registry=None):
         """Starts a server on the path: the process, its first line on standard output and, where it ended, its status and
         what it said on standard error."""
-        words = [*run_as, self.program, "start", "127.0.0.1:0", self.registry, "--state", path]
+        words = [*run_as, self.program, "start", "127.0.0.1:0", registry or self.registry, "--state", path]
         process = subprocess.Popen(words, stdout=subprocess.PIPE, stderr=subprocess.PIPE, text=True)
         line = process.stdout.readline()
         if line:
@@ -84,6 +88,17 @@ class Trials:
         if status != 2 or told.count("\n") != 1 or names[:2] != ["oauthd:", "State"] or names[2] not in OF_BYTES:
             self.wrong(what, f"status {status}, {told!r}")
         return False
+
+    def under(self, what, registry, path):
+        """The file is taken under this registry: what the start told."""
+        with open(f"{self.room}/another.json", "w") as own:
+            json.dump(registry, own)
+        process, line, status, told = self.start(path, registry=f"{self.room}/another.json")
+        if not line:
+            self.wrong(what, f"not taken: status {status}, {told!r}")
+            return told
+        self.ends(process)
+        return process.stderr.read()
 
     def refused(self, what, path, wanted, run_as=()):
         """The path is refused with this line."""
@@ -150,6 +165,59 @@ def tries_bytes(trials, chance, content, draws):
     for number in range(draws // 4):
         count += trials.taken_or_refused(f"drawn bytes {number}", chance.randbytes(chance.randrange(200)))
     print(f"of {draws + draws // 4} files of other bytes {count} were taken, all others refused by name", flush=True)
+
+
+def grants(things):
+    """The codes and tokens of what was listed."""
+    return [thing for thing in things if thing["kind"] in ("code", "access", "refresh")]
+
+
+def good(things):
+    """How many of them are good: neither used up nor of a family that has ended."""
+    ended = {thing["family"] for thing in things if thing["kind"] == "family" and thing["ended"]}
+    return sum(1 for thing in grants(things) if not thing["spent"] and thing["family"] not in ended)
+
+
+def listed_now(trials, what, path):
+    with open(path, "rb") as written:
+        return trials.listed(what, path, written.read())
+
+
+def tries_narrower_registries(trials, content):
+    """Under a registry that allows less, what goes beyond it has ended, and nothing else. Another name is refused."""
+    with open(trials.registry) as text:
+        registry = json.load(text)
+    app, others = registry["clients"][0], registry["clients"][1:]
+    path = trials.file_of(content)
+    before = listed_now(trials, "before", path)
+
+    told = trials.under("shorter lives", dict(registry, access_life=200), path)
+    after = listed_now(trials, "shorter lives", path)
+    lives = [thing["life"] for thing in after if thing["kind"] == "access"]
+    if told != f"oauthd: state: 0{ENDED}" or len(grants(after)) != len(grants(before)) or set(lives) != {200}:
+        trials.wrong("shorter lives", f"{told!r}, {len(grants(before))} and {len(grants(after))} codes and tokens, lives {lives}")
+
+    less = dict(registry, access_life=200, clients=[dict(app, scope="write"), *others])
+    told = trials.under("fewer scopes", less, path)
+    after = listed_now(trials, "fewer scopes", path)
+    consents = [[thing for thing in things if thing["kind"] == "consent"] for things in (before, after)]
+    if told != f"oauthd: state: {good(before)}{ENDED}" or grants(after) or consents[0] != consents[1]:
+        trials.wrong("fewer scopes", f"{told!r}, {good(before)} were good, now {after}")
+
+    for what, rules in [("the same once more", less), ("the first registry again", registry)]:
+        told = trials.under(what, rules, path)
+        if told or grants(listed_now(trials, what, path)):
+            trials.wrong(what, f"{told!r}, or something was revived")
+
+    path = trials.file_of(content)
+    moved = dict(less, clients=[dict(app, id="other", scope="write"), *others])
+    with open(f"{trials.room}/another.json", "w") as own:
+        json.dump(moved, own)
+    process, line, status, told = trials.start(path, registry=f"{trials.room}/another.json")
+    if line:
+        trials.ends(process)
+    if told != f"oauthd: State ClientMoved {app['id']}\n" or len(grants(listed_now(trials, "another name", path))) != len(grants(before)):
+        trials.wrong("another name", f"{told!r}")
 
 
 def tries_paths(trials):
@@ -229,6 +297,7 @@ def main():
         trials = Trials(program, registry, room)
         content = worked_on(trials, program, registry, room)
         tries_bytes(trials, random.Random(seed), content, draws)
+        tries_narrower_registries(trials, content)
         tries_paths(trials)
         tries_a_full_disk(trials)
         for it in trials.faults[:20]:

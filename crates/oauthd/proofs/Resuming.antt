@@ -1,5 +1,6 @@
 -- A server that was started on the file of its state.
-use Rattle.std.proofs.Common.{◌≡◌, ◌⊎◌, inl, inr, ℕ, List, [], length, subst}
+use Rattle.std.proofs.Common.{◌≡◌, ◌⊎◌, inl, inr, ℕ, List, [], length, Option, None, Some, refl, subst, sym}
+use Rattle.std.specs.Prelude.{IsSome}
 use Rattle.batch_file.specs.Calls.{content, LeftSince}
 use Rattle.batch_file.specs.Crashes.{LeavesOnly}
 use Rattle.batch_file.specs.Frames.{recovered}
@@ -14,9 +15,14 @@ use Rattle.hook_chain.specs.Chains.{Named, IsInstalled, IsRemoved}
 use Rattle.hook_chain.specs.contracts.chain.ChainHookHost.TheImpl as chain
 use Rattle.image_codec.specs.Facts.{HookFact}
 use Rattle.state_file.specs.Hooks.{with_hooks}
-use Rattle.state_file.specs.Resuming.{HaveNoImage, OfEachHistory, ServesOn, WasRun}
+use Rattle.state_file.specs.Resuming.{HaveNoImage, OfEachHistory, ServesOn, WasRight, WasRun}
+use Rattle.state_file.specs.Standing.{StandsFor}
+use Rattle.state_file.specs.Telling.{rules_of}
 use Rattle.state_file.specs.declared.starting.Started.{Started}
-use Rattle.oauthd.specs.Startings.{ComesOfState, StandsWithOrWithout}
+use Rattle.narrowing.specs.Left.{left_under}
+use Rattle.batch_file.proofs.Moments.{then}
+use Rattle.state_narrowing.specs.Narrowing.{GoesOn, IsEither, IsNarrower, history_under}
+use Rattle.oauthd.specs.Startings.{ComesOfState, StandsForOneOf}
 use Rattle.state_file.proofs.Replaying.{replays}
 
 -- a chain that came through the history was run
@@ -24,7 +30,22 @@ pub was_run : (left : List ℕ) (history : List Event) → HaveNoImage (recovere
 was_run left history (inl none) = inl none
 was_run left history (inr ran) = inr (replays history ran.0 ran.1)
 
--- what is known of it, by the bytes, the hooks, the device and the chain that it was started with
+-- what a server goes on from
+record IsStart (now : List ℕ) (history : List Event) : Type 0 where
+  stands : StandsFor now history
+  was : WasRight now history
+  ran : WasRun chain.ghosts [] now history
+
+is_start : (rules : RegistryRecord) (ended : Option ℕ) (bytes now : List ℕ) → (ended ≡ None → now ≡ bytes) →
+    (IsSome ended → OfEachHistory chain.ghosts [] bytes (λ history. GoesOn chain.ghosts [] now (left_under rules history))) →
+    OfEachHistory chain.ghosts [] bytes (λ history. IsStart now (history_under rules ended history))
+is_start rules None bytes now same left history stands was run =
+    subst (λ (b : List ℕ). IsStart b history) (sym (same refl)) (record { stands = stands; was = was; ran = run })
+is_start rules (Some n) bytes now same left history stands was run =
+    let on = left refl history stands was run in
+    record { stands = on.stands; was = on.right; ran = was_run now (left_under rules history) (inr (on.host, on.ran)) }
+
+-- what is known of it, by the bytes, the hooks, the devices and the chain that it was started with
 module _ {R : Type 0} (keeping : Crashes (BatchFile (DiskFile R))) (rules : RegistryRecord) (started : Started (DiskFile R) (List Named)) where
   abbrev pub Serves : List ℕ → List HookFact → List Named → Type 0
   Serves bytes hooks first = OfEachHistory chain.ghosts first bytes (λ history. ServesOn chain.ghosts started rules first (with_hooks started.moment history hooks))
@@ -35,16 +56,56 @@ module _ {R : Type 0} (keeping : Crashes (BatchFile (DiskFile R))) (rules : Regi
   abbrev pub Meanwhile : DiskFile R → List ℕ → List HookFact → List Named → Type 0
   Meanwhile device bytes hooks first =
       OfEachHistory chain.ghosts first bytes (λ history. LeavesOnly (λ d. length d.log.calls) (λ d. LeftSince d.log.calls) device started.keeper.device
-      (StandsWithOrWithout history (with_hooks started.moment history hooks)))
+      (λ left. StandsFor left history ⊎ StandsFor left (with_hooks started.moment history hooks)))
 
-  pub comes : (opened : Opened R) (bytes : List ℕ) (facts hooks : List HookFact) (first : List Named)
-      → bytes ≡ opened.bytes.items → facts ≡ hooks → first ≡ [] → opened.bytes.items ≡ content opened.device.log.calls
-      → Serves bytes facts first → Held bytes facts first → Meanwhile opened.device bytes facts first → ComesOfState keeping rules hooks started
-  comes opened bytes facts hooks first same are none seen serves held meanwhile = record {
-    opened = opened;
-    bytes_are = seen;
-    serves = λ history stands was ran. subst (λ b. Serves b hooks []) same (subst (λ fs. Serves bytes fs []) are (subst (λ f. Serves bytes facts f) none serves)) history stands was (was_run opened.bytes.items history ran);
-    held = λ history stands was ran. subst (λ b. Held b hooks []) same (subst (λ fs. Held bytes fs []) are (subst (λ f. Held bytes facts f) none held)) history stands was (was_run opened.bytes.items history ran);
-    meanwhile = λ history stands was ran. subst (λ b. Meanwhile opened.device b hooks []) same (subst (λ fs. Meanwhile opened.device bytes fs []) are (subst (λ f. Meanwhile opened.device bytes facts f) none meanwhile))
-        history stands was (was_run opened.bytes.items history ran);
-  }
+  -- what the file was narrowed to
+  pub record WasNarrowed (opened : Opened R) (ended : Option ℕ) (device : DiskFile R) (now : List ℕ) (first : List Named) : Type 0 where
+    pub narrower : IsSome ended → IsNarrower opened.bytes.items (rules_of rules)
+    pub left : IsSome ended → OfEachHistory chain.ghosts first opened.bytes.items (λ history. GoesOn chain.ghosts first now (left_under rules history))
+    pub same : ended ≡ None → now ≡ opened.bytes.items
+    pub crash : LeavesOnly (λ d. length d.log.calls) (λ d. LeftSince d.log.calls) opened.device device (IsEither opened.bytes.items now)
+
+  module _ (opened : Opened R) (ended : Option ℕ) (device : DiskFile R) (now : List ℕ) (hooks : List HookFact) (seen : opened.bytes.items ≡ content opened.device.log.calls)
+      (narrowed : WasNarrowed opened ended device now []) (serves : Serves now hooks []) (held : Held now hooks []) (meanwhile : Meanwhile device now hooks []) where
+    abbrev under : List Event → List Event
+    under history = history_under rules ended history
+
+    abbrev with : List Event → List Event
+    with history = with_hooks started.moment (under history) hooks
+
+    start : (history : List Event) → StandsFor opened.bytes.items history → WasRight opened.bytes.items history →
+        HaveNoImage (recovered opened.bytes.items) ⊎ ((host : List Named) × HostRun IsInstalled IsRemoved [] history host) → IsStart now (under history)
+    start history stands was ran = is_start rules ended opened.bytes.items now narrowed.same narrowed.left history stands was (was_run opened.bytes.items history ran)
+
+    on_the_way : (history : List Event) → StandsFor opened.bytes.items history → StandsFor now (under history) → (left : List ℕ) →
+        IsEither opened.bytes.items now left → StandsForOneOf history (under history) (with history) left
+    on_the_way history stands new left (inl old) = inl (subst (λ (b : List ℕ). StandsFor b history) (sym old) stands)
+    on_the_way history stands new left (inr is) = inr (inl (subst (λ (b : List ℕ). StandsFor b (under history)) (sym is) new))
+
+    at_last : (history : List Event) (left : List ℕ) → StandsFor left (under history) ⊎ StandsFor left (with history) → StandsForOneOf history (under history) (with history) left
+    at_last history left (inl one) = inr (inl one)
+    at_last history left (inr one) = inr (inr one)
+
+    pub comes : ComesOfState keeping rules hooks started
+    comes = record {
+      opened = opened;
+      bytes_are = seen;
+      ended = ended;
+      narrower = narrowed.narrower;
+      serves = λ history stands was ran. (let on = start history stands was ran in serves (under history) on.stands on.was on.ran);
+      held = λ history stands was ran. (let on = start history stands was ran in held (under history) on.stands on.was on.ran);
+      meanwhile = λ history stands was ran. (let on = start history stands was ran in
+        then (λ (d : DiskFile R). length d.log.calls) (λ (d : DiskFile R). LeftSince d.log.calls) opened.device device started.keeper.device
+        (IsEither opened.bytes.items now) (λ left. StandsFor left (under history) ⊎ StandsFor left (with history)) (StandsForOneOf history (under history) (with history))
+        narrowed.crash (meanwhile (under history) on.stands on.was on.ran) (on_the_way history stands on.stands) (at_last history));
+    }
+
+  -- by what the calls say
+  pub comes_narrowed : (opened : Opened R) (ended : Option ℕ) (device : DiskFile R) (now bytes : List ℕ) (facts hooks : List HookFact) (first again : List Named) →
+      bytes ≡ now → facts ≡ hooks → first ≡ [] → again ≡ [] → opened.bytes.items ≡ content opened.device.log.calls →
+      WasNarrowed opened ended device now first → Serves bytes facts again → Held bytes facts again → Meanwhile device bytes facts again → ComesOfState keeping rules hooks started
+  comes_narrowed opened ended device now bytes facts hooks first again same are none nothing seen narrowed serves held meanwhile =
+      comes opened ended device now hooks seen (subst (λ (f : List Named). WasNarrowed opened ended device now f) none narrowed)
+      (subst (λ b. Serves b hooks []) same (subst (λ fs. Serves bytes fs []) are (subst (λ f. Serves bytes facts f) nothing serves)))
+      (subst (λ b. Held b hooks []) same (subst (λ fs. Held bytes fs []) are (subst (λ f. Held bytes facts f) nothing held)))
+      (subst (λ b. Meanwhile device b hooks []) same (subst (λ fs. Meanwhile device bytes fs []) are (subst (λ f. Meanwhile device bytes facts f) nothing meanwhile)))

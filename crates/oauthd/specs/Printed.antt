@@ -54,6 +54,10 @@ fault_text CannotWrite = codes "cannot write"
 abbrev pub cut_text : ℕ → List ℕ
 cut_text torn = codes "oauthd: state: cut " ++ decimal torn ++ codes " bytes of an unfinished write\n"
 
+-- the line that tells how many codes and tokens ended that went beyond the registry
+abbrev pub ended_text : ℕ → List ℕ
+ended_text ended = codes "oauthd: state: " ++ decimal ended ++ codes " codes and tokens ended, beyond the registry\n"
+
 -- the whole line that tells a fault
 abbrev pub told_text : PerformFault → List ℕ
 told_text fault = codes "oauthd: " ++ fault_text fault ++ codes "\n"

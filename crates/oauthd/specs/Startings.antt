@@ -1,5 +1,5 @@
 -- How a server is started: anew, or on the file of its state.
-use Rattle.std.specs.Prelude.{◌≡◌, ◌⊎◌, ℕ, List, [], length, Option, Some, None}
+use Rattle.std.specs.Prelude.{◌≡◌, ◌⊎◌, ℕ, List, [], length, Option, Some, None, IsSome}
 use Rattle.clients.specs.RegistryRecord.{RegistryRecord}
 use Rattle.consent.specs.History.{Event}
 use Rattle.batch_file.specs.Calls.{content, LeftSince}
@@ -31,6 +31,7 @@ use Rattle.state_file.specs.Standing.{StandsFor}
 use Rattle.state_file.specs.Telling.{rules_of}
 use Rattle.state_file.specs.declared.fault.StateFault.{StateFault}
 use Rattle.state_file.specs.declared.starting.Started.{Started}
+use Rattle.state_narrowing.specs.Narrowing.{IsNarrower, IsUnnarrowed, history_under}
 use Rattle.oauthd.specs.declared.fault.PerformFault.{PerformFault}
 use Rattle.oauthd.specs.Faults.{of_opening, of_state}
 
@@ -67,22 +68,27 @@ OfEachRun left claim =
     (history : List Event) → StandsFor left history → WasRight left history →
     HaveNoImage (recovered left) ⊎ ((host : List Named) × HostRun IsInstalled IsRemoved [] history host) → claim history
 
--- what a crash left stands for a history with these hooks, or without them
-abbrev pub StandsWithOrWithout : List Event → List Event → List ℕ → Type 0
-StandsWithOrWithout history with left = StandsFor left history ⊎ StandsFor left with
+-- what a crash left stands for a history, or for what is left of it under the rules, with these hooks or without them
+abbrev pub StandsForOneOf : (history under with : List Event) → List ℕ → Type 0
+StandsForOneOf history under with left = StandsFor left history ⊎ StandsFor left under ⊎ StandsFor left with
 
 -- The file was opened, and a server was started on its bytes. Whatever history they stood for: with those of the hooks that it
--- lacks, the server goes on from that history under these rules, and all that a crash may leave stands for it.
+-- lacks, the server goes on from that history under these rules, and all that a crash may leave stands for it. Where the rules
+-- are narrower than those that the bytes tell, it goes on from what is left of the history.
 pub record ComesOfState {R : Type 0} (keeping : Crashes (BatchFile (DiskFile R))) (rules : RegistryRecord) (hooks : List HookFact)
     (started : Started (DiskFile R) (List Named)) : Type 0 where
   pub opened : Opened R
   pub bytes_are : opened.bytes.items ≡ content opened.device.log.calls
-  pub serves : OfEachRun opened.bytes.items (λ history. ServesOn chain.ghosts started rules [] (with_hooks started.moment history hooks))
-  pub held : OfEachRun opened.bytes.items (λ history. Holds keeping started.keeper (with_hooks started.moment history hooks))
+  -- how many codes and tokens ended, where the rules are narrower
+  pub ended : Option ℕ
+  pub narrower : IsSome ended → IsNarrower opened.bytes.items (rules_of rules)
+  pub serves : OfEachRun opened.bytes.items
+      (λ history. ServesOn chain.ghosts started rules [] (with_hooks started.moment (history_under rules ended history) hooks))
+  pub held : OfEachRun opened.bytes.items (λ history. Holds keeping started.keeper (with_hooks started.moment (history_under rules ended history) hooks))
   -- the keeper's file is the one that was opened
   pub meanwhile : OfEachRun opened.bytes.items
       (λ history. LeavesOnly (λ d. length d.log.calls) (λ d. LeftSince d.log.calls) opened.device started.keeper.device
-      (StandsWithOrWithout history (with_hooks started.moment history hooks)))
+      (StandsForOneOf history (history_under rules ended history) (with_hooks started.moment (history_under rules ended history) hooks)))
 
 -- it served connections from there, and kept what happened in that file
 pub record HasResumed {N C J R : Type 0} (p : Promises N C J (BatchFile (DiskFile R)) (List Named)) (handed : Handed) (fault : LoopFault) : Type 0 where
@@ -95,7 +101,8 @@ pub record RefusesBytes (rules : RegistryRecord) (hooks : List HookFact) (fault 
   pub bytes : List ℕ
   pub cause : StateFault
   pub fault_is : fault ≡ of_state cause
-  pub refused : RefusesResume (recovered bytes) (rules_of rules) cause ⊎ RefusesSome chain.ghosts (AnswersFor chain.ghosts bytes rules []) hooks cause
+  pub refused : IsUnnarrowed bytes (rules_of rules) cause
+      ⊎ (RefusesResume (recovered bytes) (rules_of rules) cause ⊎ RefusesSome chain.ghosts (AnswersFor chain.ghosts bytes rules []) hooks cause)
 
 -- why none is started on the file: it is not opened, or what stands there is refused
 abbrev pub RefusesState : RegistryRecord → List HookFact → PerformFault → Type 0

@@ -1,10 +1,10 @@
 //! A server on the file of its state.
 
-ghost use Rattle.std.specs.Prelude.{◌≡◌, IfOk, IfErr, map};
+ghost use Rattle.std.specs.Prelude.{◌≡◌, None, IfOk, IfErr, IfSome, map};
 ghost use Rattle.std.specs.Bool.{OnTrue};
 ghost use Rattle.std.specs.Io.KnownBytes.{Appends};
 ghost use Rattle.oauthd.specs.Hooks.{hook_fact_of};
-ghost use Rattle.oauthd.specs.Printed.{cut_text};
+ghost use Rattle.oauthd.specs.Printed.{cut_text, ended_text};
 ghost use Rattle.state_file.specs.Accounts.{HasTornEnd};
 ghost use Rattle.oauthd.specs.Startings.{ComesOfState, RefusesState, keeping_of};
 
@@ -17,6 +17,7 @@ use change_codec::Keeper;
 use clients::Registry;
 use hook_chain::Chain;
 use state_file::{Started, StateKeeper, start_on};
+use state_narrowing::{NarrowedFile, narrow};
 use std::alloc::{AllocError, Global};
 use std::fs::File;
 use std::io::Write;
@@ -46,8 +47,25 @@ fn tell_cut<E: Write>(torn: usize, err: &mut E) -> bool
     .is_ok()
 }
 
+/// Tells how many codes and tokens ended that went beyond the registry, where the file was narrowed, and says whether all of the
+/// line was written. One that can't be written is lost.
+fn tell_ended<E: Write>(ended: Option<usize>, err: &mut E) -> bool
+    ensures none { ended ≡ None → err.new ≡ err.old }
+    ensures told { OnTrue result (IfSome ended (λ count. Appends (E.contents err.old) (E.contents err.new) (ended_text count))) }
+{
+    let Some(count) = ended else {
+        return false;
+    };
+    write_text(
+        err,
+        format_args!("oauthd: state: {count} codes and tokens ended, beyond the registry\n"),
+    )
+    .is_ok()
+}
+
 /// Opens and locks the file of a server's state, and starts the server on what stands there, of which a torn end is cut off, and
-/// told. Those of the hooks that it lacks are installed behind those that it has.
+/// told. Where the registry is narrower than the rules that the file tells, what goes beyond it ends first, and how much that is
+/// is told. Those of the hooks that it lacks are installed behind those that it has.
 pub fn start_at<'r, R: Files<File = File> + AllocGlobal, E: Write>(
     rt: &'r R,
     path: &str,
@@ -62,6 +80,12 @@ pub fn start_at<'r, R: Files<File = File> + AllocGlobal, E: Write>(
     let Opened { device, bytes } = DiskFile::open(rt, path)?;
     let hooks = kept_hooks(alloc, codes)?;
     let _told = tell_cut(torn_in(alloc, &bytes)?, err);
+    let NarrowedFile {
+        device,
+        bytes,
+        ended,
+    } = narrow(alloc, device, bytes, &registry, Chain::new(alloc))?;
+    let _told = tell_ended(ended, err);
     let started = start_on(alloc, device, &bytes, registry, Chain::new(alloc), &hooks)?;
     Ok(started)
 }

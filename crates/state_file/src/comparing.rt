@@ -46,7 +46,7 @@ fn narrowed_client<'b>(told: &[ClientRules<'b>], now: &[ClientRules]) -> Option<
 
 /// Tests whether rules are as wide as those told: the scopes and how many owners there are, the clients in their order, what
 /// each may be allowed, and the lives of tokens.
-pub(crate) fn compare(alloc: Global, told: &Rules<'_>, now: &Rules<'_>) -> Result<(), StateFault>
+pub fn compare(alloc: Global, told: &Rules<'_>, now: &Rules<'_>) -> Result<(), StateFault>
     ensures wide { OnOk result (AreAsWide (rules_fact told.now) (rules_fact now.now)) }
     ensures refused { IfErr result (AreNarrower (rules_fact told.now) (rules_fact now.now)) }
 {

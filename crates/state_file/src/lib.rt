@@ -24,6 +24,7 @@ mod starting;
 mod telling;
 
 pub use account::{Account, AccountFault, account_of};
+pub use comparing::compare;
 pub use fault::StateFault;
 pub use hooks::{SetHook, SetHooks};
 pub use keeper::StateKeeper;
@@ -32,3 +33,4 @@ pub use restored::Restored;
 pub use resuming::{Resumed, resume};
 pub use rules::registry_rules;
 pub use starting::{Started, start_on};
+pub use telling::{last_rules, told_rules};

@@ -51,7 +51,7 @@ fn begin_with_rules(batches: &[Vec<u8>]) -> bool
 }
 
 /// The last batch that tells rules.
-pub(crate) fn last_rules(batches: &[Vec<u8>]) -> Option<&[u8]>
+pub fn last_rules(batches: &[Vec<u8>]) -> Option<&[u8]>
     ensures { option_copied result ≡ last_rules (lists batches.now) }
 {
     let mut last = None;
@@ -64,7 +64,7 @@ pub(crate) fn last_rules(batches: &[Vec<u8>]) -> Option<&[u8]>
 }
 
 /// The rules that a batch tells.
-pub(crate) fn told_rules(alloc: Global, batch: &[u8]) -> Result<Rules<'_>, StateFault>
+pub fn told_rules(alloc: Global, batch: &[u8]) -> Result<Rules<'_>, StateFault>
     ensures told { IfOk result (λ rules. TellsIn batch.now (rules_fact rules)) }
     ensures one { IfOk result (λ rules. (others : RulesFact) → TellsIn batch.now others → others ≡ rules_fact rules) }
     ensures fit { IfOk result (λ rules. RulesFit (rules_fact rules)) }

@@ -1,0 +1,165 @@
+-- What a file stands for that has an image of what is left.
+use Rattle.std.proofs.Common.{◌≡◌, ◌≤◌, ◌<◌, ◌⊎◌, inl, inr, ℕ, ◌-◌, zero, suc, List, [], ◌∷◌, Bool, true, false, cond, Option, None, Some, refl, ap, sym, subst, ◌∙◌, arith}
+use Rattle.std.specs.Prelude.{◌==◌, if◌then◌else◌, is_some, slice_get, map, string_bytes}
+use Rattle.std.specs.Str.{bytes_eq}
+use Rattle.batch_file.specs.Frames.{recovered}
+use Rattle.clients.specs.ClientRecord.{ClientRecord}
+use Rattle.clients.specs.RegistryRecord.{RegistryRecord}
+use Rattle.consent.specs.Consents.{FitsConsents, kept_consents}
+use Rattle.consent.specs.History.{Event, Change, IsHistory}
+use Rattle.consent.specs.History.Change.{Consented, CodeGiven, Issued, Spent, FamilyEnded, HookSet, HookGone}
+use Rattle.consent.specs.declared.kept_consent.KeptConsent.{KeptConsent}
+use Rattle.endpoints.specs.Bounded.{AllRight}
+use Rattle.hook_host.specs.declared.host.HookHost.{Ghosts as Hosting}
+use Rattle.image_codec.specs.Facts.{ClientFact, HookFact, ImageFact, RulesFact, record_fact}
+use Rattle.image_codec.specs.Kept.{kept_told}
+use Rattle.image_codec.specs.KeptLaws.{all_same}
+use Rattle.image_codec.specs.Spelling.{ImageFits, image_spelling}
+use Rattle.narrowing.specs.Left.{KeepsClients, is_beyond_rules, left_of, left_under, life_under, scope_under}
+use Rattle.narrowing.specs.LeftLaws.{fits_consents_left, left_events}
+use Rattle.narrowing.specs.RightLaws.{all_right-left, host_run-left}
+use Rattle.token_store.specs.Fits.{FitsHistory}
+use Rattle.token_store.specs.Image.{as_kept}
+use Rattle.token_store.specs.Kept.{Kept}
+use Rattle.token_store.specs.declared.image.KeptRecord.{KeptRecord}
+use Rattle.state_file.specs.Accounts.{IsAccountOf, IsImageIn}
+use Rattle.state_file.specs.Comparing.{AreAsWide, AreNarrower, KeepClients, client_names, first_moved}
+use Rattle.state_file.specs.Hooks.{hooks_after, hooks_set_in, hooks_with}
+use Rattle.state_file.specs.Resuming.{OfEachHistory, WasRight}
+use Rattle.state_file.specs.Standing.{IsImageOf, StandsFor}
+use Rattle.state_file.specs.StandingLaws.{StandsFor-image, StandsFor-none}
+use Rattle.state_file.specs.Telling.{TellsRules, client_told, rules_of}
+use Rattle.state_file.specs.TellingLaws.{TellsRules-image}
+use Rattle.state_file.specs.declared.account.Account.{Account}
+use Rattle.state_file.specs.declared.fault.StateFault.{StateFault}
+use Rattle.state_file.specs.declared.fault.StateFault.TheVariants.{ClientNarrowed, LifeNarrowed}
+use Rattle.state_file.proofs.FromFile.{right_now}
+use Rattle.state_file.proofs.Known.{tell_one}
+use Rattle.state_narrowing.specs.Narrowing.{GoesOn, IsNarrower}
+use Rattle.state_narrowing.specs.NarrowingParts.{IsRightImage, SpellLeft}
+
+-- HOOKS
+
+module _ (rules : RegistryRecord) (beyond : ℕ → Bool) where
+  hooks_event : (hooks : List HookFact) (change : Change) → hooks_with hooks (left_of rules beyond change) ≡ hooks_with hooks change
+  hooks_event hooks (CodeGiven f c o scope redirect challenge digest) =
+      elim (beyond f) as (λ b. hooks_with hooks (cond b (FamilyEnded f) (CodeGiven f c o scope redirect challenge digest)) ≡ hooks) [ true ↦ refl | false ↦ refl ]
+  hooks_event hooks (Issued f c o kind digest scope life) =
+      elim (beyond f) as (λ b. hooks_with hooks (cond b (FamilyEnded f) (Issued f c o kind digest (scope_under rules c scope) (life_under rules c kind scope life))) ≡ hooks) [ true ↦ refl | false ↦ refl ]
+  hooks_event hooks (Consented o c mask) = refl
+  hooks_event hooks (Spent digest) = refl
+  hooks_event hooks (FamilyEnded family) = refl
+  hooks_event hooks (HookSet name version code) = refl
+  hooks_event hooks (HookGone name) = refl
+
+  hooks_left : (es : List Event) (hooks : List HookFact) → hooks_after hooks (left_events rules beyond es) ≡ hooks_after hooks es
+  hooks_left [] hooks = refl
+  hooks_left (e ∷ es) hooks =
+      ap (λ (hs : List HookFact). hooks_after hs (left_events rules beyond es)) (hooks_event hooks e.change) ∙ hooks_left es (hooks_with hooks e.change)
+
+-- CLIENTS
+
+some_mapped : {X Y : Type 0} (f : X → Y) (xs : List X) (i : ℕ) → is_some (slice_get (map f xs) i) ≡ is_some (slice_get xs i)
+some_mapped f [] i = refl
+some_mapped f (x ∷ xs) zero = refl
+some_mapped f (x ∷ xs) (suc i) = some_mapped f xs i
+
+-- a name that stays is there
+there_at : (told now : List (List ℕ)) (i : ℕ) → first_moved told now ≡ None → is_some (slice_get told i) ≡ true → is_some (slice_get now i) ≡ true
+there_at [] now i stays is = absurd (cc)
+there_at (name ∷ names) [] i stays is = absurd (cc)
+there_at (name ∷ names) (other ∷ others) zero stays is = refl
+there_at (name ∷ names) (other ∷ others) (suc i) stays is = there_at names others i (by (bytes_eq name other) stays) is
+  where
+    by : (b : Bool) → cond b (first_moved names others) (Some name) ≡ None → first_moved names others ≡ None
+    by true stays = stays
+    by false stays = absurd (cc)
+
+keeps_clients : (old new : RegistryRecord) → KeepClients (rules_of old) (rules_of new) → KeepsClients old new
+keeps_clients old new keep client = by (client == 0)
+  where
+    named : (clients : List ClientRecord) (i : ℕ) → is_some (slice_get (client_names (map client_told clients)) i) ≡ is_some (slice_get clients i)
+    named clients i = some_mapped (λ (c : ClientFact). c.name) (map client_told clients) i ∙ some_mapped client_told clients i
+
+    by : (none : Bool) → is_some (if none then None else slice_get old.clients (client - 1)) ≡ true →
+        is_some (if none then None else slice_get new.clients (client - 1)) ≡ true
+    by true is = is
+    by false is =
+        sym (named new.clients (client - 1))
+        ∙ there_at (client_names (map client_told old.clients)) (client_names (map client_told new.clients)) (client - 1) keep.1 (named old.clients (client - 1) ∙ is)
+
+-- THE RULES
+
+-- what is narrower than the rules that a batch tells
+pub narrowed_client : (left : List ℕ) (told now : RulesFact) (name : _) → TellsRules left told → AreNarrower told now (ClientNarrowed name) → IsNarrower left now
+narrowed_client left told now name tells narrower other tells_other =
+    subst (λ (r : RulesFact). KeepClients r now × (¬ AreAsWide r now)) (tell_one (recovered left) told other tells tells_other)
+    (narrower.0, λ wide. (let none = wide.0.1 in let some = narrower.1 in absurd (cc)))
+
+pub narrowed_life : (left : List ℕ) (told now : RulesFact) → TellsRules left told → AreNarrower told now LifeNarrowed → IsNarrower left now
+narrowed_life left told now tells narrower other tells_other =
+    subst (λ (r : RulesFact). KeepClients r now × (¬ AreAsWide r now)) (tell_one (recovered left) told other tells tells_other)
+    (narrower.0.0, λ wide. by narrower.1 wide.1 wide.2)
+  where
+    by : (now.access_life < told.access_life) ⊎ (now.refresh_life < told.refresh_life) → told.access_life ≤ now.access_life → told.refresh_life ≤ now.refresh_life → ⊥
+    by (inl less) a b = absurd (omega (arith, less, a))
+    by (inr less) a b = absurd (omega (arith, less, b))
+
+-- what was right is right when it is narrowed
+right_left : (left : List ℕ) (history : List Event) (rules : RegistryRecord) (m : ℕ) → IsNarrower left (rules_of rules) → IsHistory history m →
+    StandsFor left history → WasRight left history → AllRight rules [] (left_under rules history)
+right_left left history rules m narrower is stands (inl none) =
+    subst (λ (h : List Event). AllRight rules [] (left_under rules h)) (sym (StandsFor-none left history none stands)) tt
+right_left left history rules m narrower is stands (inr told) =
+    all_right-left told.0 rules history m (keeps_clients told.0 rules (narrower (rules_of told.0) told.1).0) is told.2
+
+-- IMAGES
+
+-- an image with what is left is one of what is left
+image_left : (rules : RegistryRecord) (told image : ImageFact) (records left : List KeptRecord) (history : List Event) → map record_fact records ≡ told.records → map record_fact left ≡ image.records →
+    image.greatest ≡ told.greatest → image.consents ≡ told.consents → image.hooks ≡ told.hooks →
+    (FitsHistory (as_kept records) history told.greatest → FitsHistory (as_kept left) (left_under rules history) told.greatest) →
+    IsImageOf told history → IsImageOf image (left_under rules history)
+image_left rules told image records left history were are greatest consents hooks lets is =
+    let before : map kept_told told.records ≡ as_kept records = ap (map kept_told) (sym were) ∙ all_same records in
+    let after : as_kept left ≡ map kept_told image.records = sym (all_same left) ∙ ap (map kept_told) are in
+    let fits = lets (subst (λ (ks : List Kept). FitsHistory ks history told.greatest) before is.records) in
+    record {
+      records = subst (λ (m : ℕ). FitsHistory (map kept_told image.records) (left_under rules history) m) (sym greatest)
+          (subst (λ (ks : List Kept). FitsHistory ks (left_under rules history) told.greatest) after fits);
+      consents = subst (λ (cs : List KeptConsent). FitsConsents (kept_consents cs) (left_under rules history)) (sym consents)
+          (fits_consents_left rules (is_beyond_rules rules history) (kept_consents told.consents) history is.consents);
+      hooks = hooks ∙ is.hooks ∙ sym (hooks_left rules (is_beyond_rules rules history) history []);
+    }
+
+module _ {H : Type 0} (hosting : Hosting H) where
+  -- so it is of an account's image
+  pub right_image : (account : Account H) (left : List ℕ) (first : H) (rules : RegistryRecord) (told image : ImageFact) (records kept : List KeptRecord) →
+      map record_fact records ≡ told.records → map record_fact kept ≡ image.records →
+      image.greatest ≡ told.greatest → image.consents ≡ told.consents → image.hooks ≡ told.hooks →
+      ((history : List Event) → FitsHistory (as_kept records) history told.greatest → FitsHistory (as_kept kept) (left_under rules history) told.greatest) →
+      IsNarrower left (rules_of rules) → IsAccountOf hosting left first account → IsImageIn hosting left first told →
+      OfEachHistory hosting first left (λ history. IsRightImage hosting first image rules (left_under rules history))
+  right_image account left first rules told image records kept were are greatest consents hooks lets narrower of is_in history stands was run =
+      let one = is_in.each history stands was run in
+      let server = (of.answers history stands (right_now left history of.registry of.wider stands was) run).0 in
+      record {
+        is = image_left rules told image records kept history were are greatest consents hooks (lets history) one;
+        right = right_left left history rules told.greatest narrower one.records.fits.is_history stands was;
+        host = account.restored.server.host;
+        ran = host_run-left hosting.installs hosting.removes rules (is_beyond_rules rules history) history first account.restored.server.host server.hosts;
+      }
+
+  -- a file that has that image alone stands for what is left
+  pub goes_on_left : (left : List ℕ) (first : H) (rules : RegistryRecord) (bytes now : List ℕ) → SpellLeft hosting first left rules bytes → recovered now ≡ bytes ∷ [] →
+      OfEachHistory hosting first left (λ history. GoesOn hosting first now (left_under rules history))
+  goes_on_left left first rules bytes now spell alone history stands was run =
+      let image = spell.is history stands was run in
+      let spelled : recovered now ≡ image_spelling spell.image ∷ [] = alone ∙ ap (λ (b : List ℕ). b ∷ []) spell.spelled in
+      let tells : TellsRules now (rules_of rules) = subst (λ (r : RulesFact). TellsRules now r) spell.rules_are (TellsRules-image now spell.image spelled spell.fits) in
+      record {
+        stands = StandsFor-image now spell.image (left_under rules history) spelled spell.fits image.is;
+        right = inr (rules, tells, image.right);
+        host = image.host;
+        ran = image.ran;
+      }

@@ -1,0 +1,28 @@
+-- Beside Narrowing: only the contracts of this crate's own parts and their proofs cite this, no public clause.
+use Rattle.std.specs.Prelude.{◌≡◌, ℕ, List, []}
+use Rattle.clients.specs.RegistryRecord.{RegistryRecord}
+use Rattle.consent.specs.History.{Event}
+use Rattle.endpoints.specs.Bounded.{AllRight}
+use Rattle.endpoints.specs.Hosts.{HostRun}
+use Rattle.hook_host.specs.declared.host.HookHost.{Ghosts as Hosting}
+use Rattle.image_codec.specs.Facts.{ImageFact}
+use Rattle.image_codec.specs.Spelling.{ImageFits, image_spelling}
+use Rattle.narrowing.specs.Left.{left_under}
+use Rattle.state_file.specs.Resuming.{OfEachHistory}
+use Rattle.state_file.specs.Standing.{IsImageOf}
+use Rattle.state_file.specs.Telling.{rules_of}
+
+-- the image is one of the history, which is right under the rules, and a host came through it
+pub record IsRightImage {H : Type 0} (hosting : Hosting H) (first : H) (image : ImageFact) (rules : RegistryRecord) (history : List Event) : Type 0 where
+  pub is : IsImageOf image history
+  pub right : AllRight rules [] history
+  pub host : H
+  pub ran : HostRun hosting.installs hosting.removes first history host
+
+-- the bytes spell an image, under the registry's rules, of what is left of each history that these bytes stand for
+pub record SpellLeft {H : Type 0} (hosting : Hosting H) (first : H) (left : List ℕ) (rules : RegistryRecord) (bytes : List ℕ) : Type 0 where
+  pub image : ImageFact
+  pub fits : ImageFits image
+  pub spelled : bytes ≡ image_spelling image
+  pub rules_are : image.rules ≡ rules_of rules
+  pub is : OfEachHistory hosting first left (λ history. IsRightImage hosting first image rules (left_under rules history))

@@ -1,0 +1,82 @@
+//! The image of what is left of a state file under a registry.
+
+ghost use Rattle.std.specs.Prelude.{◌<◌, ◌^◌, IfOk, IfErr, length};
+ghost use Rattle.state_narrowing.specs.Narrowing.{IsNarrower, RefusesNarrowing};
+ghost use Rattle.state_file.specs.Telling.{rules_of};
+ghost use Rattle.state_narrowing.specs.NarrowingParts.{SpellLeft};
+
+use clients::Registry;
+use hook_host::HookHost;
+use image_codec::{Image, encode};
+use narrowing::records_left;
+use state_file::{AccountFault, StateFault, account_of, registry_rules};
+use std::alloc::Global;
+use token_store::KeptRecord;
+
+/// The image of what is left of a state file.
+#[derive(Drop)]
+pub(crate) struct LeftImage {
+    /// Its spelling.
+    pub(crate) bytes: Vec<u8>,
+    /// How many codes and tokens ended.
+    pub(crate) ended: usize,
+}
+
+// How many of them are good, where what has expired is gone: neither used up nor ended.
+fn good_count(records: &[KeptRecord<'_>]) -> usize {
+    let mut count = 0;
+    for record in records {
+        if !record.spent && !record.ended {
+            count += 1;
+        }
+    }
+    count
+}
+
+// The fault of a batch.
+fn fault_of(fault: AccountFault) -> StateFault {
+    match fault {
+        AccountFault::Memory => StateFault::Memory,
+        AccountFault::Batch(_, fault) => fault,
+    }
+}
+
+/// The image, under the registry's rules, of what is left of a state file. The host is one without hooks.
+pub(crate) fn image_left<H: HookHost>(
+    alloc: Global,
+    bytes: &[u8],
+    registry: &Registry,
+    host: H,
+) -> Result<LeftImage, StateFault>
+    requires narrower { IsNarrower bytes.now (rules_of registry.now) }
+    ensures is { IfOk result (λ left. SpellLeft H.HookHost host bytes.now registry.now left.bytes.items) }
+    ensures short { IfOk result (λ left. length left.bytes.items < 2 ^ 32) }
+    ensures refused { IfErr result RefusesNarrowing }
+{
+    let account = match account_of(alloc, bytes, host) {
+        Ok(account) => account,
+        Err(fault) => return Err(fault_of(fault)),
+    };
+    let Image {
+        rules: _told,
+        greatest,
+        records,
+        consents,
+        hooks,
+    } = account.image(alloc)?;
+    let left = records_left(alloc, registry, greatest, &records)?;
+    let ended = good_count(&records).saturating_sub(good_count(&left));
+    let image = Image {
+        rules: registry_rules(alloc, registry)?,
+        greatest,
+        records: left,
+        consents,
+        hooks,
+    };
+    let mut bytes = Vec::new(alloc);
+    encode(&mut bytes, &image)?;
+    if bytes.len() > u32::MAX as usize {
+        return Err(StateFault::TooLong);
+    }
+    Ok(LeftImage { bytes, ended })
+}
