@@ -10,32 +10,32 @@ ghost use Rattle.token_store.specs.Fits.{FitsHistory};
 ghost use Rattle.token_store.specs.Image.{as_kept, kept_record};
 
 use clients::Registry;
-use consent::{ClientNo, Moment, TokenKind, is_within};
+use consent::{ClientNo, Moment, ScopeSet, TokenKind};
 use std::alloc::{AllocError, Global};
 use token_store::{KeptKind, KeptRecord};
 
 // What the client may be allowed.
-fn allowed_to(rules: &Registry, client: ClientNo) -> u64
+fn allowed_to(rules: &Registry, client: ClientNo) -> ScopeSet
     ensures { result ≡ allowed_to rules.now client }
 {
     match rules.client_numbered(client) {
         Some(client) => client.allowed(),
-        None => 0,
+        None => ScopeSet::empty(),
     }
 }
 
 // Whether the client may not be allowed all of the scope.
-fn goes_beyond(rules: &Registry, client: ClientNo, scope: u64) -> bool
+fn goes_beyond(rules: &Registry, client: ClientNo, scope: ScopeSet) -> bool
     ensures { result ≡ goes_beyond rules.now client scope }
 {
-    !is_within(scope, allowed_to(rules, client))
+    !scope.is_within(allowed_to(rules, client))
 }
 
 // What of the scope the client may be allowed.
-fn scope_under(rules: &Registry, client: ClientNo, scope: u64) -> u64
+fn scope_under(rules: &Registry, client: ClientNo, scope: ScopeSet) -> ScopeSet
     ensures { result ≡ scope_under rules.now client scope }
 {
-    scope & allowed_to(rules, client)
+    ScopeSet::new(scope.bits() & allowed_to(rules, client).bits())
 }
 
 // How long a token of the kind may be good.
@@ -49,7 +49,7 @@ fn life_limit(rules: &Registry, kind: TokenKind) -> u32
 }
 
 // For how long a token is good that was issued for a life.
-fn life_under(rules: &Registry, client: ClientNo, kind: TokenKind, scope: u64, life: u32) -> u32
+fn life_under(rules: &Registry, client: ClientNo, kind: TokenKind, scope: ScopeSet, life: u32) -> u32
     ensures { result ≡ life_under rules.now client kind scope life }
 {
     if goes_beyond(rules, client, scope) {
