@@ -49,7 +49,13 @@ fn life_limit(rules: &Registry, kind: TokenKind) -> u32
 }
 
 // For how long a token is good that was issued for a life.
-fn life_under(rules: &Registry, client: ClientNo, kind: TokenKind, scope: ScopeSet, life: u32) -> u32
+fn life_under(
+    rules: &Registry,
+    client: ClientNo,
+    kind: TokenKind,
+    scope: ScopeSet,
+    life: u32,
+) -> u32
     ensures { result ≡ life_under rules.now client kind scope life }
 {
     if goes_beyond(rules, client, scope) {

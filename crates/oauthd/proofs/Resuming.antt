@@ -95,9 +95,9 @@ module _ {R : Type 0} (keeping : Crashes (BatchFile (DiskFile R))) (rules : Regi
       serves = λ history stands was ran. (let on = start history stands was ran in serves (under history) on.stands on.was on.ran);
       held = λ history stands was ran. (let on = start history stands was ran in held (under history) on.stands on.was on.ran);
       meanwhile = λ history stands was ran. (let on = start history stands was ran in
-        then (λ (d : DiskFile R). length d.log.calls) (λ (d : DiskFile R). LeftSince d.log.calls) opened.device device started.keeper.device
-        (IsEither opened.bytes.items now) (λ left. StandsFor left (under history) ⊎ StandsFor left (with history)) (StandsForOneOf history (under history) (with history))
-        narrowed.crash (meanwhile (under history) on.stands on.was on.ran) (on_the_way history stands on.stands) (at_last history));
+          then (λ (d : DiskFile R). length d.log.calls) (λ (d : DiskFile R). LeftSince d.log.calls) opened.device device started.keeper.device
+          (IsEither opened.bytes.items now) (λ left. StandsFor left (under history) ⊎ StandsFor left (with history)) (StandsForOneOf history (under history) (with history))
+          narrowed.crash (meanwhile (under history) on.stands on.was on.ran) (on_the_way history stands on.stands) (at_last history));
     }
 
   -- by what the calls say

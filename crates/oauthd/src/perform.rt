@@ -2,7 +2,6 @@
 
 ghost use Rattle.std.specs.Prelude.{◌≡◌, ◌⊎◌, OnOk, IfOk, IfErr, IfSome};
 ghost use Rattle.std.specs.Option.{option_copied};
-ghost use Rattle.daemon.specs.Started.{keeping_by};
 ghost use Rattle.oauthd.specs.Endings.{EndsCall, EndsWords};
 ghost use Rattle.oauthd.specs.Listening.{EndsService, FailsService, files_in, ServeEnded};
 ghost use Rattle.oauthd.specs.Outputs.{GetsText, output, outputs};
@@ -38,6 +37,9 @@ use std::rt::{Clock, Files};
 
 /// What keeps a server's changes on the disk.
 type OnDisk<'r, R> = StateKeeper<DiskFile<'r, R>>;
+
+/// What faults and reports are told to, as lines.
+type Lines<'e, E> = LineJournal<'e, E>;
 
 /// What could not be written to the end.
 #[derive(Clone, Copy, Debug, PartialEq, Eq)]
@@ -151,7 +153,7 @@ fn serve_as<
     ensures done { OnOk result (ServeEnded service.now (files_in files.entry) (output W.contents out.old out.new)) }
     ensures fault { IfErr result (λ fault.
         FailsService (startings ⟦<MachineClocks<'r, R> as Clocks>⟧
-        ⟦<LineJournal<'e, E> as Journal>⟧ (keeping_by ⟦<OnDisk<'r, R> as Keeper>⟧ ⟦<OnDisk<'r, R> as ImageKeeper>⟧.is_long))
+        ⟦<Lines<'e, E> as Journal>⟧ ⟦<OnDisk<'r, R> as Keeper>⟧ ⟦<OnDisk<'r, R> as ImageKeeper>⟧)
         service.now (files_in files.entry) fault
         (outputs (output W.contents out.old out.new) (output E.contents err.old err.new))) }
 {
@@ -195,7 +197,7 @@ pub fn perform_service<
     // Bad use may be that of a fault that could not be told.
     ensures { (result ≡ Status.BadUse)
         ⊎ EndsService (startings ⟦<MachineClocks<'r, R> as Clocks>⟧
-        ⟦<LineJournal<'e, E> as Journal>⟧ (keeping_by ⟦<OnDisk<'r, R> as Keeper>⟧ ⟦<OnDisk<'r, R> as ImageKeeper>⟧.is_long))
+        ⟦<Lines<'e, E> as Journal>⟧ ⟦<OnDisk<'r, R> as Keeper>⟧ ⟦<OnDisk<'r, R> as ImageKeeper>⟧)
         service.now (files_in files.entry) result
         (outputs (output W.contents out.old out.new) (output E.contents err.old err.new)) }
 {
@@ -216,7 +218,7 @@ fn perform_call<
     // Bad use may be that of a write that failed.
     ensures { (result ≡ Status.BadUse)
         ⊎ EndsCall (startings ⟦<MachineClocks<'r, R> as Clocks>⟧
-        ⟦<LineJournal<'e, E> as Journal>⟧ (keeping_by ⟦<OnDisk<'r, R> as Keeper>⟧ ⟦<OnDisk<'r, R> as ImageKeeper>⟧.is_long))
+        ⟦<Lines<'e, E> as Journal>⟧ ⟦<OnDisk<'r, R> as Keeper>⟧ ⟦<OnDisk<'r, R> as ImageKeeper>⟧)
         call.now (files_in files.entry) result
         (outputs (output W.contents out.old out.new) (output E.contents err.old err.new)) }
 {
@@ -241,7 +243,7 @@ pub fn perform<
     // Bad use may be that of a write that failed.
     ensures { (result ≡ Status.BadUse)
         ⊎ EndsWords (startings ⟦<MachineClocks<'r, R> as Clocks>⟧
-        ⟦<LineJournal<'e, E> as Journal>⟧ (keeping_by ⟦<OnDisk<'r, R> as Keeper>⟧ ⟦<OnDisk<'r, R> as ImageKeeper>⟧.is_long))
+        ⟦<Lines<'e, E> as Journal>⟧ ⟦<OnDisk<'r, R> as Keeper>⟧ ⟦<OnDisk<'r, R> as ImageKeeper>⟧)
         words.now result (outputs (output W.contents out.old out.new) (output E.contents err.old err.new)) }
 {
     let call = match Call::from_words(rt.alloc(), words) {
