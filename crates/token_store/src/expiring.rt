@@ -9,10 +9,10 @@ ghost use Rattle.token_store.specs.RecordsParts.{AllGone, AllLive, Sheds, TellsS
 
 use crate::agenda::{Deadline, Page};
 use crate::record::{Record, Shared};
-use crate::tables::{Tables, leave};
+use crate::tables::{Owners, Tables, leave};
 use consent::{Digest, Moment};
 use slab::Slab;
-use std::collections::{BTreeSet, HashMap};
+use std::collections::HashMap;
 
 impl Tables {
     /// Lets go of all that has expired.
@@ -47,7 +47,7 @@ impl Tables {
 fn drop_one(
     records: &mut HashMap<Digest, Record>,
     families: &mut Slab<Shared>,
-    owners: &mut BTreeSet<((u32, u32), usize)>,
+    owners: &mut Owners,
     deadline: &Deadline,
     moment: Moment,
 )
@@ -75,7 +75,7 @@ fn drop_one(
 fn drop_all(
     records: &mut HashMap<Digest, Record>,
     families: &mut Slab<Shared>,
-    owners: &mut BTreeSet<((u32, u32), usize)>,
+    owners: &mut Owners,
     deadlines: &[Deadline],
     moment: Moment,
 )
@@ -94,7 +94,7 @@ fn drop_all(
 fn drop_page(
     records: &mut HashMap<Digest, Record>,
     families: &mut Slab<Shared>,
-    owners: &mut BTreeSet<((u32, u32), usize)>,
+    owners: &mut Owners,
     page: &Page,
     moment: Moment,
 )
@@ -114,7 +114,7 @@ fn drop_page(
 fn drop_pages(
     records: &mut HashMap<Digest, Record>,
     families: &mut Slab<Shared>,
-    owners: &mut BTreeSet<((u32, u32), usize)>,
+    owners: &mut Owners,
     pages: &[Page],
     moment: Moment,
 )

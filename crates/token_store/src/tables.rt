@@ -23,6 +23,9 @@ use std::alloc::{AllocError, Global};
 use std::collections::{BTreeSet, HashMap};
 use std::ops::Bound;
 
+/// Families that a code opened: the numbers of its owner and client, and the family's.
+pub(crate) type Owners = BTreeSet<((u32, u32), usize)>;
+
 /// A family without records, for a code or a token that is about to come.
 #[derive(Drop)]
 pub(crate) struct Coming {
@@ -38,7 +41,7 @@ pub(crate) struct Tables {
     pub(crate) agenda: Agenda,
     pub(crate) families: Slab<Shared>,
     /// The families that a code opened, by its owner and client.
-    pub(crate) owners: BTreeSet<((u32, u32), usize)>,
+    pub(crate) owners: Owners,
     /// What room was made for, the first to come at the end.
     pub(crate) coming: Vec<Coming>,
 }
@@ -278,7 +281,7 @@ impl Tables {
 
 // Puts the family of the two into the index, if a code of some scope opened it.
 fn add_owner(
-    owners: &mut BTreeSet<((u32, u32), usize)>,
+    owners: &mut Owners,
     code_scope: Option<ScopeSet>,
     parties: (u32, u32),
     number: usize,
@@ -332,13 +335,7 @@ fn spend_one(records: &mut HashMap<Digest, Record>, digest: &Digest)
     }
 }
 
-fn lower_all(
-    families: &mut Slab<Shared>,
-    owners: &BTreeSet<((u32, u32), usize)>,
-    owner: u32,
-    client: u32,
-    mask: ScopeSet,
-)
+fn lower_all(families: &mut Slab<Shared>, owners: &Owners, owner: u32, client: u32, mask: ScopeSet)
     requires owned { IsOwned families.old.slots owners.now.keys }
     ensures lowered { HasLowered families.old.slots families.new.slots owner client mask }
 {
@@ -350,12 +347,7 @@ fn lower_all(
 }
 
 // The first number after the one given of a family of the two that a code opened.
-fn next_owned(
-    owners: &BTreeSet<((u32, u32), usize)>,
-    owner: u32,
-    client: u32,
-    after: Option<usize>,
-) -> Option<usize>
+fn next_owned(owners: &Owners, owner: u32, client: u32, after: Option<usize>) -> Option<usize>
     ensures { IsNextOwned owners.now.keys owner client after result }
 {
     let start = start_of(owner, client, after);
@@ -405,11 +397,7 @@ fn is_among(digest: &Digest, digests: &[Digest]) -> bool
 }
 
 // One record of the family is gone, and so is the family with the last.
-pub(crate) fn leave(
-    families: &mut Slab<Shared>,
-    owners: &mut BTreeSet<((u32, u32), usize)>,
-    number: usize,
-)
+pub(crate) fn leave(families: &mut Slab<Shared>, owners: &mut Owners, number: usize)
     ensures owned { IsOwned families.old.slots owners.old.keys → IsOwned families.new.slots owners.new.keys }
     ensures left { HasLeft families.old.slots families.new.slots number }
 {
