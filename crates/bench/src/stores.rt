@@ -2,7 +2,9 @@
 
 use crate::draw::drawn;
 use crate::report::{self, Least, Rounds};
-use consent::{Change, Changes, ClientNo, CodeFacts, Moment, NewToken, OwnerNo, TokenKind};
+use consent::{
+    Change, Changes, ClientNo, CodeFacts, Digest, Moment, NewToken, OwnerNo, ScopeSet, TokenKind,
+};
 use pkce::digest_of;
 use std::alloc::{AllocError, Global};
 use std::io;
@@ -13,9 +15,9 @@ use token_store::Store;
 #[derive(Clone, Copy)]
 struct Trio {
     owner: OwnerNo,
-    code: [u8; 32],
-    access: [u8; 32],
-    refresh: [u8; 32],
+    code: Digest,
+    access: Digest,
+    refresh: Digest,
 }
 
 /// What is done with each of the trios.
@@ -74,7 +76,7 @@ impl Trio {
         let facts = CodeFacts {
             client: ClientNo::new(1),
             owner: self.owner,
-            scope: 3,
+            scope: ScopeSet::new(3),
             redirect: "https://app.example/cb",
             challenge: "E9Melhoa2OwvFrEMTJguCHaoeK1t8URWbuGJSstw-cM",
         };
@@ -100,13 +102,13 @@ impl Trio {
         let access = NewToken {
             kind: TokenKind::Access,
             digest: self.access,
-            scope: 3,
+            scope: ScopeSet::new(3),
             life: 300,
         };
         let refresh = NewToken {
             kind: TokenKind::Refresh,
             digest: self.refresh,
-            scope: 3,
+            scope: ScopeSet::new(3),
             life: 86_400,
         };
         make(
@@ -134,7 +136,7 @@ impl Trio {
             &Changes::One(Change::Consented {
                 owner,
                 client: ClientNo::new(1),
-                mask: 1,
+                mask: ScopeSet::new(1),
             }),
             moment,
         )
@@ -142,7 +144,7 @@ impl Trio {
 }
 
 // Spends what the digest names.
-fn spend(store: &mut Store, digest: [u8; 32], moment: Moment) -> bool {
+fn spend(store: &mut Store, digest: Digest, moment: Moment) -> bool {
     make(store, &Changes::One(Change::Spent { digest }), moment)
 }
 

@@ -1,9 +1,8 @@
 -- Rules that are as wide as those told are wider.
-use Rattle.std.proofs.Common.{◌≡◌, ◌≤◌, ◌<◌, ◌+◌, ℕ, List, [], ◌∷◌, ◌++◌, Bool, true, false, Option, None, Some, Bor, map, length, drop, get_or, refl, sym, ap, ◌∙◌, subst, arith}
-use Rattle.std.specs.Prelude.{if◌then◌else◌, not, bit_and}
+use Rattle.std.proofs.Common.{◌≡◌, ◌≤◌, ◌<◌, ◌+◌, ℕ, zero, suc, List, [], ◌∷◌, ◌++◌, Bool, true, false, Option, None, Some, Bor, map, length, drop, get_or, refl, sym, ap, ◌∙◌, subst, arith}
+use Rattle.std.specs.Prelude.{if◌then◌else◌, not}
 use Rattle.std.specs.Str.{bytes_eq}
 use Rattle.std.proofs.lemmas.List.{drop_all, drop_more, get_or-map, length-map}
-use Rattle.std.proofs.lemmas.Bool.{eq-eqb, ne_eqb}
 use Rattle.std.proofs.lemmas.Slice.Eq.{bytes_eq-Decides}
 use Rattle.clients.specs.ClientRecord.{ClientRecord}
 use Rattle.clients.specs.RegistryRecord.{RegistryRecord}
@@ -102,20 +101,28 @@ other_if differ false is holds = refl
 pub same_names : (names : List (Bor (List ℕ))) → map (λ s. s.now) names ≡ map (λ s. s.now) names
 same_names names = refl
 
-module _ {X : Type 0} (f : X → List ℕ) (names : List X → List (List ℕ)) (are : (xs : List X) → names xs ≡ map f xs) (told now : List X) (d : X) (i : ℕ) (within : i < length told)
+-- an item that is there is the same, whatever would stand for one that is not
+get_or_any : {X : Type 0} (xs : List X) (i : ℕ) (d e : X) → i < length xs → get_or xs i d ≡ get_or xs i e
+get_or_any [] i d e lt = absurd (omega arith)
+get_or_any (x ∷ xs) zero d e lt = refl
+get_or_any (x ∷ xs) (suc i) d e lt = get_or_any xs i d e (omega (arith, lt))
+
+module _ {X : Type 0} (f : X → List ℕ) (names : List X → List (List ℕ)) (are : (xs : List X) → names xs ≡ map f xs) (told now : List X) (d e : X) (i : ℕ) (within : i < length told)
     (so_far : first_moved (names told) (names now) ≡ first_moved (drop i (names told)) (drop i (names now))) where
-  pub step_on : i < length now → bytes_eq (f (get_or told i d)) (f (get_or now i d)) ≡ true →
+  pub step_on : i < length now → bytes_eq (f (get_or told i d)) (f (get_or now i e)) ≡ true →
       first_moved (names told) (names now) ≡ first_moved (drop (i + 1) (names told)) (drop (i + 1) (names now))
   step_on beside same =
       so_far ∙ rw (are told, are now)
-      (moved_on (map f told) (map f now) i (f (get_or told i d)) (f (get_or now i d)) (rw (length-map told f) within) (rw (length-map now f) beside)
-      (get_or-map f told i d (f (get_or told i d)) within) (get_or-map f now i d (f (get_or now i d)) beside) same)
+      (moved_on (map f told) (map f now) i (f (get_or told i d)) (f (get_or now i e)) (rw (length-map told f) within) (rw (length-map now f) beside)
+      (get_or-map f told i d (f (get_or told i d)) within) (get_or-map f now i e (f (get_or now i e)) beside) same)
 
-  pub step_other : i < length now → bytes_eq (f (get_or told i d)) (f (get_or now i d)) ≡ false → Some (f (get_or told i d)) ≡ first_moved (names told) (names now)
-  step_other beside differ =
-      sym (so_far ∙ rw (are told, are now)
-      (moved_other (map f told) (map f now) i (f (get_or told i d)) (f (get_or now i d)) (rw (length-map told f) within) (rw (length-map now f) beside)
-      (get_or-map f told i d (f (get_or told i d)) within) (get_or-map f now i d (f (get_or now i d)) beside) differ))
+  pub step_other : (again : X) → i < length now → bytes_eq (f (get_or told i d)) (f (get_or now i e)) ≡ false →
+      Some (f (get_or told i again)) ≡ first_moved (names told) (names now)
+  step_other again beside differ =
+      ap (λ (x : X). Some (f x)) (get_or_any told i again d within)
+      ∙ sym (so_far ∙ rw (are told, are now)
+      (moved_other (map f told) (map f now) i (f (get_or told i d)) (f (get_or now i e)) (rw (length-map told f) within) (rw (length-map now f) beside)
+      (get_or-map f told i d (f (get_or told i d)) within) (get_or-map f now i e (f (get_or now i e)) beside) differ))
 
   pub step_past : length now ≤ i → Some (f (get_or told i d)) ≡ first_moved (names told) (names now)
   step_past past =
@@ -127,29 +134,24 @@ pub names_at : (clients : List ClientRules) → client_names (map client_fact cl
 names_at [] = refl
 names_at (c ∷ clients) = ap (λ (names : List (List ℕ)). c.name.now ∷ names) (names_at clients)
 
-pub within_if : (scope mask : ℕ) → bit_and scope mask ≡ scope → is_within scope mask ≡ true
-within_if scope mask is = eq-eqb (bit_and scope mask) scope is
-
-pub beyond_if : (scope mask : ℕ) → (bit_and scope mask ≡ scope → ⊥) → is_within scope mask ≡ false
-beyond_if scope mask is_not = ne_eqb (bit_and scope mask) scope is_not
-
-module _ (told now : List ClientRules) (d : ClientRules) (i : ℕ) (within : i < length told)
+module _ (told now : List ClientRules) (d e : ClientRules) (i : ℕ) (within : i < length told)
     (so_far : first_narrowed (map client_fact told) (map client_fact now) ≡ first_narrowed (drop i (map client_fact told)) (drop i (map client_fact now))) where
   abbrev then_narrowed : Type 0
   then_narrowed = first_narrowed (map client_fact told) (map client_fact now) ≡ first_narrowed (drop (i + 1) (map client_fact told)) (drop (i + 1) (map client_fact now))
 
-  pub narrow_on : i < length now → is_within (get_or told i d).allowed (get_or now i d).allowed ≡ true → then_narrowed
+  pub narrow_on : i < length now → is_within (get_or told i d).allowed (get_or now i e).allowed ≡ true → then_narrowed
   narrow_on beside all =
-      so_far ∙ narrowed_on (map client_fact told) (map client_fact now) i (client_fact (get_or told i d)) (client_fact (get_or now i d))
+      so_far ∙ narrowed_on (map client_fact told) (map client_fact now) i (client_fact (get_or told i d)) (client_fact (get_or now i e))
       (rw (length-map told client_fact) within) (rw (length-map now client_fact) beside)
-      (get_or-map client_fact told i d (client_fact (get_or told i d)) within) (get_or-map client_fact now i d (client_fact (get_or now i d)) beside) all
+      (get_or-map client_fact told i d (client_fact (get_or told i d)) within) (get_or-map client_fact now i e (client_fact (get_or now i e)) beside) all
 
   pub narrow_past : length now ≤ i → then_narrowed
   narrow_past past = so_far ∙ narrowed_past (map client_fact told) (map client_fact now) i (rw (length-map now client_fact) past)
 
-  pub narrow_here : i < length now → is_within (get_or told i d).allowed (get_or now i d).allowed ≡ false →
-      Some (get_or told i d).name.now ≡ first_narrowed (map client_fact told) (map client_fact now)
-  narrow_here beside less =
-      sym (so_far ∙ narrowed_here (map client_fact told) (map client_fact now) i (client_fact (get_or told i d)) (client_fact (get_or now i d))
+  pub narrow_here : (again : ClientRules) → i < length now → is_within (get_or told i d).allowed (get_or now i e).allowed ≡ false →
+      Some (get_or told i again).name.now ≡ first_narrowed (map client_fact told) (map client_fact now)
+  narrow_here again beside less =
+      ap (λ (client : ClientRules). Some client.name.now) (get_or_any told i again d within)
+      ∙ sym (so_far ∙ narrowed_here (map client_fact told) (map client_fact now) i (client_fact (get_or told i d)) (client_fact (get_or now i e))
       (rw (length-map told client_fact) within) (rw (length-map now client_fact) beside)
-      (get_or-map client_fact told i d (client_fact (get_or told i d)) within) (get_or-map client_fact now i d (client_fact (get_or now i d)) beside) less)
+      (get_or-map client_fact told i d (client_fact (get_or told i d)) within) (get_or-map client_fact now i e (client_fact (get_or now i e)) beside) less)

@@ -37,7 +37,7 @@ fn narrowed_client<'b>(told: &[ClientRules<'b>], now: &[ClientRules]) -> Option<
     ensures { option_copied result ≡ first_narrowed (map client_fact told.now) (map client_fact now.now) }
 {
     for i in 0..told.len() {
-        if i < now.len() && told[i].allowed & now[i].allowed != told[i].allowed {
+        if i < now.len() && !told[i].allowed.is_within(now[i].allowed) {
             return Some(told[i].name);
         }
     }

@@ -9,6 +9,7 @@ ghost use Rattle.state_file.specs.Telling.{IsOfRules, Tell, rules_of};
 use crate::fault::StateFault;
 use crate::telling::{last_rules, rules_behind, told_rules};
 use clients::{ConfigFault, Registry};
+use consent::ScopeSet;
 use image_codec::Rules;
 use json::Writer;
 use std::alloc::{AllocError, Global};
@@ -28,9 +29,9 @@ pub(crate) struct FileRules {
 }
 
 /// The names of a scope, one space between two.
-fn scope_text(alloc: Global, scopes: &[&str], scope: u64) -> Result<String, AllocError> {
+fn scope_text(alloc: Global, scopes: &[&str], scope: ScopeSet) -> Result<String, AllocError> {
     let mut text = String::new(alloc);
-    let mut left = scope;
+    let mut left = scope.bits();
     for name in scopes {
         if left % 2 == 1 {
             let space = if text.is_empty() { "" } else { " " };

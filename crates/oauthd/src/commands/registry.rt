@@ -10,6 +10,7 @@ use crate::answer::Answer;
 use crate::fault::PerformFault;
 use crate::named_file::{NamedFile, Readers};
 use clients::{ConfigFault, Registry};
+use consent::ScopeSet;
 use registry_warnings::warnings;
 use std::alloc::{AllocError, Global};
 use std::fmt::{self, Display, Formatter, Write};
@@ -79,7 +80,9 @@ fn counts_text(alloc: Global, registry: &Registry) -> Result<String, AllocError>
 fn scopes_text(alloc: Global, registry: &Registry) -> Result<String, AllocError>
     ensures { IfOk result (λ text. string_bytes text ≡ scopes_text registry.now) }
 {
-    let scopes = registry.catalogue().scope_text(alloc, u64::MAX)?;
+    let scopes = registry
+        .catalogue()
+        .scope_text(alloc, ScopeSet::new(u64::MAX))?;
     format!(in alloc; "scopes {scopes}\n")
 }
 

@@ -4,6 +4,7 @@
 
 use authentication::{AuthFault, authenticate};
 use clients::{ClientNo, ConfigFault, GrantType, OwnerNo, Registry};
+use consent::ScopeSet;
 use params::{ParamFault, Params};
 use std::alloc::{AllocError, Global};
 use std::process::Abort;
@@ -55,14 +56,17 @@ fn reads_a_registry(rt: HostRuntime) -> Result<(), Fail> {
         Some(1)
     );
     assert!(rt; registry.owner_no(b"ann-ke\xFF").is_none());
-    assert_eq!(rt; registry.catalogue().scope_mask("admin read"), Some(5));
+    assert_eq!(rt;
+        registry.catalogue().scope_mask("admin read"),
+        Some(ScopeSet::new(5))
+    );
     assert!(rt; registry.client_no("cat").is_none());
     assert!(rt; registry.client_numbered(ClientNo::new(3)).is_none());
     let app = registry.client(registry.client_no("app").expect(&rt, "the first client"));
     assert_eq!(rt; app.id(), "app");
     assert!(rt; app.has_redirect("https://app.example/cb"));
     assert!(rt; !app.has_redirect("https://app.example/cb/"));
-    assert_eq!(rt; app.allowed(), 3);
+    assert_eq!(rt; app.allowed(), ScopeSet::new(3));
     assert!(rt; app.has_grant(GrantType::AuthorizationCode));
     assert!(rt; app.has_grant(GrantType::RefreshToken));
     assert!(rt; !app.has_grant(GrantType::ClientCredentials));
@@ -70,7 +74,7 @@ fn reads_a_registry(rt: HostRuntime) -> Result<(), Fail> {
         .client_numbered(ClientNo::new(2))
         .expect(&rt, "the second client");
     assert_eq!(rt; bot.id(), "bot");
-    assert_eq!(rt; bot.allowed(), 1);
+    assert_eq!(rt; bot.allowed(), ScopeSet::new(1));
     assert!(rt; bot.has_grant(GrantType::ClientCredentials));
     Ok(())
 }
@@ -316,12 +320,16 @@ fn reads_and_writes_scope_texts(rt: HostRuntime) -> Result<(), Fail> {
         ("root", None),
     ];
     for (text, mask) in rows {
-        assert_eq!(rt; catalogue.scope_mask(text), mask, "at {text}");
+        assert_eq!(rt;
+            catalogue.scope_mask(text),
+            mask.map(ScopeSet::new),
+            "at {text}"
+        );
     }
     for (mask, text) in [(3, "read write"), (0, "")] {
-        let found = match catalogue.scope_text(alloc, mask) {
+        let found = match catalogue.scope_text(alloc, ScopeSet::new(mask)) {
             Ok(found) => found,
-            Err(_) => catalogue.scope_text(alloc, mask)?,
+            Err(_) => catalogue.scope_text(alloc, ScopeSet::new(mask))?,
         };
         assert_eq!(rt; found.as_str(), text);
     }

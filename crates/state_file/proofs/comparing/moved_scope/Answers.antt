@@ -11,14 +11,14 @@ pub returns-then-i-now : goal.returns-then-i-now
 returns-then-i-now c =
     let f : Bor (List ℕ) → List ℕ = λ s. s.now in
     elim c.then-i-now.branch [
-      | then-i-now-via-then-i-now w ↦ step_past f (λ xs. map f xs) same_names c.args.told.now c.args.now.now none c.loop-i.i c.loop-i-test.true c.loop-i.invariant w.if-i-now.true
+      | then-i-now-via-then-i-now w ↦ step_past f (λ xs. map f xs) same_names c.args.told.now c.args.now.now none none c.loop-i.i c.loop-i-test.true c.loop-i.invariant w.if-i-now.true
       | then-i-now-via-else-i-now+then-ne w ↦
           let differ : bytes_eq (get_or c.args.told.now c.loop-i.i none).now (get_or c.args.now.now c.loop-i.i none).now ≡ false = other_if w.ne.result _ w.ne.ensures w.if-ne.true in
-          step_other f (λ xs. map f xs) same_names c.args.told.now c.args.now.now none c.loop-i.i c.loop-i-test.true c.loop-i.invariant w.if-i-now.false differ
+          step_other f (λ xs. map f xs) same_names c.args.told.now c.args.now.now none none c.loop-i.i c.loop-i-test.true c.loop-i.invariant none w.if-i-now.false differ
     ]
 
 pub loop-i-preserved : goal.loop-i-preserved
 loop-i-preserved c =
     let f : Bor (List ℕ) → List ℕ = λ s. s.now in
     let same : bytes_eq (get_or c.args.told.now c.loop-i.i none).now (get_or c.args.now.now c.loop-i.i none).now ≡ true = same_if c.ne.result _ c.ne.ensures c.if-ne.false in
-    step_on f (λ xs. map f xs) same_names c.args.told.now c.args.now.now none c.loop-i.i c.loop-i-test.true c.loop-i.invariant c.if-i-now.false same
+    step_on f (λ xs. map f xs) same_names c.args.told.now c.args.now.now none none c.loop-i.i c.loop-i-test.true c.loop-i.invariant c.if-i-now.false same
