@@ -13,10 +13,7 @@ use hook_host::HookHost;
 use std::alloc::Global;
 
 #[tactic(auto, using(crate::proofs::Redone::redoes_none))]
-fn redo_each<H: HookHost>(
-    restored: &mut Restored<H>,
-    changes: &[DatedChange],
-) -> Result<(), RedoFault>
+fn redo<H: HookHost>(restored: &mut Restored<H>, changes: &[DatedChange]) -> Result<(), RedoFault>
     ensures { OnOk result (RedoesDated H.HookHost restored.old (dated_facts changes.now) restored.new) }
 {
     for dated in changes {
@@ -38,7 +35,7 @@ fn redo_batch<H: HookHost>(
         return Ok(());
     }
     let changes = decode(alloc, batch)?;
-    redo_each(restored, &changes)?;
+    redo(restored, &changes)?;
     Ok(())
 }
 

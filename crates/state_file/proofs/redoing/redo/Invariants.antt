@@ -1,7 +1,7 @@
 use Rattle.std.proofs.Common.{take}
 use Rattle.change_codec.specs.Spelling.{dated_facts}
 use Rattle.state_file.specs.Resuming.{RedoesDated}
-use Rattle.state_file.proofs.redoing.redo_each.Given as goal
+use Rattle.state_file.proofs.redoing.redo.Given as goal
 
 abbrev pub invariant-loop-dated : goal.invariant-loop-dated
 invariant-loop-dated g l = RedoesDated g.H.HookHost l.fn.restored (dated_facts (take l.dated-index l.changes)) l.restored

@@ -5,7 +5,7 @@ use Rattle.change_codec.specs.declared.dated.DatedChange.{DatedChange}
 use Rattle.change_codec.specs.Spelling.{DatedFact, dated_fact, dated_facts}
 use Rattle.state_file.specs.Resuming.{RedoesDated}
 use Rattle.state_file.proofs.Redone.{redoes_then}
-use Rattle.state_file.proofs.redoing.redo_each.Goals as goal
+use Rattle.state_file.proofs.redoing.redo.Goals as goal
 
 pub loop-dated-preserved : goal.loop-dated-preserved
 loop-dated-preserved g c =
