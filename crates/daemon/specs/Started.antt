@@ -3,8 +3,9 @@ use Rattle.std.specs.Prelude.{◌≡◌, ◌⊎◌, ℕ, List, Some}
 use Rattle.clients.specs.RegistryRecord.{RegistryRecord}
 use Rattle.change_codec.specs.declared.keeper.Keeper.{Ghosts as Keeper}
 use Rattle.consent.specs.History.{Event}
-use Rattle.endpoints.specs.Server.{SeenServer, FitsServer, Notes}
+use Rattle.endpoints.specs.Server.{SeenServer, Outset, FitsServer, Notes, outset_of}
 use Rattle.http_edge.specs.Edges.{SeenEdge}
+use Rattle.http_edge.specs.Reached.{Journey, Reached, new_journey, resumed_journey}
 use Rattle.image_keeper.specs.Keeping.{Keeping, keeping}
 use Rattle.event_loop.specs.declared.fault.LoopFault.{LoopFault}
 use Rattle.event_loop.specs.declared.limits.Limits.{Limits}
@@ -14,7 +15,6 @@ use Rattle.event_loop.specs.Ends.{HasServed, ServesNothing}
 use Rattle.daemon.specs.declared.means.Ending.{Ending}
 use Rattle.daemon.specs.declared.means.Means.{Means}
 use Rattle.daemon.specs.declared.patience.Patience.{Patience}
-use Rattle.daemon.specs.Begun.{Beginning, IsAt, new_beginning, resumed_beginning}
 
 -- what a keeper promises, which may put an image in the place of what it keeps once that is long
 abbrev pub keeping_by : {K : Type 0} → Keeper K → (K → Type 0) → Keeping K
@@ -35,20 +35,19 @@ tools_of means edge = record {
   keeper = means.keeper;
 }
 
--- A server, from its beginning on and with what it was handed, served its connections step by step until it could not go on;
--- or the clocks told nothing, and it served none.
-pub record Serves {N C J K H : Type 0} (p : Promises N C J K H) (beginning : Beginning H) (means : Means N C J K) (ending : Ending N C J K H) : Type 0 where
+-- A server, from where its journey had led it and with what it was handed, served its connections step by step until it could
+-- not go on; or the clocks told nothing, and it served none.
+pub record Serves {N C J K H : Type 0} (p : Promises N C J K H) (journey : Journey H) (means : Means N C J K) (ending : Ending N C J K H) : Type 0 where
   pub edge : SeenEdge H
-  pub begun : IsAt p.hosting beginning edge
-  pub served : HasServed p beginning.rules beginning.host (limits_of means.patience)
-      (tools_of means edge) beginning.schedule beginning.world ending.fault ending.tools ⊎ ServesNothing p (tools_of means edge) ending.fault ending.tools
+  pub begun : Reached p.hosting edge journey
+  pub served : HasServed p journey.outset.rules journey.outset.first (limits_of means.patience)
+      (tools_of means edge) journey.schedule journey.world ending.fault ending.tools ⊎ ServesNothing p (tools_of means edge) ending.fault ending.tools
 
 -- from whatever history on a server has noted what happens, it served from there
 abbrev pub ServesFrom : {N C J K H : Type 0} → Promises N C J K H → SeenServer H → Means N C J K → Ending N C J K H → Type 0
 ServesFrom p server means ending =
-    (rules : RegistryRecord) (host : _) (history : List Event) (m : ℕ) → FitsServer p.hosting.installs p.hosting.removes server rules host history m →
-    Notes server (Some history) history →
-    Serves p (resumed_beginning rules host history m) means ending
+    (outset : Outset _) (history : List Event) (m : ℕ) → FitsServer p.hosting server outset history m → Notes server (Some history) history →
+    Serves p (resumed_journey outset history m) means ending
 
 -- a new server with these rules, that was so patient, did so, with some sockets, clocks, journal, keeper and draws
 pub record HasStarted {N C J K H : Type 0} (p : Promises N C J K H) (rules : RegistryRecord) (host : H) (patience : Patience) (fault : LoopFault) : Type 0 where
@@ -56,7 +55,7 @@ pub record HasStarted {N C J K H : Type 0} (p : Promises N C J K H) (rules : Reg
   pub patience_is : means.patience ≡ patience
   pub ending : Ending N C J K H
   pub fault_is : ending.fault ≡ fault
-  pub serves : Serves p (new_beginning rules host) means ending
+  pub serves : Serves p (new_journey (outset_of rules host)) means ending
 
 -- a server that was made before did so, with this keeper, and with some sockets, clocks, journal and draws
 pub record HasGoneOn {N C J K H : Type 0} (p : Promises N C J K H) (server : SeenServer H) (keeper : K) (patience : Patience) (fault : LoopFault) : Type 0 where

@@ -1,9 +1,7 @@
 //! So many connections, one after the other.
 
-ghost use Rattle.std.specs.Prelude.{List, OnOk};
-ghost use Rattle.clients.specs.RegistryRecord.{RegistryRecord};
-ghost use Rattle.http_edge.specs.Schedule.{Happening, World};
-ghost use Rattle.http_edge.specs.Reached.{Reached};
+ghost use Rattle.std.specs.Prelude.{OnOk};
+ghost use Rattle.http_edge.specs.Reached.{Journey, Reached};
 ghost use Rattle.serving.specs.Served.{LeadsOn};
 ghost use Rattle.daemon.specs.Begun.{IsNewEdge};
 ghost use Rattle.daemon.specs.Listening.{Announces};
@@ -43,8 +41,7 @@ pub fn serve_each<R: Net + Clock, H: HookHost>(
     edge: &mut Edge<H>,
     rng: &mut ChaCha20Rng,
 )
-    ensures { (rules : RegistryRecord) (first : H) (schedule : List Happening) (world : World) →
-        Reached H.HookHost edge.old rules first schedule world → LeadsOn H.HookHost edge.new rules first schedule }
+    ensures { (journey : Journey H) → Reached H.HookHost edge.old journey → LeadsOn H.HookHost edge.new journey }
 {
     let mut clock = MachineClock(rt);
     for _ in 0..count {

@@ -1,9 +1,10 @@
 //! A server over any sockets, clocks, journal and keeper.
 
+ghost use Rattle.endpoints.specs.Server.{outset_of};
 ghost use Rattle.event_loop.specs.Ends.{RunEnds};
 ghost use Rattle.event_loop.specs.Scenes.{promises};
+ghost use Rattle.http_edge.specs.Reached.{new_journey};
 ghost use Rattle.image_keeper.specs.Keeping.{keeping};
-ghost use Rattle.daemon.specs.Begun.{new_beginning};
 ghost use Rattle.daemon.specs.Started.{Serves, ServesFrom, limits_of, tools_of};
 
 use crate::by_count::new_edge;
@@ -68,7 +69,7 @@ pub fn serve_with<N: Sockets, C: Clocks, J: Journal, K: ImageKeeper>(
     hooks: Chain,
     means: Means<N, C, J, K>,
 ) -> Ending<N, C, J, K, Chain>
-    ensures { Serves (promises N.Sockets C.Clocks J.Journal (keeping K.Keeper K.ImageKeeper.own) ⟦<Chain as HookHost>⟧) (new_beginning registry hooks) means result }
+    ensures { Serves (promises N.Sockets C.Clocks J.Journal (keeping K.Keeper K.ImageKeeper.own) ⟦<Chain as HookHost>⟧) (new_journey (outset_of registry hooks)) means result }
 {
     serve_by(new_edge(alloc, registry, hooks), means)
 }
