@@ -1,1 +1,2 @@
+pub mod OneBatch
 pub mod OfLeft

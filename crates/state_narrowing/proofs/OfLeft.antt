@@ -1,6 +1,6 @@
 -- What a file stands for that has an image of what is left.
 use Rattle.std.proofs.Common.{◌≡◌, ◌≤◌, ◌<◌, ◌⊎◌, inl, inr, ℕ, ◌-◌, zero, suc, List, [], ◌∷◌, Bool, true, false, cond, Option, None, Some, refl, ap, sym, subst, ◌∙◌, arith}
-use Rattle.std.specs.Prelude.{◌==◌, if◌then◌else◌, is_some, slice_get, map, string_bytes}
+use Rattle.std.specs.Prelude.{◌==◌, if◌then◌else◌, is_some, slice_get, map, Result, Ok, Err, IfOk, IfErr}
 use Rattle.std.specs.Str.{bytes_eq}
 use Rattle.batch_file.specs.Frames.{recovered}
 use Rattle.clients.specs.ClientRecord.{ClientRecord}
@@ -37,6 +37,20 @@ use Rattle.state_file.proofs.FromFile.{right_now}
 use Rattle.state_file.proofs.Known.{tell_one}
 use Rattle.state_narrowing.specs.Narrowing.{GoesOn, IsNarrower}
 use Rattle.state_narrowing.specs.NarrowingParts.{IsRightImage, SpellLeft}
+
+-- RESULTS
+
+pub all_ok : {X E : Type 0} (r : Result X E) (P : X → Type 0) → ((x : X) → P x) → IfOk r P
+all_ok (Ok x) P f = f x
+all_ok (Err e) P f = tt
+
+pub ok_also : {X E : Type 0} (r : Result X E) (P Q : X → Type 0) → ((x : X) → P x → Q x) → IfOk r P → IfOk r Q
+ok_also (Ok x) P Q f is = f x is
+ok_also (Err e) P Q f is = tt
+
+pub err_also : {X E : Type 0} (r : Result X E) (P Q : E → Type 0) → ((e : E) → P e → Q e) → IfErr r P → IfErr r Q
+err_also (Ok x) P Q f is = tt
+err_also (Err e) P Q f is = f e is
 
 -- HOOKS
 

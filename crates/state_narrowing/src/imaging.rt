@@ -1,6 +1,7 @@
 //! The image of what is left of a state file under a registry.
 
-ghost use Rattle.std.specs.Prelude.{◌<◌, ◌^◌, IfOk, IfErr, length};
+ghost use Rattle.std.specs.Prelude.{◌≡◌, ◌<◌, ◌^◌, IfOk, IfErr, length, map};
+ghost use Rattle.image_codec.specs.Facts.{image_fact, record_fact};
 ghost use Rattle.state_narrowing.specs.Narrowing.{IsNarrower, RefusesNarrowing};
 ghost use Rattle.state_file.specs.Telling.{rules_of};
 ghost use Rattle.state_narrowing.specs.NarrowingParts.{SpellLeft};
@@ -33,12 +34,56 @@ fn good_count(records: &[KeptRecord<'_>]) -> usize {
     count
 }
 
-// The fault of a batch.
-fn fault_of(fault: AccountFault) -> StateFault {
+// A fault that is told of a file, for one of a batch.
+fn of_batch(fault: StateFault) -> StateFault
+    ensures { RefusesNarrowing result }
+{
+    match fault {
+        StateFault::Memory => StateFault::Memory,
+        StateFault::Device => StateFault::Device,
+        StateFault::Spelling(fault) => StateFault::Spelling(fault),
+        StateFault::Follows(fault) => StateFault::Follows(fault),
+        StateFault::Image(fault) => StateFault::Image(fault),
+        StateFault::Hook(name, fault) => StateFault::Hook(name, fault),
+        _ => StateFault::NoRules,
+    }
+}
+
+// The fault of an account.
+fn fault_of(fault: AccountFault) -> StateFault
+    ensures { RefusesNarrowing result }
+{
     match fault {
         AccountFault::Memory => StateFault::Memory,
-        AccountFault::Batch(_, fault) => fault,
+        AccountFault::Batch(_, fault) => of_batch(fault),
     }
+}
+
+// An image with these records, under the registry's rules.
+fn image_with<'a>(
+    alloc: Global,
+    registry: &'a Registry,
+    image: Image<'a>,
+    records: Vec<KeptRecord<'a>>,
+) -> Result<Image<'a>, StateFault>
+    ensures with { IfOk result (λ left. image_fact left ≡
+        record (image_fact image.entry) { rules = rules_of registry.now; records = map record_fact records.entry.items }) }
+    ensures refused { IfErr result RefusesNarrowing }
+{
+    let Image {
+        rules: _told,
+        greatest,
+        records: _records,
+        consents,
+        hooks,
+    } = image;
+    Ok(Image {
+        rules: registry_rules(alloc, registry)?,
+        greatest,
+        records,
+        consents,
+        hooks,
+    })
 }
 
 /// The image, under the registry's rules, of what is left of a state file. The host is one without hooks.
@@ -57,22 +102,10 @@ pub(crate) fn image_left<H: HookHost>(
         Ok(account) => account,
         Err(fault) => return Err(fault_of(fault)),
     };
-    let Image {
-        rules: _told,
-        greatest,
-        records,
-        consents,
-        hooks,
-    } = account.image(alloc)?;
-    let left = records_left(alloc, registry, greatest, &records)?;
-    let ended = good_count(&records).saturating_sub(good_count(&left));
-    let image = Image {
-        rules: registry_rules(alloc, registry)?,
-        greatest,
-        records: left,
-        consents,
-        hooks,
-    };
+    let told = account.image(alloc)?;
+    let records = records_left(alloc, registry, told.greatest, told.records.as_slice())?;
+    let ended = good_count(told.records.as_slice()).saturating_sub(good_count(records.as_slice()));
+    let image = image_with(alloc, registry, told, records)?;
     let mut bytes = Vec::new(alloc);
     encode(&mut bytes, &image)?;
     if bytes.len() > u32::MAX as usize {

@@ -1,0 +1,30 @@
+use Rattle.std.proofs.Common.{◌≡◌, ◌∙◌, List, refl, sym, ap, subst}
+use Rattle.std.specs.Prelude.{ℕ, ◌++◌}
+use Rattle.image_codec.specs.Facts.{ImageFact, image_fact}
+use Rattle.image_codec.specs.Spelling.{image_spelling}
+use Rattle.narrowing.specs.Left.{left_under}
+use Rattle.token_store.specs.Fits.{FitsHistory}
+use Rattle.token_store.specs.Image.{as_kept}
+use Rattle.token_store.specs.declared.image.KeptRecord.{KeptRecord}
+use Rattle.state_narrowing.proofs.OfLeft.{right_image}
+use Rattle.state_narrowing.proofs.imaging.image_left.Goals as goal
+
+pub returns-in-Err-clause-refused : goal.returns-in-Err-clause-refused
+returns-in-Err-clause-refused g c = c.fault_of.ensures
+
+pub returns-clause-is : goal.returns-clause-is
+returns-clause-is g c =
+    let image = image_fact c.in_ok-image.image in
+    let told = image_fact c.in_ok-told.told in
+    let with = c.in_ok-image.ensures.with in
+    record {
+      image = image;
+      fits = c.in_ok-encode.ensures.fits;
+      spelled = c.in_ok-encode.ensures.written ∙ ap (λ (xs : List ℕ). xs ++ image_spelling image) c.new-bytes.ensures.items;
+      rules_are = ap (λ (i : ImageFact). i.rules) with;
+      is = right_image g.H.HookHost c.in-Ok.account c.args.bytes.now c.args.host c.args.registry.now told image c.in_ok-told.told.records.items c.in_ok-records.records.items
+          refl (sym (ap (λ (i : ImageFact). i.records) with)) (ap (λ (i : ImageFact). i.greatest) with) (ap (λ (i : ImageFact). i.consents) with) (ap (λ (i : ImageFact). i.hooks) with)
+          (λ history fits. c.in_ok-records.ensures.fits history
+            (subst (λ (rs : List KeptRecord). FitsHistory (as_kept rs) history c.in_ok-told.told.greatest) (sym c.as_slice.ensures.value) fits))
+          c.requires.narrower c.in-Ok.ensures.told (c.in_ok-told.ensures c.args.bytes.now c.args.host c.in-Ok.ensures.told);
+    }
