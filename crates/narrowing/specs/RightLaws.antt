@@ -8,7 +8,7 @@ use Rattle.std.proofs.lemmas.List.Elements.{filter_map-append}
 use Rattle.std.proofs.lemmas.Nat.{and_assoc}
 use Rattle.std.proofs.lemmas.Nat.Bits.{same_from_bits, bit_at_and}
 use Rattle.std.specs.Int.{bit_at}
-use Rattle.insn.specs.declared.layout.Layout.{Layout}
+use Rattle.hook_host.specs.declared.host.HookHost.{Ghosts as Hosting}
 use Rattle.clients.specs.RegistryRecord.{RegistryRecord}
 use Rattle.consent.specs.CoveredLaws.{is_within-trans, is_within-self}
 use Rattle.consent.specs.ListLaws.{count_by-cons}
@@ -140,14 +140,13 @@ all_right-left old new history moment clients is all = all_left old new clients 
 
 -- THE HOST
 
-module _ {H : Type 0} (installs : H → List ℕ → Layout → List ℕ → H → Type 0) (removes : H → List ℕ → H → Type 0) (rules : RegistryRecord)
-    (beyond : ℕ → Bool) where
-  gone_step : (b : Bool) (f : ℕ) (change : Change) (old now : H) → HostStep installs removes old (FamilyEnded f) now →
-      HostStep installs removes old change now → HostStep installs removes old (cond b (FamilyEnded f) change) now
+module _ {H : Type 0} (hosting : Hosting H) (rules : RegistryRecord) (beyond : ℕ → Bool) where
+  gone_step : (b : Bool) (f : ℕ) (change : Change) (old now : H) → HostStep hosting old (FamilyEnded f) now →
+      HostStep hosting old change now → HostStep hosting old (cond b (FamilyEnded f) change) now
   gone_step true f change old now gone step = gone
   gone_step false f change old now gone step = step
 
-  host_step : (change : Change) (old now : H) → HostStep installs removes old change now → HostStep installs removes old (left_of rules beyond change) now
+  host_step : (change : Change) (old now : H) → HostStep hosting old change now → HostStep hosting old (left_of rules beyond change) now
   host_step (CodeGiven f c o scope redirect challenge digest) old now step =
       gone_step (beyond f) f (CodeGiven f c o scope redirect challenge digest) old now step step
   host_step (Issued f c o kind digest scope life) old now step =
@@ -159,6 +158,6 @@ module _ {H : Type 0} (installs : H → List ℕ → Layout → List ℕ → H �
   host_step (HookGone name) old now step = step
 
   -- it came through what is left
-  pub host_run-left : (es : List Event) (first now : H) → HostRun installs removes first es now → HostRun installs removes first (left_events rules beyond es) now
+  pub host_run-left : (es : List Event) (first now : H) → HostRun hosting first es now → HostRun hosting first (left_events rules beyond es) now
   host_run-left [] first now run = run
   host_run-left (e ∷ es) first now run = (run.0, host_step e.change first run.0 run.1, host_run-left es run.0 now run.2)

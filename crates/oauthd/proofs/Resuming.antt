@@ -11,7 +11,7 @@ use Rattle.change_codec.specs.Keeping.{Crashes, Holds}
 use Rattle.clients.specs.RegistryRecord.{RegistryRecord}
 use Rattle.consent.specs.History.{Event}
 use Rattle.endpoints.specs.Hosts.{HostRun}
-use Rattle.hook_chain.specs.Chains.{Named, IsInstalled, IsRemoved}
+use Rattle.hook_chain.specs.Chains.{Named}
 use Rattle.hook_chain.specs.contracts.chain.ChainHookHost.TheImpl as chain
 use Rattle.image_codec.specs.Facts.{HookFact}
 use Rattle.state_file.specs.Hooks.{with_hooks}
@@ -26,7 +26,7 @@ use Rattle.oauthd.specs.Startings.{ComesOfState, StandsForOneOf}
 use Rattle.state_file.proofs.Replaying.{replays}
 
 -- a chain that came through the history was run
-pub was_run : (left : List ℕ) (history : List Event) → HaveNoImage (recovered left) ⊎ ((host : List Named) × HostRun IsInstalled IsRemoved [] history host) → WasRun chain.ghosts [] left history
+pub was_run : (left : List ℕ) (history : List Event) → HaveNoImage (recovered left) ⊎ ((host : List Named) × HostRun chain.ghosts [] history host) → WasRun chain.ghosts [] left history
 was_run left history (inl none) = inl none
 was_run left history (inr ran) = inr (replays history ran.0 ran.1)
 
@@ -74,7 +74,7 @@ module _ {R : Type 0} (keeping : Crashes (BatchFile (DiskFile R))) (rules : Regi
     with history = with_hooks started.moment (under history) hooks
 
     start : (history : List Event) → StandsFor opened.bytes.items history → WasRight opened.bytes.items history →
-        HaveNoImage (recovered opened.bytes.items) ⊎ ((host : List Named) × HostRun IsInstalled IsRemoved [] history host) → IsStart now (under history)
+        HaveNoImage (recovered opened.bytes.items) ⊎ ((host : List Named) × HostRun chain.ghosts [] history host) → IsStart now (under history)
     start history stands was ran = is_start rules ended opened.bytes.items now narrowed.same narrowed.left history stands was (was_run opened.bytes.items history ran)
 
     on_the_way : (history : List Event) → StandsFor opened.bytes.items history → StandsFor now (under history) → (left : List ℕ) →

@@ -22,7 +22,7 @@ use Rattle.event_loop.specs.declared.clocks.Clocks.{Ghosts as Clocks}
 use Rattle.event_loop.specs.declared.fault.LoopFault.{LoopFault}
 use Rattle.event_loop.specs.declared.journal.Journal.{Ghosts as Journal}
 use Rattle.endpoints.specs.Hosts.{HostRun}
-use Rattle.hook_chain.specs.Chains.{Named, IsInstalled, IsRemoved}
+use Rattle.hook_chain.specs.Chains.{Named}
 use Rattle.hook_chain.specs.contracts.chain.ChainHookHost.TheImpl as chain
 use Rattle.image_codec.specs.Facts.{HookFact}
 use Rattle.state_file.specs.Hooks.{with_hooks}
@@ -66,7 +66,7 @@ keeping_of keeper = crashes keeper.stands_for keeper.may_leave keeper.moment kee
 abbrev pub OfEachRun : List ℕ → (List Event → Type 0) → Type 0
 OfEachRun left claim =
     (history : List Event) → StandsFor left history → WasRight left history →
-    HaveNoImage (recovered left) ⊎ ((host : List Named) × HostRun IsInstalled IsRemoved [] history host) → claim history
+    HaveNoImage (recovered left) ⊎ ((host : List Named) × HostRun chain.ghosts [] history host) → claim history
 
 -- what a crash left stands for a history, or for what is left of it under the rules, with these hooks or without them
 abbrev pub StandsForOneOf : (history under with : List Event) → List ℕ → Type 0

@@ -161,7 +161,7 @@ module _ {H : Type 0} (hosting : Hosting H) where
         is = image_left rules told image records kept history were are greatest consents hooks (lets history) one;
         right = right_left left history rules told.greatest narrower one.records.fits.is_history stands was;
         host = account.restored.server.host;
-        ran = host_run-left hosting.installs hosting.removes rules (is_beyond_rules rules history) history first account.restored.server.host server.hosts;
+        ran = host_run-left hosting rules (is_beyond_rules rules history) history first account.restored.server.host server.hosts;
       }
 
   -- a file that has that image alone stands for what is left

@@ -24,7 +24,7 @@ pub record GoesOn {H : Type 0} (hosting : Hosting H) (first : H) (left : List �
   pub stands : StandsFor left history
   pub right : WasRight left history
   pub host : H
-  pub ran : HostRun hosting.installs hosting.removes first history host
+  pub ran : HostRun hosting first history host
 
 -- the history, or what is left of it where the file was narrowed, which ended so many codes and tokens
 abbrev pub history_under : RegistryRecord → Option ℕ → List Event → List Event

@@ -17,7 +17,7 @@ pub record IsRightImage {H : Type 0} (hosting : Hosting H) (first : H) (image : 
   pub is : IsImageOf image history
   pub right : AllRight rules [] history
   pub host : H
-  pub ran : HostRun hosting.installs hosting.removes first history host
+  pub ran : HostRun hosting first history host
 
 -- the bytes spell an image, under the registry's rules, of what is left of each history that these bytes stand for
 pub record SpellLeft {H : Type 0} (hosting : Hosting H) (first : H) (left : List ℕ) (rules : RegistryRecord) (bytes : List ℕ) : Type 0 where
