@@ -1,5 +1,5 @@
 -- A server that was started on the file of its state.
-use Rattle.std.proofs.Common.{◌≡◌, ◌⊎◌, inl, inr, ℕ, List, [], length, Option, None, Some, refl, subst, sym}
+use Rattle.std.proofs.Common.{◌≡◌, ◌⊎◌, ⊎_elim, arith, inl, inr, ℕ, List, [], length, Option, None, Some, refl, subst, sym}
 use Rattle.std.specs.Prelude.{IsSome}
 use Rattle.batch_file.specs.Calls.{content, LeftSince}
 use Rattle.batch_file.specs.Crashes.{LeavesOnly}
@@ -20,7 +20,6 @@ use Rattle.state_file.specs.Standing.{StandsFor}
 use Rattle.state_file.specs.Telling.{rules_of}
 use Rattle.state_file.specs.declared.starting.Started.{Started}
 use Rattle.narrowing.specs.Left.{left_under}
-use Rattle.batch_file.proofs.Moments.{then}
 use Rattle.state_narrowing.specs.Narrowing.{GoesOn, IsEither, IsNarrower, history_under}
 use Rattle.oauthd.specs.Startings.{ComesOfState, StandsForOneOf}
 use Rattle.state_file.proofs.Replaying.{replays}
@@ -29,6 +28,15 @@ use Rattle.state_file.proofs.Replaying.{replays}
 pub was_run : (left : List ℕ) (history : List Event) → HaveNoImage (recovered left) ⊎ ((host : List Named) × HostRun chain.ghosts [] history host) → WasRun chain.ghosts [] left history
 was_run left history (inl none) = inl none
 was_run left history (inr ran) = inr (replays history ran.0 ran.1)
+
+-- one part of the run more
+then : {D : Type 0} (moment : D → ℕ) (left_since : D → ℕ → List ℕ → Type 0) (old mid new : D) (P Q R : List ℕ → Type 0) → LeavesOnly moment left_since old mid P →
+    LeavesOnly moment left_since mid new Q → ((c : List ℕ) → P c → R c) → ((c : List ℕ) → Q c → R c) → LeavesOnly moment left_since old new R
+then moment left_since old mid new P Q R first second here there = record {
+  later = omega (arith, first.later, second.later);
+  each = λ c left. ⊎_elim (λ had. here c (first.each c had)) (there c) (second.before (moment old) c first.later left);
+  before = λ t c le left. ⊎_elim (λ had. ⊎_elim inl (λ p. inr (here c p)) (first.before t c le had)) (λ q. inr (there c q)) (second.before t c (omega (arith, le, first.later)) left);
+}
 
 -- what a server goes on from
 record IsStart (now : List ℕ) (history : List Event) : Type 0 where

@@ -14,7 +14,7 @@ returns-in-Err-ClientNarrowed c =
     let are : lists c.deref.result.now ≡ recovered bytes = ap lists c.deref.ensures.value ∙ c.in-Ok.ensures.batches in
     let at : last_rules (recovered bytes) ≡ Some c.in-Some.batch.now = ap last_rules (sym are) ∙ sym c.in-Some.ensures in
     λ _. subst (λ (r : RulesFact). IsNarrower bytes r) c.in-Ok-registry_rules.ensures.rules
-    (narrowed_client bytes (rules_fact c.in-Ok-told_rules.told) (rules_fact c.in-Ok-registry_rules.now) _ (c.in-Some.batch.now, at, c.in-Ok-told_rules.ensures.told)
+    (narrowed_client bytes (rules_fact c.in-Ok-told_rules.told) (rules_fact c.in-Ok-registry_rules.now) c.in-Err-ClientNarrowed._name (c.in-Some.batch.now, at, c.in-Ok-told_rules.ensures.told)
     (subst (λ f. AreNarrower (rules_fact c.in-Ok-told_rules.told) (rules_fact c.in-Ok-registry_rules.now) f) c.in-Err-ClientNarrowed.field-0-is c.in-Err-ClientNarrowed.ensures.refused))
 
 pub returns-in-Err-LifeNarrowed : goal.returns-in-Err-LifeNarrowed

@@ -25,6 +25,6 @@ returns-clause-is g c =
       is = right_image g.H.HookHost c.in-Ok.account c.args.bytes.now c.args.host c.args.registry.now told image c.in_ok-told.told.records.items c.in_ok-records.records.items
           refl (sym (ap (λ (i : ImageFact). i.records) with)) (ap (λ (i : ImageFact). i.greatest) with) (ap (λ (i : ImageFact). i.consents) with) (ap (λ (i : ImageFact). i.hooks) with)
           (λ history fits. c.in_ok-records.ensures.fits history
-            (subst (λ (rs : List KeptRecord). FitsHistory (as_kept rs) history c.in_ok-told.told.greatest) (sym c.as_slice.ensures.value) fits))
+          (subst (λ (rs : List KeptRecord). FitsHistory (as_kept rs) history c.in_ok-told.told.greatest) (sym c.as_slice.ensures.value) fits))
           c.requires.narrower c.in-Ok.ensures.told (c.in_ok-told.ensures c.args.bytes.now c.args.host c.in-Ok.ensures.told);
     }
