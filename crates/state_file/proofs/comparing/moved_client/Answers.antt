@@ -1,4 +1,4 @@
-use Rattle.std.proofs.Common.{◌≡◌, ℕ, List, [], map, get_or, true, false}
+use Rattle.std.proofs.Common.{◌≡◌, ℕ, List, map, get_or, true, false}
 use Rattle.std.specs.Str.{bytes_eq}
 use Rattle.image_codec.specs.Facts.{client_fact}
 use Rattle.image_codec.specs.declared.image.ClientRules.{ClientRules}
