@@ -1,10 +1,10 @@
 -- What is told of a state file.
 use Rattle.std.proofs.Common.{◌≡◌, ◌⊎◌, inl, inr, ℕ, List, [], map, sym, ap, ◌∙◌, subst}
 use Rattle.batch_file.specs.Frames.{recovered}
-use Rattle.clients.specs.RegistryRecord.{RegistryRecord}
 use Rattle.consent.specs.Consents.{FitsConsents, kept_consents}
 use Rattle.consent.specs.History.{Event}
 use Rattle.consent.specs.declared.kept_consent.KeptConsent.{KeptConsent}
+use Rattle.endpoints.specs.Server.{Outset, outset_of}
 use Rattle.hook_host.specs.declared.host.HookHost.{Ghosts as Hosting}
 use Rattle.image_codec.specs.Facts.{ImageFact, RulesFact, record_fact}
 use Rattle.image_codec.specs.Kept.{kept_told}
@@ -79,20 +79,20 @@ of_image number batches (state.HookDiffers name) of = absurd of
 
 module _ {H : Type 0} (hosting : Hosting H) where
   -- a server that is begun, and for which the later batches are made again, fits what the bytes stand for
-  pub answers_for : (registry : RegistryRecord) (first : H) (batches later : List (List ℕ)) (begun restored : Restored H) → BeginsByBatches hosting registry first batches later begun →
-      RedoesBatches hosting begun later restored → (left : List ℕ) → recovered left ≡ batches → AnswersFor hosting left registry first restored
-  answers_for registry first batches later begun restored begins redone left are history stands right run =
-      let from = begun_fits hosting registry first left batches later begun history stands are begins right run in
+  pub answers_for : (outset : Outset H) (batches later : List (List ℕ)) (begun restored : Restored H) → BeginsByBatches hosting outset batches later begun →
+      RedoesBatches hosting begun later restored → (left : List ℕ) → recovered left ≡ batches → AnswersFor hosting left outset restored
+  answers_for outset batches later begun restored begins redone left are history stands right run =
+      let from = begun_fits hosting outset left batches later begun history stands are begins right run in
       let told : AreTold later stands.facts = subst (λ (bs : List (List ℕ)). AreTold bs stands.facts) from.0 stands.told in
-      (redone stands.facts told).1 registry first stands.base history from.1 stands.happened right
+      (redone stands.facts told).1 outset stands.base history from.1 stands.happened right
 
   -- a server that fits a history has an image that is one of it
   pub imaged : (restored : Restored H) (image : ImageFact) (records : List KeptRecord) (consents : List KeptConsent) →
       map record_fact records ≡ image.records → consents ≡ image.consents → image.greatest ≡ restored.moment → image.hooks ≡ restored.hooks →
       ((history : List Event) → FitsStore restored.server.store history restored.server.greatest → FitsHistory (as_kept records) history restored.server.greatest) →
       ((history : List Event) → FitsConsents restored.server.consents history → FitsConsents (kept_consents consents) history) →
-      (rules : RegistryRecord) (first : H) (history : List Event) → FitsRestored hosting restored rules first history → IsImageOf image history
-  imaged restored image records consents told given greatest hooks lists gives rules first history fits =
+      (outset : Outset H) (history : List Event) → FitsRestored hosting restored outset history → IsImageOf image history
+  imaged restored image records consents told given greatest hooks lists gives outset history fits =
       let server = fits.0 in
       let there : FitsHistory (as_kept records) history restored.server.greatest =
       lists history (subst (λ (m : ℕ). FitsStore restored.server.store history m) (sym server.greatest_is) server.store) in
@@ -105,10 +105,10 @@ module _ {H : Type 0} (hosting : Hosting H) where
       }
 
   -- so has an account
-  pub image_in : (account : Account H) (image : ImageFact) → ((rules : RegistryRecord) (first : H) (history : List Event) → FitsRestored hosting account.restored rules first history → IsImageOf image history) →
+  pub image_in : (account : Account H) (image : ImageFact) → ((outset : Outset H) (history : List Event) → FitsRestored hosting account.restored outset history → IsImageOf image history) →
       (left : List ℕ) (first : H) → (of : IsAccountOf hosting left first account) → rules_of of.registry ≡ image.rules → IsImageIn hosting left first image
   image_in account image is left first of rules = record {
-    each = λ history stands was run. is of.registry first history (of.answers history stands (right_now left history of.registry of.wider stands was) run);
+    each = λ history stands was run. is (outset_of of.registry first) history (of.answers history stands (right_now left history of.registry of.wider stands was) run);
     told = subst (λ (r : RulesFact). TellIfAny left r) rules of.told;
   }
 

@@ -1,11 +1,11 @@
 -- From where the changes of a file lead on.
 use Rattle.std.proofs.Common.{◌≡◌, inl, inr, ℕ, zero, suc, List, [], ◌∷◌, ◌++◌, true, false, refl, sym, ap, ◌∙◌, subst}
 use Rattle.batch_file.specs.Frames.{recovered}
-use Rattle.clients.specs.RegistryRecord.{RegistryRecord}
 use Rattle.consent.specs.History.{Event}
 use Rattle.change_codec.specs.HappenedLaws.{Happened-front}
 use Rattle.change_codec.specs.Spelling.{DatedFact}
 use Rattle.endpoints.specs.Bounded.{AllRight}
+use Rattle.endpoints.specs.Server.{Outset}
 use Rattle.hook_host.specs.declared.host.HookHost.{Ghosts as Hosting}
 use Rattle.image_codec.specs.Facts.{ImageFact}
 use Rattle.image_codec.specs.Spelling.{ImageFits, image_spelling}
@@ -28,32 +28,32 @@ no_image ((suc (suc (suc n)) ∷ fields) ∷ batches) facts told = refl
 has_image : (batches behind : List (List ℕ)) (image : ImageFact) → HaveNoImage batches → batches ≡ image_spelling image ∷ behind → ⊥
 has_image batches behind image none is = let e : true ≡ false = subst (λ (bs : List (List ℕ)). HaveNoImage bs) is none in absurd cc
 
-module _ {H : Type 0} (hosting : Hosting H) (rules : RegistryRecord) (first : H) where
+module _ {H : Type 0} (hosting : Hosting H) (outset : Outset H) where
   -- the server that is begun with fits what the changes lead on from
   pub begun_fits : (left : List ℕ) (batches later : List (List ℕ)) (restored : Restored H) (history : List Event) → (stands : StandsFor left history) →
-      recovered left ≡ batches → BeginsByBatches hosting rules first batches later restored → AllRight rules [] history → WasRun hosting first left history →
-      (stands.later ≡ later) × FitsRestored hosting restored rules first stands.base
+      recovered left ≡ batches → BeginsByBatches hosting outset batches later restored → AllRight outset.rules [] history → WasRun hosting outset.first left history →
+      (stands.later ≡ later) × FitsRestored hosting restored outset stands.base
   begun_fits left batches later restored history stands are begins right run = by stands.begins
     where
-      ran : WasRun hosting first left history → (image : ImageFact) → recovered left ≡ image_spelling image ∷ stands.later → (more : List Event) → history ≡ stands.base ++ more → Replays hosting first stands.base
+      ran : WasRun hosting outset.first left history → (image : ImageFact) → recovered left ≡ image_spelling image ∷ stands.later → (more : List Event) → history ≡ stands.base ++ more → Replays hosting outset.first stands.base
       ran (inl none) image is more front = absurd (has_image (recovered left) stands.later image none is)
       ran (inr replays) image is more front = replays stands.base (more, front)
 
-      by : Begin (recovered left) stands.base stands.later → (stands.later ≡ later) × FitsRestored hosting restored rules first stands.base
+      by : Begin (recovered left) stands.base stands.later → (stands.later ≡ later) × FitsRestored hosting restored outset stands.base
       by (inl none) =
           let told : AreTold batches stands.facts = subst (λ (bs : List (List ℕ)). AreTold bs stands.facts) (none.1 ∙ are) stands.told in
           let anew = begins.anew (no_image batches stands.facts told) in
-          (none.1 ∙ are ∙ sym anew.0, subst (λ (h : List Event). FitsRestored hosting restored rules first h) (sym none.0) anew.1)
+          (none.1 ∙ are ∙ sym anew.0, subst (λ (h : List Event). FitsRestored hosting restored outset h) (sym none.0) anew.1)
       by (inr of) =
           let made = begins.of_image of.0 stands.later (of.2.0, sym are ∙ of.2.1) in
           let front = Happened-front stands.base history stands.facts stands.happened in
-          let right_there : AllRight rules [] stands.base = right_before rules [] stands.base front.0 (subst (λ (h : List Event). AllRight rules [] h) front.1 right) in
+          let right_there : AllRight outset.rules [] stands.base = right_before outset.rules [] stands.base front.0 (subst (λ (h : List Event). AllRight outset.rules [] h) front.1 right) in
           (sym made.0, made.1.1 stands.base of.1 right_there (ran run of.0 of.2.1 front.0 front.1))
 
 -- so are the hooks
-module _ {H : Type 0} (hosting : Hosting H) (rules : RegistryRecord) (first : H) where
+module _ {H : Type 0} (hosting : Hosting H) (outset : Outset H) where
   pub begun_hooks : (left : List ℕ) (batches later : List (List ℕ)) (restored : Restored H) (history : List Event) → (stands : StandsFor left history) →
-      recovered left ≡ batches → BeginsByBatches hosting rules first batches later restored → (stands.later ≡ later) × (restored.hooks ≡ hooks_set_in stands.base)
+      recovered left ≡ batches → BeginsByBatches hosting outset batches later restored → (stands.later ≡ later) × (restored.hooks ≡ hooks_set_in stands.base)
   begun_hooks left batches later restored history stands are begins = by stands.begins
     where
       by : Begin (recovered left) stands.base stands.later → (stands.later ≡ later) × (restored.hooks ≡ hooks_set_in stands.base)
@@ -78,20 +78,20 @@ same_image batches later behind batch read image are begin one =
 pub begins_2 : (batches behind : List (List ℕ)) (image : ImageFact) → HaveNoImage batches → BeginWithImage batches image behind → ⊥
 begins_2 batches behind image none begin = has_image batches behind image none begin.1
 
-module _ {H : Type 0} (hosting : Hosting H) (rules : RegistryRecord) (first : H) where
+module _ {H : Type 0} (hosting : Hosting H) (outset : Outset H) where
   -- a server that is made of the first batch
   pub begins_made : (batches later : List (List ℕ)) (batch : List ℕ) (read : ImageFact) (restored : Restored H) → batches ≡ batch ∷ later → ImageFits read → batch ≡ image_spelling read →
-      ((i : ImageFact) → ImageFits i → batch ≡ image_spelling i → read ≡ i) → IsMadeOf hosting read rules first restored → BeginsByBatches hosting rules first batches later restored
+      ((i : ImageFact) → ImageFits i → batch ≡ image_spelling i → read ≡ i) → IsMadeOf hosting read outset restored → BeginsByBatches hosting outset batches later restored
   begins_made batches later batch read restored are fits spelled one made = record {
     anew = λ none. absurd (has_image batches later read none (are ∙ ap (λ (b : List ℕ). b ∷ later) spelled));
     of_image = λ image behind begin. of image behind (same_image batches later behind batch read image are begin (one image));
   }
     where
-      of : (image : ImageFact) (behind : List (List ℕ)) → (later ≡ behind) × (read ≡ image) → (later ≡ behind) × IsMadeOf hosting image rules first restored
-      of image behind same = (same.0, subst (λ (i : ImageFact). IsMadeOf hosting i rules first restored) same.1 made)
+      of : (image : ImageFact) (behind : List (List ℕ)) → (later ≡ behind) × (read ≡ image) → (later ≡ behind) × IsMadeOf hosting image outset restored
+      of image behind same = (same.0, subst (λ (i : ImageFact). IsMadeOf hosting i outset restored) same.1 made)
 
   -- a new server, where none is an image
-  pub begins_anew : (batches : List (List ℕ)) (restored : Restored H) → HaveNoImage batches → FitsRestored hosting restored rules first [] → BeginsByBatches hosting rules first batches batches restored
+  pub begins_anew : (batches : List (List ℕ)) (restored : Restored H) → HaveNoImage batches → FitsRestored hosting restored outset [] → BeginsByBatches hosting outset batches batches restored
   begins_anew batches restored none fits = record {
     anew = λ _. (refl, fits);
     of_image = λ image behind begin. absurd (begins_2 batches behind image none begin);

@@ -6,7 +6,7 @@ use Rattle.change_codec.specs.Keeping.{Crashes, Holds, LeavesEither}
 use Rattle.clients.specs.RegistryRecord.{RegistryRecord}
 use Rattle.consent.specs.History.{Event}
 use Rattle.endpoints.specs.Bounded.{AllRight}
-use Rattle.endpoints.specs.Server.{SeenServer, FitsServer, Notes, NowNotes, AreUnkept}
+use Rattle.endpoints.specs.Server.{SeenServer, FitsServer, Notes, NowNotes, AreUnkept, Outset}
 use Rattle.endpoints.specs.Widening.{IsWider}
 use Rattle.endpoints.specs.WideningLaws.{all_right-wider}
 use Rattle.hook_host.specs.declared.host.HookHost.{Ghosts as Hosting}
@@ -27,36 +27,36 @@ right_now left history registry wider stands (inl none) = subst (λ (h : List Ev
 right_now left history registry wider stands (inr told) = all_right-wider told.0 registry (wider told.0 told.1) [] history told.2
 
 -- a server that begins to note fits what it fitted
-pub noting_fits : {H : Type 0} (hosting : Hosting H) (restored : Restored H) (server : SeenServer H) (rules : RegistryRecord) (first : H) (history : List Event) → NowNotes restored.server server (Some []) →
-    FitsRestored hosting restored rules first history → FitsRestored hosting (record restored { server = server }) rules first history
-noting_fits hosting restored server rules first history begins fits =
-    (fits_noting hosting restored.server server (Some []) rules first history restored.moment begins fits.0, fits.1)
+pub noting_fits : {H : Type 0} (hosting : Hosting H) (restored : Restored H) (server : SeenServer H) (outset : Outset H) (history : List Event) → NowNotes restored.server server (Some []) →
+    FitsRestored hosting restored outset history → FitsRestored hosting (record restored { server = server }) outset history
+noting_fits hosting restored server outset history begins fits =
+    (fits_noting hosting restored.server server (Some []) outset history restored.moment begins fits.0, fits.1)
 
 -- what a start comes to
-pub record IsDone {H K : Type 0} (hosting : Hosting H) (crashes : Crashes K) (server : SeenServer H) (keeper kept : K) (rules : RegistryRecord) (first : H) (history now : List Event) (hooks : List HookFact) (moment : ℕ) : Type 0 where
-  pub fits : FitsServer hosting.installs hosting.removes server rules first now moment
+pub record IsDone {H K : Type 0} (hosting : Hosting H) (crashes : Crashes K) (server : SeenServer H) (keeper kept : K) (outset : Outset H) (history now : List Event) (hooks : List HookFact) (moment : ℕ) : Type 0 where
+  pub fits : FitsServer hosting server outset now moment
   pub notes : Notes server (Some now) now
   pub set : AreSet hooks now
   pub holds : Holds crashes kept now
   pub meanwhile : LeavesEither crashes history now keeper kept
 
-pub is_done : {H K : Type 0} (hosting : Hosting H) (crashes : Crashes K) (restored : Restored H) (noting : SeenServer H) (set : Restored H) (server : SeenServer H) (keeper kept : K) (rules : RegistryRecord) (first : H) (history : List Event) (hooks : List HookFact) →
-    FitsRestored hosting restored rules first history → NowNotes restored.server noting (Some []) →
+pub is_done : {H K : Type 0} (hosting : Hosting H) (crashes : Crashes K) (restored : Restored H) (noting : SeenServer H) (set : Restored H) (server : SeenServer H) (keeper kept : K) (outset : Outset H) (history : List Event) (hooks : List HookFact) →
+    FitsRestored hosting restored outset history → NowNotes restored.server noting (Some []) →
     Sets hosting (record restored { server = noting }) hooks set → set.moment ≡ restored.moment → NowNotes set.server server server.unkept → KeepsNoted crashes set.server server keeper kept →
-    Holds crashes keeper history → IsDone hosting crashes server keeper kept rules first history (with_hooks set.moment history hooks) hooks set.moment
-is_done {H = H} hosting crashes restored noting set server keeper kept rules first history hooks fits begins sets moment same keeps holds =
-    let begun : FitsRestored hosting (record restored { server = noting }) rules first history = noting_fits hosting restored noting rules first history begins fits in
+    Holds crashes keeper history → IsDone hosting crashes server keeper kept outset history (with_hooks set.moment history hooks) hooks set.moment
+is_done {H = H} hosting crashes restored noting set server keeper kept outset history hooks fits begins sets moment same keeps holds =
+    let begun : FitsRestored hosting (record restored { server = noting }) outset history = noting_fits hosting restored noting outset history begins fits in
     let noted : noting.unkept ≡ Some [] = ap (λ (s : SeenServer H). s.unkept) begins in
     let from : Notes noting (Some history) history = subst (λ unkept. AreUnkept unkept (Some history) history) (sym noted) refl in
-    let all = sets rules first history begun in
+    let all = sets outset history begun in
     let at : with_hooks restored.moment history hooks ≡ with_hooks set.moment history hooks = ap (λ (m : ℕ). with_hooks m history hooks) (sym moment) in
     let now : List Event = with_hooks set.moment history hooks in
-    let fits_now : FitsRestored hosting set rules first now = subst (λ (h : List Event). FitsRestored hosting set rules first h) at all.0 in
+    let fits_now : FitsRestored hosting set outset now = subst (λ (h : List Event). FitsRestored hosting set outset h) at all.0 in
     let set_now : AreSet hooks now = subst (λ (h : List Event). AreSet hooks h) at all.1 in
     let notes_now : Notes set.server (Some history) now = subst (λ (h : List Event). Notes set.server (Some history) h) at (all.2 (Some history) from) in
     let done = keeps history now notes_now holds in
     record {
-      fits = fits_noting hosting set.server server server.unkept rules first now set.moment same fits_now.0;
+      fits = fits_noting hosting set.server server server.unkept outset now set.moment same fits_now.0;
       notes = done.0;
       set = set_now;
       holds = done.1;

@@ -1,13 +1,12 @@
 -- A server as an image, and a server made of one.
 use Rattle.std.proofs.Common.{◌≡◌, ℕ, List, [], ◌∷◌, ◌++◌, map, refl, sym, ap, ◌∙◌, subst}
-use Rattle.clients.specs.RegistryRecord.{RegistryRecord}
 use Rattle.consent.specs.Consents.{FitsConsents, kept_consents}
 use Rattle.consent.specs.History.{Event}
 use Rattle.consent.specs.declared.kept_consent.KeptConsent.{KeptConsent}
 use Rattle.endpoints.specs.Bounded.{AllRight}
 use Rattle.endpoints.specs.Hosts.{HostRun}
 use Rattle.endpoints.specs.Restoring.{AreOf}
-use Rattle.endpoints.specs.Server.{SeenServer, FitsServer}
+use Rattle.endpoints.specs.Server.{SeenServer, FitsServer, Outset, outset_of}
 use Rattle.endpoints.specs.Layouts.{layout_of}
 use Rattle.hook_host.specs.declared.host.HookHost.{Ghosts as Hosting}
 use Rattle.image_codec.specs.Facts.{HookFact, ImageFact, record_fact}
@@ -29,11 +28,11 @@ module _ {H : Type 0} (hosting : Hosting H) where
   installs_more old mid new (h ∷ hooks) hook before one = (before.0, before.1, installs_more before.0 mid new hooks hook before.2 one)
 
   -- a server made of what an image says fits each history that the image is one of
-  pub made_of : (restored : Restored H) (image : ImageFact) (records : List KeptRecord) (host first : H) (rules : RegistryRecord) →
-      map record_fact records ≡ image.records → restored.moment ≡ image.greatest → restored.hooks ≡ image.hooks → Installs hosting first image.hooks host →
-      ((first : H) (history : List Event) → AreOf records image.consents history image.greatest → HostRun hosting.installs hosting.removes first history host → AllRight rules [] history →
-      FitsServer hosting.installs hosting.removes restored.server rules first history image.greatest) → IsMadeOf hosting image rules first restored
-  made_of restored image records host first rules told moment hooks installed fits = (
+  pub made_of : (restored : Restored H) (image : ImageFact) (records : List KeptRecord) (host : H) (outset : Outset H) →
+      map record_fact records ≡ image.records → restored.moment ≡ image.greatest → restored.hooks ≡ image.hooks → Installs hosting outset.first image.hooks host →
+      ((first : H) (history : List Event) → AreOf records image.consents history image.greatest → HostRun hosting first history host → AllRight outset.rules [] history →
+      FitsServer hosting restored.server (outset_of outset.rules first) history image.greatest) → IsMadeOf hosting image outset restored
+  made_of restored image records host outset told moment hooks installed fits = (
     hooks,
     λ history is right replays.
         let kept : map kept_told image.records ≡ as_kept records = ap (map kept_told) (sym told) ∙ all_same records in
@@ -41,9 +40,9 @@ module _ {H : Type 0} (hosting : Hosting H) where
           kept = subst (λ (ks : List Kept). FitsHistory ks history image.greatest) kept is.records;
           consented = is.consents;
         } in
-        let run : HostRun hosting.installs hosting.removes first history host =
-        replays host (subst (λ (hs : List HookFact). Installs hosting first hs host) is.hooks installed) in (
-          subst (λ (m : ℕ). FitsServer hosting.installs hosting.removes restored.server rules first history m) (sym moment) (fits first history of run right),
+        let run : HostRun hosting outset.first history host =
+        replays host (subst (λ (hs : List HookFact). Installs hosting outset.first hs host) is.hooks installed) in (
+          subst (λ (m : ℕ). FitsServer hosting restored.server outset history m) (sym moment) (fits outset.first history of run right),
           hooks ∙ is.hooks,
         ),
   )
@@ -53,7 +52,7 @@ module _ {H : Type 0} (hosting : Hosting H) where
       map record_fact records ≡ image.records → consents ≡ image.consents → image.greatest ≡ server.greatest → image.hooks ≡ hooks →
       ((history : List Event) → FitsStore server.store history server.greatest → FitsHistory (as_kept records) history server.greatest) →
       ((history : List Event) → FitsConsents server.consents history → FitsConsents (kept_consents consents) history) → IsImageFor hosting server hooks image
-  is_image server image records consents hooks told given greatest are lists gives rules first history m fits set =
+  is_image server image records consents hooks told given greatest are lists gives outset history m fits set =
       let there : FitsHistory (as_kept records) history server.greatest =
       lists history (subst (λ (n : ℕ). FitsStore server.store history n) (sym fits.greatest_is) fits.store) in
       let kept : as_kept records ≡ map kept_told image.records = sym (all_same records) ∙ ap (map kept_told) told in

@@ -49,15 +49,15 @@ told_split ((suc n ∷ bytes) ∷ batches) more facts told =
 module _ {H : Type 0} (hosting : Hosting H) where
   -- none
   pub redoes_none : (restored : Restored H) → RedoesDated hosting restored [] restored
-  redoes_none restored = (refl, λ rules first before after fits happened right. subst (λ (h : List Event). FitsRestored hosting restored rules first h) (sym happened) fits)
+  redoes_none restored = (refl, λ outset before after fits happened right. subst (λ (h : List Event). FitsRestored hosting restored outset h) (sym happened) fits)
 
   -- some, and then others
   fits_then : (old mid new : Restored H) (facts more : List DatedFact) → FitsOn hosting old facts mid → FitsOn hosting mid more new → FitsOn hosting old (facts ++ more) new
-  fits_then old mid new facts more one then rules first before after fits happened right =
+  fits_then old mid new facts more one then outset before after fits happened right =
       let parts = Happened-split before after facts more happened in
       let front = Happened-front parts.0 after more parts.2 in
-      let right_there : AllRight rules [] parts.0 = right_before rules [] parts.0 front.0 (subst (λ (h : List Event). AllRight rules [] h) front.1 right) in
-      then rules first parts.0 after (one rules first before parts.0 fits parts.1 right_there) parts.2 right
+      let right_there : AllRight outset.rules [] parts.0 = right_before outset.rules [] parts.0 front.0 (subst (λ (h : List Event). AllRight outset.rules [] h) front.1 right) in
+      then outset parts.0 after (one outset before parts.0 fits parts.1 right_there) parts.2 right
 
   pub redoes_then : (old mid new : Restored H) (facts more : List DatedFact) → RedoesDated hosting old facts mid → RedoesDated hosting mid more new → RedoesDated hosting old (facts ++ more) new
   redoes_then old mid new facts more one then = (
@@ -68,18 +68,18 @@ module _ {H : Type 0} (hosting : Hosting H) where
   -- one
   fits_one : (old new : Restored H) (moment : ℕ) (change : Change) → again.RedoesChange hosting old.server moment change new.server →
       new.hooks ≡ hooks_by old.hooks (fact_of change) → new.moment ≡ moment → FitsOn hosting old (dated moment change ∷ []) new
-  fits_one old new moment change redone hooks moment_is rules first before after fits happened right =
-      let made = redone rules first before old.moment fits.0 in
+  fits_one old new moment change redone hooks moment_is outset before after fits happened right =
+      let made = redone outset before old.moment fits.0 in
       let some : Some made.0 ≡ Some happened.0 = sym made.1 ∙ sym (meaning_of-told before moment change) ∙ happened.1 in
       let same : made.0 ≡ happened.0 = cc in
       let ends : after ≡ with_change before moment made.0 = happened.3 ∙ ap (with_change before moment) (sym same) in
-      let here : IsRightChange rules before made.0 = all_right-at rules [] before [] (event_at moment made.0) (subst (λ (h : List Event). AllRight rules [] h) ends right) in
-      let server : FitsServer hosting.installs hosting.removes new.server rules first after moment =
-      subst (λ (h : List Event). FitsServer hosting.installs hosting.removes new.server rules first h moment) (sym ends) (made.3 here) in
+      let here : IsRightChange outset.rules before made.0 = all_right-at outset.rules [] before [] (event_at moment made.0) (subst (λ (h : List Event). AllRight outset.rules [] h) ends right) in
+      let server : FitsServer hosting new.server outset after moment =
+      subst (λ (h : List Event). FitsServer hosting new.server outset h moment) (sym ends) (made.3 here) in
       let set : new.hooks ≡ hooks_set_in after =
       hooks ∙ ap (λ (hs : List HookFact). hooks_by hs (fact_of change)) fits.1 ∙ hooks_told before moment (fact_of change) happened.0 (hooks_set_in before) happened.1
       ∙ sym (hooks_of-with before moment happened.0) ∙ ap hooks_set_in (sym happened.3) in
-      (subst (λ (m : ℕ). FitsServer hosting.installs hosting.removes new.server rules first after m) (sym moment_is) server, set)
+      (subst (λ (m : ℕ). FitsServer hosting new.server outset after m) (sym moment_is) server, set)
 
   pub redoes_one : (old new : Restored H) (moment : ℕ) (change : Change) → again.RedoesChange hosting old.server moment change new.server →
       new.hooks ≡ hooks_by old.hooks (fact_of change) → new.moment ≡ moment → RedoesDated hosting old (dated moment change ∷ []) new

@@ -2,12 +2,11 @@
 use Rattle.std.proofs.Common.{◌≡◌, ◌<◌, ◌+◌, ◌++◌, ◌∙◌, ℕ, List, ◌∷◌, None, Some, inl, inr, map, take, drop, length, get_or, refl, sym, ap, arith}
 use Rattle.std.specs.Borrow.{Bor}
 use Rattle.std.proofs.lemmas.List.{drop_more, map-append, take-append-drop}
-use Rattle.clients.specs.RegistryRecord.{RegistryRecord}
 use Rattle.consent.specs.History.{Event}
 use Rattle.consent.specs.declared.change.Change.TheVariants.{HookSet}
 use Rattle.consent.specs.declared.record_version.RecordVersion.{RecordVersion}
 use Rattle.endpoints.specs.Redo.{RefusesRedo, history_refusal}
-use Rattle.endpoints.specs.Server.{FitsServer}
+use Rattle.endpoints.specs.Server.{FitsServer, Outset}
 use Rattle.endpoints.specs.declared.redo.RedoFault.{RedoFault}
 use Rattle.endpoints.specs.declared.redo.RedoFault.TheVariants as redoing
 use Rattle.hook_host.specs.declared.fault.HookFault.{HookFault}
@@ -64,15 +63,15 @@ unread batch now (state.Hook name fault) is = absurd is
 module _ {H : Type 0} (hosting : Hosting H) (restored : Restored H) (name : Bor (List ℕ)) (version : RecordVersion) (code : Bor (List ℕ)) where
   -- every history goes on with a hook
   follows_each : (fault : RedoFault) →
-      ((rules : RegistryRecord) (first : H) (history : List Event) (m : ℕ) → FitsServer hosting.installs hosting.removes restored.server rules first history m →
+      ((outset : Outset H) (history : List Event) (m : ℕ) → FitsServer hosting restored.server outset history m →
       history_refusal history restored.moment (HookSet name version code) ≡ Some fault) →
       FitsNone hosting restored
-  follows_each fault is = λ rules first history fits. let no : None ≡ Some fault = is rules first history restored.moment fits.0 in absurd (cc)
+  follows_each fault is = λ outset history fits. let no : None ≡ Some fault = is outset history restored.moment fits.0 in absurd (cc)
 
   -- one that the host does not refuse, and that is not made
   pub not_made : (hook : HookFact) (fault : RedoFault) → RefusesRedo hosting restored.server restored.moment (HookSet name version code) fault →
       ((refused : HookFault) → fault ≡ redoing.Hook refused → ⊥) → RefusesSetting hosting restored hook (of_redoing fault)
-  not_made hook redoing.MomentBack back other = λ rules first history fits.
+  not_made hook redoing.MomentBack back other = λ outset history fits.
       let less : restored.moment < restored.server.greatest = back in let none : ⊥ = omega (arith, less, fits.0.greatest_is) in none
   not_made hook redoing.Unknown is other = follows_each redoing.Unknown is
   not_made hook (redoing.Store fault) is other = follows_each (redoing.Store fault) is

@@ -115,7 +115,7 @@ pub too_much : {H : Type 0} (hosting : Hosting H) (server : SeenServer H) (hooks
     ((history : List Event) → StandsFor left history → hooks ≡ hooks_set_in history) → HasTooMuch hosting server left
 too_much hosting server hooks left fault unspelled is known =
     let large = subst (λ (f : ImageFault). IsUnspelled hosting server hooks f) is unspelled in
-    (large.0, λ rules first history m fits stands. large.1 rules first history m fits (known history stands), large.2)
+    (large.0, λ outset history m fits stands. large.1 outset history m fits (known history stands), large.2)
 
 -- an image alone is not long
 pub not_long : (now bytes : List ℕ) (image : ImageFact) (end : ℕ) → bytes ≡ image_spelling image → recovered now ≡ bytes ∷ [] → end ≡ 5 + length bytes →

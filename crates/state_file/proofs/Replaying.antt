@@ -7,7 +7,7 @@ use Rattle.consent.specs.History.Change.{Consented, CodeGiven, Issued, Spent, Fa
 use Rattle.change_codec.specs.Keeping.{IsFrontOf}
 use Rattle.encoding.proofs.Reading.{one_program}
 use Rattle.endpoints.specs.Hosts.{HostStep, HostRun}
-use Rattle.hook_chain.specs.Chains.{Named, IsAcceptedCode, IsInstalled, IsRemoved, without_name}
+use Rattle.hook_chain.specs.Chains.{Named, IsAcceptedCode, IsInstalled, without_name}
 use Rattle.hook_chain.specs.contracts.chain.ChainHookHost.TheImpl as chain
 use Rattle.endpoints.specs.Layouts.{layout_of}
 use Rattle.image_codec.specs.Facts.{HookFact}
@@ -47,7 +47,7 @@ installed_has old new hooks name version code step has =
     subst (λ (ns : List Named). Has ns (hooks ++ record { name = name; version = version; code = code } ∷ [])) (sym step.last)
     (has_push old hooks (record { name = name; hook = step.hook }) (record { name = name; version = version; code = code }) has refl step.accepted)
 
-step_has : (old new : List Named) (change : Change) (hooks : List HookFact) → HostStep IsInstalled IsRemoved old change new → Has old hooks → Has new (hooks_with hooks change)
+step_has : (old new : List Named) (change : Change) (hooks : List HookFact) → HostStep chain.ghosts old change new → Has old hooks → Has new (hooks_with hooks change)
 step_has old new (HookSet name version code) hooks step has = installed_has old new hooks name version code step has
 step_has old new (HookGone name) hooks step has = subst (λ (ns : List Named). Has ns (without_hook name hooks)) (sym step.left) (has_without name old hooks has)
 step_has old new (Consented owner client mask) hooks step has = subst (λ (ns : List Named). Has ns hooks) (sym step) has
@@ -57,7 +57,7 @@ step_has old new (Spent digest) hooks step has = subst (λ (ns : List Named). Ha
 step_has old new (FamilyEnded family) hooks step has = subst (λ (ns : List Named). Has ns hooks) (sym step) has
 
 -- a chain that came through a history has what is left of its hooks
-run_has : (first now : List Named) (hooks : List HookFact) (history : List Event) → HostRun IsInstalled IsRemoved first history now → Has first hooks → Has now (hooks_after hooks history)
+run_has : (first now : List Named) (hooks : List HookFact) (history : List Event) → HostRun chain.ghosts first history now → Has first hooks → Has now (hooks_after hooks history)
 run_has first now hooks [] run has = subst (λ (ns : List Named). Has ns hooks) (sym run) has
 run_has first now hooks (e ∷ later) run has = run_has run.0 now (hooks_with hooks e.change) later run.2 (step_has first run.0 e.change hooks run.1 has)
 
@@ -88,13 +88,13 @@ has_one (m ∷ a) (n ∷ b) (h ∷ hooks) has other =
     let rest : a ≡ b = has_one a b hooks has.2 other.2 in
     λ i. here i ∷ rest i
 
-front_run : (first now : List Named) (front more : List Event) → HostRun IsInstalled IsRemoved first (front ++ more) now → (mid : List Named) × HostRun IsInstalled IsRemoved first front mid
+front_run : (first now : List Named) (front more : List Event) → HostRun chain.ghosts first (front ++ more) now → (mid : List Named) × HostRun chain.ghosts first front mid
 front_run first now [] more run = (first, refl)
 front_run first now (e ∷ front) more run = let rest = front_run run.0 now front more run.2 in (rest.0, (run.0, run.1, rest.1))
 
 -- a chain that came through a history comes of what is left of its hooks, wherever the history is broken off
-pub replays : (history : List Event) (host : List Named) → HostRun IsInstalled IsRemoved [] history host → (front : List Event) → IsFrontOf front history → Replays chain.ghosts [] front
+pub replays : (history : List Event) (host : List Named) → HostRun chain.ghosts [] history host → (front : List Event) → IsFrontOf front history → Replays chain.ghosts [] front
 replays history host run front is other installs =
-    let mid = front_run [] host front is.0 (subst (λ (h : List Event). HostRun IsInstalled IsRemoved [] h host) is.1 run) in
+    let mid = front_run [] host front is.0 (subst (λ (h : List Event). HostRun chain.ghosts [] h host) is.1 run) in
     let same : mid.0 ≡ other = has_one mid.0 other (hooks_set_in front) (run_has [] mid.0 [] front mid.1 tt) (installs_has [] other [] (hooks_set_in front) installs tt) in
-    subst (λ (h : List Named). HostRun IsInstalled IsRemoved [] front h) same mid.1
+    subst (λ (h : List Named). HostRun chain.ghosts [] front h) same mid.1

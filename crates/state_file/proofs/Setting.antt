@@ -14,7 +14,7 @@ use Rattle.change_codec.specs.Keeping.{Crashes, Holds, KeepsEach}
 use Rattle.change_codec.specs.Spelling.{DatedFact, HookSet}
 use Rattle.endpoints.specs.Bounded.{AllRight, IsRightChange}
 use Rattle.endpoints.specs.Noting.{with_notes}
-use Rattle.endpoints.specs.Server.{SeenServer, FitsServer, Notes, NowNotes, AreUnkept, AreNoted}
+use Rattle.endpoints.specs.Server.{SeenServer, FitsServer, Notes, NowNotes, AreUnkept, AreNoted, Outset}
 use Rattle.hook_host.specs.declared.host.HookHost.{Ghosts as Hosting}
 use Rattle.image_codec.specs.Facts.{HookFact}
 use Rattle.state_file.specs.Hooks.{AreSet, hooks_set_in, hook_named, with_hook, with_hooks}
@@ -96,14 +96,14 @@ noted_more (Some facts) (Some kept) before after moment changes unkept happened 
 module _ {H : Type 0} (hosting : Hosting H) where
   -- no hook
   pub sets_none : (restored : Restored H) → Sets hosting restored [] restored
-  sets_none restored rules first history fits = (fits, All-nil (λ (h : HookFact). hook_named h.name (hooks_set_in history) ≡ Some h), λ kept notes. notes)
+  sets_none restored outset history fits = (fits, All-nil (λ (h : HookFact). hook_named h.name (hooks_set_in history) ≡ Some h), λ kept notes. notes)
 
   -- a hook that is set
   pub sets_old : (restored : Restored H) (hook : HookFact) → hook_named hook.name restored.hooks ≡ Some hook → Sets hosting restored (hook ∷ []) restored
-  sets_old restored hook is rules first history fits =
+  sets_old restored hook is outset history fits =
       let there : hook_named hook.name (hooks_set_in history) ≡ Some hook = ap (hook_named hook.name) (sym fits.1) ∙ is in
       let same : with_hook restored.moment history hook ≡ history = with_hook-old restored.moment history hook hook there in
-      subst (λ (h : List Event). FitsRestored hosting restored rules first h × AreSet (hook ∷ []) h × AreNoted restored.server restored.server history h) (sym same)
+      subst (λ (h : List Event). FitsRestored hosting restored outset h × AreSet (hook ∷ []) h × AreNoted restored.server restored.server history h) (sym same)
       (fits, All-cons (λ (h : HookFact). hook_named h.name (hooks_set_in history) ≡ Some h) hook [] there (All-nil (λ (h : HookFact). hook_named h.name (hooks_set_in history) ≡ Some h)), λ kept notes. notes)
 
   -- a hook of a new name
@@ -111,17 +111,17 @@ module _ {H : Type 0} (hosting : Hosting H) where
       all_dated old.moment changes ≡ record { moment = old.moment; fact = HookSet hook.name hook.version hook.code } ∷ [] →
       RedoesDated hosting old (all_dated old.moment changes) new → new.server.unkept ≡ with_notes old.server.unkept old.moment changes →
       hook_named hook.name old.hooks ≡ None → Sets hosting old (hook ∷ []) new
-  sets_new old new hook changes are redone noted none rules first history fits =
+  sets_new old new hook changes are redone noted none outset history fits =
       let free : hook_named hook.name (hooks_set_in history) ≡ None = ap (hook_named hook.name) (sym fits.1) ∙ none in
       let goes_on : with_hook old.moment history hook ≡ with_change history old.moment (happens.HookSet hook.name hook.version hook.code) =
       with_hook-new old.moment history hook free in
       let after : List Event = with_hook old.moment history hook in
       let happened : Happened history (all_dated old.moment changes) after =
       subst (λ (ds : List DatedFact). Happened history ds after) (sym are) (happens.HookSet hook.name hook.version hook.code, refl, tt, goes_on) in
-      let right : AllRight rules [] after =
-      subst (λ (h : List Event). AllRight rules [] h) (sym goes_on) (all_right-push rules [] history (event_at old.moment (happens.HookSet hook.name hook.version hook.code)) fits.0.right tt) in
+      let right : AllRight outset.rules [] after =
+      subst (λ (h : List Event). AllRight outset.rules [] h) (sym goes_on) (all_right-push outset.rules [] history (event_at old.moment (happens.HookSet hook.name hook.version hook.code)) fits.0.right tt) in
       let set : hook_named hook.name (hooks_set_in after) ≡ Some hook = ap (hook_named hook.name) (hooks_of-set old.moment history hook free) ∙ named_new (hooks_set_in history) hook free in (
-        redone.1 rules first history after fits happened right,
+        redone.1 outset history after fits happened right,
         All-cons (λ (h : HookFact). hook_named h.name (hooks_set_in after) ≡ Some h) hook [] set (All-nil (λ (h : HookFact). hook_named h.name (hooks_set_in after) ≡ Some h)),
         λ kept notes. subst (λ (unkept : Option (List DatedFact)). AreUnkept unkept kept after) (sym noted) (noted_more old.server.unkept kept history after old.moment changes notes happened),
       )
@@ -129,10 +129,10 @@ module _ {H : Type 0} (hosting : Hosting H) where
   -- some hooks, and then one
   pub sets_then : (old mid new : Restored H) (hooks : List HookFact) (hook : HookFact) → mid.moment ≡ old.moment → Sets hosting old hooks mid →
       Sets hosting mid (hook ∷ []) new → Sets hosting old (hooks ++ hook ∷ []) new
-  sets_then old mid new hooks hook same one next rules first history fits =
-      let some = one rules first history fits in
+  sets_then old mid new hooks hook same one next outset history fits =
+      let some = one outset history fits in
       let between : List Event = with_hooks old.moment history hooks in
-      let more = next rules first between some.0 in
+      let more = next outset between some.0 in
       let after : List Event = with_hook old.moment between hook in
       let at : with_hook mid.moment between hook ≡ after = ap (λ (m : ℕ). with_hook m between hook) same in
       let whole : with_hooks old.moment history (hooks ++ hook ∷ []) ≡ after = with_hooks-then old.moment history hooks hook in
@@ -140,17 +140,17 @@ module _ {H : Type 0} (hosting : Hosting H) where
       All-weaker (λ (h : HookFact). hook_named h.name (hooks_set_in between) ≡ Some h) (λ (h : HookFact). hook_named h.name (hooks_set_in after) ≡ Some h)
       (λ h is. stays_set old.moment between hook h is) hooks some.1 in
       let last : AreSet (hook ∷ []) after = subst (λ (h : List Event). AreSet (hook ∷ []) h) at more.1 in
-      subst (λ (h : List Event). FitsRestored hosting new rules first h × AreSet (hooks ++ hook ∷ []) h × AreNoted old.server new.server history h) (sym whole) (
-        subst (λ (h : List Event). FitsRestored hosting new rules first h) at more.0,
+      subst (λ (h : List Event). FitsRestored hosting new outset h × AreSet (hooks ++ hook ∷ []) h × AreNoted old.server new.server history h) (sym whole) (
+        subst (λ (h : List Event). FitsRestored hosting new outset h) at more.0,
         All-append (λ (h : HookFact). hook_named h.name (hooks_set_in after) ≡ Some h) hooks (hook ∷ []) each last,
         λ kept notes. subst (λ (h : List Event). Notes new.server kept h) at (more.2 kept (some.2 kept notes)),
       )
 
   -- a server that only notes otherwise fits what it fitted
-  pub fits_noting : (old new : SeenServer H) (unkept : Option (List DatedFact)) (rules : RegistryRecord) (first : H) (history : List Event) (m : ℕ) → NowNotes old new unkept →
-      FitsServer hosting.installs hosting.removes old rules first history m → FitsServer hosting.installs hosting.removes new rules first history m
-  fits_noting old new unkept rules first history m now fits =
-      subst (λ (s : SeenServer H). FitsServer hosting.installs hosting.removes s rules first history m) (sym now)
+  pub fits_noting : (old new : SeenServer H) (unkept : Option (List DatedFact)) (outset : Outset H) (history : List Event) (m : ℕ) → NowNotes old new unkept →
+      FitsServer hosting old outset history m → FitsServer hosting new outset history m
+  fits_noting old new unkept outset history m now fits =
+      subst (λ (s : SeenServer H). FitsServer hosting s outset history m) (sym now)
       (record {
         rules_are = fits.rules_are;
         greatest_is = fits.greatest_is;

@@ -3,6 +3,7 @@ use Rattle.std.specs.Prelude.{◌≡◌, ◌⊎◌, ℕ, List, [], length, drop}
 use Rattle.batch_file.specs.Frames.{AreFrames, recovered, torn_size}
 use Rattle.clients.specs.RegistryRecord.{RegistryRecord}
 use Rattle.endpoints.specs.Widening.{IsWider}
+use Rattle.endpoints.specs.Server.{outset_of}
 use Rattle.hook_host.specs.declared.host.HookHost.{Ghosts as Hosting}
 use Rattle.image_codec.specs.Facts.{ImageFact, RulesFact}
 use Rattle.state_file.specs.Resuming.{AnswersFor, OfEachHistory}
@@ -34,7 +35,7 @@ pub record IsAccountOf {H : Type 0} (hosting : Hosting H) (left : List ℕ) (fir
   pub told : TellIfAny left (rules_of registry)
   pub wider : (old : RegistryRecord) → TellsRules left (rules_of old) → IsWider old registry
   pub rules : IsOfRules account.rules.items (rules_of registry)
-  pub answers : AnswersFor hosting left registry first account.restored
+  pub answers : AnswersFor hosting left (outset_of registry first) account.restored
   pub batches : account.batches ≡ length (recovered left)
   pub torn : HasTornEnd left account.torn
 

@@ -8,7 +8,7 @@ use Rattle.clients.specs.RegistryRecord.{RegistryRecord}
 use Rattle.consent.specs.History.{Event}
 use Rattle.endpoints.specs.Bounded.{AllRight}
 use Rattle.endpoints.specs.Hosts.{HostRun}
-use Rattle.endpoints.specs.Server.{SeenServer, FitsServer, Notes, AreNoted}
+use Rattle.endpoints.specs.Server.{SeenServer, Outset, FitsServer, Notes, AreNoted}
 use Rattle.endpoints.specs.Layouts.{layout_of}
 use Rattle.hook_host.specs.declared.host.HookHost.{Ghosts as Hosting}
 use Rattle.image_codec.specs.Facts.{RulesFact, HookFact, ImageFact}
@@ -24,16 +24,16 @@ use Rattle.state_file.specs.declared.starting.Started.{Started}
 -- CHANGES MADE AGAIN
 
 -- the server fits the history from its moment on, and its hooks are that history's
-abbrev pub FitsRestored : {H : Type 0} → Hosting H → Restored H → RegistryRecord → H → List Event → Type 0
-FitsRestored hosting restored rules first history =
-    FitsServer hosting.installs hosting.removes restored.server rules first history restored.moment
+abbrev pub FitsRestored : {H : Type 0} → Hosting H → Restored H → Outset H → List Event → Type 0
+FitsRestored hosting restored outset history =
+    FitsServer hosting restored.server outset history restored.moment
     × (restored.hooks ≡ hooks_set_in history)
 
 -- Whatever history the old one fits: where the dated changes lead on to one that is right, the new one fits that.
 abbrev pub FitsOn : {H : Type 0} → Hosting H → Restored H → List DatedFact → Restored H → Type 0
 FitsOn {H = H} hosting old facts new =
-    (rules : RegistryRecord) (first : H) (history after : List Event) → FitsRestored hosting old rules first history →
-    Happened history facts after → AllRight rules [] after → FitsRestored hosting new rules first after
+    (outset : Outset H) (history after : List Event) → FitsRestored hosting old outset history →
+    Happened history facts after → AllRight outset.rules [] after → FitsRestored hosting new outset after
 
 -- and its hooks are those that the changes leave
 abbrev pub RedoesDated : {H : Type 0} → Hosting H → Restored H → List DatedFact → Restored H → Type 0
@@ -54,7 +54,7 @@ Installs {H = H} hosting old (hook ∷ hooks) new =
 -- the first host comes by the history to what it comes to when the hooks that the history sets are installed on it
 abbrev pub Replays : {H : Type 0} → Hosting H → H → List Event → Type 0
 Replays {H = H} hosting first history =
-    (host : H) → Installs hosting first (hooks_set_in history) host → HostRun hosting.installs hosting.removes first history host
+    (host : H) → Installs hosting first (hooks_set_in history) host → HostRun hosting first history host
 
 -- the first batch, if there is one, is none
 abbrev pub HaveNoImage : List (List ℕ) → Type 0
@@ -69,27 +69,26 @@ WasRun hosting first left history =
 
 -- the server has the hooks of the image, and fits each history that this is one of, where that is right under the rules and
 -- was run
-abbrev pub IsMadeOf : {H : Type 0} → Hosting H → ImageFact → RegistryRecord → H → Restored H → Type 0
-IsMadeOf hosting image rules first restored =
+abbrev pub IsMadeOf : {H : Type 0} → Hosting H → ImageFact → Outset H → Restored H → Type 0
+IsMadeOf hosting image outset restored =
     (restored.hooks ≡ image.hooks)
-    × ((history : List Event) → IsImageOf image history → AllRight rules [] history → Replays hosting first history →
-    FitsRestored hosting restored rules first history)
+    × ((history : List Event) → IsImageOf image history → AllRight outset.rules [] history → Replays hosting outset.first history →
+    FitsRestored hosting restored outset history)
 
 -- the server is made of the first batch, where that is an image, and else anew; the later batches are the others
-pub record BeginsByBatches {H : Type 0} (hosting : Hosting H) (rules : RegistryRecord) (first : H) (batches later : List (List ℕ))
-    (restored : Restored H) : Type 0 where
-  pub anew : HaveNoImage batches → (later ≡ batches) × FitsRestored hosting restored rules first []
+pub record BeginsByBatches {H : Type 0} (hosting : Hosting H) (outset : Outset H) (batches later : List (List ℕ)) (restored : Restored H) : Type 0 where
+  pub anew : HaveNoImage batches → (later ≡ batches) × FitsRestored hosting restored outset []
   pub of_image : (image : ImageFact) (behind : List (List ℕ)) → BeginWithImage batches image behind →
-      (later ≡ behind) × IsMadeOf hosting image rules first restored
+      (later ≡ behind) × IsMadeOf hosting image outset restored
 
 -- so it is of each history that the bytes stand for, that is right under the rules and that was run
-abbrev pub OfRight : {H : Type 0} → Hosting H → List ℕ → RegistryRecord → H → (List Event → Type 0) → Type 0
-OfRight hosting left rules first claim =
-    (history : List Event) → StandsFor left history → AllRight rules [] history → WasRun hosting first left history → claim history
+abbrev pub OfRight : {H : Type 0} → Hosting H → List ℕ → Outset H → (List Event → Type 0) → Type 0
+OfRight hosting left outset claim =
+    (history : List Event) → StandsFor left history → AllRight outset.rules [] history → WasRun hosting outset.first left history → claim history
 
 -- it fits each of them
-abbrev pub AnswersFor : {H : Type 0} → Hosting H → List ℕ → RegistryRecord → H → Restored H → Type 0
-AnswersFor hosting left rules first restored = OfRight hosting left rules first (λ history. FitsRestored hosting restored rules first history)
+abbrev pub AnswersFor : {H : Type 0} → Hosting H → List ℕ → Outset H → Restored H → Type 0
+AnswersFor hosting left outset restored = OfRight hosting left outset (λ history. FitsRestored hosting restored outset history)
 
 -- it is a fault of an image
 abbrev pub IsOfImage : StateFault → Type 0
@@ -133,14 +132,14 @@ RefusesResume batches now fault = RefuseRules batches now fault
 -- has noted that.
 abbrev pub Sets : {H : Type 0} → Hosting H → Restored H → List HookFact → Restored H → Type 0
 Sets {H = H} hosting old hooks new =
-    (rules : RegistryRecord) (first : H) (history : List Event) → FitsRestored hosting old rules first history →
-    FitsRestored hosting new rules first (with_hooks old.moment history hooks) × AreSet hooks (with_hooks old.moment history hooks)
+    (outset : Outset H) (history : List Event) → FitsRestored hosting old outset history →
+    FitsRestored hosting new outset (with_hooks old.moment history hooks) × AreSet hooks (with_hooks old.moment history hooks)
     × AreNoted old.server new.server history (with_hooks old.moment history hooks)
 
 -- the server fits no history
 abbrev pub FitsNone : {H : Type 0} → Hosting H → Restored H → Type 0
 FitsNone {H = H} hosting restored =
-    (rules : RegistryRecord) (first : H) (history : List Event) → FitsRestored hosting restored rules first history → ⊥
+    (outset : Outset H) (history : List Event) → FitsRestored hosting restored outset history → ⊥
 
 -- why the hook is not set: another of its name is, or the host refuses it, or the server is none of any history
 abbrev pub RefusesSetting : {H : Type 0} → Hosting H → Restored H → HookFact → StateFault → Type 0
@@ -184,6 +183,6 @@ OfEachHistory hosting first left claim =
     (history : List Event) → StandsFor left history → WasRight left history → WasRun hosting first left history → claim history
 
 -- from its moment on the server answers as the history says, and it notes what happens from there on
-pub record ServesOn {H D : Type 0} (hosting : Hosting H) (started : Started D H) (rules : RegistryRecord) (first : H) (history : List Event) : Type 0 where
-  pub fits : FitsServer hosting.installs hosting.removes started.server rules first history started.moment
+pub record ServesOn {H D : Type 0} (hosting : Hosting H) (started : Started D H) (outset : Outset H) (history : List Event) : Type 0 where
+  pub fits : FitsServer hosting started.server outset history started.moment
   pub notes : Notes started.server (Some history) history

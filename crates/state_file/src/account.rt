@@ -2,6 +2,7 @@
 
 ghost use Rattle.std.specs.Prelude.{◌≡◌, List, ℕ, IfOk, IfErr, OnOk};
 ghost use Rattle.batch_file.specs.Frames.{lists, recovered};
+ghost use Rattle.endpoints.specs.Server.{outset_of};
 ghost use Rattle.image_codec.specs.Facts.{RulesFact, image_fact};
 ghost use Rattle.state_file.specs.Accounts.{IsAccountOf, IsImageIn, RefusesAccount, fault_in};
 ghost use Rattle.state_file.specs.Resuming.{AnswersFor, RedoesBatches};
@@ -96,7 +97,7 @@ fn restored_of<H: HookHost>(
     host: H,
     batches: &[Vec<u8>],
 ) -> Result<Restored<H>, AccountFault>
-    ensures answers { IfOk result (λ restored. (left : List ℕ) → recovered left ≡ lists batches.now → AnswersFor H.HookHost left registry host restored) }
+    ensures answers { IfOk result (λ restored. (left : List ℕ) → recovered left ≡ lists batches.now → AnswersFor H.HookHost left (outset_of registry host) restored) }
     ensures refused { IfErr result RefusesAccount }
 {
     let begun = match begin(alloc, registry, host, batches) {

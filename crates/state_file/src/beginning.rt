@@ -2,6 +2,7 @@
 
 ghost use Rattle.std.specs.Prelude.{◌≡◌, ◌∷◌, true, IfOk, IfErr, IfSome, IfNone};
 ghost use Rattle.batch_file.specs.Frames.{lists};
+ghost use Rattle.endpoints.specs.Server.{outset_of};
 ghost use Rattle.state_file.specs.Knowing.{image_size};
 ghost use Rattle.state_file.specs.Resuming.{BeginsByBatches, HaveNoImage, RefusesImage};
 ghost use Rattle.state_file.specs.Standing.{begins_image};
@@ -54,7 +55,7 @@ pub(crate) fn begin<'b, H: HookHost>(
     host: H,
     batches: &'b [Vec<u8>],
 ) -> Result<Beginning<'b, H>, StateFault>
-    ensures begins { IfOk result (λ begun. BeginsByBatches H.HookHost registry host (lists batches.now) (lists begun.later.now) begun.restored) }
+    ensures begins { IfOk result (λ begun. BeginsByBatches H.HookHost (outset_of registry host) (lists batches.now) (lists begun.later.now) begun.restored) }
     ensures image { IfOk result (λ begun. begun.image ≡ image_size (lists batches.now)) }
     ensures refused { IfErr result (RefusesImage (lists batches.now)) }
 {

@@ -2,6 +2,7 @@
 
 ghost use Rattle.std.specs.Prelude.{◌≡◌, IfOk, IfErr, OnOk, map};
 ghost use Rattle.endpoints.specs.Layouts.{layout_of};
+ghost use Rattle.endpoints.specs.Server.{outset_of};
 ghost use Rattle.image_codec.specs.Facts.{hook_fact, image_fact, rules_fact};
 ghost use Rattle.state_file.specs.Renewing.{IsImageFor};
 ghost use Rattle.state_file.specs.Resuming.{Installs, IsMadeOf, IsOfImage};
@@ -50,7 +51,7 @@ impl<H: HookHost> Restored<H> {
         mut host: H,
         image: &Image<'_>,
     ) -> Result<Restored<H>, StateFault>
-        ensures made { IfOk result (λ restored. IsMadeOf H.HookHost (image_fact image.now) registry host restored) }
+        ensures made { IfOk result (λ restored. IsMadeOf H.HookHost (image_fact image.now) (outset_of registry host) restored) }
         ensures refused { IfErr result IsOfImage }
     {
         install_all(alloc, &mut host, image.hooks.as_slice())?;

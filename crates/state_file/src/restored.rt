@@ -6,7 +6,7 @@ ghost use Rattle.consent.specs.declared.change.Changes.TheVariants.{One};
 ghost use Rattle.change_codec.specs.Spelling.{dated_fact};
 ghost use Rattle.endpoints.specs.Noting.{with_notes};
 ghost use Rattle.endpoints.specs.Redo.{RefusesRedo};
-ghost use Rattle.endpoints.specs.Server.{Notes};
+ghost use Rattle.endpoints.specs.Server.{Notes, outset_of};
 ghost use Rattle.image_codec.specs.Facts.{hook_fact};
 ghost use Rattle.state_file.specs.Hooks.{hook_named};
 ghost use Rattle.state_file.specs.Resuming.{FitsRestored, RedoesDated, RefusesSetting, RefusesSettings, Sets};
@@ -34,7 +34,7 @@ pub struct Restored<H> {
 impl<H: HookHost> Restored<H> {
     /// A server under the rules, to which nothing has happened.
     pub(crate) fn new(alloc: Global, registry: Registry, host: H) -> Restored<H>
-        ensures fits { FitsRestored H.HookHost result registry host [] }
+        ensures fits { FitsRestored H.HookHost result (outset_of registry host) [] }
         ensures notes { Notes result.server None [] }
     {
         Restored {

@@ -5,6 +5,7 @@ ghost use Rattle.batch_file.specs.Crashes.{LeavesOnly, Only};
 ghost use Rattle.change_codec.specs.Keeping.{Holds};
 ghost use Rattle.clients.specs.RegistryRecord.{RegistryRecord};
 ghost use Rattle.consent.specs.History.{Event};
+ghost use Rattle.endpoints.specs.Server.{outset_of};
 ghost use Rattle.endpoints.specs.Widening.{IsWider};
 ghost use Rattle.batch_file.specs.Frames.{recovered};
 ghost use Rattle.state_file.specs.Knowing.{file_crashes};
@@ -43,7 +44,7 @@ pub fn resume<D: Device + Drop, H: HookHost>(
     requires same { bytes.now ≡ D.seen device }
     // After a restart, what is read is what is on the disk.
     requires durable { Only (D.seen device) (D.may_leave device) }
-    ensures answers { IfOk result (λ resumed. AnswersFor H.HookHost bytes.now registry host resumed.restored) }
+    ensures answers { IfOk result (λ resumed. AnswersFor H.HookHost bytes.now (outset_of registry host) resumed.restored) }
     // All that a crash may leave from then on stands for what the bytes stood for.
     ensures held { IfOk result (λ resumed. (history : List Event) → StandsFor bytes.now history →
         Holds (file_crashes D.Device) resumed.keeper history) }

@@ -5,7 +5,7 @@ ghost use Rattle.batch_file.specs.Crashes.{LeavesOnly, Only};
 ghost use Rattle.batch_file.specs.Frames.{recovered};
 ghost use Rattle.change_codec.specs.Keeping.{Holds};
 ghost use Rattle.clients.specs.RegistryRecord.{RegistryRecord};
-ghost use Rattle.endpoints.specs.Server.{NowNotes};
+ghost use Rattle.endpoints.specs.Server.{NowNotes, outset_of};
 ghost use Rattle.endpoints.specs.Widening.{IsWider};
 ghost use Rattle.image_codec.specs.Facts.{hook_fact};
 ghost use Rattle.image_keeper.specs.Imaging.{KeepsImage};
@@ -92,7 +92,7 @@ pub fn start_on<D: Device + Drop, H: HookHost>(
     // After a restart, what is read is what is on the disk.
     requires durable { Only (D.seen device) (D.may_leave device) }
     ensures serves { IfOk result (λ started. OfEachHistory H.HookHost host bytes.now (λ history.
-        ServesOn H.HookHost started registry host (with_hooks started.moment history (map hook_fact hooks.now)))) }
+        ServesOn H.HookHost started (outset_of registry host) (with_hooks started.moment history (map hook_fact hooks.now)))) }
     ensures hooks { IfOk result (λ started. OfEachHistory H.HookHost host bytes.now (λ history.
         AreSet (map hook_fact hooks.now) (with_hooks started.moment history (map hook_fact hooks.now)))) }
     // All that a crash may leave from then on stands for the history with these hooks.
@@ -108,7 +108,7 @@ pub fn start_on<D: Device + Drop, H: HookHost>(
     // The file is no longer than it may be, unless an image of the server is too large.
     ensures short { IfOk result (λ started. (¬ (IsLongFile D.seen started.keeper)) ⊎ HasTooMuch H.HookHost started.server (D.seen started.keeper.device)) }
     ensures refused { IfErr result (λ fault. RefusesResume (recovered bytes.now) (rules_of registry) fault
-        ⊎ RefusesSome H.HookHost (AnswersFor H.HookHost bytes.now registry host) (map hook_fact hooks.now) fault) }
+        ⊎ RefusesSome H.HookHost (AnswersFor H.HookHost bytes.now (outset_of registry host)) (map hook_fact hooks.now) fault) }
 {
     let mut resumed = resume(alloc, device, bytes, registry, host)?;
     resumed.restored.server.begin_noting()?;

@@ -2,6 +2,7 @@ use Rattle.std.proofs.Common.{rules, ◌≡◌, Err, sym, subst}
 use Rattle.std.specs.Prelude.{IfErr}
 use Rattle.batch_file.specs.Frames.{lists}
 use Rattle.change_codec.specs.FieldLaws.{ok_is}
+use Rattle.endpoints.specs.Server.{outset_of}
 use Rattle.image_codec.specs.Facts.{image_fact}
 use Rattle.state_file.specs.Resuming.{RefusesImage}
 use Rattle.state_file.proofs.Begun.{begins_made}
@@ -11,7 +12,7 @@ use Rattle.state_file.proofs.beginning.begin.Goals as goal
 pub returns-clause-begins : goal.returns-clause-begins
 returns-clause-begins g c =
     let read = image_fact c.in_ok-image.image in
-    begins_made g.H.HookHost c.args.registry c.args.host (lists c.args.batches.now) (lists c.in-Some.later.now) c.in-Some.first.now read c.in_ok-restored.restored c.in-Some.ensures.there
+    begins_made g.H.HookHost (outset_of c.args.registry c.args.host) (lists c.args.batches.now) (lists c.in-Some.later.now) c.in-Some.first.now read c.in_ok-restored.restored c.in-Some.ensures.there
     c.in_ok-image.ensures.fits c.in_ok-image.ensures.spelled (λ i fits is. sym (ok_is i read (c.in_ok-image.ensures.again i fits is))) c.in_ok-restored.ensures.made
 
 pub returns-in_err-restored-clause-refused : goal.returns-in_err-restored-clause-refused

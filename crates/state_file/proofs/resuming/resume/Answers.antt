@@ -4,6 +4,7 @@ use Rattle.batch_file.specs.Crashes.{LeavesOnly}
 use Rattle.batch_file.specs.Frames.{lists, recovered}
 use Rattle.batch_file.specs.declared.appending.BatchFile.{BatchFile}
 use Rattle.consent.specs.History.{Event}
+use Rattle.endpoints.specs.Server.{outset_of}
 use Rattle.state_file.specs.Comparing.{TakesRules}
 use Rattle.image_codec.specs.Facts.{HookFact}
 use Rattle.state_file.specs.Hooks.{hooks_behind, hooks_set_in}
@@ -53,9 +54,9 @@ returns-clause-answers g c history stands right run =
     let registry = c.args.registry in
     let host = c.args.host in
     let are : recovered c.args.bytes.now ≡ lists c.deref-2.result.now = ap recovered c.requires.same ∙ sym c.in_ok-found.ensures.batches ∙ ap lists (sym c.deref-2.ensures.value) in
-    let begun = begun_fits hosting registry host c.args.bytes.now (lists c.deref-2.result.now) (lists c.in_ok-restored.field-0.later.now) c.in_ok-restored.field-0.restored history stands are c.in_ok-restored.ensures.begins right run in
+    let begun = begun_fits hosting (outset_of registry host) c.args.bytes.now (lists c.deref-2.result.now) (lists c.in_ok-restored.field-0.later.now) c.in_ok-restored.field-0.restored history stands are c.in_ok-restored.ensures.begins right run in
     let told : AreTold (lists c.in_ok-restored.field-0.later.now) stands.facts = subst (λ (bs : List (List ℕ)). AreTold bs stands.facts) begun.0 stands.told in
-    (c.in_ok-redo_all.ensures.redone stands.facts told).1 registry host stands.base history begun.1 stands.happened right
+    (c.in_ok-redo_all.ensures.redone stands.facts told).1 (outset_of registry host) stands.base history begun.1 stands.happened right
 
 pub returns-clause-held : goal.returns-clause-held
 returns-clause-held g c =
@@ -128,7 +129,7 @@ new-requires-clause-known g c =
     told_either c.in_ok-rules.rules.told (seen mid) (seen c.tell.new.file.device) now c.in_ok-rules.rules.bytes.items (c.in_ok-rules.ensures.fit, c.in_ok-rules.ensures.spelled) tells
     (λ told. ap (λ (f : BatchFile g.row.D.Denot). seen f.device) (c.in_ok-tell.ensures.unwritten told)) c.in_ok-tell.ensures.told in
     let set : (history : List Event) → StandsFor (seen mid) history → c.in_ok-hooks.hooks ≡ hooks_set_in history = λ history stands.
-    (let begun = begun_hooks g.H.HookHost c.args.registry c.args.host (seen mid) (lists c.deref-2.result.now) (lists c.in_ok-restored.field-0.later.now) c.in_ok-restored.field-0.restored history stands are_too c.in_ok-restored.ensures.begins in
+    (let begun = begun_hooks g.H.HookHost (outset_of c.args.registry c.args.host) (seen mid) (lists c.deref-2.result.now) (lists c.in_ok-restored.field-0.later.now) c.in_ok-restored.field-0.restored history stands are_too c.in_ok-restored.ensures.begins in
     let later : AreTold (lists c.in_ok-restored.field-0.later.now) stands.facts = subst (λ (bs : List (List ℕ)). AreTold bs stands.facts) begun.0 stands.told in
     c.in_ok-hooks.ensures ∙ (c.in_ok-redo_all.ensures.redone stands.facts later).0 ∙ ap (λ (hs : List HookFact). hooks_behind hs stands.facts) begun.1
     ∙ sym (hooks_of-happened stands.base history stands.facts stands.happened)) in

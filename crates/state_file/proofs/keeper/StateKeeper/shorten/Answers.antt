@@ -34,7 +34,7 @@ invariant_of-self g c = λ settled.
     (c.in-Ok.ensures.settled, known_image (g.D.Device.seen c.replace.new.self.device) c.self.inside.rules.items spell.image c.self.inside.hooks c.len-self-inside.result are spell.fits told spell.hooks_are size)
 
 pub returns-in-Ok-clause-kept : goal.returns-in-Ok-clause-kept
-returns-in-Ok-clause-kept g c registry first history m fits =
+returns-in-Ok-clause-kept g c outset history m fits =
     let settled : IsTrue c.self.inside.settled = search rules in
     let known = (c.self.invariant settled).1 in
     let spell = c.in_ok-bytes.ensures.is in
@@ -43,7 +43,7 @@ returns-in-Ok-clause-kept g c registry first history m fits =
     let P : BatchFile g.row.D.Denot → Type 0 = λ old. Keeps (of_file seen may_leave g.D.Device.moment g.D.Device.left_since) history history old c.replace.new.self in
     subst P c.self.view_is
     (keeps_image seen may_leave g.D.Device.moment g.D.Device.left_since c.self.inside.file c.replace.new.self spell.image c.as_slice-3.result.now (c.as_slice-3.ensures.value ∙ spell.spelled) spell.fits
-    c.in-Ok.ensures.settled c.in-Ok.ensures.alone history (λ stands. spell.is registry first history m fits (known.hooks_are history stands)) c.in-Ok.ensures.any_moment)
+    c.in-Ok.ensures.settled c.in-Ok.ensures.alone history (λ stands. spell.is outset history m fits (known.hooks_are history stands)) c.in-Ok.ensures.any_moment)
 
 pub returns-in-Ok-clause-told : goal.returns-in-Ok-clause-told
 returns-in-Ok-clause-told g c =
@@ -59,7 +59,7 @@ returns-in-Ok-clause-told g c =
     (c.as_slice-3.ensures.value ∙ spell.spelled) spell.fits c.in-Ok.ensures.settled c.in-Ok.ensures.alone told known.rules_are)
 
 pub returns-clause-failed : goal.returns-clause-failed
-returns-clause-failed g c _ registry first history m fits =
+returns-clause-failed g c _ outset history m fits =
     let settled : IsTrue c.self.inside.settled = search rules in
     let known = (c.self.invariant settled).1 in
     let spell = c.in_ok-bytes.ensures.is in
@@ -68,7 +68,7 @@ returns-clause-failed g c _ registry first history m fits =
     let P : BatchFile g.row.D.Denot → Type 0 = λ old. KeepsNot (of_file seen may_leave g.D.Device.moment g.D.Device.left_since) history history old c.replace.new.self in
     subst P c.self.view_is
     (keeps_no_image seen may_leave g.D.Device.moment g.D.Device.left_since c.self.inside.file c.replace.new.self spell.image c.as_slice-3.result.now (c.as_slice-3.ensures.value ∙ spell.spelled) spell.fits
-    history (λ stands. spell.is registry first history m fits (known.hooks_are history stands)) c.replace.ensures.any_moment)
+    history (λ stands. spell.is outset history m fits (known.hooks_are history stands)) c.replace.ensures.any_moment)
 
 pub returns-then-is_short-clause-short : goal.returns-then-is_short-clause-short
 returns-then-is_short-clause-short g c =
