@@ -11,6 +11,7 @@ use Rattle.change_codec.specs.Keeping.{Crashes, Holds}
 use Rattle.clients.specs.RegistryRecord.{RegistryRecord}
 use Rattle.consent.specs.History.{Event}
 use Rattle.endpoints.specs.Hosts.{HostRun}
+use Rattle.endpoints.specs.Server.{outset_of}
 use Rattle.hook_chain.specs.Chains.{Named}
 use Rattle.hook_chain.specs.contracts.chain.ChainHookHost.TheImpl as chain
 use Rattle.image_codec.specs.Facts.{HookFact}
@@ -56,7 +57,7 @@ is_start rules (Some n) bytes now same left history stands was run =
 -- what is known of it, by the bytes, the hooks, the devices and the chain that it was started with
 module _ {R : Type 0} (keeping : Crashes (BatchFile (DiskFile R))) (rules : RegistryRecord) (started : Started (DiskFile R) (List Named)) where
   abbrev pub Serves : List ℕ → List HookFact → List Named → Type 0
-  Serves bytes hooks first = OfEachHistory chain.ghosts first bytes (λ history. ServesOn chain.ghosts started rules first (with_hooks started.moment history hooks))
+  Serves bytes hooks first = OfEachHistory chain.ghosts first bytes (λ history. ServesOn chain.ghosts started (outset_of rules first) (with_hooks started.moment history hooks))
 
   abbrev pub Held : List ℕ → List HookFact → List Named → Type 0
   Held bytes hooks first = OfEachHistory chain.ghosts first bytes (λ history. Holds keeping started.keeper (with_hooks started.moment history hooks))

@@ -22,6 +22,7 @@ use Rattle.event_loop.specs.declared.clocks.Clocks.{Ghosts as Clocks}
 use Rattle.event_loop.specs.declared.fault.LoopFault.{LoopFault}
 use Rattle.event_loop.specs.declared.journal.Journal.{Ghosts as Journal}
 use Rattle.endpoints.specs.Hosts.{HostRun}
+use Rattle.endpoints.specs.Server.{outset_of}
 use Rattle.hook_chain.specs.Chains.{Named}
 use Rattle.hook_chain.specs.contracts.chain.ChainHookHost.TheImpl as chain
 use Rattle.image_codec.specs.Facts.{HookFact}
@@ -83,7 +84,7 @@ pub record ComesOfState {R : Type 0} (keeping : Crashes (BatchFile (DiskFile R))
   pub ended : Option ℕ
   pub narrower : IsSome ended → IsNarrower opened.bytes.items (rules_of rules)
   pub serves : OfEachRun opened.bytes.items
-      (λ history. ServesOn chain.ghosts started rules [] (with_hooks started.moment (history_under rules ended history) hooks))
+      (λ history. ServesOn chain.ghosts started (outset_of rules []) (with_hooks started.moment (history_under rules ended history) hooks))
   pub held : OfEachRun opened.bytes.items (λ history. Holds keeping started.keeper (with_hooks started.moment (history_under rules ended history) hooks))
   -- the keeper's file is the one that was opened
   pub meanwhile : OfEachRun opened.bytes.items
@@ -102,7 +103,7 @@ pub record RefusesBytes (rules : RegistryRecord) (hooks : List HookFact) (fault 
   pub cause : StateFault
   pub fault_is : fault ≡ of_state cause
   pub refused : IsUnnarrowed bytes (rules_of rules) cause
-      ⊎ (RefusesResume (recovered bytes) (rules_of rules) cause ⊎ RefusesSome chain.ghosts (AnswersFor chain.ghosts bytes rules []) hooks cause)
+      ⊎ (RefusesResume (recovered bytes) (rules_of rules) cause ⊎ RefusesSome chain.ghosts (AnswersFor chain.ghosts bytes (outset_of rules [])) hooks cause)
 
 -- why none is started on the file: it is not opened, or what stands there is refused
 abbrev pub RefusesState : RegistryRecord → List HookFact → PerformFault → Type 0
