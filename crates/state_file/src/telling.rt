@@ -100,12 +100,7 @@ fn are_spelled(alloc: Global, rules: &Rules<'_>, bytes: &[u8]) -> Result<bool, S
 }
 
 /// Tests whether rules are as wide as those that a batch tells, and says whether it tells just these.
-fn compare_beside(
-    alloc: Global,
-    batch: &[u8],
-    now: &Rules<'_>,
-    bytes: &[u8],
-) -> Result<bool, StateFault>
+fn tells_as(alloc: Global, batch: &[u8], now: &Rules<'_>, bytes: &[u8]) -> Result<bool, StateFault>
     requires spelled { bytes.now ≡ rules_spelling (rules_fact now.now) }
     requires fit { RulesFit (rules_fact now.now) }
     ensures wide { OnOk result ((told : RulesFact) → TellsIn batch.now told → AreAsWide told (rules_fact now.now)) }
@@ -137,7 +132,7 @@ fn compare_behind(
     let Some(batch) = last_rules(batches) else {
         return Ok(false);
     };
-    let told = compare_beside(alloc, batch, now, bytes)?;
+    let told = tells_as(alloc, batch, now, bytes)?;
     Ok(told)
 }
 

@@ -1,7 +1,7 @@
 use Rattle.std.proofs.Common.{◌∙◌, sym}
 use Rattle.image_codec.specs.Facts.{rules_fact}
 use Rattle.state_file.proofs.Tells.{told_spelled}
-use Rattle.state_file.proofs.telling.compare_beside.Goals as goal
+use Rattle.state_file.proofs.telling.tells_as.Goals as goal
 
 pub returns-clause-told : goal.returns-clause-told
 returns-clause-told c =
