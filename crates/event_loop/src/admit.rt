@@ -20,7 +20,7 @@ use crate::service::Service;
 use crate::sockets::{Accepted, Sockets};
 use crate::tools::Tools;
 use hook_host::HookHost;
-use http_edge::Event;
+use http_edge::{ConnectionNo, Event};
 use image_keeper::ImageKeeper;
 
 impl Service {
@@ -53,7 +53,7 @@ impl Service {
         ensures limits { self.new.limits ≡ self.old.limits }
     {
         match tools.sockets.accept(k) {
-            Accepted::Taken => match tools.edge.event(Event::Open(k)) {
+            Accepted::Taken => match tools.edge.event(Event::Open(ConnectionNo::new(k))) {
                 Ok(()) => {
                     self.places[k as usize] = Place {
                         stage: Stage::Open,

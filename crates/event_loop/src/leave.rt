@@ -21,7 +21,7 @@ use crate::sockets::Sockets;
 use crate::tools::Tools;
 use crate::write::may_write;
 use hook_host::HookHost;
-use http_edge::Edge;
+use http_edge::{ConnectionNo, Edge};
 use image_keeper::ImageKeeper;
 
 // Whether nothing is left to be done for a connection.
@@ -36,13 +36,14 @@ fn is_over<H: HookHost>(edge: &Edge<H>, place: Place, k: u32) -> bool
     if !place.stage.is_served() {
         return false;
     }
-    if !edge.output(k).is_empty() {
+    let connection = ConnectionNo::new(k);
+    if !edge.output(connection).is_empty() {
         return false;
     }
     if !place.stage.is_open() {
         return true;
     }
-    if edge.closing(k) {
+    if edge.closing(connection) {
         return true;
     }
     false
@@ -61,7 +62,7 @@ impl Service {
         ensures rest { self.new ≡ record self.old { noted = self.new.noted; places = slice_set self.old.places k (record place { stage = Free }); queue = freed_queue self.old.queue } }
     {
         tools.sockets.close(k);
-        tools.edge.forget(k);
+        tools.edge.forget(ConnectionNo::new(k));
         note_end(
             &mut self.noted,
             &mut tools.journal,

@@ -17,7 +17,7 @@ use crate::sockets::{Received, Sockets};
 use crate::tools::Tools;
 use consent::Moment;
 use hook_host::HookHost;
-use http_edge::{Edge, EdgeFault, Event};
+use http_edge::{ConnectionNo, Edge, EdgeFault, Event};
 use image_keeper::ImageKeeper;
 use rand_chacha::ChaCha20Rng;
 
@@ -33,17 +33,18 @@ pub(crate) fn may_read<H: HookHost>(edge: &Edge<H>, place: Place, k: u32) -> boo
     if !place.stage.is_open() {
         return false;
     }
-    if edge.output(k).len() > BACKLOG_LIMIT {
+    let connection = ConnectionNo::new(k);
+    if edge.output(connection).len() > BACKLOG_LIMIT {
         return false;
     }
-    !edge.closing(k)
+    !edge.closing(connection)
 }
 
 // Gives bytes to the edge in cuts, up to the 400 of a faulty head.
 fn give_cuts<H: HookHost>(
     edge: &mut Edge<H>,
     generator: &mut ChaCha20Rng,
-    k: u32,
+    k: ConnectionNo,
     bytes: &[u8],
     moment: Moment,
 ) -> Result<(), EdgeFault>
@@ -69,7 +70,7 @@ fn give_cuts<H: HookHost>(
 fn give_all<H: HookHost>(
     edge: &mut Edge<H>,
     generator: &mut ChaCha20Rng,
-    k: u32,
+    k: ConnectionNo,
     bytes: &[u8],
     moment: Moment,
 ) -> Result<(), EdgeFault>
@@ -105,13 +106,14 @@ impl Service {
         ensures due { self.new.due ≡ self.old.due }
     {
         let i = k as usize;
+        let connection = ConnectionNo::new(k);
         match tools.sockets.read(k, &mut self.buffer) {
             Received::Bytes(count) => {
                 let bytes = &self.buffer[..count];
                 match give_all(
                     &mut tools.edge,
                     &mut tools.generator,
-                    k,
+                    connection,
                     bytes,
                     self.times.moment,
                 ) {
@@ -122,7 +124,7 @@ impl Service {
                     }
                 }
             }
-            Received::End => match tools.edge.event(Event::End(k)) {
+            Received::End => match tools.edge.event(Event::End(connection)) {
                 Ok(()) => {
                     let stage = Stage::Ended;
                     self.places[i] = Place { stage, ..place };

@@ -14,7 +14,7 @@ use crate::service::Service;
 use crate::sockets::{Sent, Sockets};
 use crate::tools::Tools;
 use hook_host::HookHost;
-use http_edge::Edge;
+use http_edge::{ConnectionNo, Edge};
 use image_keeper::ImageKeeper;
 
 /// Whether a connection may be written to.
@@ -29,7 +29,7 @@ pub(crate) fn may_write<H: HookHost>(edge: &Edge<H>, place: Place, k: u32) -> bo
     if !place.stage.is_served() {
         return false;
     }
-    if edge.output(k).is_empty() {
+    if edge.output(ConnectionNo::new(k)).is_empty() {
         return false;
     }
     true
@@ -51,10 +51,11 @@ impl Service {
         if !may_write(&tools.edge, place, k) {
             return;
         }
-        let output = tools.edge.output(k);
+        let connection = ConnectionNo::new(k);
+        let output = tools.edge.output(connection);
         match tools.sockets.write(k, output) {
             Sent::Bytes(count) => {
-                tools.edge.take(k, count);
+                tools.edge.take(connection, count);
                 let since = self.times.steady;
                 self.places[i] = Place { since, ..place };
             }

@@ -19,6 +19,7 @@ ghost use Rattle.http_edge.specs.Pieces.{PieceGiven, RefusesPiece, supplied};
 ghost use Rattle.http_edge.specs.Events.{EventLeads};
 ghost use Rattle.http_edge.specs.Refusals.{RefusesEvent};
 
+use crate::connection::ConnectionNo;
 use crate::draw_list::DrawList;
 use crate::event::Event;
 use crate::fault::EdgeFault;
@@ -69,18 +70,18 @@ impl<H> Model for Edge<H> {
     ghost invariant = { λ e. (vec_len e.work ≡ 0) × (0 < vec_len e.lanes → room_to_hear ≤ vec_capacity e.work) × AreApart e.lanes.items };
 }
 
-fn position_of(lanes: &[Lane], c: u32) -> Option<usize>
+fn position_of(lanes: &[Lane], c: ConnectionNo) -> Option<usize>
     ensures { result ≡ position (λ lane. lane.number == c) lanes.now }
 {
     lanes.iter().position(|lane| lane.number == c)
 }
 
 // Where the connection's lane lies: mostly at the place of its number.
-fn place_of(lanes: &[Lane], c: u32) -> Option<usize>
+fn place_of(lanes: &[Lane], c: ConnectionNo) -> Option<usize>
     requires apart { AreApart lanes.now }
     ensures { IsPosition lanes.now c result }
 {
-    let place = c as usize;
+    let place = c.get() as usize;
     if let Some(lane) = lanes.get(place) {
         if lane.number == c {
             return Some(place);
@@ -89,7 +90,7 @@ fn place_of(lanes: &[Lane], c: u32) -> Option<usize>
     position_of(lanes, c)
 }
 
-fn lane_of(lanes: &[Lane], c: u32) -> Option<&Lane>
+fn lane_of(lanes: &[Lane], c: ConnectionNo) -> Option<&Lane>
     requires apart { AreApart lanes.now }
     ensures { option_copied result ≡ lane_at lanes.now c }
 {
@@ -97,14 +98,14 @@ fn lane_of(lanes: &[Lane], c: u32) -> Option<&Lane>
     lanes.get(place)
 }
 
-fn has_lane(lanes: &[Lane], c: u32) -> bool
+fn has_lane(lanes: &[Lane], c: ConnectionNo) -> bool
     requires apart { AreApart lanes.now }
     ensures { result ≡ is_some (lane_at lanes.now c) }
 {
     lane_of(lanes, c).is_some()
 }
 
-fn is_closing(lanes: &[Lane], c: u32) -> bool
+fn is_closing(lanes: &[Lane], c: ConnectionNo) -> bool
     requires apart { AreApart lanes.now }
     ensures { result ≡ is_closing_lane (lane_at lanes.now c) }
 {
@@ -114,7 +115,7 @@ fn is_closing(lanes: &[Lane], c: u32) -> bool
     }
 }
 
-fn output_in(lanes: &[Lane], c: u32) -> &[u8]
+fn output_in(lanes: &[Lane], c: ConnectionNo) -> &[u8]
     requires apart { AreApart lanes.now }
     ensures { result.now ≡ output_in (lane_at lanes.now c) }
 {
@@ -124,7 +125,7 @@ fn output_in(lanes: &[Lane], c: u32) -> &[u8]
     }
 }
 
-fn held_in(lanes: &[Lane], c: u32) -> usize
+fn held_in(lanes: &[Lane], c: ConnectionNo) -> usize
     requires apart { AreApart lanes.now }
     ensures { result ≡ length (rest_in (lane_at lanes.now c)) }
 {
@@ -134,7 +135,7 @@ fn held_in(lanes: &[Lane], c: u32) -> usize
     }
 }
 
-fn new_lane(alloc: Global, c: u32) -> Lane
+fn new_lane(alloc: Global, c: ConnectionNo) -> Lane
     ensures { result ≡ fresh_lane c }
 {
     Lane {
@@ -145,7 +146,7 @@ fn new_lane(alloc: Global, c: u32) -> Lane
     }
 }
 
-fn add_lane(lanes: &mut Vec<Lane>, alloc: Global, c: u32) -> Result<(), AllocError>
+fn add_lane(lanes: &mut Vec<Lane>, alloc: Global, c: ConnectionNo) -> Result<(), AllocError>
     ensures added { OnOk result (lanes.new.items ≡ lanes.old.items ++ fresh_lane c ∷ []) }
     ensures err { OnErr result (lanes.new.items ≡ lanes.old.items) }
 {
@@ -158,7 +159,7 @@ fn add_lane(lanes: &mut Vec<Lane>, alloc: Global, c: u32) -> Result<(), AllocErr
     Ok(())
 }
 
-fn remove_lane(lanes: &mut Vec<Lane>, c: u32)
+fn remove_lane(lanes: &mut Vec<Lane>, c: ConnectionNo)
     ensures without { lanes.new.items ≡ without_lane c lanes.old.items }
     ensures fewer { vec_len lanes.new ≤ vec_len lanes.old }
 {
@@ -243,14 +244,14 @@ impl<H: HookHost> Edge<H> {
     }
 
     /// Whether the connection was answered the 400 of a faulty head, also after its stream has ended.
-    pub fn closing(&self, c: u32) -> bool
+    pub fn closing(&self, c: ConnectionNo) -> bool
         ensures { InEach H.HookHost self.now (λ world. result ≡ is_closing (connection_at world.connections c)) }
     {
         is_closing(&self.lanes, c)
     }
 
     /// The bytes to the connection that were not taken yet. Empty where it is not there.
-    pub fn output(&self, c: u32) -> &[u8]
+    pub fn output(&self, c: ConnectionNo) -> &[u8]
         ensures kept { result.now ≡ output_of self.now c }
         ensures output { InEach H.HookHost self.now (λ world. result.now ≡ untaken (connection_at world.connections c)) }
     {
@@ -259,7 +260,7 @@ impl<H: HookHost> Edge<H> {
 
     /// How many bytes from the connection are kept: those that no message was made of yet. 0 where its stream has ended, or
     /// it was answered the 400 of a faulty head.
-    pub fn held(&self, c: u32) -> usize
+    pub fn held(&self, c: ConnectionNo) -> usize
         ensures kept { result ≡ length (rest_in (lane_at self.now.lanes c)) }
         ensures held { InEach H.HookHost self.now (λ world. IsHeld (connection_at world.connections c) result) }
     {
@@ -285,7 +286,7 @@ impl<H: HookHost> Edge<H> {
     }
 
     // A connection is opened.
-    fn open(&mut self, c: u32) -> Result<(), EdgeFault>
+    fn open(&mut self, c: ConnectionNo) -> Result<(), EdgeFault>
         ensures done { OnOk result (HappeningLeads H.HookHost self.old self.new (Opened c)) }
         ensures refused { IfErr result (λ fault. IsOpenRefusal fault self.old.lanes c) }
         ensures err { OnErr result (self.new ≡ self.old) }
@@ -308,7 +309,7 @@ impl<H: HookHost> Edge<H> {
     // A piece came.
     fn hear_piece<S: DrawSource>(
         &mut self,
-        c: u32,
+        c: ConnectionNo,
         piece: &[u8],
         moment: Moment,
         source: &mut S,
@@ -345,7 +346,7 @@ impl<H: HookHost> Edge<H> {
     }
 
     // The stream of a connection ended.
-    fn end(&mut self, c: u32) -> Result<(), EdgeFault>
+    fn end(&mut self, c: ConnectionNo) -> Result<(), EdgeFault>
         ensures done { OnOk result (HappeningLeads H.HookHost self.old self.new (HasEnded c)) }
         ensures refused { IfErr result (λ fault. IsEndRefusal fault self.old.lanes c) }
         ensures err { OnErr result (self.new ≡ self.old) }
@@ -364,7 +365,7 @@ impl<H: HookHost> Edge<H> {
     /// the source stands right behind them. A refused piece changes nothing, and takes no draws.
     pub fn hear<S: DrawSource>(
         &mut self,
-        c: u32,
+        c: ConnectionNo,
         piece: &[u8],
         moment: Moment,
         source: &mut S,
@@ -400,7 +401,7 @@ impl<H: HookHost> Edge<H> {
     }
 
     /// So many bytes to the connection were taken, at most as many as its output has.
-    pub fn take(&mut self, c: u32, n: usize)
+    pub fn take(&mut self, c: ConnectionNo, n: usize)
         requires { n ≤ length (output_of self.old c) }
         ensures taken { HappeningLeads H.HookHost self.old self.new (Taken c n) }
         ensures left { output_of self.new c ≡ drop n (output_of self.old c) }
@@ -411,7 +412,7 @@ impl<H: HookHost> Edge<H> {
     }
 
     /// The connection is forgotten, if it is there. Its number may be opened again.
-    pub fn forget(&mut self, c: u32)
+    pub fn forget(&mut self, c: ConnectionNo)
         ensures forgotten { HappeningLeads H.HookHost self.old self.new (Forgotten c) }
         ensures gone { lane_at self.new.lanes c ≡ None }
     {

@@ -1,4 +1,5 @@
 //! What comes on connections.
+use crate::connection::ConnectionNo;
 use endpoints::Moment;
 use messages::Draws;
 
@@ -6,14 +7,14 @@ use messages::Draws;
 #[derive(Clone, Copy, Debug)]
 pub enum Event<'a> {
     /// It is opened.
-    Open(u32),
+    Open(ConnectionNo),
     /// A piece of its stream came at a moment. The k-th request that it completes has the k-th draws.
     Bytes {
-        connection: u32,
+        connection: ConnectionNo,
         piece: &'a [u8],
         moment: Moment,
         draws: &'a [Draws],
     },
     /// Its stream ended.
-    End(u32),
+    End(ConnectionNo),
 }

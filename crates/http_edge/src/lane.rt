@@ -2,6 +2,7 @@
 ghost use Rattle.std.specs.Prelude.{◌≡◌};
 ghost use Rattle.http_edge.specs.Schedule.{ended, has_stream_ended, is_closing_phase};
 
+use crate::connection::ConnectionNo;
 use crate::rest::Rest;
 use std::marker::Model;
 
@@ -54,7 +55,7 @@ impl Phase {
 /// A connection: its rest that no message was made of yet, and its output that was not taken yet.
 #[derive(Drop)]
 pub struct Lane {
-    pub(crate) number: u32,
+    pub(crate) number: ConnectionNo,
     pub(crate) phase: Phase,
     pub(crate) rest: Rest,
     pub(crate) output: Vec<u8>,

@@ -3,6 +3,7 @@
 
 mod answering;
 mod chance;
+mod connection;
 mod draw_list;
 mod edge;
 mod event;
@@ -15,6 +16,7 @@ mod room;
 mod source;
 mod wanting;
 
+pub use connection::ConnectionNo;
 pub use edge::Edge;
 pub use event::Event;
 pub use fault::EdgeFault;

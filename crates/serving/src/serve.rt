@@ -10,7 +10,7 @@ use crate::clock::Clock;
 use crate::fault::ServeFault;
 use crate::stream::Stream;
 use hook_host::HookHost;
-use http_edge::{Edge, Event};
+use http_edge::{ConnectionNo, Edge, Event};
 use rand_chacha::ChaCha20Rng;
 
 /// So many bytes has a piece at most.
@@ -29,7 +29,7 @@ enum Heard {
 // Reads a piece, and gives it to the edge.
 fn hear<H: HookHost, S: Stream, C: Clock>(
     edge: &mut Edge<H>,
-    c: u32,
+    c: ConnectionNo,
     stream: &mut S,
     clock: &mut C,
     rng: &mut ChaCha20Rng,
@@ -58,7 +58,7 @@ fn hear<H: HookHost, S: Stream, C: Clock>(
 // Writes all output.
 fn write_output<H: HookHost, S: Stream>(
     edge: &mut Edge<H>,
-    c: u32,
+    c: ConnectionNo,
     stream: &mut S,
 ) -> Result<(), ServeFault>
     ensures written { OnOk result (IsWritten (stream_service H.HookHost S.does c) (edge_stream edge.old stream.old)
@@ -92,7 +92,7 @@ enum Over {
 // Reads a piece after another, and writes what is answered.
 fn hear_all<H: HookHost, S: Stream, C: Clock>(
     edge: &mut Edge<H>,
-    c: u32,
+    c: ConnectionNo,
     stream: &mut S,
     clock: &mut C,
     rng: &mut ChaCha20Rng,
@@ -117,7 +117,7 @@ fn hear_all<H: HookHost, S: Stream, C: Clock>(
 // Serves a connection that was opened.
 fn attend<H: HookHost, S: Stream, C: Clock>(
     edge: &mut Edge<H>,
-    c: u32,
+    c: ConnectionNo,
     stream: &mut S,
     clock: &mut C,
     rng: &mut ChaCha20Rng,
@@ -144,7 +144,7 @@ fn attend<H: HookHost, S: Stream, C: Clock>(
 /// could not be opened, nothing else is done.
 pub fn serve_one<H: HookHost, S: Stream, C: Clock>(
     edge: &mut Edge<H>,
-    c: u32,
+    c: ConnectionNo,
     stream: &mut S,
     clock: &mut C,
     rng: &mut ChaCha20Rng,

@@ -24,7 +24,7 @@ returns-in-Ok-clause-leads g c = λ found rules host first past h settled.
     let reached = (served_answered (promises g.N.Sockets g.C.Clocks g.J.Journal (keeping g.K.Keeper g.K.ImageKeeper) g.H.HookHost) rules host first _ h).reached in
     let k = c.args.k in
     let place = fresh_place c.args.self.now.times.steady in
-    let on = c.in-Ok.ensures.done (journey_to rules host past.schedule past.world) reached in
+    let on = rw c.new.ensures at (c.in-Ok.ensures.done (journey_to rules host past.schedule past.world) reached) in
     let here : connection_at on.world.connections k ≡ Some (fresh k) = opened_here past.world on.world k on.happens in
     let rests : IsPlaceAtRest place (connection_at on.world.connections k) = subst (λ o. IsPlaceAtRest place o) (sym here) (fresh_rests c.args.self.now.times.steady (fresh k) refl refl) in
     let next : Past = record { deeds = deed.Came k ∷ past.deeds; schedule = past.schedule ++ Opened k ∷ []; world = on.world } in
@@ -45,6 +45,7 @@ pub returns-in-Err-clause-leads : goal.returns-in-Err-clause-leads
 returns-in-Err-clause-leads g c = λ found rules host first past h settled.
     let reached = (served_answered (promises g.N.Sockets g.C.Clocks g.J.Journal (keeping g.K.Keeper g.K.ImageKeeper) g.H.HookHost) rules host first _ h).reached in
     let k = c.args.k in
+    let refused = rw c.new.ensures at (c.in-Err.ensures.refused (journey_to rules host past.schedule past.world) reached) in
     rw c.in-Err.ensures.err
     (record {
       goes = record {
@@ -52,7 +53,7 @@ returns-in-Err-clause-leads g c = λ found rules host first past h settled.
         served =
             goes h
             (comes _ c.requires.told
-            (denies k c.accept.new.self c.close.new.self c.in-Err.fault c.note.new.noted c.note.new.journal c.requires.bound c.requires.free c.in-Taken.ensures (c.in-Err.ensures.refused (journey_to rules host past.schedule past.world) reached) c.close.ensures c.note.ensures));
+            (denies k c.accept.new.self c.close.new.self c.in-Err.fault c.note.new.noted c.note.new.journal c.requires.bound c.requires.free c.in-Taken.ensures refused c.close.ensures c.note.ensures));
         settled = settled_then c.args.self.now past _ _ refl refl refl (done_then _ (deed.Came k ∷ past.deeds) _ (one_more _ _ refl refl (λ task t. inr t)) (one_more _ _ refl refl (λ task t. inr t))) settled;
         done = done_then _ (deed.Came k ∷ past.deeds) _ (one_more _ _ refl refl (λ task t. inr t)) (one_more _ _ refl refl (λ task t. inr t));
       };

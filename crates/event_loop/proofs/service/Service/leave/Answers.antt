@@ -7,7 +7,7 @@ use Rattle.event_loop.specs.Courses.{journey_to}
 
 pub returns-clause-away : goal.returns-clause-away
 returns-clause-away g c = λ rules host found past reached.
-    let on = c.forget.ensures.forgotten (journey_to rules host past.schedule past.world) reached in
+    let on = rw c.new.ensures at (c.forget.ensures.forgotten (journey_to rules host past.schedule past.world) reached) in
     rw c.freed-self.ensures
     (record {
       next = record { deeds = deed.Closed c.args.k ∷ past.deeds; schedule = past.schedule ++ Forgotten c.args.k ∷ []; world = on.world };

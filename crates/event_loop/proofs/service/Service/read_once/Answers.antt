@@ -25,7 +25,7 @@ returns-in-Ok-clause-acts g c = λ rules host first found past undone ready h.
     let bytes : List ℕ = take count c.read.new.buffer in
     let room : length c.read.new.buffer ≡ read_limit = search rules in
     let size : length bytes ≡ count = taken_length count c.read.new.buffer c.in-Bytes.ensures.within.1 in
-    let given = c.in-Ok.ensures.heard rules host past.schedule past.world reached in
+    let given = rw c.new-connection.ensures at (c.in-Ok.ensures.heard rules host past.schedule past.world reached) in
     record {
       goes = record {
         next = record { deeds = deed.Read c.args.k read_limit bytes ∷ past.deeds; schedule = given.schedule; world = given.world };
@@ -51,7 +51,7 @@ returns-in-Err-clause-acts g c = λ rules host first found past undone ready h.
     let bytes : List ℕ = take count c.read.new.buffer in
     let room : length c.read.new.buffer ≡ read_limit = search rules in
     let size : length bytes ≡ count = taken_length count c.read.new.buffer c.in-Bytes.ensures.within.1 in
-    let some = c.in-Err.ensures.unheard rules host past.schedule past.world reached in
+    let some = rw c.new-connection.ensures at (c.in-Err.ensures.unheard rules host past.schedule past.world reached) in
     record {
       goes = record {
         next = record { deeds = deed.Read c.args.k read_limit bytes ∷ past.deeds; schedule = some.schedule; world = some.world };
@@ -73,7 +73,7 @@ returns-in-Err-clause-acts g c = λ rules host first found past undone ready h.
 pub returns-in-Ok-event-clause-acts : goal.returns-in-Ok-event-clause-acts
 returns-in-Ok-event-clause-acts g c = λ rules host first found past undone ready h.
     let reached = (served_answered (promises g.N.Sockets g.C.Clocks g.J.Journal (keeping g.K.Keeper g.K.ImageKeeper) g.H.HookHost) rules host first _ h).reached in
-    let on = c.in-Ok-event.ensures.done (journey_to rules host past.schedule past.world) reached in
+    let on = rw c.new-connection.ensures at (c.in-Ok-event.ensures.done (journey_to rules host past.schedule past.world) reached) in
     record {
       goes = record {
         next = record { deeds = deed.ReadEnd c.args.k ∷ past.deeds; schedule = past.schedule ++ HasEnded c.args.k ∷ []; world = on.world };
@@ -134,6 +134,7 @@ pub returns-in-Err-event-clause-acts : goal.returns-in-Err-event-clause-acts
 returns-in-Err-event-clause-acts g c = λ rules host first found past undone ready h.
     let reached = (served_answered (promises g.N.Sockets g.C.Clocks g.J.Journal (keeping g.K.Keeper g.K.ImageKeeper) g.H.HookHost) rules host first _ h).reached in
     let fault = c.in-Err-event.fault in
+    let refused = rw c.new-connection.ensures at (c.in-Err-event.ensures.refused (journey_to rules host past.schedule past.world) reached) in
     rw c.in-Err-event.ensures.err
     (record {
       goes = record {
@@ -141,7 +142,7 @@ returns-in-Err-event-clause-acts g c = λ rules host first found past undone rea
         served =
             goes h
             (reads c.args.k c.args.place _ c.requires.here c.requires.readable undone (c.requires.may (journey_to rules host past.schedule past.world) reached)
-            (ends_nothing c.read.new.self fault c.in-End.ensures.done (c.in-Err-event.ensures.refused (journey_to rules host past.schedule past.world) reached)));
+            (ends_nothing c.read.new.self fault c.in-End.ensures.done refused));
         others = put_others c.args.k c.args.self.now _ (record c.args.place { stage = Broken (Refused fault) }) past.world past.world refl (λ j other. refl) (λ j other. refl);
         done = one_more _ _ refl refl (λ task t. inr t);
         alone = λ other differs not. not_another (Reading c.args.k) other past.deeds differs not;

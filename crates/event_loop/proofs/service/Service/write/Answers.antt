@@ -22,9 +22,9 @@ pub returns-in-Bytes-clause-acts : goal.returns-in-Bytes-clause-acts
 returns-in-Bytes-clause-acts g c = λ rules host first found past undone kept h.
     let reached = (served_answered (promises g.N.Sockets g.C.Clocks g.J.Journal (keeping g.K.Keeper g.K.ImageKeeper) g.H.HookHost) rules host first _ h).reached in
     let place = c.place_at-place.result in
-    let out = c.output-output.ensures.output (journey_to rules host past.schedule past.world) reached in
+    let out = rw c.new-connection.ensures at (c.output-output.ensures.output (journey_to rules host past.schedule past.world) reached) in
     let may = c.may_write.ensures.may c.if-not-may_write.false (journey_to rules host past.schedule past.world) reached in
-    let on = c.take.ensures.taken (journey_to rules host past.schedule past.world) reached in
+    let on = rw c.new-connection.ensures at (c.take.ensures.taken (journey_to rules host past.schedule past.world) reached) in
     record {
       goes = record {
         next = record { deeds = deed.Wrote c.args.k (take c.in-Bytes.count c.output-output.result.now) ∷ past.deeds; schedule = past.schedule ++ Taken c.args.k c.in-Bytes.count ∷ []; world = on.world };
