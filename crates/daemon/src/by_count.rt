@@ -13,7 +13,7 @@ use clients::Registry;
 use endpoints::Server;
 use hook_chain::Chain;
 use hook_host::HookHost;
-use http_edge::Edge;
+use http_edge::{ConnectionNo, Edge};
 use rand_chacha::ChaCha20Rng;
 use rand_core::SeedableRng;
 use serving::serve_one;
@@ -49,7 +49,13 @@ pub fn serve_each<R: Net + Clock, H: HookHost>(
             return;
         };
         let _ = stream.set_nodelay(true);
-        let _ = serve_one(edge, NUMBER, &mut stream, &mut clock, rng);
+        let _ = serve_one(
+            edge,
+            ConnectionNo::new(NUMBER),
+            &mut stream,
+            &mut clock,
+            rng,
+        );
         see_off(&mut stream);
     }
 }

@@ -1,5 +1,5 @@
 //! Calls on an edge, and what comes of them.
-use http_edge::{EdgeFault, Event};
+use http_edge::{ConnectionNo, EdgeFault, Event};
 
 /// A call on an edge.
 #[derive(Clone, Copy)]
@@ -7,9 +7,12 @@ pub enum EdgeCall<'a> {
     /// This comes on a connection: it is opened, a piece of its stream came, or its stream ended.
     Event(Event<'a>),
     /// At most so many of the bytes to a connection are taken.
-    Take { connection: u32, most: usize },
+    Take {
+        connection: ConnectionNo,
+        most: usize,
+    },
     /// A connection is forgotten, if it is there.
-    Forget(u32),
+    Forget(ConnectionNo),
 }
 
 /// What came of a call.

@@ -14,7 +14,7 @@ use clients::Registry;
 use endpoints::Server;
 use hook_chain::Chain;
 use hook_host::HookHost;
-use http_edge::{Edge, EdgeFault, Event};
+use http_edge::{ConnectionNo, Edge, EdgeFault, Event};
 use std::alloc::{AllocError, Global};
 
 /// An edge on which calls were made, and what came of each of them.
@@ -28,7 +28,7 @@ pub struct Made {
 fn take_bytes<H: HookHost>(
     alloc: Global,
     edge: &mut Edge<H>,
-    c: u32,
+    c: ConnectionNo,
     most: usize,
 ) -> Result<Vec<u8>, AllocError>
     ensures bytes { IfOk result (λ bytes. bytes.items ≡ take most (output_of edge.old c)) }

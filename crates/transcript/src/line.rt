@@ -9,6 +9,7 @@ ghost use Rattle.transcript.specs.Seen.{stated};
 use crate::number::{connection, moment};
 use crate::piece::{draws, piece};
 use consent::Moment;
+use http_edge::ConnectionNo;
 use messages::Draws;
 use std::alloc::{AllocError, Global};
 
@@ -16,16 +17,16 @@ use std::alloc::{AllocError, Global};
 #[derive(Drop)]
 pub enum Line {
     /// `open C`: a connection is opened.
-    Open(u32),
+    Open(ConnectionNo),
     /// `bytes C MOMENT DRAWS HEX`: a piece of its stream came.
     Bytes {
-        connection: u32,
+        connection: ConnectionNo,
         moment: Moment,
         draws: Vec<Draws>,
         piece: Vec<u8>,
     },
     /// `end C`: its stream ended.
-    End(u32),
+    End(ConnectionNo),
 }
 
 /// The lines of a text.

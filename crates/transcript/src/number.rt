@@ -5,6 +5,7 @@ ghost use Rattle.std.specs.Fmt.{decimal};
 ghost use Rattle.transcript.specs.Numbers.{IsConnection, IsMomentWord};
 
 use consent::Moment;
+use http_edge::ConnectionNo;
 use itoa::Buffer;
 
 /// The number of a word, where it is below `2^64`: the word is what the number prints as.
@@ -22,11 +23,12 @@ fn natural(word: &str) -> Option<u64>
 }
 
 /// The number of a connection.
-pub fn connection(word: &str) -> Option<u32>
+pub fn connection(word: &str) -> Option<ConnectionNo>
     ensures some { IfSome result (IsConnection word.now) }
     ensures only { (c : ℕ) → IsConnection word.now c → result ≡ Some c }
 {
-    u32::try_from(natural(word)?).ok()
+    let number = u32::try_from(natural(word)?).ok()?;
+    Some(ConnectionNo::new(number))
 }
 
 /// A moment, in seconds.

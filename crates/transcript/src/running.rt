@@ -12,7 +12,7 @@ use clients::Registry;
 use endpoints::Server;
 use hook_chain::Chain;
 use hook_host::HookHost;
-use http_edge::{Edge, EdgeFault, Event};
+use http_edge::{ConnectionNo, Edge, EdgeFault, Event};
 use itoa::Buffer;
 use std::alloc::{AllocError, Global};
 
@@ -39,7 +39,7 @@ fn happen<H: HookHost>(edge: &mut Edge<H>, line: &Line) -> Result<(), EdgeFault>
 }
 
 /// The connection that a line opens is put behind the others.
-fn note_opened(opened: &mut Vec<u32>, line: &Line) -> Result<(), AllocError>
+fn note_opened(opened: &mut Vec<ConnectionNo>, line: &Line) -> Result<(), AllocError>
     ensures { OnOk result (opened.new.items ≡ opened.old.items ++ opened_by (stated line.now)) }
 {
     if let Line::Open(connection) = line {
@@ -52,7 +52,7 @@ fn note_opened(opened: &mut Vec<u32>, line: &Line) -> Result<(), AllocError>
 fn run_line<H: HookHost>(
     alloc: Global,
     edge: &mut Edge<H>,
-    opened: &mut Vec<u32>,
+    opened: &mut Vec<ConnectionNo>,
     number: usize,
     text: &str,
 ) -> Result<(), ReplayFault>
@@ -75,7 +75,7 @@ fn run_lines<H: HookHost>(
     alloc: Global,
     edge: &mut Edge<H>,
     lines: &[&str],
-) -> Result<Vec<u32>, ReplayFault>
+) -> Result<Vec<ConnectionNo>, ReplayFault>
     ensures done { IfOk result (λ opened. RunsLines H.HookHost edge.old edge.new (map (λ line. line.now) lines.now) opened.items) }
     ensures fault { IfErr result (LinesFail H.HookHost edge.old (map (λ line. line.now) lines.now)) }
 {
@@ -98,11 +98,11 @@ fn print_number(out: &mut Vec<u8>, number: usize) -> Result<(), AllocError>
 }
 
 /// The line before a connection's output is printed.
-fn print_head(out: &mut Vec<u8>, c: u32, count: usize) -> Result<(), AllocError>
+fn print_head(out: &mut Vec<u8>, c: ConnectionNo, count: usize) -> Result<(), AllocError>
     ensures { OnOk result (out.new.items ≡ out.old.items ++ (codes "connection " ++ decimal c ++ codes " " ++ decimal count ++ codes "\n")) }
 {
     out.extend_from_slice(b"connection ")?;
-    print_number(out, c as usize)?;
+    print_number(out, c.get() as usize)?;
     out.extend_from_slice(b" ")?;
     print_number(out, count)?;
     out.extend_from_slice(b"\n")?;
@@ -110,7 +110,7 @@ fn print_head(out: &mut Vec<u8>, c: u32, count: usize) -> Result<(), AllocError>
 }
 
 /// The output of a connection is printed.
-fn print_output(out: &mut Vec<u8>, c: u32, output: &[u8]) -> Result<(), AllocError>
+fn print_output(out: &mut Vec<u8>, c: ConnectionNo, output: &[u8]) -> Result<(), AllocError>
     ensures { OnOk result (out.new.items ≡ out.old.items ++ printed c output.now) }
 {
     print_head(out, c, output.len())?;
@@ -123,7 +123,7 @@ fn print_output(out: &mut Vec<u8>, c: u32, output: &[u8]) -> Result<(), AllocErr
 fn print_outputs<H: HookHost>(
     alloc: Global,
     edge: &Edge<H>,
-    opened: &[u32],
+    opened: &[ConnectionNo],
 ) -> Result<Vec<u8>, AllocError>
     ensures { IfOk result (λ out. out.items ≡ printed_from edge.now opened.now) }
 {
