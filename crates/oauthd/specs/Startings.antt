@@ -12,7 +12,6 @@ use Rattle.batch_file.specs.declared.disk_file.Opened.{Opened}
 use Rattle.change_codec.specs.Keeping.{Crashes, Holds, crashes}
 use Rattle.change_codec.specs.contracts.keeper.NoKeeperKeeper.TheImpl as no_keeper
 use Rattle.change_codec.specs.declared.keeper.Keeper.{Ghosts as Keeper}
-use Rattle.image_keeper.specs.declared.keeper.ImageKeeper.{Ghosts as ImageKeeper}
 use Rattle.image_keeper.specs.contracts.keeper.NoKeeperImageKeeper.TheImpl as no_imaging
 use Rattle.daemon.specs.Started.{HasGoneOn, HasStarted, keeping_by}
 use Rattle.daemon.specs.contracts.sockets.MachineSocketsSockets.TheImpl as sockets
@@ -112,10 +111,10 @@ RefusesState rules hooks fault = ((cause : OpenFault) × (fault ≡ of_opening c
 -- ON THE MACHINE
 
 -- on the machine's sockets, with a chain of hooks: a server that is started anew keeps nothing
-abbrev pub startings : {R C J : Type 0} → Clocks C → Journal J → Keeper (BatchFile (DiskFile R)) → ImageKeeper (BatchFile (DiskFile R)) → Startings
-startings clocks journal keeper imaging = record {
+abbrev pub startings : {R C J : Type 0} → Clocks C → Journal J → Keeper (BatchFile (DiskFile R)) → (BatchFile (DiskFile R) → Type 0) → Startings
+startings clocks journal keeper is_long = record {
   anew = λ handed. HasStarted
       (promises sockets.ghosts clocks journal
       (keeping_by no_keeper.ghosts no_imaging.ghosts.is_long) chain.ghosts) handed.registry handed.hooks handed.patience;
-  on_state = HasResumed (promises sockets.ghosts clocks journal (keeping_by keeper imaging.is_long) chain.ghosts);
+  on_state = HasResumed (promises sockets.ghosts clocks journal (keeping_by keeper is_long) chain.ghosts);
 }

@@ -38,6 +38,9 @@ use std::rt::{Clock, Files};
 /// What keeps a server's changes on the disk.
 type OnDisk<'r, R> = StateKeeper<DiskFile<'r, R>>;
 
+/// What tells the time.
+type Ticks<'r, R> = MachineClocks<'r, R>;
+
 /// What faults and reports are told to, as lines.
 type Lines<'e, E> = LineJournal<'e, E>;
 
@@ -152,8 +155,8 @@ fn serve_as<
 ) -> Result<(), PerformFault<'w>>
     ensures done { OnOk result (ServeEnded service.now (files_in files.entry) (output W.contents out.old out.new)) }
     ensures fault { IfErr result (λ fault.
-        FailsService (startings ⟦<MachineClocks<'r, R> as Clocks>⟧
-        ⟦<Lines<'e, E> as Journal>⟧ ⟦<OnDisk<'r, R> as Keeper>⟧ ⟦<OnDisk<'r, R> as ImageKeeper>⟧)
+        FailsService (startings ⟦<Ticks<'r, R> as Clocks>⟧
+        ⟦<Lines<'e, E> as Journal>⟧ ⟦<OnDisk<'r, R> as Keeper>⟧ ⟦<OnDisk<'r, R> as ImageKeeper>⟧.is_long)
         service.now (files_in files.entry) fault
         (outputs (output W.contents out.old out.new) (output E.contents err.old err.new))) }
 {
@@ -196,8 +199,8 @@ pub fn perform_service<
 >(rt: &'r R, service: &Service<'_>, files: CallFiles<'_>, out: &mut W, err: &mut E) -> Status
     // Bad use may be that of a fault that could not be told.
     ensures { (result ≡ Status.BadUse)
-        ⊎ EndsService (startings ⟦<MachineClocks<'r, R> as Clocks>⟧
-        ⟦<Lines<'e, E> as Journal>⟧ ⟦<OnDisk<'r, R> as Keeper>⟧ ⟦<OnDisk<'r, R> as ImageKeeper>⟧)
+        ⊎ EndsService (startings ⟦<Ticks<'r, R> as Clocks>⟧
+        ⟦<Lines<'e, E> as Journal>⟧ ⟦<OnDisk<'r, R> as Keeper>⟧ ⟦<OnDisk<'r, R> as ImageKeeper>⟧.is_long)
         service.now (files_in files.entry) result
         (outputs (output W.contents out.old out.new) (output E.contents err.old err.new)) }
 {
@@ -217,8 +220,8 @@ fn perform_call<
 >(rt: &'r R, call: &Call<'_>, files: CallFiles<'_>, out: &mut W, err: &mut E) -> Status
     // Bad use may be that of a write that failed.
     ensures { (result ≡ Status.BadUse)
-        ⊎ EndsCall (startings ⟦<MachineClocks<'r, R> as Clocks>⟧
-        ⟦<Lines<'e, E> as Journal>⟧ ⟦<OnDisk<'r, R> as Keeper>⟧ ⟦<OnDisk<'r, R> as ImageKeeper>⟧)
+        ⊎ EndsCall (startings ⟦<Ticks<'r, R> as Clocks>⟧
+        ⟦<Lines<'e, E> as Journal>⟧ ⟦<OnDisk<'r, R> as Keeper>⟧ ⟦<OnDisk<'r, R> as ImageKeeper>⟧.is_long)
         call.now (files_in files.entry) result
         (outputs (output W.contents out.old out.new) (output E.contents err.old err.new)) }
 {
@@ -242,8 +245,8 @@ pub fn perform<
 >(rt: &'r R, words: &[String], out: &mut W, err: &mut E) -> Status
     // Bad use may be that of a write that failed.
     ensures { (result ≡ Status.BadUse)
-        ⊎ EndsWords (startings ⟦<MachineClocks<'r, R> as Clocks>⟧
-        ⟦<Lines<'e, E> as Journal>⟧ ⟦<OnDisk<'r, R> as Keeper>⟧ ⟦<OnDisk<'r, R> as ImageKeeper>⟧)
+        ⊎ EndsWords (startings ⟦<Ticks<'r, R> as Clocks>⟧
+        ⟦<Lines<'e, E> as Journal>⟧ ⟦<OnDisk<'r, R> as Keeper>⟧ ⟦<OnDisk<'r, R> as ImageKeeper>⟧.is_long)
         words.now result (outputs (output W.contents out.old out.new) (output E.contents err.old err.new)) }
 {
     let call = match Call::from_words(rt.alloc(), words) {
