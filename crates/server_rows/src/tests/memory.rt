@@ -3,7 +3,7 @@
 use super::*;
 use clients::{ConfigFault, Registry};
 use endpoints::Server;
-use http_edge::{Edge, EdgeFault, Event};
+use http_edge::{ConnectionNo, Edge, EdgeFault, Event};
 use transcript::line::{Line, statement};
 
 /// What a request is answered that memory is refused for.
@@ -56,10 +56,16 @@ fn happen(edge: &mut Edge<Chain>, line: &Line) -> Result<(), EdgeFault> {
     }
 }
 
+/// Connection 1.
+fn first_connection() -> ConnectionNo {
+    ConnectionNo::new(1)
+}
+
 /// All that goes out on connection 1 is taken.
 fn take_all(edge: &mut Edge<Chain>) {
-    let length = edge.output(1).len();
-    edge.take(1, length);
+    let connection = first_connection();
+    let length = edge.output(connection).len();
+    edge.take(connection, length);
 }
 
 /// Asserts that what comes is accepted, where memory was refused when it is given again.
@@ -75,11 +81,11 @@ fn assert_accepted<R: Abort>(rt: &R, edge: &mut Edge<Chain>, line: &Line) {
 
 /// Asserts what the last request is answered, where memory was refused for it when it is made again.
 fn assert_answered<R: Abort>(rt: &R, edge: &mut Edge<Chain>, line: &Line, wanted: &str) {
-    if edge.output(1) == UNAVAILABLE.as_bytes() && wanted != UNAVAILABLE {
+    if edge.output(first_connection()) == UNAVAILABLE.as_bytes() && wanted != UNAVAILABLE {
         take_all(edge);
         assert_accepted(rt, edge, line);
     }
-    assert_same(rt, edge.output(1), wanted);
+    assert_same(rt, edge.output(first_connection()), wanted);
     take_all(edge);
 }
 
@@ -96,7 +102,7 @@ fn assert_again<R: Abort + AllocGlobal>(
     rows: &str,
 ) -> Result<(), Fail> {
     let alloc = rt.alloc();
-    let mut last = Line::End(1);
+    let mut last = Line::End(first_connection());
     for row in rows.split('\n') {
         if let Some((_, wanted)) = row.split_once(" = ") {
             let bytes = again(|| going(alloc, wanted))?;

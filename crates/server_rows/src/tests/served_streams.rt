@@ -4,7 +4,7 @@ use clients::{ConfigFault, Registry};
 use consent::Moment;
 use endpoints::Server;
 use hook_chain::Chain;
-use http_edge::{Demand, DrawSource, Edge};
+use http_edge::{ConnectionNo, Demand, DrawSource, Edge};
 use rand_chacha::ChaCha20Rng;
 use rand_core::SeedableRng;
 use serving::{Clock, ServeFault, serve_one};
@@ -131,7 +131,8 @@ fn served(
         course,
         written: Vec::new(alloc),
     };
-    let end = serve_one(edge, 1, &mut tape, &mut clock, rng);
+    let connection = ConnectionNo::new(1);
+    let end = serve_one(edge, connection, &mut tape, &mut clock, rng);
     (end, tape.written)
 }
 
