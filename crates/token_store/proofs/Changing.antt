@@ -177,6 +177,11 @@ named_by (Some g) f x h = record { grant = g; at = refl; is = cc }
 pub same_some : {A : Type 0} (x y : A) → Some x ≡ Some y → x ≡ y
 same_some x y h = cc
 
+-- so it is of what the change means
+pub means_so : (kept : List Kept) (history : List Event) (m : ℕ) (change next : Change) → change ≡ next → CanFollow history m next →
+    (CanFollow history m change → FitsHistory kept (with_change history m change) m) → FitsHistory kept (with_change history m next) m
+means_so kept history m change next is can fits = subst (λ (x : Change). FitsHistory kept (with_change history m x) m) is (fits (subst (CanFollow history m) (sym is) can))
+
 -- after no changes, and after a change and those after it
 pub made_none : (kept : List Kept) (history : List Event) (m : ℕ) (next : List Change) → Some [] ≡ Some next → FitsHistory kept history m → FitsHistory kept (with_changes history m next) m
 made_none kept history m [] is fits = rw (append-nil history) fits

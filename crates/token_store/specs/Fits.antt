@@ -1,6 +1,9 @@
 -- When a store's answers are those of a history.
 use Rattle.std.specs.Prelude.{◌≡◌, ◌≤◌, ℕ, List, Bool, Option, Some, None, count_by, option_map, if◌then◌else◌, not}
-use Rattle.consent.specs.History.{Event, Grant, grant_at, is_spent, has_ended, code_terms, is_named, unexpired_count, IsHistory, has_room, is_taken}
+use Rattle.consent.specs.History.{Event, Grant, grant_at, is_spent, has_ended, code_terms, is_named, unexpired_count, IsHistory, has_room, is_taken, with_changes}
+use Rattle.consent.specs.History.{Change as told}
+use Rattle.consent.specs.Changes.{changes_of, AllFollow}
+use Rattle.consent.specs.declared.change.Change.{Change}
 use Rattle.token_store.specs.declared.fault.StoreFault.{StoreFault}
 use Rattle.token_store.specs.declared.fault.StoreFault.TheVariants.{Full, DrawTaken}
 use Rattle.token_store.specs.Kept.{Kept, Held, kept_at, kept_unexpired}
@@ -35,6 +38,15 @@ pub record FitsHistory (kept : List Kept) (history : List Event) (moment : ℕ) 
 -- the store's answers from the moment on are those of the history
 abbrev pub FitsStore : Held → List Event → ℕ → Type 0
 FitsStore store history moment = FitsHistory store.kept history moment
+
+-- so it is of each history that what is kept fits at the moment
+abbrev pub ForEachHistory : List Kept → ℕ → (List Event → Type 0) → Type 0
+ForEachHistory kept moment P = (history : List Event) → FitsHistory kept history moment → P history
+
+-- what fitted a history fits it with the changes, where they mean something and may follow
+abbrev pub MakesChanges : (old new : List Kept) → ℕ → List Change → Type 0
+MakesChanges old new moment changes = (history : List Event) (next : List told) → FitsHistory old history moment →
+    changes_of history moment changes ≡ Some next → AllFollow history moment next → FitsHistory new (with_changes history moment next) moment
 
 -- why codes or tokens are refused: they have no room, or a digest is taken
 abbrev pub refusal_by : (has_room is_taken : Bool) → Option StoreFault

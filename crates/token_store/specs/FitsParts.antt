@@ -1,6 +1,30 @@
 -- Beside Fits: only the contracts of this crate's own parts and their proofs cite this, no public clause.
-use Rattle.std.specs.Prelude.{◌≡◌, ℕ, List, Some, if◌then◌else◌, ◌==◌}
-use Rattle.consent.specs.History.{Event, Grant, grant_at}
+use Rattle.std.specs.Prelude.{◌≡◌, ◌+◌, ℕ, List, Bool, Option, Some, if◌then◌else◌, ◌==◌, nat_le, is_some, length}
+use Rattle.consent.specs.Limits.{record_limit}
+use Rattle.consent.specs.History.{Event, Grant, grant_at, are_taken, with_change, CanFollow}
+use Rattle.consent.specs.History.{Change as told}
+use Rattle.consent.specs.Changes.{change_of}
+use Rattle.consent.specs.declared.change.Change.{Change}
+use Rattle.token_store.specs.declared.fault.StoreFault.{StoreFault}
+use Rattle.token_store.specs.Kept.{Kept, kept_at, kept_unexpired}
+use Rattle.token_store.specs.Fits.{FitsHistory, refusal_by}
+
+-- what fitted a history fits it with the change, where it means something and may follow
+abbrev pub MakesChange : (old new : List Kept) → ℕ → Change → Type 0
+MakesChange old new moment change = (history : List Event) (next : told) → FitsHistory old history moment →
+    change_of history moment change ≡ Some next → CanFollow history moment next → FitsHistory new (with_change history moment next) moment
+
+-- there is room for so many more
+abbrev pub has_kept_room : List Kept → ℕ → ℕ → Bool
+has_kept_room kept moment more = nat_le (kept_unexpired kept moment + more) record_limit
+
+-- one of the digests is that of something unexpired, or of another of them
+abbrev pub are_kept : List Kept → ℕ → List (List ℕ) → Bool
+are_kept kept moment digests = are_taken (λ digest. is_some (kept_at kept digest moment)) digests
+
+-- why codes or tokens of these digests are refused at the moment, by what is kept
+abbrev pub kept_refusal : List Kept → ℕ → List (List ℕ) → Option StoreFault
+kept_refusal kept moment digests = refusal_by (has_kept_room kept moment (length digests)) (are_kept kept moment digests)
 
 -- the numbers of the families, with that of one more
 abbrev pub with_family_number : (ℕ → ℕ) → ℕ → ℕ → ℕ → ℕ

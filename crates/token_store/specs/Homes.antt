@@ -1,9 +1,12 @@
 -- The families of records that a store is made of, under the store's numbers.
-use Rattle.std.specs.Prelude.{◌≡◌, ℕ, List, [], ◌∷◌, true, Option, Some, None, is_some, unwrap_or, nat_eq, slice_index_or}
+use Rattle.std.specs.Prelude.{◌≡◌, ℕ, List, [], ◌∷◌, true, Option, Some, None, is_some, unwrap_or, map, nat_eq}
 use Rattle.std.specs.Map.{lookup}
 use Rattle.token_store.specs.declared.image.KeptRecord.{KeptRecord}
 use Rattle.token_store.specs.declared.record.Shared.{Shared}
-use Rattle.token_store.specs.ImageParts.{AgreesWithRecord, is_unexpired_record}
+use Rattle.token_store.specs.Kept.{Kept}
+use Rattle.token_store.specs.Image.{as_kept}
+use Rattle.token_store.specs.Records.{family_at}
+use Rattle.token_store.specs.ImageParts.{AgreesWithRecord, is_unexpired_record, renumbered}
 
 -- the store's number of a family
 abbrev pub number_of_family : List (ℕ × ℕ) → ℕ → Option ℕ
@@ -12,9 +15,13 @@ number_of_family numbers family = lookup (nat_eq family) numbers
 abbrev pub renumber_by : List (ℕ × ℕ) → ℕ → ℕ
 renumber_by numbers family = unwrap_or (number_of_family numbers family) 0
 
+-- what the records say is kept, their families under the store's numbers
+abbrev pub as_numbered : List (ℕ × ℕ) → List KeptRecord → List Kept
+as_numbered numbers records = map (renumbered (renumber_by numbers)) (as_kept records)
+
 -- no two families have one number, and each is there
 pub record AreHomes (numbers : List (ℕ × ℕ)) (families : List (Option Shared)) : Type 0 where
-  pub there : (f n : ℕ) → number_of_family numbers f ≡ Some n → is_some (slice_index_or families n None) ≡ true
+  pub there : (f n : ℕ) → number_of_family numbers f ≡ Some n → is_some (family_at families n) ≡ true
   pub apart : (f g n : ℕ) → number_of_family numbers f ≡ Some n → number_of_family numbers g ≡ Some n → f ≡ g
 
 -- the record's family is there, and shares what the record says
@@ -22,7 +29,7 @@ pub record HasHome (numbers : List (ℕ × ℕ)) (families : List (Option Shared
   pub number : ℕ
   pub number_is : number_of_family numbers r.family ≡ Some number
   pub shared : Shared
-  pub at : slice_index_or families number None ≡ Some shared
+  pub at : family_at families number ≡ Some shared
   pub agrees : AgreesWithRecord shared r
 
 -- so it is of each unexpired record
@@ -30,7 +37,11 @@ abbrev pub AllHome : List (ℕ × ℕ) → List (Option Shared) → ℕ → List
 AllHome numbers families moment [] = Unit {0}
 AllHome numbers families moment (r ∷ rs) = (is_unexpired_record moment r ≡ true → HasHome numbers families r) × AllHome numbers families moment rs
 
+-- each record whose family was there has it still
+abbrev pub HomesStay : List (ℕ × ℕ) → (old new : List (Option Shared)) → Type 0
+HomesStay numbers old new = (r : KeptRecord) → HasHome numbers old r → HasHome numbers new r
+
 -- families that were there are there, under the numbers that they had
 pub record HasGrown (numbers : List (ℕ × ℕ)) (families : List (Option Shared)) (numbers' : List (ℕ × ℕ)) (families' : List (Option Shared)) : Type 0 where
   pub numbers_stay : (f n : ℕ) → number_of_family numbers f ≡ Some n → number_of_family numbers' f ≡ Some n
-  pub families_stay : (n : ℕ) (s : Shared) → slice_index_or families n None ≡ Some s → slice_index_or families' n None ≡ Some s
+  pub families_stay : (n : ℕ) (s : Shared) → family_at families n ≡ Some s → family_at families' n ≡ Some s

@@ -75,9 +75,13 @@ nothing_shared = record { client = 0; owner = 0; code_scope = None; ended = fals
 abbrev pub or_nothing : Option Shared → Shared
 or_nothing s = unwrap_or s nothing_shared
 
+-- the family with the number
+abbrev pub family_at : List (Option Shared) → ℕ → Option Shared
+family_at families n = slice_index_or families n None
+
 -- what the family with the number shares
 abbrev pub shared_at : List (Option Shared) → ℕ → Shared
-shared_at families n = or_nothing (slice_index_or families n None)
+shared_at families n = or_nothing (family_at families n)
 
 -- THE VIEW
 
@@ -118,9 +122,13 @@ is_coded owner client (Some s) = is_some s.code_scope && (s.owner == owner) && (
 abbrev pub owner_cmp : (ℕ × ℕ) × ℕ → (ℕ × ℕ) × ℕ → Ordering
 owner_cmp x y = ordering_then (ordering_then (nat_cmp x.0.0 y.0.0) (nat_cmp x.0.1 y.0.1)) (nat_cmp x.1 y.1)
 
+-- the family is in the index
+abbrev pub has_owner : List ((ℕ × ℕ) × ℕ) → (ℕ × ℕ) × ℕ → Bool
+has_owner owners q = list_any (is_at (owner_cmp q)) owners
+
 -- the families of each owner and client are those whose code is theirs
 abbrev pub IsOwned : List (Option Shared) → List ((ℕ × ℕ) × ℕ) → Type 0
-IsOwned families owners = (q : (ℕ × ℕ) × ℕ) → list_any (is_at (owner_cmp q)) owners ≡ is_coded q.0.0 q.0.1 (slice_index_or families q.1 None)
+IsOwned families owners = (q : (ℕ × ℕ) × ℕ) → has_owner owners q ≡ is_coded q.0.0 q.0.1 (family_at families q.1)
 
 -- each family's count is that of its records, with those that are about to come: `awaited` has their families
 abbrev pub IsCounted : List (Option Shared) → List (List ℕ × Record) → List ℕ → Type 0

@@ -1,5 +1,5 @@
 -- Beside Records: only the contracts of this crate's own parts and their proofs cite this, no public clause.
-use Rattle.std.specs.Prelude.{◌≡◌, ◌≢◌, ◌+◌, ◌-◌, ◌<◌, ◌≤◌, ℕ, List, [], ◌∷◌, Bool, true, false, not, nat_lt, nat_le, ◌==◌, if◌then◌else◌, Option, Some, None, option_map, slice_index_or}
+use Rattle.std.specs.Prelude.{◌≡◌, ◌≢◌, ◌+◌, ◌-◌, ◌<◌, ◌≤◌, ℕ, List, [], ◌∷◌, ◌++◌, Bool, true, false, not, nat_lt, nat_le, ◌==◌, if◌then◌else◌, Option, Some, None, is_some, map, option_map}
 use Rattle.std.specs.List.{list_any, IsDistinct}
 use Rattle.std.specs.Str.{bytes_eq}
 use Rattle.std.specs.declared.ops.Bound.{Bound}
@@ -18,15 +18,31 @@ use Rattle.consent.specs.declared.change.CodeFacts.{CodeFacts}
 use Rattle.consent.specs.declared.change.NewToken.{NewToken}
 use Rattle.token_store.specs.Agenda.{is_deadline}
 use Rattle.token_store.specs.Kept.{Kept, kept_at, kept_unexpired}
-use Rattle.token_store.specs.Records.{terms_by, kept_under, shared_at, kept_of, all_kept, expiry_of, owner_cmp, IsCounted, IsTied}
+use Rattle.token_store.specs.Records.{terms_by, kept_under, kept_in, family_at, shared_at, kept_of, all_kept, expiry_of, owner_cmp, has_owner, code_shared, IsCounted, IsTied}
 
 abbrev pub is_live_at : ℕ → Record → Bool
 is_live_at moment r = nat_lt moment (r.moment + r.life)
+
+-- what is found under the digest, as it is seen
+abbrev pub kept_found : Tables → List ℕ → Option Record → Option Kept
+kept_found t digest found = option_map (λ r. kept_in t.families.slots (digest, r)) found
+
+-- what is kept, with the record under the digest
+abbrev pub kept_with : Tables → List ℕ → Record → List Kept
+kept_with t digest r = kept_of t ++ kept_under (shared_at t.families.slots r.family) digest r ∷ []
 
 -- From the moment on both are seen alike, though some that have expired may be gone.
 pub record TellsSame (kept kept' : List Kept) (moment : ℕ) : Type 0 where
   pub finds : (digest : List ℕ) (t : ℕ) → moment ≤ t → kept_at kept' digest t ≡ kept_at kept digest t
   pub counts : (t : ℕ) → moment ≤ t → kept_unexpired kept' t ≡ kept_unexpired kept t
+
+-- where the digest names nothing, the record is kept too
+abbrev pub KeepsToo : (old new : Tables) → List ℕ → Record → Type 0
+KeepsToo old new digest r = (moment : ℕ) → kept_at (kept_of old) digest moment ≡ None → TellsSame (kept_with old digest r) (kept_of new) moment
+
+-- the record is found under the digest, and under each other digest what was
+abbrev pub HasPut : (old new : List (List ℕ × Record)) → List ℕ → Record → Type 0
+HasPut old new digest r = (d : List ℕ) → lookup (bytes_eq d) new ≡ (if bytes_eq digest d then Some r else lookup (bytes_eq d) old)
 
 -- none has expired
 abbrev pub AllLive : List (List ℕ × Record) → ℕ → Type 0
@@ -45,28 +61,32 @@ pub record Sheds (families : List (Option Shared)) (records : List (List ℕ × 
   pub same : TellsSame (all_kept families records) (all_kept families' records') moment
   pub fewer : (digest : List ℕ) (t : ℕ) → expiry_of (lookup (bytes_eq digest) records') ≡ Some t → expiry_of (lookup (bytes_eq digest) records) ≡ Some t
 
+-- each but the family with the number is as it was
+abbrev pub OthersStay : (old new : List (Option Shared)) → ℕ → Type 0
+OthersStay old new n = (k : ℕ) → k ≢ n → family_at new k ≡ family_at old k
+
 -- so many records more are of the family
 pub record HasEntered (old new : List (Option Shared)) (n more : ℕ) : Type 0 where
-  pub here : slice_index_or new n None ≡ option_map (λ (s : Shared). record s { count = s.count + more }) (slice_index_or old n None)
-  pub others : (k : ℕ) → k ≢ n → slice_index_or new k None ≡ slice_index_or old k None
+  pub here : family_at new n ≡ option_map (λ (s : Shared). record s { count = s.count + more }) (family_at old n)
+  pub others : OthersStay old new n
 
 -- one record fewer is of the family, which goes with the last
 pub record HasLeft (old new : List (Option Shared)) (n : ℕ) : Type 0 where
-  pub gone : slice_index_or old n None ≡ None → slice_index_or new n None ≡ None
-  pub here : (s : Shared) → slice_index_or old n None ≡ Some s → slice_index_or new n None ≡
+  pub gone : family_at old n ≡ None → family_at new n ≡ None
+  pub here : (s : Shared) → family_at old n ≡ Some s → family_at new n ≡
       (if nat_le s.count 1 then None else Some (record s { count = s.count - 1 }))
-  pub others : (k : ℕ) → k ≢ n → slice_index_or new k None ≡ slice_index_or old k None
+  pub others : OthersStay old new n
 
 -- a family that was not there is there
 pub record HasOpened (old new : List (Option Shared)) (n : ℕ) (s : Shared) : Type 0 where
-  pub vacant : slice_index_or old n None ≡ None
-  pub here : slice_index_or new n None ≡ Some s
-  pub others : (k : ℕ) → k ≢ n → slice_index_or new k None ≡ slice_index_or old k None
+  pub vacant : family_at old n ≡ None
+  pub here : family_at new n ≡ Some s
+  pub others : OthersStay old new n
 
 -- a family is not there any more
 pub record HasClosed (old new : List (Option Shared)) (n : ℕ) : Type 0 where
-  pub here : slice_index_or new n None ≡ None
-  pub others : (k : ℕ) → k ≢ n → slice_index_or new k None ≡ slice_index_or old k None
+  pub here : family_at new n ≡ None
+  pub others : OthersStay old new n
 
 -- each of the family looks as it did
 abbrev pub SharesSame : List (Option Shared) → List (Option Shared) → ℕ → Type 0
@@ -92,10 +112,18 @@ marked (RecordMark.Ended family) k = if k.grant.family == family then record k {
 marked (RecordMark.Lowered owner client mask) k =
     if is_beyond (Consented owner client mask) k.terms then record k { ended = true } else k
 
+-- what is kept of all, with such a mark
+abbrev pub all_marked : RecordMark → List Kept → List Kept
+all_marked mark kept = map (marked mark) kept
+
+-- what the digest names, at whatever moment, has the mark
+abbrev pub HasSpent : (old new : List Kept) → List ℕ → Type 0
+HasSpent old new digest = (moment : ℕ) → is_some (kept_at old digest moment) ≡ true → new ≡ all_marked (RecordMark.Spent digest moment) old
+
 -- the family has the mark, if it is there
 pub record HasEnded (old new : List (Option Shared)) (n : ℕ) : Type 0 where
-  pub here : slice_index_or new n None ≡ option_map (λ (s : Shared). record s { ended = true }) (slice_index_or old n None)
-  pub others : (k : ℕ) → k ≢ n → slice_index_or new k None ≡ slice_index_or old k None
+  pub here : family_at new n ≡ option_map (λ (s : Shared). record s { ended = true }) (family_at old n)
+  pub others : OthersStay old new n
 
 -- the records, with that of the digest spent
 abbrev pub spent_in : List ℕ → List (List ℕ × Record) → Option Record → List (List ℕ × Record)
@@ -117,12 +145,16 @@ lowered_shared owner client mask s =
 
 abbrev pub HasLowered : List (Option Shared) → List (Option Shared) → ℕ → ℕ → ℕ → Type 0
 HasLowered old new owner client mask =
-    (k : ℕ) → slice_index_or new k None ≡ option_map (lowered_shared owner client mask) (slice_index_or old k None)
+    (k : ℕ) → family_at new k ≡ option_map (lowered_shared owner client mask) (family_at old k)
 
 -- the number comes after this one, if there is this one
 abbrev pub IsAfter : Option ℕ → ℕ → Type 0
 IsAfter None k = Unit {0}
 IsAfter (Some n) k = n < k
+
+-- the family is in the index too
+abbrev pub HasIndexed : (old new : List ((ℕ × ℕ) × ℕ)) → (ℕ × ℕ) × ℕ → Type 0
+HasIndexed old new family = (q : (ℕ × ℕ) × ℕ) → has_owner new q ≡ (if is_at (owner_cmp family) q then true else has_owner old q)
 
 -- where those that come after begin
 abbrev pub start_of : ℕ → ℕ → Option ℕ → Bound ((ℕ × ℕ) × ℕ)
@@ -132,10 +164,10 @@ start_of owner client (Some n) = Excluded ((owner, client), n)
 -- the number is in the index, and none between is; or none is after
 abbrev pub IsNextOwned : List ((ℕ × ℕ) × ℕ) → ℕ → ℕ → Option ℕ → Option ℕ → Type 0
 IsNextOwned owners owner client after None =
-    (k : ℕ) → IsAfter after k → list_any (is_at (owner_cmp ((owner, client), k))) owners ≡ false
+    (k : ℕ) → IsAfter after k → has_owner owners ((owner, client), k) ≡ false
 IsNextOwned owners owner client after (Some n) =
-    IsAfter after n × (list_any (is_at (owner_cmp ((owner, client), n))) owners ≡ true)
-    × ((k : ℕ) → IsAfter after k → k < n → list_any (is_at (owner_cmp ((owner, client), k))) owners ≡ false)
+    IsAfter after n × (has_owner owners ((owner, client), n) ≡ true)
+    × ((k : ℕ) → IsAfter after k → k < n → has_owner owners ((owner, client), k) ≡ false)
 
 -- no unexpired record has the number
 abbrev pub IsUnused : List Kept → ℕ → ℕ → Type 0
@@ -164,6 +196,11 @@ code_kept family digest facts moment = record {
   spent = false;
   ended = false;
 }
+
+-- the record is that of a new code, in the family with the number
+abbrev pub IsCodeRecord : ℕ → CodeFacts → ℕ → Record → Type 0
+IsCodeRecord family facts moment r =
+    (digest : List ℕ) (count : ℕ) → kept_under (code_shared facts count) digest r ≡ code_kept family digest facts moment
 
 -- where tokens are issued: a family's number and what it shares
 pub record Place : Type 0 where

@@ -1,12 +1,12 @@
 //! Changes are made.
-ghost use Rattle.std.specs.Prelude.{◌≡◌, ◌+◌, ℕ, List, [], ◌∷◌, Some, None, length};
-ghost use Rattle.consent.specs.History.{Change as told, Event, Grant, CanFollow, grant_at, with_change, with_changes};
-ghost use Rattle.consent.specs.Changes.{change_of, changes_of, as_list, code_given, token_issued, issued_with, family_ended, AllFollow};
+ghost use Rattle.std.specs.Prelude.{[]};
+ghost use Rattle.consent.specs.Changes.{as_list};
 ghost use Rattle.consent.specs.declared.change.Change.{Change};
-ghost use Rattle.token_store.specs.Fits.{FitsHistory};
+ghost use Rattle.token_store.specs.Fits.{MakesChanges};
+ghost use Rattle.token_store.specs.FitsParts.{MakesChange};
 ghost use Rattle.token_store.specs.Records.{IsTied, kept_of};
 ghost use Rattle.token_store.specs.Room.{HasRoomFor, HasSpare, room_of};
-ghost use Rattle.token_store.specs.RoomParts.{HasRoomFirst};
+ghost use Rattle.token_store.specs.RoomParts.{HasRoomFirst, KeepsRoom, LeavesRoom};
 
 use crate::record::{Record, Shared};
 use crate::tables::{Coming, Tables, renew};
@@ -18,9 +18,8 @@ impl Tables {
         requires tied { IsTied self.old [] }
         requires room { HasRoomFirst (room_of self.old) (Change.CodeGiven facts.now digest.now) }
         ensures tied { IsTied self.new [] }
-        ensures fits { (history : List Event) → FitsHistory (kept_of self.old) history moment → grant_at history digest.now moment ≡ None →
-            FitsHistory (kept_of self.new) (with_change history moment (code_given (length history) facts.now digest.now)) moment }
-        ensures room { (changes : List Change) → HasRoomFor (room_of self.old) (Change.CodeGiven facts.now digest.now ∷ changes) → HasRoomFor (room_of self.new) changes }
+        ensures makes { MakesChange (kept_of self.old) (kept_of self.new) moment (Change.CodeGiven facts.now digest.now) }
+        ensures room { LeavesRoom (room_of self.old) (room_of self.new) (Change.CodeGiven facts.now digest.now) }
     {
         let Some(coming) = self.coming.pop() else {
             unreachable!()
@@ -36,9 +35,8 @@ impl Tables {
         requires tied { IsTied self.old [] }
         requires room { HasRoomFirst (room_of self.old) (Change.IssuedAlone client token.now) }
         ensures tied { IsTied self.new [] }
-        ensures fits { (history : List Event) → FitsHistory (kept_of self.old) history moment → grant_at history token.now.digest moment ≡ None →
-            FitsHistory (kept_of self.new) (with_change history moment (token_issued (length history) client 0 token.now)) moment }
-        ensures room { (changes : List Change) → HasRoomFor (room_of self.old) (Change.IssuedAlone client token.now ∷ changes) → HasRoomFor (room_of self.new) changes }
+        ensures makes { MakesChange (kept_of self.old) (kept_of self.new) moment (Change.IssuedAlone client token.now) }
+        ensures room { LeavesRoom (room_of self.old) (room_of self.new) (Change.IssuedAlone client token.now) }
     {
         let Some(coming) = self.coming.pop() else {
             unreachable!()
@@ -55,10 +53,8 @@ impl Tables {
         requires tied { IsTied self.old [] }
         requires room { HasSpare (room_of self.old) 1 }
         ensures tied { IsTied self.new [] }
-        ensures fits { (history : List Event) (g : Grant) → FitsHistory (kept_of self.old) history moment →
-            grant_at history of.now moment ≡ Some g → grant_at history token.now.digest moment ≡ None →
-            FitsHistory (kept_of self.new) (with_change history moment (issued_with token.now g)) moment }
-        ensures room { (changes : List Change) → HasRoomFor (room_of self.old) (Change.Issued of.now token.now ∷ changes) → HasRoomFor (room_of self.new) changes }
+        ensures makes { MakesChange (kept_of self.old) (kept_of self.new) moment (Change.Issued of.now token.now) }
+        ensures room { LeavesRoom (room_of self.old) (room_of self.new) (Change.Issued of.now token.now) }
     {
         let Some(record) = self.record_at(of, moment) else {
             return;
@@ -71,9 +67,8 @@ impl Tables {
     fn spend_at(&mut self, digest: &Digest, moment: Moment)
         requires tied { IsTied self.old [] }
         ensures tied { IsTied self.new [] }
-        ensures fits { (history : List Event) → FitsHistory (kept_of self.old) history moment →
-            FitsHistory (kept_of self.new) (with_change history moment (told.Spent digest.now)) moment }
-        ensures room { (changes : List Change) → HasRoomFor (room_of self.old) changes → HasRoomFor (room_of self.new) changes }
+        ensures makes { MakesChange (kept_of self.old) (kept_of self.new) moment (Change.Spent digest.now) }
+        ensures room { KeepsRoom (room_of self.old) (room_of self.new) }
     {
         if self.record_at(digest, moment).is_some() {
             self.spend(digest);
@@ -84,9 +79,8 @@ impl Tables {
     fn end_at(&mut self, of: &Digest, moment: Moment)
         requires tied { IsTied self.old [] }
         ensures tied { IsTied self.new [] }
-        ensures fits { (history : List Event) (g : Grant) → FitsHistory (kept_of self.old) history moment → grant_at history of.now moment ≡ Some g →
-            FitsHistory (kept_of self.new) (with_change history moment (family_ended g)) moment }
-        ensures room { (changes : List Change) → HasRoomFor (room_of self.old) changes → HasRoomFor (room_of self.new) changes }
+        ensures makes { MakesChange (kept_of self.old) (kept_of self.new) moment (Change.FamilyEnded of.now) }
+        ensures room { KeepsRoom (room_of self.old) (room_of self.new) }
     {
         let Some(record) = self.record_at(of, moment) else {
             return;
@@ -100,10 +94,8 @@ impl Tables {
         requires tied { IsTied self.old [] }
         requires room { HasRoomFirst (room_of self.old) change.now }
         ensures tied { IsTied self.new [] }
-        ensures fits { (history : List Event) (next : told) → FitsHistory (kept_of self.old) history moment →
-            change_of history moment change.now ≡ Some next → CanFollow history moment next →
-            FitsHistory (kept_of self.new) (with_change history moment next) moment }
-        ensures room { (changes : List Change) → HasRoomFor (room_of self.old) (change.now ∷ changes) → HasRoomFor (room_of self.new) changes }
+        ensures makes { MakesChange (kept_of self.old) (kept_of self.new) moment change.now }
+        ensures room { LeavesRoom (room_of self.old) (room_of self.new) change.now }
     {
         match change {
             Change::Consented {
@@ -126,9 +118,7 @@ impl Tables {
         requires tied { IsTied self.old [] }
         requires room { HasRoomFor (room_of self.old) (as_list changes.now) }
         ensures tied { IsTied self.new [] }
-        ensures fits { (history : List Event) (next : List told) → FitsHistory (kept_of self.old) history moment →
-            changes_of history moment (as_list changes.now) ≡ Some next → AllFollow history moment next →
-            FitsHistory (kept_of self.new) (with_changes history moment next) moment }
+        ensures makes { MakesChanges (kept_of self.old) (kept_of self.new) moment (as_list changes.now) }
     {
         match changes {
             Changes::Nothing => {}

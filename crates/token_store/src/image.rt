@@ -2,7 +2,7 @@
 
 ghost use Rattle.std.specs.Prelude.{◌≡◌, ◌+◌, ℕ, true, false, IfOk};
 ghost use Rattle.token_store.specs.Image.{kept_record};
-ghost use Rattle.token_store.specs.ImageParts.{AgreesWithRecord, is_unexpired_record, renumbered_to, shared_of};
+ghost use Rattle.token_store.specs.ImageParts.{AgreesWithRecord, is_unexpired_record, shared_of, IsRecordOf};
 ghost use Rattle.token_store.specs.Records.{kept_under};
 
 use crate::record::{CodeTexts, Given, Record, Shared};
@@ -72,8 +72,7 @@ impl KeptRecord<'_> {
 
     // The record in the family with the number.
     pub(crate) fn record(&self, alloc: Global, number: usize) -> Result<Record, AllocError>
-        ensures kept { IfOk result (λ r. (s : Shared) → AgreesWithRecord s self.now →
-            kept_under s self.now.digest r ≡ renumbered_to number (kept_record self.now)) }
+        ensures kept { IfOk result (IsRecordOf self.now number) }
         ensures family { IfOk result (λ r. r.family ≡ number) }
     {
         let given = match self.kind {

@@ -2,7 +2,7 @@
 ghost use Rattle.std.specs.Prelude.{◌≡◌, ◌+◌, ℕ, List, IfOk};
 ghost use Rattle.token_store.specs.Found.{found_seen, kept_seen};
 ghost use Rattle.token_store.specs.Records.{kept_under, code_shared, own_shared, texts_seen, texts_given};
-ghost use Rattle.token_store.specs.RecordsParts.{is_live_at, family_place, code_kept, token_kept, owner_no};
+ghost use Rattle.token_store.specs.RecordsParts.{is_live_at, family_place, IsCodeRecord, token_kept, owner_no};
 
 use crate::found::Found;
 use consent::{
@@ -150,8 +150,7 @@ impl Record {
         number: usize,
     ) -> Record
         requires { texts_seen texts ≡ texts_given facts.now }
-        ensures kept { (digest : List ℕ) (count : ℕ) →
-            kept_under (code_shared facts.now count) digest result ≡ code_kept number digest facts.now moment }
+        ensures kept { IsCodeRecord number facts.now moment result }
         ensures family { result.family ≡ number }
     {
         Record {

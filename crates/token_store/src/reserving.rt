@@ -1,11 +1,10 @@
 //! Room for changes.
-ghost use Rattle.std.specs.Prelude.{◌≡◌, ◌+◌, ℕ, List, [], ◌∷◌, OnOk, option_map};
+ghost use Rattle.std.specs.Prelude.{◌≡◌, ◌+◌, ℕ, [], OnOk, option_map};
 ghost use Rattle.consent.specs.Changes.{as_list};
-ghost use Rattle.consent.specs.declared.change.Change.{Change};
 ghost use Rattle.token_store.specs.Records.{IsTied, kept_of, texts_seen};
 ghost use Rattle.token_store.specs.RecordsParts.{TellsSame};
 ghost use Rattle.token_store.specs.Room.{records_by, records_of, AreReady, HasRoomFor, room_of};
-ghost use Rattle.token_store.specs.RoomParts.{Expects};
+ghost use Rattle.token_store.specs.RoomParts.{ExpectsNext, MakesReady};
 
 use crate::record::{CodeTexts, Shared};
 use crate::tables::{Coming, Tables};
@@ -59,8 +58,7 @@ impl Tables {
         ensures same { kept_of self.new ≡ kept_of self.old }
         ensures records { self.new.records ≡ self.old.records }
         ensures agenda { self.new.agenda ≡ self.old.agenda }
-        ensures next { OnOk result ((changes : List Change) → AreReady self.old.families.slots (room_of self.old).coming changes →
-            Expects (room_of self.old) (room_of self.new) shared (option_map texts_seen texts) changes) }
+        ensures next { OnOk result (ExpectsNext (room_of self.old) (room_of self.new) shared (option_map texts_seen texts)) }
     {
         self.coming.reserve(1)?;
         let number = self.open_family(shared)?;
@@ -77,8 +75,7 @@ impl Tables {
         ensures same { kept_of self.new ≡ kept_of self.old }
         ensures records { self.new.records ≡ self.old.records }
         ensures agenda { self.new.agenda ≡ self.old.agenda }
-        ensures ready { OnOk result ((changes : List Change) → AreReady self.old.families.slots (room_of self.old).coming changes →
-            AreReady self.new.families.slots (room_of self.new).coming (change.now ∷ changes)) }
+        ensures ready { OnOk result (MakesReady (room_of self.old) (room_of self.new) change.now) }
     {
         match change {
             Change::CodeGiven { facts, .. } => {

@@ -1,15 +1,15 @@
 //! A store's records as a list, and tables made of such a list.
-ghost use Rattle.std.specs.Prelude.{◌≡◌, filter, ◌+◌, ◌<◌, ◌^◌, ◌⊎◌, ℕ, List, [], ◌∷◌, ◌++◌, None, Some, true, length, map, is_some, if◌then◌else◌, slice_index_or, IfOk, OnOk, IsErrOf};
+ghost use Rattle.std.specs.Prelude.{◌≡◌, filter, ◌<◌, ℕ, [], ◌∷◌, ◌++◌, None, true, is_some, IfOk, OnOk, IsErrOf};
 ghost use Rattle.std.specs.Str.{bytes_eq};
 ghost use Rattle.std.specs.Map.{lookup};
 ghost use Rattle.consent.specs.Limits.{record_limit};
-ghost use Rattle.consent.specs.History.{is_named, is_unexpired};
+ghost use Rattle.consent.specs.History.{is_unexpired};
 ghost use Rattle.token_store.specs.Kept.{kept_unexpired};
-ghost use Rattle.token_store.specs.Records.{kept_under, kept_of, shared_at, IsTied};
-ghost use Rattle.token_store.specs.RecordsParts.{HasEntered, TellsSame};
-ghost use Rattle.token_store.specs.Image.{as_kept, HasDigestTwice, kept_record};
-ghost use Rattle.token_store.specs.ImageParts.{IsRestored, is_unexpired_record, renumbered};
-ghost use Rattle.token_store.specs.Homes.{AreHomes, HasHome, AllHome, HasGrown, renumber_by};
+ghost use Rattle.token_store.specs.Records.{family_at, kept_of, IsTied};
+ghost use Rattle.token_store.specs.RecordsParts.{kept_with, HasEntered, HasPut, TellsSame};
+ghost use Rattle.token_store.specs.Image.{as_kept, HasDigestTwice};
+ghost use Rattle.token_store.specs.ImageParts.{FindsAtMost, IsOneTooMany, IsRestored, IsSecond, is_unexpired_record};
+ghost use Rattle.token_store.specs.Homes.{AreHomes, HasHome, AllHome, HasGrown, HomesStay, as_numbered};
 
 use crate::image::KeptRecord;
 use crate::record::Record;
@@ -35,14 +35,12 @@ impl Tables {
     // Keeps a record under a digest that nothing is kept under.
     fn put_new(&mut self, alloc: Global, digest: &Digest, new: Record) -> Result<(), AllocError>
         requires tied { IsTied self.old [] }
-        requires open { is_some (slice_index_or self.old.families.slots new.family None) ≡ true }
+        requires open { is_some (family_at self.old.families.slots new.family) ≡ true }
         requires absent { lookup (bytes_eq digest.now) self.old.records.entries ≡ None }
         ensures tied { OnOk result (IsTied self.new []) }
-        ensures tells { OnOk result ((moment : ℕ) → TellsSame
-            (kept_of self.old ++ kept_under (shared_at self.old.families.slots new.family) digest.now new ∷ []) (kept_of self.new) moment) }
+        ensures tells { OnOk result ((moment : ℕ) → TellsSame (kept_with self.old digest.now new) (kept_of self.new) moment) }
         ensures entered { OnOk result (HasEntered self.old.families.slots self.new.families.slots new.family 1) }
-        ensures found { OnOk result ((d : List ℕ) → lookup (bytes_eq d) self.new.records.entries
-            ≡ (if bytes_eq digest.now d then Some new else lookup (bytes_eq d) self.old.records.entries)) }
+        ensures found { OnOk result (HasPut self.old.records.entries self.new.records.entries digest.now new) }
     {
         // There are fewer than 2^63, and so there are of the family.
         let _ = self.records.len();
@@ -129,14 +127,11 @@ impl Tables {
         requires tied { IsTied self.old [] }
         requires home { is_unexpired_record moment kept.now ≡ true → HasHome numbers.now.entries self.old.families.slots kept.now }
         ensures tied { OnOk result (IsTied self.new []) }
-        ensures tells { OnOk result (TellsSame (kept_of self.old ++ renumbered (renumber_by numbers.now.entries) (kept_record kept.now) ∷ []) (kept_of self.new) moment) }
-        ensures homes { OnOk result ((r : KeptRecord) → HasHome numbers.now.entries self.old.families.slots r → HasHome numbers.now.entries self.new.families.slots r) }
-        ensures found { OnOk result ((d : List ℕ) → is_some (lookup (bytes_eq d) self.new.records.entries) ≡ true →
-            (is_some (lookup (bytes_eq d) self.old.records.entries) ≡ true) ⊎ (is_named d moment (kept_record kept.now).grant ≡ true)) }
-        ensures full { IsErrOf result RestoreFault.Full →
-            (is_unexpired_record moment kept.now ≡ true) × (record_limit < kept_unexpired (kept_of self.old) moment + 1) }
-        ensures twice { IsErrOf result RestoreFault.DigestTwice →
-            (is_unexpired_record moment kept.now ≡ true) × (is_some (lookup (bytes_eq kept.now.digest) self.old.records.entries) ≡ true) }
+        ensures tells { OnOk result (TellsSame (kept_of self.old ++ as_numbered numbers.now.entries (kept.now ∷ [])) (kept_of self.new) moment) }
+        ensures homes { OnOk result (HomesStay numbers.now.entries self.old.families.slots self.new.families.slots) }
+        ensures found { OnOk result (FindsAtMost self.old.records.entries self.new.records.entries moment kept.now) }
+        ensures full { IsErrOf result RestoreFault.Full → IsOneTooMany (kept_of self.old) moment kept.now }
+        ensures twice { IsErrOf result RestoreFault.DigestTwice → IsSecond self.old.records.entries moment kept.now }
     {
         if !kept.is_unexpired(moment) {
             return Ok(());
@@ -171,7 +166,7 @@ impl Tables {
         requires empty { self.old.records.entries ≡ [] }
         requires all { AllHome numbers.now.entries self.old.families.slots moment records.now }
         ensures tied { OnOk result (IsTied self.new []) }
-        ensures tells { OnOk result (TellsSame (map (renumbered (renumber_by numbers.now.entries)) (as_kept records.now)) (kept_of self.new) moment) }
+        ensures tells { OnOk result (TellsSame (as_numbered numbers.now.entries records.now) (kept_of self.new) moment) }
         ensures full { IsErrOf result RestoreFault.Full → record_limit < kept_unexpired (as_kept records.now) moment }
         ensures twice { IsErrOf result RestoreFault.DigestTwice → HasDigestTwice (as_kept records.now) moment }
     {

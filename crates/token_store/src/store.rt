@@ -1,8 +1,8 @@
 //! The store of codes and tokens.
-ghost use Rattle.std.specs.Prelude.{◌≡◌, ◌<◌, ℕ, List, [], Some, length, option_map, OnOk, IfOk, IsErrOf};
+ghost use Rattle.std.specs.Prelude.{◌≡◌, ◌<◌, ℕ, List, [], length, option_map, OnOk, IfOk, IsErrOf};
 ghost use Rattle.consent.specs.Limits.{record_limit};
-ghost use Rattle.consent.specs.History.{Event, Change, unexpired_count, with_changes};
-ghost use Rattle.consent.specs.Changes.{changes_of, as_list, AllFollow};
+ghost use Rattle.consent.specs.History.{Event, unexpired_count};
+ghost use Rattle.consent.specs.Changes.{as_list};
 ghost use Rattle.consent.specs.Seen.{seen_at};
 
 use crate::fault::StoreFault;
@@ -35,7 +35,7 @@ impl Model for Store {
 }
 
 impl Store {
-    ghost use Rattle.token_store.specs.Fits.{FitsHistory, FitsStore, refusal};
+    ghost use Rattle.token_store.specs.Fits.{FitsHistory, FitsStore, ForEachHistory, MakesChanges, refusal};
     ghost use Rattle.token_store.specs.Image.{as_kept, HasDigestTwice};
     ghost use Rattle.token_store.specs.Kept.{kept_unexpired};
     ghost use Rattle.token_store.specs.Found.{found_seen};
@@ -53,8 +53,7 @@ impl Store {
 
     /// The unexpired codes and tokens, of which a store can be made again.
     pub fn records(&self, alloc: Global, moment: Moment) -> Result<Vec<KeptRecord<'_>>, AllocError>
-        ensures { IfOk result (λ records. (history : List Event) → FitsStore self.now history moment →
-            FitsHistory (as_kept records.items) history moment) }
+        ensures { IfOk result (λ list. ForEachHistory self.now.kept moment (λ history. FitsHistory (as_kept list.items) history moment)) }
     {
         self.tables.kept_records(alloc, moment)
     }
@@ -66,8 +65,7 @@ impl Store {
         records: &[KeptRecord<'_>],
         moment: Moment,
     ) -> Result<Self, RestoreFault>
-        ensures fits { IfOk result (λ store. (history : List Event) → FitsHistory (as_kept records.now) history moment →
-            FitsStore store history moment) }
+        ensures fits { IfOk result (λ store. ForEachHistory (as_kept records.now) moment (λ history. FitsStore store history moment)) }
         ensures full { IsErrOf result RestoreFault.Full → record_limit < kept_unexpired (as_kept records.now) moment }
         ensures twice { IsErrOf result RestoreFault.DigestTwice → HasDigestTwice (as_kept records.now) moment }
     {
@@ -80,8 +78,7 @@ impl Store {
 
     /// What the digest names, if it is unexpired.
     pub fn at(&self, digest: &Digest, moment: Moment) -> Option<Found<'_>>
-        ensures { (history : List Event) → FitsStore self.now history moment →
-            option_map found_seen result ≡ seen_at history digest.now moment }
+        ensures { ForEachHistory self.now.kept moment (λ history. option_map found_seen result ≡ seen_at history digest.now moment) }
     {
         let (record, shared) = self.tables.at(digest, moment)?;
         Some(record.found(shared))
@@ -89,8 +86,7 @@ impl Store {
 
     /// Why codes or tokens of these digests may not be given. Full comes before DrawTaken.
     pub fn refusal(&self, digests: &[Digest], moment: Moment) -> Option<StoreFault>
-        ensures { (history : List Event) → FitsStore self.now history moment →
-            result ≡ refusal history moment digests.now }
+        ensures { ForEachHistory self.now.kept moment (λ history. result ≡ refusal history moment digests.now) }
     {
         self.tables.refusal(digests, moment)
     }
@@ -106,19 +102,16 @@ impl Store {
     /// Makes the changes, which room was made for.
     pub fn apply(&mut self, changes: &Changes<'_>, moment: Moment)
         requires { HasRoom self.old (as_list changes.now) }
-        ensures { (history : List Event) (next : List Change) → FitsStore self.old history moment →
-            changes_of history moment (as_list changes.now) ≡ Some next → AllFollow history moment next →
-            FitsStore self.new (with_changes history moment next) moment }
+        ensures { MakesChanges self.old.kept self.new.kept moment (as_list changes.now) }
     {
         self.tables.apply(changes, moment);
     }
 
     /// Lets go of what has expired, which changes no answer.
     pub fn drop_expired(&mut self, moment: Moment)
-        ensures fits { (history : List Event) → FitsStore self.old history moment → FitsStore self.new history moment }
+        ensures fits { ForEachHistory self.old.kept moment (λ history. FitsStore self.new history moment) }
         // Spent ones and those of ended families are unexpired too.
-        ensures kept { (history : List Event) → FitsStore self.old history moment →
-            length self.new.kept ≡ unexpired_count history moment }
+        ensures kept { ForEachHistory self.old.kept moment (λ history. length self.new.kept ≡ unexpired_count history moment) }
     {
         self.tables.drop_expired(moment);
     }

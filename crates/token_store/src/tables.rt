@@ -1,18 +1,15 @@
 //! The tables: records by digest, the families, and those of each owner and client.
-ghost use Rattle.std.specs.Prelude.{◌≡◌, ◌≢◌, ◌+◌, ◌<◌, ◌≤◌, ◌^◌, ℕ, List, [], ◌∷◌, ◌++◌, None, Some, true, false, not, nat_le, nat_lt, if◌then◌else◌, length, count_by, map, is_some, option_map, option_copied, slice_index_or, IfOk, OnOk, OnErr};
+ghost use Rattle.std.specs.Prelude.{◌≡◌, ◌≢◌, ◌+◌, ◌<◌, ◌≤◌, ◌^◌, ℕ, [], ◌∷◌, None, Some, true, false, not, nat_lt, length, count_by, is_some, option_map, option_copied, IfOk, OnOk, OnErr};
 ghost use Rattle.std.specs.List.{list_any, IsDistinct};
 ghost use Rattle.std.specs.Str.{bytes_eq};
 ghost use Rattle.std.specs.Map.{lookup, keys_of, values_of};
-ghost use Rattle.std.specs.BTreeMap.{is_at};
 ghost use Rattle.std.specs.HashMap.{spare};
-ghost use Rattle.consent.specs.Limits.{record_limit};
-ghost use Rattle.consent.specs.History.{are_taken};
-ghost use Rattle.consent.specs.declared.change.Change.{Change};
 ghost use Rattle.token_store.specs.Kept.{kept_at, kept_unexpired};
-ghost use Rattle.token_store.specs.Fits.{refusal_by};
-ghost use Rattle.token_store.specs.Room.{Waits, HasSpare, HasRoomFor, room_of};
-ghost use Rattle.token_store.specs.Records.{kept_under, kept_of, kept_in, shared_at, IsCounted, IsOwned, owner_cmp, IsTied};
-ghost use Rattle.token_store.specs.RecordsParts.{is_live_at, IsNextOwned, start_of, HasEntered, HasLeft, HasEnded, HasOpened, HasClosed, HasLowered, lowered_by, TellsSame, AllLive, SharesSame, ForgetsExpired, RecordMark, marked, spent_in};
+ghost use Rattle.token_store.specs.FitsParts.{are_kept, has_kept_room, kept_refusal};
+ghost use Rattle.token_store.specs.Room.{HasSpare, room_of};
+ghost use Rattle.token_store.specs.RoomParts.{KeepsRoom, WaitsStill};
+ghost use Rattle.token_store.specs.Records.{family_at, kept_under, kept_of, shared_at, IsCounted, IsOwned, IsTied};
+ghost use Rattle.token_store.specs.RecordsParts.{is_live_at, IsNextOwned, start_of, kept_found, HasEntered, HasLeft, HasEnded, HasIndexed, HasOpened, HasLowered, HasSpent, lowered_by, AllLive, ForgetsExpired, KeepsToo, OthersStay, RecordMark, all_marked, spent_in};
 
 use crate::agenda::Agenda;
 use crate::fault::StoreFault;
@@ -71,8 +68,7 @@ impl Tables {
     #[tactic(auto, using(crate::proofs::Looking::found))]
     pub(crate) fn record_at(&self, digest: &Digest, moment: Moment) -> Option<&Record>
         requires { IsDistinct bytes_eq (keys_of self.now.records.entries) }
-        ensures { option_map (λ r. kept_in self.now.families.slots (digest.now, r)) (option_copied result)
-            ≡ kept_at (kept_of self.now) digest.now moment }
+        ensures { kept_found self.now digest.now (option_copied result) ≡ kept_at (kept_of self.now) digest.now moment }
     {
         let record = self.records.get(digest)?;
         if !record.is_unexpired(moment) {
@@ -114,7 +110,7 @@ impl Tables {
     /// So many more would be one too many.
     pub(crate) fn is_full(&self, more: usize, moment: Moment) -> bool
         requires { IsTied self.now [] }
-        ensures { result ≡ not (nat_le (kept_unexpired (kept_of self.now) moment + more) record_limit) }
+        ensures { result ≡ not (has_kept_room (kept_of self.now) moment more) }
     {
         if more > RECORD_LIMIT {
             return true;
@@ -126,7 +122,7 @@ impl Tables {
     // One of the digests is that of an unexpired record, or of another of them.
     fn is_taken(&self, digests: &[Digest], moment: Moment) -> bool
         requires { IsDistinct bytes_eq (keys_of self.now.records.entries) }
-        ensures { result ≡ are_taken (λ d. is_some (kept_at (kept_of self.now) d moment)) digests.now }
+        ensures { result ≡ are_kept (kept_of self.now) moment digests.now }
     {
         let [digest, others @ ..] = digests else {
             return false;
@@ -143,8 +139,7 @@ impl Tables {
     /// Why codes or tokens of these digests may not be given.
     pub(crate) fn refusal(&self, digests: &[Digest], moment: Moment) -> Option<StoreFault>
         requires { IsTied self.now [] }
-        ensures { result ≡ refusal_by (nat_le (kept_unexpired (kept_of self.now) moment + length digests.now) record_limit)
-            (are_taken (λ d. is_some (kept_at (kept_of self.now) d moment)) digests.now) }
+        ensures { result ≡ kept_refusal (kept_of self.now) moment digests.now }
     {
         if self.is_full(digests.len(), moment) {
             return Some(StoreFault::Full);
@@ -161,8 +156,8 @@ impl Tables {
     pub(crate) fn end(&mut self, number: usize)
         requires { IsTied self.old [] }
         ensures tied { IsTied self.new [] }
-        ensures marked { kept_of self.new ≡ map (marked (RecordMark.Ended number)) (kept_of self.old) }
-        ensures room { (changes : List Change) → HasRoomFor (room_of self.old) changes → HasRoomFor (room_of self.new) changes }
+        ensures marked { kept_of self.new ≡ all_marked (RecordMark.Ended number) (kept_of self.old) }
+        ensures room { KeepsRoom (room_of self.old) (room_of self.new) }
     {
         end_one(&mut self.families, number);
     }
@@ -171,8 +166,8 @@ impl Tables {
     pub(crate) fn lower(&mut self, owner: OwnerNo, client: ClientNo, mask: ScopeSet)
         requires { IsTied self.old [] }
         ensures tied { IsTied self.new [] }
-        ensures marked { kept_of self.new ≡ map (marked (RecordMark.Lowered owner client mask)) (kept_of self.old) }
-        ensures room { (changes : List Change) → HasRoomFor (room_of self.old) changes → HasRoomFor (room_of self.new) changes }
+        ensures marked { kept_of self.new ≡ all_marked (RecordMark.Lowered owner client mask) (kept_of self.old) }
+        ensures room { KeepsRoom (room_of self.old) (room_of self.new) }
     {
         lower_all(
             &mut self.families,
@@ -187,8 +182,7 @@ impl Tables {
     pub(crate) fn spend(&mut self, digest: &Digest)
         requires { IsTied self.old [] }
         ensures tied { IsTied self.new [] }
-        ensures marked { (moment : ℕ) → is_some (kept_at (kept_of self.old) digest.now moment) ≡ true →
-            kept_of self.new ≡ map (marked (RecordMark.Spent digest.now moment)) (kept_of self.old) }
+        ensures marked { HasSpent (kept_of self.old) (kept_of self.new) digest.now }
         ensures room { room_of self.new ≡ room_of self.old }
     {
         spend_one(&mut self.records, digest);
@@ -246,7 +240,7 @@ impl Tables {
     // Lets go of what has expired under the digest of a record that is about to come.
     fn forget(&mut self, digest: &Digest)
         ensures forgotten { (n : ℕ) → IsTied self.old (n ∷ []) → ForgetsExpired self.old self.new digest.now n }
-        ensures waiting { (n k : ℕ) (s : Shared) → IsTied self.old (k ∷ []) → Waits self.old.families.slots n s → Waits self.new.families.slots n s }
+        ensures waiting { (n k : ℕ) → IsTied self.old (k ∷ []) → WaitsStill self.old.families.slots self.new.families.slots n }
         ensures spare { spare self.old.records ≤ spare self.new.records }
         ensures agenda { self.new.agenda ≡ self.old.agenda }
         ensures coming { self.new.coming ≡ self.old.coming }
@@ -259,13 +253,12 @@ impl Tables {
     /// Keeps the record in its family.
     pub(crate) fn put(&mut self, digest: &Digest, new: Record)
         requires tied { IsTied self.old [] }
-        requires open { is_some (slice_index_or self.old.families.slots new.family None) ≡ true }
+        requires open { is_some (family_at self.old.families.slots new.family) ≡ true }
         requires room { HasSpare (room_of self.old) 1 }
         ensures tied { IsTied self.new [] }
-        ensures tells { (moment : ℕ) → kept_at (kept_of self.old) digest.now moment ≡ None →
-            TellsSame (kept_of self.old ++ kept_under (shared_at self.old.families.slots new.family) digest.now new ∷ []) (kept_of self.new) moment }
+        ensures keeps { KeepsToo self.old self.new digest.now new }
         ensures room { (n : ℕ) → HasSpare (room_of self.old) (n + 1) → HasSpare (room_of self.new) n }
-        ensures waiting { (n : ℕ) (s : Shared) → n ≢ new.family → Waits self.old.families.slots n s → Waits self.new.families.slots n s }
+        ensures waiting { (n : ℕ) → n ≢ new.family → WaitsStill self.old.families.slots self.new.families.slots n }
         ensures coming { self.new.coming ≡ self.old.coming }
     {
         // There are fewer than 2^63, and so there are of the family.
@@ -286,8 +279,7 @@ fn add_owner(
     parties: (u32, u32),
     number: usize,
 ) -> Result<(), AllocError>
-    ensures coded { OnOk result (is_some code_scope ≡ true → (q : (ℕ × ℕ) × ℕ) → list_any (is_at (owner_cmp q)) owners.new.keys
-        ≡ (if is_at (owner_cmp (parties, number)) q then true else list_any (is_at (owner_cmp q)) owners.old.keys)) }
+    ensures coded { OnOk result (is_some code_scope ≡ true → HasIndexed owners.old.keys owners.new.keys (parties, number)) }
     ensures uncoded { OnOk result (is_some code_scope ≡ false → owners.new.keys ≡ owners.old.keys) }
     ensures err { OnErr result (owners.new.keys ≡ owners.old.keys) }
 {
@@ -310,8 +302,8 @@ pub(crate) fn enter(families: &mut Slab<Shared>, number: usize, more: usize)
 
 // The family, which has no records, is as it is given.
 pub(crate) fn renew(families: &mut Slab<Shared>, number: usize, shared: Shared)
-    ensures here { is_some (slice_index_or families.old.slots number None) ≡ true → slice_index_or families.new.slots number None ≡ Some shared }
-    ensures others { (k : ℕ) → k ≢ number → slice_index_or families.new.slots k None ≡ slice_index_or families.old.slots k None }
+    ensures here { is_some (family_at families.old.slots number) ≡ true → family_at families.new.slots number ≡ Some shared }
+    ensures others { OthersStay families.old.slots families.new.slots number }
 {
     if let Some(found) = families.get_mut(number) {
         *found = shared;
@@ -368,8 +360,8 @@ fn start_of(owner: u32, client: u32, after: Option<usize>) -> Bound<((u32, u32),
 }
 
 fn lower_one(families: &mut Slab<Shared>, number: usize, mask: ScopeSet)
-    ensures lowered { slice_index_or families.new.slots number None ≡ option_map (lowered_by mask) (slice_index_or families.old.slots number None) }
-    ensures others { (k : ℕ) → k ≢ number → slice_index_or families.new.slots k None ≡ slice_index_or families.old.slots k None }
+    ensures lowered { family_at families.new.slots number ≡ option_map (lowered_by mask) (family_at families.old.slots number) }
+    ensures others { OthersStay families.old.slots families.new.slots number }
 {
     if let Some(shared) = families.get_mut(number) {
         if let Some(scope) = shared.code_scope {

@@ -12,6 +12,6 @@ returns-in-Some-clause-forgotten c = λ n tied.
     (c.leave.ensures.owned tied.owned) refl removed.updates.1
 
 pub returns-in-Some-clause-waiting : goal.returns-in-Some-clause-waiting
-returns-in-Some-clause-waiting c = λ n k s tied waits.
+returns-in-Some-clause-waiting c = λ n k tied s waits.
     let t = c.args.self.now in
     waits_left t.families.slots c.leave.new.families.slots t.records.entries (k ∷ []) c.args.digest.now c.in-Some.old n s tied.counted (sym c.remove.ensures.value ∙ c.in-Some.is) c.leave.ensures.left waits

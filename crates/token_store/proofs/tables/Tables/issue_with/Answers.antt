@@ -2,7 +2,7 @@ use Rattle.std.proofs.Common.{◌≡◌, ◌∙◌, ◌++◌, ◌∷◌, [], ap,
 use Rattle.std.specs.Prelude.{option_map, is_some}
 use Rattle.std.specs.Option.{option_copied}
 use Rattle.consent.specs.Changes.{issued_with}
-use Rattle.consent.specs.History.{with_change}
+use Rattle.consent.specs.History.{with_change, grant_at}
 use Rattle.token_store.specs.Kept.{Kept, kept_at}
 use Rattle.token_store.specs.Room.{records_of}
 use Rattle.token_store.specs.Records.{shared_at, kept_of, kept_under, kept_in}
@@ -12,7 +12,7 @@ use Rattle.token_store.proofs.Issuing.{fits_joined}
 use Rattle.token_store.proofs.Telling.{fits_same}
 use Rattle.token_store.proofs.Dropping.{kept_slot}
 use Rattle.token_store.proofs.Waiting.{ready_all}
-use Rattle.token_store.proofs.Changing.{tells_put, family_found, kept_has_family, kept_counted, not_waiting}
+use Rattle.token_store.proofs.Changing.{tells_put, family_found, kept_has_family, kept_counted, not_waiting, means_so, named_by}
 use Rattle.token_store.proofs.tables.Tables.issue_with.Goals as goal
 
 pub put-requires-clause-open : goal.put-requires-clause-open
@@ -24,8 +24,13 @@ put-requires-clause-open c =
     let slot = kept_slot t.families.slots t.records.entries [] d c.args.moment k c.requires.tied.once c.requires.tied.counted kept in
     rw c.of_token.ensures.family (ap is_some slot.is)
 
-pub returns-clause-fits : goal.returns-clause-fits
-returns-clause-fits c = λ history g fits at none.
+pub returns-clause-makes : goal.returns-clause-makes
+returns-clause-makes c = λ history next fits means follows.
+    let named = named_by (grant_at history c.args.of.now c.args.moment) (issued_with c.args.token.now) next means in
+    means_so (kept_of c.put.new.self) history c.args.moment _ next named.is follows (λ can.
+    let g = named.grant in
+    let at = named.at in
+    let none = can.1 in
     let t = c.args.self.now in
     let d = c.args.of.now in
     let m = c.args.moment in
@@ -38,13 +43,13 @@ returns-clause-fits c = λ history g fits at none.
     let is : kept_under (shared_at t.families.slots r.family) token.digest r ≡ x =
     ap (λ i. kept_under (shared_at t.families.slots i) token.digest r) c.of_token.ensures.family ∙ c.of_token.ensures.kept (shared_at t.families.slots n) in
     let tells = tells_put (kept_of t) (kept_of t) (kept_under (shared_at t.families.slots r.family) token.digest r) x (kept_of c.put.new.self) m refl is
-    (c.put.ensures.tells m (unkept (kept_of t) history fits.number m token.digest fits.fits none)) in
+    (c.put.ensures.keeps m (unkept (kept_of t) history fits.number m token.digest fits.fits none)) in
     record {
       number = fits.number;
       fits = fits_same (kept_of t ++ x ∷ []) c.put.new.self (with_change history m (issued_with token g)) m fits.number c.put.ensures.tied tells
           (fits_joined t.families.slots t.records.entries history fits.number m n g token (kept_has_family (kept_of t) d m k kept)
           (record { digest = d; is_named = at; number_is = family_found (kept_of t) history fits.number m d g k fits.fits kept at }) none fits.fits);
-    }
+    })
 
 pub returns-clause-room : goal.returns-clause-room
 returns-clause-room c = λ changes has.
@@ -56,5 +61,5 @@ returns-clause-room c = λ changes has.
     record {
       spare = c.put.ensures.room (records_of changes) (record { records = (let le = has.spare.records in omega (arith, le)) });
       ready = rw c.put.ensures.coming (ready_all t.families.slots c.put.new.self.families.slots _ changes
-          (λ i x waits. c.put.ensures.waiting i x (λ e. not_waiting t.families.slots k.grant.family i x some waits (e ∙ c.of_token.ensures.family)) waits) has.ready);
+          (λ i x waits. c.put.ensures.waiting i (λ e. not_waiting t.families.slots k.grant.family i x some waits (e ∙ c.of_token.ensures.family)) x waits) has.ready);
     }

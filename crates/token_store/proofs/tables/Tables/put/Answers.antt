@@ -36,8 +36,8 @@ returns-clause-tied c =
       owned = forgets.tied.owned;
     }
 
-pub returns-clause-tells : goal.returns-clause-tells
-returns-clause-tells c = λ m none.
+pub returns-clause-keeps : goal.returns-clause-keeps
+returns-clause-keeps c = λ m none.
     let t = c.args.self.now in
     let d = c.args.digest.now in
     let r = c.args.new in
@@ -58,8 +58,8 @@ returns-clause-tells c = λ m none.
     rw (← shares r.family d r, ← forgets.shares d r) (same_on _ _ _ m first more)
 
 pub returns-clause-waiting : goal.returns-clause-waiting
-returns-clause-waiting c = λ n s other waits.
+returns-clause-waiting c = λ n other s waits.
     let t = c.args.self.now in
     let r = c.args.new in
     let tied = tied_awaiting t.families.slots c.enter.new.families.slots t.records.entries t.agenda t.owners.keys r.family c.requires.tied c.enter.ensures.entered c.requires.open in
-    c.forget.ensures.waiting n r.family s tied (waits_other t.families.slots c.enter.new.families.slots n s (c.enter.ensures.entered.others n other) waits)
+    c.forget.ensures.waiting n r.family tied s (waits_other t.families.slots c.enter.new.families.slots n s (c.enter.ensures.entered.others n other) waits)
