@@ -1,5 +1,5 @@
 -- The families of records that a store is made of, under the store's numbers.
-use Rattle.std.specs.Prelude.{◌≡◌, ℕ, List, [], ◌∷◌, true, Option, Some, None, is_some, unwrap_or, map, nat_eq}
+use Rattle.std.specs.Prelude.{◌≡◌, ℕ, List, [], ◌∷◌, true, Option, Some, is_some, unwrap_or, map, nat_eq}
 use Rattle.std.specs.Map.{lookup}
 use Rattle.token_store.specs.declared.image.KeptRecord.{KeptRecord}
 use Rattle.token_store.specs.declared.record.Shared.{Shared}

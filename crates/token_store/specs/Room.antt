@@ -1,5 +1,5 @@
 -- What room a store has for changes.
-use Rattle.std.specs.Prelude.{◌≡◌, ◌≢◌, ◌+◌, ◌≤◌, ℕ, List, [], ◌∷◌, ◌++◌, true, Option, Some, None, is_some, map, min, option_map}
+use Rattle.std.specs.Prelude.{◌≡◌, ◌≢◌, ◌+◌, ◌≤◌, ℕ, List, [], ◌∷◌, ◌++◌, true, Option, Some, is_some, map, min, option_map}
 use Rattle.std.specs.List.{AllByRecursion}
 use Rattle.std.specs.HashMap.{spare}
 use Rattle.consent.specs.declared.change.Change.{Change}

@@ -2,7 +2,7 @@
 ghost use Rattle.std.specs.Prelude.{◌≡◌, ◌+◌, ◌≤◌, ℕ, [], ◌∷◌, ◌++◌, filter, nat_lt, OnOk, length};
 ghost use Rattle.std.specs.List.{AllByRecursion};
 ghost use Rattle.token_store.specs.Agenda.{least, IsBounded, deadlines_in, deadlines_of, IsExact, agenda_room};
-ghost use Rattle.token_store.specs.AgendaParts.{is_ahead, page_room};
+ghost use Rattle.token_store.specs.AgendaParts.{is_ahead, page_room, IsDue};
 
 use consent::{Digest, Moment};
 use std::alloc::{AllocError, Global};
@@ -82,7 +82,8 @@ impl Agenda {
 
     /// Whether the moment comes before all deadlines.
     pub(crate) fn is_ahead(&self, moment: Moment) -> bool
-        ensures { result ≡ nat_lt moment self.now.earliest }
+        requires { IsExact self.now }
+        ensures { result ≡ nat_lt moment (least (deadlines_of self.now)) }
     {
         moment.get() < self.earliest
     }
@@ -133,6 +134,7 @@ impl Agenda {
     /// Strikes out the deadlines that have come.
     pub(crate) fn strike(&mut self, moment: Moment)
         requires exact { IsExact self.old }
+        requires due { IsDue (deadlines_of self.old) moment }
         ensures struck { deadlines_of self.new ≡ filter (is_ahead moment) (deadlines_of self.old) }
         ensures exact { IsExact self.new }
     {
@@ -144,6 +146,7 @@ impl Agenda {
 }
 
 fn strike_out(deadlines: &mut Vec<Deadline>, moment: Moment)
+    requires due { IsDue deadlines.old.items moment }
     ensures { deadlines.new.items ≡ filter (is_ahead moment) deadlines.old.items }
 {
     deadlines.retain(|deadline| moment.get() < deadline.moment);

@@ -1,9 +1,10 @@
 //! What has expired goes.
-ghost use Rattle.std.specs.Prelude.{[], ◌∷◌};
+ghost use Rattle.std.specs.Prelude.{◌≡◌, ◌≤◌, [], ◌∷◌, filter};
 ghost use Rattle.std.specs.List.{AllByRecursion, IsDistinct};
 ghost use Rattle.std.specs.Str.{bytes_eq};
 ghost use Rattle.std.specs.Map.{keys_of};
-ghost use Rattle.token_store.specs.Agenda.{IsBounded, deadlines_in};
+ghost use Rattle.token_store.specs.Agenda.{IsBounded, deadlines_in, deadlines_of};
+ghost use Rattle.token_store.specs.AgendaParts.{is_ahead, IsDue};
 ghost use Rattle.token_store.specs.Records.{IsCounted, IsOwned, IsTied, kept_of};
 ghost use Rattle.token_store.specs.RecordsParts.{AllGone, AllLive, Sheds, TellsSame};
 
@@ -21,10 +22,22 @@ impl Tables {
         ensures tied { IsTied self.new [] }
         ensures same { TellsSame (kept_of self.old) (kept_of self.new) moment }
         ensures live { AllLive self.new.records.entries moment }
+        ensures struck { deadlines_of self.new.agenda ≡ filter (is_ahead moment) (deadlines_of self.old.agenda) }
     {
-        if self.is_none_expired(moment) {
-            return;
+        if !self.is_none_expired(moment) {
+            self.drop_due(moment);
         }
+    }
+
+    // Lets go of what has expired, where the least deadline has come.
+    fn drop_due(&mut self, moment: Moment)
+        requires tied { IsTied self.old [] }
+        requires due { IsDue (deadlines_of self.old.agenda) moment }
+        ensures tied { IsTied self.new [] }
+        ensures same { TellsSame (kept_of self.old) (kept_of self.new) moment }
+        ensures live { AllLive self.new.records.entries moment }
+        ensures struck { deadlines_of self.new.agenda ≡ filter (is_ahead moment) (deadlines_of self.old.agenda) }
+    {
         drop_pages(
             &mut self.records,
             &mut self.families,
@@ -43,7 +56,7 @@ impl Tables {
     }
 }
 
-// Lets go of the record of the deadline, if it has come and the record has expired.
+// Lets go of the record of the deadline, which has come, if the record has expired.
 fn drop_one(
     records: &mut HashMap<Digest, Record>,
     families: &mut Slab<Shared>,
@@ -53,13 +66,11 @@ fn drop_one(
 )
     requires once { IsDistinct bytes_eq (keys_of records.old.entries) }
     requires counted { IsCounted families.old.slots records.old.entries [] }
+    requires due { deadline.now.moment ≤ moment }
     ensures sheds { Sheds families.old.slots records.old.entries families.new.slots records.new.entries moment }
     ensures owned { IsOwned families.old.slots owners.old.keys → IsOwned families.new.slots owners.new.keys }
     ensures gone { AllGone (deadline.now ∷ []) records.new.entries moment }
 {
-    if moment.get() < deadline.moment {
-        return;
-    }
     let Some(record) = records.get(&deadline.digest) else {
         return;
     };
@@ -81,12 +92,15 @@ fn drop_all(
 )
     requires once { IsDistinct bytes_eq (keys_of records.old.entries) }
     requires counted { IsCounted families.old.slots records.old.entries [] }
+    requires due { IsDue deadlines.now moment }
     ensures sheds { Sheds families.old.slots records.old.entries families.new.slots records.new.entries moment }
     ensures owned { IsOwned families.old.slots owners.old.keys → IsOwned families.new.slots owners.new.keys }
     ensures gone { AllGone deadlines.now records.new.entries moment }
 {
     for deadline in deadlines {
-        drop_one(records, families, owners, deadline, moment);
+        if deadline.moment <= moment.get() {
+            drop_one(records, families, owners, deadline, moment);
+        }
     }
 }
 

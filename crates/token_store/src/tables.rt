@@ -1,15 +1,17 @@
 //! The tables: records by digest, the families, and those of each owner and client.
-ghost use Rattle.std.specs.Prelude.{◌≡◌, ◌≢◌, ◌+◌, ◌<◌, ◌≤◌, ◌^◌, ℕ, [], ◌∷◌, None, Some, true, false, not, nat_lt, length, count_by, is_some, option_map, option_copied, IfOk, OnOk, OnErr};
+ghost use Rattle.std.specs.Prelude.{◌≡◌, ◌≢◌, ◌+◌, ◌<◌, ◌≤◌, ◌^◌, ℕ, [], ◌∷◌, ◌++◌, None, Some, true, false, not, nat_lt, length, count_by, is_some, option_map, option_copied, IfOk, OnOk, OnErr};
 ghost use Rattle.std.specs.List.{list_any, IsDistinct};
 ghost use Rattle.std.specs.Str.{bytes_eq};
 ghost use Rattle.std.specs.Map.{lookup, keys_of, values_of};
 ghost use Rattle.std.specs.HashMap.{spare};
+ghost use Rattle.token_store.specs.Agenda.{deadlines_of, least};
+ghost use Rattle.token_store.specs.AgendaParts.{IsDue};
 ghost use Rattle.token_store.specs.Kept.{kept_at, kept_unexpired};
 ghost use Rattle.token_store.specs.FitsParts.{are_kept, has_kept_room, kept_refusal};
 ghost use Rattle.token_store.specs.Room.{HasSpare, room_of};
 ghost use Rattle.token_store.specs.RoomParts.{KeepsRoom, WaitsStill};
 ghost use Rattle.token_store.specs.Records.{family_at, kept_under, kept_of, shared_at, IsCounted, IsOwned, IsTied};
-ghost use Rattle.token_store.specs.RecordsParts.{is_live_at, IsNextOwned, start_of, kept_found, HasEntered, HasLeft, HasEnded, HasIndexed, HasOpened, HasLowered, HasSpent, lowered_by, AllLive, ForgetsExpired, KeepsToo, OthersStay, RecordMark, all_marked, spent_in};
+ghost use Rattle.token_store.specs.RecordsParts.{deadline_of, is_live_at, IsNextOwned, start_of, kept_found, HasEntered, HasLeft, HasEnded, HasIndexed, HasOpened, HasLowered, HasSpent, lowered_by, AllLive, ForgetsExpired, KeepsToo, OthersStay, RecordMark, all_marked, spent_in};
 
 use crate::agenda::Agenda;
 use crate::fault::StoreFault;
@@ -95,13 +97,24 @@ impl Tables {
         if self.is_none_expired(moment) {
             return self.records.len();
         }
-        count_live(&self.records, moment)
+        self.count_live(moment)
+    }
+
+    // How many are so, where the least deadline has come.
+    fn count_live(&self, moment: Moment) -> usize
+        requires { IsDue (deadlines_of self.now.agenda) moment }
+        ensures { result ≡ count_by (is_live_at moment) (values_of self.now.records.entries) }
+    {
+        self.records
+            .values()
+            .filter(|record| record.is_unexpired(moment))
+            .count()
     }
 
     // Whether the moment comes before any record expires.
     pub(crate) fn is_none_expired(&self, moment: Moment) -> bool
         requires { IsTied self.now [] }
-        ensures value { result ≡ nat_lt moment self.now.agenda.earliest }
+        ensures value { result ≡ nat_lt moment (least (deadlines_of self.now.agenda)) }
         ensures live { result ≡ true → AllLive self.now.records.entries moment }
     {
         self.agenda.is_ahead(moment)
@@ -258,6 +271,7 @@ impl Tables {
         ensures tied { IsTied self.new [] }
         ensures keeps { KeepsToo self.old self.new digest.now new }
         ensures room { (n : ℕ) → HasSpare (room_of self.old) (n + 1) → HasSpare (room_of self.new) n }
+        ensures noted { deadlines_of self.new.agenda ≡ deadlines_of self.old.agenda ++ deadline_of digest.now new ∷ [] }
         ensures waiting { (n : ℕ) → n ≢ new.family → WaitsStill self.old.families.slots self.new.families.slots n }
         ensures coming { self.new.coming ≡ self.old.coming }
     {
@@ -370,16 +384,6 @@ fn lower_one(families: &mut Slab<Shared>, number: usize, mask: ScopeSet)
             }
         }
     }
-}
-
-// How many of the records are unexpired.
-fn count_live(records: &HashMap<Digest, Record>, moment: Moment) -> usize
-    ensures { result ≡ count_by (is_live_at moment) (values_of records.now.entries) }
-{
-    records
-        .values()
-        .filter(|record| record.is_unexpired(moment))
-        .count()
 }
 
 fn is_among(digest: &Digest, digests: &[Digest]) -> bool

@@ -1,13 +1,12 @@
 use Rattle.std.proofs.Common.{sym, ◌∙◌, arith}
 use Rattle.std.proofs.lemmas.Bool.{ltb-true}
-use Rattle.token_store.specs.Agenda.{deadlines_of}
+use Rattle.token_store.specs.Agenda.{least, deadlines_of}
 use Rattle.token_store.proofs.Timing.{least_at}
 use Rattle.token_store.proofs.tables.Tables.is_none_expired.Goals as goal
 
 pub returns-clause-live : goal.returns-clause-live
 returns-clause-live c = λ is d t at.
-    let a = c.args.self.now.agenda in
-    let lt = ltb-true c.args.moment a.earliest (sym c.is_ahead.ensures ∙ is) in
-    let all = c.requires.exact.all in
-    let le = least_at 18446744073709551615 (deadlines_of a) d t (c.requires.listed d t at) in
-    omega (arith, lt, all, le)
+    let deadlines = deadlines_of c.args.self.now.agenda in
+    let lt = ltb-true c.args.moment (least deadlines) (sym c.is_ahead.ensures ∙ is) in
+    let le = least_at 18446744073709551615 deadlines d t (c.requires.listed d t at) in
+    omega (arith, lt, le)
