@@ -1,7 +1,7 @@
 -- Deadlines: the least of them, and those that are still to come.
 use Rattle.std.proofs.Common.{◌≡◌, ◌<◌, ◌≤◌, ℕ, List, [], ◌∷◌, ◌++◌, Bool, true, false, cond, eqb, length, get_or, set, zero, suc, refl, ap, ◌∙◌, sym, arith}
 use Rattle.std.specs.Prelude.{◌&&◌, ◌||◌, ◌==◌, not, nat_lt, min, filter}
-use Rattle.std.specs.List.{list_any, AllByRecursion}
+use Rattle.std.specs.List.{list_any, list_all, AllByRecursion}
 use Rattle.std.specs.Str.{bytes_eq}
 use Rattle.std.proofs.lemmas.Bool.{eqb-true, lt-ltb, false≢true}
 use Rattle.std.proofs.lemmas.List.{append-nil, nil_from_length}
@@ -84,6 +84,15 @@ ahead_any moment (x ∷ xs) d t lt h = ahead_cases (nat_lt moment x.moment) refl
     ahead_cases true ahead false is h more = ap (λ b. b || others) is ∙ more h
 
 -- PAGES
+
+-- each of those that are left is such
+pub left_all : {A : Type 0} (p : A → Bool) (xs : List A) → list_all p (filter p xs) ≡ true
+left_all p [] = refl
+left_all p (x ∷ xs) = kept_cases (p x) refl (left_all p xs)
+  where
+    kept_cases : (b : Bool) → p x ≡ b → list_all p (filter p xs) ≡ true → list_all p (cond b (x ∷ filter p xs) (filter p xs)) ≡ true
+    kept_cases true is more = ap (λ b. b && list_all p (filter p xs)) is ∙ more
+    kept_cases false is more = more
 
 -- what is left without blank pages
 pub not_blank : (pages : List Page) → deadlines_in (filter (λ (page : Page). not (page.deadlines.len == 0)) pages) ≡ deadlines_in pages

@@ -1,5 +1,5 @@
 -- Beside Agenda: only the contracts of this crate's own parts and their proofs cite this, no public clause.
-use Rattle.std.specs.Prelude.{◌≤◌, ℕ, List, Bool, nat_lt, ◌-◌}
+use Rattle.std.specs.Prelude.{◌≤◌, ℕ, List, Bool, not, ◌==◌, nat_lt, ◌-◌}
 use Rattle.token_store.specs.declared.agenda.Deadline.{Deadline}
 use Rattle.token_store.specs.declared.agenda.Page.{Page}
 use Rattle.token_store.specs.Agenda.{least}
@@ -11,6 +11,10 @@ is_ahead moment e = nat_lt moment e.moment
 -- the least of the deadlines has come: only then are they looked at
 abbrev pub IsDue : List Deadline → ℕ → Type 0
 IsDue deadlines moment = least deadlines ≤ moment
+
+-- something is noted on the page
+abbrev pub is_filled : Page → Bool
+is_filled page = not (page.deadlines.len == 0)
 
 -- so many more have room on the page
 abbrev pub page_room : Page → ℕ

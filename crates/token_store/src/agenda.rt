@@ -1,8 +1,8 @@
 //! When which records expire.
-ghost use Rattle.std.specs.Prelude.{◌≡◌, ◌+◌, ◌≤◌, ℕ, [], ◌∷◌, ◌++◌, filter, nat_lt, OnOk, length};
-ghost use Rattle.std.specs.List.{AllByRecursion};
+ghost use Rattle.std.specs.Prelude.{◌≡◌, ◌+◌, ◌≤◌, ℕ, [], ◌∷◌, ◌++◌, true, filter, max, nat_lt, OnOk, length};
+ghost use Rattle.std.specs.List.{AllByRecursion, list_all};
 ghost use Rattle.token_store.specs.Agenda.{least, IsBounded, deadlines_in, deadlines_of, IsExact, agenda_room};
-ghost use Rattle.token_store.specs.AgendaParts.{is_ahead, page_room, IsDue};
+ghost use Rattle.token_store.specs.AgendaParts.{is_ahead, is_filled, page_room, IsDue};
 
 use consent::{Digest, Moment};
 use std::alloc::{AllocError, Global};
@@ -104,6 +104,7 @@ impl Agenda {
 
     // Begins a page.
     fn turn(&mut self, alloc: Global) -> Result<(), AllocError>
+        ensures begun { OnOk result (self.new.newest.deadlines.len ≡ 0) }
         ensures same { deadlines_of self.new ≡ deadlines_of self.old }
         ensures exact { IsExact self.old → IsExact self.new }
     {
@@ -124,6 +125,7 @@ impl Agenda {
         ensures same { deadlines_of self.new ≡ deadlines_of self.old }
         ensures exact { IsExact self.old → IsExact self.new }
         ensures room { OnOk result (more ≤ agenda_room self.new) }
+        ensures short { OnOk result (self.new.newest.deadlines.len + more ≤ max PAGE_LENGTH more) }
     {
         if PAGE_LENGTH < self.newest.deadlines.len().saturating_add(more) {
             self.turn(alloc)?;
@@ -136,6 +138,7 @@ impl Agenda {
         requires exact { IsExact self.old }
         requires due { IsDue (deadlines_of self.old) moment }
         ensures struck { deadlines_of self.new ≡ filter (is_ahead moment) (deadlines_of self.old) }
+        ensures filled { list_all is_filled self.new.pages.items ≡ true }
         ensures exact { IsExact self.new }
     {
         let earliest = strike_pages(&mut self.pages, moment);
@@ -181,6 +184,7 @@ fn strike_pages(pages: &mut [Page], moment: Moment) -> u64
 
 // Lets go of the pages on which nothing is left.
 fn drop_blank(pages: &mut Vec<Page>)
+    ensures filled { list_all is_filled pages.new.items ≡ true }
     ensures same { deadlines_in pages.new.items ≡ deadlines_in pages.old.items }
     ensures bounded { AllByRecursion IsBounded pages.old.items → AllByRecursion IsBounded pages.new.items }
 {
