@@ -164,7 +164,7 @@ fn remove_lane(lanes: &mut Vec<Lane>, c: ConnectionNo)
 }
 
 fn end_lane(lane: &mut Lane)
-    ensures { lane.new ≡ record { number = lane.old.number; phase = ended lane.old.phase; rest = []; output = lane.old.output } }
+    ensures { lane.new ≡ record lane.old { phase = ended lane.old.phase; rest = [] } }
 {
     lane.phase = lane.phase.ended();
     lane.rest.clear();
@@ -172,7 +172,7 @@ fn end_lane(lane: &mut Lane)
 
 fn take_output(lane: &mut Lane, n: usize)
     requires { n ≤ length lane.old.output }
-    ensures { lane.new ≡ record { number = lane.old.number; phase = lane.old.phase; rest = lane.old.rest; output = drop n lane.old.output } }
+    ensures { lane.new ≡ record lane.old { output = drop n lane.old.output } }
 {
     take_front(&mut lane.output, n);
     give_back(&mut lane.output);
