@@ -13,3 +13,7 @@ Halts NoMemory points = Unit {0}
 abbrev pub LeadsOrHalts : {A : Type 0} → Result A Halt → Outcome → (A → Outcome) → Type 0
 LeadsOrHalts (Ok x) points next = points ≡ next x
 LeadsOrHalts (Err halt) points next = Halts halt points
+
+-- and so it is of whatever comes next, to which the answer means this
+abbrev pub LeadsOnWith : {A B : Type 0} → Result A Halt → ((B → Outcome) → Outcome) → (A → B) → Type 0
+LeadsOnWith {B = B} result points meaning = (next : B → Outcome) → LeadsOrHalts result (points next) (λ x. next (meaning x))

@@ -1,5 +1,5 @@
 -- The reply that an answer is.
-use Rattle.std.specs.Prelude.{ℕ, List, [], codes, Some, None, option_copied}
+use Rattle.std.specs.Prelude.{ℕ, List, [], codes, Option, Some, None, option_copied}
 use Rattle.params.specs.Scope.{scope_text}
 use Rattle.pkce.specs.Token.{token_text}
 use Rattle.std.specs.Option.{option_map_or}
@@ -9,6 +9,7 @@ use Rattle.clients.specs.Owners.{sub_of}
 use Rattle.token_store.specs.Found.{owner_number}
 use Rattle.hook_host.specs.Faults.{hook_fault_text}
 use Rattle.messages.specs.declared.request.Draws.{Draws}
+use Rattle.messages.specs.declared.error.ErrorName.{ErrorName}
 use Rattle.messages.specs.Reply.{Reply, Body as body, plain, sent_back}
 use Rattle.messages.specs.Written.{error_text}
 use Rattle.answers.specs.Outcomes.{status_of}
@@ -23,6 +24,13 @@ access_reply rules draw scope life = plain 200 (body.Tokens (token_text draw) li
 abbrev pub both_reply : RegistryRecord → Draws → ℕ → ℕ → Reply
 both_reply rules draws scope life =
     plain 200 (body.Tokens (token_text draws.first) life (Some (token_text draws.second)) (scope_text rules.scopes scope))
+
+-- the user agent is sent back with the code of the draw, or with an error
+abbrev pub code_reply : List ℕ → List ℕ → Option (List ℕ) → Reply
+code_reply uri draw state = sent_back uri (codes "code") (token_text draw) state
+
+abbrev pub error_reply : List ℕ → ErrorName → Option (List ℕ) → Reply
+error_reply uri error state = sent_back uri (codes "error") (error_text error) state
 
 -- the id of the client of the number
 abbrev pub id_of : RegistryRecord → ℕ → List ℕ
@@ -39,10 +47,8 @@ reply_of rules names NotAllowed = plain 405 body.Empty
 reply_of rules names (Access draw scope life) = access_reply rules draw scope life
 reply_of rules names (Both draws scope life) = both_reply rules draws scope life
 reply_of rules names (Consented mask) = plain 200 (body.Consent (scope_text rules.scopes mask))
-reply_of rules names (CodeSent uri draw state) =
-    sent_back uri.now (codes "code") (token_text draw) (option_copied state)
-reply_of rules names (TurnedBack uri error state) =
-    sent_back uri.now (codes "error") (error_text error) (option_copied state)
+reply_of rules names (CodeSent uri draw state) = code_reply uri.now draw (option_copied state)
+reply_of rules names (TurnedBack uri error state) = error_reply uri.now error (option_copied state)
 reply_of rules names (Active client issued expires scope owner kind) =
     plain 200 (body.Active (id_of rules client) expires issued (scope_text rules.scopes scope) (sub_of (owner_number owner) rules.owners) kind)
 reply_of rules names Inactive = plain 200 body.Inactive

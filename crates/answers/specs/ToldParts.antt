@@ -3,7 +3,7 @@ use Rattle.std.specs.Prelude.{ℕ, List, Result}
 use Rattle.consent.specs.History.{Event, Grant}
 use Rattle.answers.specs.Outcomes.{Outcome}
 use Rattle.answers.specs.Setting.{HostSays, Setting}
-use Rattle.answers.specs.Views.{Shows, setting_of}
+use Rattle.answers.specs.Views.{InEachSetting, Shows, setting_of}
 use Rattle.answers.specs.Found.{IsFound, grant_found}
 use Rattle.token_store.specs.declared.found.Found.{Found}
 use Rattle.answers.specs.declared.view.View.{View}
@@ -13,9 +13,7 @@ use Rattle.answers.specs.Told.{Decides}
 
 -- whatever history the view shows, and whatever the host says, its points come to the decision, or halt
 abbrev pub DecidesBy : View → Result Decision Halt → (Setting → Outcome) → Type 0
-DecidesBy view result points =
-    (history : List Event) (host : HostSays) → Shows view history →
-    Decides (setting_of view history host) result (points (setting_of view history host))
+DecidesBy view result points = InEachSetting view (λ s. Decides s result (points s))
 
 -- and those of the code or token that was found under the digest
 abbrev pub DecidesOf : View → List ℕ → Found → Result Decision Halt → (Setting → Grant → Outcome) → Type 0

@@ -25,6 +25,10 @@ pub record Shows (view : View) (history : List Event) : Type 0 where
   pub store : FitsStore view.store.now history view.moment
   pub consents : FitsConsents view.consents.now history
 
+-- it holds of each setting that the view shows
+abbrev pub InEachSetting : View → (Setting → Type 0) → Type 0
+InEachSetting view claim = (history : List Event) (host : HostSays) → Shows view history → claim (setting_of view history host)
+
 abbrev pub known_of : seen.KnownClient → KnownClient
 known_of known = record { number = known.number; client = known.client.now }
 

@@ -1,9 +1,8 @@
 //! The points that read only the request and the registry.
 ghost use Rattle.std.specs.Prelude.{◌≡◌, option_map};
 ghost use Rattle.messages.specs.Asked.{asked_of};
-ghost use Rattle.answers.specs.Halts.{LeadsOrHalts};
+ghost use Rattle.answers.specs.Halts.{LeadsOnWith, LeadsOrHalts};
 ghost use Rattle.answers.specs.Outcomes.{Outcome};
-ghost use Rattle.answers.specs.Requesters as asked;
 ghost use Rattle.answers.specs.Requesters.{Parameters, with_form, with_credentials, client_named, owner_of_key, scope_asked, scope_within};
 ghost use Rattle.answers.specs.Views.{known_of};
 
@@ -43,8 +42,7 @@ pub fn authenticated_client<'r>(
     request: &Request<'_>,
     params: &Params,
 ) -> Result<KnownClient<'r>, Halt>
-    ensures { (next : asked.KnownClient → Outcome) → LeadsOrHalts result
-        (with_credentials rules.now (asked_of request.entry.now) params.now next) (λ known. next (known_of known)) }
+    ensures { LeadsOnWith result (with_credentials rules.now (asked_of request.entry.now) params.now) known_of }
 {
     match authenticate(alloc, rules, request.authorization, params) {
         Ok(number) => Ok(KnownClient {

@@ -1,17 +1,17 @@
 //! The one place that writes replies.
-ghost use Rattle.std.specs.Prelude.{◌≡◌, ◌≤◌, IfOk, IfSome, codes, length, map};
+ghost use Rattle.std.specs.Prelude.{◌≡◌, ◌≤◌, IfOk, IfSome, length, map};
 ghost use Rattle.std.specs.Option.{option_copied};
 ghost use Rattle.clients.specs.Limits.{identifier_limit, key_limit};
 ghost use Rattle.clients.specs.Owners.{sub_of};
 ghost use Rattle.token_store.specs.Found.{owner_number};
 ghost use Rattle.hook_host.specs.Names.{AreHookNames};
-ghost use Rattle.messages.specs.Reply.{plain, sent_back};
+ghost use Rattle.messages.specs.Reply.{plain};
 ghost use Rattle.messages.specs.Reply.Body.{Consent, HookRefused, Hooks};
-ghost use Rattle.messages.specs.Written.{error_text, in_writing};
+ghost use Rattle.messages.specs.Written.{in_writing};
 ghost use Rattle.pkce.specs.Token.{token_text};
 ghost use Rattle.hook_host.specs.Faults.{hook_fault_text};
 ghost use Rattle.params.specs.Scope.{scope_text};
-ghost use Rattle.answers.specs.Replies.{access_reply, both_reply, id_of, reply_of};
+ghost use Rattle.answers.specs.Replies.{access_reply, both_reply, code_reply, error_reply, id_of, reply_of};
 ghost use Rattle.messages.specs.Live.{live_body};
 ghost use Rattle.answers.specs.Short.{IsShortReply, IsShortAnswer, IsShortLive, IsShortReturn};
 
@@ -128,8 +128,7 @@ fn sent(
     draw: &[u8; 32],
     state: Option<&str>,
 ) -> Result<Response, AllocError>
-    ensures value { IfOk result (λ reply. reply
-        ≡ in_writing (sent_back uri.now (codes "code") (token_text draw.now) (option_copied state.entry))) }
+    ensures value { IfOk result (λ reply. reply ≡ in_writing (code_reply uri.now draw.now (option_copied state.entry))) }
     ensures short { IsShortReturn uri.now (option_copied state.entry) → IfOk result IsShortReply }
 {
     let text = token_text(alloc, draw)?;
@@ -143,8 +142,7 @@ fn turned(
     error: ErrorName,
     state: Option<&str>,
 ) -> Result<Response, AllocError>
-    ensures value { IfOk result (λ reply. reply
-        ≡ in_writing (sent_back uri.now (codes "error") (error_text error) (option_copied state.entry))) }
+    ensures value { IfOk result (λ reply. reply ≡ in_writing (error_reply uri.now error (option_copied state.entry))) }
     ensures short { IsShortReturn uri.now (option_copied state.entry) → IfOk result IsShortReply }
 {
     redirect(alloc, uri, "error", error.text(), state)

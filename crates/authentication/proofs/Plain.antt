@@ -1,5 +1,5 @@
 -- Texts that stand in a form as they are.
-use Rattle.std.proofs.Common.{◌≡◌, ◌<◌, ◌==◌, ◌&&◌, ◌||◌, ℕ, List, [], ◌∷◌, Bool, true, false, not, nat_lt, nat_eq, take, if◌then◌else◌, ◌⊎◌, inl, inr, refl, ap, sym, ◌∙◌, Result, Ok, Err, Option, IfSome, Bor, IsUtf8, All, arith}
+use Rattle.std.proofs.Common.{◌≡◌, ◌<◌, ◌==◌, ◌&&◌, ◌||◌, ℕ, List, [], ◌∷◌, Bool, true, false, not, nat_lt, nat_eq, take, drop, if◌then◌else◌, ◌⊎◌, inl, inr, refl, ap, sym, ◌∙◌, Result, Ok, Err, Option, IfSome, Bor, IsUtf8, All, arith}
 use Rattle.std.specs.Result.{MatchResult, result_ok}
 use Rattle.std.specs.List.{list_all}
 use Rattle.std.specs.Cmp.Lexicographic.{pointwise}
@@ -13,7 +13,8 @@ use Rattle.form_urlencoded.specs.Form.{IsPlain}
 use Rattle.form_urlencoded.proofs.FormLemmas.{decode_plain}
 use Rattle.params.specs.Form.{lossy_text, has_replacement}
 use Rattle.clients.specs.Faults.{◌>>=◌, GivesUnless}
-use Rattle.authentication.specs.Authentication.{form_text}
+use Rattle.std.specs.Str.{is_utf8}
+use Rattle.authentication.specs.Authentication.{form_text, is_basic, base64_bytes, basic_text, credentials_in}
 use Rattle.authentication.specs.declared.authentication.AuthFault.{AuthFault}
 use Rattle.authentication.specs.declared.authentication.AuthFault.TheVariants.{BadHeader, TwoMethods, Memory}
 
@@ -65,3 +66,17 @@ pub refused : (secret_sent basic : Bool) (credentials : Result (List ℕ × List
     secret_sent ≡ false → r ≡ Err e → ((e ≡ Memory) × (basic ≡ true)) ⊎ (credentials ≡ Err e) →
     GivesUnless Memory (not secret_sent && basic ≡ true) r (if secret_sent then Err TwoMethods else (credentials >>= next))
 refused secret_sent basic credentials next e r none is why = rw is (rw none (elim why [ inl memory ↦ inl memory | inr read ↦ inr (rw read refl) ]))
+
+-- a header with a text is a Basic one
+pub text_basic : (header text : List ℕ) → basic_text header ≡ Ok text → is_basic header ≡ true
+text_basic header text is = by (is_basic header) refl (base64_bytes (drop 6 header)) is
+  where
+    by : (basic : Bool) → is_basic header ≡ basic → (bytes : Result (List ℕ) AuthFault) →
+        (if basic then (bytes >>= (λ b. if is_utf8 b then Ok b else Err BadHeader)) else Err BadHeader) ≡ Ok text → is_basic header ≡ true
+    by true e bytes is = e
+    by false e bytes is = absurd (cc)
+
+-- why its credentials were not read
+pub unread : (basic : Bool) (read : Result (List ℕ) AuthFault) (text : List ℕ) (e : AuthFault) → basic ≡ true → read ≡ Ok text →
+    ((e ≡ Memory) × Unit {0}) ⊎ (credentials_in text ≡ Err e) → ((e ≡ Memory) × (basic ≡ true)) ⊎ ((read >>= credentials_in) ≡ Err e)
+unread basic read text e is of why = elim why [ inl memory ↦ inl (memory.0, is) | inr faulty ↦ inr (rw of faulty) ]

@@ -9,24 +9,28 @@ use Rattle.base64.specs.Engines.{standard}
 use Rattle.base64.specs.GeneralPurpose.{decode_of, encode_of}
 use Rattle.form_urlencoded.specs.Form.{byte_serialize}
 use Rattle.params.specs.Form.{lossy_text, has_replacement, value_sent}
-use Rattle.clients.specs.Faults.{◌>>=◌}
+use Rattle.clients.specs.Faults.{◌>>=◌, GivesUnless}
 use Rattle.clients.specs.Texts.{is_key}
 use Rattle.clients.specs.Numbers.{number_among}
 use Rattle.clients.specs.Clients.{ids, client_at, has_secret}
 use Rattle.clients.specs.ClientRecord.{ClientRecord}
 use Rattle.authentication.specs.declared.authentication.AuthFault.{AuthFault}
-use Rattle.authentication.specs.declared.authentication.AuthFault.TheVariants.{NoClient, BadSecret, TwoMethods, BadHeader}
+use Rattle.authentication.specs.declared.authentication.AuthFault.TheVariants.{NoClient, BadSecret, TwoMethods, BadHeader, Memory}
 
 -- the header's scheme is Basic, in either case, with one space
 abbrev pub is_basic : List ℕ → Bool
 is_basic header = bytes_eq (map to_ascii_lowercase (take 6 header)) (codes "basic ")
 
--- the UTF-8 text whose strict padded base64 (RFC 4648, section 4) stands behind the scheme
+-- the bytes of strict padded base64 (RFC 4648, section 4)
+abbrev pub base64_bytes : List ℕ → Result (List ℕ) AuthFault
+base64_bytes encoded = ok_or (result_ok (decode_of standard encoded)) BadHeader
+
+-- the UTF-8 text whose base64 stands behind the scheme
 abbrev pub basic_text : List ℕ → Result (List ℕ) AuthFault
 basic_text header =
     if is_basic header
     then (do
-      bytes ← ok_or (result_ok (decode_of standard (drop 6 header))) BadHeader
+      bytes ← base64_bytes (drop 6 header)
       if is_utf8 bytes then Ok bytes else Err BadHeader)
     else Err BadHeader
 
@@ -40,14 +44,17 @@ around_colon text = do
   place ← ok_or (position (λ b. b == 58) text) BadHeader
   Ok (take place text, drop (place + 1) text)
 
--- the identifier and the secret of a Basic header
-abbrev pub basic_credentials : List ℕ → Result (List ℕ × List ℕ) AuthFault
-basic_credentials header = do
-  text ← basic_text header
+-- the identifier and the secret in a Basic header's text
+abbrev pub credentials_in : List ℕ → Result (List ℕ × List ℕ) AuthFault
+credentials_in text = do
   parts ← around_colon text
   id ← form_text parts.0
   secret ← form_text parts.1
   Ok (id, secret)
+
+-- those of a Basic header
+abbrev pub basic_credentials : List ℕ → Result (List ℕ × List ℕ) AuthFault
+basic_credentials header = basic_text header >>= credentials_in
 
 -- this is a secret of the client of this number
 abbrev pub is_secret_of : ℕ → List ClientRecord → List ℕ → Bool
@@ -76,6 +83,10 @@ authenticated clients (Some header) params =
 abbrev pub wants_memory : Option (List ℕ) → List (List ℕ × List ℕ) → Bool
 wants_memory None params = false
 wants_memory (Some header) params = not (is_some (value_sent (codes "client_secret") params)) && is_basic header
+
+-- the answer is the client that the request authenticates, or why it authenticates none; or memory was refused where it may be wanted
+abbrev pub Authenticates : List ClientRecord → Option (List ℕ) → List (List ℕ × List ℕ) → Result ℕ AuthFault → Type 0
+Authenticates clients header params answer = GivesUnless Memory (wants_memory header params ≡ true) answer (authenticated clients header params)
 
 -- the request has this identifier and this secret, in a Basic header or, without one, as parameters
 abbrev pub HasSent : Option (List ℕ) → List (List ℕ × List ℕ) → List ℕ → List ℕ → Type 0

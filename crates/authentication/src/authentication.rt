@@ -1,18 +1,15 @@
 //! Client authentication by HTTP Basic or by parameters (RFC 6749, section 2.3.1; RFC 7617).
 
-ghost use Rattle.std.specs.Prelude.{◌≡◌, ◌≤◌, length, ◌==◌, ◌&&◌, nat_lt, ℕ, List, true, false, not, drop, bytes_eq, if◌then◌else◌, string_bytes, option_copied, IfOk, IfErr, IfSome, Ok, Err, None, Some};
+ghost use Rattle.std.specs.Prelude.{◌≡◌, ◌≤◌, length, ◌==◌, ◌&&◌, nat_lt, true, false, not, drop, bytes_eq, if◌then◌else◌, string_bytes, option_copied, IfOk, IfErr, IfSome, Ok, Err, None, Some};
 ghost use Rattle.std.specs.List.{position, list_all};
 ghost use Rattle.std.specs.Option.{ok_or, option_map_or};
-ghost use Rattle.std.specs.Result.{result_ok};
 ghost use Rattle.std.specs.Str.{is_utf8};
-ghost use Rattle.base64.specs.Engines.{standard};
-ghost use Rattle.base64.specs.GeneralPurpose.{decode_of};
 ghost use Rattle.authentication.specs.FaultTexts.{auth_fault_text};
 ghost use Rattle.clients.specs.Faults.{GivesUnless};
 ghost use Rattle.clients.specs.FaultsParts.{seen_by};
 ghost use Rattle.clients.specs.Numbers.{number_among};
 ghost use Rattle.clients.specs.Clients.{ids};
-ghost use Rattle.authentication.specs.Authentication.{is_basic, basic_text, around_colon, form_text, basic_credentials, is_secret_of, identified, authenticated, wants_memory, IsSender};
+ghost use Rattle.authentication.specs.Authentication.{is_basic, base64_bytes, basic_text, around_colon, form_text, credentials_in, is_secret_of, identified, authenticated, Authenticates, IsSender};
 ghost use Rattle.authentication.specs.declared.authentication.AuthFault.TheVariants.{Memory};
 
 use base64::DecodeAllocError;
@@ -77,8 +74,7 @@ fn after_scheme(header: &[u8]) -> Result<&[u8], AuthFault>
 
 // The bytes of strict padded base64 (RFC 4648, section 4).
 fn base64_bytes(alloc: Global, encoded: &[u8]) -> Result<Vec<u8>, AuthFault>
-    ensures { GivesUnless AuthFault.Memory Unit (seen_by (λ v. v.items) result)
-        (ok_or (result_ok (decode_of standard encoded.now)) AuthFault.BadHeader) }
+    ensures { GivesUnless AuthFault.Memory Unit (seen_by (λ v. v.items) result) (base64_bytes encoded.now) }
 {
     match STANDARD.decode(alloc, encoded) {
         Ok(bytes) => Ok(bytes),
@@ -155,8 +151,7 @@ fn plain_text(bytes: &[u8]) -> Option<&str>
 
 // The identifier and the secret of a Basic header's text, where both stand as they are.
 fn plain_credentials(text: &str) -> Option<(&str, &str)>
-    ensures { (header : List ℕ) → basic_text header ≡ Ok text.now →
-        IfSome result (λ sent. basic_credentials header ≡ Ok (sent.0.now, sent.1.now)) }
+    ensures { IfSome result (λ sent. credentials_in text.now ≡ Ok (sent.0.now, sent.1.now)) }
 {
     let (id, secret) = around_colon(text.as_bytes()).ok()?;
     Some((plain_text(id)?, plain_text(secret)?))
@@ -171,9 +166,7 @@ struct Credentials {
 
 // The same of any Basic header's text.
 fn read_credentials(alloc: Global, text: &str) -> Result<Credentials, AuthFault>
-    ensures { (header : List ℕ) → basic_text header ≡ Ok text.now →
-        GivesUnless AuthFault.Memory (is_basic header ≡ true)
-        (seen_by (λ c. (string_bytes c.id, string_bytes c.secret)) result) (basic_credentials header) }
+    ensures { GivesUnless Memory Unit (seen_by (λ c. (string_bytes c.id, string_bytes c.secret)) result) (credentials_in text.now) }
 {
     let (id, secret) = around_colon(text.as_bytes())?;
     Ok(Credentials {
@@ -231,8 +224,7 @@ fn by_header(
     params: &Params,
     header: &[u8],
 ) -> Result<ClientNo, AuthFault>
-    ensures { GivesUnless AuthFault.Memory (wants_memory (Some header.now) params.now ≡ true) result
-        (authenticated registry.now.clients (Some header.now) params.now) }
+    ensures { Authenticates registry.now.clients (Some header.now) params.now result }
 {
     if params.get("client_secret").is_some() {
         return Err(AuthFault::TwoMethods);
@@ -262,8 +254,7 @@ fn by_header_or_parameters(
     header: Option<&[u8]>,
     params: &Params,
 ) -> Result<ClientNo, AuthFault>
-    ensures { GivesUnless AuthFault.Memory (wants_memory (option_copied header.entry) params.now ≡ true) result
-        (authenticated registry.now.clients (option_copied header.entry) params.now) }
+    ensures { Authenticates registry.now.clients (option_copied header.entry) params.now result }
 {
     match header {
         Some(header) => by_header(alloc, registry, params, header),
@@ -280,8 +271,7 @@ pub fn authenticate(
     header: Option<&[u8]>,
     params: &Params,
 ) -> Result<ClientNo, AuthFault>
-    ensures value { GivesUnless AuthFault.Memory (wants_memory (option_copied header.entry) params.now ≡ true) result
-        (authenticated registry.now.clients (option_copied header.entry) params.now) }
+    ensures value { Authenticates registry.now.clients (option_copied header.entry) params.now result }
     ensures listed { IfOk result (λ number. number ≤ length registry.now.clients) }
     ensures sent { IfOk result (λ number. IsSender registry.now.clients (option_copied header.entry) params.now number) }
 {

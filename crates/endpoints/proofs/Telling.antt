@@ -26,6 +26,7 @@ use Rattle.answers.specs.declared.halt.Halt.{Halt}
 use Rattle.endpoints.specs.ConsentPath.{consent_given}
 use Rattle.endpoints.specs.Introspect.{introspect, told_of}
 use Rattle.endpoints.specs.Parts.{live_of, with_presented}
+use Rattle.endpoints.specs.declared.revoke.Presented.{Presented}
 use Rattle.endpoints.specs.Revoke.{revoke_token, revoked}
 use Rattle.messages.specs.Asked.{Asked}
 
@@ -117,11 +118,11 @@ revoked_told s digest g at = rw at refl
 -- WHAT WAS PRESENTED
 
 module _ (s : Setting) (asked : Asked) (number : ℕ) (digest : Option (List ℕ)) (live : Option Grant) where
-  abbrev Presented : Type 0
-  Presented = (next : ℕ → Option (List ℕ) → Outcome) → with_presented s.rules asked next ≡ next number digest
+  abbrev LeadsOn : Type 0
+  LeadsOn = (next : Presented → Outcome) → with_presented s.rules asked next ≡ next (record { client = number; digest = digest })
 
-  pub introspected : Presented → live_of s.history s.moment digest ≡ live → introspect s asked ≡ told_by_live s.rules live
-  introspected leads is = leads (λ _ d. told_by_live s.rules (live_of s.history s.moment d)) ∙ ap (told_by_live s.rules) is
+  pub introspected : LeadsOn → live_of s.history s.moment digest ≡ live → introspect s asked ≡ told_by_live s.rules live
+  introspected leads is = leads (λ p. told_by_live s.rules (live_of s.history s.moment p.digest)) ∙ ap (told_by_live s.rules) is
 
-  pub revoked_as : Presented → live_of s.history s.moment digest ≡ live → revoke_token s asked ≡ revoked_by number live
-  revoked_as leads is = leads (λ n d. revoked_by n (live_of s.history s.moment d)) ∙ ap (revoked_by number) is
+  pub revoked_as : LeadsOn → live_of s.history s.moment digest ≡ live → revoke_token s asked ≡ revoked_by number live
+  revoked_as leads is = leads (λ p. revoked_by p.client (live_of s.history s.moment p.digest)) ∙ ap (revoked_by number) is

@@ -20,3 +20,8 @@ ArePrepared (Some prepared) moment changes = prepared ≡ all_dated moment chang
 -- the changes are noted at the moment, behind all that was noted
 abbrev pub with_notes : Option (List DatedFact) → ℕ → Changes → Option (List DatedFact)
 with_notes unkept moment changes = option_map (λ facts. facts ++ all_dated moment changes) unkept
+
+-- what is ready to be noted is noted
+abbrev pub NotesPrepared : Option Gathered → Option Gathered → Type 0
+NotesPrepared old new =
+    (moment : ℕ) (changes : Changes) → ArePrepared (prepared_in old) moment changes → noted_in new ≡ with_notes (noted_in old) moment changes

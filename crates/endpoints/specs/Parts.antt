@@ -10,23 +10,27 @@ use Rattle.hook_host.specs.declared.fault.HookFault.{HookFault}
 use Rattle.messages.specs.Asked.{Asked}
 use Rattle.messages.specs.declared.error.ErrorName.{ErrorName}
 use Rattle.messages.specs.declared.error.ErrorName.TheVariants.{InvalidRequest, InvalidScope, UnauthorizedClient, UnsupportedResponseType, AccessDenied}
+use Rattle.token_store.specs.Fits.{FitsStore}
+use Rattle.token_store.specs.Kept.{Held}
 use Rattle.token_store.specs.declared.found.Found.{Found}
 use Rattle.answers.specs.Found.{grant_found}
 use Rattle.answers.specs.Outcomes.{Outcome, point, need, refuse}
 use Rattle.answers.specs.Requesters.{Parameters, KnownClient, client_named, owner_of_key, scope_asked, scope_within, with_authenticated}
-use Rattle.answers.specs.Setting.{HostSays, Setting}
+use Rattle.answers.specs.Setting.{Setting}
 use Rattle.answers.specs.Texts.{digest_told, where_passes}
-use Rattle.answers.specs.Views.{Shows, known_of, setting_of}
-use Rattle.answers.specs.declared.view.View.{View}
+use Rattle.answers.specs.Halts.{LeadsOrHalts}
+use Rattle.answers.specs.Views.{known_of}
+use Rattle.answers.specs.declared.halt.Halt.{Halt}
+use Rattle.endpoints.specs.declared.revoke.Presented.{Presented}
 use Rattle.endpoints.specs.declared.authorize.Requester.{Requester}
 use Rattle.endpoints.specs.declared.consenting.NewConsent.{NewConsent}
 use Rattle.endpoints.specs.Authorize.{challenge_sent, code_sent_back, redirect_sent, turned_back}
 use Rattle.endpoints.specs.ConsentPath.{consent_given}
 use Rattle.endpoints.specs.HookPaths.{by_fault}
 
--- it holds of each setting that the view shows
-abbrev pub InEachSetting : View → (Setting → Type 0) → Type 0
-InEachSetting view claim = (history : List Event) (host : HostSays) → Shows view history → claim (setting_of view history host)
+-- whatever history the store fits at the moment, it holds of it
+abbrev pub WhereverFits : Held → ℕ → (List Event → Type 0) → Type 0
+WhereverFits store moment claim = (history : List Event) → FitsStore store history moment → claim history
 
 -- the points lead on to `next`, or to what is answered to an error
 abbrev pub ComesTo : {A : Type 0} → Result A ErrorName → Outcome → (A → Outcome) → (ErrorName → Outcome) → Type 0
@@ -36,10 +40,13 @@ ComesTo (Err error) points next refused = points ≡ refused error
 -- /authorize
 
 -- the client and its redirect URI, and then the points that use them
-abbrev pub known_points : RegistryRecord → Parameters → (KnownClient → List ℕ → Outcome) → Outcome
+abbrev pub known_points : RegistryRecord → Parameters → (KnownClient × List ℕ → Outcome) → Outcome
 known_points rules params next =
     need (client_named rules params) (refuse InvalidRequest) (λ known.
-    need (redirect_sent params known.client) (refuse InvalidRequest) (next known))
+    need (redirect_sent params known.client) (refuse InvalidRequest) (λ uri. next (known, uri)))
+
+abbrev pub known_with : Requester → KnownClient × List ℕ
+known_with requester = (known_of requester.known, requester.redirect.now)
 
 -- these
 abbrev pub authorize_known : Setting → Asked → Parameters → KnownClient → List ℕ → Outcome
@@ -57,7 +64,7 @@ authorize_known s asked params known uri =
 
 -- the points of the parameters
 abbrev pub query_points : Setting → Asked → Parameters → Outcome
-query_points s asked params = known_points s.rules params (authorize_known s asked params)
+query_points s asked params = known_points s.rules params (λ who. authorize_known s asked params who.0 who.1)
 
 -- the code of these facts
 abbrev pub code_by : Setting → Parameters → CodeFacts → Outcome
@@ -90,13 +97,17 @@ consent_points s asked params =
 abbrev pub consent_by : Setting → NewConsent → Outcome
 consent_by s new = consent_given s new.owner new.client new.mask
 
+-- the points come to this consent, or halt
+abbrev pub DecidesConsent : Setting → Asked → Parameters → Result NewConsent Halt → Type 0
+DecidesConsent s asked params result = LeadsOrHalts result (consent_points s asked params) (consent_by s)
+
 -- /revoke AND /introspect
 
 -- the points "the client" and "a token", and then those of the client's number and the digest, where the text has one
-abbrev pub with_presented : RegistryRecord → Asked → (ℕ → Option (List ℕ) → Outcome) → Outcome
+abbrev pub with_presented : RegistryRecord → Asked → (Presented → Outcome) → Outcome
 with_presented rules asked next =
     with_authenticated rules asked (λ params known.
-    need (value_sent (codes "token") params) (refuse InvalidRequest) (λ text. next known.number (digest_told text)))
+    need (value_sent (codes "token") params) (refuse InvalidRequest) (λ text. next (record { client = known.number; digest = digest_told text })))
 
 -- the live access or refresh token of the digest
 abbrev pub live_of : List Event → ℕ → Option (List ℕ) → Option Grant

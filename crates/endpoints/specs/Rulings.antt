@@ -18,7 +18,7 @@ use Rattle.endpoints.specs.Bounded.{AllRightAfter}
 use Rattle.endpoints.specs.HookPaths.{hook_change_at}
 use Rattle.endpoints.specs.Hosts.{IsHostFault, says_with}
 use Rattle.endpoints.specs.Making.{StandsAlone}
-use Rattle.endpoints.specs.Reading.{endpoint_of}
+use Rattle.endpoints.specs.Reading.{IsRequestRead, endpoint_of}
 use Rattle.endpoints.specs.Replies.{outcome_at}
 use Rattle.endpoints.specs.Ruling.{CanMakeAll}
 use Rattle.endpoints.specs.Server.{SeenServer, FitsServer, outset_of}
@@ -67,11 +67,25 @@ abbrev pub IsRuled : {H : Type 0} → Hosting H → SeenServer H → List Event 
 IsRuled hosting server history asking (Ok ruling) = IsRuling hosting server history asking ruling
 IsRuled hosting server history asking (Err halt) = Halts halt (comes_to hosting server history asking None)
 
+-- a request at an endpoint, with the draws of its reply
+abbrev pub asking_at : Endpoint → Asked → Draws → Asking
+asking_at endpoint asked draws = record { endpoint = endpoint; asked = asked; draws = draws }
+
 -- whatever history the server fits
 abbrev pub Rules : {H : Type 0} → Hosting H → SeenServer H → Asking → Result (Ruling H) Halt → Type 0
 Rules {H = H} hosting server asking result =
     (first : H) (history : List Event) → FitsNow hosting server first history → IsRuled hosting server history asking result
 
--- WITHOUT A CHANGE OF THE HOOKS
+-- a request, what was read of it, and the draws of what its reply may give
+pub record ReadRequest : Type 0 where
+  pub asked : Asked
+  pub reading : Reading
+  pub draws : Draws
 
--- ANSWERS
+abbrev pub read_request : Asked → Reading → Draws → ReadRequest
+read_request asked reading draws = record { asked = asked; reading = reading; draws = draws }
+
+-- where that was read of it
+abbrev pub RulesRead : {H : Type 0} → Hosting H → SeenServer H → ReadRequest → Result (Ruling H) Halt → Type 0
+RulesRead hosting server request result =
+    IsRequestRead server.rules request.asked request.reading → Rules hosting server (asking_of request.asked request.reading request.draws) result

@@ -15,8 +15,9 @@ use Rattle.endpoints.specs.declared.reading.Reading.TheVariants.{InstallHook, Re
 use Rattle.endpoints.specs.HookPaths.{hook_change_at}
 use Rattle.endpoints.specs.Hosts.{IsHostFault}
 use Rattle.endpoints.specs.Making.{IsSame}
+use Rattle.endpoints.specs.Reading.{IsRequestRead}
 use Rattle.endpoints.specs.Server.{SeenServer, Before, IsStep, outset_of}
-use Rattle.endpoints.specs.Rulings.{Asking, FitsNow, setting_now, comes_to}
+use Rattle.endpoints.specs.Rulings.{Asking, FitsNow, ReadRequest, asking_of, setting_now, comes_to}
 
 -- what was read asks for no change of the hooks
 abbrev pub IsAlone : Reading → Type 0
@@ -28,6 +29,12 @@ abbrev pub RulesAlone : {H : Type 0} → Hosting H → SeenServer H → Asking �
 RulesAlone {H = H} hosting server asking result =
     (first : H) (history : List Event) → FitsNow hosting server first history →
     Decides (setting_now hosting server history asking.draws None) result (comes_to hosting server history asking None)
+
+-- where that was read
+abbrev pub RulesReadAlone : {H : Type 0} → Hosting H → SeenServer H → ReadRequest → Result Decision Halt → Type 0
+RulesReadAlone hosting server request result =
+    IsAlone request.reading → IsRequestRead server.rules request.asked request.reading →
+    RulesAlone hosting server (asking_of request.asked request.reading request.draws) result
 
 -- the reply tells of the error, and is short; where memory was refused there is none
 abbrev pub IsHalted : Halt → Written → Type 0

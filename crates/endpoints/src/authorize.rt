@@ -1,16 +1,16 @@
 //! GET /authorize (RFC 6749, section 4.1.1; RFC 7636, section 4.3).
-ghost use Rattle.std.specs.Prelude.{◌≡◌, ◌≤◌, ℕ, List, Some, IfOk, length, option_copied};
+ghost use Rattle.std.specs.Prelude.{◌≡◌, ◌≤◌, Some, IfOk, length, option_copied};
 ghost use Rattle.clients.specs.Limits.{redirect_limit};
 ghost use Rattle.messages.specs.Asked.{asked_of};
-ghost use Rattle.answers.specs.Halts.{LeadsOrHalts};
+ghost use Rattle.answers.specs.Halts.{LeadsOnWith, LeadsOrHalts};
 ghost use Rattle.answers.specs.Outcomes.{Outcome};
 ghost use Rattle.answers.specs.Requesters as asked;
 ghost use Rattle.answers.specs.Requesters.{Parameters};
 ghost use Rattle.answers.specs.Short.{IsShortAnswer, state_limit};
 ghost use Rattle.answers.specs.Told.{Decides, outcome_told};
-ghost use Rattle.answers.specs.Views.{known_of};
+ghost use Rattle.answers.specs.Views.{InEachSetting};
 ghost use Rattle.endpoints.specs.Authorize.{HasShortState, challenge_sent, with_query};
-ghost use Rattle.endpoints.specs.Parts.{DecidesCode, InEachSetting, code_by, known_points, query_points};
+ghost use Rattle.endpoints.specs.Parts.{DecidesCode, code_by, known_points, known_with, query_points};
 
 use answers::{Answer, Decision, Halt, KnownClient, View, named_client, owner, scope_within};
 use clients::{GrantType, Registry};
@@ -42,8 +42,7 @@ pub(crate) fn query(alloc: Global, request: &Request<'_>) -> Result<Params, Halt
 
 // The client and its redirect URI, without which nobody is sent anywhere.
 fn known<'r, 'p>(rules: &'r Registry, params: &'p Params) -> Result<Requester<'r, 'p>, Halt>
-    ensures leads { (next : asked.KnownClient → List ℕ → Outcome) → LeadsOrHalts result (known_points rules.now params.now next)
-        (λ requester. next (known_of requester.known) requester.redirect.now) }
+    ensures leads { LeadsOnWith result (known_points rules.now params.now) known_with }
     ensures short { IfOk result (λ requester. length requester.redirect.now ≤ redirect_limit) }
 {
     let Some(known) = named_client(rules, params) else {

@@ -1,11 +1,11 @@
 //! POST /consent.
 ghost use Rattle.std.specs.Prelude.{IfOk};
 ghost use Rattle.messages.specs.Asked.{asked_of};
-ghost use Rattle.answers.specs.Halts.{LeadsOrHalts};
 ghost use Rattle.answers.specs.Short.{IsShortAnswer};
 ghost use Rattle.answers.specs.Told.{Decides};
+ghost use Rattle.answers.specs.Views.{InEachSetting};
 ghost use Rattle.endpoints.specs.ConsentPath.{give_consent};
-ghost use Rattle.endpoints.specs.Parts.{InEachSetting, consent_by, consent_points};
+ghost use Rattle.endpoints.specs.Parts.{DecidesConsent};
 
 use answers::{Answer, Decision, Halt, View, Want, form, named_client, owner, scope};
 use consent::{Change, Changes, ClientNo, OwnerNo, ScopeSet};
@@ -23,8 +23,7 @@ pub(crate) struct NewConsent {
 
 // The owner, the client and what the one consents to the other's having.
 fn consented(view: &View<'_>, request: &Request<'_>, params: &Params) -> Result<NewConsent, Halt>
-    ensures { InEachSetting view.now (λ s. LeadsOrHalts result
-        (consent_points s (asked_of request.entry.now) params.now) (consent_by s)) }
+    ensures { InEachSetting view.now (λ s. DecidesConsent s (asked_of request.entry.now) params.now result) }
 {
     let Some(owner) = owner(view.rules, request) else {
         return Err(Halt::Refuse(ErrorName::AccessDenied));

@@ -1,5 +1,5 @@
 //! The operator's requests.
-ghost use Rattle.std.specs.Prelude.{◌≡◌, ℕ, List, IfOk, codes, option_and_then, option_map};
+ghost use Rattle.std.specs.Prelude.{◌≡◌, IfOk, codes};
 ghost use Rattle.params.specs.Form.{value_sent};
 ghost use Rattle.consent.specs.History.{Change};
 ghost use Rattle.messages.specs.Asked.{asked_of};
@@ -7,8 +7,8 @@ ghost use Rattle.answers.specs.Halts.{LeadsOrHalts};
 ghost use Rattle.answers.specs.Outcomes.{Outcome};
 ghost use Rattle.answers.specs.Setting.{Setting};
 ghost use Rattle.answers.specs.Short.{IsShortAnswer};
-ghost use Rattle.endpoints.specs.HookAsking.{hook_set_asked};
-ghost use Rattle.endpoints.specs.HookPaths.{hook_gone, hook_set, hook_set_by, version_asked, with_operator};
+ghost use Rattle.endpoints.specs.HookAsking.{IsAskedFor};
+ghost use Rattle.endpoints.specs.HookPaths.{hook_gone, hook_set_by, version_asked, with_operator};
 ghost use Rattle.endpoints.specs.RulingParts.{IsHookRefused, RulesHooks};
 
 use crate::redo::layout_of;
@@ -51,8 +51,7 @@ fn version_asked(params: &Params) -> Option<RecordVersion>
 
 // The hook that the parameters ask for.
 fn hook_asked(params: &Params) -> Option<HookAsked<'_>>
-    ensures { (code : List ℕ) → option_map (hook_set_asked code) result
-        ≡ option_and_then (hook_set params.now code) (value_sent (codes "name") params.now) }
+    ensures { IsAskedFor params.now result }
 {
     let name = params.get("name")?;
     let version = version_asked(params)?;

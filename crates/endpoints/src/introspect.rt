@@ -3,8 +3,8 @@ ghost use Rattle.std.specs.Prelude.{◌≡◌, IfOk};
 ghost use Rattle.messages.specs.Asked.{asked_of};
 ghost use Rattle.answers.specs.Short.{IsShortAnswer};
 ghost use Rattle.answers.specs.Told.{Decides};
+ghost use Rattle.answers.specs.Views.{InEachSetting};
 ghost use Rattle.endpoints.specs.Introspect.{introspect};
-ghost use Rattle.endpoints.specs.Parts.{InEachSetting};
 
 use crate::revoke::{live_token, presented_by};
 use answers::{Answer, Decision, Halt, View};

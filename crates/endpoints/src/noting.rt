@@ -1,7 +1,7 @@
 //! What happens is noted, for whoever keeps it.
-ghost use Rattle.std.specs.Prelude.{◌≡◌, ℕ, OnOk};
+ghost use Rattle.std.specs.Prelude.{◌≡◌, OnOk};
 ghost use Rattle.consent.specs.declared.change.Changes.{Changes};
-ghost use Rattle.endpoints.specs.Noting.{ArePrepared, noted_in, prepared_in, with_notes};
+ghost use Rattle.endpoints.specs.Noting.{NotesPrepared, ArePrepared, noted_in, prepared_in};
 
 use change_codec::Batch;
 use consent::{Changes, Moment};
@@ -24,8 +24,7 @@ pub(crate) fn prepare(
 
 /// Notes the changes that are ready, where anything is noted.
 pub(crate) fn note_prepared(unkept: &mut Option<Batch>)
-    ensures { (moment : ℕ) (changes : Changes) → ArePrepared (prepared_in unkept.old) moment changes →
-        noted_in unkept.new ≡ with_notes (noted_in unkept.old) moment changes }
+    ensures { NotesPrepared unkept.old unkept.new }
 {
     if let Some(batch) = unkept {
         batch.push();

@@ -1,10 +1,11 @@
 //! A change that happened before is made again.
-ghost use Rattle.std.specs.Prelude.{◌≡◌, ℕ, List, ◌∷◌, [], Some, IfOk, IfErr, IfSome, is_some, option_map};
+ghost use Rattle.std.specs.Prelude.{◌≡◌, ◌∷◌, [], Some, IfOk, IfErr, IfSome, is_some, option_map};
 ghost use Rattle.consent.specs.Changes.{as_list};
 ghost use Rattle.consent.specs.Consents.{FitsConsents};
-ghost use Rattle.consent.specs.History.{Event, grant_at};
+ghost use Rattle.consent.specs.History.{grant_at};
+ghost use Rattle.endpoints.specs.Parts.{WhereverFits};
 ghost use Rattle.endpoints.specs.Layouts.{layout_of};
-ghost use Rattle.token_store.specs.Fits.{FitsStore, refusal};
+ghost use Rattle.token_store.specs.Fits.{refusal};
 ghost use Rattle.endpoints.specs.FaultTexts.{redo_fault_text, of_hook_fault};
 ghost use Rattle.endpoints.specs.Redo.{RefusesHookChange, history_refusal};
 ghost use Rattle.endpoints.specs.RedoParts.{IsOfHistory};
@@ -116,15 +117,14 @@ pub(crate) fn alone<'a>(change: &Change<'a>) -> Changes<'a>
 
 // Whether the digest names something that is unexpired.
 fn is_known(store: &Store, digest: &Digest, moment: Moment) -> bool
-    ensures { (history : List Event) → FitsStore store.now history moment → result ≡ is_some (grant_at history digest.now moment) }
+    ensures { WhereverFits store.now moment (λ history. result ≡ is_some (grant_at history digest.now moment)) }
 {
     store.at(digest, moment).is_some()
 }
 
 // Why nothing may be given under the digest.
 fn digest_refusal(store: &Store, digest: &Digest, moment: Moment) -> Option<RedoFault>
-    ensures refusal { (history : List Event) → FitsStore store.now history moment →
-        result ≡ option_map RedoFault.Store (refusal history moment (digest.now ∷ [])) }
+    ensures refusal { WhereverFits store.now moment (λ h. result ≡ option_map RedoFault.Store (refusal h moment (digest.now ∷ []))) }
     ensures own { IfSome result IsOfHistory }
 {
     match store.refusal(&[*digest], moment) {
@@ -140,8 +140,7 @@ pub(crate) fn history_refusal(
     moment: Moment,
     change: &Change<'_>,
 ) -> Option<RedoFault>
-    ensures refusal { (history : List Event) → FitsStore store.now history moment → FitsConsents consents.now history →
-        result ≡ history_refusal history moment change.now }
+    ensures refusal { WhereverFits store.now moment (λ h. FitsConsents consents.now h → result ≡ history_refusal h moment change.now) }
     ensures own { IfSome result IsOfHistory }
 {
     match change {

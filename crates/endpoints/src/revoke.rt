@@ -1,11 +1,13 @@
 //! POST /revoke (RFC 7009, section 2).
-ghost use Rattle.std.specs.Prelude.{◌≡◌, ℕ, List, Option, IfOk};
+ghost use Rattle.std.specs.Prelude.{◌≡◌, Option, IfOk};
 ghost use Rattle.messages.specs.Asked.{asked_of};
 ghost use Rattle.answers.specs.Halts.{LeadsOrHalts};
 ghost use Rattle.answers.specs.Outcomes.{Outcome};
 ghost use Rattle.answers.specs.Short.{IsShortAnswer};
 ghost use Rattle.answers.specs.Told.{Decides};
-ghost use Rattle.endpoints.specs.Parts.{FindsLive, InEachSetting, with_presented};
+ghost use Rattle.answers.specs.Views.{InEachSetting};
+ghost use Rattle.endpoints.specs.declared.revoke.Presented.{Presented};
+ghost use Rattle.endpoints.specs.Parts.{FindsLive, with_presented};
 ghost use Rattle.endpoints.specs.Revoke.{revoke_token};
 
 use answers::{Answer, Decision, Halt, View, authenticated_client, digest_told, form};
@@ -28,8 +30,7 @@ pub(crate) fn presented_by(
     rules: &Registry,
     request: &Request<'_>,
 ) -> Result<Presented, Halt>
-    ensures { (next : ℕ → Option (List ℕ) → Outcome) → LeadsOrHalts result
-        (with_presented rules.now (asked_of request.entry.now) next) (λ p. next p.client p.digest) }
+    ensures { (next : Presented → Outcome) → LeadsOrHalts result (with_presented rules.now (asked_of request.entry.now) next) next }
 {
     let params = match form(alloc, request) {
         Ok(params) => params,

@@ -1,27 +1,24 @@
 //! The server.
-ghost use Rattle.std.specs.Prelude.{◌≡◌, ◌<◌, ◌≤◌, ◌↔◌, ℕ, List, [], Err, None, Some, IfErr, IfOk, OnErr, OnOk, max, length, option_map};
+ghost use Rattle.std.specs.Prelude.{◌≡◌, ◌<◌, ◌≤◌, ◌↔◌, [], Err, None, Some, IfErr, IfOk, OnErr, OnOk, max, length, option_map};
 ghost use Rattle.consent.specs.Changes.{as_list};
-ghost use Rattle.consent.specs.Consents.{FitsConsents, kept_consents};
 ghost use Rattle.consent.specs.declared.change.Changes.TheVariants.{One};
 ghost use Rattle.messages.specs.Asked.{asked_of};
 ghost use Rattle.answers.specs.Short.{IsShortReply, IsShortAnswer, state_limit};
 ghost use Rattle.change_codec.specs.Batches.{facts_in};
+ghost use Rattle.endpoints.specs.Parts.{WhereverFits};
 ghost use Rattle.endpoints.specs.Making.{HasRooms, IsReadyToMake, IsSame, Makes};
-ghost use Rattle.consent.specs.History.{Event, unexpired_count};
+ghost use Rattle.consent.specs.History.{unexpired_count};
 ghost use Rattle.endpoints.specs.Redo.{RedoesChange, RefusesRedo};
 ghost use Rattle.endpoints.specs.RedoParts.{FollowsEach};
 ghost use Rattle.endpoints.specs.Noting.{with_notes};
 ghost use Rattle.endpoints.specs.Reading.{EndsAt, IsRequestRead, IsShortReading, endpoint_of};
 ghost use Rattle.endpoints.specs.Ruling.{CanMake, CanTake};
-ghost use Rattle.endpoints.specs.Rulings.{Rules, asking_of};
-ghost use Rattle.endpoints.specs.RulingsParts.{AnswersRequest, IsAlone, IsHalted, RulesAlone};
-ghost use Rattle.endpoints.specs.Bounded.{AllRight};
-ghost use Rattle.endpoints.specs.Hosts.{HostRun};
-ghost use Rattle.endpoints.specs.Restoring.{AreOf, RefusesRestore};
+ghost use Rattle.endpoints.specs.Rulings.{RulesRead, asking_at, read_request};
+ghost use Rattle.endpoints.specs.RulingsParts.{AnswersRequest, IsHalted, RulesReadAlone};
+ghost use Rattle.endpoints.specs.Restoring.{AreConsentsOf, AreRecordsOf, GoesOnFrom, RefusesRestore, remains};
 ghost use Rattle.endpoints.specs.Server.{FitsServer, Notes, NowNotes, outset_of};
 ghost use Rattle.endpoints.specs.Steps.{KeepsBounds, Steps, Sweeps};
-ghost use Rattle.token_store.specs.Fits.{FitsHistory, FitsStore};
-ghost use Rattle.token_store.specs.Image.{as_kept};
+ghost use Rattle.token_store.specs.Fits.{FitsStore};
 
 use crate::authorize::authorize;
 use crate::beside::make_beside;
@@ -130,9 +127,7 @@ impl<H: HookHost> Server<H> {
         records: &[KeptRecord<'_>],
         consents: &[KeptConsent],
     ) -> Result<Self, RestoreFault>
-        ensures fits { IfOk result (λ server. (first : H) (history : List Event) → AreOf records.now consents.now history moment →
-            HostRun H.HookHost first history host → AllRight rules [] history →
-            FitsServer H.HookHost server (outset_of rules first) history moment) }
+        ensures fits { IfOk result (GoesOnFrom H.HookHost rules host (remains records.now consents.now moment)) }
         ensures notes { IfOk result (λ server. Notes server None []) }
         ensures refused { IfErr result (RefusesRestore records.now consents.now moment) }
     {
@@ -152,16 +147,14 @@ impl<H: HookHost> Server<H> {
 
     /// The codes and tokens that are unexpired at the greatest moment.
     pub fn records(&self, alloc: Global) -> Result<Vec<KeptRecord<'_>>, AllocError>
-        ensures { IfOk result (λ records. (history : List Event) → FitsStore self.now.store history self.now.greatest →
-            FitsHistory (as_kept records.items) history self.now.greatest) }
+        ensures { IfOk result (λ records. AreRecordsOf self.now records.items) }
     {
         self.store.records(alloc, self.greatest)
     }
 
     /// The consents.
     pub fn consents(&self, alloc: Global) -> Result<Vec<KeptConsent>, AllocError>
-        ensures { IfOk result (λ consents. (history : List Event) → FitsConsents self.now.consents history →
-            FitsConsents (kept_consents consents.items) history) }
+        ensures { IfOk result (λ consents. AreConsentsOf self.now consents.items) }
     {
         self.consents.listed(alloc)
     }
@@ -209,8 +202,7 @@ impl<H: HookHost> Server<H> {
         reading: &'a Reading,
         draws: &Draws,
     ) -> Result<Decision<'a>, Halt>
-        ensures decides { IsAlone reading.now → IsRequestRead self.now.rules (asked_of request.now) reading.now →
-            RulesAlone H.HookHost self.now (asking_of (asked_of request.now) reading.now draws.now) result }
+        ensures decides { RulesReadAlone H.HookHost self.now (read_request (asked_of request.now) reading.now draws.now) result }
         ensures short { IsShortReading reading.now → IfOk result (λ decision. IsShortAnswer decision.answer) }
     {
         let view = View {
@@ -241,8 +233,7 @@ impl<H: HookHost> Server<H> {
         reading: &'a Reading,
         draws: &Draws,
     ) -> Result<Ruling<'a, H>, Halt>
-        ensures rules { IsRequestRead self.now.rules (asked_of request.now) reading.now →
-            Rules H.HookHost self.now (asking_of (asked_of request.now) reading.now draws.now) result }
+        ensures rules { RulesRead H.HookHost self.now (read_request (asked_of request.now) reading.now draws.now) result }
         ensures hook { IfOk result (λ ruling. CanTake H.HookHost self.now.host (as_list ruling.decision.changes) ruling.checked) }
         ensures short { IsShortReading reading.now → IfOk result (λ ruling. IsShortAnswer ruling.decision.answer) }
     {
@@ -300,7 +291,7 @@ impl<H: HookHost> Server<H> {
         cause: &mut Option<Cause>,
     ) -> Result<Response, AllocError>
         ensures replies { AnswersRequest H.HookHost self.old
-            (record { endpoint = endpoint; asked = asked_of request.now; draws = draws.now }) result self.new }
+            (asking_at endpoint (asked_of request.now) draws.now) result self.new }
         ensures short { length request.now.target.now ≤ state_limit → IfOk result IsShortReply }
     {
         let reading = match self.read(endpoint, request) {
@@ -349,10 +340,9 @@ impl<H: HookHost> Server<H> {
     // Lets go of what has expired, which changes no answer.
     fn sweep(&mut self)
         ensures same { self.new ≡ record self.old { store = self.new.store } }
-        ensures fits { (history : List Event) → FitsStore self.old.store history self.old.greatest →
-            FitsStore self.new.store history self.old.greatest }
-        ensures kept { (history : List Event) → FitsStore self.old.store history self.old.greatest →
-            length self.new.store.kept ≡ unexpired_count history self.old.greatest }
+        ensures fits { WhereverFits self.old.store self.old.greatest (λ h. FitsStore self.new.store h self.old.greatest) }
+        ensures kept { WhereverFits self.old.store self.old.greatest
+            (λ h. length self.new.store.kept ≡ unexpired_count h self.old.greatest) }
     {
         let now = self.greatest;
         self.store.drop_expired(now);

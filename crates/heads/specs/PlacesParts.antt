@@ -1,9 +1,10 @@
 -- Beside Places: only the contracts of this crate's own parts and their proofs cite this, no public clause.
-use Rattle.std.specs.Prelude.{◌≡◌, ◌≤◌, ℕ, List, [], ◌∷◌, length, Option, Some, codes, ⊤}
-use Rattle.httparse.specs.Spans.{span_bytes, IsWithin}
+use Rattle.std.specs.Prelude.{◌≡◌, ◌≤◌, ◌++◌, ℕ, List, [], ◌∷◌, length, map, Option, Some, MatchOption, codes, ⊤}
+use Rattle.httparse.specs.Spans.{header_bytes, span_bytes, IsWithin}
+use Rattle.httparse.specs.declared.spans.HeaderSpan.{HeaderSpan}
 use Rattle.httparse.specs.declared.spans.Span.{Span}
 use Rattle.heads.specs.Limits.{body_size_limit}
-use Rattle.heads.specs.Fields.{field_values, field_value, content_length}
+use Rattle.heads.specs.Fields.{AreGoodFields, field_values, field_value, content_length}
 use Rattle.heads.specs.declared.fields.Lookup.{Lookup}
 use Rattle.heads.specs.declared.fields.Lookup.TheVariants.{Absent, One, Twice}
 use Rattle.heads.specs.declared.fields.FieldSpans.{FieldSpans}
@@ -18,6 +19,15 @@ IsLookupOf values bytes Twice = 2 ≤ length values
 abbrev pub IsLookup : List ℕ → List (List ℕ × List ℕ) → List ℕ → Lookup → Type 0
 IsLookup name fields bytes lookup = IsLookupOf (field_values name fields) bytes lookup
 
+-- with one value more the one answer is the other
+abbrev pub LooksOn : Lookup → Span → Lookup → Type 0
+LooksOn old span new =
+    (values : List (List ℕ)) (bytes : List ℕ) → IsLookupOf values bytes old → IsLookupOf (values ++ span_bytes bytes span ∷ []) bytes new
+
+-- the names and the values at these places
+abbrev pub fields_at : List ℕ → List HeaderSpan → List (List ℕ × List ℕ)
+fields_at bytes headers = map (header_bytes bytes) headers
+
 -- the place lies in the first n bytes
 abbrev pub IsLookupWithin : ℕ → Lookup → Type 0
 IsLookupWithin n Absent = ⊤
@@ -30,6 +40,10 @@ pub record IsPlaceOf (name bytes : List ℕ) (fields : List (List ℕ × List �
   pub value : bytes_at_place bytes place ≡ field_value name fields
   pub within : IsOptionWithin (length bytes) place
 
+-- it is answered; nothing, where the name stands twice or more
+abbrev pub FindsPlaceOf : List ℕ → List ℕ → List (List ℕ × List ℕ) → Option (Option Span) → Type 0
+FindsPlaceOf name bytes fields found = MatchOption found (2 ≤ length (field_values name fields)) (λ place. IsPlaceOf name bytes fields place)
+
 -- the fields are good, and their values lie at these places
 pub record AreFieldsIn (bytes : List ℕ) (fields : List (List ℕ × List ℕ)) (spans : FieldSpans) : Type 0 where
   pub transfer : field_values (codes "transfer-encoding") fields ≡ []
@@ -39,3 +53,7 @@ pub record AreFieldsIn (bytes : List ℕ) (fields : List (List ℕ × List ℕ))
   pub operator_key : IsPlaceOf (codes "x-operator-key") bytes fields spans.operator_key
   pub body : content_length fields ≡ Some spans.body_length
   pub small : spans.body_length ≤ body_size_limit
+
+-- that is answered; nothing, where they are not good
+abbrev pub FindsFields : List ℕ → List (List ℕ × List ℕ) → Option FieldSpans → Type 0
+FindsFields bytes fields found = MatchOption found (¬ (AreGoodFields fields)) (λ spans. AreFieldsIn bytes fields spans)

@@ -1,9 +1,9 @@
 //! The fields of a head that count (RFC 9110, section 5).
-ghost use Rattle.std.specs.Prelude.{◌≡◌, ◌≤◌, ℕ, List, All, length, map, ◌∷◌, [], ◌++◌, IfSome, MatchOption, bytes_eq};
-ghost use Rattle.httparse.specs.Spans.{IsHeaderWithin, header_bytes, span_bytes};
+ghost use Rattle.std.specs.Prelude.{◌≡◌, ◌≤◌, ℕ, All, length, IfSome, bytes_eq};
+ghost use Rattle.httparse.specs.Spans.{IsHeaderWithin};
 ghost use Rattle.heads.specs.Limits.{body_size_limit};
-ghost use Rattle.heads.specs.Fields.{field_values, lowercase, AreGoodFields, content_length};
-ghost use Rattle.heads.specs.PlacesParts.{IsLookup, IsLookupOf, IsLookupWithin, IsPlaceOf, AreFieldsIn};
+ghost use Rattle.heads.specs.Fields.{lowercase, content_length};
+ghost use Rattle.heads.specs.PlacesParts.{IsLookup, IsLookupWithin, LooksOn, FindsFields, FindsPlaceOf, fields_at};
 
 use crate::content_length::read_body_length;
 use httparse::spans::{HeaderSpan, Span};
@@ -30,8 +30,7 @@ pub struct FieldSpans {
 // The fields that count. None: some are faulty.
 pub(crate) fn read_fields(bytes: &[u8], headers: &[HeaderSpan]) -> Option<FieldSpans>
     requires { All (IsHeaderWithin (length bytes.now)) headers.now }
-    ensures { MatchOption result (¬ (AreGoodFields (map (header_bytes bytes.now) headers.now)))
-        (λ spans. AreFieldsIn bytes.now (map (header_bytes bytes.now) headers.now) spans) }
+    ensures { FindsFields bytes.now (fields_at bytes.now headers.now) result }
 {
     let Lookup::Absent = find(bytes, headers, b"transfer-encoding") else {
         return None;
@@ -53,8 +52,7 @@ pub(crate) fn read_fields(bytes: &[u8], headers: &[HeaderSpan]) -> Option<FieldS
 // The one value of a name, if there is one. None: there are several.
 fn at_most_once(bytes: &[u8], headers: &[HeaderSpan], name: &[u8]) -> Option<Option<Span>>
     requires { All (IsHeaderWithin (length bytes.now)) headers.now }
-    ensures { MatchOption result (2 ≤ length (field_values name.now (map (header_bytes bytes.now) headers.now)))
-        (λ place. IsPlaceOf name.now bytes.now (map (header_bytes bytes.now) headers.now) place) }
+    ensures { FindsPlaceOf name.now bytes.now (fields_at bytes.now headers.now) result }
 {
     match find(bytes, headers, name) {
         Lookup::Absent => Some(None),
@@ -66,7 +64,7 @@ fn at_most_once(bytes: &[u8], headers: &[HeaderSpan], name: &[u8]) -> Option<Opt
 // How long the body is by Content-Length. None: it is faulty.
 fn length_of_body(bytes: &[u8], headers: &[HeaderSpan]) -> Option<usize>
     requires { All (IsHeaderWithin (length bytes.now)) headers.now }
-    ensures value { result ≡ content_length (map (header_bytes bytes.now) headers.now) }
+    ensures value { result ≡ content_length (fields_at bytes.now headers.now) }
     ensures small { IfSome result (λ length_read. length_read ≤ body_size_limit) }
 {
     match find(bytes, headers, b"content-length") {
@@ -78,7 +76,7 @@ fn length_of_body(bytes: &[u8], headers: &[HeaderSpan]) -> Option<usize>
 
 fn find(bytes: &[u8], headers: &[HeaderSpan], name: &[u8]) -> Lookup
     requires { All (IsHeaderWithin (length bytes.now)) headers.now }
-    ensures found { IsLookup name.now (map (header_bytes bytes.now) headers.now) bytes.now result }
+    ensures found { IsLookup name.now (fields_at bytes.now headers.now) bytes.now result }
     ensures within { IsLookupWithin (length bytes.now) result }
 {
     let mut found = Lookup::Absent;
@@ -97,8 +95,7 @@ fn is_named(sent: &[u8], name: &[u8]) -> bool
 }
 
 fn one_more(found: Lookup, header: HeaderSpan) -> Lookup
-    ensures value { (values : List (List ℕ)) (bytes : List ℕ) → IsLookupOf values bytes found
-        → IsLookupOf (values ++ span_bytes bytes header.value ∷ []) bytes result }
+    ensures value { LooksOn found header.value result }
     ensures within { (n : ℕ) → IsHeaderWithin n header → IsLookupWithin n result }
 {
     match found {

@@ -11,10 +11,10 @@ use Rattle.endpoints.specs.Server.{SeenServer, Outset, FitsServer, AreUnkept, No
 use Rattle.heads.specs.Message.{Message}
 use Rattle.heads.specs.ReadingLaws.{messages_cut, nothing_has_none}
 use Rattle.http_edge.specs.Answers.{AnsweredRequest, changes_made, draws_in, marks_in, replies_of}
-use Rattle.http_edge.specs.Schedule.{World, Connection, Piece, AnsweredPiece, Happening, Opened, Came, HasEnded, Taken, Forgotten, Kept, Happens, Run, ended, has_stream_ended, is_closing_phase, first_world, resumed, fresh, heard, piece_of, with_connection, without_connection, moment_after, faulty_if}
+use Rattle.http_edge.specs.Schedule.{World, Connection, Piece, AnsweredPiece, Happening, Opened, Came, HasEnded, Taken, Forgotten, Kept, Happens, Run, ended, has_stream_ended, is_closing_phase, first_world, resumed, fresh, heard, with_connection, without_connection, moment_after, faulty_if}
 use Rattle.http_edge.specs.Lanes.{SeenLane, lane_at, ShowsConnection, ShowsConnections}
 use Rattle.http_edge.specs.LanesParts.{with_lane, without_lane, fresh_lane}
-use Rattle.http_edge.specs.Heard.{AreMessagesRead, HearingLane, LaneHeard, hearing_lane}
+use Rattle.http_edge.specs.Heard.{AreMessagesRead, IsHeard, bytes_at, hearing}
 use Rattle.http_edge.specs.Edges.{SeenEdge}
 use Rattle.http_edge.specs.Reached.{Journey, Reached, BeginsOver, ResumesOver, GoesOn, HappeningLeads, PieceLeads}
 use Rattle.http_edge.specs.Pieces.{PieceGiven, supplied}
@@ -221,25 +221,19 @@ shows_heard lane lane' k piece messages requests middle closes is_open shows num
       nothing_held = nothing_kept closes lane'.rest read.rest read.kept_is;
     }
 
--- what was heard on a lane is of whatever connection it is looked for by
-pub heard_of : {H S : Type 0} (hosting : Hosting H) (sources : Sources S) (old : HearingLane H S) (piece : Piece) (new : HearingLane H S) (c : ℕ) →
-    LaneHeard hosting sources old piece new → LaneHeard hosting sources old (piece_of c piece.bytes piece.moment) new
-heard_of hosting sources old piece new c l = record { closes = l.closes; number_is = l.number_is; phase_is = l.phase_is; heard = l.heard }
-
 -- a piece that was heard leads on
 leads_heard : {H S : Type 0} (hosting : Hosting H) (sources : Sources S) (edge edge' : SeenEdge H) (piece : Piece) (lane lane' : SeenLane) (source source' : S) →
     lane_at edge.lanes piece.connection ≡ Some lane → lane.phase ≡ Open → length piece.bytes ≤ 65536 →
-    (l : LaneHeard hosting sources (hearing_lane edge.server lane source) piece (hearing_lane edge'.server lane' source')) → edge'.lanes ≡ with_lane piece.connection lane' edge.lanes →
-    PieceLeads hosting edge edge' piece (draws_for sources source l.heard.messages)
-leads_heard hosting sources edge edge' piece lane lane' source source' here is_open short lane_heard lanes journey reached =
+    (hears : IsHeard hosting sources (hearing edge.server lane source) (bytes_at (lane.rest ++ piece.bytes) piece.moment) (hearing edge'.server lane' source')) → edge'.lanes ≡ with_lane piece.connection lane' edge.lanes →
+    PieceLeads hosting edge edge' piece (draws_for sources source hears.messages)
+leads_heard hosting sources edge edge' piece lane lane' source source' here is_open short hears lanes journey reached =
     let world = journey.world in
     let c = piece.connection in
     let at = shows_here edge.lanes world.connections c lane reached.shows here in
     let k = at.0 in
     let shows = at.2 in
     let opened : k.phase ≡ Open = sym shows.phase ∙ is_open in
-    let hears = lane_heard.heard in
-    let closes = lane_heard.closes in
+    let closes = hears.closes in
     let messages = hears.messages in
     let served = hears.serves journey.outset world.history world.greatest reached.server in
     let m = moment_after world.greatest piece.moment messages in
@@ -271,7 +265,7 @@ leads_heard hosting sources edge edge' piece lane lane' source source' here is_o
       }),
     ) in
     let shown : ShowsConnection lane' k' =
-    shows_heard lane lane' k piece.bytes messages served.requests hears.middle closes opened shows lane_heard.number_is hears.read lane_heard.phase_is hears.output_is served.output_is in
+    shows_heard lane lane' k piece.bytes messages served.requests hears.middle closes opened shows hears.number_is hears.read (hears.phase_is ∙ ap (λ (p : Phase). cond closes Closing p) is_open) hears.output_is served.output_is in
     record {
       marks = marks_in served.requests;
       closes = closes;
@@ -291,10 +285,10 @@ leads_heard hosting sources edge edge' piece lane lane' source source' here is_o
 -- a piece was heard
 pub on_heard : {H S : Type 0} (hosting : Hosting H) (sources : Sources S) (edge edge' : SeenEdge H) (piece : Piece) (lane lane' : SeenLane) (source source' : S) →
     lane_at edge.lanes piece.connection ≡ Some lane → lane.phase ≡ Open → length piece.bytes ≤ 65536 →
-    LaneHeard hosting sources (hearing_lane edge.server lane source) piece (hearing_lane edge'.server lane' source') → edge'.lanes ≡ with_lane piece.connection lane' edge.lanes →
+    IsHeard hosting sources (hearing edge.server lane source) (bytes_at (lane.rest ++ piece.bytes) piece.moment) (hearing edge'.server lane' source') → edge'.lanes ≡ with_lane piece.connection lane' edge.lanes →
     PieceGiven hosting sources (supplied edge source) piece (supplied edge' source')
-on_heard hosting sources edge edge' piece lane lane' source source' here is_open short lane_heard lanes = record {
-  messages = lane_heard.heard.messages;
+on_heard hosting sources edge edge' piece lane lane' source source' here is_open short hears lanes = record {
+  messages = hears.messages;
   brought = λ journey reached.
       let at = shows_here edge.lanes journey.world.connections piece.connection lane reached.shows here in
       let opened : at.0.phase ≡ Open = sym at.2.phase ∙ is_open in
@@ -303,10 +297,10 @@ on_heard hosting sources edge edge' piece lane lane' source source' here is_open
         here = at.1;
         is_open = opened;
         short = short;
-        rest = lane_heard.heard.read.rest;
-        reads = messages_cut at.0.stream piece.bytes at.0.messages lane_heard.heard.messages lane.rest lane_heard.heard.read.rest (at.2.rest opened) lane_heard.heard.read.reads;
+        rest = hears.read.rest;
+        reads = messages_cut at.0.stream piece.bytes at.0.messages hears.messages lane.rest hears.read.rest (at.2.rest opened) hears.read.reads;
       });
-  enough = lane_heard.heard.enough;
-  leads = leads_heard hosting sources edge edge' piece lane lane' source source' here is_open short lane_heard lanes;
-  source_is = lane_heard.heard.source_is;
+  enough = hears.enough;
+  leads = leads_heard hosting sources edge edge' piece lane lane' source source' here is_open short hears lanes;
+  source_is = hears.source_is;
 }

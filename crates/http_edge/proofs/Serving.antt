@@ -2,7 +2,7 @@
 use Rattle.std.proofs.Common.{◌≡◌, ℕ, List, [], ◌∷◌, ◌++◌, false, map, append_assoc, append-nil, refl, ap, ◌∙◌, sym, subst, arith}
 use Rattle.std.proofs.lemmas.List.{map-append}
 use Rattle.std.proofs.lemmas.List.Concat.{flat_map-append}
-use Rattle.std.specs.Prelude.{max}
+use Rattle.std.specs.Prelude.{max, Option}
 use Rattle.hook_host.specs.declared.host.HookHost.{Ghosts as Hosting}
 use Rattle.consent.specs.History.{Event, Change, event_at, with_changes}
 use Rattle.messages.specs.declared.request.Draws.{Draws}
@@ -13,10 +13,12 @@ use Rattle.endpoints.specs.Hosts.{says_with}
 use Rattle.endpoints.specs.Replies.{request_outcome}
 use Rattle.endpoints.specs.Server.{SeenServer, Outset, Before, FitsServer, AreNoted, IsStep}
 use Rattle.endpoints.specs.Steps.{Steps}
-use Rattle.heads.specs.Message.{Message, asked_of_message}
+use Rattle.heads.specs.Message.{Message, Messages, asked_of_message}
 use Rattle.http_edge.specs.Answers.{AnsweredRequest, IsOutcomeOfRequest, AreAnswered, AreAskedBy, changes_made, draws_in, replies_of}
-use Rattle.http_edge.specs.Heard.{AreMessagesServed, IsStillNone, IsHeard, after_hearing, before_hearing, before_messages, replying}
+use Rattle.http_edge.specs.Heard.{AreMessagesServed, IsStillNone, IsHeard, IsHearingRefusal, bytes_at, hearing, before_messages, replying}
+use Rattle.http_edge.specs.Lanes.{SeenLane}
 use Rattle.http_edge.specs.declared.source.DrawSource.{Ghosts as Sources}
+use Rattle.http_edge.specs.declared.fault.EdgeFault.TheVariants.{Memory}
 use Rattle.http_edge.proofs.Supplying.{suffices_none}
 
 -- changes after changes
@@ -135,14 +137,24 @@ served_push hosting first server server' output out outset history m moment mess
     served_next hosting first server server' output out outset history m moment messages draws message d reply served (subst P asks steps)
 
 -- bytes in which there is no message are heard
-pub heard_none : {H S : Type 0} (hosting : Hosting H) (sources : Sources S) (server : SeenServer H) (source : S) (bytes kept output : List ℕ) (moment : ℕ) → IsStillNone bytes → kept ≡ bytes →
-    IsHeard hosting sources (before_hearing (replying server output) bytes moment source) (after_hearing (replying server output) kept source false)
-heard_none hosting sources server source bytes kept output moment none same = record {
+pub heard_none : {H S : Type 0} (hosting : Hosting H) (sources : Sources S) (server : SeenServer H) (source : S) (lane lane' : SeenLane) (bytes : List ℕ) (moment : ℕ) → IsStillNone bytes →
+    lane'.rest ≡ bytes → lane'.output ≡ lane.output → lane'.number ≡ lane.number → lane'.phase ≡ lane.phase →
+    IsHeard hosting sources (hearing server lane source) (bytes_at bytes moment) (hearing server lane' source)
+heard_none hosting sources server source lane lane' bytes moment none same output number phase = record {
   messages = [];
+  closes = false;
   read = record { rest = bytes; reads = record { reads = refl; none = none.none }; few = omega arith; kept_is = same; may_tell = λ e. absurd (cc); must_tell = λ must. absurd (none.untold must) };
   enough = suffices_none (sources.supply source);
-  middle = output;
-  serves = λ outset history m fits. served_none hosting server output moment outset history m fits;
-  output_is = sym (append-nil output);
+  middle = lane.output;
+  serves = λ outset history m fits. served_none hosting server lane.output moment outset history m fits;
+  output_is = output ∙ sym (append-nil lane.output);
+  number_is = number;
+  phase_is = phase;
   source_is = refl;
 }
+
+-- where memory is refused, it is for nothing that was to be answered
+pub refused_none : (bytes : List ℕ) (supply : Option ℕ) → IsStillNone bytes → IsHearingRefusal Memory bytes supply
+refused_none bytes supply none =
+    let reads : Messages bytes [] bytes = record { reads = refl; none = none.none } in
+    ([], bytes, reads, omega arith, suffices_none supply)

@@ -1,18 +1,20 @@
 -- A piece that was read and answered.
-use Rattle.std.specs.Prelude.{◌≡◌, ◌≤◌, ◌<◌, ℕ, List, [], ◌++◌, Bool, true, Option, length, if◌then◌else◌}
+use Rattle.std.specs.Prelude.{◌≡◌, ◌≤◌, ◌<◌, ◌+◌, ◌*◌, ℕ, List, [], ◌++◌, Bool, true, Option, length, if◌then◌else◌}
 use Rattle.hook_host.specs.declared.host.HookHost.{Ghosts as Hosting}
 use Rattle.consent.specs.History.{Event, with_changes}
 use Rattle.messages.specs.declared.request.Draws.{Draws}
+use Rattle.messages.specs.Small.{reply_limit}
 use Rattle.endpoints.specs.Server.{SeenServer, Outset, Before, FitsServer, AreNoted}
 use Rattle.heads.specs.Message.{Message, HasNone, ReadsMessages, Messages, IsHopeless, MustTell}
+use Rattle.heads.specs.declared.scan.Scan.{Scan}
 use Rattle.http_edge.specs.Limits.{request_limit}
 use Rattle.http_edge.specs.Answers.{AnsweredRequest, AreAnswered, AreAskedBy, draws_in, changes_made, replies_of}
-use Rattle.http_edge.specs.Schedule.{Piece, faulty_if, moment_after}
+use Rattle.http_edge.specs.Schedule.{faulty_if, moment_after}
 use Rattle.http_edge.specs.Supply.{Suffices, FallsShort}
 use Rattle.http_edge.specs.Sources.{draws_for, draws_behind}
 use Rattle.http_edge.specs.declared.source.DrawSource.{Ghosts as Sources}
 use Rattle.http_edge.specs.Lanes.{SeenLane}
-use Rattle.http_edge.specs.declared.lane.Phase.TheVariants.{Open, Closing}
+use Rattle.http_edge.specs.declared.lane.Phase.TheVariants.{Closing}
 use Rattle.http_edge.specs.declared.fault.EdgeFault.{EdgeFault}
 use Rattle.http_edge.specs.declared.fault.EdgeFault.TheVariants.{TooManyRequests, DrawsShort, Memory}
 
@@ -27,6 +29,10 @@ pub record HasMessages (bytes : List ℕ) (count : ℕ) : Type 0 where
   pub rest : List ℕ
   pub reads : ReadsMessages bytes messages rest
   pub count_is : length messages ≡ count
+
+-- so much room do the replies to what was read need at most, and the 400 of a faulty head behind them
+abbrev pub reply_room : Scan → ℕ
+reply_room scan = scan.count * reply_limit + length (faulty_if scan.faulty)
 
 -- a server, and the output behind which it writes its replies
 pub record Replying (H : Type 0) : Type 0 where
@@ -68,6 +74,36 @@ ServesMessages hosting old incoming new =
     (outset : Outset _) (history : List Event) (m : ℕ) → FitsServer hosting old.server outset history m →
     AreMessagesServed hosting (before_messages old.server outset history m incoming) old.output incoming new
 
+-- what answers requests: a server with its output, and what they have their draws from
+pub record Answering (H S : Type 0) : Type 0 where
+  pub replying : Replying H
+  pub source : S
+
+abbrev pub answering : {H S : Type 0} → SeenServer H → List ℕ → S → Answering H S
+answering server output source = record { replying = replying server output; source = source }
+
+-- the first requests of bytes, so many, which came at a moment
+pub record FirstRequests : Type 0 where
+  pub bytes : List ℕ
+  pub count : ℕ
+  pub moment : ℕ
+
+abbrev pub first_requests : List ℕ → ℕ → ℕ → FirstRequests
+first_requests bytes count moment = record { bytes = bytes; count = count; moment = moment }
+
+-- these messages are theirs
+pub record AreFirst (first : FirstRequests) (messages : List Message) : Type 0 where
+  pub rest : List ℕ
+  pub reads : ReadsMessages first.bytes messages rest
+  pub count_is : length messages ≡ first.count
+
+-- the first requests were answered, each with the source's next draws
+pub record AnswersFirst {H S : Type 0} (hosting : Hosting H) (sources : Sources S) (old : Answering H S) (first : FirstRequests) (new : Answering H S) :
+    Type 0 where
+  pub serves : (messages : List Message) → AreFirst first messages →
+      ServesMessages hosting old.replying (drawn_for sources old.source messages first.moment) new.replying
+  pub source_is : (messages : List Message) → AreFirst first messages → new.source ≡ draws_behind sources old.source messages
+
 -- the messages of the bytes, how many there may be, and what is kept of the bytes
 pub record AreMessagesRead (bytes kept : List ℕ) (messages : List Message) (closes : Bool) : Type 0 where
   pub rest : List ℕ
@@ -77,34 +113,35 @@ pub record AreMessagesRead (bytes kept : List ℕ) (messages : List Message) (cl
   pub may_tell : closes ≡ true → IsHopeless rest
   pub must_tell : MustTell rest → closes ≡ true
 
--- what hears bytes at a moment: a server, the bytes, the output behind which it writes, and what its requests have their draws from
-pub record BeforeHearing (H S : Type 0) : Type 0 where
-  pub replying : Replying H
+-- what hears bytes: a server, the lane on which they come, and what their requests have their draws from
+pub record Hearing (H S : Type 0) : Type 0 where
+  pub server : SeenServer H
+  pub lane : SeenLane
+  pub source : S
+
+abbrev pub hearing : {H S : Type 0} → SeenServer H → SeenLane → S → Hearing H S
+hearing server lane source = record { server = server; lane = lane; source = source }
+
+-- bytes that came at a moment
+pub record TimedBytes : Type 0 where
   pub bytes : List ℕ
   pub moment : ℕ
-  pub source : S
 
--- what is then: the server and its output, what is kept of the bytes, the source, and whether a faulty head was told of
-pub record AfterHearing (H S : Type 0) : Type 0 where
-  pub replying : Replying H
-  pub kept : List ℕ
-  pub source : S
-  pub closes : Bool
+abbrev pub bytes_at : List ℕ → ℕ → TimedBytes
+bytes_at bytes moment = record { bytes = bytes; moment = moment }
 
-abbrev pub before_hearing : {H S : Type 0} → Replying H → List ℕ → ℕ → S → BeforeHearing H S
-before_hearing replying bytes moment source = record { replying = replying; bytes = bytes; moment = moment; source = source }
-
-abbrev pub after_hearing : {H S : Type 0} → Replying H → List ℕ → S → Bool → AfterHearing H S
-after_hearing replying kept source closes = record { replying = replying; kept = kept; source = source; closes = closes }
-
--- the messages of the bytes were answered, each with the source's next draws, and after them a faulty head
-pub record IsHeard {H S : Type 0} (hosting : Hosting H) (sources : Sources S) (old : BeforeHearing H S) (new : AfterHearing H S) : Type 0 where
+-- the messages of the bytes were answered, each with the source's next draws, and after them a faulty head, if one was told of
+pub record IsHeard {H S : Type 0} (hosting : Hosting H) (sources : Sources S) (old : Hearing H S) (came : TimedBytes) (new : Hearing H S) : Type 0 where
   pub messages : List Message
-  pub read : AreMessagesRead old.bytes new.kept messages new.closes
+  pub closes : Bool
+  pub read : AreMessagesRead came.bytes new.lane.rest messages closes
   pub enough : Suffices (sources.supply old.source) (length messages)
   pub middle : List ℕ
-  pub serves : ServesMessages hosting old.replying (drawn_for sources old.source messages old.moment) (replying new.replying.server middle)
-  pub output_is : new.replying.output ≡ middle ++ faulty_if new.closes
+  pub serves : ServesMessages hosting (replying old.server old.lane.output) (drawn_for sources old.source messages came.moment)
+      (replying new.server middle)
+  pub output_is : new.lane.output ≡ middle ++ faulty_if closes
+  pub number_is : new.lane.number ≡ old.lane.number
+  pub phase_is : new.lane.phase ≡ (if closes then Closing else old.lane.phase)
   pub source_is : new.source ≡ draws_behind sources old.source messages
 
 -- why bytes are refused
@@ -115,22 +152,3 @@ IsHearingRefusal DrawsShort bytes supply = (messages : List Message) × (rest : 
 IsHearingRefusal Memory bytes supply = (messages : List Message) × (rest : List ℕ) × Messages bytes messages rest × (length messages ≤ request_limit) ×
     Suffices supply (length messages)
 IsHearingRefusal fault bytes supply = ⊥
-
--- a lane that may hear a piece: its server, and what the requests have their draws from
-pub record HearingLane (H S : Type 0) : Type 0 where
-  pub server : SeenServer H
-  pub lane : SeenLane
-  pub source : S
-
-abbrev pub hearing_lane : {H S : Type 0} → SeenServer H → SeenLane → S → HearingLane H S
-hearing_lane server lane source = record { server = server; lane = lane; source = source }
-
--- bytes were heard on a lane at the moment
-pub record LaneHeard {H S : Type 0} (hosting : Hosting H) (sources : Sources S) (old : HearingLane H S) (piece : Piece) (new : HearingLane H S) :
-    Type 0 where
-  pub closes : Bool
-  pub number_is : new.lane.number ≡ old.lane.number
-  pub phase_is : new.lane.phase ≡ (if closes then Closing else Open)
-  pub heard : IsHeard hosting sources
-      (before_hearing (replying old.server old.lane.output) (old.lane.rest ++ piece.bytes) piece.moment old.source)
-      (after_hearing (replying new.server new.lane.output) new.lane.rest new.source closes)

@@ -1,10 +1,8 @@
 //! Requests answered one after another.
-ghost use Rattle.std.specs.Prelude.{◌≡◌, ◌≤◌, ◌+◌, ◌*◌, ℕ, List, length, vec_len, vec_capacity};
+ghost use Rattle.std.specs.Prelude.{◌≤◌, ◌+◌, ◌*◌, vec_len, vec_capacity};
 ghost use Rattle.messages.specs.Small.{reply_limit};
-ghost use Rattle.heads.specs.Message.{Message, ReadsMessages};
 ghost use Rattle.heads.specs.Front.{IsFront};
-ghost use Rattle.http_edge.specs.Heard.{HasMessages, ServesMessages, drawn_for, replying};
-ghost use Rattle.http_edge.specs.Sources.{draws_behind};
+ghost use Rattle.http_edge.specs.Heard.{HasMessages, AnswersFirst, answering, first_requests};
 ghost use Rattle.http_edge.specs.Supply.{Suffices};
 
 use crate::source::DrawSource;
@@ -29,11 +27,8 @@ pub(crate) fn answer_all<H: HookHost, S: DrawSource>(
     requires messages { HasMessages bytes.now count }
     requires draws { Suffices (S.supply source.old) count }
     requires room { vec_len output.old + count * reply_limit ≤ vec_capacity output.old }
-    ensures served { (messages : List Message) (rest : List ℕ) → ReadsMessages bytes.now messages rest → length messages ≡ count →
-        ServesMessages H.HookHost (replying server.old output.old.items) (drawn_for S.DrawSource source.old messages moment)
-        (replying server.new output.new.items) }
-    ensures drawn { (messages : List Message) (rest : List ℕ) → ReadsMessages bytes.now messages rest → length messages ≡ count →
-        source.new ≡ draws_behind S.DrawSource source.old messages }
+    ensures answered { AnswersFirst H.HookHost S.DrawSource (answering server.old output.old.items source.old) (first_requests bytes.now count moment)
+        (answering server.new output.new.items source.new) }
     ensures room { vec_capacity output.old ≤ vec_capacity output.new }
     ensures len { vec_len output.new ≤ vec_len output.old + count * reply_limit }
 {

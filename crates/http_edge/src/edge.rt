@@ -1,17 +1,14 @@
 //! Connections of bytes over a server.
-ghost use Rattle.std.specs.Prelude.{None, ◌≡◌, ◌≤◌, ◌<◌, ◌==◌, ℕ, List, [], ◌∷◌, ◌++◌, length, drop, is_some, vec_len, vec_capacity, IsSome, Some, IfOk, OnOk, OnErr, IfErr};
+ghost use Rattle.std.specs.Prelude.{None, ◌≡◌, ◌≤◌, ◌<◌, ◌==◌, [], ◌∷◌, ◌++◌, length, drop, is_some, vec_len, vec_capacity, IsSome, Some, OnOk, OnErr, IfErr};
 ghost use Rattle.std.specs.Option.{option_copied};
 ghost use Rattle.std.specs.List.{position};
 ghost use Rattle.change_codec.specs.Batches.{facts_in};
 ghost use Rattle.endpoints.specs.Server.{AreUnkept};
-ghost use Rattle.http_edge.specs.declared.lane.Phase.TheVariants.{Open};
-ghost use Rattle.http_edge.specs.Limits.{piece_limit, room_to_hear};
 ghost use Rattle.http_edge.specs.Schedule.{HasEnded, Opened, Taken, Forgotten, Kept, connection_at, ended, piece_of, untaken};
 ghost use Rattle.http_edge.specs.Lanes.{lane_at, rest_in, output_in};
 ghost use Rattle.http_edge.specs.LanesParts.{fresh_lane, without_lane, is_closing_lane};
 ghost use Rattle.http_edge.specs.Places.{AreApart};
 ghost use Rattle.http_edge.specs.PlacesParts.{IsPosition};
-ghost use Rattle.http_edge.specs.Heard.{LaneHeard, IsHearingRefusal, hearing_lane};
 ghost use Rattle.http_edge.specs.Edges.{output_of, unkept_of};
 ghost use Rattle.http_edge.specs.EdgesParts.{IsOpenRefusal, IsEndRefusal, IsBytesRefusal};
 ghost use Rattle.http_edge.specs.Reached.{BeginsOver, ResumesOver, InEach, HappeningLeads, is_closing, IsHeld};
@@ -167,7 +164,7 @@ fn remove_lane(lanes: &mut Vec<Lane>, c: ConnectionNo)
 }
 
 fn end_lane(lane: &mut Lane)
-    ensures { lane.new ≡ record { number = lane.old.number; phase = ended lane.old.phase; rest = []; output = lane.old.output } }
+    ensures { lane.new ≡ record lane.old { phase = ended lane.old.phase; rest = [] } }
 {
     lane.phase = lane.phase.ended();
     lane.rest.clear();
@@ -175,50 +172,10 @@ fn end_lane(lane: &mut Lane)
 
 fn take_output(lane: &mut Lane, n: usize)
     requires { n ≤ length lane.old.output }
-    ensures { lane.new ≡ record { number = lane.old.number; phase = lane.old.phase; rest = lane.old.rest; output = drop n lane.old.output } }
+    ensures { lane.new ≡ record lane.old { output = drop n lane.old.output } }
 {
     take_front(&mut lane.output, n);
     give_back(&mut lane.output);
-}
-
-fn hear_lane<H: HookHost, S: DrawSource>(
-    server: &mut Server<H>,
-    work: &mut Vec<u8>,
-    lane: &mut Lane,
-    piece: &[u8],
-    moment: Moment,
-    source: &mut S,
-) -> Result<(), EdgeFault>
-    requires is_open { lane.old.phase ≡ Open }
-    requires short { length piece.now ≤ piece_limit }
-    requires empty { vec_len work.old ≡ 0 }
-    requires room { room_to_hear ≤ vec_capacity work.old }
-    ensures heard { OnOk result (LaneHeard H.HookHost S.DrawSource (hearing_lane server.old lane.old source.old)
-        (piece_of lane.old.number piece.now moment) (hearing_lane server.new lane.new source.new)) }
-    ensures refused { IfErr result (λ fault. IsHearingRefusal fault (lane.old.rest ++ piece.now) (S.supply source.old)) }
-    ensures server_kept { OnErr result (server.new ≡ server.old) }
-    ensures lane_kept { OnErr result (lane.new ≡ lane.old) }
-    ensures source_kept { OnErr result (source.new ≡ source.old) }
-    ensures empty { vec_len work.new ≡ 0 }
-    ensures room { vec_capacity work.old ≤ vec_capacity work.new }
-{
-    match hear(
-        server,
-        work,
-        &mut lane.rest,
-        &mut lane.output,
-        piece,
-        moment,
-        source,
-    ) {
-        Ok(closes) => {
-            if closes {
-                lane.phase = Phase::Closing;
-            }
-            Ok(())
-        }
-        Err(fault) => Err(fault),
-    }
 }
 
 impl<H: HookHost> Edge<H> {
@@ -332,7 +289,7 @@ impl<H: HookHost> Edge<H> {
         if self.lanes[i].phase.is_closing() {
             return Ok(());
         }
-        if let Err(fault) = hear_lane(
+        if let Err(fault) = hear(
             &mut self.server,
             &mut self.work,
             &mut self.lanes[i],

@@ -1,14 +1,15 @@
 //! A piece is read and answered.
-ghost use Rattle.std.specs.Prelude.{◌≡◌, ◌≤◌, ◌<◌, ◌+◌, ◌*◌, ℕ, List, [], ◌++◌, Bool, Option, length, drop, vec_len, vec_capacity, IfOk, OnOk, IfErr, OnErr, if◌then◌else◌};
-ghost use Rattle.messages.specs.Small.{reply_limit};
+ghost use Rattle.std.specs.Prelude.{◌≡◌, ◌≤◌, ◌<◌, ◌+◌, ℕ, List, [], ◌++◌, length, drop, vec_len, vec_capacity, OnOk, IfErr, OnErr, if◌then◌else◌};
 ghost use Rattle.heads.specs.Scan.{IsScan};
 ghost use Rattle.http_edge.specs.Limits.{piece_limit, request_limit, room_to_hear};
 ghost use Rattle.http_edge.specs.Schedule.{faulty_if};
 ghost use Rattle.http_edge.specs.Supply.{Suffices};
-ghost use Rattle.http_edge.specs.Heard.{IsHeard, IsHearingRefusal, after_hearing, before_hearing, replying};
+ghost use Rattle.http_edge.specs.Heard.{IsHeard, IsHearingRefusal, bytes_at, hearing, reply_room};
+ghost use Rattle.http_edge.specs.declared.lane.Phase.TheVariants.{Closing};
 
 use crate::answering::answer_all;
 use crate::fault::EdgeFault;
+use crate::lane::{Lane, Phase};
 use crate::limits::{REPLY_LIMIT, REQUEST_LIMIT};
 use crate::rest::Rest;
 use crate::room::{give_back, put};
@@ -17,6 +18,7 @@ use endpoints::{Moment, Server};
 use heads::{Scan, read_front, scan_behind};
 use hook_host::HookHost;
 use messages::push_faulty;
+use std::alloc::AllocError;
 
 // So many bytes has the 400 of a faulty head.
 const FAULTY_SIZE: usize = 66;
@@ -24,7 +26,7 @@ const FAULTY_SIZE: usize = 66;
 // How much room the replies need at most.
 fn room_for(scan: &Scan) -> usize
     requires { scan.now.count ≤ request_limit }
-    ensures { scan.now.count * reply_limit + length (faulty_if scan.now.faulty) ≤ result }
+    ensures { reply_room scan.now ≤ result }
 {
     if scan.faulty {
         scan.count * REPLY_LIMIT + FAULTY_SIZE
@@ -37,8 +39,7 @@ fn room_for(scan: &Scan) -> usize
 fn make_room<S: DrawSource>(output: &mut Vec<u8>, scan: &Scan, source: &S) -> Result<(), EdgeFault>
     ensures few { OnOk result (scan.now.count ≤ request_limit) }
     ensures enough { OnOk result (Suffices (S.supply source.now) scan.now.count) }
-    ensures room { OnOk result (vec_len output.new + scan.now.count * reply_limit + length (faulty_if scan.now.faulty)
-        ≤ vec_capacity output.new) }
+    ensures room { OnOk result (vec_len output.new + reply_room scan.now ≤ vec_capacity output.new) }
     ensures refused { (bytes : List ℕ) → IsScan bytes scan.now → IfErr result (λ fault. IsHearingRefusal fault bytes (S.supply source.now)) }
     ensures items { output.new.items ≡ output.old.items }
 {
@@ -55,21 +56,16 @@ fn make_room<S: DrawSource>(output: &mut Vec<u8>, scan: &Scan, source: &S) -> Re
 }
 
 // Keeps what was not read, and nothing behind a faulty head.
-fn keep_rest(rest: &mut Rest, bytes: &[u8], scan: &Scan) -> Result<(), EdgeFault>
+fn keep_rest(rest: &mut Rest, bytes: &[u8], scan: &Scan) -> Result<(), AllocError>
     requires { IsScan bytes.now scan.now }
     ensures ok { OnOk result (rest.new ≡ (if scan.now.faulty then [] else drop scan.now.end bytes.now)) }
-    ensures refused { (supply : Option ℕ) → scan.now.count ≤ request_limit → Suffices supply scan.now.count →
-        IfErr result (λ fault. IsHearingRefusal fault bytes.now supply) }
     ensures err { OnErr result (rest.new ≡ rest.old) }
 {
     if scan.faulty {
         rest.clear();
         return Ok(());
     }
-    let Ok(()) = rest.replace(&bytes[scan.end..], scan.wanted) else {
-        return Err(EdgeFault::Memory);
-    };
-    Ok(())
+    rest.replace(&bytes[scan.end..], scan.wanted)
 }
 
 fn tell(output: &mut Vec<u8>, faulty: bool)
@@ -81,72 +77,82 @@ fn tell(output: &mut Vec<u8>, faulty: bool)
     }
 }
 
-// Answers the requests of the bytes, and keeps their rest. The answer is whether a faulty head was told of.
+// After a faulty head was told of, a lane is closing.
+fn phase_after(phase: Phase, scan: &Scan) -> Phase
+    ensures { result ≡ (if scan.now.faulty then Closing else phase) }
+{
+    if scan.faulty { Phase::Closing } else { phase }
+}
+
+// Answers the requests of the bytes, and keeps their rest.
 fn answer_bytes<H: HookHost, S: DrawSource>(
     server: &mut Server<H>,
     bytes: &[u8],
-    rest: &mut Rest,
-    output: &mut Vec<u8>,
+    lane: &mut Lane,
     moment: Moment,
     source: &mut S,
-) -> Result<bool, EdgeFault>
-    ensures heard { IfOk result (λ closes. IsHeard H.HookHost S.DrawSource
-        (before_hearing (replying server.old output.old.items) bytes.now moment source.old)
-        (after_hearing (replying server.new output.new.items) rest.new source.new closes)) }
+) -> Result<(), EdgeFault>
+    ensures heard { OnOk result (IsHeard H.HookHost S.DrawSource (hearing server.old lane.old source.old)
+        (bytes_at bytes.now moment) (hearing server.new lane.new source.new)) }
     ensures refused { IfErr result (λ fault. IsHearingRefusal fault bytes.now (S.supply source.old)) }
     ensures server_kept { OnErr result (server.new ≡ server.old) }
-    ensures rest_kept { OnErr result (rest.new ≡ rest.old) }
-    ensures output_kept { OnErr result (output.new.items ≡ output.old.items) }
+    ensures lane_kept { OnErr result (lane.new ≡ lane.old) }
     ensures source_kept { OnErr result (source.new ≡ source.old) }
 {
     let first = read_front(bytes);
     let scan = scan_behind(bytes, first);
-    if let Err(fault) = make_room(output, &scan, source) {
+    if let Err(fault) = make_room(&mut lane.output, &scan, source) {
         return Err(fault);
     }
-    if let Err(fault) = keep_rest(rest, bytes, &scan) {
-        return Err(fault);
-    }
-    answer_all(server, bytes, first, scan.count, moment, source, output);
-    tell(output, scan.faulty);
-    give_back(output);
-    Ok(scan.faulty)
+    let Ok(()) = keep_rest(&mut lane.rest, bytes, &scan) else {
+        return Err(EdgeFault::Memory);
+    };
+    answer_all(
+        server,
+        bytes,
+        first,
+        scan.count,
+        moment,
+        source,
+        &mut lane.output,
+    );
+    tell(&mut lane.output, scan.faulty);
+    give_back(&mut lane.output);
+    lane.phase = phase_after(lane.phase, &scan);
+    Ok(())
 }
 
-/// Reads the rest and the piece, and answers the requests in them. The two lie together in `work` meanwhile, which has room
-/// for them and is empty before and after. The answer is whether a faulty head was told of.
+/// Reads the lane's rest and the piece, and answers the requests in them. The two lie together in `work` meanwhile, which has
+/// room for them and is empty before and after. After a faulty head was told of the lane is closing.
 pub(crate) fn hear<H: HookHost, S: DrawSource>(
     server: &mut Server<H>,
     work: &mut Vec<u8>,
-    rest: &mut Rest,
-    output: &mut Vec<u8>,
+    lane: &mut Lane,
     piece: &[u8],
     moment: Moment,
     source: &mut S,
-) -> Result<bool, EdgeFault>
+) -> Result<(), EdgeFault>
     requires short { length piece.now ≤ piece_limit }
     requires empty { vec_len work.old ≡ 0 }
     requires room { room_to_hear ≤ vec_capacity work.old }
-    ensures heard { IfOk result (λ closes. IsHeard H.HookHost S.DrawSource
-        (before_hearing (replying server.old output.old.items) (rest.old ++ piece.now) moment source.old)
-        (after_hearing (replying server.new output.new.items) rest.new source.new closes)) }
-    ensures refused { IfErr result (λ fault. IsHearingRefusal fault (rest.old ++ piece.now) (S.supply source.old)) }
+    ensures heard { OnOk result (IsHeard H.HookHost S.DrawSource (hearing server.old lane.old source.old)
+        (bytes_at (lane.old.rest ++ piece.now) moment) (hearing server.new lane.new source.new)) }
+    ensures refused { IfErr result (λ fault. IsHearingRefusal fault (lane.old.rest ++ piece.now) (S.supply source.old)) }
     ensures server_kept { OnErr result (server.new ≡ server.old) }
-    ensures rest_kept { OnErr result (rest.new ≡ rest.old) }
-    ensures output_kept { OnErr result (output.new.items ≡ output.old.items) }
+    ensures lane_kept { OnErr result (lane.new ≡ lane.old) }
     ensures source_kept { OnErr result (source.new ≡ source.old) }
     ensures empty { vec_len work.new ≡ 0 }
     ensures room { vec_capacity work.old ≤ vec_capacity work.new }
 {
-    let Ok(waits) = rest.wait(piece) else {
+    let Ok(waits) = lane.rest.wait(piece) else {
         return Err(EdgeFault::Memory);
     };
     if waits {
-        return Ok(false);
+        return Ok(());
     }
-    put(work, rest.as_slice());
+    put(work, lane.rest.as_slice());
     put(work, piece);
-    let answer = answer_bytes(server, work.as_slice(), rest, output, moment, source);
+    let answer = answer_bytes(server, work.as_slice(), lane, moment, source);
     work.clear();
     answer
 }

@@ -1,12 +1,13 @@
 -- What hooks leave of tokens.
-use Rattle.std.specs.Prelude.{◌≡◌, ◌≤◌, ⊤, List, [], ◌∷◌, true}
-use Rattle.consent.specs.History.{Change, is_within}
+use Rattle.std.specs.Prelude.{◌≡◌, ◌≤◌, ⊤, List, [], ◌∷◌, true, codes}
+use Rattle.clients.specs.RegistryRecord.{RegistryRecord}
+use Rattle.consent.specs.History.{Change, Event, is_within}
 use Rattle.consent.specs.History.Change.{Issued}
 use Rattle.hook_record.specs.declared.Ask.{Ask}
 use Rattle.hook_record.specs.declared.Narrowed.{Narrowed}
 use Rattle.hook_record.specs.declared.Narrowed.TheVariants.{Allowed}
 use Rattle.answers.specs.Outcomes.{Outcome}
-use Rattle.promises.specs.Occasions.{Occasion}
+use Rattle.promises.specs.Occasions.{GoesTo, Occasion, outcome_of, reply_on}
 
 -- a host without hooks allows all that is asked
 abbrev pub allows_all : Ask → Narrowed
@@ -36,3 +37,9 @@ AreParts changes others = ⊥
 pub record IsNarrowed (outcome other : Outcome) : Type 0 where
   pub granted : other.reply.status ≡ 200
   pub parts : AreParts outcome.changes other.changes
+
+-- tokens that are answered would be answered without hooks too, and are parts of what they would be then
+abbrev pub WidensNothing : RegistryRecord → List Event → Occasion → Type 0
+WidensNothing rules history occasion =
+    GoesTo occasion (codes "/token") → (reply_on rules history occasion).status ≡ 200 →
+    IsNarrowed (outcome_of rules history occasion) (outcome_of rules history (without_hooks occasion))

@@ -1,5 +1,5 @@
 -- A request at a server, what it comes to, and what it leaves.
-use Rattle.std.specs.Prelude.{◌≡◌, ℕ, List, Bool}
+use Rattle.std.specs.Prelude.{◌≡◌, ℕ, List, [], Bool}
 use Rattle.clients.specs.RegistryRecord.{RegistryRecord}
 use Rattle.consent.specs.History.{Event, with_changes}
 use Rattle.messages.specs.Target.{path_of}
@@ -39,3 +39,11 @@ history_after rules history occasion = with_changes history occasion.arrival.mom
 -- it goes to this path
 abbrev pub GoesTo : Occasion → List ℕ → Type 0
 GoesTo occasion path = path_of occasion.arrival.asked.target ≡ path
+
+-- so it is on each occasion, under all rules and after every history
+abbrev pub OnEachOccasion : (RegistryRecord → List Event → Occasion → Type 0) → Type 0
+OnEachOccasion fact = (rules : RegistryRecord) (history : List Event) (occasion : Occasion) → fact rules history occasion
+
+-- with a 503 nothing happens
+abbrev pub IsIdleWhere503 : RegistryRecord → List Event → Occasion → Type 0
+IsIdleWhere503 rules history occasion = (reply_on rules history occasion).status ≡ 503 → (outcome_of rules history occasion).changes ≡ []

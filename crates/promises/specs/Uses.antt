@@ -8,7 +8,7 @@ use Rattle.consent.specs.History.{Event, Grant, grants, live_grant}
 use Rattle.answers.specs.Requesters.{Parameters, form_of}
 use Rattle.answers.specs.Texts.{digest_told}
 use Rattle.answers.specs.Tokens.{live_token}
-use Rattle.promises.specs.Occasions.{Occasion, GoesTo, reply_on}
+use Rattle.promises.specs.Occasions.{Occasion, GoesTo, history_after, reply_on}
 
 -- the parameters present the text as a code or as a refresh token
 abbrev pub Presents : Parameters → List ℕ → Type 0
@@ -49,3 +49,13 @@ IsUsedUp rules history text =
 abbrev pub IsDead : List Event → ℕ → Type 0
 IsDead history family =
     (digest : List ℕ) (moment : ℕ) (grant : Grant) → live_grant history digest moment ≡ Some grant → grant.family ≢ family
+
+-- each text that is exchanged is used up
+abbrev pub UsesUp : RegistryRecord → List Event → Occasion → Type 0
+UsesUp rules history occasion = (text : List ℕ) → Exchanges rules history occasion text → IsUsedUp rules (history_after rules history occasion) text
+
+-- the family of each token that is revoked is dead, whatever comes
+abbrev pub RevokesForGood : RegistryRecord → List Event → Occasion → Type 0
+RevokesForGood rules history occasion =
+    (token : Grant) (later : List Event) → Revokes rules history occasion token →
+    IsDead (history_after rules history occasion ++ later) token.family

@@ -1,8 +1,8 @@
 //! A connection served from its opening on.
-ghost use Rattle.std.specs.Prelude.{◌≡◌, ◌<◌, ◌+◌, ℕ, List, [], Option, true, false, Some, None, OnOk, OnErr, IfOk, IfErr};
+ghost use Rattle.std.specs.Prelude.{◌≡◌, ◌<◌, Some, OnOk, OnErr, IfErr};
 ghost use Rattle.http_edge.specs.Reached.{Journey, Reached};
-ghost use Rattle.serving.specs.Served.{Runs, Coming, Reading, Finished, Ended, Served, Left, IsAttentive, IsWritten, WriteFails, edge_stream, serving_scene, stream_service, LeadsOn, any_fault};
-ghost use Rattle.serving.specs.ServedParts.{Goes, stage_heard, stage_over};
+ghost use Rattle.serving.specs.Served.{Runs, Coming, Reading, Finished, Served, Left, IsAttentive, IsWritten, WriteFails, edge_stream, serving_scene, stream_service, LeadsOn, any_fault};
+ghost use Rattle.serving.specs.ServedParts.{Goes, GoesByRead, serving, stage_over};
 ghost use Rattle.serving.specs.Answered.{ServesConnection};
 ghost use Rattle.serving.specs.declared.fault.ServeFault.TheVariants.{Write};
 
@@ -35,9 +35,8 @@ fn hear<H: HookHost, S: Stream, C: Clock>(
     rng: &mut ChaCha20Rng,
 ) -> Result<Heard, ServeFault>
     requires attentive { IsAttentive H.HookHost edge.old c }
-    ensures { (n : ℕ) → n < 1048576 → Goes (stream_service H.HookHost S.does c) C.tells
-        (serving_scene (Reading n) edge.old stream.old clock.old rng.old)
-        (serving_scene (stage_heard n result) edge.new stream.new clock.new rng.new) }
+    ensures { GoesByRead (stream_service H.HookHost S.does c) C.tells (serving edge.old stream.old clock.old rng.old) result
+        (serving edge.new stream.new clock.new rng.new) }
 {
     let mut buffer = [0; PIECE_LIMIT];
     let Ok(count) = stream.receive(&mut buffer) else {

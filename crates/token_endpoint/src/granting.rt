@@ -1,10 +1,8 @@
 //! What a host is asked, and the tokens that are issued.
-ghost use Rattle.std.specs.Prelude.{◌≡◌, List, Ok};
-ghost use Rattle.consent.specs.History.{Event};
-ghost use Rattle.answers.specs.Setting.{HostSays};
+ghost use Rattle.std.specs.Prelude.{◌≡◌, Ok};
 ghost use Rattle.answers.specs.Short.{IsShortAnswer};
 ghost use Rattle.answers.specs.ToldParts.{DecidesOf};
-ghost use Rattle.answers.specs.Views.{Shows, known_of, setting_of};
+ghost use Rattle.answers.specs.Views.{InEachSetting, known_of};
 ghost use Rattle.token_endpoint.specs.Grants.{access_for, both_for};
 ghost use Rattle.token_endpoint.specs.Issuing.{access_token, refresh_token};
 ghost use Rattle.token_endpoint.specs.Parts.{wished};
@@ -26,8 +24,7 @@ pub(crate) struct Wish {
 
 // The ask of a grant to the client.
 pub(crate) fn ask_for(view: &View<'_>, known: &KnownClient<'_>, wish: Wish) -> Ask
-    ensures { (history : List Event) (host : HostSays) → Shows view.now history →
-        result ≡ wished (setting_of view.now history host) (known_of known.now) wish }
+    ensures { InEachSetting view.now (λ s. result ≡ wished s (known_of known.now) wish) }
 {
     let owner = match wish.owner {
         Some(owner) => u64::from(owner.get()),
@@ -121,7 +118,7 @@ pub(crate) fn both_for<'c>(
     kept: ScopeSet,
 ) -> Decision<'c>
     ensures decides { DecidesOf view.now digest.now used.now (Ok result)
-        (λ s used. both_for s used (record { scope = scope; life = life }) kept) }
+        (λ s g. both_for s g (record { scope = scope; life = life }) kept) }
     ensures short { IsShortAnswer result.answer }
 {
     let token = access_token(view, scope, life);

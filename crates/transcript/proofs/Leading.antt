@@ -7,7 +7,7 @@ use Rattle.http_edge.specs.Edges.{SeenEdge}
 use Rattle.transcript.specs.Lines.{Statement, Opens, Brings, Ends, States}
 use Rattle.transcript.specs.Events.{LineStandsFor, StandFor}
 use Rattle.transcript.specs.Faults.{IsLineFault}
-use Rattle.transcript.specs.Running.{StatementLeads, LineLeads, LineFails, RunTo, RunsLines, LinesFail, edge_opened, opened_at, opened_by}
+use Rattle.transcript.specs.Running.{StatementLeads, LineLeads, LineFails, RunTo, RunsLines, LinesFail, edge_with, opened_at, opened_by}
 use Rattle.transcript.specs.declared.fault.ReplayFault.{ReplayFault}
 
 abbrev pub texts : List (Bor (List ℕ)) → List (List ℕ)
@@ -51,7 +51,7 @@ pub nothing_run : {H : Type 0} (hosting : Hosting H) (edge : SeenEdge H) → Run
 nothing_run hosting edge = λ outset reached. record { schedule = []; stand_for = tt {0}; world = first_world; reached = reached; opened_are = refl }
 
 pub run_on : {H : Type 0} (hosting : Hosting H) (old middle new : SeenEdge H) (lines : List (List ℕ)) (line opened opened' : List ℕ)
-    → RunsLines hosting old middle lines opened → LineLeads hosting (edge_opened middle opened) line (edge_opened new opened') → RunsLines hosting old new (lines ++ line ∷ []) opened'
+    → RunsLines hosting old middle lines opened → LineLeads hosting (edge_with middle opened) line (edge_with new opened') → RunsLines hosting old new (lines ++ line ∷ []) opened'
 run_on hosting old middle new lines line opened opened' before step = λ outset reached. by_statement outset (before outset reached) step.statement step.states step.leads step.opened_are
   where
     by_statement : (outset : _) (run : RunTo hosting outset lines middle opened) (statement : Statement) → States line statement → StatementLeads hosting middle new statement
@@ -87,7 +87,7 @@ run_on hosting old middle new lines line opened opened' before step = λ outset 
 
 -- one line more was run
 pub run_line_on : {H : Type 0} (hosting : Hosting H) (old middle new : SeenEdge H) (lines : List (Bor (List ℕ))) (i : ℕ) (d : Bor (List ℕ)) (opened opened' : List ℕ) → i < length lines
-    → RunsLines hosting old middle (texts (take i lines)) opened → LineLeads hosting (edge_opened middle opened) (get_or lines i d).now (edge_opened new opened') → RunsLines hosting old new (texts (take (i + 1) lines)) opened'
+    → RunsLines hosting old middle (texts (take i lines)) opened → LineLeads hosting (edge_with middle opened) (get_or lines i d).now (edge_with new opened') → RunsLines hosting old new (texts (take (i + 1) lines)) opened'
 run_line_on hosting old middle new lines i d opened opened' below before step =
     subst (λ (front : List (List ℕ)). RunsLines hosting old new front opened') (sym (ap (λ (n : ℕ). texts (take n lines)) (next i) ∙ texts_to lines i d below))
     (run_on hosting old middle new (texts (take i lines)) (get_or lines i d).now opened opened' before step)

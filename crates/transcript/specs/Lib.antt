@@ -8,3 +8,4 @@ pub mod Replays
 pub mod Seen
 -- What only the contracts of this crate's own parts and their proofs cite.
 pub mod Running
+pub mod SeenParts

@@ -14,9 +14,12 @@ use Rattle.transcript.specs.Faults.{IsLineFault}
 use Rattle.transcript.specs.declared.fault.ReplayFault.{ReplayFault}
 use Rattle.transcript.specs.declared.fault.ReplayFault.TheVariants.{Config, BadLine, Refused, Memory}
 
--- how the output of a connection is printed: the connection's number, how many bytes there are, and the bytes
+-- how the output of a connection is printed: the connection's number and how many bytes there are, and then the bytes
+abbrev pub printed_head : ℕ → ℕ → List ℕ
+printed_head c count = codes "connection " ++ decimal c ++ codes " " ++ decimal count ++ codes "\n"
+
 abbrev pub printed : ℕ → List ℕ → List ℕ
-printed c output = codes "connection " ++ decimal c ++ codes " " ++ decimal (length output) ++ codes "\n" ++ output ++ codes "\n"
+printed c output = printed_head c (length output) ++ output ++ codes "\n"
 
 -- all that went to all connections, in the order of their opening
 abbrev pub printed_all : World → List ℕ

@@ -35,8 +35,8 @@ pub record EdgeOpened (H : Type 0) : Type 0 where
   pub edge : SeenEdge H
   pub opened : List ℕ
 
-abbrev pub edge_opened : {H : Type 0} → SeenEdge H → List ℕ → EdgeOpened H
-edge_opened edge opened = record { edge = edge; opened = opened }
+abbrev pub edge_with : {H : Type 0} → SeenEdge H → List ℕ → EdgeOpened H
+edge_with edge opened = record { edge = edge; opened = opened }
 
 -- what a line states leads from the one edge to the other, and a connection that it opens comes behind the others
 pub record LineLeads {H : Type 0} (hosting : Hosting H) (old : EdgeOpened H) (line : List ℕ) (new : EdgeOpened H) : Type 0 where

@@ -1,10 +1,10 @@
 //! The lines of a transcript.
 
-ghost use Rattle.std.specs.Prelude.{◌≡◌, ◌==◌, ◌∷◌, [], ℕ, List, map, codes, Some, IfOk, IfSome};
-ghost use Rattle.std.specs.List.{slice_split};
+ghost use Rattle.std.specs.Prelude.{◌≡◌, ◌∷◌, [], ℕ, List, map, Some, IfOk, IfSome};
 ghost use Rattle.std.specs.Option.{option_copied, option_map};
 ghost use Rattle.transcript.specs.Lines.{transcript_lines, line_words, HandsIn, States, Statement, WordsState};
 ghost use Rattle.transcript.specs.Seen.{stated};
+ghost use Rattle.transcript.specs.SeenParts.{MeansOne, MeansOnly};
 
 use crate::number::{connection, moment};
 use crate::piece::{draws, piece};
@@ -80,10 +80,8 @@ fn of_piece(
     drawn: &str,
     hex: &str,
 ) -> Result<Option<Line>, AllocError>
-    ensures some { IfOk result (λ o. IfSome o (λ line.
-        WordsState (name.now ∷ number.now ∷ seconds.now ∷ drawn.now ∷ hex.now ∷ []) (stated line))) }
-    ensures only { IfOk result (λ o. (other : Statement) →
-        WordsState (name.now ∷ number.now ∷ seconds.now ∷ drawn.now ∷ hex.now ∷ []) other → option_map stated o ≡ Some other) }
+    ensures some { IfOk result (MeansOne (WordsState (name.now ∷ number.now ∷ seconds.now ∷ drawn.now ∷ hex.now ∷ [])) stated) }
+    ensures only { IfOk result (MeansOnly (WordsState (name.now ∷ number.now ∷ seconds.now ∷ drawn.now ∷ hex.now ∷ [])) stated) }
 {
     if name != "bytes" {
         return Ok(None);
@@ -110,8 +108,8 @@ fn of_piece(
 
 /// What words state.
 fn of_words(alloc: Global, words: &[&str]) -> Result<Option<Line>, AllocError>
-    ensures some { IfOk result (λ o. IfSome o (λ line. WordsState (map (λ word. word.now) words.now) (stated line))) }
-    ensures only { IfOk result (λ o. (other : Statement) → WordsState (map (λ word. word.now) words.now) other → option_map stated o ≡ Some other) }
+    ensures some { IfOk result (MeansOne (WordsState (map (λ word. word.now) words.now)) stated) }
+    ensures only { IfOk result (MeansOnly (WordsState (map (λ word. word.now) words.now)) stated) }
 {
     match words {
         [name, number] => Ok(of_connection(name, number)),

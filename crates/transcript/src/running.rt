@@ -1,10 +1,10 @@
 //! A transcript's lines, run over an edge.
 
-ghost use Rattle.std.specs.Prelude.{◌≡◌, ◌++◌, [], codes, map, IfOk, IfErr, OnOk};
+ghost use Rattle.std.specs.Prelude.{◌≡◌, ◌++◌, [], map, IfOk, IfErr, OnOk};
 ghost use Rattle.std.specs.Fmt.{decimal};
 ghost use Rattle.transcript.specs.Seen.{stated};
-ghost use Rattle.transcript.specs.Replays.{printed, IsReplay, IsReplayFault};
-ghost use Rattle.transcript.specs.Running.{edge_opened, opened_by, printed_from, AnswersLines, LinesFail, LineFails, LineLeads, RunsLines, StatementLeads, StatementRefuses};
+ghost use Rattle.transcript.specs.Replays.{printed, printed_head, IsReplay, IsReplayFault};
+ghost use Rattle.transcript.specs.Running.{edge_with, opened_by, printed_from, AnswersLines, LinesFail, LineFails, LineLeads, RunsLines, StatementLeads, StatementRefuses};
 
 use crate::fault::ReplayFault;
 use crate::line::{Line, json, lines, statement};
@@ -56,8 +56,8 @@ fn run_line<H: HookHost>(
     number: usize,
     text: &str,
 ) -> Result<(), ReplayFault>
-    ensures done { OnOk result (LineLeads H.HookHost (edge_opened edge.old opened.old.items) text.now
-        (edge_opened edge.new opened.new.items)) }
+    ensures done { OnOk result (LineLeads H.HookHost (edge_with edge.old opened.old.items) text.now
+        (edge_with edge.new opened.new.items)) }
     ensures fault { IfErr result (LineFails H.HookHost edge.old number text.now) }
 {
     let Some(line) = statement(alloc, text)? else {
@@ -99,7 +99,7 @@ fn print_number(out: &mut Vec<u8>, number: usize) -> Result<(), AllocError>
 
 /// The line before a connection's output is printed.
 fn print_head(out: &mut Vec<u8>, c: ConnectionNo, count: usize) -> Result<(), AllocError>
-    ensures { OnOk result (out.new.items ≡ out.old.items ++ (codes "connection " ++ decimal c ++ codes " " ++ decimal count ++ codes "\n")) }
+    ensures { OnOk result (out.new.items ≡ out.old.items ++ printed_head c count) }
 {
     out.extend_from_slice(b"connection ")?;
     print_number(out, c.get() as usize)?;

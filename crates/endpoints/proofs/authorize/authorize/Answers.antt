@@ -2,14 +2,17 @@ use Rattle.std.proofs.Common.{ap, sym, Some, ◌∙◌}
 use Rattle.std.specs.Prelude.{codes}
 use Rattle.messages.specs.Reply.{sent_back}
 use Rattle.messages.specs.Written.{error_text}
+use Rattle.messages.specs.Asked.{asked_of}
 use Rattle.answers.specs.Outcomes.{only}
+use Rattle.answers.specs.Views.{setting_of}
+use Rattle.endpoints.specs.Parts.{authorize_known}
 use Rattle.endpoints.proofs.authorize.authorize.Goals as goal
 
 pub returns-in-Ok-code_facts-clause-decides : goal.returns-in-Ok-code_facts-clause-decides
 returns-in-Ok-code_facts-clause-decides c = λ history host shows.
-    c.give_code.ensures.told history host shows ∙ ap Some (sym (c.in-Ok.ensures.leads _ ∙ c.in-Ok-code_facts.ensures.decides history host shows))
+    c.give_code.ensures.told history host shows ∙ ap Some (sym (c.in-Ok.ensures.leads (λ who. authorize_known (setting_of c.args.view.now history host) (asked_of c.args.request.now) c.args.params.now who.0 who.1) ∙ c.in-Ok-code_facts.ensures.decides history host shows))
 
 pub returns-in-Err-code_facts-clause-decides : goal.returns-in-Err-code_facts-clause-decides
 returns-in-Err-code_facts-clause-decides c = λ history host shows.
     ap (λ state. Some (only (sent_back c.in-Ok.requester.redirect.now (codes "error") (error_text c.in-Err-code_facts.error) state))) c.get.ensures
-    ∙ ap Some (sym (c.in-Ok.ensures.leads _ ∙ c.in-Err-code_facts.ensures.decides history host shows))
+    ∙ ap Some (sym (c.in-Ok.ensures.leads (λ who. authorize_known (setting_of c.args.view.now history host) (asked_of c.args.request.now) c.args.params.now who.0 who.1) ∙ c.in-Err-code_facts.ensures.decides history host shows))

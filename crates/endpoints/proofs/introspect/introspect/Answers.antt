@@ -9,7 +9,7 @@ use Rattle.endpoints.proofs.introspect.introspect.Goals as goal
 
 pub returns-in-Err-clause-decides : goal.returns-in-Err-clause-decides
 returns-in-Err-clause-decides c = λ history host shows.
-    c.in-Err.ensures (λ _ d. told_by_live c.args.view.now.rules.now (live_of history c.args.view.now.moment d))
+    c.in-Err.ensures (λ p. told_by_live c.args.view.now.rules.now (live_of history c.args.view.now.moment p.digest))
 
 pub returns-in_default-clause-decides : goal.returns-in_default-clause-decides
 returns-in_default-clause-decides c = λ history host shows.

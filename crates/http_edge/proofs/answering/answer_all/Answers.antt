@@ -10,6 +10,7 @@ use Rattle.heads.specs.ReadingLaws.{reads_push, reads_next, reads_same}
 use Rattle.heads.specs.WaitingLaws.{front_whole}
 use Rattle.http_edge.proofs.Fronts.{tail_is, target_fits}
 use Rattle.http_edge.specs.declared.source.Demand.{Demand}
+use Rattle.http_edge.specs.Heard.{AreFirst, first_requests}
 use Rattle.http_edge.specs.Sources.{demand_of, draws_for, draws_behind}
 use Rattle.http_edge.proofs.Serving.{served_none, served_push}
 use Rattle.http_edge.proofs.Drawing.{draws_push, behind_push}
@@ -117,20 +118,15 @@ loop-i-preserved g c =
       room = omega (arith, room, more_room);
     }
 
-pub returns-clause-served : goal.returns-clause-served
-returns-clause-served g c = λ messages rest reads count outset history m fits.
+pub returns-clause-answered : goal.returns-clause-answered
+returns-clause-answered g c =
     let before = c.loop-i.invariant in
     let test = c.loop-i-test.false in
     let le = c.loop-i.auto.i-end in
     let end : c.loop-i.i ≡ c.args.count = omega (arith, test, le) in
-    let same = reads_same c.args.bytes.now before.messages messages _ rest (before.count ∙ end ∙ sym count) before.reads reads in
-    rw (← same.0) (before.served outset history m fits)
-
-pub returns-clause-drawn : goal.returns-clause-drawn
-returns-clause-drawn g c = λ messages rest reads count.
-    let before = c.loop-i.invariant in
-    let test = c.loop-i-test.false in
-    let le = c.loop-i.auto.i-end in
-    let end : c.loop-i.i ≡ c.args.count = omega (arith, test, le) in
-    let same = reads_same c.args.bytes.now before.messages messages _ rest (before.count ∙ end ∙ sym count) before.reads reads in
-    rw (← same.0) before.drawn
+    let same = λ (messages : List Message) (first : AreFirst (first_requests c.args.bytes.now c.args.count c.args.moment) messages).
+    reads_same c.args.bytes.now before.messages messages _ first.rest (before.count ∙ end ∙ sym first.count_is) before.reads first.reads in
+    record {
+      serves = λ messages first outset history m fits. rw (← (same messages first).0) (before.served outset history m fits);
+      source_is = λ messages first. rw (← (same messages first).0) before.drawn;
+    }

@@ -7,7 +7,7 @@ use Rattle.http_edge.specs.declared.lane.Phase.TheVariants.{Open, Closing}
 use Rattle.http_edge.proofs.Phases.{closing_by, open_by}
 use Rattle.http_edge.proofs.Placing.{lane_is, put_at, apart_put}
 use Rattle.http_edge.proofs.Refusing.{refused_is}
-use Rattle.http_edge.proofs.Going.{heard_of, on_passed, on_heard}
+use Rattle.http_edge.proofs.Going.{on_passed, on_heard}
 use Rattle.http_edge.proofs.edge.Edge.hear_piece.Goals as goal
 
 pub returns-then-is_closing-clause-given : goal.returns-then-is_closing-clause-given
@@ -38,9 +38,9 @@ returns-clause-given g c =
     let not_closing = rw seen-2 at (sym c.is_closing.ensures ∙ c.if-is_closing.false) in
     let opened : r.phase ≡ Open = open_by r.phase not_ended not_closing in
     rw (← c.self.view_is)
-    (on_heard g.H.HookHost g.S.DrawSource _ _ (piece_of c.args.c c.args.piece.now c.args.moment) r c.hear_lane.new.lane c.args.source.now _ (place.here ∙ ap Some same) opened (let test = c.if-piece-gt-PIECE_LIMIT.false in omega (arith, test))
-    (heard_of g.H.HookHost g.S.DrawSource _ _ _ c.args.c c.in_default-hear_lane.ensures.heard)
-    (put_at lanes c.args.c c.in-Some.i place c.hear_lane.new.lane c.hear_lane.new.lane refl))
+    (on_heard g.H.HookHost g.S.DrawSource _ _ (piece_of c.args.c c.args.piece.now c.args.moment) r c.hear.new.lane c.args.source.now _ (place.here ∙ ap Some same) opened (let test = c.if-piece-gt-PIECE_LIMIT.false in omega (arith, test))
+    c.in_default-hear.ensures.heard
+    (put_at lanes c.args.c c.in-Some.i place c.hear.new.lane c.hear.new.lane refl))
 
 pub returns-in-Err-clause-refused : goal.returns-in-Err-clause-refused
 returns-in-Err-clause-refused g c =
@@ -63,5 +63,5 @@ invariant_of-self-2 g c =
     let lanes = c.self.inside.lanes.items in
     let place : IsPlace lanes c.args.c c.in-Some.i = rw c.deref.ensures.value at c.in-Some.ensures in
     let same = lane_is lanes c.args.c c.in-Some.i c.index_mut.result.now place c.index_mut.ensures.value in
-    let number = c.in_default-hear_lane.ensures.heard.number_is ∙ ap (λ (l : SeenLane). l.number) (sym same) in
-    (search rules, search rules, apart_put lanes c.args.c c.in-Some.i place c.hear_lane.new.lane number c.self.invariant.2)
+    let number = c.in_default-hear.ensures.heard.number_is ∙ ap (λ (l : SeenLane). l.number) (sym same) in
+    (search rules, search rules, apart_put lanes c.args.c c.in-Some.i place c.hear.new.lane number c.self.invariant.2)
