@@ -1,7 +1,8 @@
 //! Client authentication by HTTP Basic or by parameters (RFC 6749, section 2.3.1; RFC 7617).
 
-ghost use Rattle.std.specs.Prelude.{◌≡◌, ◌≤◌, length, ◌==◌, ◌&&◌, nat_lt, true, false, not, drop, bytes_eq, if◌then◌else◌, string_bytes, option_copied, IfOk, IfErr, IfSome, Ok, Err, None, Some};
-ghost use Rattle.std.specs.List.{position, list_all};
+ghost use Rattle.std.specs.Prelude.{◌≡◌, ◌≤◌, length, ◌==◌, ℕ, List, true, false, not, drop, bytes_eq, if◌then◌else◌, string_bytes, option_copied, IfOk, IfErr, Ok, Err, None, Some};
+ghost use Rattle.std.specs.Cow.{cow_str_bytes};
+ghost use Rattle.std.specs.List.{position};
 ghost use Rattle.std.specs.Option.{ok_or, option_map_or};
 ghost use Rattle.std.specs.Str.{is_utf8};
 ghost use Rattle.authentication.specs.FaultTexts.{auth_fault_text};
@@ -19,8 +20,9 @@ use consent::ClientNo;
 use form_urlencoded::decode;
 use params::{Params, has_replacement};
 use std::alloc::{AllocError, Global};
+use std::borrow::CowStr;
 use std::error::Error;
-use std::{fmt, str};
+use std::fmt;
 
 /// Why a request authenticates no client.
 #[derive(Clone, Copy, Debug, PartialEq, Eq, Hash)]
@@ -119,54 +121,27 @@ fn around_colon(text: &[u8]) -> Result<(&[u8], &[u8]), AuthFault>
     }
 }
 
-// The text that was form-encoded (RFC 6749, appendix B).
-fn form_text(alloc: Global, bytes: &[u8]) -> Result<String, AuthFault>
-    ensures { GivesUnless AuthFault.Memory Unit (seen_by string_bytes result) (form_text bytes.now) }
+// The text that was form-encoded (RFC 6749, appendix B): where it stands as it is, it is no copy.
+fn form_text(alloc: Global, bytes: &[u8]) -> Result<CowStr<'_>, AuthFault>
+    ensures { GivesUnless AuthFault.Memory Unit (seen_by cow_str_bytes result) (form_text bytes.now) }
 {
     let text = decode(alloc, bytes)?;
     if has_replacement(&text) {
         return Err(AuthFault::BadHeader);
     }
-    Ok(text.into_owned(alloc)?)
-}
-
-// No byte stands for another in a form: there is no `+`, no `%` and nothing beyond ASCII.
-fn is_plain(bytes: &[u8]) -> bool
-    ensures { result ≡ list_all (λ b. nat_lt b 128 && not (b == 37) && not (b == 43)) bytes.now }
-{
-    bytes
-        .iter()
-        .all(|&byte| byte < 128 && byte != b'%' && byte != b'+')
-}
-
-// The text that was form-encoded, where it stands as it is.
-fn plain_text(bytes: &[u8]) -> Option<&str>
-    ensures { IfSome result (λ text. form_text bytes.now ≡ Ok text.now) }
-{
-    if !is_plain(bytes) {
-        return None;
-    }
-    str::from_utf8(bytes).ok()
-}
-
-// The identifier and the secret of a Basic header's text, where both stand as they are.
-fn plain_credentials(text: &str) -> Option<(&str, &str)>
-    ensures { IfSome result (λ sent. credentials_in text.now ≡ Ok (sent.0.now, sent.1.now)) }
-{
-    let (id, secret) = around_colon(text.as_bytes()).ok()?;
-    Some((plain_text(id)?, plain_text(secret)?))
+    Ok(text)
 }
 
 // What a Basic header says of a client.
 #[derive(Drop)]
-struct Credentials {
-    id: String,
-    secret: String,
+struct Credentials<'a> {
+    id: CowStr<'a>,
+    secret: CowStr<'a>,
 }
 
-// The same of any Basic header's text.
-fn read_credentials(alloc: Global, text: &str) -> Result<Credentials, AuthFault>
-    ensures { GivesUnless Memory Unit (seen_by (λ c. (string_bytes c.id, string_bytes c.secret)) result) (credentials_in text.now) }
+// The identifier and the secret of a Basic header's text.
+fn read_credentials(alloc: Global, text: &str) -> Result<Credentials<'_>, AuthFault>
+    ensures { GivesUnless AuthFault.Memory Unit (seen_by (λ c. (cow_str_bytes c.id, cow_str_bytes c.secret)) result) (credentials_in text.now) }
 {
     let (id, secret) = around_colon(text.as_bytes())?;
     Ok(Credentials {
@@ -231,9 +206,6 @@ fn by_header(
     }
     let named = params.get("client_id");
     let text = basic_text(alloc, header)?;
-    if let Some((id, secret)) = plain_credentials(&text) {
-        return identified(registry, named, id, secret);
-    }
     let sent = read_credentials(alloc, &text)?;
     identified(registry, named, &sent.id, &sent.secret)
 }

@@ -1,4 +1,3 @@
 mod Printing
 mod Joining
 mod Rows
-mod Escapes

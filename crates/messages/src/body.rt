@@ -9,7 +9,6 @@ ghost use Rattle.messages.specs.Written.{body_text, type_member};
 
 use crate::error::ErrorName;
 use crate::object::Object;
-use crate::plain::{is_plain, is_plain_if_any, plain_tokens};
 use crate::token::ActiveToken;
 use consent::TokenKind;
 use std::alloc::{AllocError, Global};
@@ -42,9 +41,6 @@ pub(crate) fn tokens(
 ) -> Result<Vec<u8>, AllocError>
     ensures { IfOk result (λ text. body_text (Tokens access.now life (option_copied refresh.entry) scope.now) ≡ Some text.items) }
 {
-    if is_plain(access) && is_plain_if_any(refresh) && is_plain(scope) {
-        return plain_tokens(alloc, access, life, refresh, scope);
-    }
     let mut json = Object::new(alloc, scope.len())?;
     json.text("access_token", access)?;
     json.number("expires_in", u64::from(life))?;

@@ -11,7 +11,6 @@ mod location;
 mod media_type;
 mod object;
 mod parts;
-mod plain;
 mod request;
 mod response;
 mod target;
