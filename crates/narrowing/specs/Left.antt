@@ -1,8 +1,8 @@
 -- What is left of a history under other rules.
-use Rattle.std.specs.Prelude.{◌≡◌, ℕ, List, Bool, true, false, not, min, bit_and, map, Option, Some, None, is_some, if◌then◌else◌}
+use Rattle.std.specs.Prelude.{◌≡◌, ℕ, List, Bool, true, false, not, ◌&&◌, min, bit_and, map, count_by, Option, Some, None, is_some, if◌then◌else◌}
 use Rattle.clients.specs.Clients.{client_at}
 use Rattle.clients.specs.RegistryRecord.{RegistryRecord}
-use Rattle.consent.specs.History.{Event, Change, Terms, event_at, is_within, code_terms}
+use Rattle.consent.specs.History.{Event, Change, Grant, Terms, event_at, is_within, code_terms, grant_at, grants, is_good, is_unexpired}
 use Rattle.consent.specs.History.Change.{CodeGiven, Issued, FamilyEnded}
 use Rattle.consent.specs.declared.grant.TokenKind.{TokenKind}
 use Rattle.endpoints.specs.Bounded.{allowed_to, token_life_limit}
@@ -45,6 +45,15 @@ left_event rules beyond e = event_at e.moment (left_of rules beyond e.change)
 -- what is left of the history: each change has its moment and its place
 abbrev pub left_under : RegistryRecord → List Event → List Event
 left_under rules history = map (left_event rules (is_beyond_rules rules history)) history
+
+-- the code or token was good at the moment, and its digest names nothing in what is left
+abbrev pub ends_under : RegistryRecord → List Event → ℕ → Grant → Bool
+ends_under rules history moment g =
+    is_unexpired moment g && is_good history g.digest moment g && not (is_some (grant_at (left_under rules history) g.digest moment))
+
+-- how many codes and tokens end at the moment
+abbrev pub ended_count : RegistryRecord → List Event → ℕ → ℕ
+ended_count rules history moment = count_by (ends_under rules history moment) (grants history)
 
 -- each client is still one
 abbrev pub KeepsClients : RegistryRecord → RegistryRecord → Type 0
