@@ -5,7 +5,7 @@ ghost use Rattle.std.specs.List.{filter_map};
 ghost use Rattle.consent.specs.History.{Event, is_unexpired};
 ghost use Rattle.endpoints.specs.Bounded.{allowed_to, token_life_limit};
 ghost use Rattle.narrowing.specs.EndedParts.{ends_kept, is_kept_good};
-ghost use Rattle.narrowing.specs.Left.{do_go_beyond, ended_count, goes_beyond, left_under, life_under, scope_under};
+ghost use Rattle.narrowing.specs.Left.{FitsLeft, do_go_beyond, ended_count, goes_beyond, life_under, scope_under};
 ghost use Rattle.narrowing.specs.LeftKept.{kept_left, left_kept};
 ghost use Rattle.token_store.specs.Fits.{FitsHistory};
 ghost use Rattle.token_store.specs.Image.{as_kept, kept_record};
@@ -148,8 +148,7 @@ pub fn records_left<'a>(
     records: &[KeptRecord<'a>],
 ) -> Result<Vec<KeptRecord<'a>>, AllocError>
     ensures exact { IfOk result (λ left. as_kept left.items ≡ filter_map (kept_left rules.now moment) (as_kept records.now)) }
-    ensures fits { IfOk result (λ left. (history : List Event) → FitsHistory (as_kept records.now) history moment →
-        FitsHistory (as_kept left.items) (left_under rules.now history) moment) }
+    ensures fits { IfOk result (λ left. FitsLeft rules.now moment (as_kept records.now) (as_kept left.items)) }
 {
     let mut left = Vec::new(alloc);
     for of in records {
