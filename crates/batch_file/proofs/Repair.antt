@@ -3,7 +3,7 @@ use Rattle.std.proofs.Common.{◌≡◌, ℕ, ◌+◌, ◌-◌, ◌≤◌, List,
 use Rattle.std.proofs.lemmas.List.{append-nil, take_all, drop_all, take-take, drop-take}
 use Rattle.batch_file.specs.Crashes.{IsWrittenAt, Torn, Cut}
 use Rattle.batch_file.specs.Frames.{recovered, AreFrames}
-use Rattle.batch_file.proofs.Reading.{brief}
+use Rattle.batch_file.specs.FramesLaws.{brief}
 
 module _ (file : List ℕ) (end : ℕ) (within : end ≤ length file) (are : AreFrames (take end file) (recovered file)) (nothing : (n : ℕ) → recovered (take n (drop end file)) ≡ []) where
   size : length (take end file) ≡ end

@@ -4,7 +4,8 @@ use Rattle.std.proofs.lemmas.Bool.{cases_eq}
 use Rattle.std.proofs.lemmas.List.{take_at, drop_at, drop_more, take_all, drop_all, append-nil}
 use Rattle.batch_file.specs.Crashes.{IsWrittenAt, Torn}
 use Rattle.batch_file.specs.Frames.{body, frame, recovered, AreFrames, IsAtRest, IsBeforeOrAfter}
-use Rattle.batch_file.proofs.Reading.{closed, frame_is, AreFrames-append}
+use Rattle.batch_file.specs.FramesLaws.{frame_is}
+use Rattle.batch_file.proofs.Reading.{closed, AreFrames-append}
 
 -- whole frames and a closed latch
 pub rests : (front : List ℕ) (batches : List (List ℕ)) (end : ℕ) (file : List ℕ) → AreFrames front batches → length front ≡ end → file ≡ front ++ 0 ∷ [] → IsAtRest end file × (recovered file ≡ batches)

@@ -9,3 +9,5 @@ pub mod Past
 -- What only the contracts of this crate's own parts and their proofs cite.
 pub mod CallsParts
 pub mod Folders
+-- Laws, each proved: a reader may skip them.
+pub mod FramesLaws

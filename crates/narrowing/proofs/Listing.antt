@@ -4,7 +4,7 @@ use Rattle.std.specs.List.{filter_map, cons_option}
 use Rattle.std.proofs.lemmas.List.{map-append, map_more, append-nil}
 use Rattle.std.proofs.lemmas.List.Elements.{filter_map-append}
 use Rattle.clients.specs.RegistryRecord.{RegistryRecord}
-use Rattle.narrowing.specs.LeftParts.{kept_left}
+use Rattle.narrowing.specs.LeftKept.{kept_left}
 use Rattle.token_store.specs.Image.{as_kept, kept_record}
 use Rattle.token_store.specs.Kept.{Kept}
 use Rattle.token_store.specs.declared.image.KeptRecord.{KeptRecord}

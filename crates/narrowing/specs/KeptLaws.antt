@@ -1,18 +1,20 @@
 -- What is kept of a history, where the codes and tokens are let go of that are not left, is kept of what is left of it.
 use Rattle.std.proofs.Common.{◌≡◌, ◌≤◌, ℕ, ◌+◌, List, Bool, true, false, cond, Option, None, Some, refl, ap, sym, ◌∙◌, arith}
-use Rattle.std.specs.Prelude.{is_some, count_by, option_map}
+use Rattle.std.specs.Prelude.{is_some, count_by, option_map, not, ◌&&◌}
 use Rattle.std.specs.List.{filter_map}
 use Rattle.std.specs.Str.{bytes_eq}
 use Rattle.std.proofs.lemmas.Bool.{and_parts, and_from, ltb-true, lt-ltb}
+use Rattle.std.proofs.lemmas.Slice.Eq.{bytes_eq-Decides}
 use Rattle.clients.specs.RegistryRecord.{RegistryRecord}
-use Rattle.consent.specs.ListLaws.{count_by-narrower}
-use Rattle.consent.specs.History.{Event, Grant, grants, grant_at, is_named, is_unexpired, unexpired_count, code_terms, is_spent, has_ended, IsHistory}
+use Rattle.consent.specs.ListLaws.{count_by-narrower, find-passes}
+use Rattle.consent.specs.History.{Event, Grant, grants, grant_at, is_named, is_unexpired, unexpired_count, code_terms, is_spent, has_ended, is_good, IsHistory}
 use Rattle.consent.specs.declared.grant.Kind.{Kind}
 use Rattle.consent.specs.declared.grant.Kind.TheVariants.{Code, Token}
 use Rattle.token_store.specs.Kept.{Kept, kept_at, kept_unexpired}
 use Rattle.token_store.specs.Fits.{FitsBy, FitsHistory, to_keep}
-use Rattle.narrowing.specs.Left.{do_go_beyond, is_beyond_rules, left_under}
-use Rattle.narrowing.specs.LeftParts.{left_by, left_grant, left_kept, if_unexpired, kept_left}
+use Rattle.narrowing.specs.Left.{do_go_beyond, ended_count, ends_under, is_beyond_rules, left_under}
+use Rattle.narrowing.specs.LeftKept.{left_by, left_grant, left_kept, if_unexpired, kept_left}
+use Rattle.narrowing.specs.EndedParts.{ends_kept}
 use Rattle.narrowing.specs.LeftLaws.{grant_left, grant_at_left, count_left, code_terms_left, ended_left, spent_left, is_history_left, unexpired_left, digest_by, family_by}
 use Rattle.narrowing.specs.ListsLaws.{passes, if_passes, left_found, count_by-left, find-left, counts-alike}
 
@@ -166,6 +168,47 @@ module _ (rules : RegistryRecord) (history : List Event) (m : ℕ) (number : ℕ
           then true is = unexpired_left rules beyond t k.grant is
           then false is = absurd (cc)
 
+  -- something is left of what was kept where something is left of it in the history
+  some_left : (k : Kept) → is_some (kept_left rules m k) ≡ passes (λ j. is_unexpired m j.grant) (kept_left rules m k)
+  some_left k = by (do_go_beyond rules k.terms)
+    where
+      by : (b : Bool) → is_some (cond b None (if_unexpired m (left_kept rules k))) ≡ passes (λ j. is_unexpired m j.grant) (cond b None (if_unexpired m (left_kept rules k)))
+      by true = refl
+      by false = then (is_unexpired m (left_kept rules k).grant) refl
+        where
+          then : (b : Bool) → is_unexpired m (left_kept rules k).grant ≡ b →
+              is_some (cond b (Some (left_kept rules k)) None) ≡ passes (λ j. is_unexpired m j.grant) (cond b (Some (left_kept rules k)) None)
+          then true is = sym is
+          then false is = refl
+
+  some_passes : (q : Grant → Bool) (o : Option Grant) → is_some (if_passes q o) ≡ passes q o
+  some_passes q None = refl
+  some_passes q (Some g) = by (q g)
+    where
+      by : (b : Bool) → is_some (cond b (Some g) None) ≡ b
+      by true = refl
+      by false = refl
+
+  named_alike : (digest : List ℕ) (g : Grant) → bytes_eq digest g.digest ≡ true → passes (is_named digest m) (grant_left rules beyond g) ≡ passes (is_unexpired m) (grant_left rules beyond g)
+  named_alike digest g same = by (beyond g.family)
+    where
+      by : (b : Bool) → passes (is_named digest m) (cond b None (Some (left_grant rules g))) ≡ passes (is_unexpired m) (cond b None (Some (left_grant rules g)))
+      by true = refl
+      by false = ap (λ b. b && is_unexpired m (left_grant rules g)) (ap (bytes_eq digest) (digest_by rules beyond g.kind g) ∙ same)
+
+  -- it ends as it is kept where it ends in the history
+  ends_alike : (digest : List ℕ) (g : Grant) → IsHistory history m → grant_at history digest m ≡ Some g → ends_kept rules m (keep digest m g) ≡ ends_under rules history m g
+  ends_alike digest g is at =
+      let said : bytes_eq digest g.digest ≡ true = (and_parts _ _ (find-passes (is_named digest m) (grants history) g at)).0 in
+      let same : digest ≡ g.digest = (bytes_eq-Decides digest g.digest).0 said in
+      let there : is_some (grant_at (left_under rules history) digest m) ≡ passes (is_unexpired m) (grant_left rules beyond g) =
+      ap is_some (at_left digest m (omega arith) is ∙ ap (left_found (grant_left rules beyond) (is_named digest m)) at)
+      ∙ some_passes (is_named digest m) (grant_left rules beyond g) ∙ named_alike digest g said in
+      let left : is_some (kept_left rules m (keep digest m g)) ≡ is_some (grant_at (left_under rules history) digest m) =
+      some_left (keep digest m g) ∙ counted_left digest m g (omega arith) ∙ sym there in
+      ap (λ b. is_unexpired m g && is_good history digest m g && not b) left
+      ∙ ap (λ (d : List ℕ). is_unexpired m g && is_good history d m g && not (is_some (grant_at (left_under rules history) d m))) same
+
   module _ (kept : List Kept) (fits : FitsBy kept history m number) where
     abbrev left : List Kept
     left = filter_map (kept_left rules m) kept
@@ -191,6 +234,18 @@ module _ (rules : RegistryRecord) (history : List Event) (m : ℕ) (number : ℕ
           counted = λ digest g at. counted_left digest t g le;
         })
         ∙ sym (count_left rules beyond history t)
+
+    pub ended_alike : count_by (ends_kept rules m) kept ≡ ended_count rules history m
+    ended_alike =
+        counts-alike (λ (k : Kept). k.grant.digest) (λ (k : Kept). is_unexpired m k.grant) (λ (g : Grant). g.digest) (λ (g : Grant). is_unexpired m g)
+        (λ digest g. keep digest m g) (ends_kept rules m) (ends_under rules history m)
+        (record { live_only_x = λ k is. (and_parts _ _ (and_parts _ _ is).0).0; live_only_y = λ g is. (and_parts _ _ (and_parts _ _ is).0).0 }) kept (grants history)
+        (record {
+          finds = λ digest. fits.answers digest m (omega arith);
+          once_x = fits.once;
+          once_y = fits.is_history.single;
+          counted = λ digest g at. ends_alike digest g fits.is_history at;
+        })
 
     once_left : (digest : List ℕ) → count_by (named_kept digest m) left ≤ 1
     once_left digest =
@@ -237,3 +292,7 @@ pub fits_history-left : (rules : RegistryRecord) (kept : List Kept) (history : L
     FitsHistory (filter_map (kept_left rules m) kept) (left_under rules history) m
 fits_history-left rules kept history m fits =
     record { number = fits.number; fits = fits_by-left rules history m fits.number kept fits.fits }
+
+pub ended_count-kept : (rules : RegistryRecord) (kept : List Kept) (history : List Event) (m : ℕ) → FitsHistory kept history m →
+    count_by (ends_kept rules m) kept ≡ ended_count rules history m
+ended_count-kept rules kept history m fits = ended_alike rules history m fits.number kept fits.fits

@@ -1,11 +1,14 @@
 -- What is left of a history under other rules.
-use Rattle.std.specs.Prelude.{◌≡◌, ℕ, List, Bool, true, false, not, min, bit_and, map, Option, Some, None, is_some, if◌then◌else◌}
+use Rattle.std.specs.Prelude.{◌≡◌, ℕ, List, [], Bool, true, false, not, ◌&&◌, min, bit_and, map, count_by, Option, Some, None, is_some, if◌then◌else◌}
 use Rattle.clients.specs.Clients.{client_at}
 use Rattle.clients.specs.RegistryRecord.{RegistryRecord}
-use Rattle.consent.specs.History.{Event, Change, Terms, event_at, is_within, code_terms}
+use Rattle.consent.specs.Consents.{KeptConsents, FitsConsents}
+use Rattle.consent.specs.History.{Event, Change, Grant, Terms, event_at, is_within, code_terms, grant_at, grants, has_ended, is_good, is_unexpired, IsHistory}
 use Rattle.consent.specs.History.Change.{CodeGiven, Issued, FamilyEnded}
 use Rattle.consent.specs.declared.grant.TokenKind.{TokenKind}
-use Rattle.endpoints.specs.Bounded.{allowed_to, token_life_limit}
+use Rattle.endpoints.specs.Bounded.{AllRight, allowed_to, token_life_limit}
+use Rattle.token_store.specs.Fits.{FitsHistory}
+use Rattle.token_store.specs.Kept.{Kept}
 
 -- the client may not be allowed all of the scope
 abbrev pub goes_beyond : RegistryRecord → ℕ → ℕ → Bool
@@ -46,6 +49,39 @@ left_event rules beyond e = event_at e.moment (left_of rules beyond e.change)
 abbrev pub left_under : RegistryRecord → List Event → List Event
 left_under rules history = map (left_event rules (is_beyond_rules rules history)) history
 
+-- the code or token was good at the moment, and its digest names nothing in what is left
+abbrev pub ends_under : RegistryRecord → List Event → ℕ → Grant → Bool
+ends_under rules history moment g =
+    is_unexpired moment g && is_good history g.digest moment g && not (is_some (grant_at (left_under rules history) g.digest moment))
+
+-- how many codes and tokens end at the moment
+abbrev pub ended_count : RegistryRecord → List Event → ℕ → ℕ
+ended_count rules history moment = count_by (ends_under rules history moment) (grants history)
+
 -- each client is still one
 abbrev pub KeepsClients : RegistryRecord → RegistryRecord → Type 0
 KeepsClients old new = (client : ℕ) → is_some (client_at client old.clients) ≡ true → is_some (client_at client new.clients) ≡ true
+
+-- WHAT THAT IS
+
+-- what is left under the new rules of what was right under the old ones is right under these
+abbrev pub LeavesRight : RegistryRecord → RegistryRecord → Type 0
+LeavesRight old new =
+    (history : List Event) (moment : ℕ) → IsHistory history moment → AllRight old [] history → AllRight new [] (left_under new history)
+
+-- the consents of the one are those of the other
+abbrev pub KeepsConsents : List Event → List Event → Type 0
+KeepsConsents history left = (kept : KeptConsents) → FitsConsents kept history → FitsConsents kept left
+
+-- the family has its terms, and has ended where it had
+pub record KeepsFamily (history left : List Event) (family : ℕ) : Type 0 where
+  pub terms : code_terms left family ≡ code_terms history family
+  pub ended : has_ended left family ≡ has_ended history family
+
+-- so it is of each that is not beyond the rules
+abbrev pub KeepsFamilies : RegistryRecord → List Event → List Event → Type 0
+KeepsFamilies rules history left = (family : ℕ) → is_beyond_rules rules history family ≡ false → KeepsFamily history left family
+
+-- those that are left of what is kept of a history are kept of what is left of it
+abbrev pub FitsLeft : RegistryRecord → ℕ → List Kept → List Kept → Type 0
+FitsLeft rules moment kept left = (history : List Event) → FitsHistory kept history moment → FitsHistory left (left_under rules history) moment

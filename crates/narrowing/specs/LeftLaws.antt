@@ -17,7 +17,7 @@ use Rattle.consent.specs.declared.grant.Kind.TheVariants.{Code, Token}
 use Rattle.consent.specs.declared.grant.TokenKind.{TokenKind}
 use Rattle.endpoints.specs.Bounded.{token_life_limit, is_of_code}
 use Rattle.narrowing.specs.Left.{goes_beyond, life_under, scope_under, left_of, left_event}
-use Rattle.narrowing.specs.LeftParts.{left_by, left_grant}
+use Rattle.narrowing.specs.LeftKept.{left_by, left_grant}
 use Rattle.narrowing.specs.ListsLaws.{passes, left_found, count_by-left, list_all-left, find-left, find-kept}
 
 module _ (rules : RegistryRecord) (beyond : ℕ → Bool) where

@@ -6,4 +6,4 @@ mod laws;
 mod records;
 
 pub use laws::what_is_left_is_right;
-pub use records::records_left;
+pub use records::{ended_count, records_left};

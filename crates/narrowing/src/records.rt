@@ -1,11 +1,12 @@
-//! Codes and tokens that are left under other rules.
+//! Codes and tokens that are left under other rules, and how many end.
 
 ghost use Rattle.std.specs.Prelude.{◌≡◌, List, IfOk, option_map};
 ghost use Rattle.std.specs.List.{filter_map};
 ghost use Rattle.consent.specs.History.{Event, is_unexpired};
 ghost use Rattle.endpoints.specs.Bounded.{allowed_to, token_life_limit};
-ghost use Rattle.narrowing.specs.Left.{do_go_beyond, goes_beyond, left_under, life_under, scope_under};
-ghost use Rattle.narrowing.specs.LeftParts.{kept_left, left_kept};
+ghost use Rattle.narrowing.specs.EndedParts.{ends_kept, is_kept_good};
+ghost use Rattle.narrowing.specs.Left.{FitsLeft, do_go_beyond, ended_count, goes_beyond, life_under, scope_under};
+ghost use Rattle.narrowing.specs.LeftKept.{kept_left, left_kept};
 ghost use Rattle.token_store.specs.Fits.{FitsHistory};
 ghost use Rattle.token_store.specs.Image.{as_kept, kept_record};
 
@@ -147,8 +148,7 @@ pub fn records_left<'a>(
     records: &[KeptRecord<'a>],
 ) -> Result<Vec<KeptRecord<'a>>, AllocError>
     ensures exact { IfOk result (λ left. as_kept left.items ≡ filter_map (kept_left rules.now moment) (as_kept records.now)) }
-    ensures fits { IfOk result (λ left. (history : List Event) → FitsHistory (as_kept records.now) history moment →
-        FitsHistory (as_kept left.items) (left_under rules.now history) moment) }
+    ensures fits { IfOk result (λ left. FitsLeft rules.now moment (as_kept records.now) (as_kept left.items)) }
 {
     let mut left = Vec::new(alloc);
     for of in records {
@@ -157,4 +157,33 @@ pub fn records_left<'a>(
         }
     }
     Ok(left)
+}
+
+// Whether its family has not ended and, if it is for one use, it is not spent.
+fn is_kept_good(of: &KeptRecord<'_>) -> bool
+    ensures { result ≡ is_kept_good (kept_record of.now) }
+{
+    let single_use = !matches!(of.kind, KeptKind::Token(TokenKind::Access));
+    !of.ended && !(single_use && of.spent)
+}
+
+// Whether it is good at the moment, and nothing is left of it.
+fn ends(rules: &Registry, moment: Moment, of: &KeptRecord<'_>) -> bool
+    ensures { result ≡ ends_kept rules.now moment (kept_record of.now) }
+{
+    is_unexpired(moment, of) && is_kept_good(of) && left_of(rules, moment, of).is_none()
+}
+
+/// How many codes and tokens end under the rules: those of these that are good at the moment, and of which nothing is left.
+pub fn ended_count(rules: &Registry, moment: Moment, records: &[KeptRecord<'_>]) -> usize
+    ensures { (history : List Event) → FitsHistory (as_kept records.now) history moment →
+        result ≡ ended_count rules.now history moment }
+{
+    let mut count = 0;
+    for of in records {
+        if ends(rules, moment, of) {
+            count += 1;
+        }
+    }
+    count
 }

@@ -22,7 +22,7 @@ use Rattle.state_file.specs.declared.fault.StateFault.{StateFault}
 use Rattle.state_file.specs.declared.fault.StateFault.TheVariants as state
 use Rattle.state_file.specs.declared.restored.Restored.{Restored}
 use Rattle.state_file.proofs.Begun.{begun_fits}
-use Rattle.state_file.proofs.FromFile.{right_now}
+use Rattle.state_file.specs.ResumingLaws.{right_now}
 
 -- FAULTS
 

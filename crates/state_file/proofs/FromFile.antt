@@ -1,30 +1,18 @@
 -- A start, from the file's changes up to the hooks that are kept.
-use Rattle.std.proofs.Common.{◌≡◌, ◌⊎◌, inl, inr, ℕ, List, [], Some, refl, sym, subst, ap}
+use Rattle.std.proofs.Common.{◌≡◌, ◌⊎◌, ℕ, List, [], Some, refl, sym, subst, ap}
 use Rattle.batch_file.specs.Crashes.{LeavesOnly}
 use Rattle.batch_file.specs.declared.appending.BatchFile.{BatchFile}
 use Rattle.change_codec.specs.Keeping.{Crashes, Holds, LeavesEither}
-use Rattle.clients.specs.RegistryRecord.{RegistryRecord}
 use Rattle.consent.specs.History.{Event}
-use Rattle.endpoints.specs.Bounded.{AllRight}
 use Rattle.endpoints.specs.Server.{SeenServer, FitsServer, Notes, NowNotes, AreUnkept, Outset}
-use Rattle.endpoints.specs.Widening.{IsWider}
-use Rattle.endpoints.specs.WideningLaws.{all_right-wider}
 use Rattle.hook_host.specs.declared.host.HookHost.{Ghosts as Hosting}
 use Rattle.image_codec.specs.Facts.{HookFact}
 use Rattle.state_file.specs.Hooks.{AreSet, with_hooks}
-use Rattle.state_file.specs.Resuming.{FitsRestored, KeepsNoted, Sets, WasRight}
+use Rattle.state_file.specs.Resuming.{FitsRestored, KeepsNoted, Sets}
 use Rattle.state_file.specs.Standing.{StandsFor}
-use Rattle.state_file.specs.StandingLaws.{StandsFor-none}
-use Rattle.state_file.specs.Telling.{TellsRules, rules_of}
 use Rattle.state_file.specs.declared.restored.Restored.{Restored}
 use Rattle.state_file.proofs.Kept.{of_file}
 use Rattle.state_file.proofs.Setting.{fits_noting}
-
--- what was right under rules that were told is right under these
-pub right_now : (left : List ℕ) (history : List Event) (registry : RegistryRecord) → ((old : RegistryRecord) → TellsRules left (rules_of old) → IsWider old registry) →
-    StandsFor left history → WasRight left history → AllRight registry [] history
-right_now left history registry wider stands (inl none) = subst (λ (h : List Event). AllRight registry [] h) (sym (StandsFor-none left history none stands)) tt
-right_now left history registry wider stands (inr told) = all_right-wider told.0 registry (wider told.0 told.1) [] history told.2
 
 -- a server that begins to note fits what it fitted
 pub noting_fits : {H : Type 0} (hosting : Hosting H) (restored : Restored H) (server : SeenServer H) (outset : Outset H) (history : List Event) → NowNotes restored.server server (Some []) →

@@ -6,18 +6,17 @@ use Rattle.change_codec.specs.Happened.{Happened}
 use Rattle.change_codec.specs.HappenedLaws.{Happened-split}
 use Rattle.change_codec.specs.Spelling.{DatedFact, HaveSpelling, batch_spelling}
 use Rattle.consent.specs.History.{Event}
-use Rattle.image_codec.proofs.Images.{one_image, one_rules}
+use Rattle.image_codec.proofs.Images.{one_image}
 use Rattle.image_codec.specs.Facts.{HookFact, ImageFact, RulesFact}
 use Rattle.image_codec.specs.Spelling.{ImageFits, image_spelling, rules_spelling}
 use Rattle.state_file.specs.Hooks.{hooks_behind, hooks_set_in}
 use Rattle.state_file.specs.Knowing.{IsKnown, image_size}
 use Rattle.state_file.specs.Standing.{AreTold, Begin, IsImageOf, StandsFor, begins_image}
 use Rattle.state_file.specs.StandingLaws.{StandsFor-same}
-use Rattle.state_file.specs.Telling.{IsOfRules, Tell, TellsIn, TellsRules, last_rules}
-use Rattle.state_file.specs.TellingLaws.{last_rules-push}
+use Rattle.state_file.specs.Telling.{IsOfRules, TellsRules, last_rules}
+use Rattle.state_file.specs.TellingLaws.{last_rules-push, tell_in, tell_one, tells_one}
 use Rattle.state_file.proofs.Hooked.{hooks_of-happened}
 use Rattle.state_file.proofs.Redone.{told_as, told_split}
-use Rattle.state_file.proofs.Tells.{tell_in}
 
 -- WHAT STOOD BEFORE A BATCH
 
@@ -92,19 +91,6 @@ known_more left now batch rules old new image facts are is fits follows known = 
         follows ∙ ap (λ (hs : List HookFact). hooks_behind hs facts) (known.hooks_are stood.before stood.stands) ∙ sym on
 
 -- RULES
-
--- a batch tells one rules
-tells_one : (batch : List ℕ) (some others : RulesFact) → TellsIn batch some → TellsIn batch others → some ≡ others
-tells_one batch some others (inl a) (inl b) = one_rules some others a.0 b.0 (sym a.1 ∙ b.1)
-tells_one batch some others (inl a) (inr b) = let e = sym a.1 ∙ b.3 in absurd cc
-tells_one batch some others (inr a) (inl b) = let e = sym a.3 ∙ b.1 in absurd cc
-tells_one batch some others (inr a) (inr b) = sym a.2 ∙ ap (λ (i : ImageFact). i.rules) (one_image a.0 b.0 a.1 b.1 (sym a.3 ∙ b.3)) ∙ b.2
-
--- and so do bytes
-pub tell_one : (batches : List (List ℕ)) (some others : RulesFact) → Tell batches some → Tell batches others → some ≡ others
-tell_one batches some others a b = tells_one a.0 some others a.2 (tell_in batches a.0 others a.1 b)
-
--- A START
 
 -- rules were told in the file, or it told them before
 pub known_begun : (old new bytes : List ℕ) (now : RulesFact) (hooks : List HookFact) (image : ℕ) (told : Bool) → IsOfRules bytes now → TellsRules new now →

@@ -11,6 +11,5 @@ pub mod Left
 pub mod Listed
 pub mod Redone
 pub mod Refused
-pub mod Replaying
 pub mod Setting
 pub mod Tells

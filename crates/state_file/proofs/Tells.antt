@@ -13,15 +13,12 @@ use Rattle.image_codec.specs.Facts.{ClientFact, ImageFact, RulesFact}
 use Rattle.image_codec.specs.Spelling.{ClientFits, ImageFits, RulesCount, RulesFit, image_spelling, rules_fields, rules_spelling}
 use Rattle.state_file.specs.Comparing.{IsUnwritten}
 use Rattle.state_file.specs.FaultTexts.{of_batch}
-use Rattle.state_file.specs.Standing.{StandsFor}
+use Rattle.state_file.specs.Standing.{StandsFor, StandsOn}
 use Rattle.state_file.specs.StandingLaws.{StandsFor-rules, StandsFor-same}
 use Rattle.state_file.specs.Telling.{IsOfRules, LeavesRules, Tell, TellsIn, TellsRules, last_rules, rules_in}
 use Rattle.state_file.specs.TellingLaws.{last_rules-push}
 
 -- the file stands for what it stood for, with the rules or without them
-abbrev pub StandsOn : List ℕ → List ℕ → Type 0
-StandsOn left now = (history : List Event) → StandsFor left history → StandsFor now history
-
 pub stands_more : (left now batch : List ℕ) (told : RulesFact) → batch ≡ rules_spelling told → recovered now ≡ recovered left ++ batch ∷ [] → StandsOn left now
 stands_more left now batch told is are history stands =
     StandsFor-rules left now history (rules_fields told) (are ∙ ap (λ (x : List ℕ). recovered left ++ x ∷ []) is) stands
@@ -107,10 +104,3 @@ told_spelled batch told now tells fit fits one = (
   λ same. subst (λ (r : RulesFact). TellsIn batch r) (one_rules told now fit fits same) tells,
   λ others. ap rules_spelling (sym (one now others)),
 )
-
--- the last batch that tells rules tells them
-pub tell_in : (batches : List (List ℕ)) (batch : List ℕ) (told : RulesFact) → last_rules batches ≡ Some batch → Tell batches told → TellsIn batch told
-tell_in batches batch told is tells =
-    let both : Some tells.0 ≡ Some batch = sym tells.1 ∙ is in
-    let same : tells.0 ≡ batch = cc in
-    subst (λ (b : List ℕ). TellsIn b told) same tells.2

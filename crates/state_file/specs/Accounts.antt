@@ -44,6 +44,11 @@ pub record IsImageIn {H : Type 0} (hosting : Hosting H) (left : List ℕ) (first
   pub each : OfEachHistory hosting first left (λ history. IsImageOf image history)
   pub told : TellIfAny left image.rules
 
+-- it is one of all bytes that the account is one of
+abbrev pub IsImageOfAccount : {H : Type 0} → Hosting H → Account H → ImageFact → Type 0
+IsImageOfAccount {H = H} hosting account image =
+    (left : List ℕ) (first : H) → IsAccountOf hosting left first account → IsImageIn hosting left first image
+
 -- FAULTS
 
 abbrev pub fault_in : ℕ → StateFault → AccountFault

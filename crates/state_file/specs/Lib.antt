@@ -4,6 +4,7 @@ pub mod Telling
 pub mod Comparing
 pub mod Hooks
 pub mod Resuming
+pub mod Starting
 pub mod FaultTexts
 pub mod Knowing
 pub mod Renewing
@@ -11,3 +12,5 @@ pub mod Accounts
 -- Laws, each proved: a reader may skip them.
 pub mod StandingLaws
 pub mod TellingLaws
+pub mod ResumingLaws
+pub mod ReplayingLaws

@@ -1,5 +1,6 @@
 -- When an image is put in the place of a state file's batches.
 use Rattle.std.specs.Prelude.{◌≡◌, ◌⊎◌, ◌≤◌, ◌^◌, ℕ, List, length}
+use Rattle.batch_file.specs.declared.appending.BatchFile.{BatchFile}
 use Rattle.endpoints.specs.Server.{SeenServer}
 use Rattle.hook_host.specs.declared.host.HookHost.{Ghosts as Hosting}
 use Rattle.image_codec.specs.Facts.{HookFact, ImageFact}
@@ -10,6 +11,7 @@ use Rattle.image_keeper.specs.declared.keeper.ImageFault.TheVariants.{Memory, To
 use Rattle.state_file.specs.declared.fault.StateFault.{StateFault}
 use Rattle.state_file.specs.declared.fault.StateFault.TheVariants as state
 use Rattle.state_file.specs.Hooks.{hooks_set_in}
+use Rattle.state_file.specs.Knowing.{IsLongFile}
 use Rattle.state_file.specs.Standing.{IsImageOf, StandsFor}
 
 -- memory was refused, or the disk failed
@@ -45,3 +47,7 @@ IsUnspelled hosting server hooks Failed = ⊥
 abbrev pub HasTooMuch : {H : Type 0} → Hosting H → SeenServer H → List ℕ → Type 0
 HasTooMuch hosting server left =
     (image : ImageFact) × OfFitted hosting server (λ history. StandsFor left history → IsImageOf image history) × IsTooLarge image
+
+-- the file is no longer than it may be, unless an image of the server is too large
+abbrev pub IsKeptShort : {H D : Type 0} → Hosting H → (D → List ℕ) → SeenServer H → BatchFile D → Type 0
+IsKeptShort hosting seen server file = (¬ IsLongFile seen file) ⊎ HasTooMuch hosting server (seen file.device)

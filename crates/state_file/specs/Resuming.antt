@@ -1,6 +1,7 @@
 -- What a server does that is started on a state file.
 use Rattle.std.specs.Prelude.{◌≡◌, ◌≢◌, ◌⊎◌, ◌++◌, ℕ, List, [], ◌∷◌, false, None, Some, string_bytes}
 use Rattle.batch_file.specs.Frames.{recovered}
+use Rattle.batch_file.specs.declared.appending.BatchFile.{BatchFile}
 use Rattle.change_codec.specs.Happened.{Happened}
 use Rattle.change_codec.specs.Keeping.{Crashes, Holds, IsFrontOf, LeavesEither}
 use Rattle.change_codec.specs.Spelling.{DatedFact}
@@ -90,6 +91,10 @@ OfRight hosting left outset claim =
 abbrev pub AnswersFor : {H : Type 0} → Hosting H → List ℕ → Outset H → Restored H → Type 0
 AnswersFor hosting left outset restored = OfRight hosting left outset (λ history. FitsRestored hosting restored outset history)
 
+-- so it is of bytes that stand for these batches
+abbrev pub AnswersForBatches : {H : Type 0} → Hosting H → List (List ℕ) → Outset H → Restored H → Type 0
+AnswersForBatches hosting batches outset restored = (left : List ℕ) → recovered left ≡ batches → AnswersFor hosting left outset restored
+
 -- it is a fault of an image
 abbrev pub IsOfImage : StateFault → Type 0
 IsOfImage Memory = Unit {0}
@@ -170,6 +175,14 @@ abbrev pub KeepsNoted : {H K : Type 0} → Crashes K → SeenServer H → SeenSe
 KeepsNoted crashes old new keeper kept =
     (before after : List Event) → Notes old (Some before) after → Holds crashes keeper before →
     Notes new (Some after) after × Holds crashes kept after × LeavesEither crashes before after keeper kept
+
+-- the keeper holds each history that the bytes stand for
+abbrev pub HoldsEach : {K : Type 0} → Crashes K → K → List ℕ → Type 0
+HoldsEach crashes keeper left = (history : List Event) → StandsFor left history → Holds crashes keeper history
+
+-- the file has the batches that the bytes stand for
+abbrev pub HasBatchesOf : {D : Type 0} → (D → List ℕ) → BatchFile D → List ℕ → Type 0
+HasBatchesOf seen file left = recovered (seen file.device) ≡ recovered left
 
 -- A START
 

@@ -47,3 +47,7 @@ pub record StandsFor (left : List ℕ) (history : List Event) : Type 0 where
   pub begins : Begin (recovered left) base later
   pub told : AreTold later facts
   pub happened : Happened base facts history
+
+-- what the one stands for, the other does
+abbrev pub StandsOn : List ℕ → List ℕ → Type 0
+StandsOn left now = (history : List Event) → StandsFor left history → StandsFor now history

@@ -1,11 +1,15 @@
--- What rules a state file tells once it has one batch more. For proofs alone.
-use Rattle.std.proofs.Common.{◌≡◌, inl, inr, ℕ, List, [], ◌∷◌, ◌++◌, Option, None, Some, refl, sym, ap, ◌∙◌}
+-- What rules a state file tells once it has one batch more, and that it tells one. For proofs alone.
+use Rattle.std.proofs.Common.{◌≡◌, inl, inr, ℕ, List, [], ◌∷◌, ◌++◌, Option, None, Some, refl, sym, ap, ◌∙◌, subst}
+use Rattle.std.specs.Prelude.{Result, Ok, Err}
 use Rattle.std.specs.Option.{option_or}
 use Rattle.batch_file.specs.Frames.{recovered}
 use Rattle.change_codec.specs.Spelling.{DatedFact, batch_spelling}
+use Rattle.change_codec.specs.declared.fault.ChangeFault.{ChangeFault}
+use Rattle.image_codec.proofs.Images.{image_reading_again, one_image, one_rules, rules_reading_again}
 use Rattle.image_codec.specs.Facts.{ImageFact, RulesFact}
 use Rattle.image_codec.specs.Spelling.{ImageFits, RulesFit, image_spelling, rules_spelling}
-use Rattle.state_file.specs.Telling.{rules_in, last_rules, TellsRules}
+use Rattle.state_file.specs.Comparing.{IsMisspelled}
+use Rattle.state_file.specs.Telling.{rules_in, last_rules, Tell, TellsIn, TellsRules}
 
 or_none : {A : Type 0} (x : Option A) → option_or x None ≡ x
 or_none None = refl
@@ -38,3 +42,32 @@ TellsRules-same left now rules same tells = (tells.0, ap last_rules same ∙ tel
 -- an image alone
 pub TellsRules-image : (left : List ℕ) (image : ImageFact) → recovered left ≡ image_spelling image ∷ [] → ImageFits image → TellsRules left image.rules
 TellsRules-image left image are fits = (image_spelling image, ap last_rules are, inr (image, fits, refl, refl))
+
+-- the last batch that tells rules tells them
+pub tell_in : (batches : List (List ℕ)) (batch : List ℕ) (told : RulesFact) → last_rules batches ≡ Some batch → Tell batches told → TellsIn batch told
+tell_in batches batch told is tells =
+    let both : Some tells.0 ≡ Some batch = sym tells.1 ∙ is in
+    let same : tells.0 ≡ batch = cc in
+    subst (λ (b : List ℕ). TellsIn b told) same tells.2
+
+-- a batch tells one rules
+pub tells_one : (batch : List ℕ) (some others : RulesFact) → TellsIn batch some → TellsIn batch others → some ≡ others
+tells_one batch some others (inl a) (inl b) = one_rules some others a.0 b.0 (sym a.1 ∙ b.1)
+tells_one batch some others (inl a) (inr b) = let e = sym a.1 ∙ b.3 in absurd cc
+tells_one batch some others (inr a) (inl b) = let e = sym a.3 ∙ b.1 in absurd cc
+tells_one batch some others (inr a) (inr b) = sym a.2 ∙ ap (λ (i : ImageFact). i.rules) (one_image a.0 b.0 a.1 b.1 (sym a.3 ∙ b.3)) ∙ b.2
+
+-- and so do bytes
+pub tell_one : (batches : List (List ℕ)) (some others : RulesFact) → Tell batches some → Tell batches others → some ≡ others
+tell_one batches some others a b = tells_one a.0 some others a.2 (tell_in batches a.0 others a.1 b)
+
+-- what spells no rules tells none
+pub tells_none : (batch : List ℕ) (fault : ChangeFault) (told : RulesFact) → IsMisspelled batch fault → TellsIn batch told → ⊥
+tells_none batch fault told is (inl of) =
+    let read = subst (λ (b : List ℕ). IsMisspelled b fault) of.1 is in
+    let e : Err fault ≡ Ok told = sym read ∙ rules_reading_again told of.0 in
+    absurd cc
+tells_none batch fault told is (inr of) =
+    let read = subst (λ (b : List ℕ). IsMisspelled b fault) of.3 is in
+    let e : Err fault ≡ Ok of.0 = sym read ∙ image_reading_again of.0 of.1 in
+    absurd cc

@@ -1,11 +1,11 @@
 //! What a state file stands for, where no server is started on it and nothing is written.
 
-ghost use Rattle.std.specs.Prelude.{◌≡◌, List, ℕ, IfOk, IfErr, OnOk};
-ghost use Rattle.batch_file.specs.Frames.{lists, recovered};
+ghost use Rattle.std.specs.Prelude.{◌≡◌, IfOk, IfErr, OnOk};
+ghost use Rattle.batch_file.specs.Frames.{lists};
 ghost use Rattle.endpoints.specs.Server.{outset_of};
 ghost use Rattle.image_codec.specs.Facts.{RulesFact, image_fact};
-ghost use Rattle.state_file.specs.Accounts.{IsAccountOf, IsImageIn, RefusesAccount, fault_in};
-ghost use Rattle.state_file.specs.Resuming.{AnswersFor, RedoesBatches};
+ghost use Rattle.state_file.specs.Accounts.{IsAccountOf, IsImageOfAccount, RefusesAccount, fault_in};
+ghost use Rattle.state_file.specs.Resuming.{AnswersForBatches, RedoesBatches};
 ghost use Rattle.state_file.specs.declared.account.AccountFault.TheVariants.{Memory};
 
 use crate::beginning::{Beginning, begin};
@@ -97,7 +97,7 @@ fn restored_of<H: HookHost>(
     host: H,
     batches: &[Vec<u8>],
 ) -> Result<Restored<H>, AccountFault>
-    ensures answers { IfOk result (λ restored. (left : List ℕ) → recovered left ≡ lists batches.now → AnswersFor H.HookHost left (outset_of registry host) restored) }
+    ensures answers { IfOk result (AnswersForBatches H.HookHost (lists batches.now) (outset_of registry host)) }
     ensures refused { IfErr result RefusesAccount }
 {
     let begun = match begin(alloc, registry, host, batches) {
@@ -143,7 +143,7 @@ pub fn account_of<H: HookHost>(
 impl<H: HookHost> Account<H> {
     /// The image of what the file stands for.
     pub fn image(&self, alloc: Global) -> Result<Image<'_>, AllocError>
-        ensures { IfOk result (λ image. (left : List ℕ) (host : H) → IsAccountOf H.HookHost left host self.now → IsImageIn H.HookHost left host (image_fact image)) }
+        ensures { IfOk result (λ image. IsImageOfAccount H.HookHost self.now (image_fact image)) }
     {
         let Ok(rules) = decode_rules(alloc, self.rules.as_slice()) else {
             return Err(AllocError);

@@ -1,16 +1,14 @@
 //! Starting a server on a state file.
 
-ghost use Rattle.std.specs.Prelude.{◌≡◌, IfOk, IfErr, List};
+ghost use Rattle.std.specs.Prelude.{◌≡◌, IfOk, IfErr};
 ghost use Rattle.batch_file.specs.Crashes.{LeavesOnly, Only};
-ghost use Rattle.change_codec.specs.Keeping.{Holds};
 ghost use Rattle.clients.specs.RegistryRecord.{RegistryRecord};
-ghost use Rattle.consent.specs.History.{Event};
 ghost use Rattle.endpoints.specs.Server.{outset_of};
 ghost use Rattle.endpoints.specs.Widening.{IsWider};
 ghost use Rattle.batch_file.specs.Frames.{recovered};
 ghost use Rattle.state_file.specs.Knowing.{file_crashes};
-ghost use Rattle.state_file.specs.Resuming.{AnswersFor, RefusesResume};
-ghost use Rattle.state_file.specs.Standing.{StandsFor};
+ghost use Rattle.state_file.specs.Resuming.{AnswersFor, HasBatchesOf, HoldsEach, RefusesResume};
+ghost use Rattle.state_file.specs.Standing.{StandsOn};
 ghost use Rattle.state_file.specs.Telling.{BeginWithRules, LeavesRules, TellsRules, rules_of};
 
 use crate::beginning::{Beginning, begin};
@@ -46,18 +44,15 @@ pub fn resume<D: Device + Drop, H: HookHost>(
     requires durable { Only (D.seen device) (D.may_leave device) }
     ensures answers { IfOk result (λ resumed. AnswersFor H.HookHost bytes.now (outset_of registry host) resumed.restored) }
     // All that a crash may leave from then on stands for what the bytes stood for.
-    ensures held { IfOk result (λ resumed. (history : List Event) → StandsFor bytes.now history →
-        Holds (file_crashes D.Device) resumed.keeper history) }
+    ensures held { IfOk result (λ resumed. HoldsEach (file_crashes D.Device) resumed.keeper bytes.now) }
     // So does what a crash meanwhile left.
-    ensures any_moment { IfOk result (λ resumed. LeavesOnly D.moment D.left_since device resumed.keeper.device
-        (λ left. (history : List Event) → StandsFor bytes.now history → StandsFor left history)) }
+    ensures any_moment { IfOk result (λ resumed. LeavesOnly D.moment D.left_since device resumed.keeper.device (StandsOn bytes.now)) }
     // The registry's rules are as wide as those that the file told.
     ensures wider { IfOk result (λ _. (old : RegistryRecord) → TellsRules bytes.now (rules_of old) → IsWider old registry) }
     ensures begun { IfOk result (λ _. BeginWithRules (recovered bytes.now)) }
     // All that a crash may leave from then on tells the registry's rules.
     ensures told { IfOk result (λ resumed. LeavesRules D.seen D.may_leave resumed.keeper (rules_of registry)) }
-    ensures unwritten { IfOk result (λ resumed. TellsRules bytes.now (rules_of registry) →
-        recovered (D.seen resumed.keeper.device) ≡ recovered bytes.now) }
+    ensures unwritten { IfOk result (λ resumed. TellsRules bytes.now (rules_of registry) → HasBatchesOf D.seen resumed.keeper bytes.now) }
     ensures refused { IfErr result (RefusesResume (recovered bytes.now) (rules_of registry)) }
 {
     let found = recover(alloc, &mut device, bytes)?;

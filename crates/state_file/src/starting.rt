@@ -1,19 +1,16 @@
 //! A server that goes on from a state file, with the hooks that it is started with.
 
-ghost use Rattle.std.specs.Prelude.{◌≡◌, ◌⊎◌, IfOk, IfErr, OnOk, map};
-ghost use Rattle.batch_file.specs.Crashes.{LeavesOnly, Only};
-ghost use Rattle.batch_file.specs.Frames.{recovered};
-ghost use Rattle.change_codec.specs.Keeping.{Holds};
+ghost use Rattle.std.specs.Prelude.{◌≡◌, IfOk, IfErr, OnOk, map};
+ghost use Rattle.batch_file.specs.Crashes.{Only};
 ghost use Rattle.clients.specs.RegistryRecord.{RegistryRecord};
 ghost use Rattle.endpoints.specs.Server.{NowNotes, outset_of};
 ghost use Rattle.endpoints.specs.Widening.{IsWider};
 ghost use Rattle.image_codec.specs.Facts.{hook_fact};
 ghost use Rattle.image_keeper.specs.Imaging.{KeepsImage};
-ghost use Rattle.state_file.specs.Hooks.{AreSet, with_hooks};
-ghost use Rattle.state_file.specs.Knowing.{IsLongFile, file_crashes};
-ghost use Rattle.state_file.specs.Renewing.{HasTooMuch, IsOfDisk};
-ghost use Rattle.state_file.specs.Resuming.{AnswersFor, KeepsNoted, OfEachHistory, RefusesResume, RefusesSome, ServesOn};
-ghost use Rattle.state_file.specs.Standing.{StandsFor};
+ghost use Rattle.state_file.specs.Knowing.{file_crashes};
+ghost use Rattle.state_file.specs.Renewing.{IsKeptShort, IsOfDisk};
+ghost use Rattle.state_file.specs.Resuming.{KeepsNoted};
+ghost use Rattle.state_file.specs.Starting.{RefusesStart, Starts, on_file};
 ghost use Rattle.state_file.specs.Telling.{KeepRules, LeavesRules, TellsRules, rules_of};
 
 use crate::fault::StateFault;
@@ -65,7 +62,7 @@ fn keep_short<D: Device, H: HookHost>(
 ) -> Result<(), StateFault>
     ensures kept { OnOk result (KeepsImage H.HookHost (file_crashes D.Device) server.now keeper.old keeper.new) }
     ensures told { OnOk result (KeepRules D.seen D.may_leave keeper.old keeper.new) }
-    ensures short { OnOk result ((¬ (IsLongFile D.seen keeper.new)) ⊎ HasTooMuch H.HookHost server.now (D.seen keeper.new.device)) }
+    ensures short { OnOk result (IsKeptShort H.HookHost D.seen server.now keeper.new) }
     ensures refused { IfErr result IsOfDisk }
 {
     match keeper.shorten(server) {
@@ -91,24 +88,14 @@ pub fn start_on<D: Device + Drop, H: HookHost>(
     requires same { bytes.now ≡ D.seen device }
     // After a restart, what is read is what is on the disk.
     requires durable { Only (D.seen device) (D.may_leave device) }
-    ensures serves { IfOk result (λ started. OfEachHistory H.HookHost host bytes.now (λ history.
-        ServesOn H.HookHost started (outset_of registry host) (with_hooks started.moment history (map hook_fact hooks.now)))) }
-    ensures hooks { IfOk result (λ started. OfEachHistory H.HookHost host bytes.now (λ history.
-        AreSet (map hook_fact hooks.now) (with_hooks started.moment history (map hook_fact hooks.now)))) }
-    // All that a crash may leave from then on stands for the history with these hooks.
-    ensures held { IfOk result (λ started. OfEachHistory H.HookHost host bytes.now (λ history.
-        Holds (file_crashes D.Device) started.keeper (with_hooks started.moment history (map hook_fact hooks.now)))) }
-    // What a crash meanwhile left stands for the history with these hooks, or without them.
-    ensures any_moment { IfOk result (λ started. OfEachHistory H.HookHost host bytes.now (λ history. LeavesOnly D.moment D.left_since device started.keeper.device
-        (λ left. StandsFor left history ⊎ StandsFor left (with_hooks started.moment history (map hook_fact hooks.now))))) }
+    ensures starts { IfOk result (Starts H.HookHost D.Device (on_file device bytes.now (outset_of registry host) (map hook_fact hooks.now))) }
     // The registry's rules are as wide as those that the file told.
     ensures wider { IfOk result (λ _. (old : RegistryRecord) → TellsRules bytes.now (rules_of old) → IsWider old registry) }
     // All that a crash may leave from then on tells the registry's rules.
     ensures told { IfOk result (λ started. LeavesRules D.seen D.may_leave started.keeper (rules_of registry)) }
     // The file is no longer than it may be, unless an image of the server is too large.
-    ensures short { IfOk result (λ started. (¬ (IsLongFile D.seen started.keeper)) ⊎ HasTooMuch H.HookHost started.server (D.seen started.keeper.device)) }
-    ensures refused { IfErr result (λ fault. RefusesResume (recovered bytes.now) (rules_of registry) fault
-        ⊎ RefusesSome H.HookHost (AnswersFor H.HookHost bytes.now (outset_of registry host)) (map hook_fact hooks.now) fault) }
+    ensures short { IfOk result (λ started. IsKeptShort H.HookHost D.seen started.server started.keeper) }
+    ensures refused { IfErr result (RefusesStart H.HookHost (on_file device bytes.now (outset_of registry host) (map hook_fact hooks.now))) }
 {
     let mut resumed = resume(alloc, device, bytes, registry, host)?;
     resumed.restored.server.begin_noting()?;

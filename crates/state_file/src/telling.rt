@@ -3,11 +3,10 @@
 ghost use Rattle.std.specs.Prelude.{◌++◌, ◌∷◌, [], ◌≡◌, ◌↔◌, Some, true, false, IsTrue, IfOk, IfErr, OnOk, List, is_some, option_copied};
 ghost use Rattle.batch_file.specs.Crashes.{LeavesOnly};
 ghost use Rattle.batch_file.specs.Frames.{IsOnDisk, lists, recovered};
-ghost use Rattle.consent.specs.History.{Event};
 ghost use Rattle.image_codec.specs.Facts.{RulesFact, rules_fact};
 ghost use Rattle.image_codec.specs.Spelling.{RulesCount, RulesFit, rules_spelling};
 ghost use Rattle.state_file.specs.Comparing.{AreAsWide, IsUnread, IsUnwritten, RefuseBeside, RefuseRules, TakesRules};
-ghost use Rattle.state_file.specs.Standing.{StandsFor};
+ghost use Rattle.state_file.specs.Standing.{StandsOn};
 ghost use Rattle.state_file.specs.Telling.{BeginWithRules, Tell, TellsIn, last_rules, rules_in, rules_of};
 ghost use Rattle.state_file.specs.declared.fault.StateFault.TheVariants.{Memory};
 
@@ -167,11 +166,10 @@ pub(crate) fn tell<D: Device>(
     ensures told { OnOk result (rules.now.told ≡ false → last_rules (recovered (D.seen file.new.device)) ≡ Some rules.now.bytes.items) }
     ensures added { OnOk result (rules.now.told ≡ false →
         recovered (D.seen file.new.device) ≡ recovered (D.seen file.old.device) ++ rules.now.bytes.items ∷ []) }
-    ensures stands { OnOk result ((history : List Event) → StandsFor (D.seen file.old.device) history → StandsFor (D.seen file.new.device) history) }
+    ensures stands { OnOk result (StandsOn (D.seen file.old.device) (D.seen file.new.device)) }
     // Where they are told, nothing is written.
     ensures unwritten { OnOk result (rules.now.told ≡ true → file.new ≡ file.old) }
-    ensures any_moment { OnOk result (LeavesOnly D.moment D.left_since file.old.device file.new.device
-        (λ left. (history : List Event) → StandsFor (D.seen file.old.device) history → StandsFor left history)) }
+    ensures any_moment { OnOk result (LeavesOnly D.moment D.left_since file.old.device file.new.device (StandsOn (D.seen file.old.device))) }
     ensures refused { IfErr result (IsUnwritten rules.now.bytes.items) }
 {
     if rules.told {

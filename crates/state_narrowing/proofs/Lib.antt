@@ -1,2 +1,2 @@
-pub mod OneBatch
+pub mod Less
 pub mod OfLeft

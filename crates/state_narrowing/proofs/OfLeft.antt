@@ -1,8 +1,10 @@
 -- What a file stands for that has an image of what is left.
-use Rattle.std.proofs.Common.{◌≡◌, ◌≤◌, ◌<◌, ◌⊎◌, inl, inr, ℕ, ◌-◌, zero, suc, List, [], ◌∷◌, Bool, true, false, cond, Option, None, Some, refl, ap, sym, subst, ◌∙◌, arith}
+use Rattle.std.proofs.Common.{◌≡◌, inl, inr, ℕ, ◌-◌, zero, suc, List, [], ◌∷◌, Bool, true, false, cond, None, Some, refl, ap, sym, subst, ◌∙◌}
 use Rattle.std.specs.Prelude.{◌==◌, if◌then◌else◌, is_some, slice_get, map, Result, Ok, Err, IfOk, IfErr}
 use Rattle.std.specs.Str.{bytes_eq}
 use Rattle.batch_file.specs.Frames.{recovered}
+use Rattle.change_codec.specs.declared.fault.EncodeFault.{EncodeFault}
+use Rattle.change_codec.specs.declared.fault.EncodeFault.TheVariants as encoding
 use Rattle.clients.specs.ClientRecord.{ClientRecord}
 use Rattle.clients.specs.RegistryRecord.{RegistryRecord}
 use Rattle.consent.specs.Consents.{FitsConsents, kept_consents}
@@ -14,8 +16,8 @@ use Rattle.hook_host.specs.declared.host.HookHost.{Ghosts as Hosting}
 use Rattle.image_codec.specs.Facts.{ClientFact, HookFact, ImageFact, RulesFact, record_fact}
 use Rattle.image_codec.specs.Kept.{kept_told}
 use Rattle.image_codec.specs.KeptLaws.{all_same}
-use Rattle.image_codec.specs.Spelling.{ImageFits, image_spelling}
-use Rattle.narrowing.specs.Left.{KeepsClients, is_beyond_rules, left_of, left_under, life_under, scope_under}
+use Rattle.image_codec.specs.Spelling.{image_spelling}
+use Rattle.narrowing.specs.Left.{KeepsClients, ended_count, is_beyond_rules, left_of, left_under, life_under, scope_under}
 use Rattle.narrowing.specs.LeftLaws.{fits_consents_left, left_events}
 use Rattle.narrowing.specs.RightLaws.{all_right-left, host_run-left}
 use Rattle.token_store.specs.Fits.{FitsHistory}
@@ -23,34 +25,38 @@ use Rattle.token_store.specs.Image.{as_kept}
 use Rattle.token_store.specs.Kept.{Kept}
 use Rattle.token_store.specs.declared.image.KeptRecord.{KeptRecord}
 use Rattle.state_file.specs.Accounts.{IsAccountOf, IsImageIn}
-use Rattle.state_file.specs.Comparing.{AreAsWide, AreNarrower, KeepClients, client_names, first_moved}
-use Rattle.state_file.specs.Hooks.{hooks_after, hooks_set_in, hooks_with}
+use Rattle.state_file.specs.Comparing.{KeepClients, client_names, first_moved}
+use Rattle.state_file.specs.FaultTexts.{of_encoding}
+use Rattle.state_file.specs.Hooks.{hooks_after, hooks_with}
 use Rattle.state_file.specs.Resuming.{OfEachHistory, WasRight}
 use Rattle.state_file.specs.Standing.{IsImageOf, StandsFor}
 use Rattle.state_file.specs.StandingLaws.{StandsFor-image, StandsFor-none}
 use Rattle.state_file.specs.Telling.{TellsRules, client_told, rules_of}
-use Rattle.state_file.specs.TellingLaws.{TellsRules-image}
+use Rattle.state_file.specs.ResumingLaws.{right_now}
+use Rattle.state_file.specs.TellingLaws.{TellsRules-image, tell_one}
 use Rattle.state_file.specs.declared.account.Account.{Account}
-use Rattle.state_file.specs.declared.fault.StateFault.{StateFault}
-use Rattle.state_file.specs.declared.fault.StateFault.TheVariants.{ClientNarrowed, LifeNarrowed}
-use Rattle.state_file.proofs.FromFile.{right_now}
-use Rattle.state_file.proofs.Known.{tell_one}
-use Rattle.state_narrowing.specs.Narrowing.{GoesOn, IsNarrower}
+use Rattle.state_narrowing.specs.Narrowing.{GoesOn, HasLeftOfEach, IsNarrower, RefusesNarrowing}
 use Rattle.state_narrowing.specs.NarrowingParts.{IsRightImage, SpellLeft}
+use Rattle.state_narrowing.specs.declared.imaging.LeftImage.{LeftImage}
+use Rattle.state_narrowing.specs.declared.narrowed.NarrowedFile.{NarrowedFile}
 
 -- RESULTS
-
-pub all_ok : {X E : Type 0} (r : Result X E) (P : X → Type 0) → ((x : X) → P x) → IfOk r P
-all_ok (Ok x) P f = f x
-all_ok (Err e) P f = tt
 
 pub ok_also : {X E : Type 0} (r : Result X E) (P Q : X → Type 0) → ((x : X) → P x → Q x) → IfOk r P → IfOk r Q
 ok_also (Ok x) P Q f is = f x is
 ok_also (Err e) P Q f is = tt
 
+pub ok_both : {X E : Type 0} (r : Result X E) (P Q R : X → Type 0) → ((x : X) → P x → Q x → R x) → IfOk r P → IfOk r Q → IfOk r R
+ok_both (Ok x) P Q R f is also = f x is also
+ok_both (Err e) P Q R f is also = tt
+
 pub err_also : {X E : Type 0} (r : Result X E) (P Q : E → Type 0) → ((e : E) → P e → Q e) → IfErr r P → IfErr r Q
 err_also (Ok x) P Q f is = tt
 err_also (Err e) P Q f is = f e is
+
+pub of_encoding_refuses : (fault : EncodeFault) → RefusesNarrowing (of_encoding fault)
+of_encoding_refuses encoding.Memory = tt
+of_encoding_refuses encoding.TooLong = tt
 
 -- HOOKS
 
@@ -102,30 +108,15 @@ keeps_clients old new keep client = by (client == 0)
         sym (named new.clients (client - 1))
         ∙ there_at (client_names (map client_told old.clients)) (client_names (map client_told new.clients)) (client - 1) keep.1 (named old.clients (client - 1) ∙ is)
 
--- THE RULES
-
--- what is narrower than the rules that a batch tells
-pub narrowed_client : (left : List ℕ) (told now : RulesFact) (name : _) → TellsRules left told → AreNarrower told now (ClientNarrowed name) → IsNarrower left now
-narrowed_client left told now name tells narrower other tells_other =
-    subst (λ (r : RulesFact). KeepClients r now × (¬ AreAsWide r now)) (tell_one (recovered left) told other tells tells_other)
-    (narrower.0, λ wide. (let none = wide.0.1 in let some = narrower.1 in absurd (cc)))
-
-pub narrowed_life : (left : List ℕ) (told now : RulesFact) → TellsRules left told → AreNarrower told now LifeNarrowed → IsNarrower left now
-narrowed_life left told now tells narrower other tells_other =
-    subst (λ (r : RulesFact). KeepClients r now × (¬ AreAsWide r now)) (tell_one (recovered left) told other tells tells_other)
-    (narrower.0.0, λ wide. by narrower.1 wide.1 wide.2)
-  where
-    by : (now.access_life < told.access_life) ⊎ (now.refresh_life < told.refresh_life) → told.access_life ≤ now.access_life → told.refresh_life ≤ now.refresh_life → ⊥
-    by (inl less) a b = absurd (omega (arith, less, a))
-    by (inr less) a b = absurd (omega (arith, less, b))
-
 -- what was right is right when it is narrowed
 right_left : (left : List ℕ) (history : List Event) (rules : RegistryRecord) (m : ℕ) → IsNarrower left (rules_of rules) → IsHistory history m →
     StandsFor left history → WasRight left history → AllRight rules [] (left_under rules history)
 right_left left history rules m narrower is stands (inl none) =
     subst (λ (h : List Event). AllRight rules [] (left_under rules h)) (sym (StandsFor-none left history none stands)) tt
 right_left left history rules m narrower is stands (inr told) =
-    all_right-left told.0 rules history m (keeps_clients told.0 rules (narrower (rules_of told.0) told.1).0) is told.2
+    let same : narrower.told ≡ rules_of told.0 = tell_one (recovered left) narrower.told (rules_of told.0) narrower.tells told.1 in
+    let keep : KeepClients (rules_of told.0) (rules_of rules) = subst (λ (r : RulesFact). KeepClients r (rules_of rules)) same narrower.less.0 in
+    all_right-left told.0 rules history m (keeps_clients told.0 rules keep) is told.2
 
 -- IMAGES
 
@@ -164,16 +155,32 @@ module _ {H : Type 0} (hosting : Hosting H) where
         ran = host_run-left hosting rules (is_beyond_rules rules history) history first account.restored.server.host server.hosts;
       }
 
+  -- what is counted of its records is so of each history
+  pub counted_image : (left : List ℕ) (first : H) (rules : RegistryRecord) (told image : ImageFact) (records : List KeptRecord) (ended : ℕ) → map record_fact records ≡ told.records →
+      image.greatest ≡ told.greatest → ((history : List Event) → FitsHistory (as_kept records) history told.greatest → ended ≡ ended_count rules history told.greatest) →
+      IsImageIn hosting left first told → OfEachHistory hosting first left (λ history. ended ≡ ended_count rules history image.greatest)
+  counted_image left first rules told image records ended were greatest counts is_in history stands was run =
+      let before : map kept_told told.records ≡ as_kept records = ap (map kept_told) (sym were) ∙ all_same records in
+      let fits = subst (λ (ks : List Kept). FitsHistory ks history told.greatest) before (is_in.each history stands was run).records in
+      counts history fits ∙ ap (ended_count rules history) (sym greatest)
+
   -- a file that has that image alone stands for what is left
-  pub goes_on_left : (left : List ℕ) (first : H) (rules : RegistryRecord) (bytes now : List ℕ) → SpellLeft hosting first left rules bytes → recovered now ≡ bytes ∷ [] →
-      OfEachHistory hosting first left (λ history. GoesOn hosting first now (left_under rules history))
-  goes_on_left left first rules bytes now spell alone history stands was run =
+  pub has_left : {D : Type 0} (left : List ℕ) (first : H) (rules : RegistryRecord) (of : LeftImage) (file : NarrowedFile D) → SpellLeft hosting first left rules of →
+      file.ended ≡ Some of.ended → recovered file.bytes.items ≡ of.bytes.items ∷ [] → HasLeftOfEach hosting first left rules file
+  has_left left first rules of file spell ended alone some history stands was run =
+      let now = file.bytes.items in
       let image = spell.is history stands was run in
       let spelled : recovered now ≡ image_spelling spell.image ∷ [] = alone ∙ ap (λ (b : List ℕ). b ∷ []) spell.spelled in
       let tells : TellsRules now (rules_of rules) = subst (λ (r : RulesFact). TellsRules now r) spell.rules_are (TellsRules-image now spell.image spelled spell.fits) in
-      record {
+      let goes_on : GoesOn hosting first now (left_under rules history) = record {
         stands = StandsFor-image now spell.image (left_under rules history) spelled spell.fits image.is;
         right = inr (rules, tells, image.right);
         host = image.host;
         ran = image.ran;
+      } in
+      record {
+        goes_on = goes_on;
+        image = spell.image;
+        alone = (spell.fits, spelled);
+        ended = ended ∙ ap Some (spell.counted history stands was run);
       }

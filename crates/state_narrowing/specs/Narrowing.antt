@@ -1,23 +1,29 @@
 -- When a state file is narrowed to a registry, and what it stands for then.
-use Rattle.std.specs.Prelude.{◌≡◌, ◌⊎◌, ℕ, List, Option, None, Some}
+use Rattle.std.specs.Prelude.{◌≡◌, ◌⊎◌, ℕ, List, [], Option, None, Some, IsSome}
 use Rattle.batch_file.specs.Frames.{recovered}
 use Rattle.clients.specs.RegistryRecord.{RegistryRecord}
 use Rattle.consent.specs.History.{Event}
 use Rattle.endpoints.specs.Hosts.{HostRun}
 use Rattle.hook_host.specs.declared.host.HookHost.{Ghosts as Hosting}
 use Rattle.image_codec.specs.Facts.{ImageFact, RulesFact}
-use Rattle.image_codec.specs.Spelling.{ImageFits, image_spelling}
-use Rattle.narrowing.specs.Left.{left_under}
-use Rattle.state_file.specs.Comparing.{AreAsWide, KeepClients}
+use Rattle.narrowing.specs.Left.{ended_count, left_under}
+use Rattle.state_file.specs.Comparing.{AreAsWide, IsUntold, KeepClients}
 use Rattle.state_file.specs.Resuming.{OfEachHistory, WasRight}
-use Rattle.state_file.specs.Standing.{IsImageOf, StandsFor}
-use Rattle.state_file.specs.Telling.{TellsRules, rules_of}
+use Rattle.state_file.specs.Standing.{BeginWithImage, StandsFor}
+use Rattle.state_file.specs.Telling.{TellsRules}
 use Rattle.state_file.specs.declared.fault.StateFault.{StateFault}
 use Rattle.state_file.specs.declared.fault.StateFault.TheVariants.{Memory, Device, TooLong, NoRules, Spelling, Follows, Image, Hook}
+use Rattle.state_narrowing.specs.declared.narrowed.NarrowedFile.{NarrowedFile}
 
--- the rules are not as wide as those that the bytes tell, and keep the names of these
-abbrev pub IsNarrower : List ℕ → RulesFact → Type 0
-IsNarrower left now = (told : RulesFact) → TellsRules left told → KeepClients told now × (¬ AreAsWide told now)
+-- the rules keep the names of those told, and are not as wide
+abbrev pub AreLess : RulesFact → RulesFact → Type 0
+AreLess told now = KeepClients told now × (¬ AreAsWide told now)
+
+-- so they are beside the rules that the bytes tell
+pub record IsNarrower (left : List ℕ) (now : RulesFact) : Type 0 where
+  pub told : RulesFact
+  pub tells : TellsRules left told
+  pub less : AreLess told now
 
 -- the bytes stand for a history that is right under rules that they tell, and a host came through it
 pub record GoesOn {H : Type 0} (hosting : Hosting H) (first : H) (left : List ℕ) (history : List Event) : Type 0 where
@@ -25,6 +31,18 @@ pub record GoesOn {H : Type 0} (hosting : Hosting H) (first : H) (left : List �
   pub right : WasRight left history
   pub host : H
   pub ran : HostRun hosting first history host
+
+-- The file stands for what is left of the history, and has an image alone. So many codes and tokens ended as the history had good
+-- ones at the image's moment of which nothing is left.
+pub record HasLeft {H D : Type 0} (hosting : Hosting H) (first : H) (rules : RegistryRecord) (file : NarrowedFile D) (history : List Event) : Type 0 where
+  pub goes_on : GoesOn hosting first file.bytes.items (left_under rules history)
+  pub image : ImageFact
+  pub alone : BeginWithImage (recovered file.bytes.items) image []
+  pub ended : file.ended ≡ Some (ended_count rules history image.greatest)
+
+-- so it is, where it was narrowed, of each history that the bytes stood for
+abbrev pub HasLeftOfEach : {H D : Type 0} → Hosting H → H → List ℕ → RegistryRecord → NarrowedFile D → Type 0
+HasLeftOfEach hosting first left rules file = IsSome file.ended → OfEachHistory hosting first left (HasLeft hosting first rules file)
 
 -- the history, or what is left of it where the file was narrowed, which ended so many codes and tokens
 abbrev pub history_under : RegistryRecord → Option ℕ → List Event → List Event
@@ -35,8 +53,8 @@ history_under rules (Some ended) history = left_under rules history
 abbrev pub IsEither : List ℕ → List ℕ → List ℕ → Type 0
 IsEither old new left = (left ≡ old) ⊎ (left ≡ new)
 
--- Why a file is not narrowed: memory was refused, the disk failed, the registry's rules or what is left is too long to be told,
--- or the file is at fault.
+-- Why a file is not narrowed, though the registry is narrower: memory was refused, the disk failed, what is left is too long to be
+-- told, or the file is at fault.
 abbrev pub RefusesNarrowing : StateFault → Type 0
 RefusesNarrowing Memory = Unit {0}
 RefusesNarrowing Device = Unit {0}
@@ -48,6 +66,6 @@ RefusesNarrowing (Image fault) = Unit {0}
 RefusesNarrowing (Hook name fault) = Unit {0}
 RefusesNarrowing _ = ⊥
 
--- it is not narrowed, though the rules are narrower
+-- why it is not known whether the rules are narrower, or why it is not narrowed, though they are
 abbrev pub IsUnnarrowed : List ℕ → RulesFact → StateFault → Type 0
-IsUnnarrowed left now fault = IsNarrower left now × RefusesNarrowing fault
+IsUnnarrowed left now fault = IsUntold now fault ⊎ (IsNarrower left now × RefusesNarrowing fault)

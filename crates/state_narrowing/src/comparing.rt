@@ -1,34 +1,59 @@
 //! Whether a registry is narrower than the rules that a state file tells.
 
-ghost use Rattle.std.specs.Prelude.{IsTrue};
+ghost use Rattle.std.specs.Prelude.{◌≡◌, ◌↔◌, IsTrue, IfOk, IfErr};
+ghost use Rattle.image_codec.specs.Facts.{rules_fact};
+ghost use Rattle.state_file.specs.Comparing.{IsUntold};
 ghost use Rattle.state_file.specs.Telling.{rules_of};
-ghost use Rattle.state_narrowing.specs.Narrowing.{IsNarrower};
+ghost use Rattle.state_file.specs.declared.fault.StateFault.TheVariants.{Memory};
+ghost use Rattle.state_narrowing.specs.Narrowing.{AreLess, IsNarrower};
+ghost use Rattle.state_narrowing.specs.NarrowingParts.{less_by};
 
 use batch_file::framing::read_batches;
 use clients::Registry;
+use image_codec::Rules;
 use state_file::{StateFault, compare, last_rules, registry_rules, told_rules};
 use std::alloc::Global;
 
-/// Whether the registry keeps the names that a state file tells, and is narrower than the rules of the file. Where that can't be
-/// told, as for a file that tells no rules, it is not.
-pub(crate) fn is_narrower(alloc: Global, bytes: &[u8], registry: &Registry) -> bool
-    ensures { IsTrue result → IsNarrower bytes.now (rules_of registry.now) }
+// Whether rules that are not taken are less than those told, by the fault. What spells no rules tells none.
+fn less_by(fault: StateFault) -> Result<bool, StateFault>
+    ensures { result ≡ less_by fault }
 {
-    let Ok(found) = read_batches(alloc, bytes) else {
-        return false;
-    };
-    let Some(batch) = last_rules(&found.batches) else {
-        return false;
-    };
-    let Ok(told) = told_rules(alloc, batch) else {
-        return false;
-    };
-    let Ok(now) = registry_rules(alloc, registry) else {
-        return false;
-    };
-    match compare(alloc, &told, &now) {
-        Err(StateFault::ClientNarrowed(_name)) => true,
-        Err(StateFault::LifeNarrowed) => true,
-        _ => false,
+    match fault {
+        StateFault::Memory => Err(StateFault::Memory),
+        StateFault::ClientNarrowed(_name) => Ok(true),
+        StateFault::LifeNarrowed => Ok(true),
+        _ => Ok(false),
     }
+}
+
+// Whether rules keep the names of those told, and are not as wide.
+fn are_less(alloc: Global, told: &Rules<'_>, now: &Rules<'_>) -> Result<bool, StateFault>
+    ensures exact { IfOk result (λ less. IsTrue less ↔ AreLess (rules_fact told.now) (rules_fact now.now)) }
+    ensures refused { IfErr result (λ fault. fault ≡ Memory) }
+{
+    match compare(alloc, told, now) {
+        Ok(()) => Ok(false),
+        Err(fault) => less_by(fault),
+    }
+}
+
+/// Whether the registry keeps the names that a state file tells, and is narrower than the rules of the file.
+pub(crate) fn is_narrower(
+    alloc: Global,
+    bytes: &[u8],
+    registry: &Registry,
+) -> Result<bool, StateFault>
+    ensures exact { IfOk result (λ narrower. IsTrue narrower ↔ IsNarrower bytes.now (rules_of registry.now)) }
+    ensures refused { IfErr result (IsUntold (rules_of registry.now)) }
+{
+    let found = read_batches(alloc, bytes)?;
+    let Some(batch) = last_rules(&found.batches) else {
+        return Ok(false);
+    };
+    let told = match told_rules(alloc, batch) {
+        Ok(told) => told,
+        Err(fault) => return less_by(fault),
+    };
+    let now = registry_rules(alloc, registry)?;
+    are_less(alloc, &told, &now)
 }

@@ -9,7 +9,7 @@ ghost use Rattle.state_narrowing.specs.NarrowingParts.{SpellLeft};
 use clients::Registry;
 use hook_host::HookHost;
 use image_codec::{Image, encode};
-use narrowing::records_left;
+use narrowing::{ended_count, records_left};
 use state_file::{AccountFault, StateFault, account_of, registry_rules};
 use std::alloc::Global;
 use token_store::KeptRecord;
@@ -21,17 +21,6 @@ pub(crate) struct LeftImage {
     pub(crate) bytes: Vec<u8>,
     /// How many codes and tokens ended.
     pub(crate) ended: usize,
-}
-
-// How many of them are good, where what has expired is gone: neither used up nor ended.
-fn good_count(records: &[KeptRecord<'_>]) -> usize {
-    let mut count = 0;
-    for record in records {
-        if !record.spent && !record.ended {
-            count += 1;
-        }
-    }
-    count
 }
 
 // A fault that is told of a file, for one of a batch.
@@ -94,7 +83,7 @@ pub(crate) fn image_left<H: HookHost>(
     host: H,
 ) -> Result<LeftImage, StateFault>
     requires narrower { IsNarrower bytes.now (rules_of registry.now) }
-    ensures is { IfOk result (λ left. SpellLeft H.HookHost host bytes.now registry.now left.bytes.items) }
+    ensures is { IfOk result (SpellLeft H.HookHost host bytes.now registry.now) }
     ensures short { IfOk result (λ left. length left.bytes.items < 2 ^ 32) }
     ensures refused { IfErr result RefusesNarrowing }
 {
@@ -103,8 +92,8 @@ pub(crate) fn image_left<H: HookHost>(
         Err(fault) => return Err(fault_of(fault)),
     };
     let told = account.image(alloc)?;
+    let ended = ended_count(registry, told.greatest, told.records.as_slice());
     let records = records_left(alloc, registry, told.greatest, told.records.as_slice())?;
-    let ended = good_count(told.records.as_slice()).saturating_sub(good_count(records.as_slice()));
     let image = image_with(alloc, registry, told, records)?;
     let mut bytes = Vec::new(alloc);
     encode(&mut bytes, &image)?;

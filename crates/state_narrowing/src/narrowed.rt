@@ -1,13 +1,10 @@
 //! A state file that is narrowed to a registry.
 
-ghost use Rattle.std.specs.Prelude.{◌≡◌, ◌<◌, ◌^◌, ◌∷◌, [], IfOk, IfErr, IsSome, None, Some, length};
+ghost use Rattle.std.specs.Prelude.{◌≡◌, ◌↔◌, ◌<◌, ◌^◌, ◌∷◌, [], IfOk, IfErr, IsSome, None, Some, length};
 ghost use Rattle.batch_file.specs.Crashes.{LeavesOnly, Only};
 ghost use Rattle.batch_file.specs.Frames.{recovered};
-ghost use Rattle.narrowing.specs.Left.{left_under};
-ghost use Rattle.state_file.specs.Resuming.{OfEachHistory};
 ghost use Rattle.state_file.specs.Telling.{rules_of};
-ghost use Rattle.state_narrowing.specs.Narrowing.{GoesOn, IsEither, IsNarrower, IsUnnarrowed, RefusesNarrowing};
-ghost use Rattle.state_narrowing.specs.NarrowingParts.{SpellLeft};
+ghost use Rattle.state_narrowing.specs.Narrowing.{HasLeftOfEach, IsEither, IsNarrower, IsUnnarrowed, RefusesNarrowing};
 
 use crate::comparing::is_narrower;
 use crate::imaging::{LeftImage, image_left};
@@ -68,17 +65,16 @@ pub fn narrow<D: Device + Drop, H: HookHost>(
     requires durable { Only (D.seen device) (D.may_leave device) }
     ensures same { IfOk result (λ file. file.bytes.items ≡ D.seen file.device) }
     ensures durable { IfOk result (λ file. Only (D.seen file.device) (D.may_leave file.device)) }
-    // Only where the registry is narrower, what the file stands for is no more than what is left under the registry.
-    ensures narrower { IfOk result (λ file. IsSome file.ended → IsNarrower bytes.items (rules_of registry.now)) }
-    ensures left { IfOk result (λ file. IsSome file.ended →
-        OfEachHistory H.HookHost host bytes.items (λ history. GoesOn H.HookHost host file.bytes.items (left_under registry.now history))) }
+    // It is narrowed where the registry is narrower, and else it is not.
+    ensures exact { IfOk result (λ file. IsSome file.ended ↔ IsNarrower bytes.items (rules_of registry.now)) }
+    ensures left { IfOk result (HasLeftOfEach H.HookHost host bytes.items registry.now) }
     ensures as_it_was { IfOk result (λ file. file.ended ≡ None → (file.device ≡ device) × (file.bytes ≡ bytes)) }
     // What a crash meanwhile left is the old file or the new one.
     ensures any_moment { IfOk result (λ file. LeavesOnly D.moment D.left_since device file.device
         (IsEither bytes.items file.bytes.items)) }
     ensures refused { IfErr result (IsUnnarrowed bytes.items (rules_of registry.now)) }
 {
-    if !is_narrower(alloc, &bytes, registry) {
+    if !is_narrower(alloc, &bytes, registry)? {
         return Ok(NarrowedFile {
             device,
             bytes,

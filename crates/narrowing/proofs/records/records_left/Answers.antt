@@ -6,7 +6,7 @@ use Rattle.token_store.specs.Image.{as_kept}
 use Rattle.token_store.specs.Kept.{Kept}
 use Rattle.token_store.specs.declared.image.KeptRecord.{KeptRecord}
 use Rattle.narrowing.specs.Left.{left_under}
-use Rattle.narrowing.specs.LeftParts.{kept_left}
+use Rattle.narrowing.specs.LeftKept.{kept_left}
 use Rattle.narrowing.specs.KeptLaws.{fits_history-left}
 use Rattle.narrowing.proofs.Listing.{none_more, one_left}
 use Rattle.narrowing.proofs.records.records_left.Goals as goal

@@ -1,6 +1,6 @@
 use Rattle.std.proofs.Common.{◌≡◌, take}
 use Rattle.std.specs.List.{filter_map}
-use Rattle.narrowing.specs.LeftParts.{kept_left}
+use Rattle.narrowing.specs.LeftKept.{kept_left}
 use Rattle.token_store.specs.Image.{as_kept}
 use Rattle.narrowing.proofs.records.records_left.Given as goal
 

@@ -1,4 +1,4 @@
-use Rattle.state_file.proofs.Replaying.{replays}
+use Rattle.state_file.specs.ReplayingLaws.{replays}
 use Rattle.state_file.proofs.laws.chains_are_made_again.Goals as goal
 
 pub returns : goal.returns

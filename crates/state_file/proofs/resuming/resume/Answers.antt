@@ -10,7 +10,7 @@ use Rattle.image_codec.specs.Facts.{HookFact}
 use Rattle.state_file.specs.Hooks.{hooks_behind, hooks_set_in}
 use Rattle.state_file.specs.Knowing.{image_size}
 use Rattle.state_file.specs.Resuming.{RefusesImage, RefusesResume}
-use Rattle.state_file.specs.Standing.{AreTold, StandsFor}
+use Rattle.state_file.specs.Standing.{AreTold, StandsFor, StandsOn}
 use Rattle.state_file.specs.StandingLaws.{StandsFor-same}
 use Rattle.state_file.specs.Telling.{BeginWithRules, LeavesRules, Tell, TellsRules, rules_of}
 use Rattle.state_file.proofs.Begun.{begun_fits, begun_hooks}
@@ -19,7 +19,7 @@ use Rattle.state_file.proofs.Hooked.{hooks_of-happened}
 use Rattle.state_file.proofs.Known.{known_begun}
 use Rattle.state_file.proofs.Left.{leaves_then, leaves_weaker}
 use Rattle.state_file.proofs.Refused.{no_server, no_start, not_redone}
-use Rattle.state_file.proofs.Tells.{StandsOn, leaves_rules, leaves_standing, told_either}
+use Rattle.state_file.proofs.Tells.{leaves_rules, leaves_standing, told_either}
 use Rattle.state_file.proofs.resuming.resume.Goals as goal
 
 pub returns-in_err-rules-clause-refused : goal.returns-in_err-rules-clause-refused

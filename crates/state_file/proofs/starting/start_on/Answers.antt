@@ -1,15 +1,16 @@
 use Rattle.std.proofs.Common.{rules, ◌≡◌, ◌⊎◌, inl, inr, ℕ, List, Err, map, sym, subst}
 use Rattle.std.specs.Prelude.{IfErr}
-use Rattle.batch_file.specs.Frames.{recovered}
 use Rattle.consent.specs.History.{Event}
 use Rattle.endpoints.specs.Server.{outset_of}
 use Rattle.image_codec.specs.Facts.{hook_fact}
 use Rattle.state_file.specs.Hooks.{with_hooks}
-use Rattle.state_file.specs.Resuming.{AnswersFor, RefusesResume, RefusesSome}
-use Rattle.state_file.specs.Standing.{StandsFor}
+use Rattle.state_file.specs.Resuming.{AnswersFor}
+use Rattle.state_file.specs.ResumingLaws.{right_now}
+use Rattle.state_file.specs.Standing.{StandsFor, StandsOn}
+use Rattle.state_file.specs.Starting.{RefusesStart, on_file}
 use Rattle.state_file.specs.Telling.{rules_of}
 use Rattle.state_file.specs.declared.fault.StateFault.{StateFault}
-use Rattle.state_file.proofs.FromFile.{is_done, leaves_of_file, noting_fits, right_now}
+use Rattle.state_file.proofs.FromFile.{is_done, leaves_of_file, noting_fits}
 use Rattle.state_file.proofs.Kept.{of_file}
 use Rattle.state_file.proofs.Left.{leaves_then, leaves_weaker}
 use Rattle.state_file.proofs.starting.start_on.Goals as goal
@@ -22,44 +23,16 @@ returns-in_err-set_hooks-clause-refused g c =
     let answers : AnswersFor g.H.HookHost bytes (outset_of registry c.args.host) (record restored { server = c.begin_noting.new.self }) =
     λ history stands right run. noting_fits g.H.HookHost restored c.begin_noting.new.self (outset_of registry c.args.host) history c.in_ok-begin_noting.ensures.noting (c.in_ok-resumed.ensures.answers history stands right run) in
     let is : c.from_residual-in_err-set_hooks.result ≡ Err c.in_err-set_hooks.field-0.0 = search rules in
-    let P : StateFault → Type 0 = λ fault. RefusesResume (recovered bytes) (rules_of registry) fault ⊎ RefusesSome g.H.HookHost (AnswersFor g.H.HookHost bytes (outset_of registry c.args.host)) (map hook_fact c.args.hooks.now) fault in
+    let P : StateFault → Type 0 = RefusesStart g.H.HookHost (on_file c.args.device bytes (outset_of registry c.args.host) (map hook_fact c.args.hooks.now)) in
     subst (λ r. IfErr r P) (sym is) (inr (record restored { server = c.begin_noting.new.self }, answers, c.in_err-set_hooks.ensures.refused))
 
-pub returns-clause-serves : goal.returns-clause-serves
-returns-clause-serves g c history stands was run =
-    let right = right_now c.args.bytes.now history c.args.registry c.in_ok-resumed.ensures.wider stands was in
-    let done = is_done g.H.HookHost (of_file g.D.Device.seen g.D.Device.may_leave g.D.Device.moment g.D.Device.left_since) c.in_ok-resumed.resumed.restored c.begin_noting.new.self c.set_hooks.new.self
-    c.keep_noted.new.server c.in_ok-resumed.resumed.keeper c.keep_noted.new.keeper (outset_of c.args.registry c.args.host) history (map hook_fact c.args.hooks.now)
-    (c.in_ok-resumed.ensures.answers history stands right run) c.in_ok-begin_noting.ensures.noting c.in_ok-set_hooks.ensures.set c.in_ok-set_hooks.ensures.moment
-    c.keep_noted.ensures.same c.in_ok-keep_noted.ensures.kept (c.in_ok-resumed.ensures.held history stands) in
-    record { fits = done.fits; notes = done.notes }
-
-pub returns-clause-hooks : goal.returns-clause-hooks
-returns-clause-hooks g c history stands was run =
-    let right = right_now c.args.bytes.now history c.args.registry c.in_ok-resumed.ensures.wider stands was in
-    let done = is_done g.H.HookHost (of_file g.D.Device.seen g.D.Device.may_leave g.D.Device.moment g.D.Device.left_since) c.in_ok-resumed.resumed.restored c.begin_noting.new.self c.set_hooks.new.self
-    c.keep_noted.new.server c.in_ok-resumed.resumed.keeper c.keep_noted.new.keeper (outset_of c.args.registry c.args.host) history (map hook_fact c.args.hooks.now)
-    (c.in_ok-resumed.ensures.answers history stands right run) c.in_ok-begin_noting.ensures.noting c.in_ok-set_hooks.ensures.set c.in_ok-set_hooks.ensures.moment
-    c.keep_noted.ensures.same c.in_ok-keep_noted.ensures.kept (c.in_ok-resumed.ensures.held history stands) in
-    done.set
-
-pub returns-clause-held : goal.returns-clause-held
-returns-clause-held g c history stands was run =
-    let right = right_now c.args.bytes.now history c.args.registry c.in_ok-resumed.ensures.wider stands was in
-    let done = is_done g.H.HookHost (of_file g.D.Device.seen g.D.Device.may_leave g.D.Device.moment g.D.Device.left_since) c.in_ok-resumed.resumed.restored c.begin_noting.new.self c.set_hooks.new.self
-    c.keep_noted.new.server c.in_ok-resumed.resumed.keeper c.keep_noted.new.keeper (outset_of c.args.registry c.args.host) history (map hook_fact c.args.hooks.now)
-    (c.in_ok-resumed.ensures.answers history stands right run) c.in_ok-begin_noting.ensures.noting c.in_ok-set_hooks.ensures.set c.in_ok-set_hooks.ensures.moment
-    c.keep_noted.ensures.same c.in_ok-keep_noted.ensures.kept (c.in_ok-resumed.ensures.held history stands) in
-    let now : List Event = with_hooks c.set_hooks.new.self.moment history (map hook_fact c.args.hooks.now) in
-    (c.in_ok-keep_short.ensures.kept (outset_of c.args.registry c.args.host) now c.set_hooks.new.self.moment done.fits).holds done.holds
-
-pub returns-clause-any_moment : goal.returns-clause-any_moment
-returns-clause-any_moment g c history stands was run =
+pub returns-clause-starts : goal.returns-clause-starts
+returns-clause-starts g c history stands was run =
     let right = right_now c.args.bytes.now history c.args.registry c.in_ok-resumed.ensures.wider stands was in
     let seen = g.D.Device.seen in
     let moment = g.D.Device.moment in
     let left_since = g.D.Device.left_since in
-    let done = is_done g.H.HookHost (of_file g.D.Device.seen g.D.Device.may_leave g.D.Device.moment g.D.Device.left_since) c.in_ok-resumed.resumed.restored c.begin_noting.new.self c.set_hooks.new.self
+    let done = is_done g.H.HookHost (of_file seen g.D.Device.may_leave moment left_since) c.in_ok-resumed.resumed.restored c.begin_noting.new.self c.set_hooks.new.self
     c.keep_noted.new.server c.in_ok-resumed.resumed.keeper c.keep_noted.new.keeper (outset_of c.args.registry c.args.host) history (map hook_fact c.args.hooks.now)
     (c.in_ok-resumed.ensures.answers history stands right run) c.in_ok-begin_noting.ensures.noting c.in_ok-set_hooks.ensures.set c.in_ok-set_hooks.ensures.moment
     c.keep_noted.ensures.same c.in_ok-keep_noted.ensures.kept (c.in_ok-resumed.ensures.held history stands) in
@@ -70,12 +43,17 @@ returns-clause-any_moment g c history stands was run =
     let then = c.keep_noted.new.keeper in
     let new = c.keep_short.new.keeper in
     let short = c.in_ok-keep_short.ensures.kept (outset_of c.args.registry c.args.host) now c.set_hooks.new.self.moment done.fits in
-    leaves_then moment left_since old then.device new.device Either
-    (leaves_then moment left_since old mid.device then.device Either
-    (leaves_weaker moment left_since old mid.device (λ left. (h : List Event) → StandsFor c.args.bytes.now h → StandsFor left h) Either (λ left on. inl (on history stands)) c.in_ok-resumed.ensures.any_moment)
-    (leaves_of_file seen g.D.Device.may_leave moment left_since mid then history now done.meanwhile))
-    (leaves_weaker moment left_since then.device new.device (λ left. StandsFor left now ⊎ StandsFor left now) Either (λ left either. one left either)
-    (leaves_of_file seen g.D.Device.may_leave moment left_since then new now now (short.meanwhile done.holds)))
+    record {
+      serves = record { fits = done.fits; notes = done.notes };
+      set = done.set;
+      held = short.holds done.holds;
+      meanwhile = leaves_then moment left_since old then.device new.device Either
+          (leaves_then moment left_since old mid.device then.device Either
+          (leaves_weaker moment left_since old mid.device (StandsOn c.args.bytes.now) Either (λ left on. inl (on history stands)) c.in_ok-resumed.ensures.any_moment)
+          (leaves_of_file seen g.D.Device.may_leave moment left_since mid then history now done.meanwhile))
+          (leaves_weaker moment left_since then.device new.device (λ left. StandsFor left now ⊎ StandsFor left now) Either (λ left either. one left either)
+          (leaves_of_file seen g.D.Device.may_leave moment left_since then new now now (short.meanwhile done.holds)));
+    }
   where
     one : (left : List ℕ) → StandsFor left (with_hooks c.set_hooks.new.self.moment history (map hook_fact c.args.hooks.now)) ⊎ StandsFor left (with_hooks c.set_hooks.new.self.moment history (map hook_fact c.args.hooks.now)) →
         StandsFor left history ⊎ StandsFor left (with_hooks c.set_hooks.new.self.moment history (map hook_fact c.args.hooks.now))

@@ -1,8 +1,9 @@
 use Rattle.std.proofs.Common.{◌≡◌, ◌∙◌, Some, ap}
 use Rattle.batch_file.specs.Frames.{recovered, IsBeforeOrAfter}
 use Rattle.image_codec.specs.Spelling.{rules_spelling}
+use Rattle.state_file.specs.Standing.{StandsOn}
 use Rattle.state_file.proofs.Left.{leaves_weaker}
-use Rattle.state_file.proofs.Tells.{StandsOn, stands_either, stands_more, told_last}
+use Rattle.state_file.proofs.Tells.{stands_either, stands_more, told_last}
 use Rattle.state_file.proofs.telling.tell.Goals as goal
 
 pub returns-clause-told : goal.returns-clause-told

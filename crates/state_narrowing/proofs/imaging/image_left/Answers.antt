@@ -1,16 +1,24 @@
-use Rattle.std.proofs.Common.{◌≡◌, ◌∙◌, List, refl, sym, ap, subst}
+use Rattle.std.proofs.Common.{rules, ◌≡◌, ◌∙◌, List, Err, refl, sym, ap, subst}
 use Rattle.std.specs.Prelude.{ℕ, ◌++◌}
 use Rattle.image_codec.specs.Facts.{ImageFact, image_fact}
 use Rattle.image_codec.specs.Spelling.{image_spelling}
-use Rattle.narrowing.specs.Left.{left_under}
 use Rattle.token_store.specs.Fits.{FitsHistory}
 use Rattle.token_store.specs.Image.{as_kept}
 use Rattle.token_store.specs.declared.image.KeptRecord.{KeptRecord}
-use Rattle.state_narrowing.proofs.OfLeft.{right_image}
+use Rattle.state_file.specs.FaultTexts.{of_encoding}
+use Rattle.state_narrowing.specs.Narrowing.{RefusesNarrowing}
+use Rattle.state_narrowing.proofs.OfLeft.{counted_image, of_encoding_refuses, right_image}
 use Rattle.state_narrowing.proofs.imaging.image_left.Goals as goal
 
 pub returns-in-Err-clause-refused : goal.returns-in-Err-clause-refused
 returns-in-Err-clause-refused g c = c.fault_of.ensures
+
+pub returns-in_err-encode-clause-refused : goal.returns-in_err-encode-clause-refused
+returns-in_err-encode-clause-refused g c =
+    let cause = c.in_err-encode.field-0.0 in
+    let is : c.from_residual-in_err-encode.result ≡ Err (of_encoding cause) = search rules in
+    let refused : RefusesNarrowing (of_encoding cause) = of_encoding_refuses cause in
+    rw is refused
 
 pub returns-clause-is : goal.returns-clause-is
 returns-clause-is g c =
@@ -25,6 +33,11 @@ returns-clause-is g c =
       is = right_image g.H.HookHost c.in-Ok.account c.args.bytes.now c.args.host c.args.registry.now told image c.in_ok-told.told.records.items c.in_ok-records.records.items
           refl (sym (ap (λ (i : ImageFact). i.records) with)) (ap (λ (i : ImageFact). i.greatest) with) (ap (λ (i : ImageFact). i.consents) with) (ap (λ (i : ImageFact). i.hooks) with)
           (λ history fits. c.in_ok-records.ensures.fits history
-          (subst (λ (rs : List KeptRecord). FitsHistory (as_kept rs) history c.in_ok-told.told.greatest) (sym c.as_slice.ensures.value) fits))
+          (subst (λ (rs : List KeptRecord). FitsHistory (as_kept rs) history c.in_ok-told.told.greatest) (sym c.as_slice-2.ensures.value) fits))
           c.requires.narrower c.in-Ok.ensures.told (c.in_ok-told.ensures c.args.bytes.now c.args.host c.in-Ok.ensures.told);
+      counted = counted_image g.H.HookHost c.args.bytes.now c.args.host c.args.registry.now told image c.in_ok-told.told.records.items c.ended_count-ended.result
+          refl (ap (λ (i : ImageFact). i.greatest) with)
+          (λ history fits. c.ended_count-ended.ensures history
+          (subst (λ (rs : List KeptRecord). FitsHistory (as_kept rs) history c.in_ok-told.told.greatest) (sym c.as_slice.ensures.value) fits))
+          (c.in_ok-told.ensures c.args.bytes.now c.args.host c.in-Ok.ensures.told);
     }

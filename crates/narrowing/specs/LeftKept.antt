@@ -1,4 +1,4 @@
--- Beside Left: only the contracts of this crate's own parts and their proofs cite this, no public clause.
+-- What is left of what a store keeps, under other rules.
 use Rattle.std.specs.Prelude.{ℕ, Option, Some, None, if◌then◌else◌}
 use Rattle.clients.specs.RegistryRecord.{RegistryRecord}
 use Rattle.consent.specs.History.{Grant, is_unexpired}

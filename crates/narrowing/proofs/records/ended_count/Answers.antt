@@ -1,0 +1,14 @@
+use Rattle.std.proofs.Common.{◌∙◌, ap, List}
+use Rattle.std.specs.Prelude.{count_by}
+use Rattle.std.proofs.lemmas.List.{take_all}
+use Rattle.token_store.specs.Image.{as_kept}
+use Rattle.token_store.specs.declared.image.KeptRecord.{KeptRecord}
+use Rattle.narrowing.specs.EndedParts.{ends_kept}
+use Rattle.narrowing.specs.KeptLaws.{ended_count-kept}
+use Rattle.narrowing.proofs.records.ended_count.Goals as goal
+
+pub returns : goal.returns
+returns c = λ history fits.
+    c.loop-of.invariant.0
+    ∙ ap (λ (xs : List KeptRecord). count_by (ends_kept c.args.rules.now c.args.moment) (as_kept xs)) (take_all c.loop-of.of-index c.args.records.now c.loop-of-test.false)
+    ∙ ended_count-kept c.args.rules.now (as_kept c.args.records.now) history c.args.moment fits
