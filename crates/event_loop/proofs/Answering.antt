@@ -9,6 +9,7 @@ use Rattle.event_loop.specs.declared.fault.ConnectionFault.TheVariants.{Read, Wr
 use Rattle.event_loop.specs.declared.place.Place.{Place}
 use Rattle.event_loop.specs.declared.place.Stage.{Stage}
 use Rattle.event_loop.specs.declared.place.Stage.TheVariants.{Free, Open, Ended, Broken}
+use Rattle.event_loop.specs.declared.sockets.Accepted.TheVariants as accepted
 use Rattle.event_loop.specs.Deeds as deed
 use Rattle.event_loop.specs.Deeds.{Deed}
 use Rattle.event_loop.specs.Courses.{known, IsReached}
@@ -86,22 +87,22 @@ module _ {N C J K H : Type 0} where
         ]
 
     -- a deed at one place is none at another
-    read_other : (j k : ℕ) (bytes : List ℕ) (deeds : List Deed) → k ≢ j → read_at k (deed.Read j read_limit bytes ∷ deeds) ≡ read_at k deeds
+    read_other : (j k : ℕ) (bytes : List ℕ) (deeds : List Deed) → k ≢ j → read_at k (deed.Read j read_limit (deed.Bytes bytes) ∷ deeds) ≡ read_at k deeds
     read_other j k bytes deeds other = rw (no_other j j k (is_itself j) other) refl
 
-    read_here : (j : ℕ) (bytes : List ℕ) (deeds : List Deed) → read_at j (deed.Read j read_limit bytes ∷ deeds) ≡ read_at j deeds ++ bytes
+    read_here : (j : ℕ) (bytes : List ℕ) (deeds : List Deed) → read_at j (deed.Read j read_limit (deed.Bytes bytes) ∷ deeds) ≡ read_at j deeds ++ bytes
     read_here j bytes deeds = rw (is_itself j) refl
 
-    wrote_other : (j k : ℕ) (bytes : List ℕ) (deeds : List Deed) → k ≢ j → written_at k (deed.Wrote j bytes ∷ deeds) ≡ written_at k deeds
+    wrote_other : (j k : ℕ) (bytes : List ℕ) (deeds : List Deed) → k ≢ j → written_at k (deed.Wrote j (deed.Bytes bytes) ∷ deeds) ≡ written_at k deeds
     wrote_other j k bytes deeds other = rw (no_other j j k (is_itself j) other) refl
 
-    wrote_here : (j : ℕ) (bytes : List ℕ) (deeds : List Deed) → written_at j (deed.Wrote j bytes ∷ deeds) ≡ written_at j deeds ++ bytes
+    wrote_here : (j : ℕ) (bytes : List ℕ) (deeds : List Deed) → written_at j (deed.Wrote j (deed.Bytes bytes) ∷ deeds) ≡ written_at j deeds ++ bytes
     wrote_here j bytes deeds = rw (is_itself j) refl
 
-    came_other : (j k : ℕ) (deeds : List Deed) → k ≢ j → (read_at k (deed.Came j ∷ deeds) ≡ read_at k deeds) × (written_at k (deed.Came j ∷ deeds) ≡ written_at k deeds)
+    came_other : (j k : ℕ) (deeds : List Deed) → k ≢ j → (read_at k (deed.Tried j accepted.Taken ∷ deeds) ≡ read_at k deeds) × (written_at k (deed.Tried j accepted.Taken ∷ deeds) ≡ written_at k deeds)
     came_other j k deeds other = rw (no_other j j k (is_itself j) other) (refl, refl)
 
-    came_here : (j : ℕ) (deeds : List Deed) → (read_at j (deed.Came j ∷ deeds) ≡ []) × (written_at j (deed.Came j ∷ deeds) ≡ [])
+    came_here : (j : ℕ) (deeds : List Deed) → (read_at j (deed.Tried j accepted.Taken ∷ deeds) ≡ []) × (written_at j (deed.Tried j accepted.Taken ∷ deeds) ≡ [])
     came_here j deeds = rw (is_itself j) (refl, refl)
 
     -- nothing was done at any place
@@ -138,8 +139,8 @@ module _ {N C J K H : Type 0} where
         | inr is ↦ stays_same s _ k place place (before.exchanges k place here taken) refl (came_other j k s.deeds is.1).0 (came_other j k s.deeds is.1).1 (λ e. e)
       ];
     }
-    comes_answered s' (finds_nobody n done) = idles _ refl refl (λ k. refl) (λ k. refl)
-    comes_answered s' (fails n noted done noting) = idles _ refl refl (λ k. refl) (λ k. refl)
+    comes_answered s' (finds_nobody j n done) = idles _ refl refl (λ k. refl) (λ k. refl)
+    comes_answered s' (fails j n noted done noting) = idles _ refl refl (λ k. refl) (λ k. refl)
     comes_answered s' (asks n taken done) = idles _ refl refl (λ k. refl) (λ k. refl)
 
     reads_answered : (j : ℕ) (place : Place) (s' : Scene N C J K H) → slice_get s.places j ≡ Some place → MayRead place (known s.course j) → ReadsPlace p j place s s' → IsAllAnswered p s'
@@ -150,7 +151,7 @@ module _ {N C J K H : Type 0} where
         let t : Talk (read_at j s.deeds) (written_at j s.deeds) [] (known s.course j) = subst (λ lost. Talk (read_at j s.deeds) (written_at j s.deeds) lost (known s.course j)) nothing_lost (talk_of s j place x) in
         let t' = talk_given p.hosting (piece_of j bytes s.times.moment) s.course heard.given course (read_at j s.deeds) (written_at j s.deeds) heard.gives before.reached t in
         let none_left : is_closing (known course j) ≡ false → heard.rest ≡ [] = λ stays. elim heard.over [ inl none ↦ none | inr closed ↦ absurd (false≢true (sym stays ∙ closed)) ] in
-        let all : read_at j (deed.Read j read_limit bytes ∷ s.deeds) ≡ (read_at j s.deeds ++ heard.given) ++ heard.rest =
+        let all : read_at j (deed.Read j read_limit (deed.Bytes bytes) ∷ s.deeds) ≡ (read_at j s.deeds ++ heard.given) ++ heard.rest =
         read_here j bytes s.deeds ∙ ap (λ l. read_at j s.deeds ++ l) heard.all ∙ sym (append_assoc (read_at j s.deeds) heard.given heard.rest) in
         record {
           reached = gives_reached p.hosting (piece_of j bytes s.times.moment) s.course heard.given course heard.gives before.reached;
@@ -167,7 +168,7 @@ module _ {N C J K H : Type 0} where
         let t : Talk (read_at j s.deeds) (written_at j s.deeds) [] (known s.course j) = subst (λ lost. Talk (read_at j s.deeds) (written_at j s.deeds) lost (known s.course j)) nothing_lost (talk_of s j place x) in
         let t' = talk_given p.hosting (piece_of j bytes s.times.moment) s.course unheard.given course (read_at j s.deeds) (written_at j s.deeds) unheard.gives before.reached t in
         let lost : List ℕ = unheard.part ++ unheard.rest in
-        let all : read_at j (deed.Read j read_limit bytes ∷ s.deeds) ≡ (read_at j s.deeds ++ unheard.given) ++ lost =
+        let all : read_at j (deed.Read j read_limit (deed.Bytes bytes) ∷ s.deeds) ≡ (read_at j s.deeds ++ unheard.given) ++ lost =
         read_here j bytes s.deeds ∙ ap (λ l. read_at j s.deeds ++ l) unheard.all ∙ sym (append_assoc (read_at j s.deeds) unheard.given lost) in
         record {
           reached = gives_reached p.hosting (piece_of j bytes s.times.moment) s.course unheard.given course unheard.gives before.reached;

@@ -59,8 +59,8 @@ module _ {N C J K H : Type 0} (p : Promises N C J K H) where
   comes_moves : (s s' : Scene N C J K H) → AcceptsOne p s s' → Moves p s s'
   comes_moves s s' (opens j n e on within free done) = goes_on refl (record { kept = on.happens.still.kept; front = same_front _ _ on.happens.still.history })
   comes_moves s s' (denies j n n' fault noted within free done refused closed noting) = goes_on refl (grows_not _ _ refl)
-  comes_moves s s' (finds_nobody n done) = goes_on refl (grows_not _ _ refl)
-  comes_moves s s' (fails n noted done noting) = goes_on refl (grows_not _ _ refl)
+  comes_moves s s' (finds_nobody j n done) = goes_on refl (grows_not _ _ refl)
+  comes_moves s s' (fails j n noted done noting) = goes_on refl (grows_not _ _ refl)
   comes_moves s s' (asks n taken done) = goes_on refl (grows_not _ _ refl)
 
   reads_moves : (j : ℕ) (place : Place) (s s' : Scene N C J K H) → ReadsPlace p j place s s' → Moves p s s'

@@ -26,8 +26,7 @@ pub record Promises (N C J K H : Type 0) : Type 1 where
   pub hosting : Hosting H
 
 abbrev pub promises : {N C J K H : Type 0} → Sockets N → Clocks C → Journal J → Keeping K → Hosting H → Promises N C J K H
-promises sockets clocks journal keeping hosting =
-    record { sockets = sockets; clocks = clocks; journal = journal; keeping = keeping; hosting = hosting }
+promises sockets clocks journal keeping hosting = record { sockets = sockets; clocks = clocks; journal = journal; keeping = keeping; hosting = hosting }
 
 -- What the loop works with: sockets, clocks, a journal, a keeper, and an edge with its draws, on its course. What it knows:
 -- its limits, its places, what the last wait found and was not looked at yet, who waits to be accepted, what the clocks

@@ -27,7 +27,7 @@ returns-in-Bytes-clause-acts g c = λ first found past undone kept h.
     let on = rw c.new-connection.ensures at (c.take.ensures.taken past.journey reached) in
     record {
       goes = record {
-        next = record { deeds = deed.Wrote c.args.k (take c.in-Bytes.count c.output-output.result.now) ∷ past.deeds; journey = led_on past.journey (Taken c.args.k c.in-Bytes.count ∷ []) on.world };
+        next = record { deeds = deed.Wrote c.args.k (deed.Bytes (take c.in-Bytes.count c.output-output.result.now)) ∷ past.deeds; journey = led_on past.journey (Taken c.args.k c.in-Bytes.count ∷ []) on.world };
         served =
             goes h
             (writes c.args.k place _ c.place_at-place.ensures (c.may_write.ensures.writable c.if-not-may_write.false) undone kept may
@@ -50,7 +50,7 @@ returns-in-Later-clause-acts g c = λ first found past undone kept h.
     let may = c.may_write.ensures.may c.if-not-may_write.false past.journey reached in
     record {
       goes = record {
-        next = record past { deeds = deed.WroteNothing c.args.k ∷ past.deeds };
+        next = record past { deeds = deed.Wrote c.args.k deed.Nothing ∷ past.deeds };
         served = goes h (writes c.args.k place _ c.place_at-place.ensures (c.may_write.ensures.writable c.if-not-may_write.false) undone kept may (finds_no_room c.write.new.self c.in-Later.ensures.done));
         others = put_others c.args.k c.args.self.now _ (record place { writable = false }) past.journey.world past.journey.world refl (λ j other. refl) (λ j other. refl);
         done = one_more _ _ refl refl (λ task t. inr t);
@@ -68,7 +68,7 @@ returns-in-Failed-clause-acts g c = λ first found past undone kept h.
     let may = c.may_write.ensures.may c.if-not-may_write.false past.journey reached in
     record {
       goes = record {
-        next = record past { deeds = deed.WriteFailed c.args.k ∷ past.deeds };
+        next = record past { deeds = deed.Wrote c.args.k deed.Failed ∷ past.deeds };
         served = goes h (writes c.args.k place _ c.place_at-place.ensures (c.may_write.ensures.writable c.if-not-may_write.false) undone kept may (fails c.write.new.self c.in-Failed.ensures.done));
         others = put_others c.args.k c.args.self.now _ (record place { stage = Broken Write }) past.journey.world past.journey.world refl (λ j other. refl) (λ j other. refl);
         done = one_more _ _ refl refl (λ task t. inr t);
