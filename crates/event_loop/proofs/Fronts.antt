@@ -1,12 +1,12 @@
 -- Each crash leaves what stands for what was kept at some scene.
-use Rattle.std.proofs.Common.{◌≡◌, ◌⊎◌, inl, inr, ◌≤◌, ℕ, List, [], ◌++◌, Some, refl, sym, ap, subst, ◌∙◌, arith}
+use Rattle.std.proofs.Common.{◌≡◌, ◌⊎◌, inl, inr, ◌≤◌, ℕ, List, Some, refl, sym, ap, subst, ◌∙◌, arith}
 use Rattle.hook_host.specs.declared.host.HookHost.{Ghosts as Hosting}
 use Rattle.consent.specs.History.{Event}
 use Rattle.http_edge.specs.Schedule.{World, PieceComes, PiecePasses, TakesOutput, TakesNothing, AnsweredPiece, Piece, piece_of}
 use Rattle.endpoints.specs.Server.{Outset}
 use Rattle.event_loop.specs.declared.fault.LoopFault.{LoopFault}
 use Rattle.event_loop.specs.declared.place.Place.{Place}
-use Rattle.change_codec.specs.Keeping.{Crashes, IsFrontOf, Holds, Keeps, KeepsNot, LeavesEither}
+use Rattle.change_codec.specs.Keeping.{IsFrontOf, Holds, Keeps}
 use Rattle.event_loop.specs.Courses.{Course}
 use Rattle.event_loop.specs.Giving.{GivesPieces, nothing, gives}
 use Rattle.event_loop.specs.Scenes.{Promises, Scene, IsAllKept, IsUnkept}

@@ -10,7 +10,7 @@ use Rattle.event_loop.specs.declared.place.Place.{Place}
 use Rattle.event_loop.specs.declared.place.Stage.TheVariants.{Open}
 use Rattle.event_loop.specs.declared.queue.Queue.{Queue}
 use Rattle.event_loop.specs.declared.queue.Queue.TheVariants.{Told, Empty, Barred, Asked, Waits}
-use Rattle.event_loop.specs.declared.sockets.Accepted.TheVariants as accepted
+use Rattle.event_loop.specs.declared.sockets.Accepted.TheVariants.{Taken, Later, Failed}
 use Rattle.event_loop.specs.Deeds as deed
 use Rattle.event_loop.specs.Courses.{led}
 use Rattle.event_loop.specs.Noting.{Noted, NotesFault}
@@ -32,15 +32,16 @@ told_queue Waits = Waits
 -- Where somebody may wait, a connection is accepted, if there is a free place for it.
 pub data AcceptsOne {N C J K H : Type 0} (p : Promises N C J K H) (s : Scene N C J K H) : Scene N C J K H → Type 0 where
   opens : (k : ℕ) (n : N) (e : SeenEdge H) (on : GoesOn p.hosting e s.course.journey (Opened k)) →
-      k < places_limit → IsFreeAt s.places k → p.sockets.does s.sockets (deed.Tried k accepted.Taken) n →
-      AcceptsOne p s (record (with_place (with_deed s (deed.Tried k accepted.Taken) n) k (fresh_place s.times.steady)) { course = led s.course on })
+      k < places_limit → IsFreeAt s.places k → p.sockets.does s.sockets (deed.Tried k Taken) n →
+      AcceptsOne p s (record (with_place (with_deed s (deed.Tried k Taken) n) k (fresh_place s.times.steady)) { course = led s.course on })
   -- the edge refuses it, and it is closed at once
-  denies : (k : ℕ) (n n' : N) (fault : EdgeFault) (noted : Noted J) → k < places_limit → IsFreeAt s.places k → p.sockets.does s.sockets (deed.Tried k accepted.Taken) n →
-      IsOpeningRefusal fault s.course.journey.world.connections k → p.sockets.does n (deed.Closed k) n' →
+  denies : (k : ℕ) (n n' : N) (fault : EdgeFault) (noted : Noted J) → k < places_limit → IsFreeAt s.places k →
+      p.sockets.does s.sockets (deed.Tried k Taken) n → IsOpeningRefusal fault s.course.journey.world.connections k → p.sockets.does n (deed.Closed k) n' →
       NotesFault p.journal (Refused fault) s.times.steady s.noted noted →
-      AcceptsOne p s (record (with_deed (with_deed s (deed.Tried k accepted.Taken) n) (deed.Closed k) n') { noted = noted })
-  finds_nobody : (k : ℕ) (n : N) → p.sockets.does s.sockets (deed.Tried k accepted.Later) n → AcceptsOne p s (record (with_deed s (deed.Tried k accepted.Later) n) { queue = Empty })
-  fails : (k : ℕ) (n : N) (noted : Noted J) → p.sockets.does s.sockets (deed.Tried k accepted.Failed) n → NotesFault p.journal Accept s.times.steady s.noted noted →
-      AcceptsOne p s (record (with_deed s (deed.Tried k accepted.Failed) n) { queue = Barred s.times.steady; noted = noted })
+      AcceptsOne p s (record (with_deed (with_deed s (deed.Tried k Taken) n) (deed.Closed k) n') { noted = noted })
+  finds_nobody : (k : ℕ) (n : N) → p.sockets.does s.sockets (deed.Tried k Later) n →
+      AcceptsOne p s (record (with_deed s (deed.Tried k Later) n) { queue = Empty })
+  fails : (k : ℕ) (n : N) (noted : Noted J) → p.sockets.does s.sockets (deed.Tried k Failed) n → NotesFault p.journal Accept s.times.steady s.noted noted →
+      AcceptsOne p s (record (with_deed s (deed.Tried k Failed) n) { queue = Barred s.times.steady; noted = noted })
   -- all places are taken
   asks : (n : N) → AllTaken s.places → p.sockets.does s.sockets deed.Asked n → AcceptsOne p s (record (with_deed s deed.Asked n) { queue = Asked })

@@ -13,7 +13,7 @@ use Rattle.event_loop.specs.declared.service.Service.{Service}
 use Rattle.event_loop.specs.declared.sockets.Ready.{Ready}
 use Rattle.event_loop.specs.declared.tools.Tools.{Tools}
 use Rattle.event_loop.specs.Deeds.{Deed, Task, Reading, Keeping, Writing, Accepting, IsDone, waits, done_since}
-use Rattle.event_loop.specs.Noting.{noted_in}
+use Rattle.event_loop.specs.Noting.{Noted}
 use Rattle.event_loop.specs.Places.{IsOccupied, MayRead, MayWrite, NeedsNoRead, NeedsNoWrite, IsPlaceAtRest, AllFree}
 use Rattle.event_loop.specs.Scenes.{Promises, Scene, IsAllKept}
 use Rattle.event_loop.specs.Closing.{IsSilentLongest, AreWithin, Closes, freed_queue}
@@ -24,6 +24,10 @@ use Rattle.event_loop.specs.Ends.{CannotGoOn}
 -- it holds of the connection, wherever the edge was reached
 abbrev pub WhereKnown : {H : Type 0} → Hosting H → SeenEdge H → ℕ → (Option Connection → Type 0) → Type 0
 WhereKnown hosting edge k P = InEach hosting edge (λ world. P (connection_at world.connections k))
+
+-- a journal, and in which second a fault was noted there last
+abbrev pub noted_in : {J : Type 0} → J → Option ℕ → Noted J
+noted_in journal last = record { journal = journal; last = last }
 
 -- the loop as it runs: what it knows, and what it works with
 pub record Running (N C J K H : Type 0) : Type 0 where

@@ -9,6 +9,7 @@ use Rattle.event_loop.specs.declared.fault.ConnectionFault.TheVariants.{Read, Re
 use Rattle.event_loop.specs.declared.place.Place.{Place}
 use Rattle.event_loop.specs.declared.place.Stage.TheVariants.{Ended, Broken}
 use Rattle.event_loop.specs.Deeds as deed
+use Rattle.event_loop.specs.Deeds.{Bytes, End, Nothing, Failed}
 use Rattle.event_loop.specs.Courses.{Course, led}
 use Rattle.event_loop.specs.Giving.{AreBytesHeard, IsUnheard}
 use Rattle.event_loop.specs.Places.{read_limit}
@@ -22,18 +23,19 @@ read_place place count = record place { readable = nat_le read_limit count || pl
 -- moment that the clocks told.
 pub data ReadsPlace {N C J K H : Type 0} (p : Promises N C J K H) (k : ℕ) (place : Place) (s : Scene N C J K H) : Scene N C J K H → Type 0 where
   hears : (bytes : List ℕ) (n : N) (course : Course H) (place' : Place) → 0 < length bytes → length bytes ≤ read_limit →
-      p.sockets.does s.sockets (deed.Read k read_limit (deed.Bytes bytes)) n → AreBytesHeard p.hosting (piece_of k bytes s.times.moment) s.course course →
+      p.sockets.does s.sockets (deed.Read k read_limit (Bytes bytes)) n → AreBytesHeard p.hosting (piece_of k bytes s.times.moment) s.course course →
       place' ≡ read_place place (length bytes) →
-      ReadsPlace p k place s (record (with_place (with_deed s (deed.Read k read_limit (deed.Bytes bytes)) n) k place') { course = course })
+      ReadsPlace p k place s (record (with_place (with_deed s (deed.Read k read_limit (Bytes bytes)) n) k place') { course = course })
   refuses : (bytes : List ℕ) (n : N) (fault : EdgeFault) (course : Course H) → 0 < length bytes → length bytes ≤ read_limit →
-      p.sockets.does s.sockets (deed.Read k read_limit (deed.Bytes bytes)) n → IsUnheard p.hosting (piece_of k bytes s.times.moment) fault s.course course →
+      p.sockets.does s.sockets (deed.Read k read_limit (Bytes bytes)) n → IsUnheard p.hosting (piece_of k bytes s.times.moment) fault s.course course →
       ReadsPlace p k place s
-      (record (with_place (with_deed s (deed.Read k read_limit (deed.Bytes bytes)) n) k (record place { stage = Broken (Refused fault) })) { course = course })
-  ends : (n : N) (e : SeenEdge H) (on : GoesOn p.hosting e s.course.journey (HasEnded k)) → p.sockets.does s.sockets (deed.Read k read_limit deed.End) n →
-      ReadsPlace p k place s (record (with_place (with_deed s (deed.Read k read_limit deed.End) n) k (record place { stage = Ended })) { course = led s.course on })
-  ends_nothing : (n : N) (fault : EdgeFault) → p.sockets.does s.sockets (deed.Read k read_limit deed.End) n → IsEndingRefusal fault s.course.journey.world.connections k →
-      ReadsPlace p k place s (with_place (with_deed s (deed.Read k read_limit deed.End) n) k (record place { stage = Broken (Refused fault) }))
-  finds_nothing : (n : N) → p.sockets.does s.sockets (deed.Read k read_limit deed.Nothing) n →
-      ReadsPlace p k place s (with_place (with_deed s (deed.Read k read_limit deed.Nothing) n) k (record place { readable = false }))
-  fails : (n : N) → p.sockets.does s.sockets (deed.Read k read_limit deed.Failed) n →
-      ReadsPlace p k place s (with_place (with_deed s (deed.Read k read_limit deed.Failed) n) k (record place { stage = Broken Read }))
+      (record (with_place (with_deed s (deed.Read k read_limit (Bytes bytes)) n) k (record place { stage = Broken (Refused fault) })) { course = course })
+  ends : (n : N) (e : SeenEdge H) (on : GoesOn p.hosting e s.course.journey (HasEnded k)) → p.sockets.does s.sockets (deed.Read k read_limit End) n →
+      ReadsPlace p k place s (record (with_place (with_deed s (deed.Read k read_limit End) n) k (record place { stage = Ended })) { course = led s.course on })
+  ends_nothing : (n : N) (fault : EdgeFault) → p.sockets.does s.sockets (deed.Read k read_limit End) n →
+      IsEndingRefusal fault s.course.journey.world.connections k →
+      ReadsPlace p k place s (with_place (with_deed s (deed.Read k read_limit End) n) k (record place { stage = Broken (Refused fault) }))
+  finds_nothing : (n : N) → p.sockets.does s.sockets (deed.Read k read_limit Nothing) n →
+      ReadsPlace p k place s (with_place (with_deed s (deed.Read k read_limit Nothing) n) k (record place { readable = false }))
+  fails : (n : N) → p.sockets.does s.sockets (deed.Read k read_limit Failed) n →
+      ReadsPlace p k place s (with_place (with_deed s (deed.Read k read_limit Failed) n) k (record place { stage = Broken Read }))

@@ -1,4 +1,4 @@
-use Rattle.std.proofs.Common.{◌≡◌, ◌≢◌, ◌∷◌, [], true, false, refl, sym, ◌∙◌, inl, inr}
+use Rattle.std.proofs.Common.{◌∷◌, [], refl}
 use Rattle.event_loop.specs.Deeds as deed
 use Rattle.http_edge.specs.Schedule.{Kept}
 use Rattle.http_edge.specs.Reached.{led_on}

@@ -1,4 +1,4 @@
-use Rattle.std.proofs.Common.{inl, arith, ◌≡◌, ◌∷◌, ◌++◌, [], Some, refl, sym, subst, inr, ◌∙◌}
+use Rattle.std.proofs.Common.{inl, arith, ◌≡◌, ◌∷◌, [], Some, refl, sym, subst, inr, ◌∙◌}
 use Rattle.http_edge.specs.Schedule.{Opened, connection_at, fresh}
 use Rattle.http_edge.specs.Reached.{led_on}
 use Rattle.std.specs.Prelude.{slice_set}
@@ -8,8 +8,7 @@ use Rattle.event_loop.specs.Deeds as deed
 use Rattle.event_loop.specs.Places.{IsPlaceAtRest}
 use Rattle.event_loop.specs.Coming.{opens, denies, finds_nobody, fails, fresh_place}
 use Rattle.event_loop.specs.Served.{goes, comes}
-use Rattle.event_loop.specs.Noting.{noted_in}
-use Rattle.event_loop.specs.Goes.{Past}
+use Rattle.event_loop.specs.Goes.{Past, noted_in}
 use Rattle.event_loop.specs.Scenes.{promises}
 use Rattle.image_keeper.specs.Keeping.{keeping}
 use Rattle.event_loop.proofs.Doing.{one_more, done_then}

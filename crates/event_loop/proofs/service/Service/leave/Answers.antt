@@ -2,7 +2,7 @@ use Rattle.std.proofs.Common.{◌∷◌, []}
 use Rattle.http_edge.specs.Schedule.{Forgotten}
 use Rattle.event_loop.specs.Deeds as deed
 use Rattle.http_edge.specs.Reached.{led_on}
-use Rattle.event_loop.specs.Noting.{noted_in}
+use Rattle.event_loop.specs.Goes.{noted_in}
 use Rattle.event_loop.specs.Closing.{leaves}
 use Rattle.event_loop.proofs.service.Service.leave.Goals as goal
 

@@ -1,5 +1,4 @@
 use Rattle.std.proofs.Common.{rules}
-use Rattle.std.specs.Prelude.{Some, IsSome}
 use Rattle.event_loop.specs.Served.{reports_last}
 use Rattle.event_loop.proofs.service.Service.tell_last.Goals as goal
 
