@@ -14,5 +14,5 @@ pub serves_from : {N C J K H : Type 0} (p : Promises N C J K H) (journey : Journ
 serves_from p journey means edge ending begun ends = record {
   edge = edge;
   begun = begun;
-  served = ends journey.outset.rules journey.outset.first journey.schedule journey.world begun;
+  served = ends journey begun;
 }

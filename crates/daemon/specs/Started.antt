@@ -1,24 +1,41 @@
 -- What comes of a server that is started.
 use Rattle.std.specs.Prelude.{◌≡◌, ◌⊎◌, ℕ, List, Some}
 use Rattle.clients.specs.RegistryRecord.{RegistryRecord}
+use Rattle.change_codec.specs.contracts.keeper.NoKeeperKeeper.TheImpl as no_keeper
 use Rattle.change_codec.specs.declared.keeper.Keeper.{Ghosts as Keeper}
+use Rattle.change_codec.specs.declared.keeper.NoKeeper.{NoKeeper}
 use Rattle.consent.specs.History.{Event}
 use Rattle.endpoints.specs.Server.{SeenServer, Outset, FitsServer, Notes, outset_of}
 use Rattle.http_edge.specs.Edges.{SeenEdge}
 use Rattle.http_edge.specs.Reached.{Journey, Reached, new_journey, resumed_journey}
+use Rattle.hook_chain.specs.Chains.{Named}
+use Rattle.hook_chain.specs.contracts.chain.ChainHookHost.TheImpl as chain
 use Rattle.image_keeper.specs.Keeping.{Keeping, keeping}
+use Rattle.image_keeper.specs.contracts.keeper.NoKeeperImageKeeper.TheImpl as no_imaging
+use Rattle.event_loop.specs.declared.clocks.Clocks.{Ghosts as Clocks}
 use Rattle.event_loop.specs.declared.fault.LoopFault.{LoopFault}
+use Rattle.event_loop.specs.declared.journal.Journal.{Ghosts as Journal}
 use Rattle.event_loop.specs.declared.limits.Limits.{Limits}
 use Rattle.event_loop.specs.declared.tools.Tools.{Tools}
-use Rattle.event_loop.specs.Scenes.{Promises}
-use Rattle.event_loop.specs.Ends.{HasServed, ServesNothing}
+use Rattle.event_loop.specs.Scenes.{Promises, promises}
+use Rattle.event_loop.specs.Ends.{Beginning, HasServed, ServesNothing}
 use Rattle.daemon.specs.declared.means.Ending.{Ending}
 use Rattle.daemon.specs.declared.means.Means.{Means}
 use Rattle.daemon.specs.declared.patience.Patience.{Patience}
+use Rattle.daemon.specs.declared.sockets.MachineSockets.{MachineSockets}
+use Rattle.daemon.specs.contracts.sockets.MachineSocketsSockets.TheImpl as sockets
 
 -- what a keeper promises, which may put an image in the place of what it keeps once that is long
 abbrev pub keeping_by : {K : Type 0} → Keeper K → (K → Type 0) → Keeping K
 keeping_by keeper is_long = keeping keeper (record { is_long = is_long })
+
+-- nothing is kept
+abbrev pub keeping_nothing : Keeping NoKeeper
+keeping_nothing = keeping_by no_keeper.ghosts no_imaging.ghosts.is_long
+
+-- what is promised over the machine's sockets, with a chain of hooks
+abbrev pub on_machine : {C J K : Type 0} → Clocks C → Journal J → Keeping K → Promises MachineSockets C J K (List Named)
+on_machine clocks journal keeping = promises sockets.ghosts clocks journal keeping chain.ghosts
 
 -- the limits of a loop that is so patient, and reports so often
 abbrev pub limits_of : Patience → Limits
@@ -35,13 +52,16 @@ tools_of means edge = record {
   keeper = means.keeper;
 }
 
+-- what its loop begins with
+abbrev pub beginning_of : {N C J K H : Type 0} → Means N C J K → SeenEdge H → Journey H → Beginning N C J K H
+beginning_of means edge journey = record { limits = limits_of means.patience; tools = tools_of means edge; journey = journey }
+
 -- A server, from where its journey had led it and with what it was handed, served its connections step by step until it could
 -- not go on; or the clocks told nothing, and it served none.
 pub record Serves {N C J K H : Type 0} (p : Promises N C J K H) (journey : Journey H) (means : Means N C J K) (ending : Ending N C J K H) : Type 0 where
   pub edge : SeenEdge H
   pub begun : Reached p.hosting edge journey
-  pub served : HasServed p journey.outset.rules journey.outset.first (limits_of means.patience)
-      (tools_of means edge) journey.schedule journey.world ending.fault ending.tools ⊎ ServesNothing p (tools_of means edge) ending.fault ending.tools
+  pub served : HasServed p (beginning_of means edge journey) ending.fault ending.tools ⊎ ServesNothing p (tools_of means edge) ending.fault ending.tools
 
 -- from whatever history on a server has noted what happens, it served from there
 abbrev pub ServesFrom : {N C J K H : Type 0} → Promises N C J K H → SeenServer H → Means N C J K → Ending N C J K H → Type 0

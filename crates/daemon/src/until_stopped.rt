@@ -1,10 +1,9 @@
 //! Connections until the program is stopped.
 
 ghost use Rattle.std.specs.Prelude.{◌≡◌, ◌≢◌, OnOk, OnErr, IfOk, IfErr};
-ghost use Rattle.event_loop.specs.Scenes.{promises};
 ghost use Rattle.image_keeper.specs.Keeping.{keeping};
 ghost use Rattle.daemon.specs.Listening.{Announces};
-ghost use Rattle.daemon.specs.Started.{HasGoneOn, HasStarted, keeping_by};
+ghost use Rattle.daemon.specs.Started.{HasGoneOn, HasStarted, keeping_nothing, on_machine};
 ghost use Rattle.daemon.specs.declared.fault.ListenFault.TheVariants.{Unwritten};
 
 use crate::fault::ListenFault;
@@ -14,12 +13,11 @@ use crate::machine_clocks::MachineClocks;
 use crate::means::{Means, go_on_with, serve_with};
 use crate::patience::Patience;
 use crate::sockets::MachineSockets;
-use change_codec::{Keeper, NoKeeper};
+use change_codec::NoKeeper;
 use clients::Registry;
 use endpoints::Server;
-use event_loop::{Clocks, Journal, LoopFault, Sockets};
+use event_loop::{Clocks, Journal, LoopFault};
 use hook_chain::Chain;
-use hook_host::HookHost;
 use image_keeper::ImageKeeper;
 use rand_chacha::ChaCha20Rng;
 use rand_core::SeedableRng;
@@ -69,7 +67,7 @@ pub fn start<'r, 'e, R: Net + Clock + RandomSource + AllocGlobal, W: Write, E: W
     err: &'e mut E,
 ) -> Result<LoopFault, ListenFault>
     ensures done { OnOk result (Announces (W.contents out.old) (W.contents out.new)) }
-    ensures serves { IfOk result (HasStarted (promises ⟦<MachineSockets as Sockets>⟧ ⟦<MachineClocks<'r, R> as Clocks>⟧ ⟦<LineJournal<'e, E> as Journal>⟧ (keeping_by ⟦<NoKeeper as Keeper>⟧ ⟦<NoKeeper as ImageKeeper>⟧.is_long) ⟦<Chain as HookHost>⟧) registry hooks patience) }
+    ensures serves { IfOk result (HasStarted (on_machine ⟦<MachineClocks<'r, R> as Clocks>⟧ ⟦<LineJournal<'e, E> as Journal>⟧ keeping_nothing) registry hooks patience) }
     ensures silent { IfErr result (λ fault. fault ≢ Unwritten → out.new ≡ out.old) }
     ensures quiet { OnErr result (err.new ≡ err.old) }
 {
@@ -111,8 +109,8 @@ pub fn go_on<
     err: &'e mut E,
 ) -> Result<LoopFault, ListenFault>
     ensures done { OnOk result (Announces (W.contents out.old) (W.contents out.new)) }
-    ensures serves { IfOk result (HasGoneOn (promises ⟦<MachineSockets as Sockets>⟧ ⟦<MachineClocks<'r, R> as Clocks>⟧
-        ⟦<LineJournal<'e, E> as Journal>⟧ (keeping K.Keeper K.ImageKeeper.own) ⟦<Chain as HookHost>⟧) server keeper patience) }
+    ensures serves { IfOk result (HasGoneOn (on_machine ⟦<MachineClocks<'r, R> as Clocks>⟧ ⟦<LineJournal<'e, E> as Journal>⟧
+        (keeping K.Keeper K.ImageKeeper.own)) server keeper patience) }
     ensures silent { IfErr result (λ fault. fault ≢ Unwritten → out.new ≡ out.old) }
     ensures quiet { OnErr result (err.new ≡ err.old) }
 {

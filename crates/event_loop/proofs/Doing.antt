@@ -1,6 +1,5 @@
 -- Deeds that were done after others.
 use Rattle.std.proofs.Common.{suc, ◌≡◌, ◌≢◌, ◌⊎◌, inl, inr, ◌<◌, ℕ, List, Some, None, refl, sym, ◌∙◌, arith, [], ◌∷◌}
-use Rattle.clients.specs.RegistryRecord.{RegistryRecord}
 use Rattle.event_loop.specs.declared.place.Place.{Place}
 use Rattle.event_loop.specs.Deeds as deed
 use Rattle.event_loop.specs.Deeds.{Deed, Task, Keeping, IsDone, waits, done_since}
@@ -42,29 +41,22 @@ done_some task [] differs t = absurd t
 done_some task (deed.Waited limit room found ∷ earlier) differs t = absurd t
 done_some task (deed.Asked ∷ earlier) differs t = omega arith
 done_some task (deed.WaitFailed limit room ∷ earlier) differs t = omega arith
-done_some task (deed.Came j ∷ earlier) differs t = omega arith
-done_some task (deed.NobodyCame ∷ earlier) differs t = omega arith
-done_some task (deed.ComingFailed ∷ earlier) differs t = omega arith
-done_some task (deed.Read j room bytes ∷ earlier) differs t = omega arith
-done_some task (deed.ReadEnd j ∷ earlier) differs t = omega arith
-done_some task (deed.ReadNothing j ∷ earlier) differs t = omega arith
-done_some task (deed.ReadFailed j ∷ earlier) differs t = omega arith
-done_some task (deed.Wrote j bytes ∷ earlier) differs t = omega arith
-done_some task (deed.WroteNothing j ∷ earlier) differs t = omega arith
-done_some task (deed.WriteFailed j ∷ earlier) differs t = omega arith
+done_some task (deed.Tried j came ∷ earlier) differs t = omega arith
+done_some task (deed.Read j room came ∷ earlier) differs t = omega arith
+done_some task (deed.Wrote j took ∷ earlier) differs t = omega arith
 done_some task (deed.Closed j ∷ earlier) differs t = omega arith
 done_some task (deed.Kept ∷ earlier) differs (inl is) = absurd (differs (some_is Keeping task is))
 done_some task (deed.Kept ∷ earlier) differs (inr t) = done_some task earlier differs t
 
 module _ {N C J K H : Type 0} (p : Promises N C J K H) where
   -- a close is one more
-  pub closes_done : (rules : RegistryRecord) (host : H) (k : ℕ) (place : Place) (s s' : Scene N C J K H) → Closes p rules host k place s s' → DoneAfter s.deeds s'.deeds
-  closes_done rules host k place s s' (leaves n e on last journal done noted) = one_more _ _ refl refl (λ task t. inr t)
+  pub closes_done : (k : ℕ) (place : Place) (s s' : Scene N C J K H) → Closes p k place s s' → DoneAfter s.deeds s'.deeds
+  closes_done k place s s' (leaves n e on noted done noting) = one_more _ _ refl refl (λ task t. inr t)
 
   -- so something was done
-  pub closes_some : (rules : RegistryRecord) (host : H) (k : ℕ) (place : Place) (s s' : Scene N C J K H) → Closes p rules host k place s s' → 0 < done_since s'.deeds
-  closes_some rules host k place s s' (leaves n e on last journal done noted) = omega arith
+  pub closes_some : (k : ℕ) (place : Place) (s s' : Scene N C J K H) → Closes p k place s s' → 0 < done_since s'.deeds
+  closes_some k place s s' (leaves n e on noted done noting) = omega arith
 
   -- and no task is done by it
-  pub closes_alone : (rules : RegistryRecord) (host : H) (k : ℕ) (place : Place) (s s' : Scene N C J K H) → Closes p rules host k place s s' → (other : Task) → ¬ (IsDone other s.deeds) → ¬ (IsDone other s'.deeds)
-  closes_alone rules host k place s s' (leaves n e on last journal done noted) other not = not_more other s.deeds not
+  pub closes_alone : (k : ℕ) (place : Place) (s s' : Scene N C J K H) → Closes p k place s s' → (other : Task) → ¬ (IsDone other s.deeds) → ¬ (IsDone other s'.deeds)
+  closes_alone k place s s' (leaves n e on noted done noting) other not = not_more other s.deeds not

@@ -1,14 +1,13 @@
 -- Each crash leaves what stands for what was kept at some scene.
-use Rattle.std.proofs.Common.{◌≡◌, ◌⊎◌, inl, inr, ◌≤◌, ℕ, List, [], ◌++◌, Some, refl, sym, ap, subst, ◌∙◌, arith}
+use Rattle.std.proofs.Common.{◌≡◌, ◌⊎◌, inl, inr, ◌≤◌, ℕ, List, Some, refl, sym, ap, subst, ◌∙◌, arith}
 use Rattle.hook_host.specs.declared.host.HookHost.{Ghosts as Hosting}
 use Rattle.consent.specs.History.{Event}
-use Rattle.clients.specs.RegistryRecord.{RegistryRecord}
-use Rattle.http_edge.specs.Schedule.{World, PieceComes, PiecePasses, TakesOutput, TakesNothing, AnsweredPiece}
-use Rattle.endpoints.specs.Server.{outset_of, Outset}
+use Rattle.http_edge.specs.Schedule.{World, PieceComes, PiecePasses, TakesOutput, TakesNothing, AnsweredPiece, Piece, piece_of}
+use Rattle.endpoints.specs.Server.{Outset}
 use Rattle.event_loop.specs.declared.fault.LoopFault.{LoopFault}
 use Rattle.event_loop.specs.declared.place.Place.{Place}
-use Rattle.change_codec.specs.Keeping.{Crashes, IsFrontOf, Holds, Keeps, KeepsNot, LeavesEither}
-use Rattle.event_loop.specs.Courses.{Course, journey_of}
+use Rattle.change_codec.specs.Keeping.{IsFrontOf, Holds, Keeps}
+use Rattle.event_loop.specs.Courses.{Course}
 use Rattle.event_loop.specs.Giving.{GivesPieces, nothing, gives}
 use Rattle.event_loop.specs.Scenes.{Promises, Scene, IsAllKept, IsUnkept}
 use Rattle.event_loop.specs.Coming.{AcceptsOne, opens, denies, finds_nobody, fails, asks}
@@ -39,11 +38,11 @@ came_grows : {H : Type 0} (hosting : Hosting H) (outset : Outset H) (old new : W
 came_grows hosting outset old new came (inl answers) = record { kept = answers.kept; front = (_, answers.history) }
 came_grows hosting outset old new came (inr passes) = grows_not old new passes.same
 
-gives_grows : {H : Type 0} (hosting : Hosting H) (rules : RegistryRecord) (host : H) (k moment : ℕ) (first : Course H) (bytes : List ℕ) (course : Course H) → GivesPieces hosting rules host k moment first bytes course →
-    Grows first.world course.world
-gives_grows hosting rules host k moment first bytes course nothing = grows_not _ _ refl
-gives_grows hosting rules host k moment first bytes course (gives {bytes = front} {course = before} piece given still g) =
-    grows_then first.world before.world _ (gives_grows hosting rules host k moment first front before given) (came_grows hosting (outset_of rules host) before.world g.on.on.world _ g.on.on.happens.1)
+gives_grows : {H : Type 0} (hosting : Hosting H) (piece : Piece) (first : Course H) (bytes : List ℕ) (course : Course H) → GivesPieces hosting piece first bytes course →
+    Grows first.journey.world course.journey.world
+gives_grows hosting piece first bytes course nothing = grows_not _ _ refl
+gives_grows hosting piece first bytes course (gives {bytes = front} {course = before} part given still g) =
+    grows_then first.journey.world before.journey.world _ (gives_grows hosting piece first front before given) (came_grows hosting before.journey.outset before.journey.world g.on.on.world _ g.on.on.happens.1)
 
 takes_grows : (old new : World) (c n : ℕ) → TakesOutput old new c n ⊎ TakesNothing old new c n → Grows old new
 takes_grows old new c n (inl takes) = record { kept = takes.still.kept; front = same_front _ _ takes.still.history }
@@ -51,38 +50,38 @@ takes_grows old new c n (inr absent) = grows_not old new absent.same
 
 -- the keeper is as it was, and the history grows; or what is unkept is kept; or all is kept, and is in another way
 data Moves {N C J K H : Type 0} (p : Promises N C J K H) (s s' : Scene N C J K H) : Type 0 where
-  goes_on : s'.keeper ≡ s.keeper → Grows s.course.world s'.course.world → Moves p s s'
-  keeps_all : (unkept : IsUnkept s.course.world) → Keeps p.keeping unkept.kept s.course.world.history s.keeper s'.keeper → s'.course.world.kept ≡ Some s.course.world.history →
-      s'.course.world.history ≡ s.course.world.history → Moves p s s'
-  keeps_still : IsAllKept s.course.world → Keeps p.keeping s.course.world.history s.course.world.history s.keeper s'.keeper → s'.course.world ≡ s.course.world → Moves p s s'
+  goes_on : s'.keeper ≡ s.keeper → Grows s.course.journey.world s'.course.journey.world → Moves p s s'
+  keeps_all : (unkept : IsUnkept s.course.journey.world) → Keeps p.keeping.crashes unkept.kept s.course.journey.world.history s.keeper s'.keeper → s'.course.journey.world.kept ≡ Some s.course.journey.world.history →
+      s'.course.journey.world.history ≡ s.course.journey.world.history → Moves p s s'
+  keeps_still : IsAllKept s.course.journey.world → Keeps p.keeping.crashes s.course.journey.world.history s.course.journey.world.history s.keeper s'.keeper → s'.course.journey.world ≡ s.course.journey.world → Moves p s s'
 
-module _ {N C J K H : Type 0} (p : Promises N C J K H) (rules : RegistryRecord) (host : H) where
-  comes_moves : (s s' : Scene N C J K H) → AcceptsOne p rules host s s' → Moves p s s'
+module _ {N C J K H : Type 0} (p : Promises N C J K H) where
+  comes_moves : (s s' : Scene N C J K H) → AcceptsOne p s s' → Moves p s s'
   comes_moves s s' (opens j n e on within free done) = goes_on refl (record { kept = on.happens.still.kept; front = same_front _ _ on.happens.still.history })
-  comes_moves s s' (denies j n n' fault last journal within free done refused closed noted) = goes_on refl (grows_not _ _ refl)
-  comes_moves s s' (finds_nobody n done) = goes_on refl (grows_not _ _ refl)
-  comes_moves s s' (fails n last journal done noted) = goes_on refl (grows_not _ _ refl)
+  comes_moves s s' (denies j n n' fault noted within free done refused closed noting) = goes_on refl (grows_not _ _ refl)
+  comes_moves s s' (finds_nobody j n done) = goes_on refl (grows_not _ _ refl)
+  comes_moves s s' (fails j n noted done noting) = goes_on refl (grows_not _ _ refl)
   comes_moves s s' (asks n taken done) = goes_on refl (grows_not _ _ refl)
 
-  reads_moves : (j : ℕ) (place : Place) (s s' : Scene N C J K H) → ReadsPlace p rules host j place s s' → Moves p s s'
+  reads_moves : (j : ℕ) (place : Place) (s s' : Scene N C J K H) → ReadsPlace p j place s s' → Moves p s s'
   reads_moves j place s s' (reading.hears bytes n course place' some few done heard is) =
-      goes_on refl (gives_grows p.hosting rules host j s.times.moment s.course heard.given course heard.gives)
+      goes_on refl (gives_grows p.hosting (piece_of j bytes s.times.moment) s.course heard.given course heard.gives)
   reads_moves j place s s' (reading.refuses bytes n fault course some few done unheard) =
-      goes_on refl (gives_grows p.hosting rules host j s.times.moment s.course unheard.given course unheard.gives)
+      goes_on refl (gives_grows p.hosting (piece_of j bytes s.times.moment) s.course unheard.given course unheard.gives)
   reads_moves j place s s' (reading.ends n e on done) = goes_on refl (record { kept = on.happens.still.kept; front = same_front _ _ on.happens.still.history })
   reads_moves j place s s' (reading.ends_nothing n fault done refused) = goes_on refl (grows_not _ _ refl)
   reads_moves j place s s' (reading.finds_nothing n done) = goes_on refl (grows_not _ _ refl)
   reads_moves j place s s' (reading.fails n done) = goes_on refl (grows_not _ _ refl)
 
-  writes_moves : (j : ℕ) (place : Place) (s s' : Scene N C J K H) → WritesPlace p rules host j place s s' → Moves p s s'
-  writes_moves j place s s' (writing.sends count front n e on some is_front done) = goes_on refl (takes_grows s.course.world on.world j count on.happens)
+  writes_moves : (j : ℕ) (place : Place) (s s' : Scene N C J K H) → WritesPlace p j place s s' → Moves p s s'
+  writes_moves j place s s' (writing.sends count front n e on some is_front done) = goes_on refl (takes_grows s.course.journey.world on.world j count on.happens)
   writes_moves j place s s' (writing.finds_no_room n done) = goes_on refl (grows_not _ _ refl)
   writes_moves j place s s' (writing.fails n done) = goes_on refl (grows_not _ _ refl)
 
-  closes_moves : (j : ℕ) (place : Place) (s s' : Scene N C J K H) → Closes p rules host j place s s' → Moves p s s'
-  closes_moves j place s s' (leaves n e on last journal done noted) = goes_on refl (record { kept = on.happens.still.kept; front = same_front _ _ on.happens.still.history })
+  closes_moves : (j : ℕ) (place : Place) (s s' : Scene N C J K H) → Closes p j place s s' → Moves p s s'
+  closes_moves j place s s' (leaves n e on noted done noting) = goes_on refl (record { kept = on.happens.still.kept; front = same_front _ _ on.happens.still.history })
 
-  step_moves : (s s' : Scene N C J K H) → LoopStep p rules host s s' → Moves p s s'
+  step_moves : (s s' : Scene N C J K H) → LoopStep p s s' → Moves p s s'
   step_moves s s' (waits limit room found n times c may done told) = goes_on refl (grows_not _ _ refl)
   step_moves s s' (hears_of_listener more is) = goes_on refl (grows_not _ _ refl)
   step_moves s s' (hears_of j readable writable hung more place place' is here told) = goes_on refl (grows_not _ _ refl)
@@ -96,41 +95,41 @@ module _ {N C J K H : Type 0} (p : Promises N C J K H) (rules : RegistryRecord) 
   step_moves s s' (puts_image keeper all kept) = keeps_still all kept refl
   step_moves s s' no_image = goes_on refl (grows_not _ _ refl)
   step_moves s s' (keeps keeper e unkept on undone kept) =
-      keeps_all unkept kept (kept_last s.course.world on.world on.happens) (kept_history s.course.world on.world on.happens)
+      keeps_all unkept kept (kept_last s.course.journey.world on.world on.happens) (kept_history s.course.journey.world on.world on.happens)
 
   -- what was kept is a front of what happened, wherever steps lead to
-  served_front : (first s : Scene N C J K H) → Served p rules host first s → (kept : List Event) → s.course.world.kept ≡ Some kept → IsFrontOf kept s.course.world.history
-  served_front first s served kept is = reached_front p.hosting s.course.edge (journey_of rules host s.course) (served_answered p rules host first s served).reached kept is
+  served_front : (first s : Scene N C J K H) → Served p first s → (kept : List Event) → s.course.journey.world.kept ≡ Some kept → IsFrontOf kept s.course.journey.world.history
+  served_front first s served kept is = reached_front p.hosting s.course.edge s.course.journey (served_answered p first s served).reached kept is
 
   moves_held : (s s' : Scene N C J K H) → Moves p s s' → KeeperHolds p s → KeeperHolds p s'
-  moves_held s s' (goes_on same grows) held = λ kept is c left. held kept (sym grows.kept ∙ is) c (subst (λ k. p.keeping.may_leave k c) same left)
+  moves_held s s' (goes_on same grows) held = λ kept is c left. held kept (sym grows.kept ∙ is) c (subst (λ k. p.keeping.crashes.may_leave k c) same left)
   moves_held s s' (keeps_all unkept kept last history) held = λ now is c left.
-      let same : Some s.course.world.history ≡ Some now = sym last ∙ is in
-      let e : s.course.world.history ≡ now = cc in
-      subst (p.keeping.stands_for c) e (kept.holds (held unkept.kept unkept.here) c left)
+      let same : Some s.course.journey.world.history ≡ Some now = sym last ∙ is in
+      let e : s.course.journey.world.history ≡ now = cc in
+      subst (p.keeping.crashes.stands_for c) e (kept.holds (held unkept.kept unkept.here) c left)
   moves_held s s' (keeps_still all kept same) held = λ now is c left.
-      let before : s.course.world.kept ≡ Some now = ap (λ (w : World). w.kept) (sym same) ∙ is in
-      let e : now ≡ s.course.world.history = all now before in
-      subst (p.keeping.stands_for c) (sym e) (kept.holds (subst (λ (h : List Event). Holds p.keeping s.keeper h) e (held now before)) c left)
+      let before : s.course.journey.world.kept ≡ Some now = ap (λ (w : World). w.kept) (sym same) ∙ is in
+      let e : now ≡ s.course.journey.world.history = all now before in
+      subst (p.keeping.crashes.stands_for c) (sym e) (kept.holds (subst (λ (h : List Event). Holds p.keeping.crashes s.keeper h) e (held now before)) c left)
 
-  served_held : (first s : Scene N C J K H) → KeeperHolds p first → Served p rules host first s → KeeperHolds p s
+  served_held : (first s : Scene N C J K H) → KeeperHolds p first → Served p first s → KeeperHolds p s
   served_held first s held (begins is) = held
   served_held first s held (goes {s = before} served step) = moves_held before s (step_moves before s step) (served_held first before held served)
 
   -- what is known on the way from a scene at which so much was kept
   record Lasts (first s : Scene N C J K H) (before : List Event) (s' : Scene N C J K H) : Type 0 where
-    pub served : Served p rules host first s'
-    pub on : Onward p rules host s s'
-    pub later : p.keeping.moment s.keeper ≤ p.keeping.moment s'.keeper
-    pub durable : (c : List ℕ) → p.keeping.left_since s'.keeper (p.keeping.moment s.keeper) c → StandsBetween p rules host s before s' c
+    pub served : Served p first s'
+    pub on : Onward p s s'
+    pub later : p.keeping.crashes.moment s.keeper ≤ p.keeping.crashes.moment s'.keeper
+    pub durable : (c : List ℕ) → p.keeping.crashes.left_since s'.keeper (p.keeping.crashes.moment s.keeper) c → StandsBetween p s before s' c
     pub kept : List Event
-    pub here : s'.course.world.kept ≡ Some kept
+    pub here : s'.course.journey.world.kept ≡ Some kept
     pub from : IsFrontOf before kept
     pub held : KeeperHolds p s'
 
   -- what was kept at the last scene lies between
-  kept_between : (first s : Scene N C J K H) (before : List Event) (s' : Scene N C J K H) (l : Lasts first s before s') (kept : List Event) → s'.course.world.kept ≡ Some kept → (c : List ℕ) →
-      p.keeping.stands_for c kept → StandsBetween p rules host s before s' c
+  kept_between : (first s : Scene N C J K H) (before : List Event) (s' : Scene N C J K H) (l : Lasts first s before s') (kept : List Event) → s'.course.journey.world.kept ≡ Some kept → (c : List ℕ) →
+      p.keeping.crashes.stands_for c kept → StandsBetween p s before s' c
   kept_between first s before s' l kept is c stands =
       let same : Some l.kept ≡ Some kept = sym l.here ∙ is in
       let e : l.kept ≡ kept = cc in
@@ -146,8 +145,8 @@ module _ {N C J K H : Type 0} (p : Promises N C J K H) (rules : RegistryRecord) 
       }
 
   -- it still lies between one step later
-  between_on : (s : Scene N C J K H) (before : List Event) (s' s'' : Scene N C J K H) (c : List ℕ) → LoopStep p rules host s' s'' → IsFrontOf s'.course.world.history s''.course.world.history →
-      StandsBetween p rules host s before s' c → StandsBetween p rules host s before s'' c
+  between_on : (s : Scene N C J K H) (before : List Event) (s' s'' : Scene N C J K H) (c : List ℕ) → LoopStep p s' s'' → IsFrontOf s'.course.journey.world.history s''.course.journey.world.history →
+      StandsBetween p s before s' c → StandsBetween p s before s'' c
   between_on s before s' s'' c step grows b = record {
     at = b.at;
     since = b.since;
@@ -156,15 +155,15 @@ module _ {N C J K H : Type 0} (p : Promises N C J K H) (rules : RegistryRecord) 
     kept_there = b.kept_there;
     stands = b.stands;
     from = b.from;
-    to = front_then b.kept s'.course.world.history s''.course.world.history b.to grows;
+    to = front_then b.kept s'.course.journey.world.history s''.course.journey.world.history b.to grows;
   }
 
-  lasts_on : (first s : Scene N C J K H) (before : List Event) (s' s'' : Scene N C J K H) → Lasts first s before s' → LoopStep p rules host s' s'' → Moves p s' s'' → Lasts first s before s''
+  lasts_on : (first s : Scene N C J K H) (before : List Event) (s' s'' : Scene N C J K H) → Lasts first s before s' → LoopStep p s' s'' → Moves p s' s'' → Lasts first s before s''
   lasts_on first s before s' s'' l step (goes_on same grows) = record {
     served = goes l.served step;
     on = onward l.on step;
-    later = subst (λ k. p.keeping.moment s.keeper ≤ p.keeping.moment k) (sym same) l.later;
-    durable = λ c left. between_on s before s' s'' c step grows.front (l.durable c (subst (λ k. p.keeping.left_since k (p.keeping.moment s.keeper) c) same left));
+    later = subst (λ k. p.keeping.crashes.moment s.keeper ≤ p.keeping.crashes.moment k) (sym same) l.later;
+    durable = λ c left. between_on s before s' s'' c step grows.front (l.durable c (subst (λ k. p.keeping.crashes.left_since k (p.keeping.crashes.moment s.keeper) c) same left));
     kept = l.kept;
     here = grows.kept ∙ l.here;
     from = l.from;
@@ -172,39 +171,39 @@ module _ {N C J K H : Type 0} (p : Promises N C J K H) (rules : RegistryRecord) 
   }
   lasts_on first s before s' s'' l step (keeps_all unkept kept last history) =
       let meanwhile = kept.meanwhile (l.held unkept.kept unkept.here) in
-      let grows : IsFrontOf s'.course.world.history s''.course.world.history = same_front _ _ history in
-      let front : IsFrontOf before s'.course.world.history = front_then before l.kept s'.course.world.history l.from (served_front first s' l.served l.kept l.here) in
+      let grows : IsFrontOf s'.course.journey.world.history s''.course.journey.world.history = same_front _ _ history in
+      let front : IsFrontOf before s'.course.journey.world.history = front_then before l.kept s'.course.journey.world.history l.from (served_front first s' l.served l.kept l.here) in
       record {
         served = goes l.served step;
         on = onward l.on step;
         later = omega (arith, l.later, meanwhile.later);
-        durable = λ c left. elim (meanwhile.earlier (p.keeping.moment s.keeper) c l.later left) [
+        durable = λ c left. elim (meanwhile.earlier (p.keeping.crashes.moment s.keeper) c l.later left) [
           | inl then ↦ between_on s before s' s'' c step grows (l.durable c then)
           | inr now ↦ elim now [
             | inl old ↦ between_on s before s' s'' c step grows (kept_between first s before s' l unkept.kept unkept.here c old)
-            | inr new ↦ record { at = s''; since = onward l.on step; until = stays; kept = s'.course.world.history; kept_there = last; stands = new; from = front; to = grows }
+            | inr new ↦ record { at = s''; since = onward l.on step; until = stays; kept = s'.course.journey.world.history; kept_there = last; stands = new; from = front; to = grows }
           ]
         ];
-        kept = s'.course.world.history;
+        kept = s'.course.journey.world.history;
         here = last;
         from = front;
         held = moves_held s' s'' (keeps_all unkept kept last history) l.held;
       }
   lasts_on first s before s' s'' l step (keeps_still all kept same) =
-      let e : l.kept ≡ s'.course.world.history = all l.kept l.here in
-      let held : Holds p.keeping s'.keeper s'.course.world.history = subst (λ (h : List Event). Holds p.keeping s'.keeper h) e (l.held l.kept l.here) in
-      let here : s'.course.world.kept ≡ Some s'.course.world.history = l.here ∙ ap Some e in
+      let e : l.kept ≡ s'.course.journey.world.history = all l.kept l.here in
+      let held : Holds p.keeping.crashes s'.keeper s'.course.journey.world.history = subst (λ (h : List Event). Holds p.keeping.crashes s'.keeper h) e (l.held l.kept l.here) in
+      let here : s'.course.journey.world.kept ≡ Some s'.course.journey.world.history = l.here ∙ ap Some e in
       let meanwhile = kept.meanwhile held in
-      let grows : IsFrontOf s'.course.world.history s''.course.world.history = same_front _ _ (ap (λ (w : World). w.history) same) in
+      let grows : IsFrontOf s'.course.journey.world.history s''.course.journey.world.history = same_front _ _ (ap (λ (w : World). w.history) same) in
       record {
         served = goes l.served step;
         on = onward l.on step;
         later = omega (arith, l.later, meanwhile.later);
-        durable = λ c left. elim (meanwhile.earlier (p.keeping.moment s.keeper) c l.later left) [
+        durable = λ c left. elim (meanwhile.earlier (p.keeping.crashes.moment s.keeper) c l.later left) [
           | inl then ↦ between_on s before s' s'' c step grows (l.durable c then)
           | inr now ↦ elim now [
-            | inl old ↦ between_on s before s' s'' c step grows (kept_between first s before s' l s'.course.world.history here c old)
-            | inr new ↦ between_on s before s' s'' c step grows (kept_between first s before s' l s'.course.world.history here c new)
+            | inl old ↦ between_on s before s' s'' c step grows (kept_between first s before s' l s'.course.journey.world.history here c old)
+            | inr new ↦ between_on s before s' s'' c step grows (kept_between first s before s' l s'.course.journey.world.history here c new)
           ]
         ];
         kept = l.kept;
@@ -213,8 +212,8 @@ module _ {N C J K H : Type 0} (p : Promises N C J K H) (rules : RegistryRecord) 
         held = moves_held s' s'' (keeps_still all kept same) l.held;
       }
 
-  module _ (only_now : (keeper : K) (c : List ℕ) → p.keeping.left_since keeper (p.keeping.moment keeper) c → p.keeping.may_leave keeper c) (first : Scene N C J K H) (at_first : KeeperHolds p first) where
-    lasts : (s : Scene N C J K H) (before : List Event) (s' : Scene N C J K H) → s.course.world.kept ≡ Some before → Served p rules host first s → Onward p rules host s s' → Lasts first s before s'
+  module _ (only_now : (keeper : K) (c : List ℕ) → p.keeping.crashes.left_since keeper (p.keeping.crashes.moment keeper) c → p.keeping.crashes.may_leave keeper c) (first : Scene N C J K H) (at_first : KeeperHolds p first) where
+    lasts : (s : Scene N C J K H) (before : List Event) (s' : Scene N C J K H) → s.course.journey.world.kept ≡ Some before → Served p first s → Onward p s s' → Lasts first s before s'
     lasts s before s' is served stays =
         let held = served_held first s at_first served in
         record {
@@ -239,17 +238,17 @@ module _ {N C J K H : Type 0} (p : Promises N C J K H) (rules : RegistryRecord) 
     lasts s before s' is served (onward {s' = middle} on step) = lasts_on first s before middle s' (lasts s before middle is served on) step (step_moves middle s' step)
 
     -- each crash leaves what was kept at some scene
-    pub served_durable : (s s' : Scene N C J K H) → Served p rules host first s → Onward p rules host s s' → IsDurable p rules host s s'
+    pub served_durable : (s s' : Scene N C J K H) → Served p first s → Onward p s s' → IsDurable p s s'
     served_durable s s' served on = λ kept is. (lasts s kept s' is served on).durable
 
-    fails_durable : (s last failed : Scene N C J K H) (fault : LoopFault) → Served p rules host first s → Onward p rules host s last → CannotGoOn p last fault failed → IsDurableToEnd p rules host s last failed
+    fails_durable : (s last failed : Scene N C J K H) (fault : LoopFault) → Served p first s → Onward p s last → CannotGoOn p last fault failed → IsDurableToEnd p s last failed
     fails_durable s last failed fault served on (no_wait limit room n may done) = λ kept is c left. inl (served_durable s last served on kept is c left)
     fails_durable s last failed fault served on (no_time limit room found n c may done told) = λ kept is c left. inl (served_durable s last served on kept is c left)
     fails_durable s last failed fault served on (no_more many) = λ kept is c left. inl (served_durable s last served on kept is c left)
     fails_durable s last failed fault served on (not_kept keeper unkept undone lost) = λ kept is c left.
         let l = lasts s kept last is served on in
         let meanwhile = lost.meanwhile (l.held unkept.kept unkept.here) in
-        elim (meanwhile.earlier (p.keeping.moment s.keeper) c l.later left) [
+        elim (meanwhile.earlier (p.keeping.crashes.moment s.keeper) c l.later left) [
           | inl then ↦ inl (l.durable c then)
           | inr now ↦ elim now [
             | inl old ↦ inl (kept_between first s kept last l unkept.kept unkept.here c old)
@@ -258,29 +257,29 @@ module _ {N C J K H : Type 0} (p : Promises N C J K H) (rules : RegistryRecord) 
         ]
     fails_durable s last failed fault served on (not_imaged keeper all lost) = λ kept is c left.
         let l = lasts s kept last is served on in
-        let e : l.kept ≡ last.course.world.history = all l.kept l.here in
-        let held : Holds p.keeping last.keeper last.course.world.history = subst (λ (h : List Event). Holds p.keeping last.keeper h) e (l.held l.kept l.here) in
-        let here : last.course.world.kept ≡ Some last.course.world.history = l.here ∙ ap Some e in
+        let e : l.kept ≡ last.course.journey.world.history = all l.kept l.here in
+        let held : Holds p.keeping.crashes last.keeper last.course.journey.world.history = subst (λ (h : List Event). Holds p.keeping.crashes last.keeper h) e (l.held l.kept l.here) in
+        let here : last.course.journey.world.kept ≡ Some last.course.journey.world.history = l.here ∙ ap Some e in
         let meanwhile = lost.meanwhile held in
-        elim (meanwhile.earlier (p.keeping.moment s.keeper) c l.later left) [
+        elim (meanwhile.earlier (p.keeping.crashes.moment s.keeper) c l.later left) [
           | inl then ↦ inl (l.durable c then)
           | inr now ↦ elim now [
-            | inl old ↦ inl (kept_between first s kept last l last.course.world.history here c old)
+            | inl old ↦ inl (kept_between first s kept last l last.course.journey.world.history here c old)
             | inr new ↦ inr new
           ]
         ]
 
     -- closing keeps nothing
-    closes_keeper : (k : ℕ) (place : Place) (s s' : Scene N C J K H) → Closes p rules host k place s s' → s'.keeper ≡ s.keeper
-    closes_keeper k place s s' (leaves n e on last journal done noted) = refl
+    closes_keeper : (k : ℕ) (place : Place) (s s' : Scene N C J K H) → Closes p k place s s' → s'.keeper ≡ s.keeper
+    closes_keeper k place s s' (leaves n e on noted done noting) = refl
 
-    shuts_keeper : (s s' : Scene N C J K H) → Shuts p rules host s s' → s'.keeper ≡ s.keeper
+    shuts_keeper : (s s' : Scene N C J K H) → Shuts p s s' → s'.keeper ≡ s.keeper
     shuts_keeper s s' stops = refl
     shuts_keeper s s' (shuts {s = before} k place shut here taken closing) = closes_keeper k place before s' closing ∙ shuts_keeper s before shut
     shuts_keeper s s' (reports_last {s = before} report journal shut wanted tells done) = shuts_keeper s before shut
 
     -- and so it is up to the end
-    pub durable_to_end : (s last failed end : Scene N C J K H) (fault : LoopFault) → Served p rules host first s → Onward p rules host s last → CannotGoOn p last fault failed → Shuts p rules host failed end →
-        IsDurableToEnd p rules host s last end
+    pub durable_to_end : (s last failed end : Scene N C J K H) (fault : LoopFault) → Served p first s → Onward p s last → CannotGoOn p last fault failed → Shuts p failed end →
+        IsDurableToEnd p s last end
     durable_to_end s last failed end fault served on failing shut = λ kept is c left.
-        fails_durable s last failed fault served on failing kept is c (subst (λ k. p.keeping.left_since k (p.keeping.moment s.keeper) c) (shuts_keeper failed end shut) left)
+        fails_durable s last failed fault served on failing kept is c (subst (λ k. p.keeping.crashes.left_since k (p.keeping.crashes.moment s.keeper) c) (shuts_keeper failed end shut) left)

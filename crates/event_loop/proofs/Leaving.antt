@@ -2,7 +2,6 @@
 use Rattle.std.proofs.Common.{◌≡◌, ◌≢◌, ◌⊎◌, inl, inr, ◌<◌, ◌≤◌, ℕ, List, Option, Some, [], length, refl, sym, ap, subst, arith}
 use Rattle.std.proofs.lemmas.Option.{slice_get_within}
 use Rattle.std.specs.Prelude.{slice_get, slice_set}
-use Rattle.clients.specs.RegistryRecord.{RegistryRecord}
 use Rattle.event_loop.specs.declared.place.Place.{Place}
 use Rattle.event_loop.specs.declared.place.Stage.TheVariants.{Free}
 use Rattle.event_loop.specs.declared.queue.Queue.{Queue}
@@ -20,13 +19,13 @@ use Rattle.event_loop.specs.Served as served
 use Rattle.event_loop.specs.Served.{IsIdle, IsPatient, MayWait, goes, closes}
 use Rattle.event_loop.specs.Ends.{CannotGoOn, no_wait, no_time, not_kept, not_imaged, no_more}
 use Rattle.event_loop.specs.Goes as limited
-use Rattle.event_loop.specs.Goes.{Past, IsBusy, IsLimit, IsReadyToWait, IsKeptShort, LeadsAway, LeadsToSettled, AreAllSettled, MayRest, scene_of}
+use Rattle.event_loop.specs.Goes.{Past, IsBusy, IsLimit, IsReadyToWait, IsKeptShort, LeadsAway, SettlesAll, AreAllSettled, MayRest, running, scene_of}
 use Rattle.event_loop.proofs.Doing.{closes_done, closes_some, done_some, none_more}
 use Rattle.event_loop.proofs.Answering.{served_answered}
 use Rattle.event_loop.proofs.Leading.{closes_other}
 use Rattle.event_loop.proofs.Resting.{put_others, put_settled, free_rests, all_settled, settled_then}
 
-is_idle : {N C J K H : Type 0} (service : Service) (tools : Tools N C J K H) (past : Past) → length service.places ≡ 64 → AreAllSettled service past → MayRest service → IsIdle (scene_of service tools [] past)
+is_idle : {N C J K H : Type 0} (service : Service) (tools : Tools N C J K H) (past : Past H) → length service.places ≡ 64 → AreAllSettled service past → MayRest service → IsIdle (scene_of (running service tools) [] past)
 is_idle service tools past size settled rest = record { places = λ k place here. (settled k (below k place here)).rested (rest.due k (below k place here)) place here; queue = rest.queue }
   where
     below : (k : ℕ) (place : Place) → slice_get service.places k ≡ Some place → k < 64
@@ -34,43 +33,43 @@ is_idle service tools past size settled rest = record { places = λ k place here
 
 module _ {N C J K H : Type 0} (p : Promises N C J K H) where
   pub leaves_to : (k : _) (place : Place) (service : Service) (tools : Tools N C J K H) (service' : Service) (tools' : Tools N C J K H) → slice_get service.places k ≡ Some place → IsOccupied place.stage →
-      ((found : List Ready) (past : Past) → Cause (scene_of service tools found past) k place) → LeadsAway p k place service tools service' tools' →
-      service'.places ≡ slice_set service.places k (record place { stage = Free }) → service'.due ≡ service.due → (found : List Ready) → LeadsToSettled p found service tools found service' tools'
-  leaves_to k place service tools service' tools' here taken cause leads places due found rules host first past served settled =
-      let reached = (served_answered p rules host first _ served).reached in
-      let away = leads rules host found past reached in
+      ((found : List Ready) (past : Past H) → Cause (scene_of (running service tools) found past) k place) → LeadsAway p k place (running service tools) (running service' tools') →
+      service'.places ≡ slice_set service.places k (record place { stage = Free }) → service'.due ≡ service.due → SettlesAll p (running service tools) (running service' tools')
+  leaves_to k place service tools service' tools' here taken cause leads places due found first past served settled =
+      let reached = (served_answered p first _ served).reached in
+      let away = leads found past reached in
       record {
         next = away.next;
         served = goes served (closes k place _ here taken (cause found past) away.closes);
         settled =
             all_settled k service past service' away.next
-            (put_others k service service' (record place { stage = Free }) past.world away.next.world places (λ j other. ap (λ l. slice_get l j) due) (closes_other p rules host k place _ _ away.closes))
-            (closes_done p rules host k place _ _ away.closes) settled
-            (put_settled k service service' (record place { stage = Free }) away.next places (free_rests _ _ refl) (λ e. closes_some p rules host k place _ _ away.closes));
-        done = closes_done p rules host k place _ _ away.closes;
+            (put_others k service service' (record place { stage = Free }) past.journey.world away.next.journey.world places (λ j other. ap (λ l. slice_get l j) due) (closes_other p k place _ _ away.closes))
+            (closes_done p k place _ _ away.closes) settled
+            (put_settled k service service' (record place { stage = Free }) away.next places (free_rests _ _ refl) (λ e. closes_some p k place _ _ away.closes));
+        done = closes_done p k place _ _ away.closes;
       }
 
-  pub fails_reached : (rules : RegistryRecord) (host : H) (s s' : Scene N C J K H) (fault : LoopFault) → CannotGoOn p s fault s' → IsReached p.hosting rules host s.course → IsReached p.hosting rules host s'.course
-  fails_reached rules host s s' fault (no_wait limit room n may done) reached = reached
-  fails_reached rules host s s' fault (no_time limit room found n c may done told) reached = reached
-  fails_reached rules host s s' fault (not_kept keeper unkept undone lost) reached = reached
-  fails_reached rules host s s' fault (not_imaged keeper all lost) reached = reached
-  fails_reached rules host s s' fault (no_more many) reached = reached
+  pub fails_reached : (s s' : Scene N C J K H) (fault : LoopFault) → CannotGoOn p s fault s' → IsReached p.hosting s.course → IsReached p.hosting s'.course
+  fails_reached s s' fault (no_wait limit room n may done) reached = reached
+  fails_reached s s' fault (no_time limit room found n c may done told) reached = reached
+  fails_reached s s' fault (not_kept keeper unkept undone lost) reached = reached
+  fails_reached s s' fault (not_imaged keeper all lost) reached = reached
+  fails_reached s s' fault (no_more many) reached = reached
 
 -- where something is noted to be due, something was done
-busy_some : (service : Service) (past : Past) → IsReadyToWait service past → IsBusy service → 0 < done_since past.deeds
+busy_some : {H : Type 0} (service : Service) (past : Past H) → IsReadyToWait service past → IsBusy service → 0 < done_since past.deeds
 busy_some service past ready (inl due) = (ready.settled due.k due.within).active due.here
 busy_some service past ready (inr told) = elim ready.queue [ inl not ↦ absurd (not told) | inr tried ↦ done_some Accepting past.deeds (λ e. absurd (cc)) tried ]
 
-is_patient : {N C J K H : Type 0} (service : Service) (tools : Tools N C J K H) (past : Past) (limit : Option ℕ) → length service.places ≡ 64 → IsReadyToWait service past → IsLimit service limit →
-    IsPatient (scene_of service tools [] past) limit
+is_patient : {N C J K H : Type 0} (service : Service) (tools : Tools N C J K H) (past : Past H) (limit : Option ℕ) → length service.places ≡ 64 → IsReadyToWait service past → IsLimit service limit →
+    IsPatient (scene_of (running service tools) [] past) limit
 is_patient service tools past limit size ready (limited.looks busy) = served.looks (busy_some service past ready busy)
 is_patient service tools past limit size ready (limited.rests rest) = served.rests (is_idle service tools past size ready.settled rest)
 is_patient service tools past limit size ready (limited.sleeps rest free unbarred) = served.sleeps (is_idle service tools past size ready.settled rest) free unbarred
 
 -- it may wait
-pub may_wait : {N C J K H : Type 0} (p : Promises N C J K H) (service : Service) (tools : Tools N C J K H) (past : Past) (limit : Option ℕ) (room : ℕ) → length service.places ≡ 64 → IsReadyToWait service past → IsLimit service limit → 65 ≤ room → IsKeptShort p service tools past.world →
-    MayWait p (scene_of service tools [] past) limit room
+pub may_wait : {N C J K H : Type 0} (p : Promises N C J K H) (service : Service) (tools : Tools N C J K H) (past : Past H) (limit : Option ℕ) (room : ℕ) → length service.places ≡ 64 → IsReadyToWait service past → IsLimit service limit → 65 ≤ room → IsKeptShort p (running service tools) past.journey.world →
+    MayWait p (scene_of (running service tools) [] past) limit room
 may_wait p service tools past limit room size ready is_limit roomy short = record {
   patient = is_patient service tools past limit size ready is_limit;
   fair = record { places = λ k place here. (let within = slice_get_within service.places k place here in (ready.settled k (omega (arith, size, within))).turned place here); queue = ready.queue };
@@ -81,7 +80,7 @@ may_wait p service tools past limit room size ready is_limit roomy short = recor
 }
 
 -- where an image was put, or was refused, all is as ready
-pub ready_still : (service : Service) (past : Past) (service' : Service) → service' ≡ record service { refused = service'.refused } → IsReadyToWait service past → IsReadyToWait service' past
+pub ready_still : {H : Type 0} (service : Service) (past : Past H) (service' : Service) → service' ≡ record service { refused = service'.refused } → IsReadyToWait service past → IsReadyToWait service' past
 ready_still service past service' same ready =
     let still : Service = record service { refused = service'.refused } in
     subst (λ (s : Service). IsReadyToWait s past) (sym same) (record {

@@ -3,7 +3,6 @@ use Rattle.std.proofs.Common.{◌≡◌, ◌≢◌, inl, inr, ◌<◌, ℕ, suc,
 use Rattle.std.specs.Prelude.{slice_get, slice_set}
 use Rattle.std.proofs.lemmas.Bool.{false≢true}
 use Rattle.std.proofs.lemmas.Bool.Decides.{eqb_tells}
-use Rattle.clients.specs.RegistryRecord.{RegistryRecord}
 use Rattle.http_edge.specs.Schedule.{World, Connection, connection_at, untaken}
 use Rattle.http_edge.specs.Reached.{is_closing}
 use Rattle.event_loop.specs.declared.clocks.Times.{Times}
@@ -17,7 +16,7 @@ use Rattle.event_loop.specs.Places.{IsOccupied, IsInService, MayRead, MayWrite, 
 use Rattle.event_loop.specs.Scenes.{Promises, Scene}
 use Rattle.event_loop.specs.Coming.{fresh_place}
 use Rattle.event_loop.specs.Served.{HadTurn, Served}
-use Rattle.event_loop.specs.Goes.{Past, DoneAfter, HoldsAt, IsHeardAt, IsSettledAt, AreAllSettled, StaysIdle, IsWorkLeft, a_read, a_write, IsLeftAt, LeavesOthers, IsRestedAt, IsRested, TidiesAt, scene_of}
+use Rattle.event_loop.specs.Goes.{Past, DoneAfter, HoldsAt, IsHeardAt, IsSettledAt, AreAllSettled, StaysIdle, IsWorkLeft, a_read, a_write, IsLeftAt, LeavesOthers, IsRestedAt, IsRested, TidiesAt, running, standing, scene_of, to_read, to_write}
 use Rattle.event_loop.proofs.Putting.{set_other, set_same, same_some}
 use Rattle.event_loop.proofs.Doing.{none_more}
 
@@ -48,16 +47,16 @@ fresh_rests now k none stays = record {
     not_over (dismissed is closing empty) = false≢true (sym stays ∙ closing)
 
 -- where nothing changed, there is still nothing to be done
-pub unwritten_still : (k : ℕ) (b c : Service) (v u : World) → StaysIdle k b v c u NeedsNoWrite → HoldsAt k c u NeedsNoWrite
+pub unwritten_still : (k : ℕ) (b c : Service) (v u : World) → StaysIdle (to_write k) b v c u → HoldsAt k c u NeedsNoWrite
 unwritten_still k b c v u still =
     subst (λ s. HoldsAt k s u NeedsNoWrite) (sym still.service_is) (subst (λ w. HoldsAt k b w NeedsNoWrite) (sym still.world_is) still.rests)
 
-pub unread_still : (k : ℕ) (b c : Service) (v u : World) → HoldsAt k b v NeedsNoRead → StaysIdle k b v c u NeedsNoWrite → HoldsAt k c u NeedsNoRead
+pub unread_still : (k : ℕ) (b c : Service) (v u : World) → HoldsAt k b v NeedsNoRead → StaysIdle (to_write k) b v c u → HoldsAt k c u NeedsNoRead
 unread_still k b c v u unread still =
     subst (λ s. HoldsAt k s u NeedsNoRead) (sym still.service_is) (subst (λ x. HoldsAt k b x NeedsNoRead) (sym still.world_is) unread)
 
 -- where nothing was to be read, nothing is
-pub still_unread : (k : ℕ) (a b : Service) (w v : World) → StaysIdle k a w b v NeedsNoRead → HoldsAt k b v NeedsNoRead
+pub still_unread : (k : ℕ) (a b : Service) (w v : World) → StaysIdle (to_read k) a w b v → HoldsAt k b v NeedsNoRead
 still_unread k a b w v still =
     subst (λ s. HoldsAt k s v NeedsNoRead) (sym still.service_is) (subst (λ x. HoldsAt k a x NeedsNoRead) (sym still.world_is) still.rests)
 
@@ -94,7 +93,7 @@ pub no_others : (k : ℕ) (a : Service) (w : World) → LeavesOthers k a w a w
 no_others k a w = record { places = λ j other. refl; due = λ j other. refl; connections = λ j other. refl }
 
 -- where neither a read nor a write was to be done and nothing changed, none is left
-pub none_left : (k : ℕ) (b c : Service) (v u : World) → HoldsAt k b v NeedsNoRead → StaysIdle k b v c u NeedsNoWrite → IsLeftAt k c u → ⊥
+pub none_left : (k : ℕ) (b c : Service) (v u : World) → HoldsAt k b v NeedsNoRead → StaysIdle (to_write k) b v c u → IsLeftAt k c u → ⊥
 none_left k b c v u unread unwritten left =
     let here : slice_get b.places k ≡ Some left.place = subst (λ (s : Service). slice_get s.places k ≡ Some left.place) unwritten.service_is left.here in
     let still : IsWorkLeft left.place (connection_at v.connections k) = subst (λ (x : World). IsWorkLeft left.place (connection_at x.connections k)) unwritten.world_is left.left in
@@ -105,19 +104,19 @@ none_left k b c v u unread unwritten left =
     not_left (a_read readable may) here = unread left.place here readable may
 
 -- what was heard at another place is
-pub heard_other : (k j : ℕ) (service : Service) (past : Past) (service' : Service) (past' : Past) → LeavesOthers k service past.world service' past'.world → DoneAfter past.deeds past'.deeds →
+pub heard_other : {H : Type 0} (k j : ℕ) (service : Service) (past : Past H) (service' : Service) (past' : Past H) → LeavesOthers k service past.journey.world service' past'.journey.world → DoneAfter past.deeds past'.deeds →
     j ≢ k → IsHeardAt j service past → IsHeardAt j service' past'
 heard_other k j service past service' past' others done other (inl unread) =
     inl (λ place here. subst (λ o. NeedsNoRead place o) (sym (others.connections j other)) (unread place (sym (others.places j other) ∙ here)))
 heard_other k j service past service' past' others done other (inr read) = inr (done.keeps (Reading j) read)
 
 -- and what was settled there
-pub settled_other : (k j : ℕ) (service : Service) (past : Past) (service' : Service) (past' : Past) → LeavesOthers k service past.world service' past'.world → DoneAfter past.deeds past'.deeds →
+pub settled_other : {H : Type 0} (k j : ℕ) (service : Service) (past : Past H) (service' : Service) (past' : Past H) → LeavesOthers k service past.journey.world service' past'.journey.world → DoneAfter past.deeds past'.deeds →
     j ≢ k → IsSettledAt j service past → IsSettledAt j service' past'
 settled_other k j service past service' past' others done other settled = record {
-  rested = rested_other k j service past.world service' past'.world others other settled.rested;
+  rested = rested_other k j service past.journey.world service' past'.journey.world others other settled.rested;
   turned = λ place here.
-      turned_then j place (connection_at past'.world.connections j) past.deeds past'.deeds done
+      turned_then j place (connection_at past'.journey.world.connections j) past.deeds past'.deeds done
       (subst (λ o. HadTurn j place o past.deeds) (sym (others.connections j other)) (settled.turned place (sym (others.places j other) ∙ here)));
   active = λ e. (let some = settled.active (sym (others.due j other) ∙ e) in omega (arith, some, done.grows));
 }
@@ -130,12 +129,12 @@ pub rested_kept : (service : Service) (world world' : World) → world'.connecti
 rested_kept service world world' same rested j less =
     rested_other (suc j) j service world service world' (others_kept j service world world' same) (λ is. absurd (omega (arith, is))) (rested j less)
 
-pub heard_kept : (service : Service) (past past' : Past) → past'.world.connections ≡ past.world.connections → DoneAfter past.deeds past'.deeds → (j : ℕ) → IsHeardAt j service past → IsHeardAt j service past'
+pub heard_kept : {H : Type 0} (service : Service) (past past' : Past H) → past'.journey.world.connections ≡ past.journey.world.connections → DoneAfter past.deeds past'.deeds → (j : ℕ) → IsHeardAt j service past → IsHeardAt j service past'
 heard_kept service past past' same done j heard =
-    heard_other (suc j) j service past service past' (others_kept j service past.world past'.world same) done (λ is. absurd (omega (arith, is))) heard
+    heard_other (suc j) j service past service past' (others_kept j service past.journey.world past'.journey.world same) done (λ is. absurd (omega (arith, is))) heard
 
 -- where one place is settled and the others are, all are
-pub all_settled : (k : ℕ) (service : Service) (past : Past) (service' : Service) (past' : Past) → LeavesOthers k service past.world service' past'.world → DoneAfter past.deeds past'.deeds →
+pub all_settled : {H : Type 0} (k : ℕ) (service : Service) (past : Past H) (service' : Service) (past' : Past H) → LeavesOthers k service past.journey.world service' past'.journey.world → DoneAfter past.deeds past'.deeds →
     AreAllSettled service past → IsSettledAt k service' past' → AreAllSettled service' past'
 all_settled k service past service' past' others done settled here j less =
     elim (eqb_tells j k) [
@@ -144,7 +143,7 @@ all_settled k service past service' past' others done settled here j less =
     ]
 
 -- where more was done and no place changed, they are as settled
-pub settled_then : (service : Service) (past : Past) (service' : Service) (past' : Past) → service'.places ≡ service.places → service'.due ≡ service.due → past'.world ≡ past.world →
+pub settled_then : {H : Type 0} (service : Service) (past : Past H) (service' : Service) (past' : Past H) → service'.places ≡ service.places → service'.due ≡ service.due → past'.journey.world ≡ past.journey.world →
     DoneAfter past.deeds past'.deeds → AreAllSettled service past → AreAllSettled service' past'
 settled_then service past service' past' places due world done settled j less =
     settled_other (suc j) j service past service' past'
@@ -168,20 +167,20 @@ put_at_rest k service service' place world' put rests place' here =
     let is : place' ≡ place = set_same service.places k place place' (ap (λ places. slice_get places k) (sym put) ∙ here) in
     subst (λ q. IsPlaceAtRest q (connection_at world'.connections k)) (sym is) rests
 
-pub put_settled : (k : ℕ) (service service' : Service) (place : Place) (past' : Past) → service'.places ≡ slice_set service.places k place →
-    IsPlaceAtRest place (connection_at past'.world.connections k) → (slice_get service'.due k ≡ Some true → 0 < done_since past'.deeds) → IsSettledAt k service' past'
+pub put_settled : {H : Type 0} (k : ℕ) (service service' : Service) (place : Place) (past' : Past H) → service'.places ≡ slice_set service.places k place →
+    IsPlaceAtRest place (connection_at past'.journey.world.connections k) → (slice_get service'.due k ≡ Some true → 0 < done_since past'.deeds) → IsSettledAt k service' past'
 put_settled k service service' place past' put rests active = record {
-  rested = λ none place' here. put_at_rest k service service' place past'.world put rests place' here;
-  turned = λ place' here. rests_turned k place' _ past'.deeds (put_at_rest k service service' place past'.world put rests place' here);
+  rested = λ none place' here. put_at_rest k service service' place past'.journey.world put rests place' here;
+  turned = λ place' here. rests_turned k place' _ past'.deeds (put_at_rest k service service' place past'.journey.world put rests place' here);
   active = active;
 }
 
 -- a connection that is not over stays, and it is noted whether something is due there
-pub stays_tidy : {N C J K H : Type 0} (p : Promises N C J K H) (rules : RegistryRecord) (host : H) (first : Scene N C J K H) (found : List Ready) (k : ℕ) (service : Service) (tools : Tools N C J K H) (past : Past) (place : Place) (due : List Bool) →
-    slice_get service.places k ≡ Some place → ¬ (IsOver place (connection_at past.world.connections k)) → ((j : ℕ) → j ≢ k → slice_get due j ≡ slice_get service.due j) →
-    (slice_get due k ≡ Some false → IsPlaceAtRest place (connection_at past.world.connections k)) → (slice_get due k ≡ Some true → IsWorkLeft place (connection_at past.world.connections k)) →
-    Served p rules host first (scene_of service tools found past) → TidiesAt p rules host first found k service past (record service { due = due }) tools
-stays_tidy p rules host first found k service tools past place due here goes_on others rests left h = record {
+pub stays_tidy : {N C J K H : Type 0} (p : Promises N C J K H) (first : Scene N C J K H) (found : List Ready) (k : ℕ) (service : Service) (tools : Tools N C J K H) (past : Past H) (place : Place) (due : List Bool) →
+    slice_get service.places k ≡ Some place → ¬ (IsOver place (connection_at past.journey.world.connections k)) → ((j : ℕ) → j ≢ k → slice_get due j ≡ slice_get service.due j) →
+    (slice_get due k ≡ Some false → IsPlaceAtRest place (connection_at past.journey.world.connections k)) → (slice_get due k ≡ Some true → IsWorkLeft place (connection_at past.journey.world.connections k)) →
+    Served p first (scene_of (running service tools) found past) → TidiesAt p first k (standing (running service tools) found past) (running (record service { due = due }) tools)
+stays_tidy p first found k service tools past place due here goes_on others rests left h = record {
   goes = record {
     next = past;
     served = h;
@@ -190,11 +189,11 @@ stays_tidy p rules host first found k service tools past place due here goes_on 
     alone = λ other differs not. not;
     ready = λ was. was;
   };
-  rested = λ none place' here'. subst (λ q. IsPlaceAtRest q (connection_at past.world.connections k)) (same_some place place' (sym here ∙ here')) (rests none);
+  rested = λ none place' here'. subst (λ q. IsPlaceAtRest q (connection_at past.journey.world.connections k)) (same_some place place' (sym here ∙ here')) (rests none);
   turned = λ unread unwritten place' here'. record {
     read = elim unread [ inl none ↦ inl (none place' here') | inr tended ↦ inr tended ];
     written = elim unwritten [ inl none ↦ inl (none place' here') | inr done ↦ inr done ];
-    goes_on = subst (λ q. ¬ (IsOver q (connection_at past.world.connections k))) (same_some place place' (sym here ∙ here')) goes_on;
+    goes_on = subst (λ q. ¬ (IsOver q (connection_at past.journey.world.connections k))) (same_some place place' (sym here ∙ here')) goes_on;
   };
   left = λ e. record { place = place; here = here; left = left e };
 }

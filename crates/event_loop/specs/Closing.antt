@@ -1,6 +1,5 @@
 -- How connections are closed.
-use Rattle.std.specs.Prelude.{◌≡◌, ◌≤◌, ◌<◌, ◌-◌, ℕ, List, ◌∷◌, Option, Some, slice_get, slice_set}
-use Rattle.clients.specs.RegistryRecord.{RegistryRecord}
+use Rattle.std.specs.Prelude.{◌≡◌, ◌≤◌, ◌<◌, ◌-◌, ℕ, List, Some, slice_get}
 use Rattle.http_edge.specs.Schedule.{Forgotten}
 use Rattle.http_edge.specs.Edges.{SeenEdge}
 use Rattle.http_edge.specs.Reached.{GoesOn}
@@ -10,10 +9,10 @@ use Rattle.event_loop.specs.declared.place.Stage.TheVariants.{Free}
 use Rattle.event_loop.specs.declared.queue.Queue.{Queue}
 use Rattle.event_loop.specs.declared.queue.Queue.TheVariants.{Told, Empty, Barred, Asked, Waits}
 use Rattle.event_loop.specs.Deeds as deed
-use Rattle.event_loop.specs.Courses.{known, led, journey_of}
-use Rattle.event_loop.specs.Noting.{NotesEnd}
+use Rattle.event_loop.specs.Courses.{known, led}
+use Rattle.event_loop.specs.Noting.{Noted, NotesEnd}
 use Rattle.event_loop.specs.Places.{IsOccupied, IsOver}
-use Rattle.event_loop.specs.Scenes.{Promises, Scene}
+use Rattle.event_loop.specs.Scenes.{Promises, Scene, with_deed, with_place}
 
 -- none at the places took no byte for longer
 abbrev pub IsSilentLongest : List Place → Place → Type 0
@@ -40,17 +39,8 @@ freed_queue Asked = Empty
 freed_queue Waits = Told
 
 -- A connection is closed and forgotten, its fault is noted, and its place is free.
-pub data Closes {N C J K H : Type 0} (p : Promises N C J K H) (rules : RegistryRecord) (host : H) (k : ℕ) (place : Place)
-    (s : Scene N C J K H) : Scene N C J K H → Type 0 where
-  leaves : (n : N) (e : SeenEdge H) (on : GoesOn p.hosting e (journey_of rules host s.course) (Forgotten k)) (last : Option ℕ) (journal : J) →
-      p.does s.sockets (deed.Closed k) n →
-      NotesEnd p.notes place.stage s.times.steady s.noted s.journal last journal →
-      Closes p rules host k place s (record s {
-        sockets = n;
-        deeds = deed.Closed k ∷ s.deeds;
-        course = led s.course e (Forgotten k) on.world;
-        noted = last;
-        journal = journal;
-        places = slice_set s.places k (record place { stage = Free });
-        queue = freed_queue s.queue;
-      })
+pub data Closes {N C J K H : Type 0} (p : Promises N C J K H) (k : ℕ) (place : Place) (s : Scene N C J K H) : Scene N C J K H → Type 0 where
+  leaves : (n : N) (e : SeenEdge H) (on : GoesOn p.hosting e s.course.journey (Forgotten k)) (noted : Noted J) →
+      p.sockets.does s.sockets (deed.Closed k) n → NotesEnd p.journal place.stage s.times.steady s.noted noted →
+      Closes p k place s (record (with_place (with_deed s (deed.Closed k) n) k (record place { stage = Free }))
+      { course = led s.course on; noted = noted; queue = freed_queue s.queue })

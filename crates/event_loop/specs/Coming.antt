@@ -1,6 +1,5 @@
 -- How connections come.
-use Rattle.std.specs.Prelude.{◌<◌, ℕ, true, false, ◌∷◌, Option, slice_set}
-use Rattle.clients.specs.RegistryRecord.{RegistryRecord}
+use Rattle.std.specs.Prelude.{◌<◌, ℕ, true, false}
 use Rattle.http_edge.specs.Schedule.{Opened}
 use Rattle.http_edge.specs.Edges.{SeenEdge}
 use Rattle.http_edge.specs.Reached.{GoesOn}
@@ -11,11 +10,12 @@ use Rattle.event_loop.specs.declared.place.Place.{Place}
 use Rattle.event_loop.specs.declared.place.Stage.TheVariants.{Open}
 use Rattle.event_loop.specs.declared.queue.Queue.{Queue}
 use Rattle.event_loop.specs.declared.queue.Queue.TheVariants.{Told, Empty, Barred, Asked, Waits}
+use Rattle.event_loop.specs.declared.sockets.Accepted.TheVariants.{Taken, Later, Failed}
 use Rattle.event_loop.specs.Deeds as deed
-use Rattle.event_loop.specs.Courses.{led, journey_of}
-use Rattle.event_loop.specs.Noting.{NotesFault}
+use Rattle.event_loop.specs.Courses.{led}
+use Rattle.event_loop.specs.Noting.{Noted, NotesFault}
 use Rattle.event_loop.specs.Places.{IsFreeAt, AllTaken, places_limit}
-use Rattle.event_loop.specs.Scenes.{Promises, Scene}
+use Rattle.event_loop.specs.Scenes.{Promises, Scene, with_deed, with_place}
 
 -- a place whose connection came now, from which nothing was told to come yet
 abbrev pub fresh_place : ℕ → Place
@@ -30,25 +30,18 @@ told_queue Asked = Waits
 told_queue Waits = Waits
 
 -- Where somebody may wait, a connection is accepted, if there is a free place for it.
-pub data AcceptsOne {N C J K H : Type 0} (p : Promises N C J K H) (rules : RegistryRecord) (host : H) (s : Scene N C J K H) : Scene N C J K H → Type 0 where
-  opens : (k : ℕ) (n : N) (e : SeenEdge H) (on : GoesOn p.hosting e (journey_of rules host s.course) (Opened k)) →
-      k < places_limit → IsFreeAt s.places k → p.does s.sockets (deed.Came k) n →
-      AcceptsOne p rules host s (record s {
-        sockets = n;
-        deeds = deed.Came k ∷ s.deeds;
-        course = led s.course e (Opened k) on.world;
-        places = slice_set s.places k (fresh_place s.times.steady);
-      })
+pub data AcceptsOne {N C J K H : Type 0} (p : Promises N C J K H) (s : Scene N C J K H) : Scene N C J K H → Type 0 where
+  opens : (k : ℕ) (n : N) (e : SeenEdge H) (on : GoesOn p.hosting e s.course.journey (Opened k)) →
+      k < places_limit → IsFreeAt s.places k → p.sockets.does s.sockets (deed.Tried k Taken) n →
+      AcceptsOne p s (record (with_place (with_deed s (deed.Tried k Taken) n) k (fresh_place s.times.steady)) { course = led s.course on })
   -- the edge refuses it, and it is closed at once
-  denies : (k : ℕ) (n n' : N) (fault : EdgeFault) (last : Option ℕ) (journal : J) →
-      k < places_limit → IsFreeAt s.places k → p.does s.sockets (deed.Came k) n → IsOpeningRefusal fault s.course.world.connections k →
-      p.does n (deed.Closed k) n' → NotesFault p.notes (Refused fault) s.times.steady s.noted s.journal last journal →
-      AcceptsOne p rules host s (record s { sockets = n'; deeds = deed.Closed k ∷ deed.Came k ∷ s.deeds; noted = last; journal = journal })
-  finds_nobody : (n : N) → p.does s.sockets deed.NobodyCame n →
-      AcceptsOne p rules host s (record s { sockets = n; deeds = deed.NobodyCame ∷ s.deeds; queue = Empty })
-  fails : (n : N) (last : Option ℕ) (journal : J) → p.does s.sockets deed.ComingFailed n →
-      NotesFault p.notes Accept s.times.steady s.noted s.journal last journal →
-      AcceptsOne p rules host s (record s { sockets = n; deeds = deed.ComingFailed ∷ s.deeds; queue = Barred s.times.steady; noted = last; journal = journal })
+  denies : (k : ℕ) (n n' : N) (fault : EdgeFault) (noted : Noted J) → k < places_limit → IsFreeAt s.places k →
+      p.sockets.does s.sockets (deed.Tried k Taken) n → IsOpeningRefusal fault s.course.journey.world.connections k → p.sockets.does n (deed.Closed k) n' →
+      NotesFault p.journal (Refused fault) s.times.steady s.noted noted →
+      AcceptsOne p s (record (with_deed (with_deed s (deed.Tried k Taken) n) (deed.Closed k) n') { noted = noted })
+  finds_nobody : (k : ℕ) (n : N) → p.sockets.does s.sockets (deed.Tried k Later) n →
+      AcceptsOne p s (record (with_deed s (deed.Tried k Later) n) { queue = Empty })
+  fails : (k : ℕ) (n : N) (noted : Noted J) → p.sockets.does s.sockets (deed.Tried k Failed) n → NotesFault p.journal Accept s.times.steady s.noted noted →
+      AcceptsOne p s (record (with_deed s (deed.Tried k Failed) n) { queue = Barred s.times.steady; noted = noted })
   -- all places are taken
-  asks : (n : N) → AllTaken s.places → p.does s.sockets deed.Asked n →
-      AcceptsOne p rules host s (record s { sockets = n; deeds = deed.Asked ∷ s.deeds; queue = Asked })
+  asks : (n : N) → AllTaken s.places → p.sockets.does s.sockets deed.Asked n → AcceptsOne p s (record (with_deed s deed.Asked n) { queue = Asked })

@@ -2,11 +2,17 @@
 use Rattle.std.specs.Prelude.{◌≡◌, ◌⊎◌, ℕ, suc, ◌≤◌, ◌<◌, List, [], ◌∷◌, length, take, Option, Some, None, ⊤}
 use Rattle.event_loop.specs.declared.sockets.Ready.{Ready}
 use Rattle.event_loop.specs.declared.sockets.Accepted.{Accepted}
-use Rattle.event_loop.specs.declared.sockets.Accepted.TheVariants as accepted
 use Rattle.event_loop.specs.declared.sockets.Received.{Received}
 use Rattle.event_loop.specs.declared.sockets.Received.TheVariants as received
 use Rattle.event_loop.specs.declared.sockets.Sent.{Sent}
 use Rattle.event_loop.specs.declared.sockets.Sent.TheVariants as sent
+
+-- what a read or a write passed: bytes; or the stream's end came, or nothing can be passed yet, or it failed
+pub data Transfer : Type 0 where
+  Bytes : (bytes : List ℕ) → Transfer
+  End : Transfer
+  Nothing : Transfer
+  Failed : Transfer
 
 -- One call of the sockets, and what came of it. A wait has its limit in milliseconds, how much it had room for, and what
 -- it found ready; the others have the place of their connection, and a read how many bytes it had room for. Or what was
@@ -15,16 +21,9 @@ pub data Deed : Type 0 where
   Waited : (limit : Option ℕ) → (room : ℕ) → (found : List Ready) → Deed
   WaitFailed : (limit : Option ℕ) → (room : ℕ) → Deed
   Asked : Deed
-  Came : (k : ℕ) → Deed
-  NobodyCame : Deed
-  ComingFailed : Deed
-  Read : (k room : ℕ) → (bytes : List ℕ) → Deed
-  ReadEnd : (k : ℕ) → Deed
-  ReadNothing : (k : ℕ) → Deed
-  ReadFailed : (k : ℕ) → Deed
-  Wrote : (k : ℕ) → (bytes : List ℕ) → Deed
-  WroteNothing : (k : ℕ) → Deed
-  WriteFailed : (k : ℕ) → Deed
+  Tried : (k : ℕ) → (came : Accepted) → Deed
+  Read : (k room : ℕ) → (came : Transfer) → Deed
+  Wrote : (k : ℕ) → (took : Transfer) → Deed
   Closed : (k : ℕ) → Deed
   Kept : Deed
 
@@ -36,25 +35,20 @@ abbrev pub FindsWithin : Option ℕ → ℕ → Type 0
 FindsWithin (Some n) room = n ≤ room
 FindsWithin None room = ⊤
 
-abbrev pub accept_deed : Accepted → ℕ → Deed
-accept_deed accepted.Taken k = Came k
-accept_deed accepted.Later k = NobodyCame
-accept_deed accepted.Failed k = ComingFailed
-
 abbrev pub read_deed : Received → ℕ → List ℕ → Deed
-read_deed (received.Bytes n) k buffer = Read k (length buffer) (take n buffer)
-read_deed received.End k buffer = ReadEnd k
-read_deed received.Later k buffer = ReadNothing k
-read_deed received.Failed k buffer = ReadFailed k
+read_deed (received.Bytes n) k buffer = Read k (length buffer) (Bytes (take n buffer))
+read_deed received.End k buffer = Read k (length buffer) End
+read_deed received.Later k buffer = Read k (length buffer) Nothing
+read_deed received.Failed k buffer = Read k (length buffer) Failed
 
 abbrev pub ReadsWithin : Received → ℕ → Type 0
 ReadsWithin (received.Bytes n) room = (0 < n) × (n ≤ room)
 ReadsWithin result room = ⊤
 
 abbrev pub write_deed : Sent → ℕ → List ℕ → Deed
-write_deed (sent.Bytes n) k bytes = Wrote k (take n bytes)
-write_deed sent.Later k bytes = WroteNothing k
-write_deed sent.Failed k bytes = WriteFailed k
+write_deed (sent.Bytes n) k bytes = Wrote k (Bytes (take n bytes))
+write_deed sent.Later k bytes = Wrote k Nothing
+write_deed sent.Failed k bytes = Wrote k Failed
 
 abbrev pub SendsWithin : Sent → ℕ → Type 0
 SendsWithin (sent.Bytes n) room = (0 < n) × (n ≤ room)
@@ -84,16 +78,9 @@ pub data Task : Type 0 where
 -- the task that a deed is done for, whatever came of it
 abbrev pub task_of : Deed → Option Task
 task_of Asked = Some Accepting
-task_of (Came k) = Some Accepting
-task_of NobodyCame = Some Accepting
-task_of ComingFailed = Some Accepting
-task_of (Read k room bytes) = Some (Reading k)
-task_of (ReadEnd k) = Some (Reading k)
-task_of (ReadNothing k) = Some (Reading k)
-task_of (ReadFailed k) = Some (Reading k)
-task_of (Wrote k bytes) = Some (Writing k)
-task_of (WroteNothing k) = Some (Writing k)
-task_of (WriteFailed k) = Some (Writing k)
+task_of (Tried k came) = Some Accepting
+task_of (Read k room came) = Some (Reading k)
+task_of (Wrote k took) = Some (Writing k)
 task_of Kept = Some Keeping
 task_of deed = None
 

@@ -1,24 +1,31 @@
 -- Beside Giving: only the contracts of this crate's own parts and their proofs cite this, no public clause.
-use Rattle.std.specs.Prelude.{ℕ, List}
 use Rattle.rand_chacha.specs.ChaCha.{ChaCha}
 use Rattle.hook_host.specs.declared.host.HookHost.{Ghosts as Hosting}
-use Rattle.clients.specs.RegistryRecord.{RegistryRecord}
-use Rattle.http_edge.specs.Schedule.{World, Happening}
-use Rattle.http_edge.specs.Edges.{SeenEdge}
+use Rattle.http_edge.specs.Schedule.{Piece}
+use Rattle.http_edge.specs.Pieces.{SuppliedEdge}
+use Rattle.http_edge.specs.Reached.{Journey, Reached}
 use Rattle.http_edge.specs.declared.fault.EdgeFault.{EdgeFault}
 use Rattle.event_loop.specs.Courses.{Course}
 use Rattle.event_loop.specs.Giving.{AreBytesHeard, IsUnheard}
 
--- wherever the edge was reached, all bytes were given
-pub record GivesAll {H : Type 0} (hosting : Hosting H) (rules : RegistryRecord) (host : H) (k moment : ℕ) (bytes : List ℕ) (course : Course H)
-    (edge : SeenEdge H) (generator : ChaCha) : Type 0 where
-  pub schedule : List Happening
-  pub world : World
-  pub heard : AreBytesHeard hosting rules host k moment bytes course (record { edge = edge; generator = generator; schedule = schedule; world = world })
+-- an edge with its draws, on the journey that led to it
+abbrev pub course_of : {H : Type 0} → SuppliedEdge H ChaCha → Journey H → Course H
+course_of supplied journey = record { edge = supplied.edge; generator = supplied.source; journey = journey }
 
--- wherever the edge was reached, a front of them
-pub record GivesSome {H : Type 0} (hosting : Hosting H) (rules : RegistryRecord) (host : H) (k moment : ℕ) (bytes : List ℕ) (fault : EdgeFault)
-    (course : Course H) (edge : SeenEdge H) (generator : ChaCha) : Type 0 where
-  pub schedule : List Happening
-  pub world : World
-  pub unheard : IsUnheard hosting rules host k moment bytes fault course (record { edge = edge; generator = generator; schedule = schedule; world = world })
+-- all bytes of a piece were given
+pub record GivesAll {H : Type 0} (hosting : Hosting H) (piece : Piece) (course : Course H) (new : SuppliedEdge H ChaCha) : Type 0 where
+  pub journey : Journey H
+  pub heard : AreBytesHeard hosting piece course (course_of new journey)
+
+-- a front of them
+pub record GivesSome {H : Type 0} (hosting : Hosting H) (piece : Piece) (fault : EdgeFault) (course : Course H) (new : SuppliedEdge H ChaCha) : Type 0 where
+  pub journey : Journey H
+  pub unheard : IsUnheard hosting piece fault course (course_of new journey)
+
+-- wherever the edge was reached, the piece is given to it
+abbrev pub LeadsToGiving : {H : Type 0} → Hosting H → Piece → SuppliedEdge H ChaCha → SuppliedEdge H ChaCha → Type 0
+LeadsToGiving hosting piece old new = (journey : Journey _) → Reached hosting old.edge journey → GivesAll hosting piece (course_of old journey) new
+
+abbrev pub LeadsToRefusal : {H : Type 0} → Hosting H → Piece → EdgeFault → SuppliedEdge H ChaCha → SuppliedEdge H ChaCha → Type 0
+LeadsToRefusal hosting piece fault old new =
+    (journey : Journey _) → Reached hosting old.edge journey → GivesSome hosting piece fault (course_of old journey) new

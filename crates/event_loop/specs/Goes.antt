@@ -1,53 +1,70 @@
 -- How each part of the loop leads on. Only the contracts of its parts and their proofs cite this: no public clause does.
-use Rattle.std.specs.Prelude.{◌≡◌, ◌≢◌, ◌⊎◌, ◌≤◌, ◌<◌, ◌+◌, ℕ, true, false, List, [], Option, Some, slice_get, None, ⊤}
-use Rattle.rand_chacha.specs.ChaCha.{ChaCha}
+use Rattle.std.specs.Prelude.{◌≡◌, ◌≢◌, ◌⊎◌, ◌≤◌, ◌<◌, ◌+◌, ℕ, true, false, List, [], ◌∷◌, Option, Some, slice_get, slice_set, None, ⊤}
 use Rattle.hook_host.specs.declared.host.HookHost.{Ghosts as Hosting}
-use Rattle.clients.specs.RegistryRecord.{RegistryRecord}
-use Rattle.http_edge.specs.Schedule.{World, Connection, Happening, connection_at}
+use Rattle.http_edge.specs.Schedule.{World, Connection, connection_at}
 use Rattle.http_edge.specs.Edges.{SeenEdge}
-use Rattle.http_edge.specs.Reached.{Reached, InEach}
-use Rattle.http_edge.specs.declared.fault.EdgeFault.{EdgeFault}
+use Rattle.http_edge.specs.Reached.{InEach, Journey, Reached}
 use Rattle.event_loop.specs.declared.fault.LoopFault.{LoopFault}
 use Rattle.event_loop.specs.declared.place.Place.{Place}
+use Rattle.event_loop.specs.declared.place.Stage.TheVariants.{Free}
 use Rattle.event_loop.specs.declared.queue.Queue.TheVariants.{Told, Barred, Waits}
+use Rattle.event_loop.specs.declared.report.Report.{Report}
 use Rattle.event_loop.specs.declared.service.Service.{Service}
 use Rattle.event_loop.specs.declared.sockets.Ready.{Ready}
 use Rattle.event_loop.specs.declared.tools.Tools.{Tools}
-use Rattle.event_loop.specs.declared.fault.LoopFault.TheVariants.{Keep}
 use Rattle.event_loop.specs.Deeds.{Deed, Task, Reading, Keeping, Writing, Accepting, IsDone, waits, done_since}
-use Rattle.event_loop.specs.GivingParts.{GivesAll, GivesSome}
+use Rattle.event_loop.specs.Noting.{Noted}
 use Rattle.event_loop.specs.Places.{IsOccupied, MayRead, MayWrite, NeedsNoRead, NeedsNoWrite, IsPlaceAtRest, AllFree}
 use Rattle.event_loop.specs.Scenes.{Promises, Scene, IsAllKept}
-use Rattle.event_loop.specs.Closing.{IsSilentLongest, AreWithin, Closes}
+use Rattle.event_loop.specs.Closing.{IsSilentLongest, AreWithin, Closes, freed_queue}
+use Rattle.event_loop.specs.Reporting.{Tells}
 use Rattle.event_loop.specs.Served.{HadTurn, Served, Shuts}
 use Rattle.event_loop.specs.Ends.{CannotGoOn}
-use Rattle.event_loop.specs.Courses.{journey_to}
 
 -- it holds of the connection, wherever the edge was reached
 abbrev pub WhereKnown : {H : Type 0} → Hosting H → SeenEdge H → ℕ → (Option Connection → Type 0) → Type 0
 WhereKnown hosting edge k P = InEach hosting edge (λ world. P (connection_at world.connections k))
 
--- what was done so far
-pub record Past : Type 0 where
-  pub deeds : List Deed
-  pub schedule : List Happening
-  pub world : World
+-- a journal, and in which second a fault was noted there last
+abbrev pub noted_in : {J : Type 0} → J → Option ℕ → Noted J
+noted_in journal last = record { journal = journal; last = last }
 
-abbrev pub scene_of : {N C J K H : Type 0} → Service → Tools N C J K H → List Ready → Past → Scene N C J K H
-scene_of service tools found past = record {
-  sockets = tools.sockets;
-  clocks = tools.clocks;
-  journal = tools.journal;
-  keeper = tools.keeper;
-  course = record { edge = tools.edge; generator = tools.generator; schedule = past.schedule; world = past.world };
-  limits = service.limits;
-  places = service.places;
+-- the loop as it runs: what it knows, and what it works with
+pub record Running (N C J K H : Type 0) : Type 0 where
+  pub service : Service
+  pub tools : Tools N C J K H
+
+abbrev pub running : {N C J K H : Type 0} → Service → Tools N C J K H → Running N C J K H
+running service tools = record { service = service; tools = tools }
+
+-- what was done so far, and the journey of its edge
+pub record Past (H : Type 0) : Type 0 where
+  pub deeds : List Deed
+  pub journey : Journey H
+
+-- where the loop stands: as it runs, with what the last wait found and was not looked at yet, and with what was done so far
+pub record Standing (N C J K H : Type 0) : Type 0 where
+  pub now : Running N C J K H
+  pub found : List Ready
+  pub past : Past H
+
+abbrev pub standing : {N C J K H : Type 0} → Running N C J K H → List Ready → Past H → Standing N C J K H
+standing now found past = record { now = now; found = found; past = past }
+
+abbrev pub scene_of : {N C J K H : Type 0} → Running N C J K H → List Ready → Past H → Scene N C J K H
+scene_of now found past = record {
+  sockets = now.tools.sockets;
+  clocks = now.tools.clocks;
+  noted = noted_in now.tools.journal now.service.noted;
+  keeper = now.tools.keeper;
+  course = record { edge = now.tools.edge; generator = now.tools.generator; journey = past.journey };
+  limits = now.service.limits;
+  places = now.service.places;
   found = found;
-  queue = service.queue;
-  times = service.times;
-  noted = service.noted;
-  told = service.told;
-  refused = service.refused;
+  queue = now.service.queue;
+  times = now.service.times;
+  told = now.service.told;
+  refused = now.service.refused;
   deeds = past.deeds;
 }
 
@@ -82,17 +99,6 @@ pub record DoneAfter (earlier later : List Deed) : Type 0 where
   pub grows : done_since earlier ≤ done_since later
   pub keeps : (task : Task) → IsDone task earlier → IsDone task later
 
--- wherever the edge was reached, the bytes are given to it
-abbrev pub LeadsToGiving : {H : Type 0} → Hosting H → ℕ → ℕ → List ℕ → SeenEdge H → ChaCha → SeenEdge H → ChaCha → Type 0
-LeadsToGiving hosting k moment bytes edge generator edge' generator' =
-    (rules : RegistryRecord) (host : _) (schedule : List Happening) (world : World) → Reached hosting edge (journey_to rules host schedule world) →
-    GivesAll hosting rules host k moment bytes (record { edge = edge; generator = generator; schedule = schedule; world = world }) edge' generator'
-
-abbrev pub LeadsToRefusal : {H : Type 0} → Hosting H → ℕ → ℕ → List ℕ → EdgeFault → SeenEdge H → ChaCha → SeenEdge H → ChaCha → Type 0
-LeadsToRefusal hosting k moment bytes fault edge generator edge' generator' =
-    (rules : RegistryRecord) (host : _) (schedule : List Happening) (world : World) → Reached hosting edge (journey_to rules host schedule world) →
-    GivesSome hosting rules host k moment bytes fault (record { edge = edge; generator = generator; schedule = schedule; world = world }) edge' generator'
-
 -- AT ONE PLACE
 
 -- a connection is there, and none took no byte of a reply for longer
@@ -113,41 +119,50 @@ abbrev pub IsReadyFor : Task → World → Type 0
 IsReadyFor (Writing k) world = IsAllKept world
 IsReadyFor task world = ⊤
 
+-- a task that may be to be done at a place, and when it needs not be done
+pub record Duty : Type 1 where
+  pub k : ℕ
+  pub task : Task
+  pub rests : Place → Option Connection → Type 0
+
+abbrev pub to_read : ℕ → Duty
+to_read k = record { k = k; task = Reading k; rests = NeedsNoRead }
+
+abbrev pub to_write : ℕ → Duty
+to_write k = record { k = k; task = Writing k; rests = NeedsNoWrite }
+
 -- steps lead on, which touch one place alone, and do one task alone; what was ready for it stays ready
-pub record GoesAt {N C J K H : Type 0} (p : Promises N C J K H) (rules : RegistryRecord) (host : H) (first : Scene N C J K H) (found : List Ready)
-    (k : ℕ) (task : Task) (service : Service) (past : Past) (service' : Service) (tools' : Tools N C J K H) : Type 0 where
-  pub next : Past
-  pub served : Served p rules host first (scene_of service' tools' found next)
-  pub done : DoneAfter past.deeds next.deeds
-  pub others : LeavesOthers k service past.world service' next.world
-  pub ready : IsReadyFor task past.world → IsReadyFor task next.world
-  pub alone : (other : Task) → other ≢ task → ¬ (IsDone other past.deeds) → ¬ (IsDone other next.deeds)
+pub record GoesAt {N C J K H : Type 0} (p : Promises N C J K H) (first : Scene N C J K H) (duty : Duty) (before : Standing N C J K H)
+    (after : Running N C J K H) : Type 0 where
+  pub next : Past H
+  pub served : Served p first (scene_of after before.found next)
+  pub done : DoneAfter before.past.deeds next.deeds
+  pub others : LeavesOthers duty.k before.now.service before.past.journey.world after.service next.journey.world
+  pub ready : IsReadyFor duty.task before.past.journey.world → IsReadyFor duty.task next.journey.world
+  pub alone : (other : Task) → other ≢ duty.task → ¬ (IsDone other before.past.deeds) → ¬ (IsDone other next.deeds)
 
 -- it holds of what is known of the place, and of its connection
 abbrev pub HoldsAt : ℕ → Service → World → (Place → Option Connection → Type 0) → Type 0
 HoldsAt k service world P = (place : Place) → slice_get service.places k ≡ Some place → P place (connection_at world.connections k)
 
 -- nothing changed, since nothing is to be done
-pub record StaysIdle (k : ℕ) (service : Service) (world : World) (service' : Service) (world' : World) (P : Place → Option Connection → Type 0) : Type 0 where
+pub record StaysIdle (duty : Duty) (service : Service) (world : World) (service' : Service) (world' : World) : Type 0 where
   pub service_is : service' ≡ service
   pub world_is : world' ≡ world
-  pub rests : HoldsAt k service world P
+  pub rests : HoldsAt duty.k service world duty.rests
 
 -- a task is done at one place, or nothing changed, since it is not to be done
-pub record ActsAt {N C J K H : Type 0} (p : Promises N C J K H) (rules : RegistryRecord) (host : H) (first : Scene N C J K H) (found : List Ready)
-    (k : ℕ) (task : Task) (P : Place → Option Connection → Type 0) (service : Service) (past : Past) (service' : Service)
-    (tools' : Tools N C J K H) : Type 0 where
-  pub goes : GoesAt p rules host first found k task service past service' tools'
-  pub due : service'.due ≡ service.due
-  pub acts : StaysIdle k service past.world service' goes.next.world P ⊎ IsDone task goes.next.deeds
+pub record ActsAt {N C J K H : Type 0} (p : Promises N C J K H) (first : Scene N C J K H) (duty : Duty) (before : Standing N C J K H)
+    (after : Running N C J K H) : Type 0 where
+  pub goes : GoesAt p first duty before after
+  pub due : after.service.due ≡ before.now.service.due
+  pub acts : StaysIdle duty before.now.service before.past.journey.world after.service goes.next.journey.world ⊎ IsDone duty.task goes.next.deeds
 
 -- so it is where it was not done since the last wait, and may be done
-abbrev pub LeadsToActs : {N C J K H : Type 0} → Promises N C J K H → ℕ → Task → (Place → Option Connection → Type 0) → Service → Tools N C J K H → Service →
-    Tools N C J K H → Type 0
-LeadsToActs {N} {C} {J} {K} {H} p k task P service tools service' tools' =
-    (rules : RegistryRecord) (host : H) (first : Scene N C J K H) (found : List Ready) (past : Past) → ¬ (IsDone task past.deeds) →
-    IsReadyFor task past.world → Served p rules host first (scene_of service tools found past) →
-    ActsAt p rules host first found k task P service past service' tools'
+abbrev pub LeadsToActs : {N C J K H : Type 0} → Promises N C J K H → Duty → Running N C J K H → Running N C J K H → Type 0
+LeadsToActs {N} {C} {J} {K} {H} p duty before after =
+    (first : Scene N C J K H) (found : List Ready) (past : Past H) → ¬ (IsDone duty.task past.deeds) → IsReadyFor duty.task past.journey.world →
+    Served p first (scene_of before found past) → ActsAt p first duty (standing before found past) after
 
 -- a read or a write is to be done
 pub data IsWorkLeft (place : Place) (connection : Option Connection) : Type 0 where
@@ -165,172 +180,178 @@ abbrev pub IsRestedAt : ℕ → Service → World → Type 0
 IsRestedAt k service world = slice_get service.due k ≡ Some false → HoldsAt k service world IsPlaceAtRest
 
 -- no read is to be done at the place, or one was done since the last wait
-abbrev pub IsHeardAt : ℕ → Service → Past → Type 0
-IsHeardAt k service past = HoldsAt k service past.world NeedsNoRead ⊎ IsDone (Reading k) past.deeds
+abbrev pub IsHeardAt : {H : Type 0} → ℕ → Service → Past H → Type 0
+IsHeardAt k service past = HoldsAt k service past.journey.world NeedsNoRead ⊎ IsDone (Reading k) past.deeds
 
 -- the place had its turn, and where nothing is noted to be due, nothing is to be done there, and else something was done
-pub record IsSettledAt (k : ℕ) (service : Service) (past : Past) : Type 0 where
-  pub rested : IsRestedAt k service past.world
-  pub turned : HoldsAt k service past.world (λ place connection. HadTurn k place connection past.deeds)
+pub record IsSettledAt {H : Type 0} (k : ℕ) (service : Service) (past : Past H) : Type 0 where
+  pub rested : IsRestedAt k service past.journey.world
+  pub turned : HoldsAt k service past.journey.world (λ place connection. HadTurn k place connection past.deeds)
   pub active : slice_get service.due k ≡ Some true → 0 < done_since past.deeds
 
 -- steps lead on, which touch one place alone, and it is settled
-pub record SettlesAt {N C J K H : Type 0} (p : Promises N C J K H) (rules : RegistryRecord) (host : H) (first : Scene N C J K H) (found : List Ready)
-    (k : ℕ) (service : Service) (past : Past) (service' : Service) (tools' : Tools N C J K H) : Type 0 where
-  pub goes : GoesAt p rules host first found k (Writing k) service past service' tools'
-  pub settled : IsSettledAt k service' goes.next
+pub record SettlesAt {N C J K H : Type 0} (p : Promises N C J K H) (first : Scene N C J K H) (k : ℕ) (before : Standing N C J K H)
+    (after : Running N C J K H) : Type 0 where
+  pub goes : GoesAt p first (to_write k) before after
+  pub settled : IsSettledAt k after.service goes.next
 
 -- it is closed where it is over, and else it is noted whether something is due there
-pub record TidiesAt {N C J K H : Type 0} (p : Promises N C J K H) (rules : RegistryRecord) (host : H) (first : Scene N C J K H) (found : List Ready)
-    (k : ℕ) (service : Service) (past : Past) (service' : Service) (tools' : Tools N C J K H) : Type 0 where
-  pub goes : GoesAt p rules host first found k (Writing k) service past service' tools'
-  pub rested : IsRestedAt k service' goes.next.world
-  pub turned : HoldsAt k service past.world NeedsNoRead ⊎ (IsDone (Reading k) past.deeds ⊎ IsDone (Writing k) past.deeds) →
-      HoldsAt k service past.world NeedsNoWrite ⊎ IsDone (Writing k) past.deeds →
-      HoldsAt k service' goes.next.world (λ place connection. HadTurn k place connection goes.next.deeds)
-  pub left : slice_get service'.due k ≡ Some true → IsLeftAt k service past.world
+pub record TidiesAt {N C J K H : Type 0} (p : Promises N C J K H) (first : Scene N C J K H) (k : ℕ) (before : Standing N C J K H)
+    (after : Running N C J K H) : Type 0 where
+  pub goes : GoesAt p first (to_write k) before after
+  pub rested : IsRestedAt k after.service goes.next.journey.world
+  pub turned : HoldsAt k before.now.service before.past.journey.world NeedsNoRead ⊎
+      (IsDone (Reading k) before.past.deeds ⊎ IsDone (Writing k) before.past.deeds) →
+      HoldsAt k before.now.service before.past.journey.world NeedsNoWrite ⊎ IsDone (Writing k) before.past.deeds →
+      HoldsAt k after.service goes.next.journey.world (λ place connection. HadTurn k place connection goes.next.deeds)
+  pub left : slice_get after.service.due k ≡ Some true → IsLeftAt k before.now.service before.past.journey.world
 
-abbrev pub LeadsToTidy : {N C J K H : Type 0} → Promises N C J K H → ℕ → Service → Tools N C J K H → Service → Tools N C J K H → Type 0
-LeadsToTidy {N} {C} {J} {K} {H} p k service tools service' tools' =
-    (rules : RegistryRecord) (host : H) (first : Scene N C J K H) (found : List Ready) (past : Past) →
-    Served p rules host first (scene_of service tools found past) →
-    TidiesAt p rules host first found k service past service' tools'
+abbrev pub LeadsToTidy : {N C J K H : Type 0} → Promises N C J K H → ℕ → Running N C J K H → Running N C J K H → Type 0
+LeadsToTidy {N} {C} {J} {K} {H} p k before after =
+    (first : Scene N C J K H) (found : List Ready) (past : Past H) → Served p first (scene_of before found past) →
+    TidiesAt p first k (standing before found past) after
 
-abbrev pub LeadsToRest : {N C J K H : Type 0} → Promises N C J K H → ℕ → Service → Tools N C J K H → Service → Tools N C J K H → Type 0
-LeadsToRest {N} {C} {J} {K} {H} p k service tools service' tools' =
-    (rules : RegistryRecord) (host : H) (first : Scene N C J K H) (found : List Ready) (past : Past) → IsHeardAt k service past →
-    ¬ (IsDone (Writing k) past.deeds) → IsAllKept past.world → Served p rules host first (scene_of service tools found past) →
-    SettlesAt p rules host first found k service past service' tools'
+abbrev pub LeadsToRest : {N C J K H : Type 0} → Promises N C J K H → ℕ → Running N C J K H → Running N C J K H → Type 0
+LeadsToRest {N} {C} {J} {K} {H} p k before after =
+    (first : Scene N C J K H) (found : List Ready) (past : Past H) → IsHeardAt k before.service past → ¬ (IsDone (Writing k) past.deeds) →
+    IsAllKept past.journey.world → Served p first (scene_of before found past) → SettlesAt p first k (standing before found past) after
 
 -- a connection is closed, wherever the edge was reached
-pub record GoesAway {N C J K H : Type 0} (p : Promises N C J K H) (rules : RegistryRecord) (host : H) (found : List Ready) (k : ℕ) (place : Place)
-    (service : Service) (tools : Tools N C J K H) (past : Past) (service' : Service) (tools' : Tools N C J K H) : Type 0 where
-  pub next : Past
-  pub closes : Closes p rules host k place (scene_of service tools found past) (scene_of service' tools' found next)
+pub record GoesAway {N C J K H : Type 0} (p : Promises N C J K H) (k : ℕ) (place : Place) (before : Standing N C J K H)
+    (after : Running N C J K H) : Type 0 where
+  pub next : Past H
+  pub closes : Closes p k place (scene_of before.now before.found before.past) (scene_of after before.found next)
 
-abbrev pub LeadsAway : {N C J K H : Type 0} → Promises N C J K H → ℕ → Place → Service → Tools N C J K H → Service → Tools N C J K H → Type 0
-LeadsAway {N} {C} {J} {K} {H} p k place service tools service' tools' =
-    (rules : RegistryRecord) (host : H) (found : List Ready) (past : Past) → Reached p.hosting tools.edge (journey_to rules host past.schedule past.world) →
-    GoesAway p rules host found k place service tools past service' tools'
+abbrev pub LeadsAway : {N C J K H : Type 0} → Promises N C J K H → ℕ → Place → Running N C J K H → Running N C J K H → Type 0
+LeadsAway {N} {C} {J} {K} {H} p k place before after =
+    (found : List Ready) (past : Past H) → Reached p.hosting before.tools.edge past.journey → GoesAway p k place (standing before found past) after
+
+-- and this is left of what the loop knows: its place is free
+abbrev pub FreesPlace : ℕ → Place → Service → Service → Type 0
+FreesPlace k place service service' = service' ≡ record service {
+  noted = service'.noted;
+  places = slice_set service.places k (record place { stage = Free });
+  queue = freed_queue service.queue;
+}
 
 -- AT ALL PLACES
 
 abbrev pub IsRested : Service → World → Type 0
 IsRested service world = (k : ℕ) → k < 64 → IsRestedAt k service world
 
-abbrev pub AreAllSettled : Service → Past → Type 0
+abbrev pub AreAllSettled : {H : Type 0} → Service → Past H → Type 0
 AreAllSettled service past = (k : ℕ) → k < 64 → IsSettledAt k service past
 
 -- steps lead on, and all places are settled
-pub record GoesSettled {N C J K H : Type 0} (p : Promises N C J K H) (rules : RegistryRecord) (host : H) (first : Scene N C J K H) (found : List Ready)
-    (past : Past) (service' : Service) (tools' : Tools N C J K H) : Type 0 where
-  pub next : Past
-  pub served : Served p rules host first (scene_of service' tools' found next)
-  pub settled : AreAllSettled service' next
+pub record GoesSettled {N C J K H : Type 0} (p : Promises N C J K H) (first : Scene N C J K H) (found : List Ready) (past : Past H)
+    (after : Running N C J K H) : Type 0 where
+  pub next : Past H
+  pub served : Served p first (scene_of after found next)
+  pub settled : AreAllSettled after.service next
   pub done : DoneAfter past.deeds next.deeds
 
-abbrev pub LeadsToSettled : {N C J K H : Type 0} → Promises N C J K H → List Ready → Service → Tools N C J K H → List Ready → Service → Tools N C J K H → Type 0
-LeadsToSettled {N} {C} {J} {K} {H} p found service tools found' service' tools' =
-    (rules : RegistryRecord) (host : H) (first : Scene N C J K H) (past : Past) → Served p rules host first (scene_of service tools found past) →
-    AreAllSettled service past →
-    GoesSettled p rules host first found' past service' tools'
+abbrev pub LeadsToSettled : {N C J K H : Type 0} → Promises N C J K H → List Ready → Running N C J K H → List Ready → Running N C J K H → Type 0
+LeadsToSettled {N} {C} {J} {K} {H} p found before found' after =
+    (first : Scene N C J K H) (past : Past H) → Served p first (scene_of before found past) → AreAllSettled before.service past →
+    GoesSettled p first found' past after
+
+-- so they do whatever the last wait found and was not looked at yet
+abbrev pub SettlesAll : {N C J K H : Type 0} → Promises N C J K H → Running N C J K H → Running N C J K H → Type 0
+SettlesAll p before after = (found : List Ready) → LeadsToSettled p found before found after
 
 -- so they do, and where it is so then, it was tried to accept since the last wait
-pub record GoesAccepting {N C J K H : Type 0} (p : Promises N C J K H) (rules : RegistryRecord) (host : H) (first : Scene N C J K H) (found : List Ready)
-    (P : Type 0) (past : Past) (service' : Service) (tools' : Tools N C J K H) : Type 0 where
-  pub goes : GoesSettled p rules host first found past service' tools'
+pub record GoesAccepting {N C J K H : Type 0} (p : Promises N C J K H) (first : Scene N C J K H) (before : Standing N C J K H) (P : Type 0)
+    (after : Running N C J K H) : Type 0 where
+  pub goes : GoesSettled p first before.found before.past after
   pub tried : P → IsDone Accepting goes.next.deeds
 
-abbrev pub LeadsToAccepts : {N C J K H : Type 0} → Promises N C J K H → List Ready → Type 0 → Service → Tools N C J K H → Service → Tools N C J K H → Type 0
-LeadsToAccepts {N} {C} {J} {K} {H} p found P service tools service' tools' =
-    (rules : RegistryRecord) (host : H) (first : Scene N C J K H) (past : Past) → Served p rules host first (scene_of service tools found past) →
-    AreAllSettled service past →
-    GoesAccepting p rules host first found P past service' tools'
+abbrev pub LeadsToAccepts : {N C J K H : Type 0} → Promises N C J K H → Type 0 → Running N C J K H → Running N C J K H → Type 0
+LeadsToAccepts {N} {C} {J} {K} {H} p P before after =
+    (found : List Ready) (first : Scene N C J K H) (past : Past H) → Served p first (scene_of before found past) → AreAllSettled before.service past →
+    GoesAccepting p first (standing before found past) P after
 
 -- what was found ready is noted at its place
-abbrev pub LeadsToHearing : {N C J K H : Type 0} → Promises N C J K H → List Ready → Service → Tools N C J K H → List Ready → Service → Type 0
-LeadsToHearing {N} {C} {J} {K} {H} p found service tools found' service' =
-    (rules : RegistryRecord) (host : H) (first : Scene N C J K H) (past : Past) → Served p rules host first (scene_of service tools found past) →
-    IsRested service past.world →
-    Served p rules host first (scene_of service' tools found' past) × IsRested service' past.world
+abbrev pub LeadsToHearing : {N C J K H : Type 0} → Promises N C J K H → List Ready → Running N C J K H → List Ready → Running N C J K H → Type 0
+LeadsToHearing {N} {C} {J} {K} {H} p found before found' after =
+    (first : Scene N C J K H) (past : Past H) → Served p first (scene_of before found past) → IsRested before.service past.journey.world →
+    Served p first (scene_of after found' past) × IsRested after.service past.journey.world
+
+-- so is the first of it
+abbrev pub HearsOf : {N C J K H : Type 0} → Promises N C J K H → Ready → Running N C J K H → Running N C J K H → Type 0
+HearsOf p ready before after = (more : List Ready) → LeadsToHearing p (ready ∷ more) before more after
 
 -- each place below i was read, where it may be; those from i on were not, none was written to, and nothing was kept
-pub record GoesReading {N C J K H : Type 0} (p : Promises N C J K H) (rules : RegistryRecord) (host : H) (first : Scene N C J K H) (found : List Ready)
-    (i : ℕ) (past : Past) (service' : Service) (tools' : Tools N C J K H) : Type 0 where
-  pub next : Past
-  pub served : Served p rules host first (scene_of service' tools' found next)
-  pub rested : IsRested service' next.world
-  pub heard : (j : ℕ) → j < i → IsHeardAt j service' next
+pub record GoesReading {N C J K H : Type 0} (p : Promises N C J K H) (first : Scene N C J K H) (i : ℕ) (before : Standing N C J K H)
+    (after : Running N C J K H) : Type 0 where
+  pub next : Past H
+  pub served : Served p first (scene_of after before.found next)
+  pub rested : IsRested after.service next.journey.world
+  pub heard : (j : ℕ) → j < i → IsHeardAt j after.service next
   pub unread : (j : ℕ) → i ≤ j → ¬ (IsDone (Reading j) next.deeds)
   pub unwritten : (j : ℕ) → ¬ (IsDone (Writing j) next.deeds)
   pub not_kept : ¬ (IsDone Keeping next.deeds)
-  pub done : DoneAfter past.deeds next.deeds
+  pub done : DoneAfter before.past.deeds next.deeds
 
-abbrev pub LeadsReading : {N C J K H : Type 0} → Promises N C J K H → ℕ → Service → Tools N C J K H → Service → Tools N C J K H → Type 0
-LeadsReading {N} {C} {J} {K} {H} p i service tools service' tools' =
-    (rules : RegistryRecord) (host : H) (first : Scene N C J K H) (found : List Ready) (past : Past) → ((task : Task) → ¬ (IsDone task past.deeds)) →
-    IsRested service past.world →
-    Served p rules host first (scene_of service tools found past) → GoesReading p rules host first found i past service' tools'
+abbrev pub LeadsReading : {N C J K H : Type 0} → Promises N C J K H → ℕ → Running N C J K H → Running N C J K H → Type 0
+LeadsReading {N} {C} {J} {K} {H} p i before after =
+    (first : Scene N C J K H) (found : List Ready) (past : Past H) → ((task : Task) → ¬ (IsDone task past.deeds)) → IsRested before.service past.journey.world →
+    Served p first (scene_of before found past) → GoesReading p first i (standing before found past) after
 
 -- nothing is unkept, and all else is as it was
-pub record GoesKept {N C J K H : Type 0} (p : Promises N C J K H) (rules : RegistryRecord) (host : H) (first : Scene N C J K H) (found : List Ready)
-    (service : Service) (past : Past) (tools' : Tools N C J K H) : Type 0 where
-  pub next : Past
-  pub served : Served p rules host first (scene_of service tools' found next)
-  pub kept : IsAllKept next.world
-  pub connections : next.world.connections ≡ past.world.connections
-  pub done : DoneAfter past.deeds next.deeds
-  pub alone : (other : Task) → other ≢ Keeping → ¬ (IsDone other past.deeds) → ¬ (IsDone other next.deeds)
+pub record GoesKept {N C J K H : Type 0} (p : Promises N C J K H) (first : Scene N C J K H) (before : Standing N C J K H)
+    (tools' : Tools N C J K H) : Type 0 where
+  pub next : Past H
+  pub served : Served p first (scene_of (running before.now.service tools') before.found next)
+  pub kept : IsAllKept next.journey.world
+  pub connections : next.journey.world.connections ≡ before.past.journey.world.connections
+  pub done : DoneAfter before.past.deeds next.deeds
+  pub alone : (other : Task) → other ≢ Keeping → ¬ (IsDone other before.past.deeds) → ¬ (IsDone other next.deeds)
 
 abbrev pub LeadsToKept : {N C J K H : Type 0} → Promises N C J K H → Tools N C J K H → Tools N C J K H → Type 0
 LeadsToKept {N} {C} {J} {K} {H} p tools tools' =
-    (rules : RegistryRecord) (host : H) (first : Scene N C J K H) (found : List Ready) (service : Service) (past : Past) → ¬ (IsDone Keeping past.deeds) →
-    Served p rules host first (scene_of service tools found past) →
-    GoesKept p rules host first found service past tools'
+    (first : Scene N C J K H) (found : List Ready) (service : Service) (past : Past H) → ¬ (IsDone Keeping past.deeds) →
+    Served p first (scene_of (running service tools) found past) → GoesKept p first (standing (running service tools) found past) tools'
 
 -- or keeping failed
 abbrev pub LeadsToLoss : {N C J K H : Type 0} → Promises N C J K H → Tools N C J K H → LoopFault → Tools N C J K H → Type 0
 LeadsToLoss {N} {C} {J} {K} {H} p tools fault tools' =
-    (rules : RegistryRecord) (host : H) (first : Scene N C J K H) (found : List Ready) (service : Service) (past : Past) → ¬ (IsDone Keeping past.deeds) →
-    Served p rules host first (scene_of service tools found past) →
-    CannotGoOn p (scene_of service tools found past) fault (scene_of service tools' found past)
+    (first : Scene N C J K H) (found : List Ready) (service : Service) (past : Past H) → ¬ (IsDone Keeping past.deeds) →
+    Served p first (scene_of (running service tools) found past) →
+    CannotGoOn p (scene_of (running service tools) found past) fault (scene_of (running service tools') found past)
 
 -- where nothing is unkept, no more is kept than may be beside an image, or an image was refused in this second
-abbrev pub IsKeptShort : {N C J K H : Type 0} → Promises N C J K H → Service → Tools N C J K H → World → Type 0
-IsKeptShort p service tools world = IsAllKept world → p.is_long tools.keeper → service.refused ≡ Some service.times.steady
+abbrev pub IsKeptShort : {N C J K H : Type 0} → Promises N C J K H → Running N C J K H → World → Type 0
+IsKeptShort p now world = IsAllKept world → p.keeping.is_long now.tools.keeper → now.service.refused ≡ Some now.service.times.steady
 
 -- wherever steps lead to, they lead on, and it is so
-abbrev pub LeadsToShort : {N C J K H : Type 0} → Promises N C J K H → Service → Tools N C J K H → Service → Tools N C J K H → Type 0
-LeadsToShort {N} {C} {J} {K} {H} p service tools service' tools' =
-    (rules : RegistryRecord) (host : H) (first : Scene N C J K H) (found : List Ready) (past : Past) →
-    Served p rules host first (scene_of service tools found past) →
-    Served p rules host first (scene_of service' tools' found past) × IsKeptShort p service' tools' past.world
+abbrev pub LeadsToShort : {N C J K H : Type 0} → Promises N C J K H → Running N C J K H → Running N C J K H → Type 0
+LeadsToShort {N} {C} {J} {K} {H} p before after =
+    (first : Scene N C J K H) (found : List Ready) (past : Past H) → Served p first (scene_of before found past) →
+    Served p first (scene_of after found past) × IsKeptShort p after past.journey.world
 
 -- or the image could not be written
-abbrev pub LeadsToNoImage : {N C J K H : Type 0} → Promises N C J K H → Service → Tools N C J K H → LoopFault → Service → Tools N C J K H → Type 0
-LeadsToNoImage {N} {C} {J} {K} {H} p service tools fault service' tools' =
-    (rules : RegistryRecord) (host : H) (first : Scene N C J K H) (found : List Ready) (past : Past) →
-    Served p rules host first (scene_of service tools found past) →
-    CannotGoOn p (scene_of service tools found past) fault (scene_of service' tools' found past)
+abbrev pub LeadsToNoImage : {N C J K H : Type 0} → Promises N C J K H → Running N C J K H → LoopFault → Running N C J K H → Type 0
+LeadsToNoImage {N} {C} {J} {K} {H} p before fault after =
+    (first : Scene N C J K H) (found : List Ready) (past : Past H) → Served p first (scene_of before found past) →
+    CannotGoOn p (scene_of before found past) fault (scene_of after found past)
 
 -- each place below i is settled; those from i on were heard, and not written to; and nothing is unkept
-pub record GoesWriting {N C J K H : Type 0} (p : Promises N C J K H) (rules : RegistryRecord) (host : H) (first : Scene N C J K H) (found : List Ready)
-    (i : ℕ) (past : Past) (service' : Service) (tools' : Tools N C J K H) : Type 0 where
-  pub next : Past
-  pub served : Served p rules host first (scene_of service' tools' found next)
-  pub below : (j : ℕ) → j < i → IsSettledAt j service' next
-  pub rested : (j : ℕ) → i ≤ j → j < 64 → IsRestedAt j service' next.world
-  pub heard : (j : ℕ) → i ≤ j → j < 64 → IsHeardAt j service' next
+pub record GoesWriting {N C J K H : Type 0} (p : Promises N C J K H) (first : Scene N C J K H) (i : ℕ) (before : Standing N C J K H)
+    (after : Running N C J K H) : Type 0 where
+  pub next : Past H
+  pub served : Served p first (scene_of after before.found next)
+  pub below : (j : ℕ) → j < i → IsSettledAt j after.service next
+  pub rested : (j : ℕ) → i ≤ j → j < 64 → IsRestedAt j after.service next.journey.world
+  pub heard : (j : ℕ) → i ≤ j → j < 64 → IsHeardAt j after.service next
   pub unwritten : (j : ℕ) → i ≤ j → ¬ (IsDone (Writing j) next.deeds)
-  pub kept : IsAllKept next.world
-  pub done : DoneAfter past.deeds next.deeds
+  pub kept : IsAllKept next.journey.world
+  pub done : DoneAfter before.past.deeds next.deeds
 
-abbrev pub LeadsWriting : {N C J K H : Type 0} → Promises N C J K H → ℕ → Service → Tools N C J K H → Service → Tools N C J K H → Type 0
-LeadsWriting {N} {C} {J} {K} {H} p i service tools service' tools' =
-    (rules : RegistryRecord) (host : H) (first : Scene N C J K H) (found : List Ready) (past : Past) → IsRested service past.world →
-    ((j : ℕ) → j < 64 → IsHeardAt j service past) →
-    ((j : ℕ) → ¬ (IsDone (Writing j) past.deeds)) → IsAllKept past.world → Served p rules host first (scene_of service tools found past) →
-    GoesWriting p rules host first found i past service' tools'
+abbrev pub LeadsWriting : {N C J K H : Type 0} → Promises N C J K H → ℕ → Running N C J K H → Running N C J K H → Type 0
+LeadsWriting {N} {C} {J} {K} {H} p i before after =
+    (first : Scene N C J K H) (found : List Ready) (past : Past H) → IsRested before.service past.journey.world →
+    ((j : ℕ) → j < 64 → IsHeardAt j before.service past) → ((j : ℕ) → ¬ (IsDone (Writing j) past.deeds)) → IsAllKept past.journey.world →
+    Served p first (scene_of before found past) → GoesWriting p first i (standing before found past) after
 
 -- where an accept failed and was not tried again, it failed in this second
 abbrev pub IsTried : Service → Type 0
@@ -343,49 +364,48 @@ pub record IsQuick (service : Service) : Type 0 where
   pub tried : IsTried service
 
 -- all places are settled, and nobody is to be accepted, or it was tried since the last wait
-pub record IsReadyToWait (service : Service) (past : Past) : Type 0 where
+pub record IsReadyToWait {H : Type 0} (service : Service) (past : Past H) : Type 0 where
   pub settled : AreAllSettled service past
   pub queue : service.queue ≢ Told ⊎ IsDone Accepting past.deeds
   pub quick : IsQuick service
 
 -- steps lead through so many waits
-pub record GoesRound {N C J K H : Type 0} (p : Promises N C J K H) (rules : RegistryRecord) (host : H) (first : Scene N C J K H) (count : ℕ)
-    (past : Past) (service' : Service) (tools' : Tools N C J K H) : Type 0 where
-  pub next : Past
-  pub served : Served p rules host first (scene_of service' tools' [] next)
-  pub ready : IsReadyToWait service' next
+pub record GoesRound {N C J K H : Type 0} (p : Promises N C J K H) (first : Scene N C J K H) (count : ℕ) (past : Past H)
+    (after : Running N C J K H) : Type 0 where
+  pub next : Past H
+  pub served : Served p first (scene_of after [] next)
+  pub ready : IsReadyToWait after.service next
   pub waits_are : waits next.deeds ≡ waits past.deeds + count
 
-abbrev pub LeadsRound : {N C J K H : Type 0} → Promises N C J K H → ℕ → Service → Tools N C J K H → Service → Tools N C J K H → Type 0
-LeadsRound {N} {C} {J} {K} {H} p count service tools service' tools' =
-    (rules : RegistryRecord) (host : H) (first : Scene N C J K H) (past : Past) → Served p rules host first (scene_of service tools [] past) →
-    IsReadyToWait service past →
-    GoesRound p rules host first count past service' tools'
+abbrev pub LeadsRound : {N C J K H : Type 0} → Promises N C J K H → ℕ → Running N C J K H → Running N C J K H → Type 0
+LeadsRound {N} {C} {J} {K} {H} p count before after =
+    (first : Scene N C J K H) (past : Past H) → Served p first (scene_of before [] past) → IsReadyToWait before.service past →
+    GoesRound p first count past after
 
 -- steps lead to a scene where something fails
-pub record GoesWrong {N C J K H : Type 0} (p : Promises N C J K H) (rules : RegistryRecord) (host : H) (first : Scene N C J K H) (fault : LoopFault)
-    (service' : Service) (tools' : Tools N C J K H) : Type 0 where
+pub record GoesWrong {N C J K H : Type 0} (p : Promises N C J K H) (first : Scene N C J K H) (fault : LoopFault) (after : Running N C J K H) : Type 0 where
   pub last : Scene N C J K H
-  pub served : Served p rules host first last
+  pub served : Served p first last
   pub found : List Ready
-  pub next : Past
-  pub fails : CannotGoOn p last fault (scene_of service' tools' found next)
+  pub next : Past H
+  pub fails : CannotGoOn p last fault (scene_of after found next)
 
-abbrev pub LeadsWrong : {N C J K H : Type 0} → Promises N C J K H → LoopFault → Service → Tools N C J K H → Service → Tools N C J K H → Type 0
-LeadsWrong {N} {C} {J} {K} {H} p fault service tools service' tools' =
-    (rules : RegistryRecord) (host : H) (first : Scene N C J K H) (past : Past) → Served p rules host first (scene_of service tools [] past) →
-    IsReadyToWait service past →
-    GoesWrong p rules host first fault service' tools'
+abbrev pub LeadsWrong : {N C J K H : Type 0} → Promises N C J K H → LoopFault → Running N C J K H → Running N C J K H → Type 0
+LeadsWrong {N} {C} {J} {K} {H} p fault before after =
+    (first : Scene N C J K H) (past : Past H) → Served p first (scene_of before [] past) → IsReadyToWait before.service past →
+    GoesWrong p first fault after
+
+-- a report tells what is so now
+abbrev pub TellsNow : {N C J K H : Type 0} → Promises N C J K H → Running N C J K H → Report → Type 0
+TellsNow {N} {C} {J} {K} {H} p now report = (found : List Ready) (past : Past H) → Tells p (scene_of now found past) report
 
 -- connections that are left are closed
-pub record GoesShut {N C J K H : Type 0} (p : Promises N C J K H) (rules : RegistryRecord) (host : H) (first : Scene N C J K H) (found : List Ready)
-    (service' : Service) (tools' : Tools N C J K H) : Type 0 where
-  pub next : Past
-  pub shuts : Shuts p rules host first (scene_of service' tools' found next)
-  pub reached : Reached p.hosting tools'.edge (journey_to rules host next.schedule next.world)
+pub record GoesShut {N C J K H : Type 0} (p : Promises N C J K H) (first : Scene N C J K H) (found : List Ready) (after : Running N C J K H) : Type 0 where
+  pub next : Past H
+  pub shuts : Shuts p first (scene_of after found next)
+  pub reached : Reached p.hosting after.tools.edge next.journey
 
-abbrev pub LeadsShut : {N C J K H : Type 0} → Promises N C J K H → Service → Tools N C J K H → Service → Tools N C J K H → Type 0
-LeadsShut {N} {C} {J} {K} {H} p service tools service' tools' =
-    (rules : RegistryRecord) (host : H) (first : Scene N C J K H) (found : List Ready) (past : Past) →
-    Shuts p rules host first (scene_of service tools found past) →
-    Reached p.hosting tools.edge (journey_to rules host past.schedule past.world) → GoesShut p rules host first found service' tools'
+abbrev pub LeadsShut : {N C J K H : Type 0} → Promises N C J K H → Running N C J K H → Running N C J K H → Type 0
+LeadsShut {N} {C} {J} {K} {H} p before after =
+    (first : Scene N C J K H) (found : List Ready) (past : Past H) → Shuts p first (scene_of before found past) →
+    Reached p.hosting before.tools.edge past.journey → GoesShut p first found after

@@ -1,7 +1,6 @@
 -- How connections are read.
-use Rattle.std.specs.Prelude.{◌≡◌, ◌≤◌, ◌<◌, ℕ, false, ◌||◌, List, ◌∷◌, nat_le, length, slice_set}
-use Rattle.clients.specs.RegistryRecord.{RegistryRecord}
-use Rattle.http_edge.specs.Schedule.{HasEnded}
+use Rattle.std.specs.Prelude.{◌≡◌, ◌≤◌, ◌<◌, ℕ, false, ◌||◌, List, nat_le, length}
+use Rattle.http_edge.specs.Schedule.{HasEnded, piece_of}
 use Rattle.http_edge.specs.Edges.{SeenEdge}
 use Rattle.http_edge.specs.Reached.{GoesOn}
 use Rattle.http_edge.specs.Refusals.{IsEndingRefusal}
@@ -10,58 +9,33 @@ use Rattle.event_loop.specs.declared.fault.ConnectionFault.TheVariants.{Read, Re
 use Rattle.event_loop.specs.declared.place.Place.{Place}
 use Rattle.event_loop.specs.declared.place.Stage.TheVariants.{Ended, Broken}
 use Rattle.event_loop.specs.Deeds as deed
-use Rattle.event_loop.specs.Courses.{Course, led, journey_of}
+use Rattle.event_loop.specs.Deeds.{Bytes, End, Nothing, Failed}
+use Rattle.event_loop.specs.Courses.{Course, led}
 use Rattle.event_loop.specs.Giving.{AreBytesHeard, IsUnheard}
 use Rattle.event_loop.specs.Places.{read_limit}
-use Rattle.event_loop.specs.Scenes.{Promises, Scene}
+use Rattle.event_loop.specs.Scenes.{Promises, Scene, with_deed, with_place}
 
 -- a place from which so many bytes were read: fewer than there was room for are all, unless the peer sends no more
 abbrev pub read_place : Place → ℕ → Place
 read_place place count = record place { readable = nat_le read_limit count || place.hung }
 
--- The connection at a place is read once, into a buffer of just so many bytes, and what came is given to the edge at the moment that the clocks told.
-pub data ReadsPlace {N C J K H : Type 0} (p : Promises N C J K H) (rules : RegistryRecord) (host : H) (k : ℕ) (place : Place)
-    (s : Scene N C J K H) : Scene N C J K H → Type 0 where
+-- The connection at a place is read once, into a buffer of just so many bytes, and what came is given to the edge at the
+-- moment that the clocks told.
+pub data ReadsPlace {N C J K H : Type 0} (p : Promises N C J K H) (k : ℕ) (place : Place) (s : Scene N C J K H) : Scene N C J K H → Type 0 where
   hears : (bytes : List ℕ) (n : N) (course : Course H) (place' : Place) → 0 < length bytes → length bytes ≤ read_limit →
-      p.does s.sockets (deed.Read k read_limit bytes) n →
-      AreBytesHeard p.hosting rules host k s.times.moment bytes s.course course → place' ≡ read_place place (length bytes) →
-      ReadsPlace p rules host k place s (record s {
-        sockets = n;
-        deeds = deed.Read k read_limit bytes ∷ s.deeds;
-        course = course;
-        places = slice_set s.places k place';
-      })
+      p.sockets.does s.sockets (deed.Read k read_limit (Bytes bytes)) n → AreBytesHeard p.hosting (piece_of k bytes s.times.moment) s.course course →
+      place' ≡ read_place place (length bytes) →
+      ReadsPlace p k place s (record (with_place (with_deed s (deed.Read k read_limit (Bytes bytes)) n) k place') { course = course })
   refuses : (bytes : List ℕ) (n : N) (fault : EdgeFault) (course : Course H) → 0 < length bytes → length bytes ≤ read_limit →
-      p.does s.sockets (deed.Read k read_limit bytes) n →
-      IsUnheard p.hosting rules host k s.times.moment bytes fault s.course course →
-      ReadsPlace p rules host k place s (record s {
-        sockets = n;
-        deeds = deed.Read k read_limit bytes ∷ s.deeds;
-        course = course;
-        places = slice_set s.places k (record place { stage = Broken (Refused fault) });
-      })
-  ends : (n : N) (e : SeenEdge H) (on : GoesOn p.hosting e (journey_of rules host s.course) (HasEnded k)) → p.does s.sockets (deed.ReadEnd k) n →
-      ReadsPlace p rules host k place s (record s {
-        sockets = n;
-        deeds = deed.ReadEnd k ∷ s.deeds;
-        course = led s.course e (HasEnded k) on.world;
-        places = slice_set s.places k (record place { stage = Ended });
-      })
-  ends_nothing : (n : N) (fault : EdgeFault) → p.does s.sockets (deed.ReadEnd k) n → IsEndingRefusal fault s.course.world.connections k →
-      ReadsPlace p rules host k place s (record s {
-        sockets = n;
-        deeds = deed.ReadEnd k ∷ s.deeds;
-        places = slice_set s.places k (record place { stage = Broken (Refused fault) });
-      })
-  finds_nothing : (n : N) → p.does s.sockets (deed.ReadNothing k) n →
-      ReadsPlace p rules host k place s (record s {
-        sockets = n;
-        deeds = deed.ReadNothing k ∷ s.deeds;
-        places = slice_set s.places k (record place { readable = false });
-      })
-  fails : (n : N) → p.does s.sockets (deed.ReadFailed k) n →
-      ReadsPlace p rules host k place s (record s {
-        sockets = n;
-        deeds = deed.ReadFailed k ∷ s.deeds;
-        places = slice_set s.places k (record place { stage = Broken Read });
-      })
+      p.sockets.does s.sockets (deed.Read k read_limit (Bytes bytes)) n → IsUnheard p.hosting (piece_of k bytes s.times.moment) fault s.course course →
+      ReadsPlace p k place s
+      (record (with_place (with_deed s (deed.Read k read_limit (Bytes bytes)) n) k (record place { stage = Broken (Refused fault) })) { course = course })
+  ends : (n : N) (e : SeenEdge H) (on : GoesOn p.hosting e s.course.journey (HasEnded k)) → p.sockets.does s.sockets (deed.Read k read_limit End) n →
+      ReadsPlace p k place s (record (with_place (with_deed s (deed.Read k read_limit End) n) k (record place { stage = Ended })) { course = led s.course on })
+  ends_nothing : (n : N) (fault : EdgeFault) → p.sockets.does s.sockets (deed.Read k read_limit End) n →
+      IsEndingRefusal fault s.course.journey.world.connections k →
+      ReadsPlace p k place s (with_place (with_deed s (deed.Read k read_limit End) n) k (record place { stage = Broken (Refused fault) }))
+  finds_nothing : (n : N) → p.sockets.does s.sockets (deed.Read k read_limit Nothing) n →
+      ReadsPlace p k place s (with_place (with_deed s (deed.Read k read_limit Nothing) n) k (record place { readable = false }))
+  fails : (n : N) → p.sockets.does s.sockets (deed.Read k read_limit Failed) n →
+      ReadsPlace p k place s (with_place (with_deed s (deed.Read k read_limit Failed) n) k (record place { stage = Broken Read }))

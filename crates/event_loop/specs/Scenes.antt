@@ -1,45 +1,32 @@
 -- What the loop knows and works with, at one time.
-use Rattle.std.specs.Prelude.{◌≡◌, ◌≢◌, ℕ, List, Option, Some}
+use Rattle.std.specs.Prelude.{◌≡◌, ◌≢◌, ℕ, List, ◌∷◌, Option, Some, slice_set}
 use Rattle.hook_host.specs.declared.host.HookHost.{Ghosts as Hosting}
 use Rattle.consent.specs.History.{Event}
 use Rattle.http_edge.specs.Schedule.{World}
 use Rattle.event_loop.specs.declared.sockets.Sockets.{Ghosts as Sockets}
 use Rattle.event_loop.specs.declared.clocks.Clocks.{Ghosts as Clocks}
 use Rattle.event_loop.specs.declared.journal.Journal.{Ghosts as Journal}
-use Rattle.change_codec.specs.Keeping.{Crashes}
 use Rattle.image_keeper.specs.Keeping.{Keeping}
 use Rattle.event_loop.specs.declared.clocks.Times.{Times}
-use Rattle.event_loop.specs.declared.fault.ConnectionFault.{ConnectionFault}
 use Rattle.event_loop.specs.declared.limits.Limits.{Limits}
 use Rattle.event_loop.specs.declared.place.Place.{Place}
 use Rattle.event_loop.specs.declared.report.LastTold.{LastTold}
-use Rattle.event_loop.specs.declared.report.Notice.{Notice}
 use Rattle.event_loop.specs.declared.queue.Queue.{Queue}
 use Rattle.event_loop.specs.declared.sockets.Ready.{Ready}
 use Rattle.event_loop.specs.Deeds.{Deed}
 use Rattle.event_loop.specs.Courses.{Course}
+use Rattle.event_loop.specs.Noting.{Noted}
 
 -- what the sockets, the clocks, the journal, the keeper and the host promise
 pub record Promises (N C J K H : Type 0) : Type 1 where
-  pub does : N → Deed → N → Type 0
-  pub tells : C → Option Times → C → Type 0
-  pub notes : J → ConnectionFault → J → Type 0
-  pub reports : J → Notice → J → Type 0
-  pub keeping : Crashes K
-  -- the keeper keeps more than it may beside an image
-  pub is_long : K → Type 0
+  pub sockets : Sockets N
+  pub clocks : Clocks C
+  pub journal : Journal J
+  pub keeping : Keeping K
   pub hosting : Hosting H
 
 abbrev pub promises : {N C J K H : Type 0} → Sockets N → Clocks C → Journal J → Keeping K → Hosting H → Promises N C J K H
-promises sockets clocks journal keeping hosting = record {
-  does = sockets.does;
-  tells = clocks.tells;
-  notes = journal.notes;
-  reports = journal.reports;
-  keeping = keeping.crashes;
-  is_long = keeping.is_long;
-  hosting = hosting;
-}
+promises sockets clocks journal keeping hosting = record { sockets = sockets; clocks = clocks; journal = journal; keeping = keeping; hosting = hosting }
 
 -- What the loop works with: sockets, clocks, a journal, a keeper, and an edge with its draws, on its course. What it knows:
 -- its limits, its places, what the last wait found and was not looked at yet, who waits to be accepted, what the clocks
@@ -48,7 +35,7 @@ promises sockets clocks journal keeping hosting = record {
 pub record Scene (N C J K H : Type 0) : Type 0 where
   pub sockets : N
   pub clocks : C
-  pub journal : J
+  pub noted : Noted J
   pub keeper : K
   pub course : Course H
   pub limits : Limits
@@ -56,10 +43,17 @@ pub record Scene (N C J K H : Type 0) : Type 0 where
   pub found : List Ready
   pub queue : Queue
   pub times : Times
-  pub noted : Option ℕ
   pub told : LastTold
   pub refused : Option ℕ
   pub deeds : List Deed
+
+-- one deed more, by which the sockets are others
+abbrev pub with_deed : {N C J K H : Type 0} → Scene N C J K H → Deed → N → Scene N C J K H
+with_deed s deed n = record s { sockets = n; deeds = deed ∷ s.deeds }
+
+-- what is known of one place is other
+abbrev pub with_place : {N C J K H : Type 0} → Scene N C J K H → ℕ → Place → Scene N C J K H
+with_place s k place = record s { places = slice_set s.places k place }
 
 -- what was kept last, if anything is kept, is all that happened
 abbrev pub IsAllKept : World → Type 0

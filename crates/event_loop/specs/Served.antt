@@ -1,6 +1,5 @@
 -- All that the loop does, step by step.
-use Rattle.std.specs.Prelude.{◌≡◌, ◌≢◌, ◌⊎◌, ◌<◌, ◌≤◌, ℕ, Bool, true, ◌||◌, List, [], ◌∷◌, Option, Some, None, IsSome, slice_get, slice_set, length}
-use Rattle.clients.specs.RegistryRecord.{RegistryRecord}
+use Rattle.std.specs.Prelude.{◌≡◌, ◌≢◌, ◌⊎◌, ◌<◌, ◌≤◌, ℕ, Bool, true, ◌||◌, List, [], ◌∷◌, Option, Some, None, IsSome, slice_get, length}
 use Rattle.event_loop.specs.declared.clocks.Times.{Times}
 use Rattle.event_loop.specs.declared.place.Place.{Place}
 use Rattle.event_loop.specs.declared.queue.Queue.TheVariants.{Told, Empty, Barred, Waits}
@@ -8,13 +7,13 @@ use Rattle.event_loop.specs.declared.sockets.Ready.{Ready}
 use Rattle.event_loop.specs.declared.sockets.Ready.TheVariants as ready
 use Rattle.event_loop.specs.Deeds as deed
 use Rattle.event_loop.specs.Deeds.{Deed, Reading, Keeping, Writing, Accepting, IsDone, done_since}
-use Rattle.event_loop.specs.Courses.{known, led, IsReached, journey_of}
+use Rattle.event_loop.specs.Courses.{known, led, IsReached}
 use Rattle.change_codec.specs.Keeping.{Keeps}
 use Rattle.http_edge.specs.Edges.{SeenEdge}
 use Rattle.http_edge.specs.Reached.{GoesOn}
 use Rattle.http_edge.specs.Schedule.{Connection, Kept}
 use Rattle.event_loop.specs.Places.{IsOccupied, MayRead, MayWrite, NeedsNoRead, NeedsNoWrite, IsOver, IsPlaceAtRest, AllFree, places_limit, ready_limit}
-use Rattle.event_loop.specs.Scenes.{Promises, Scene, IsAllKept, IsUnkept}
+use Rattle.event_loop.specs.Scenes.{Promises, Scene, IsAllKept, IsUnkept, with_deed, with_place}
 use Rattle.event_loop.specs.Coming.{AcceptsOne, told_queue}
 use Rattle.event_loop.specs.Reading.{ReadsPlace}
 use Rattle.event_loop.specs.Writing.{WritesPlace}
@@ -64,7 +63,7 @@ pub record MayWait {N C J K H : Type 0} (p : Promises N C J K H) (s : Scene N C 
   pub prompt : IsPrompt s
   pub heard : s.found ≡ []
   pub roomy : ready_limit ≤ room
-  pub short : IsAllKept s.course.world → p.is_long s.keeper → s.refused ≡ Some s.times.steady
+  pub short : IsAllKept s.course.journey.world → p.keeping.is_long s.keeper → s.refused ≡ Some s.times.steady
 
 -- the place, when its connection was found ready
 abbrev pub told_place : Place → Bool → Bool → Bool → Place
@@ -75,63 +74,57 @@ told_place place readable writable hung =
 -- the journal is told what is due, what is unkept is kept, or an image is put in the place of what is kept. Between two waits
 -- a place is read at most once, and written to at most once, and it is kept at most once. Nothing is written, and no image is
 -- put, while something is unkept.
-pub data LoopStep {N C J K H : Type 0} (p : Promises N C J K H) (rules : RegistryRecord) (host : H) (s : Scene N C J K H) : Scene N C J K H → Type 0 where
+pub data LoopStep {N C J K H : Type 0} (p : Promises N C J K H) (s : Scene N C J K H) : Scene N C J K H → Type 0 where
   waits : (limit : Option ℕ) (room : ℕ) (found : List Ready) (n : N) (times : Times) (c : C) → MayWait p s limit room →
-      p.does s.sockets (deed.Waited limit room found) n → p.tells s.clocks (Some times) c →
-      LoopStep p rules host s (record s { sockets = n; clocks = c; deeds = deed.Waited limit room found ∷ s.deeds; found = found; times = times })
-  hears_of_listener : (more : List Ready) → s.found ≡ ready.Listener ∷ more → LoopStep p rules host s (record s { found = more; queue = told_queue s.queue })
-  hears_of : (k : ℕ) (readable writable hung : Bool) (more : List Ready) (place place' : Place) → s.found ≡ ready.Connection k readable writable hung ∷
-      more → slice_get s.places k ≡ Some place →
-      place' ≡ told_place place readable writable hung → LoopStep p rules host s (record s { found = more; places = slice_set s.places k place' })
+      p.sockets.does s.sockets (deed.Waited limit room found) n → p.clocks.tells s.clocks (Some times) c →
+      LoopStep p s (record (with_deed s (deed.Waited limit room found) n) { clocks = c; found = found; times = times })
+  hears_of_listener : (more : List Ready) → s.found ≡ ready.Listener ∷ more → LoopStep p s (record s { found = more; queue = told_queue s.queue })
+  hears_of : (k : ℕ) (readable writable hung : Bool) (more : List Ready) (place place' : Place) → s.found ≡ ready.Connection k readable writable hung ∷ more →
+      slice_get s.places k ≡ Some place → place' ≡ told_place place readable writable hung → LoopStep p s (record (with_place s k place') { found = more })
   hears_of_none : (k : ℕ) (readable writable hung : Bool) (more : List Ready) → s.found ≡ ready.Connection k readable writable hung ∷ more →
-      slice_get s.places k ≡ None →
-      LoopStep p rules host s (record s { found = more })
-  comes : (s' : Scene N C J K H) → s.queue ≡ Told → AcceptsOne p rules host s s' → LoopStep p rules host s s'
+      slice_get s.places k ≡ None → LoopStep p s (record s { found = more })
+  comes : (s' : Scene N C J K H) → s.queue ≡ Told → AcceptsOne p s s' → LoopStep p s s'
   -- in another second than an accept failed in, it is tried again
-  tries_again : (since : ℕ) → s.queue ≡ Barred since → since ≢ s.times.steady → LoopStep p rules host s (record s { queue = Told })
+  tries_again : (since : ℕ) → s.queue ≡ Barred since → since ≢ s.times.steady → LoopStep p s (record s { queue = Told })
   reads : (k : ℕ) (place : Place) (s' : Scene N C J K H) → slice_get s.places k ≡ Some place → place.readable ≡ true → ¬ (IsDone (Reading k) s.deeds) →
-      MayRead place (known s.course k) → ReadsPlace p rules host k place s s' → LoopStep p rules host s s'
+      MayRead place (known s.course k) → ReadsPlace p k place s s' → LoopStep p s s'
   writes : (k : ℕ) (place : Place) (s' : Scene N C J K H) → slice_get s.places k ≡ Some place → place.writable ≡ true → ¬ (IsDone (Writing k) s.deeds) →
-      IsAllKept s.course.world →
-      MayWrite place (known s.course k) → WritesPlace p rules host k place s s' → LoopStep p rules host s s'
+      IsAllKept s.course.journey.world → MayWrite place (known s.course k) → WritesPlace p k place s s' → LoopStep p s s'
   closes : (k : ℕ) (place : Place) (s' : Scene N C J K H) → slice_get s.places k ≡ Some place → IsOccupied place.stage → Cause s k place →
-      Closes p rules host k place s s' → LoopStep p rules host s s'
+      Closes p k place s s' → LoopStep p s s'
   -- the journal alone is another
-  reports : (notice : Notice) (told : LastTold) (journal : J) → IsDue p s notice told → p.reports s.journal notice journal →
-      LoopStep p rules host s (record s { journal = journal; told = told })
-  keeps : (keeper : K) (e : SeenEdge H) (unkept : IsUnkept s.course.world) (on : GoesOn p.hosting e (journey_of rules host s.course) Kept) →
-      ¬ (IsDone Keeping s.deeds) →
-      Keeps p.keeping unkept.kept s.course.world.history s.keeper keeper →
-      LoopStep p rules host s (record s { keeper = keeper; course = led s.course e Kept on.world; deeds = deed.Kept ∷ s.deeds })
+  reports : (notice : Notice) (told : LastTold) (journal : J) → IsDue p s notice told → p.journal.reports s.noted.journal notice journal →
+      LoopStep p s (record s { noted = record s.noted { journal = journal }; told = told })
+  keeps : (keeper : K) (e : SeenEdge H) (unkept : IsUnkept s.course.journey.world) (on : GoesOn p.hosting e s.course.journey Kept) →
+      ¬ (IsDone Keeping s.deeds) → Keeps p.keeping.crashes unkept.kept s.course.journey.world.history s.keeper keeper →
+      LoopStep p s (record s { keeper = keeper; course = led s.course on; deeds = deed.Kept ∷ s.deeds })
   -- the keeper alone is another, which holds the same
-  puts_image : (keeper : K) → IsAllKept s.course.world → Keeps p.keeping s.course.world.history s.course.world.history s.keeper keeper →
-      LoopStep p rules host s (record s { keeper = keeper })
+  puts_image : (keeper : K) → IsAllKept s.course.journey.world →
+      Keeps p.keeping.crashes s.course.journey.world.history s.course.journey.world.history s.keeper keeper → LoopStep p s (record s { keeper = keeper })
   -- an image was refused, and nothing else is other
-  no_image : LoopStep p rules host s (record s { refused = Some s.times.steady })
+  no_image : LoopStep p s (record s { refused = Some s.times.steady })
 
 -- At first no connection is there, none is known to wait, and nothing was done, and the edge is reached.
-pub record IsFirst {N C J K H : Type 0} (p : Promises N C J K H) (rules : RegistryRecord) (host : H) (s : Scene N C J K H) : Type 0 where
+pub record IsFirst {N C J K H : Type 0} (p : Promises N C J K H) (s : Scene N C J K H) : Type 0 where
   pub size : length s.places ≡ places_limit
   pub free : AllFree s.places
   pub found : s.found ≡ []
-  pub noted : s.noted ≡ None
+  pub noted : s.noted.last ≡ None
   pub told : s.told ≡ record { report = s.times.steady; full = None }
   pub refused : s.refused ≡ None
   pub queue : s.queue ≡ Empty
   pub deeds : s.deeds ≡ []
-  pub reached : IsReached p.hosting rules host s.course
+  pub reached : IsReached p.hosting s.course
 
 -- Steps lead from the first scene to another.
-pub data Served {N C J K H : Type 0} (p : Promises N C J K H) (rules : RegistryRecord) (host : H) (first : Scene N C J K H) : Scene N C J K H → Type 0 where
-  begins : IsFirst p rules host first → Served p rules host first first
-  goes : {s s' : Scene N C J K H} → Served p rules host first s → LoopStep p rules host s s' → Served p rules host first s'
+pub data Served {N C J K H : Type 0} (p : Promises N C J K H) (first : Scene N C J K H) : Scene N C J K H → Type 0 where
+  begins : IsFirst p first → Served p first first
+  goes : {s s' : Scene N C J K H} → Served p first s → LoopStep p s s' → Served p first s'
 
 -- Connections that are left are closed and forgotten, one after another. Where reports are wanted, there is one more.
-pub data Shuts {N C J K H : Type 0} (p : Promises N C J K H) (rules : RegistryRecord) (host : H) (first : Scene N C J K H) : Scene N C J K H → Type 0 where
-  stops : Shuts p rules host first first
-  shuts : {s s' : Scene N C J K H} (k : ℕ) (place : Place) → Shuts p rules host first s → slice_get s.places k ≡ Some place → IsOccupied place.stage →
-      Closes p rules host k place s s' →
-      Shuts p rules host first s'
-  reports_last : {s : Scene N C J K H} (report : Report) (journal : J) → Shuts p rules host first s → IsSome s.limits.report → Tells p s report →
-      p.reports s.journal (Reported report) journal →
-      Shuts p rules host first (record s { journal = journal })
+pub data Shuts {N C J K H : Type 0} (p : Promises N C J K H) (first : Scene N C J K H) : Scene N C J K H → Type 0 where
+  stops : Shuts p first first
+  shuts : {s s' : Scene N C J K H} (k : ℕ) (place : Place) → Shuts p first s → slice_get s.places k ≡ Some place → IsOccupied place.stage →
+      Closes p k place s s' → Shuts p first s'
+  reports_last : {s : Scene N C J K H} (report : Report) (journal : J) → Shuts p first s → IsSome s.limits.report → Tells p s report →
+      p.journal.reports s.noted.journal (Reported report) journal → Shuts p first (record s { noted = record s.noted { journal = journal } })

@@ -1,11 +1,9 @@
 //! Accepting connections.
-ghost use Rattle.std.specs.Prelude.{◌≡◌, ◌≢◌, ◌<◌, ℕ, ⊤, List, Some, IfSome, IfNone, slice_get};
-ghost use Rattle.event_loop.specs.declared.place.Stage.TheVariants.{Free};
+ghost use Rattle.std.specs.Prelude.{◌≡◌, ◌≢◌, ◌<◌, ℕ, ⊤, Some, IfSome, IfNone};
 ghost use Rattle.event_loop.specs.declared.queue.Queue.TheVariants.{Told, Waits};
-ghost use Rattle.event_loop.specs.declared.sockets.Ready.{Ready};
 ghost use Rattle.event_loop.specs.Places.{IsFreeAt, AllTaken};
 ghost use Rattle.event_loop.specs.Closing.{AreWithin};
-ghost use Rattle.event_loop.specs.Goes.{IsTried, LeadsToAccepts};
+ghost use Rattle.event_loop.specs.Goes.{IsTried, LeadsToAccepts, running};
 ghost use Rattle.event_loop.specs.Scenes.{promises};
 ghost use Rattle.image_keeper.specs.Keeping.{keeping};
 
@@ -46,7 +44,7 @@ impl Service {
         requires bound { k < 64 }
         requires free { IsFreeAt self.old.places k }
         requires told { self.old.queue ≡ Told }
-        ensures leads { (found : List Ready) → LeadsToAccepts (promises N.Sockets C.Clocks J.Journal (keeping K.Keeper K.ImageKeeper.own) H.HookHost) found ⊤ self.old tools.old self.new tools.new }
+        ensures leads { LeadsToAccepts (promises N.Sockets C.Clocks J.Journal (keeping K.Keeper K.ImageKeeper.own) H.HookHost) ⊤ (running self.old tools.old) (running self.new tools.new) }
         ensures within { (limit : ℕ) → AreWithin limit self.old.times self.old.places → AreWithin limit self.new.times self.new.places }
         ensures waits { self.new.queue ≢ Waits }
         ensures tried { IsTried self.new }
@@ -95,7 +93,7 @@ impl Service {
         tools: &mut Tools<N, C, J, K, H>,
     )
         requires told { self.old.queue ≡ Told }
-        ensures leads { (found : List Ready) → LeadsToAccepts (promises N.Sockets C.Clocks J.Journal (keeping K.Keeper K.ImageKeeper.own) H.HookHost) found ⊤ self.old tools.old self.new tools.new }
+        ensures leads { LeadsToAccepts (promises N.Sockets C.Clocks J.Journal (keeping K.Keeper K.ImageKeeper.own) H.HookHost) ⊤ (running self.old tools.old) (running self.new tools.new) }
         ensures within { (limit : ℕ) → AreWithin limit self.old.times self.old.places → AreWithin limit self.new.times self.new.places }
         ensures waits { self.new.queue ≢ Waits }
         ensures tried { IsTried self.new }
@@ -114,7 +112,7 @@ impl Service {
         &mut self,
         tools: &mut Tools<N, C, J, K, H>,
     )
-        ensures leads { (found : List Ready) → LeadsToAccepts (promises N.Sockets C.Clocks J.Journal (keeping K.Keeper K.ImageKeeper.own) H.HookHost) found (self.new.queue ≡ Told) self.old tools.old self.new tools.new }
+        ensures leads { LeadsToAccepts (promises N.Sockets C.Clocks J.Journal (keeping K.Keeper K.ImageKeeper.own) H.HookHost) (self.new.queue ≡ Told) (running self.old tools.old) (running self.new tools.new) }
         ensures within { (limit : ℕ) → AreWithin limit self.old.times self.old.places → AreWithin limit self.new.times self.new.places }
         ensures waits { self.new.queue ≡ Waits → self.old.queue ≡ Waits }
         ensures tried { IsTried self.old → IsTried self.new }

@@ -1,7 +1,7 @@
 //! An image in the place of what is kept.
 ghost use Rattle.std.specs.Prelude.{◌≡◌, true, false, Some, OnOk, IfErr};
 ghost use Rattle.http_edge.specs.Reached.{InEach};
-ghost use Rattle.event_loop.specs.Goes.{LeadsToNoImage, LeadsToShort};
+ghost use Rattle.event_loop.specs.Goes.{LeadsToNoImage, LeadsToShort, running};
 ghost use Rattle.event_loop.specs.Scenes.{promises, IsAllKept, IsUnkept};
 ghost use Rattle.image_keeper.specs.Keeping.{keeping};
 
@@ -43,9 +43,9 @@ impl Service {
         &mut self,
         tools: &mut Tools<N, C, J, K, H>,
     ) -> Result<(), LoopFault>
-        ensures put { OnOk result (LeadsToShort (promises N.Sockets C.Clocks J.Journal (keeping K.Keeper K.ImageKeeper.own) H.HookHost) self.old tools.old self.new tools.new) }
+        ensures put { OnOk result (LeadsToShort (promises N.Sockets C.Clocks J.Journal (keeping K.Keeper K.ImageKeeper.own) H.HookHost) (running self.old tools.old) (running self.new tools.new)) }
         ensures same { OnOk result (self.new ≡ record self.old { refused = self.new.refused }) }
-        ensures failed { IfErr result (λ fault. LeadsToNoImage (promises N.Sockets C.Clocks J.Journal (keeping K.Keeper K.ImageKeeper.own) H.HookHost) self.old tools.old fault self.new tools.new) }
+        ensures failed { IfErr result (λ fault. LeadsToNoImage (promises N.Sockets C.Clocks J.Journal (keeping K.Keeper K.ImageKeeper.own) H.HookHost) (running self.old tools.old) fault (running self.new tools.new)) }
     {
         if self.was_refused() {
             return Ok(());

@@ -1,11 +1,10 @@
 //! Closing connections.
-ghost use Rattle.std.specs.Prelude.{◌≡◌, ◌≢◌, ◌<◌, ◌≤◌, ◌-◌, ℕ, true, false, List, Some, IfSome, IfNone, slice_get, slice_set, length};
+ghost use Rattle.std.specs.Prelude.{◌≡◌, ◌≢◌, ◌<◌, ◌≤◌, ◌-◌, ℕ, true, false, Some, IfSome, IfNone, slice_get, length};
 ghost use Rattle.event_loop.specs.declared.place.Stage.TheVariants.{Free};
-ghost use Rattle.event_loop.specs.declared.sockets.Ready.{Ready};
 ghost use Rattle.event_loop.specs.Places.{AllFree, IsFreeAt, IsOccupied, IsOver};
-ghost use Rattle.event_loop.specs.Closing.{AreWithin, freed_queue};
+ghost use Rattle.event_loop.specs.Closing.{AreWithin};
 ghost use Rattle.event_loop.specs.declared.queue.Queue.TheVariants.{Waits};
-ghost use Rattle.event_loop.specs.Goes.{IsLongestAt, IsTried, WhereKnown, LeadsAway, LeadsShut, LeadsToSettled, LeadsToTidy};
+ghost use Rattle.event_loop.specs.Goes.{IsLongestAt, IsTried, WhereKnown, LeadsAway, LeadsShut, LeadsToTidy, running, SettlesAll, FreesPlace};
 ghost use Rattle.event_loop.specs.Scenes.{promises};
 ghost use Rattle.image_keeper.specs.Keeping.{keeping};
 
@@ -58,8 +57,8 @@ impl Service {
         place: Place,
     )
         requires bound { k < 64 }
-        ensures away { LeadsAway (promises N.Sockets C.Clocks J.Journal (keeping K.Keeper K.ImageKeeper.own) H.HookHost) k place self.old tools.old self.new tools.new }
-        ensures rest { self.new ≡ record self.old { noted = self.new.noted; places = slice_set self.old.places k (record place { stage = Free }); queue = freed_queue self.old.queue } }
+        ensures away { LeadsAway (promises N.Sockets C.Clocks J.Journal (keeping K.Keeper K.ImageKeeper.own) H.HookHost) k place (running self.old tools.old) (running self.new tools.new) }
+        ensures rest { FreesPlace k place self.old self.new }
     {
         tools.sockets.close(k);
         tools.edge.forget(ConnectionNo::new(k));
@@ -81,7 +80,7 @@ impl Service {
         k: u32,
     )
         requires bound { k < 64 }
-        ensures tidies { LeadsToTidy (promises N.Sockets C.Clocks J.Journal (keeping K.Keeper K.ImageKeeper.own) H.HookHost) k self.old tools.old self.new tools.new }
+        ensures tidies { LeadsToTidy (promises N.Sockets C.Clocks J.Journal (keeping K.Keeper K.ImageKeeper.own) H.HookHost) k (running self.old tools.old) (running self.new tools.new) }
         ensures due { (j : ℕ) → j ≢ k → slice_get self.new.due j ≡ slice_get self.old.due j }
     {
         let place = self.place_at(k);
@@ -106,7 +105,7 @@ impl Service {
         k: u32,
     )
         requires bound { k < 64 }
-        ensures leads { (found : List Ready) → LeadsToSettled (promises N.Sockets C.Clocks J.Journal (keeping K.Keeper K.ImageKeeper.own) H.HookHost) found self.old tools.old found self.new tools.new }
+        ensures leads { SettlesAll (promises N.Sockets C.Clocks J.Journal (keeping K.Keeper K.ImageKeeper.own) H.HookHost) (running self.old tools.old) (running self.new tools.new) }
         ensures within { (place : Place) → slice_get self.new.places k ≡ Some place → IsOccupied place.stage → self.old.times.steady - place.since ≤ self.old.limits.idle }
         ensures others { (j : ℕ) → j ≢ k → slice_get self.new.places j ≡ slice_get self.old.places j }
         ensures size { length self.new.places ≡ length self.old.places }
@@ -128,7 +127,7 @@ impl Service {
         &mut self,
         tools: &mut Tools<N, C, J, K, H>,
     )
-        ensures leads { (found : List Ready) → LeadsToSettled (promises N.Sockets C.Clocks J.Journal (keeping K.Keeper K.ImageKeeper.own) H.HookHost) found self.old tools.old found self.new tools.new }
+        ensures leads { SettlesAll (promises N.Sockets C.Clocks J.Journal (keeping K.Keeper K.ImageKeeper.own) H.HookHost) (running self.old tools.old) (running self.new tools.new) }
         ensures within { AreWithin self.new.limits.idle self.new.times self.new.places }
     {
         for k in 0..PLACES {
@@ -141,7 +140,7 @@ impl Service {
         &mut self,
         tools: &mut Tools<N, C, J, K, H>,
     )
-        ensures leads { (found : List Ready) → LeadsToSettled (promises N.Sockets C.Clocks J.Journal (keeping K.Keeper K.ImageKeeper.own) H.HookHost) found self.old tools.old found self.new tools.new }
+        ensures leads { SettlesAll (promises N.Sockets C.Clocks J.Journal (keeping K.Keeper K.ImageKeeper.own) H.HookHost) (running self.old tools.old) (running self.new tools.new) }
         ensures within { AreWithin self.new.limits.idle self.new.times self.new.places }
         ensures tried { IsTried self.new }
     {
@@ -178,7 +177,7 @@ impl Service {
         &mut self,
         tools: &mut Tools<N, C, J, K, H>,
     )
-        ensures leads { (found : List Ready) → LeadsToSettled (promises N.Sockets C.Clocks J.Journal (keeping K.Keeper K.ImageKeeper.own) H.HookHost) found self.old tools.old found self.new tools.new }
+        ensures leads { SettlesAll (promises N.Sockets C.Clocks J.Journal (keeping K.Keeper K.ImageKeeper.own) H.HookHost) (running self.old tools.old) (running self.new tools.new) }
         ensures within { (limit : ℕ) → AreWithin limit self.old.times self.old.places → AreWithin limit self.new.times self.new.places }
         ensures tried { IsTried self.old → IsTried self.new }
         ensures crowded { self.new.queue ≡ Waits → AreWithin self.new.limits.crowded self.new.times self.new.places }
@@ -204,7 +203,7 @@ impl Service {
         k: u32,
     )
         requires bound { k < 64 }
-        ensures shut { LeadsShut (promises N.Sockets C.Clocks J.Journal (keeping K.Keeper K.ImageKeeper.own) H.HookHost) self.old tools.old self.new tools.new }
+        ensures shut { LeadsShut (promises N.Sockets C.Clocks J.Journal (keeping K.Keeper K.ImageKeeper.own) H.HookHost) (running self.old tools.old) (running self.new tools.new) }
         ensures free { IsFreeAt self.new.places k }
         ensures size { length self.new.places ≡ length self.old.places }
         ensures others { (j : ℕ) → j ≢ k → slice_get self.new.places j ≡ slice_get self.old.places j }
@@ -221,7 +220,7 @@ impl Service {
         &mut self,
         tools: &mut Tools<N, C, J, K, H>,
     )
-        ensures shut { LeadsShut (promises N.Sockets C.Clocks J.Journal (keeping K.Keeper K.ImageKeeper.own) H.HookHost) self.old tools.old self.new tools.new }
+        ensures shut { LeadsShut (promises N.Sockets C.Clocks J.Journal (keeping K.Keeper K.ImageKeeper.own) H.HookHost) (running self.old tools.old) (running self.new tools.new) }
         ensures free { AllFree self.new.places }
     {
         for k in 0..PLACES {

@@ -1,9 +1,12 @@
 //! Reading connections.
-ghost use Rattle.std.specs.Prelude.{◌≡◌, ◌<◌, ◌≤◌, true, false, Some, OnOk, IfErr, slice_get, length};
+ghost use Rattle.std.specs.Prelude.{◌≡◌, ◌<◌, true, false, Some, OnOk, IfErr, slice_get};
+ghost use Rattle.http_edge.specs.Pieces.{supplied};
 ghost use Rattle.http_edge.specs.Reached.{is_closing};
+ghost use Rattle.http_edge.specs.Schedule.{piece_of};
+ghost use Rattle.event_loop.specs.GivingParts.{LeadsToGiving, LeadsToRefusal};
 ghost use Rattle.event_loop.specs.Deeds.{Reading};
-ghost use Rattle.event_loop.specs.Places.{MayRead, NeedsNoRead};
-ghost use Rattle.event_loop.specs.Goes.{WhereKnown, LeadsToActs, LeadsToGiving, LeadsToRefusal};
+ghost use Rattle.event_loop.specs.Places.{MayRead};
+ghost use Rattle.event_loop.specs.Goes.{WhereKnown, LeadsToActs, running, to_read};
 ghost use Rattle.event_loop.specs.Scenes.{promises};
 ghost use Rattle.image_keeper.specs.Keeping.{keeping};
 
@@ -48,8 +51,8 @@ fn give_cuts<H: HookHost>(
     bytes: &[u8],
     moment: Moment,
 ) -> Result<(), EdgeFault>
-    ensures heard { OnOk result (LeadsToGiving H.HookHost k moment bytes.now edge.old generator.old edge.new generator.new) }
-    ensures unheard { IfErr result (λ fault. LeadsToRefusal H.HookHost k moment bytes.now fault edge.old generator.old edge.new generator.new) }
+    ensures heard { OnOk result (LeadsToGiving H.HookHost (piece_of k bytes.now moment) (supplied edge.old generator.old) (supplied edge.new generator.new)) }
+    ensures unheard { IfErr result (λ fault. LeadsToRefusal H.HookHost (piece_of k bytes.now moment) fault (supplied edge.old generator.old) (supplied edge.new generator.new)) }
 {
     let mut start = 0;
     'cuts: while start < bytes.len() {
@@ -75,8 +78,8 @@ fn give_all<H: HookHost>(
     moment: Moment,
 ) -> Result<(), EdgeFault>
     requires stays { WhereKnown H.HookHost edge.old k (λ connection. is_closing connection ≡ false) }
-    ensures heard { OnOk result (LeadsToGiving H.HookHost k moment bytes.now edge.old generator.old edge.new generator.new) }
-    ensures unheard { IfErr result (λ fault. LeadsToRefusal H.HookHost k moment bytes.now fault edge.old generator.old edge.new generator.new) }
+    ensures heard { OnOk result (LeadsToGiving H.HookHost (piece_of k bytes.now moment) (supplied edge.old generator.old) (supplied edge.new generator.new)) }
+    ensures unheard { IfErr result (λ fault. LeadsToRefusal H.HookHost (piece_of k bytes.now moment) fault (supplied edge.old generator.old) (supplied edge.new generator.new)) }
 {
     let Err(fault) = edge.hear(k, bytes, moment, generator) else {
         return Ok(());
@@ -102,7 +105,7 @@ impl Service {
         requires here { slice_get self.old.places k ≡ Some place }
         requires readable { place.readable ≡ true }
         requires may { WhereKnown H.HookHost tools.old.edge k (MayRead place) }
-        ensures acts { LeadsToActs (promises N.Sockets C.Clocks J.Journal (keeping K.Keeper K.ImageKeeper.own) H.HookHost) k (Reading k) NeedsNoRead self.old tools.old self.new tools.new }
+        ensures acts { LeadsToActs (promises N.Sockets C.Clocks J.Journal (keeping K.Keeper K.ImageKeeper.own) H.HookHost) (to_read k) (running self.old tools.old) (running self.new tools.new) }
         ensures due { self.new.due ≡ self.old.due }
     {
         let i = k as usize;
@@ -152,7 +155,7 @@ impl Service {
         k: u32,
     )
         requires bound { k < 64 }
-        ensures acts { LeadsToActs (promises N.Sockets C.Clocks J.Journal (keeping K.Keeper K.ImageKeeper.own) H.HookHost) k (Reading k) NeedsNoRead self.old tools.old self.new tools.new }
+        ensures acts { LeadsToActs (promises N.Sockets C.Clocks J.Journal (keeping K.Keeper K.ImageKeeper.own) H.HookHost) (to_read k) (running self.old tools.old) (running self.new tools.new) }
         ensures due { self.new.due ≡ self.old.due }
     {
         let place = self.place_at(k);

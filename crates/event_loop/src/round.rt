@@ -1,7 +1,7 @@
 //! Rounds.
 ghost use Rattle.std.specs.Prelude.{◌≡◌, ◌≤◌, length, true, false, OnOk, IfErr};
 ghost use Rattle.event_loop.specs.Places.{AllFree};
-ghost use Rattle.event_loop.specs.Goes.{IsBusy, IsLimit, MayRest, LeadsRound, LeadsWrong};
+ghost use Rattle.event_loop.specs.Goes.{IsBusy, IsLimit, MayRest, LeadsRound, LeadsWrong, running};
 ghost use Rattle.event_loop.specs.Scenes.{promises};
 ghost use Rattle.image_keeper.specs.Keeping.{keeping};
 
@@ -74,8 +74,8 @@ impl Service {
         found: &mut [Ready],
     ) -> Result<(), LoopFault>
         requires room { 65 ≤ length found.old }
-        ensures goes { OnOk result (LeadsRound (promises N.Sockets C.Clocks J.Journal (keeping K.Keeper K.ImageKeeper.own) H.HookHost) 1 self.old tools.old self.new tools.new) }
-        ensures wrong { IfErr result (λ fault. LeadsWrong (promises N.Sockets C.Clocks J.Journal (keeping K.Keeper K.ImageKeeper.own) H.HookHost) fault self.old tools.old self.new tools.new) }
+        ensures goes { OnOk result (LeadsRound (promises N.Sockets C.Clocks J.Journal (keeping K.Keeper K.ImageKeeper.own) H.HookHost) 1 (running self.old tools.old) (running self.new tools.new)) }
+        ensures wrong { IfErr result (λ fault. LeadsWrong (promises N.Sockets C.Clocks J.Journal (keeping K.Keeper K.ImageKeeper.own) H.HookHost) fault (running self.old tools.old) (running self.new tools.new)) }
     {
         if let Err(fault) = self.put_image(tools) {
             return Err(fault);

@@ -1,6 +1,6 @@
 //! Serving connections.
 ghost use Rattle.event_loop.specs.Ends.{RunEnds};
-ghost use Rattle.event_loop.specs.Goes.{LeadsWrong};
+ghost use Rattle.event_loop.specs.Goes.{LeadsWrong, running};
 ghost use Rattle.event_loop.specs.Scenes.{promises};
 ghost use Rattle.image_keeper.specs.Keeping.{keeping};
 
@@ -20,7 +20,7 @@ impl Service {
         &mut self,
         tools: &mut Tools<N, C, J, K, H>,
     ) -> LoopFault
-        ensures { LeadsWrong (promises N.Sockets C.Clocks J.Journal (keeping K.Keeper K.ImageKeeper.own) H.HookHost) result self.old tools.old self.new tools.new }
+        ensures { LeadsWrong (promises N.Sockets C.Clocks J.Journal (keeping K.Keeper K.ImageKeeper.own) H.HookHost) result (running self.old tools.old) (running self.new tools.new) }
     {
         let mut found = [Ready::Listener; 65];
         for _nth in 0..u64::MAX {

@@ -1,8 +1,7 @@
 //! Telling what the server does.
-ghost use Rattle.std.specs.Prelude.{◌≡◌, List, Some, IfSome, IsSome};
-ghost use Rattle.event_loop.specs.declared.sockets.Ready.{Ready};
-ghost use Rattle.event_loop.specs.Goes.{LeadsShut, LeadsToSettled, Past, scene_of};
-ghost use Rattle.event_loop.specs.Reporting.{Tells, is_long_ago};
+ghost use Rattle.std.specs.Prelude.{◌≡◌, Some, IsSome};
+ghost use Rattle.event_loop.specs.Goes.{LeadsShut, running, SettlesAll, TellsNow};
+ghost use Rattle.event_loop.specs.Reporting.{is_long_ago};
 ghost use Rattle.event_loop.specs.Scenes.{promises};
 ghost use Rattle.image_keeper.specs.Keeping.{keeping};
 
@@ -44,7 +43,7 @@ impl Service {
         &self,
         tools: &Tools<N, C, J, K, H>,
     ) -> Report
-        ensures { (found : List Ready) (past : Past) → Tells (promises N.Sockets C.Clocks J.Journal (keeping K.Keeper K.ImageKeeper.own) H.HookHost) (scene_of self.now tools.now found past) result }
+        ensures { TellsNow (promises N.Sockets C.Clocks J.Journal (keeping K.Keeper K.ImageKeeper.own) H.HookHost) (running self.now tools.now) result }
     {
         let server = tools.edge.server();
         Report {
@@ -66,7 +65,7 @@ impl Service {
         tools: &mut Tools<N, C, J, K, H>,
     )
         requires wanted { IsSome self.old.limits.report }
-        ensures leads { (found : List Ready) → LeadsToSettled (promises N.Sockets C.Clocks J.Journal (keeping K.Keeper K.ImageKeeper.own) H.HookHost) found self.old tools.old found self.new tools.new }
+        ensures leads { SettlesAll (promises N.Sockets C.Clocks J.Journal (keeping K.Keeper K.ImageKeeper.own) H.HookHost) (running self.old tools.old) (running self.new tools.new) }
         ensures limits { self.new.limits ≡ self.old.limits }
     {
         let full = tools.edge.server().tally().wanted.store_room;
@@ -88,7 +87,7 @@ impl Service {
         every: u64,
     )
         requires wanted { self.old.limits.report ≡ Some every }
-        ensures { (found : List Ready) → LeadsToSettled (promises N.Sockets C.Clocks J.Journal (keeping K.Keeper K.ImageKeeper.own) H.HookHost) found self.old tools.old found self.new tools.new }
+        ensures { SettlesAll (promises N.Sockets C.Clocks J.Journal (keeping K.Keeper K.ImageKeeper.own) H.HookHost) (running self.old tools.old) (running self.new tools.new) }
     {
         if self.times.steady.saturating_sub(self.told.report) < every {
             return;
@@ -103,7 +102,7 @@ impl Service {
         &mut self,
         tools: &mut Tools<N, C, J, K, H>,
     )
-        ensures { (found : List Ready) → LeadsToSettled (promises N.Sockets C.Clocks J.Journal (keeping K.Keeper K.ImageKeeper.own) H.HookHost) found self.old tools.old found self.new tools.new }
+        ensures { SettlesAll (promises N.Sockets C.Clocks J.Journal (keeping K.Keeper K.ImageKeeper.own) H.HookHost) (running self.old tools.old) (running self.new tools.new) }
     {
         let Some(every) = self.limits.report else {
             return;
@@ -117,7 +116,7 @@ impl Service {
         &self,
         tools: &mut Tools<N, C, J, K, H>,
     )
-        ensures { LeadsShut (promises N.Sockets C.Clocks J.Journal (keeping K.Keeper K.ImageKeeper.own) H.HookHost) self.now tools.old self.now tools.new }
+        ensures { LeadsShut (promises N.Sockets C.Clocks J.Journal (keeping K.Keeper K.ImageKeeper.own) H.HookHost) (running self.now tools.old) (running self.now tools.new) }
     {
         let Some(_every) = self.limits.report else {
             return;

@@ -1,8 +1,8 @@
 //! Writing output.
 ghost use Rattle.std.specs.Prelude.{◌≡◌, ◌<◌, true, false};
 ghost use Rattle.event_loop.specs.Deeds.{Writing};
-ghost use Rattle.event_loop.specs.Places.{MayWrite, NeedsNoWrite};
-ghost use Rattle.event_loop.specs.Goes.{WhereKnown, LeadsToActs};
+ghost use Rattle.event_loop.specs.Places.{MayWrite};
+ghost use Rattle.event_loop.specs.Goes.{WhereKnown, LeadsToActs, running, to_write};
 ghost use Rattle.event_loop.specs.Scenes.{promises};
 ghost use Rattle.image_keeper.specs.Keeping.{keeping};
 
@@ -43,7 +43,7 @@ impl Service {
         k: u32,
     )
         requires bound { k < 64 }
-        ensures acts { LeadsToActs (promises N.Sockets C.Clocks J.Journal (keeping K.Keeper K.ImageKeeper.own) H.HookHost) k (Writing k) NeedsNoWrite self.old tools.old self.new tools.new }
+        ensures acts { LeadsToActs (promises N.Sockets C.Clocks J.Journal (keeping K.Keeper K.ImageKeeper.own) H.HookHost) (to_write k) (running self.old tools.old) (running self.new tools.new) }
         ensures due { self.new.due ≡ self.old.due }
     {
         let i = k as usize;

@@ -1,64 +1,63 @@
-use Rattle.std.proofs.Common.{◌≡◌, ◌≢◌, ◌∷◌, ◌++◌, [], true, false, refl, sym, ◌∙◌, inl, inr}
+use Rattle.std.proofs.Common.{◌∷◌, [], refl}
 use Rattle.event_loop.specs.Deeds as deed
 use Rattle.http_edge.specs.Schedule.{Kept}
+use Rattle.http_edge.specs.Reached.{led_on}
 use Rattle.event_loop.specs.Served.{goes, keeps}
 use Rattle.event_loop.specs.Ends.{not_kept}
-use Rattle.event_loop.specs.Goes.{scene_of}
 use Rattle.event_loop.specs.Scenes.{promises}
 use Rattle.image_keeper.specs.Keeping.{keeping}
 use Rattle.event_loop.proofs.Answering.{served_answered}
 use Rattle.event_loop.proofs.Doing.{none_more, kept_more, not_another}
 use Rattle.event_loop.proofs.Kept.{none_unkept, nothing_unkept, something_unkept, unkept_happened, kept_connections, all_kept_now, not_empty}
 use Rattle.event_loop.proofs.keep.keep_all.Goals as goal
-use Rattle.event_loop.specs.Courses.{journey_to}
 
 pub returns-in_default-clause-kept : goal.returns-in_default-clause-kept
-returns-in_default-clause-kept g c = λ rules host first found service past undone h.
-    let reached = (served_answered (promises g.N.Sockets g.C.Clocks g.J.Journal (keeping g.K.Keeper g.K.ImageKeeper) g.H.HookHost) rules host first _ h).reached in
+returns-in_default-clause-kept g c = λ first found service past undone h.
+    let reached = (served_answered (promises g.N.Sockets g.C.Clocks g.J.Journal (keeping g.K.Keeper g.K.ImageKeeper) g.H.HookHost) first _ h).reached in
     record {
       next = past;
       served = h;
-      kept = none_unkept past.world (c.in_default.ensures.unkept (journey_to rules host past.schedule past.world) reached);
+      kept = none_unkept past.journey.world (c.in_default.ensures.unkept past.journey reached);
       connections = refl;
       done = none_more past.deeds;
       alone = λ other differs not. not;
     }
 
 pub returns-then-is_empty-clause-kept : goal.returns-then-is_empty-clause-kept
-returns-then-is_empty-clause-kept g c = λ rules host first found service past undone h.
-    let reached = (served_answered (promises g.N.Sockets g.C.Clocks g.J.Journal (keeping g.K.Keeper g.K.ImageKeeper) g.H.HookHost) rules host first _ h).reached in
+returns-then-is_empty-clause-kept g c = λ first found service past undone h.
+    let reached = (served_answered (promises g.N.Sockets g.C.Clocks g.J.Journal (keeping g.K.Keeper g.K.ImageKeeper) g.H.HookHost) first _ h).reached in
     let batch = c.in-Some.batch.now in
     record {
       next = past;
       served = h;
-      kept = nothing_unkept past.world batch.facts (c.is_empty.ensures.0 c.if-is_empty.true) (c.in-Some.ensures.unkept (journey_to rules host past.schedule past.world) reached);
+      kept = nothing_unkept past.journey.world batch.facts (c.is_empty.ensures.0 c.if-is_empty.true) (c.in-Some.ensures.unkept past.journey reached);
       connections = refl;
       done = none_more past.deeds;
       alone = λ other differs not. not;
     }
 
 pub returns-in_default-keep-clause-lost : goal.returns-in_default-keep-clause-lost
-returns-in_default-keep-clause-lost g c = λ rules host first found service past undone h.
-    let reached = (served_answered (promises g.N.Sockets g.C.Clocks g.J.Journal (keeping g.K.Keeper g.K.ImageKeeper) g.H.HookHost) rules host first _ h).reached in
+returns-in_default-keep-clause-lost g c = λ first found service past undone h.
+    let reached = (served_answered (promises g.N.Sockets g.C.Clocks g.J.Journal (keeping g.K.Keeper g.K.ImageKeeper) g.H.HookHost) first _ h).reached in
     let facts = c.in-Some.batch.now.facts in
     let some = not_empty _ facts c.is_empty.ensures c.if-is_empty.false in
-    let noted = c.in-Some.ensures.unkept (journey_to rules host past.schedule past.world) reached in
-    let unkept = something_unkept past.world facts some noted in
-    not_kept c.keep.new.self unkept undone (c.in_default-keep.ensures.lost unkept.kept past.world.history (unkept_happened past.world facts some noted))
+    let noted = c.in-Some.ensures.unkept past.journey reached in
+    let unkept = something_unkept past.journey.world facts some noted in
+    not_kept c.keep.new.self unkept undone (c.in_default-keep.ensures.lost unkept.kept past.journey.world.history (unkept_happened past.journey.world facts some noted))
 
 pub returns-clause-kept : goal.returns-clause-kept
-returns-clause-kept g c = λ rules host first found service past undone h.
-    let reached = (served_answered (promises g.N.Sockets g.C.Clocks g.J.Journal (keeping g.K.Keeper g.K.ImageKeeper) g.H.HookHost) rules host first _ h).reached in
+returns-clause-kept g c = λ first found service past undone h.
+    let reached = (served_answered (promises g.N.Sockets g.C.Clocks g.J.Journal (keeping g.K.Keeper g.K.ImageKeeper) g.H.HookHost) first _ h).reached in
     let facts = c.in-Some.batch.now.facts in
     let some = not_empty _ facts c.is_empty.ensures c.if-is_empty.false in
-    let noted = c.in-Some.ensures.unkept (journey_to rules host past.schedule past.world) reached in
-    let unkept = something_unkept past.world facts some noted in
-    let on = c.forget_unkept.ensures.kept (journey_to rules host past.schedule past.world) reached in
+    let noted = c.in-Some.ensures.unkept past.journey reached in
+    let unkept = something_unkept past.journey.world facts some noted in
+    let on = c.forget_unkept.ensures.kept past.journey reached in
     record {
-      next = record { deeds = deed.Kept ∷ past.deeds; schedule = past.schedule ++ Kept ∷ []; world = on.world };
-      served = goes h (keeps c.keep.new.self c.forget_unkept.new.self unkept on undone (c.in-Ok.ensures.kept unkept.kept past.world.history (unkept_happened past.world facts some noted)));
-      kept = all_kept_now past.world on.world on.happens;
-      connections = kept_connections past.world on.world on.happens;
+      next = record { deeds = deed.Kept ∷ past.deeds; journey = led_on past.journey (Kept ∷ []) on.world };
+      served = goes h (keeps c.keep.new.self c.forget_unkept.new.self unkept on undone (c.in-Ok.ensures.kept unkept.kept past.journey.world.history (unkept_happened past.journey.world facts some noted)));
+      kept = all_kept_now past.journey.world on.world on.happens;
+      connections = kept_connections past.journey.world on.world on.happens;
       done = kept_more past.deeds;
       alone = λ other differs not. not_another deed.Keeping other past.deeds differs not;
     }

@@ -6,7 +6,7 @@ use Rattle.event_loop.specs.Closing.{AreWithin}
 use Rattle.event_loop.specs.Scenes.{Scene, promises}
 use Rattle.image_keeper.specs.Keeping.{keeping}
 use Rattle.event_loop.specs.Served.{IsFirst, begins, stops}
-use Rattle.event_loop.specs.Goes.{Past, IsReadyToWait, scene_of}
+use Rattle.event_loop.specs.Goes.{Past, IsReadyToWait, running, scene_of}
 use Rattle.event_loop.proofs.Answering.{served_answered}
 use Rattle.event_loop.proofs.Resting.{free_rests}
 use Rattle.event_loop.proofs.Leading.{rested_settled}
@@ -15,14 +15,14 @@ use Rattle.event_loop.proofs.Leaving.{fails_reached}
 use Rattle.event_loop.proofs.serve.serve_all.Goals as goal
 
 pub returns-in_default : goal.returns-in_default
-returns-in_default g c = λ rules host schedule world reached. inr (record { is_clock = refl; clocks = c.read.new.self; told_nothing = c.in_default.ensures; same = refl })
+returns-in_default g c = λ journey reached. inr (record { is_clock = refl; clocks = c.read.new.self; told_nothing = c.in_default.ensures; same = refl })
 
 pub returns : goal.returns
-returns g c = λ rules host schedule world reached.
+returns g c = λ journey reached.
     let p = promises g.N.Sockets g.C.Clocks g.J.Journal (keeping g.K.Keeper g.K.ImageKeeper) g.H.HookHost in
-    let past : Past = record { deeds = []; schedule = schedule; world = world } in
-    let first : Scene g.row.N.Denot g.row.C.Denot g.row.J.Denot g.row.K.Denot g.row.H.Denot = scene_of c.new-service.result (record c.args.tools.now { clocks = c.read.new.self }) [] past in
-    let is_first : IsFirst p rules host first =
+    let past : Past g.row.H.Denot = record { deeds = []; journey = journey } in
+    let first : Scene g.row.N.Denot g.row.C.Denot g.row.J.Denot g.row.K.Denot g.row.H.Denot = scene_of (running c.new-service.result (record c.args.tools.now { clocks = c.read.new.self })) [] past in
+    let is_first : IsFirst p first =
     record { size = c.new-service.ensures.size; free = c.new-service.ensures.free; found = refl; noted = c.new-service.ensures.noted; told = c.new-service.ensures.told ∙ sym (ap (λ (t : Times). record { report = t.steady; full = None }) c.new-service.ensures.times); refused = c.new-service.ensures.refused; queue = c.new-service.ensures.queue; deeds = refl; reached = reached } in
     let nobody : (limit : ℕ) → AreWithin limit c.new-service.result.times c.new-service.result.places = λ limit k place here taken. absurd (subst IsOccupied (c.new-service.ensures.free k place here) taken) in
     let ready : IsReadyToWait c.new-service.result past = record {
@@ -30,28 +30,27 @@ returns g c = λ rules host schedule world reached.
       queue = inl (λ told. (let not : Empty ≡ Told = sym c.new-service.ensures.queue ∙ told in absurd (cc)));
       quick = record { idle = nobody _; crowded = λ waits. nobody _; tried = λ since barred. (let not : Empty ≡ Barred since = sym c.new-service.ensures.queue ∙ barred in absurd (cc)) };
     } in
-    let wrong = c.rounds-fault.ensures rules host first past (begins is_first) ready in
-    let failed = scene_of c.rounds-fault.new.self c.rounds-fault.new.tools wrong.found wrong.next in
-    let last_reached = (served_answered p rules host first wrong.last wrong.served).reached in
-    let shut = c.leave_all.ensures.shut rules host failed wrong.found wrong.next stops (fails_reached p rules host wrong.last failed _ wrong.fails last_reached) in
-    let told = c.tell_last.ensures rules host failed wrong.found shut.next shut.shuts shut.reached in
+    let wrong = c.rounds-fault.ensures first past (begins is_first) ready in
+    let failed = scene_of (running c.rounds-fault.new.self c.rounds-fault.new.tools) wrong.found wrong.next in
+    let last_reached = (served_answered p first wrong.last wrong.served).reached in
+    let shut = c.leave_all.ensures.shut failed wrong.found wrong.next stops (fails_reached p wrong.last failed _ wrong.fails last_reached) in
+    let told = c.tell_last.ensures failed wrong.found shut.next shut.shuts shut.reached in
     inl (record {
       first = first;
       is_first = is_first;
       limits_are = c.new-service.ensures.limits;
-      schedule_is = refl;
-      world_is = refl;
+      journey_is = refl;
       told = subst (λ (t : Times). g.C.Clocks.tells c.args.tools.now.clocks (Some t) c.read.new.self) (sym c.new-service.ensures.times) c.in-Some.ensures;
-      tools_are = record { sockets = refl; clocks = refl; journal = refl; keeper = refl; edge = refl; generator = refl };
+      tools_are = refl;
       last = wrong.last;
       served = wrong.served;
-      answered = λ s. served_answered p rules host first s;
-      durable = λ held. served_durable p rules host g.met.K.Keeper.only_now first held;
+      answered = λ s. served_answered p first s;
+      durable = λ held. served_durable p g.met.K.Keeper.only_now first held;
       failed = failed;
       fails = wrong.fails;
-      end = scene_of c.leave_all.new.self c.tell_last.new.tools wrong.found told.next;
+      end = scene_of (running c.leave_all.new.self c.tell_last.new.tools) wrong.found told.next;
       shuts = told.shuts;
-      durable_then = λ held s served on. durable_to_end p rules host g.met.K.Keeper.only_now first held s wrong.last failed _ _ served on wrong.fails told.shuts;
+      durable_then = λ held s served on. durable_to_end p g.met.K.Keeper.only_now first held s wrong.last failed _ _ served on wrong.fails told.shuts;
       free = c.leave_all.ensures.free;
-      tools_are_then = record { sockets = refl; clocks = refl; journal = refl; keeper = refl; edge = refl; generator = refl };
+      tools_are_then = refl;
     })

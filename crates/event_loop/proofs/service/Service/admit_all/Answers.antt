@@ -6,8 +6,8 @@ use Rattle.event_loop.proofs.service.Service.admit_all.Goals as goal
 
 pub loop-nth-init : goal.loop-nth-init
 loop-nth-init g c = record {
-  leads = λ found rules host first past h settled. record {
-    goes = nowhere (promises g.N.Sockets g.C.Clocks g.J.Journal (keeping g.K.Keeper g.K.ImageKeeper) g.H.HookHost) found _ _ rules host first past h settled;
+  leads = λ found first past h settled. record {
+    goes = nowhere (promises g.N.Sockets g.C.Clocks g.J.Journal (keeping g.K.Keeper g.K.ImageKeeper) g.H.HookHost) found _ _ first past h settled;
     tried = λ less. absurd (omega (arith, less));
   };
   within = λ limit all. all;
@@ -18,8 +18,8 @@ loop-nth-init g c = record {
 
 pub loop-nth-preserved : goal.loop-nth-preserved
 loop-nth-preserved g c = record {
-  leads = λ found rules host first past h settled.
-      accepts_then (promises g.N.Sockets g.C.Clocks g.J.Journal (keeping g.K.Keeper g.K.ImageKeeper) g.H.HookHost) found _ _ _ _ _ _ (c.loop-nth.invariant.leads found) (c.admit_next.ensures.leads found) rules host first past h settled;
+  leads = λ found first past h settled.
+      accepts_then (promises g.N.Sockets g.C.Clocks g.J.Journal (keeping g.K.Keeper g.K.ImageKeeper) g.H.HookHost) _ _ _ _ _ _ c.loop-nth.invariant.leads c.admit_next.ensures.leads found first past h settled;
   within = λ limit all. c.admit_next.ensures.within limit (c.loop-nth.invariant.within limit all);
   waits = λ waits. absurd (c.admit_next.ensures.waits waits);
   tried = λ tried. c.admit_next.ensures.tried;
@@ -27,6 +27,12 @@ loop-nth-preserved g c = record {
 }
 
 pub returns-clause-leads : goal.returns-clause-leads
-returns-clause-leads g c = λ found rules host first past h settled.
-    let all = c.loop-nth.invariant.leads found rules host first past h settled in
+returns-clause-leads g c = λ found first past h settled.
+    let all = c.loop-nth.invariant.leads found first past h settled in
     record { goes = all.goes; tried = λ told. all.tried (omega (arith, c.loop-nth-test.false)) }
+
+-- where nobody is known to wait, nothing is left to be tried
+pub returns-in_default-clause-leads : goal.returns-in_default-clause-leads
+returns-in_default-clause-leads g c = λ found first past h settled.
+    let all = c.loop-nth.invariant.leads found first past h settled in
+    record { goes = all.goes; tried = λ told. elim (c.in_default.not-Told told) [ ] }

@@ -1,15 +1,14 @@
-use Rattle.std.proofs.Common.{ℕ, List, ◌<◌, ◌≡◌}
-use Rattle.event_loop.specs.declared.sockets.Ready.{Ready}
+use Rattle.std.proofs.Common.{ℕ, ◌<◌, ◌≡◌}
 use Rattle.event_loop.specs.declared.queue.Queue.TheVariants.{Waits}
 use Rattle.event_loop.specs.Closing.{AreWithin}
-use Rattle.event_loop.specs.Goes.{IsTried, LeadsToAccepts}
+use Rattle.event_loop.specs.Goes.{IsTried, LeadsToAccepts, running}
 use Rattle.event_loop.specs.Scenes.{promises}
 use Rattle.image_keeper.specs.Keeping.{keeping}
 use Rattle.event_loop.proofs.service.Service.admit_all.Given as goal
 
 abbrev pub invariant-loop-nth : goal.invariant-loop-nth
 invariant-loop-nth g l = record {
-  leads : (found : List Ready) → LeadsToAccepts (promises g.N.Sockets g.C.Clocks g.J.Journal (keeping g.K.Keeper g.K.ImageKeeper) g.H.HookHost) found (0 < l._nth) l.initial.self l.initial.tools l.self l.tools;
+  leads : LeadsToAccepts (promises g.N.Sockets g.C.Clocks g.J.Journal (keeping g.K.Keeper g.K.ImageKeeper) g.H.HookHost) (0 < l._nth) (running l.initial.self l.initial.tools) (running l.self l.tools);
   within : (limit : ℕ) → AreWithin limit l.initial.self.times l.initial.self.places → AreWithin limit l.self.times l.self.places;
   waits : l.self.queue ≡ Waits → l.initial.self.queue ≡ Waits;
   tried : IsTried l.initial.self → IsTried l.self;

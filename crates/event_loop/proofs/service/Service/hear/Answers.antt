@@ -1,4 +1,4 @@
-use Rattle.std.proofs.Common.{ap, ◌∷◌, arith, ◌≤◌, length, refl, true}
+use Rattle.std.proofs.Common.{rules, ap, ◌∷◌, arith, ◌≤◌, length, refl, true}
 use Rattle.std.specs.Prelude.{slice_set}
 use Rattle.std.proofs.lemmas.Option.{slice_get_past}
 use Rattle.event_loop.specs.Served.{goes, hears_of_listener, hears_of, hears_of_none}
@@ -6,15 +6,15 @@ use Rattle.event_loop.proofs.Resting.{told_rested}
 use Rattle.event_loop.proofs.service.Service.hear.Goals as goal
 
 pub returns-in-Listener : goal.returns-in-Listener
-returns-in-Listener g c = λ more rules host first past h rested. rw c.told-self.ensures (goes h (hears_of_listener more (ap (λ r. r ∷ more) c.in-Listener.is)), rested)
+returns-in-Listener g c = λ more first past h rested. rw c.told-self.ensures (goes h (hears_of_listener more (ap (λ r. r ∷ more) c.in-Listener.is)), rested)
 
 pub returns-then-k-ge-PLACES : goal.returns-then-k-ge-PLACES
-returns-then-k-ge-PLACES g c = λ more rules host first past h rested.
+returns-then-k-ge-PLACES g c = λ more first past h rested.
     let size : length c.args.self.now.places ≤ c.in-Connection.k = search (rules, arith) in
     (goes h (hears_of_none _ _ _ _ more (ap (λ r. r ∷ more) c.in-Connection.is) (slice_get_past c.args.self.now.places c.in-Connection.k size)), rested)
 
 pub returns-else-k-ge-PLACES : goal.returns-else-k-ge-PLACES
-returns-else-k-ge-PLACES g c = λ more rules host first past h rested. rw c.add.ensures (
+returns-else-k-ge-PLACES g c = λ more first past h rested. rw c.add.ensures (
   goes h (hears_of c.in-Connection.k c.in-Connection.readable c.in-Connection.writable c.in-Connection.hung more c.place_at-place.result c.told.result (ap (λ r. r ∷ more) c.in-Connection.is) c.place_at-place.ensures c.told.ensures),
-  told_rested c.in-Connection.k c.args.self.now (record c.args.self.now { places = slice_set c.args.self.now.places c.in-Connection.k c.told.result; due = slice_set c.args.self.now.due c.in-Connection.k true }) past.world c.told.result refl refl rested,
+  told_rested c.in-Connection.k c.args.self.now (record c.args.self.now { places = slice_set c.args.self.now.places c.in-Connection.k c.told.result; due = slice_set c.args.self.now.due c.in-Connection.k true }) past.journey.world c.told.result refl refl rested,
 )

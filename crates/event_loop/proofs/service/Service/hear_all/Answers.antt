@@ -1,26 +1,26 @@
 use Rattle.std.proofs.Common.{◌+◌, arith, subst, drop, add-one, drop-cons, ◌∷◌, ◌≡◌, List}
 use Rattle.std.proofs.lemmas.List.{drop_all}
 use Rattle.event_loop.specs.declared.sockets.Ready.{Ready}
-use Rattle.event_loop.specs.Goes.{LeadsToHearing}
+use Rattle.event_loop.specs.Goes.{LeadsToHearing, running}
 use Rattle.event_loop.specs.Scenes.{promises}
 use Rattle.image_keeper.specs.Keeping.{keeping}
 use Rattle.event_loop.proofs.service.Service.hear_all.Goals as goal
 
 pub loop-index-init : goal.loop-index-init
-loop-index-init g c = λ rules host first past h rested. (h, rested)
+loop-index-init g c = λ first past h rested. (h, rested)
 
 pub loop-index-preserved : goal.loop-index-preserved
 loop-index-preserved g c =
     let i = c.loop-index.index in
     let all = c.args.found.now in
     let cons : drop i all ≡ _ ∷ drop (i + 1) all = rw add-one (drop-cons all i _ (omega (arith, c.loop-index-test.true))) in
-    let P : List Ready → Type 0 = λ l. LeadsToHearing (promises g.N.Sockets g.C.Clocks g.J.Journal (keeping g.K.Keeper g.K.ImageKeeper) g.H.HookHost) c.args.found.now c.args.self.now c.args.tools.now l c.loop-index.self in
+    let P : List Ready → Type 0 = λ l. LeadsToHearing (promises g.N.Sockets g.C.Clocks g.J.Journal (keeping g.K.Keeper g.K.ImageKeeper) g.H.HookHost) c.args.found.now (running c.args.self.now c.args.tools.now) l (running c.loop-index.self c.args.tools.now) in
     let before = subst P cons c.loop-index.invariant in
-    (λ rules host first past h rested.
-    let told = before rules host first past h rested in
-    c.hear.ensures (drop (i + 1) all) rules host first past told.0 told.1)
+    (λ first past h rested.
+    let told = before first past h rested in
+    c.hear.ensures (drop (i + 1) all) first past told.0 told.1)
 
 pub returns : goal.returns
 returns g c =
-    let P : List Ready → Type 0 = λ l. LeadsToHearing (promises g.N.Sockets g.C.Clocks g.J.Journal (keeping g.K.Keeper g.K.ImageKeeper) g.H.HookHost) c.args.found.now c.args.self.now c.args.tools.now l c.loop-index.self in
+    let P : List Ready → Type 0 = λ l. LeadsToHearing (promises g.N.Sockets g.C.Clocks g.J.Journal (keeping g.K.Keeper g.K.ImageKeeper) g.H.HookHost) c.args.found.now (running c.args.self.now c.args.tools.now) l (running c.loop-index.self c.args.tools.now) in
     subst P (drop_all c.loop-index.index c.args.found.now c.loop-index-test.false) c.loop-index.invariant

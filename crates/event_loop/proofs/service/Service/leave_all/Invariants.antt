@@ -1,13 +1,13 @@
 use Rattle.std.proofs.Common.{ℕ, ◌<◌, ◌≡◌, length}
 use Rattle.event_loop.specs.Places.{IsFreeAt}
-use Rattle.event_loop.specs.Goes.{LeadsShut}
+use Rattle.event_loop.specs.Goes.{LeadsShut, running}
 use Rattle.event_loop.specs.Scenes.{promises}
 use Rattle.image_keeper.specs.Keeping.{keeping}
 use Rattle.event_loop.proofs.service.Service.leave_all.Given as goal
 
 abbrev pub invariant-loop-k : goal.invariant-loop-k
 invariant-loop-k g l = record {
-  shut : LeadsShut (promises g.N.Sockets g.C.Clocks g.J.Journal (keeping g.K.Keeper g.K.ImageKeeper) g.H.HookHost) l.initial.self l.initial.tools l.self l.tools;
+  shut : LeadsShut (promises g.N.Sockets g.C.Clocks g.J.Journal (keeping g.K.Keeper g.K.ImageKeeper) g.H.HookHost) (running l.initial.self l.initial.tools) (running l.self l.tools);
   size : length l.self.places ≡ length l.initial.self.places;
   free : (j : ℕ) → j < l.k → IsFreeAt l.self.places j;
 }

@@ -12,20 +12,20 @@ use Rattle.event_loop.proofs.Putting.{same_some, set_other, set_same}
 use Rattle.event_loop.proofs.service.Service.leave_any.Goals as goal
 
 pub returns-then-not-is_taken-clause-shut : goal.returns-then-not-is_taken-clause-shut
-returns-then-not-is_taken-clause-shut g c = λ rules host first found past done reached. record { next = past; shuts = done; reached = reached }
+returns-then-not-is_taken-clause-shut g c = λ first found past done reached. record { next = past; shuts = done; reached = reached }
 
 pub returns-then-not-is_taken-clause-free : goal.returns-then-not-is_taken-clause-free
 returns-then-not-is_taken-clause-free g c = λ place here.
     ap (λ (q : Place). q.stage) (same_some place c.place_at-place.result (sym here ∙ c.place_at-place.ensures)) ∙ c.is_taken.ensures.free c.if-not-is_taken.true
 
 pub returns-clause-shut : goal.returns-clause-shut
-returns-clause-shut g c = λ rules host first found past done reached.
+returns-clause-shut g c = λ first found past done reached.
     let p = promises g.N.Sockets g.C.Clocks g.J.Journal (keeping g.K.Keeper g.K.ImageKeeper) g.H.HookHost in
-    let away = c.leave.ensures.away rules host found past reached in
+    let away = c.leave.ensures.away found past reached in
     record {
       next = away.next;
       shuts = shuts c.args.k c.place_at-place.result done c.place_at-place.ensures (c.is_taken.ensures.taken c.if-not-is_taken.false) away.closes;
-      reached = closes_reached p rules host c.args.k c.place_at-place.result _ _ away.closes;
+      reached = closes_reached p c.args.k c.place_at-place.result _ _ away.closes;
     }
 
 pub returns-clause-free : goal.returns-clause-free

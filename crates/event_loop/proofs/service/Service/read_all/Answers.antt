@@ -1,4 +1,4 @@
-use Rattle.std.proofs.Common.{arith, ◌≡◌, ◌<◌, inl, inr, refl, Some, ap, subst, ◌∙◌}
+use Rattle.std.proofs.Common.{arith, ◌≡◌, inl, inr, refl, Some, ap, subst, ◌∙◌}
 use Rattle.std.proofs.lemmas.Bool.{cases_lt}
 use Rattle.std.specs.Prelude.{slice_get}
 use Rattle.event_loop.specs.Goes.{IsHeardAt}
@@ -11,16 +11,16 @@ use Rattle.event_loop.proofs.service.Service.read_all.Goals as goal
 pub loop-k-init : goal.loop-k-init
 loop-k-init g c = (
   refl,
-  λ rules host first found past undone rested h.
+  λ first found past undone rested h.
       record { next = past; served = h; rested = rested; heard = λ j less. absurd (omega (arith, less)); unread = λ j from. undone _; unwritten = λ j. undone _; not_kept = undone _; done = none_more past.deeds },
 )
 
 pub loop-k-preserved-then-not-is_at : goal.loop-k-preserved-then-not-is_at
 loop-k-preserved-then-not-is_at g c = (
   c.loop-k.invariant.0,
-  λ rules host first found past undone rested h.
+  λ first found past undone rested h.
       let k = c.loop-k.k in
-      let before = c.loop-k.invariant.1 rules host first found past undone rested h in
+      let before = c.loop-k.invariant.1 first found past undone rested h in
       let none = subst (λ b. slice_get c.loop-k.self.due k ≡ Some b) c.if-not-is_at.true c.is_at.ensures in
       record {
         next = before.next;
@@ -37,16 +37,16 @@ loop-k-preserved-then-not-is_at g c = (
 pub loop-k-preserved : goal.loop-k-preserved
 loop-k-preserved g c = (
   c.read.ensures.due ∙ c.loop-k.invariant.0,
-  λ rules host first found past undone rested h.
+  λ first found past undone rested h.
       let p = promises g.N.Sockets g.C.Clocks g.J.Journal (keeping g.K.Keeper g.K.ImageKeeper) g.H.HookHost in
       let k = c.loop-k.k in
-      let before = c.loop-k.invariant.1 rules host first found past undone rested h in
-      let x = c.read.ensures.acts rules host first found before.next (before.unread k (omega arith)) tt before.served in
+      let before = c.loop-k.invariant.1 first found past undone rested h in
+      let x = c.read.ensures.acts first found before.next (before.unread k (omega arith)) tt before.served in
       record {
         next = x.goes.next;
         served = x.goes.served;
-        rested = rested_next k c.loop-k.self before.next.world c.read.new.self x.goes.next.world x.goes.others (ap (λ l. slice_get l k) x.due ∙ subst (λ b. slice_get c.loop-k.self.due k ≡ Some b) c.if-not-is_at.false c.is_at.ensures) before.rested;
-        heard = heard_next k c.loop-k.self before.next c.read.new.self x.goes.next x.goes.others x.goes.done before.heard (acts_heard p rules host first found k c.loop-k.self before.next c.read.new.self c.read.new.tools x);
+        rested = rested_next k c.loop-k.self before.next.journey.world c.read.new.self x.goes.next.journey.world x.goes.others (ap (λ l. slice_get l k) x.due ∙ subst (λ b. slice_get c.loop-k.self.due k ≡ Some b) c.if-not-is_at.false c.is_at.ensures) before.rested;
+        heard = heard_next k c.loop-k.self before.next c.read.new.self x.goes.next x.goes.others x.goes.done before.heard (acts_heard p first found k c.loop-k.self c.loop-k.tools before.next c.read.new.self c.read.new.tools x);
         unread = λ j from. x.goes.alone _ (λ e. absurd (reading_other j k from e)) (before.unread j (omega (arith, from)));
         unwritten = λ j. x.goes.alone _ (λ e. absurd (cc)) (before.unwritten j);
         not_kept = x.goes.alone _ (λ e. absurd (cc)) before.not_kept;
@@ -55,8 +55,8 @@ loop-k-preserved g c = (
 )
 
 pub returns : goal.returns
-returns g c = λ rules host first found past undone rested h.
-    let all = c.loop-k.invariant.1 rules host first found past undone rested h in
+returns g c = λ first found past undone rested h.
+    let all = c.loop-k.invariant.1 first found past undone rested h in
     record {
       next = all.next;
       served = all.served;

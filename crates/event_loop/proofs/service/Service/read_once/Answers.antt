@@ -1,5 +1,6 @@
-use Rattle.std.proofs.Common.{◌≡◌, ◌<◌, ◌∷◌, ◌++◌, [], ℕ, List, false, length, take, refl, ap, subst, sym, ◌∙◌, arith, inr, inl}
-use Rattle.http_edge.specs.Schedule.{HasEnded}
+use Rattle.std.proofs.Common.{rules, ◌≡◌, ◌<◌, ◌∷◌, [], ℕ, List, false, length, take, refl, ap, subst, sym, ◌∙◌, arith, inr, inl}
+use Rattle.http_edge.specs.Schedule.{HasEnded, piece_of}
+use Rattle.http_edge.specs.Reached.{led_on}
 use Rattle.event_loop.specs.declared.fault.ConnectionFault.TheVariants.{Read, Refused}
 use Rattle.event_loop.specs.declared.place.Stage.TheVariants.{Ended, Broken}
 use Rattle.event_loop.specs.Deeds as deed
@@ -16,26 +17,25 @@ use Rattle.event_loop.proofs.Doing.{one_more, not_another}
 use Rattle.event_loop.proofs.Putting.{taken_length}
 use Rattle.event_loop.proofs.Resting.{put_others}
 use Rattle.event_loop.proofs.service.Service.read_once.Goals as goal
-use Rattle.event_loop.specs.Courses.{journey_to}
 
 pub returns-in-Ok-clause-acts : goal.returns-in-Ok-clause-acts
-returns-in-Ok-clause-acts g c = λ rules host first found past undone ready h.
-    let reached = (served_answered (promises g.N.Sockets g.C.Clocks g.J.Journal (keeping g.K.Keeper g.K.ImageKeeper) g.H.HookHost) rules host first _ h).reached in
+returns-in-Ok-clause-acts g c = λ first found past undone ready h.
+    let reached = (served_answered (promises g.N.Sockets g.C.Clocks g.J.Journal (keeping g.K.Keeper g.K.ImageKeeper) g.H.HookHost) first _ h).reached in
     let count = c.in-Bytes.count in
     let bytes : List ℕ = take count c.read.new.buffer in
     let room : length c.read.new.buffer ≡ read_limit = search rules in
     let size : length bytes ≡ count = taken_length count c.read.new.buffer c.in-Bytes.ensures.within.1 in
-    let given = rw c.new-connection.ensures at (c.in-Ok.ensures.heard rules host past.schedule past.world reached) in
+    let given = rw c.new-connection.ensures at (c.in-Ok.ensures.heard past.journey reached) in
     record {
       goes = record {
-        next = record { deeds = deed.Read c.args.k read_limit bytes ∷ past.deeds; schedule = given.schedule; world = given.world };
+        next = record { deeds = deed.Read c.args.k read_limit (deed.Bytes bytes) ∷ past.deeds; journey = given.journey };
         served =
             goes h
-            (reads c.args.k c.args.place _ c.requires.here c.requires.readable undone (c.requires.may (journey_to rules host past.schedule past.world) reached)
-            (hears bytes c.read.new.self _ c.read-in-Ok.result (subst (λ n. 0 < n) (sym size) c.in-Bytes.ensures.within.0) (omega (arith, size, c.in-Bytes.ensures.within)) (subst (λ n. g.N.Sockets.does c.args.tools.now.sockets (deed.Read c.args.k n bytes) c.read.new.self) room c.in-Bytes.ensures.done) given.heard (c.read-in-Ok.ensures ∙ ap (read_place c.args.place) (sym size))));
+            (reads c.args.k c.args.place _ c.requires.here c.requires.readable undone (c.requires.may past.journey reached)
+            (hears bytes c.read.new.self _ c.read-in-Ok.result (subst (λ n. 0 < n) (sym size) c.in-Bytes.ensures.within.0) (omega (arith, size, c.in-Bytes.ensures.within)) (subst (λ n. g.N.Sockets.does c.args.tools.now.sockets (deed.Read c.args.k n (deed.Bytes bytes)) c.read.new.self) room c.in-Bytes.ensures.done) given.heard (c.read-in-Ok.ensures ∙ ap (read_place c.args.place) (sym size))));
         others =
-            put_others c.args.k c.args.self.now _ c.read-in-Ok.result past.world given.world refl (λ j other. refl)
-            (λ j other. gives_other g.H.HookHost rules host c.args.k c.args.self.now.times.moment j _ given.heard.given _ given.heard.gives other);
+            put_others c.args.k c.args.self.now _ c.read-in-Ok.result past.journey.world given.journey.world refl (λ j other. refl)
+            (λ j other. gives_other g.H.HookHost (piece_of c.args.k bytes c.args.self.now.times.moment) j _ given.heard.given _ given.heard.gives other);
         done = one_more _ _ refl refl (λ task t. inr t);
         alone = λ other differs not. not_another (Reading c.args.k) other past.deeds differs not;
         ready = λ was. tt;
@@ -45,23 +45,23 @@ returns-in-Ok-clause-acts g c = λ rules host first found past undone ready h.
     }
 
 pub returns-in-Err-clause-acts : goal.returns-in-Err-clause-acts
-returns-in-Err-clause-acts g c = λ rules host first found past undone ready h.
-    let reached = (served_answered (promises g.N.Sockets g.C.Clocks g.J.Journal (keeping g.K.Keeper g.K.ImageKeeper) g.H.HookHost) rules host first _ h).reached in
+returns-in-Err-clause-acts g c = λ first found past undone ready h.
+    let reached = (served_answered (promises g.N.Sockets g.C.Clocks g.J.Journal (keeping g.K.Keeper g.K.ImageKeeper) g.H.HookHost) first _ h).reached in
     let count = c.in-Bytes.count in
     let bytes : List ℕ = take count c.read.new.buffer in
     let room : length c.read.new.buffer ≡ read_limit = search rules in
     let size : length bytes ≡ count = taken_length count c.read.new.buffer c.in-Bytes.ensures.within.1 in
-    let some = rw c.new-connection.ensures at (c.in-Err.ensures.unheard rules host past.schedule past.world reached) in
+    let some = rw c.new-connection.ensures at (c.in-Err.ensures.unheard past.journey reached) in
     record {
       goes = record {
-        next = record { deeds = deed.Read c.args.k read_limit bytes ∷ past.deeds; schedule = some.schedule; world = some.world };
+        next = record { deeds = deed.Read c.args.k read_limit (deed.Bytes bytes) ∷ past.deeds; journey = some.journey };
         served =
             goes h
-            (reads c.args.k c.args.place _ c.requires.here c.requires.readable undone (c.requires.may (journey_to rules host past.schedule past.world) reached)
-            (refuses bytes c.read.new.self c.in-Err.fault _ (subst (λ n. 0 < n) (sym size) c.in-Bytes.ensures.within.0) (omega (arith, size, c.in-Bytes.ensures.within)) (subst (λ n. g.N.Sockets.does c.args.tools.now.sockets (deed.Read c.args.k n bytes) c.read.new.self) room c.in-Bytes.ensures.done) some.unheard));
+            (reads c.args.k c.args.place _ c.requires.here c.requires.readable undone (c.requires.may past.journey reached)
+            (refuses bytes c.read.new.self c.in-Err.fault _ (subst (λ n. 0 < n) (sym size) c.in-Bytes.ensures.within.0) (omega (arith, size, c.in-Bytes.ensures.within)) (subst (λ n. g.N.Sockets.does c.args.tools.now.sockets (deed.Read c.args.k n (deed.Bytes bytes)) c.read.new.self) room c.in-Bytes.ensures.done) some.unheard));
         others =
-            put_others c.args.k c.args.self.now _ (record c.args.place { stage = Broken (Refused c.in-Err.fault) }) past.world some.world refl (λ j other. refl)
-            (λ j other. gives_other g.H.HookHost rules host c.args.k c.args.self.now.times.moment j _ some.unheard.given _ some.unheard.gives other);
+            put_others c.args.k c.args.self.now _ (record c.args.place { stage = Broken (Refused c.in-Err.fault) }) past.journey.world some.journey.world refl (λ j other. refl)
+            (λ j other. gives_other g.H.HookHost (piece_of c.args.k bytes c.args.self.now.times.moment) j _ some.unheard.given _ some.unheard.gives other);
         done = one_more _ _ refl refl (λ task t. inr t);
         alone = λ other differs not. not_another (Reading c.args.k) other past.deeds differs not;
         ready = λ was. tt;
@@ -71,19 +71,20 @@ returns-in-Err-clause-acts g c = λ rules host first found past undone ready h.
     }
 
 pub returns-in-Ok-event-clause-acts : goal.returns-in-Ok-event-clause-acts
-returns-in-Ok-event-clause-acts g c = λ rules host first found past undone ready h.
-    let reached = (served_answered (promises g.N.Sockets g.C.Clocks g.J.Journal (keeping g.K.Keeper g.K.ImageKeeper) g.H.HookHost) rules host first _ h).reached in
-    let on = rw c.new-connection.ensures at (c.in-Ok-event.ensures.done (journey_to rules host past.schedule past.world) reached) in
+returns-in-Ok-event-clause-acts g c = λ first found past undone ready h.
+    let room : length c.read.new.buffer ≡ read_limit = search rules in
+    let reached = (served_answered (promises g.N.Sockets g.C.Clocks g.J.Journal (keeping g.K.Keeper g.K.ImageKeeper) g.H.HookHost) first _ h).reached in
+    let on = rw c.new-connection.ensures at (c.in-Ok-event.ensures.done past.journey reached) in
     record {
       goes = record {
-        next = record { deeds = deed.ReadEnd c.args.k ∷ past.deeds; schedule = past.schedule ++ HasEnded c.args.k ∷ []; world = on.world };
+        next = record { deeds = deed.Read c.args.k read_limit deed.End ∷ past.deeds; journey = led_on past.journey (HasEnded c.args.k ∷ []) on.world };
         served =
             goes h
-            (reads c.args.k c.args.place _ c.requires.here c.requires.readable undone (c.requires.may (journey_to rules host past.schedule past.world) reached)
-            (ends c.read.new.self c.event.new.self on c.in-End.ensures.done));
+            (reads c.args.k c.args.place _ c.requires.here c.requires.readable undone (c.requires.may past.journey reached)
+            (ends c.read.new.self c.event.new.self on (subst (λ n. g.N.Sockets.does c.args.tools.now.sockets (deed.Read c.args.k n deed.End) c.read.new.self) room c.in-End.ensures.done)));
         others =
-            put_others c.args.k c.args.self.now _ (record c.args.place { stage = Ended }) past.world on.world refl (λ j other. refl)
-            (λ j other. ends_other past.world on.world c.args.k j on.happens other);
+            put_others c.args.k c.args.self.now _ (record c.args.place { stage = Ended }) past.journey.world on.world refl (λ j other. refl)
+            (λ j other. ends_other past.journey.world on.world c.args.k j on.happens other);
         done = one_more _ _ refl refl (λ task t. inr t);
         alone = λ other differs not. not_another (Reading c.args.k) other past.deeds differs not;
         ready = λ was. tt;
@@ -93,16 +94,17 @@ returns-in-Ok-event-clause-acts g c = λ rules host first found past undone read
     }
 
 pub returns-in-Later-clause-acts : goal.returns-in-Later-clause-acts
-returns-in-Later-clause-acts g c = λ rules host first found past undone ready h.
-    let reached = (served_answered (promises g.N.Sockets g.C.Clocks g.J.Journal (keeping g.K.Keeper g.K.ImageKeeper) g.H.HookHost) rules host first _ h).reached in
+returns-in-Later-clause-acts g c = λ first found past undone ready h.
+    let room : length c.read.new.buffer ≡ read_limit = search rules in
+    let reached = (served_answered (promises g.N.Sockets g.C.Clocks g.J.Journal (keeping g.K.Keeper g.K.ImageKeeper) g.H.HookHost) first _ h).reached in
     record {
       goes = record {
-        next = record past { deeds = deed.ReadNothing c.args.k ∷ past.deeds };
+        next = record past { deeds = deed.Read c.args.k read_limit deed.Nothing ∷ past.deeds };
         served =
             goes h
-            (reads c.args.k c.args.place _ c.requires.here c.requires.readable undone (c.requires.may (journey_to rules host past.schedule past.world) reached)
-            (finds_nothing c.read.new.self c.in-Later.ensures.done));
-        others = put_others c.args.k c.args.self.now _ (record c.args.place { readable = false }) past.world past.world refl (λ j other. refl) (λ j other. refl);
+            (reads c.args.k c.args.place _ c.requires.here c.requires.readable undone (c.requires.may past.journey reached)
+            (finds_nothing c.read.new.self (subst (λ n. g.N.Sockets.does c.args.tools.now.sockets (deed.Read c.args.k n deed.Nothing) c.read.new.self) room c.in-Later.ensures.done)));
+        others = put_others c.args.k c.args.self.now _ (record c.args.place { readable = false }) past.journey.world past.journey.world refl (λ j other. refl) (λ j other. refl);
         done = one_more _ _ refl refl (λ task t. inr t);
         alone = λ other differs not. not_another (Reading c.args.k) other past.deeds differs not;
         ready = λ was. tt;
@@ -112,16 +114,17 @@ returns-in-Later-clause-acts g c = λ rules host first found past undone ready h
     }
 
 pub returns-in-Failed-clause-acts : goal.returns-in-Failed-clause-acts
-returns-in-Failed-clause-acts g c = λ rules host first found past undone ready h.
-    let reached = (served_answered (promises g.N.Sockets g.C.Clocks g.J.Journal (keeping g.K.Keeper g.K.ImageKeeper) g.H.HookHost) rules host first _ h).reached in
+returns-in-Failed-clause-acts g c = λ first found past undone ready h.
+    let room : length c.read.new.buffer ≡ read_limit = search rules in
+    let reached = (served_answered (promises g.N.Sockets g.C.Clocks g.J.Journal (keeping g.K.Keeper g.K.ImageKeeper) g.H.HookHost) first _ h).reached in
     record {
       goes = record {
-        next = record past { deeds = deed.ReadFailed c.args.k ∷ past.deeds };
+        next = record past { deeds = deed.Read c.args.k read_limit deed.Failed ∷ past.deeds };
         served =
             goes h
-            (reads c.args.k c.args.place _ c.requires.here c.requires.readable undone (c.requires.may (journey_to rules host past.schedule past.world) reached)
-            (fails c.read.new.self c.in-Failed.ensures.done));
-        others = put_others c.args.k c.args.self.now _ (record c.args.place { stage = Broken Read }) past.world past.world refl (λ j other. refl) (λ j other. refl);
+            (reads c.args.k c.args.place _ c.requires.here c.requires.readable undone (c.requires.may past.journey reached)
+            (fails c.read.new.self (subst (λ n. g.N.Sockets.does c.args.tools.now.sockets (deed.Read c.args.k n deed.Failed) c.read.new.self) room c.in-Failed.ensures.done)));
+        others = put_others c.args.k c.args.self.now _ (record c.args.place { stage = Broken Read }) past.journey.world past.journey.world refl (λ j other. refl) (λ j other. refl);
         done = one_more _ _ refl refl (λ task t. inr t);
         alone = λ other differs not. not_another (Reading c.args.k) other past.deeds differs not;
         ready = λ was. tt;
@@ -131,19 +134,20 @@ returns-in-Failed-clause-acts g c = λ rules host first found past undone ready 
     }
 
 pub returns-in-Err-event-clause-acts : goal.returns-in-Err-event-clause-acts
-returns-in-Err-event-clause-acts g c = λ rules host first found past undone ready h.
-    let reached = (served_answered (promises g.N.Sockets g.C.Clocks g.J.Journal (keeping g.K.Keeper g.K.ImageKeeper) g.H.HookHost) rules host first _ h).reached in
+returns-in-Err-event-clause-acts g c = λ first found past undone ready h.
+    let room : length c.read.new.buffer ≡ read_limit = search rules in
+    let reached = (served_answered (promises g.N.Sockets g.C.Clocks g.J.Journal (keeping g.K.Keeper g.K.ImageKeeper) g.H.HookHost) first _ h).reached in
     let fault = c.in-Err-event.fault in
-    let refused = rw c.new-connection.ensures at (c.in-Err-event.ensures.refused (journey_to rules host past.schedule past.world) reached) in
+    let refused = rw c.new-connection.ensures at (c.in-Err-event.ensures.refused past.journey reached) in
     rw c.in-Err-event.ensures.err
     (record {
       goes = record {
-        next = record past { deeds = deed.ReadEnd c.args.k ∷ past.deeds };
+        next = record past { deeds = deed.Read c.args.k read_limit deed.End ∷ past.deeds };
         served =
             goes h
-            (reads c.args.k c.args.place _ c.requires.here c.requires.readable undone (c.requires.may (journey_to rules host past.schedule past.world) reached)
-            (ends_nothing c.read.new.self fault c.in-End.ensures.done refused));
-        others = put_others c.args.k c.args.self.now _ (record c.args.place { stage = Broken (Refused fault) }) past.world past.world refl (λ j other. refl) (λ j other. refl);
+            (reads c.args.k c.args.place _ c.requires.here c.requires.readable undone (c.requires.may past.journey reached)
+            (ends_nothing c.read.new.self fault (subst (λ n. g.N.Sockets.does c.args.tools.now.sockets (deed.Read c.args.k n deed.End) c.read.new.self) room c.in-End.ensures.done) refused));
+        others = put_others c.args.k c.args.self.now _ (record c.args.place { stage = Broken (Refused fault) }) past.journey.world past.journey.world refl (λ j other. refl) (λ j other. refl);
         done = one_more _ _ refl refl (λ task t. inr t);
         alone = λ other differs not. not_another (Reading c.args.k) other past.deeds differs not;
         ready = λ was. tt;

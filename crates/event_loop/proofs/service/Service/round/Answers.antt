@@ -1,4 +1,4 @@
-use Rattle.std.proofs.Common.{add-one, ap, ◌≤◌, ◌∷◌, take, arith, length, ◌≡◌, subst, sym, ◌∙◌, []}
+use Rattle.std.proofs.Common.{rules, add-one, ap, ◌≤◌, ◌∷◌, take, arith, length, ◌≡◌, subst, sym, ◌∙◌, []}
 use Rattle.event_loop.specs.declared.limits.Limits.{Limits}
 use Rattle.event_loop.specs.declared.service.Service.{Service}
 use Rattle.event_loop.specs.Closing.{AreWithin}
@@ -6,7 +6,7 @@ use Rattle.event_loop.specs.Deeds as deed
 use Rattle.event_loop.specs.Deeds.{Accepting, IsDone}
 use Rattle.event_loop.specs.Served.{goes, waits}
 use Rattle.event_loop.specs.Ends.{no_wait, no_time}
-use Rattle.event_loop.specs.Goes.{Past, scene_of}
+use Rattle.event_loop.specs.Goes.{Past, running, scene_of}
 use Rattle.event_loop.specs.Scenes.{promises}
 use Rattle.image_keeper.specs.Keeping.{keeping}
 use Rattle.event_loop.proofs.Leading.{to_then, kept_then}
@@ -14,15 +14,15 @@ use Rattle.event_loop.proofs.Leaving.{may_wait, ready_still, told_or_not}
 use Rattle.event_loop.proofs.service.Service.round.Goals as goal
 
 pub returns-in_default-wait-clause-wrong : goal.returns-in_default-wait-clause-wrong
-returns-in_default-wait-clause-wrong g c = λ rules host first past begun was_ready.
-    let put = c.in_default.ensures.put rules host first [] past begun in
+returns-in_default-wait-clause-wrong g c = λ first past begun was_ready.
+    let put = c.in_default.ensures.put first [] past begun in
     let h = put.0 in
     let ready = ready_still c.args.self.now past c.put_image.new.self c.in_default.ensures.same was_ready in
     let before : length c.args.self.now.places ≡ 64 = search rules in
     let size : length c.put_image.new.self.places ≡ 64 = ap (λ (s : Service). length s.places) c.in_default.ensures.same ∙ before in
     let room : 65 ≤ length c.wait.new.found = search (rules, arith, c.requires.room) in
     record {
-      last = scene_of c.put_image.new.self c.put_image.new.tools [] past;
+      last = scene_of (running c.put_image.new.self c.put_image.new.tools) [] past;
       served = h;
       found = [];
       next = record past { deeds = deed.WaitFailed c.wait_limit-limit.result (length c.wait.new.found) ∷ past.deeds };
@@ -30,8 +30,8 @@ returns-in_default-wait-clause-wrong g c = λ rules host first past begun was_re
     }
 
 pub returns-in_default-read-clause-wrong : goal.returns-in_default-read-clause-wrong
-returns-in_default-read-clause-wrong g c = λ rules host first past begun was_ready.
-    let put = c.in_default.ensures.put rules host first [] past begun in
+returns-in_default-read-clause-wrong g c = λ first past begun was_ready.
+    let put = c.in_default.ensures.put first [] past begun in
     let h = put.0 in
     let ready = ready_still c.args.self.now past c.put_image.new.self c.in_default.ensures.same was_ready in
     let heard = take c.in-Some.count c.wait.new.found in
@@ -40,7 +40,7 @@ returns-in_default-read-clause-wrong g c = λ rules host first past begun was_re
     let room : 65 ≤ length c.wait.new.found = search (rules, arith, c.requires.room) in
     let may = may_wait (promises g.N.Sockets g.C.Clocks g.J.Journal (keeping g.K.Keeper g.K.ImageKeeper) g.H.HookHost) c.put_image.new.self c.put_image.new.tools past c.wait_limit-limit.result (length c.wait.new.found) size ready c.wait_limit-limit.ensures room put.1 in
     record {
-      last = scene_of c.put_image.new.self c.put_image.new.tools [] past;
+      last = scene_of (running c.put_image.new.self c.put_image.new.tools) [] past;
       served = h;
       found = heard;
       next = record past { deeds = deed.Waited c.wait_limit-limit.result (length c.wait.new.found) heard ∷ past.deeds };
@@ -48,8 +48,8 @@ returns-in_default-read-clause-wrong g c = λ rules host first past begun was_re
     }
 
 pub returns-in-Err-keep_all-clause-wrong : goal.returns-in-Err-keep_all-clause-wrong
-returns-in-Err-keep_all-clause-wrong g c = λ rules host first past begun was_ready.
-    let put = c.in_default.ensures.put rules host first [] past begun in
+returns-in-Err-keep_all-clause-wrong g c = λ first past begun was_ready.
+    let put = c.in_default.ensures.put first [] past begun in
     let h = put.0 in
     let ready = ready_still c.args.self.now past c.put_image.new.self c.in_default.ensures.same was_ready in
     let heard = take c.in-Some.count c.wait.new.found in
@@ -58,20 +58,20 @@ returns-in-Err-keep_all-clause-wrong g c = λ rules host first past begun was_re
     let room : 65 ≤ length c.wait.new.found = search (rules, arith, c.requires.room) in
     let may = may_wait (promises g.N.Sockets g.C.Clocks g.J.Journal (keeping g.K.Keeper g.K.ImageKeeper) g.H.HookHost) c.put_image.new.self c.put_image.new.tools past c.wait_limit-limit.result (length c.wait.new.found) size ready c.wait_limit-limit.ensures room put.1 in
     let waited = goes h (waits c.wait_limit-limit.result (length c.wait.new.found) heard c.wait.new.self c.in-Some-read.times c.read.new.self may c.in-Some.ensures.done c.in-Some-read.ensures) in
-    let since : Past = record past { deeds = deed.Waited c.wait_limit-limit.result (length c.wait.new.found) heard ∷ past.deeds } in
-    let told = c.hear_all.ensures rules host first since waited (λ k less. (ready.settled k less).rested) in
-    let read = c.read_all.ensures rules host first [] since (λ task is. is) told.1 told.0 in
+    let since : Past g.row.H.Denot = record past { deeds = deed.Waited c.wait_limit-limit.result (length c.wait.new.found) heard ∷ past.deeds } in
+    let told = c.hear_all.ensures first since waited (λ k less. (ready.settled k less).rested) in
+    let read = c.read_all.ensures first [] since (λ task is. is) told.1 told.0 in
     record {
-      last = scene_of c.read_all.new.self c.read_all.new.tools [] read.next;
+      last = scene_of (running c.read_all.new.self c.read_all.new.tools) [] read.next;
       served = read.served;
       found = [];
       next = read.next;
-      fails = c.in-Err-keep_all.ensures.lost rules host first [] c.read_all.new.self read.next read.not_kept read.served;
+      fails = c.in-Err-keep_all.ensures.lost first [] c.read_all.new.self read.next read.not_kept read.served;
     }
 
 pub returns-clause-goes : goal.returns-clause-goes
-returns-clause-goes g c = λ rules host first past begun was_ready.
-    let put = c.in_default.ensures.put rules host first [] past begun in
+returns-clause-goes g c = λ first past begun was_ready.
+    let put = c.in_default.ensures.put first [] past begun in
     let h = put.0 in
     let ready = ready_still c.args.self.now past c.put_image.new.self c.in_default.ensures.same was_ready in
     let p = promises g.N.Sockets g.C.Clocks g.J.Journal (keeping g.K.Keeper g.K.ImageKeeper) g.H.HookHost in
@@ -81,12 +81,12 @@ returns-clause-goes g c = λ rules host first past begun was_ready.
     let room : 65 ≤ length c.wait.new.found = search (rules, arith, c.requires.room) in
     let may = may_wait (promises g.N.Sockets g.C.Clocks g.J.Journal (keeping g.K.Keeper g.K.ImageKeeper) g.H.HookHost) c.put_image.new.self c.put_image.new.tools past c.wait_limit-limit.result (length c.wait.new.found) size ready c.wait_limit-limit.ensures room put.1 in
     let waited = goes h (waits c.wait_limit-limit.result (length c.wait.new.found) heard c.wait.new.self c.in-Some-read.times c.read.new.self may c.in-Some.ensures.done c.in-Some-read.ensures) in
-    let since : Past = record past { deeds = deed.Waited c.wait_limit-limit.result (length c.wait.new.found) heard ∷ past.deeds } in
-    let told = c.hear_all.ensures rules host first since waited (λ k less. (ready.settled k less).rested) in
-    let read = c.read_all.ensures rules host first [] since (λ task is. is) told.1 told.0 in
-    let written = kept_then p rules host first [] since c.read_all.new.self c.write_all.new.self c.read_all.new.tools c.keep_all.new.tools c.write_all.new.tools read c.in_default-keep_all.ensures.kept c.write_all.ensures in
-    let on = to_then p [] [] [] _ _ _ _ _ _ (c.tell.ensures []) (to_then p [] [] [] _ _ _ _ _ _ (c.tidy.ensures.leads []) (c.make_room.ensures.leads [])) rules host first written.next written.served written.below in
-    let admitted = c.admit_all.ensures.leads [] rules host first on.next on.served on.settled in
+    let since : Past g.row.H.Denot = record past { deeds = deed.Waited c.wait_limit-limit.result (length c.wait.new.found) heard ∷ past.deeds } in
+    let told = c.hear_all.ensures first since waited (λ k less. (ready.settled k less).rested) in
+    let read = c.read_all.ensures first [] since (λ task is. is) told.1 told.0 in
+    let written = kept_then p first [] since _ c.read_all.new.self c.write_all.new.self _ c.read_all.new.tools c.keep_all.new.tools c.write_all.new.tools read c.in_default-keep_all.ensures.kept c.write_all.ensures in
+    let on = to_then p [] [] [] _ _ _ _ _ _ (c.tell.ensures []) (to_then p [] [] [] _ _ _ _ _ _ (c.tidy.ensures.leads []) (c.make_room.ensures.leads [])) first written.next written.served written.below in
+    let admitted = c.admit_all.ensures.leads [] first on.next on.served on.settled in
     record {
       next = admitted.goes.next;
       served = admitted.goes.served;
@@ -107,5 +107,5 @@ returns-clause-goes g c = λ rules host first past begun was_ready.
     }
 
 pub returns-in-Err-clause-wrong : goal.returns-in-Err-clause-wrong
-returns-in-Err-clause-wrong g c = λ rules host first past h ready.
-    record { last = scene_of c.args.self.now c.args.tools.now [] past; served = h; found = []; next = past; fails = c.in-Err.ensures.failed rules host first [] past h }
+returns-in-Err-clause-wrong g c = λ first past h ready.
+    record { last = scene_of (running c.args.self.now c.args.tools.now) [] past; served = h; found = []; next = past; fails = c.in-Err.ensures.failed first [] past h }

@@ -1,6 +1,6 @@
 use Rattle.std.proofs.Common.{[], arith}
 use Rattle.event_loop.specs.Ends.{no_more}
-use Rattle.event_loop.specs.Goes.{scene_of}
+use Rattle.event_loop.specs.Goes.{running, scene_of}
 use Rattle.event_loop.specs.Scenes.{promises}
 use Rattle.image_keeper.specs.Keeping.{keeping}
 use Rattle.event_loop.proofs.Leading.{no_round, round_then, then_wrong}
@@ -18,6 +18,6 @@ loop-nth-preserved g c =
     round_then (promises g.N.Sockets g.C.Clocks g.J.Journal (keeping g.K.Keeper g.K.ImageKeeper) g.H.HookHost) c.loop-nth._nth 1 c.args.self.now c.loop-nth.self c.round.new.self c.args.tools.now c.loop-nth.tools c.round.new.tools c.loop-nth.invariant c.in_default.ensures.goes
 
 pub returns : goal.returns
-returns g c = λ rules host first past h ready.
-    let all = c.loop-nth.invariant rules host first past h ready in
-    record { last = scene_of c.loop-nth.self c.loop-nth.tools [] all.next; served = all.served; found = []; next = all.next; fails = no_more (omega (arith, all.waits_are, c.loop-nth-test.false)) }
+returns g c = λ first past h ready.
+    let all = c.loop-nth.invariant first past h ready in
+    record { last = scene_of (running c.loop-nth.self c.loop-nth.tools) [] all.next; served = all.served; found = []; next = all.next; fails = no_more (omega (arith, all.waits_are, c.loop-nth-test.false)) }

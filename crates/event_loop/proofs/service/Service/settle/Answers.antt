@@ -15,29 +15,28 @@ use Rattle.event_loop.proofs.Leading.{closes_other, closes_kept}
 use Rattle.event_loop.proofs.Putting.{set_other}
 use Rattle.event_loop.proofs.Resting.{put_others, put_settled, free_rests, stays_tidy, not_due, not_rested}
 use Rattle.event_loop.proofs.service.Service.settle.Goals as goal
-use Rattle.event_loop.specs.Courses.{journey_to}
 
 pub returns-then-is_over-clause-tidies : goal.returns-then-is_over-clause-tidies
-returns-then-is_over-clause-tidies g c = λ rules host first found past h.
+returns-then-is_over-clause-tidies g c = λ first found past h.
     let p = promises g.N.Sockets g.C.Clocks g.J.Journal (keeping g.K.Keeper g.K.ImageKeeper) g.H.HookHost in
     let k = c.args.k in
-    let reached = (served_answered p rules host first _ h).reached in
+    let reached = (served_answered p first _ h).reached in
     let place = c.place_at-place.result in
-    let away = c.leave.ensures.away rules host found past reached in
-    let over : IsOver place (connection_at past.world.connections k) = c.is_over.ensures.over c.if-is_over.true (journey_to rules host past.schedule past.world) reached in
+    let away = c.leave.ensures.away found past reached in
+    let over : IsOver place (connection_at past.journey.world.connections k) = c.is_over.ensures.over c.if-is_over.true past.journey reached in
     let places : c.leave.new.self.places ≡ slice_set c.args.self.now.places k (record place { stage = Free }) = ap (λ (s : Service). s.places) c.leave.ensures.rest in
     let due : c.leave.new.self.due ≡ slice_set c.args.self.now.due k false = ap (λ (s : Service). s.due) c.leave.ensures.rest ∙ c.remove.ensures in
-    let settled = put_settled k c.args.self.now c.leave.new.self (record place { stage = Free }) away.next places (free_rests _ _ refl) (λ e. closes_some p rules host k place _ _ away.closes) in
+    let settled = put_settled k c.args.self.now c.leave.new.self (record place { stage = Free }) away.next places (free_rests _ _ refl) (λ e. closes_some p k place _ _ away.closes) in
     record {
       goes = record {
         next = away.next;
-        done = closes_done p rules host k place _ _ away.closes;
+        done = closes_done p k place _ _ away.closes;
         served = goes h (closes k place _ c.place_at-place.ensures (c.is_over.ensures.taken c.if-is_over.true) (closing.is_over over) away.closes);
         others =
-            put_others k c.args.self.now c.leave.new.self (record place { stage = Free }) past.world away.next.world places
-            (λ j other. ap (λ l. slice_get l j) due ∙ set_other c.args.self.now.due k j false other) (closes_other p rules host k place _ _ away.closes);
-        alone = λ other differs not. closes_alone p rules host k place _ _ away.closes other not;
-        ready = λ was. closes_kept p rules host k place _ _ away.closes was;
+            put_others k c.args.self.now c.leave.new.self (record place { stage = Free }) past.journey.world away.next.journey.world places
+            (λ j other. ap (λ l. slice_get l j) due ∙ set_other c.args.self.now.due k j false other) (closes_other p k place _ _ away.closes);
+        alone = λ other differs not. closes_alone p k place _ _ away.closes other not;
+        ready = λ was. closes_kept p k place _ _ away.closes was;
       };
       rested = settled.rested;
       turned = λ unread unwritten. settled.turned;
@@ -45,37 +44,37 @@ returns-then-is_over-clause-tidies g c = λ rules host first found past h.
     }
 
 pub returns-then-may_read-clause-tidies : goal.returns-then-may_read-clause-tidies
-returns-then-may_read-clause-tidies g c = λ rules host first found past h.
+returns-then-may_read-clause-tidies g c = λ first found past h.
     let p = promises g.N.Sockets g.C.Clocks g.J.Journal (keeping g.K.Keeper g.K.ImageKeeper) g.H.HookHost in
-    let reached = (served_answered p rules host first _ h).reached in
+    let reached = (served_answered p first _ h).reached in
     let due = c.args.self.now.due in
     let k = c.args.k in
-    rw (c.add.ensures, c.remove.ensures) (stays_tidy p rules host first found k c.args.self.now c.args.tools.now past c.place_at-place.result (slice_set (slice_set due k false) k true) c.place_at-place.ensures
-    (c.is_over.ensures.goes_on c.if-is_over.false (journey_to rules host past.schedule past.world) reached) (λ j other. set_other (slice_set due k false) k j true other ∙ set_other due k j false other)
+    rw (c.add.ensures, c.remove.ensures) (stays_tidy p first found k c.args.self.now c.args.tools.now past c.place_at-place.result (slice_set (slice_set due k false) k true) c.place_at-place.ensures
+    (c.is_over.ensures.goes_on c.if-is_over.false past.journey reached) (λ j other. set_other (slice_set due k false) k j true other ∙ set_other due k j false other)
     (λ none. absurd (not_rested (slice_set due k false) k none))
-    (λ e. a_read (c.may_read.ensures.readable c.if-may_read.true) (c.may_read.ensures.may c.if-may_read.true (journey_to rules host past.schedule past.world) reached)) h)
+    (λ e. a_read (c.may_read.ensures.readable c.if-may_read.true) (c.may_read.ensures.may c.if-may_read.true past.journey reached)) h)
 
 pub returns-then-may_write-clause-tidies : goal.returns-then-may_write-clause-tidies
-returns-then-may_write-clause-tidies g c = λ rules host first found past h.
+returns-then-may_write-clause-tidies g c = λ first found past h.
     let p = promises g.N.Sockets g.C.Clocks g.J.Journal (keeping g.K.Keeper g.K.ImageKeeper) g.H.HookHost in
-    let reached = (served_answered p rules host first _ h).reached in
+    let reached = (served_answered p first _ h).reached in
     let due = c.args.self.now.due in
     let k = c.args.k in
-    rw (c.add-then-may_write.ensures, c.remove.ensures) (stays_tidy p rules host first found k c.args.self.now c.args.tools.now past c.place_at-place.result (slice_set (slice_set due k false) k true) c.place_at-place.ensures
-    (c.is_over.ensures.goes_on c.if-is_over.false (journey_to rules host past.schedule past.world) reached) (λ j other. set_other (slice_set due k false) k j true other ∙ set_other due k j false other)
+    rw (c.add-then-may_write.ensures, c.remove.ensures) (stays_tidy p first found k c.args.self.now c.args.tools.now past c.place_at-place.result (slice_set (slice_set due k false) k true) c.place_at-place.ensures
+    (c.is_over.ensures.goes_on c.if-is_over.false past.journey reached) (λ j other. set_other (slice_set due k false) k j true other ∙ set_other due k j false other)
     (λ none. absurd (not_rested (slice_set due k false) k none))
-    (λ e. a_write (c.may_write.ensures.writable c.if-may_write.true) (c.may_write.ensures.may c.if-may_write.true (journey_to rules host past.schedule past.world) reached)) h)
+    (λ e. a_write (c.may_write.ensures.writable c.if-may_write.true) (c.may_write.ensures.may c.if-may_write.true past.journey reached)) h)
 
 pub returns-else-may_write-clause-tidies : goal.returns-else-may_write-clause-tidies
-returns-else-may_write-clause-tidies g c = λ rules host first found past h.
+returns-else-may_write-clause-tidies g c = λ first found past h.
     let p = promises g.N.Sockets g.C.Clocks g.J.Journal (keeping g.K.Keeper g.K.ImageKeeper) g.H.HookHost in
-    let reached = (served_answered p rules host first _ h).reached in
+    let reached = (served_answered p first _ h).reached in
     let due = c.args.self.now.due in
     let k = c.args.k in
-    rw c.remove.ensures (stays_tidy p rules host first found k c.args.self.now c.args.tools.now past c.place_at-place.result (slice_set due k false) c.place_at-place.ensures
-    (c.is_over.ensures.goes_on c.if-is_over.false (journey_to rules host past.schedule past.world) reached) (λ j other. set_other due k j false other)
+    rw c.remove.ensures (stays_tidy p first found k c.args.self.now c.args.tools.now past c.place_at-place.result (slice_set due k false) c.place_at-place.ensures
+    (c.is_over.ensures.goes_on c.if-is_over.false past.journey reached) (λ j other. set_other due k j false other)
     (λ none. record {
-      unread = λ readable. c.may_read.ensures.rests c.if-may_read.false readable (journey_to rules host past.schedule past.world) reached;
-      unwritten = λ writable. c.may_write.ensures.rests c.if-may_write.false writable (journey_to rules host past.schedule past.world) reached;
-      goes_on = c.is_over.ensures.goes_on c.if-is_over.false (journey_to rules host past.schedule past.world) reached;
+      unread = λ readable. c.may_read.ensures.rests c.if-may_read.false readable past.journey reached;
+      unwritten = λ writable. c.may_write.ensures.rests c.if-may_write.false writable past.journey reached;
+      goes_on = c.is_over.ensures.goes_on c.if-is_over.false past.journey reached;
     }) (λ e. absurd (not_due due k e)) h)

@@ -12,7 +12,7 @@ pub returns-then-full-self-clause-leads : goal.returns-then-full-self-clause-lea
 returns-then-full-self-clause-leads g c = λ found. nowhere (promises g.N.Sockets g.C.Clocks g.J.Journal (keeping g.K.Keeper g.K.ImageKeeper) g.H.HookHost) found _ _
 
 pub returns-then-not-is_long_ago-clause-leads : goal.returns-then-not-is_long_ago-clause-leads
-returns-then-not-is_long_ago-clause-leads g c = λ found rules host first past h settled. record {
+returns-then-not-is_long_ago-clause-leads g c = λ found first past h settled. record {
   next = past;
   served = h;
   settled = settled_then c.args.self.now past _ past refl refl refl (none_more past.deeds) settled;
@@ -20,7 +20,7 @@ returns-then-not-is_long_ago-clause-leads g c = λ found rules host first past h
 }
 
 pub returns-clause-leads : goal.returns-clause-leads
-returns-clause-leads g c = λ found rules host first past h settled. record {
+returns-clause-leads g c = λ found first past h settled. record {
   next = past;
   served = goes h (reports _ _ c.report.new.self (full c.requires.wanted (sym c.is_long_ago.ensures ∙ c.if-not-is_long_ago.false)) c.report.ensures);
   settled = settled_then c.args.self.now past _ past refl refl refl (none_more past.deeds) settled;

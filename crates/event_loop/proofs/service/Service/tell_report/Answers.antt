@@ -12,7 +12,7 @@ pub returns-then-saturating_sub-every : goal.returns-then-saturating_sub-every
 returns-then-saturating_sub-every g c = λ found. nowhere (promises g.N.Sockets g.C.Clocks g.J.Journal (keeping g.K.Keeper g.K.ImageKeeper) g.H.HookHost) found _ _
 
 pub returns : goal.returns
-returns g c = λ found rules host first past h settled.
+returns g c = λ found first past h settled.
     let due : c.args.every ≤ c.args.self.now.times.steady - c.args.self.now.told.report = omega arith in
     record {
       next = past;

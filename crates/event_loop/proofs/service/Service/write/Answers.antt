@@ -1,5 +1,6 @@
-use Rattle.std.proofs.Common.{◌∷◌, ◌++◌, [], false, take, refl, ap, sym, subst, ◌∙◌, inr, inl}
+use Rattle.std.proofs.Common.{◌∷◌, [], false, take, refl, ap, sym, subst, ◌∙◌, inr, inl}
 use Rattle.http_edge.specs.Schedule.{Taken, connection_at}
+use Rattle.http_edge.specs.Reached.{led_on}
 use Rattle.event_loop.specs.declared.fault.ConnectionFault.TheVariants.{Write}
 use Rattle.event_loop.specs.declared.place.Stage.TheVariants.{Broken}
 use Rattle.event_loop.specs.Deeds as deed
@@ -16,43 +17,42 @@ use Rattle.event_loop.proofs.Doing.{none_more, one_more, not_another}
 use Rattle.event_loop.proofs.Putting.{same_some}
 use Rattle.event_loop.proofs.Resting.{put_others, no_others}
 use Rattle.event_loop.proofs.service.Service.write.Goals as goal
-use Rattle.event_loop.specs.Courses.{journey_to}
 
 pub returns-in-Bytes-clause-acts : goal.returns-in-Bytes-clause-acts
-returns-in-Bytes-clause-acts g c = λ rules host first found past undone kept h.
-    let reached = (served_answered (promises g.N.Sockets g.C.Clocks g.J.Journal (keeping g.K.Keeper g.K.ImageKeeper) g.H.HookHost) rules host first _ h).reached in
+returns-in-Bytes-clause-acts g c = λ first found past undone kept h.
+    let reached = (served_answered (promises g.N.Sockets g.C.Clocks g.J.Journal (keeping g.K.Keeper g.K.ImageKeeper) g.H.HookHost) first _ h).reached in
     let place = c.place_at-place.result in
-    let out = rw c.new-connection.ensures at (c.output-output.ensures.output (journey_to rules host past.schedule past.world) reached) in
-    let may = c.may_write.ensures.may c.if-not-may_write.false (journey_to rules host past.schedule past.world) reached in
-    let on = rw c.new-connection.ensures at (c.take.ensures.taken (journey_to rules host past.schedule past.world) reached) in
+    let out = rw c.new-connection.ensures at (c.output-output.ensures.output past.journey reached) in
+    let may = c.may_write.ensures.may c.if-not-may_write.false past.journey reached in
+    let on = rw c.new-connection.ensures at (c.take.ensures.taken past.journey reached) in
     record {
       goes = record {
-        next = record { deeds = deed.Wrote c.args.k (take c.in-Bytes.count c.output-output.result.now) ∷ past.deeds; schedule = past.schedule ++ Taken c.args.k c.in-Bytes.count ∷ []; world = on.world };
+        next = record { deeds = deed.Wrote c.args.k (deed.Bytes (take c.in-Bytes.count c.output-output.result.now)) ∷ past.deeds; journey = led_on past.journey (Taken c.args.k c.in-Bytes.count ∷ []) on.world };
         served =
             goes h
             (writes c.args.k place _ c.place_at-place.ensures (c.may_write.ensures.writable c.if-not-may_write.false) undone kept may
             (sends c.in-Bytes.count (take c.in-Bytes.count c.output-output.result.now) c.write.new.self c.take.new.self on c.in-Bytes.ensures.within.0 (ap (take c.in-Bytes.count) out) c.in-Bytes.ensures.done));
         others =
-            put_others c.args.k c.args.self.now _ (record place { since = c.args.self.now.times.steady }) past.world on.world refl (λ j other. refl)
-            (λ j other. takes_other past.world on.world c.args.k j c.in-Bytes.count on.happens other);
+            put_others c.args.k c.args.self.now _ (record place { since = c.args.self.now.times.steady }) past.journey.world on.world refl (λ j other. refl)
+            (λ j other. takes_other past.journey.world on.world c.args.k j c.in-Bytes.count on.happens other);
         done = one_more _ _ refl refl (λ task t. inr t);
         alone = λ other differs not. not_another (Writing c.args.k) other past.deeds differs not;
-        ready = takes_kept past.world on.world c.args.k c.in-Bytes.count on.happens;
+        ready = takes_kept past.journey.world on.world c.args.k c.in-Bytes.count on.happens;
       };
       due = refl;
       acts = inr (inl refl);
     }
 
 pub returns-in-Later-clause-acts : goal.returns-in-Later-clause-acts
-returns-in-Later-clause-acts g c = λ rules host first found past undone kept h.
-    let reached = (served_answered (promises g.N.Sockets g.C.Clocks g.J.Journal (keeping g.K.Keeper g.K.ImageKeeper) g.H.HookHost) rules host first _ h).reached in
+returns-in-Later-clause-acts g c = λ first found past undone kept h.
+    let reached = (served_answered (promises g.N.Sockets g.C.Clocks g.J.Journal (keeping g.K.Keeper g.K.ImageKeeper) g.H.HookHost) first _ h).reached in
     let place = c.place_at-place.result in
-    let may = c.may_write.ensures.may c.if-not-may_write.false (journey_to rules host past.schedule past.world) reached in
+    let may = c.may_write.ensures.may c.if-not-may_write.false past.journey reached in
     record {
       goes = record {
-        next = record past { deeds = deed.WroteNothing c.args.k ∷ past.deeds };
+        next = record past { deeds = deed.Wrote c.args.k deed.Nothing ∷ past.deeds };
         served = goes h (writes c.args.k place _ c.place_at-place.ensures (c.may_write.ensures.writable c.if-not-may_write.false) undone kept may (finds_no_room c.write.new.self c.in-Later.ensures.done));
-        others = put_others c.args.k c.args.self.now _ (record place { writable = false }) past.world past.world refl (λ j other. refl) (λ j other. refl);
+        others = put_others c.args.k c.args.self.now _ (record place { writable = false }) past.journey.world past.journey.world refl (λ j other. refl) (λ j other. refl);
         done = one_more _ _ refl refl (λ task t. inr t);
         alone = λ other differs not. not_another (Writing c.args.k) other past.deeds differs not;
         ready = λ was. was;
@@ -62,15 +62,15 @@ returns-in-Later-clause-acts g c = λ rules host first found past undone kept h.
     }
 
 pub returns-in-Failed-clause-acts : goal.returns-in-Failed-clause-acts
-returns-in-Failed-clause-acts g c = λ rules host first found past undone kept h.
-    let reached = (served_answered (promises g.N.Sockets g.C.Clocks g.J.Journal (keeping g.K.Keeper g.K.ImageKeeper) g.H.HookHost) rules host first _ h).reached in
+returns-in-Failed-clause-acts g c = λ first found past undone kept h.
+    let reached = (served_answered (promises g.N.Sockets g.C.Clocks g.J.Journal (keeping g.K.Keeper g.K.ImageKeeper) g.H.HookHost) first _ h).reached in
     let place = c.place_at-place.result in
-    let may = c.may_write.ensures.may c.if-not-may_write.false (journey_to rules host past.schedule past.world) reached in
+    let may = c.may_write.ensures.may c.if-not-may_write.false past.journey reached in
     record {
       goes = record {
-        next = record past { deeds = deed.WriteFailed c.args.k ∷ past.deeds };
+        next = record past { deeds = deed.Wrote c.args.k deed.Failed ∷ past.deeds };
         served = goes h (writes c.args.k place _ c.place_at-place.ensures (c.may_write.ensures.writable c.if-not-may_write.false) undone kept may (fails c.write.new.self c.in-Failed.ensures.done));
-        others = put_others c.args.k c.args.self.now _ (record place { stage = Broken Write }) past.world past.world refl (λ j other. refl) (λ j other. refl);
+        others = put_others c.args.k c.args.self.now _ (record place { stage = Broken Write }) past.journey.world past.journey.world refl (λ j other. refl) (λ j other. refl);
         done = one_more _ _ refl refl (λ task t. inr t);
         alone = λ other differs not. not_another (Writing c.args.k) other past.deeds differs not;
         ready = λ was. was;
@@ -80,15 +80,15 @@ returns-in-Failed-clause-acts g c = λ rules host first found past undone kept h
     }
 
 pub returns-then-not-may_write-clause-acts : goal.returns-then-not-may_write-clause-acts
-returns-then-not-may_write-clause-acts g c = λ rules host first found past undone kept h. record {
-  goes = record { next = past; served = h; done = none_more past.deeds; others = no_others c.args.k c.args.self.now past.world; alone = λ other differs not. not; ready = λ was. was };
+returns-then-not-may_write-clause-acts g c = λ first found past undone kept h. record {
+  goes = record { next = past; served = h; done = none_more past.deeds; others = no_others c.args.k c.args.self.now past.journey.world; alone = λ other differs not. not; ready = λ was. was };
   due = refl;
   acts = inl (record {
     service_is = refl;
     world_is = refl;
     rests = λ place here.
-        let reached = (served_answered (promises g.N.Sockets g.C.Clocks g.J.Journal (keeping g.K.Keeper g.K.ImageKeeper) g.H.HookHost) rules host first _ h).reached in
-        let unwritten : NeedsNoWrite c.place_at-place.result (connection_at past.world.connections c.args.k) = λ writable. c.may_write.ensures.rests c.if-not-may_write.true writable (journey_to rules host past.schedule past.world) reached in
-        subst (λ q. NeedsNoWrite q (connection_at past.world.connections c.args.k)) (same_some c.place_at-place.result place (sym c.place_at-place.ensures ∙ here)) unwritten;
+        let reached = (served_answered (promises g.N.Sockets g.C.Clocks g.J.Journal (keeping g.K.Keeper g.K.ImageKeeper) g.H.HookHost) first _ h).reached in
+        let unwritten : NeedsNoWrite c.place_at-place.result (connection_at past.journey.world.connections c.args.k) = λ writable. c.may_write.ensures.rests c.if-not-may_write.true writable past.journey reached in
+        subst (λ q. NeedsNoWrite q (connection_at past.journey.world.connections c.args.k)) (same_some c.place_at-place.result place (sym c.place_at-place.ensures ∙ here)) unwritten;
   });
 }

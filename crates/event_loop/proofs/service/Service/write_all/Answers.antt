@@ -1,4 +1,4 @@
-use Rattle.std.proofs.Common.{arith, ◌≡◌, ◌<◌, inl, inr, Some, subst, ◌∙◌}
+use Rattle.std.proofs.Common.{arith, ◌≡◌, inl, inr, Some, subst, ◌∙◌}
 use Rattle.std.proofs.lemmas.Bool.{cases_lt}
 use Rattle.std.specs.Prelude.{slice_get}
 use Rattle.event_loop.specs.Goes.{IsSettledAt}
@@ -10,7 +10,7 @@ use Rattle.event_loop.proofs.service.Service.write_all.Goals as goal
 pub loop-k-init : goal.loop-k-init
 loop-k-init g c = (
   c.end-k-end.ensures.none,
-  λ rules host first found past rested heard unwritten kept h. record {
+  λ first found past rested heard unwritten kept h. record {
     next = past;
     served = h;
     below = λ j less. absurd (omega (arith, less));
@@ -25,9 +25,9 @@ loop-k-init g c = (
 pub loop-k-preserved-then-not-is_at : goal.loop-k-preserved-then-not-is_at
 loop-k-preserved-then-not-is_at g c = (
   c.loop-k.invariant.0,
-  λ rules host first found past rested heard unwritten kept h.
+  λ first found past rested heard unwritten kept h.
       let k = c.loop-k.k in
-      let before = c.loop-k.invariant.1 rules host first found past rested heard unwritten kept h in
+      let before = c.loop-k.invariant.1 first found past rested heard unwritten kept h in
       let none = subst (λ b. slice_get c.loop-k.self.due k ≡ Some b) c.if-not-is_at.true c.is_at.ensures in
       record {
         next = before.next;
@@ -44,15 +44,15 @@ loop-k-preserved-then-not-is_at g c = (
 pub loop-k-preserved : goal.loop-k-preserved
 loop-k-preserved g c = (
   λ j from less. c.turn.ensures.due j (λ is. absurd (omega (arith, from, is, c.loop-k-test.true))) ∙ c.loop-k.invariant.0 j from less,
-  λ rules host first found past rested heard unwritten kept h.
+  λ first found past rested heard unwritten kept h.
       let k = c.loop-k.k in
-      let before = c.loop-k.invariant.1 rules host first found past rested heard unwritten kept h in
-      let turn = c.turn.ensures.rests rules host first found before.next (before.heard k (omega arith) (omega (arith, c.loop-k-test.true))) (before.unwritten k (omega arith)) before.kept before.served in
+      let before = c.loop-k.invariant.1 first found past rested heard unwritten kept h in
+      let turn = c.turn.ensures.rests first found before.next (before.heard k (omega arith) (omega (arith, c.loop-k-test.true))) (before.unwritten k (omega arith)) before.kept before.served in
       record {
         next = turn.goes.next;
         served = turn.goes.served;
         below = below_next k c.loop-k.self before.next c.turn.new.self turn.goes.next turn.goes.others turn.goes.done before.below turn.settled;
-        rested = λ j from less. rested_other k j c.loop-k.self before.next.world c.turn.new.self turn.goes.next.world turn.goes.others (λ is. absurd (omega (arith, from, is))) (before.rested j (omega (arith, from)) less);
+        rested = λ j from less. rested_other k j c.loop-k.self before.next.journey.world c.turn.new.self turn.goes.next.journey.world turn.goes.others (λ is. absurd (omega (arith, from, is))) (before.rested j (omega (arith, from)) less);
         heard = λ j from less. heard_other k j c.loop-k.self before.next c.turn.new.self turn.goes.next turn.goes.others turn.goes.done (λ is. absurd (omega (arith, from, is))) (before.heard j (omega (arith, from)) less);
         unwritten = λ j from. turn.goes.alone _ (λ e. absurd (writing_other j k from e)) (before.unwritten j (omega (arith, from)));
         kept = turn.goes.ready before.kept;
@@ -61,8 +61,8 @@ loop-k-preserved g c = (
 )
 
 pub returns : goal.returns
-returns g c = λ rules host first found past rested heard unwritten kept h.
-    let all = c.loop-k.invariant.1 rules host first found past rested heard unwritten kept h in
+returns g c = λ first found past rested heard unwritten kept h.
+    let all = c.loop-k.invariant.1 first found past rested heard unwritten kept h in
     record {
       next = all.next;
       served = all.served;
