@@ -9,8 +9,8 @@ abbrev pub is_ahead : ℕ → Deadline → Bool
 is_ahead moment e = nat_lt moment e.moment
 
 -- the least of the deadlines has come: only then are they looked at
-abbrev pub IsDue : List Deadline → ℕ → Type 0
-IsDue deadlines moment = least deadlines ≤ moment
+abbrev pub HasCome : List Deadline → ℕ → Type 0
+HasCome deadlines moment = least deadlines ≤ moment
 
 -- something is noted on the page
 abbrev pub is_filled : Page → Bool

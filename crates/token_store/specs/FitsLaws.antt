@@ -11,7 +11,10 @@ fits_by_later : (kept : List Kept) (history : List Event) (m t : ℕ) (number : 
 fits_by_later kept history m t number le fits = record {
   answers = λ d u late. fits.answers d u (omega (arith, le, late));
   count = λ u late. fits.count u (omega (arith, le, late));
-  once = λ d. (let less = count_by-narrower (λ k. is_named d m k.grant) (λ k. is_named d t k.grant) kept (λ k. named_before d m t k.grant le) in let one = fits.once d in omega (arith, less, one));
+  once = λ d. (
+      let less = count_by-narrower (λ k. is_named d m k.grant) (λ k. is_named d t k.grant) kept (λ k. named_before d m t k.grant le) in
+      let one = fits.once d in
+      omega (arith, less, one));
   apart = λ d e g h a b. fits.apart d e g h (grant_at-now history d m t g fits.is_history le a) (grant_at-now history e m t h fits.is_history le b);
   is_history = is_history-later history m t le fits.is_history;
 }

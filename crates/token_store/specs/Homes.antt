@@ -5,7 +5,7 @@ use Rattle.token_store.specs.declared.image.KeptRecord.{KeptRecord}
 use Rattle.token_store.specs.declared.record.Shared.{Shared}
 use Rattle.token_store.specs.Kept.{Kept}
 use Rattle.token_store.specs.Image.{as_kept}
-use Rattle.token_store.specs.Records.{family_at}
+use Rattle.token_store.specs.Records.{family_numbered}
 use Rattle.token_store.specs.ImageParts.{AgreesWithRecord, is_unexpired_record, renumbered}
 
 -- the store's number of a family
@@ -21,7 +21,7 @@ as_numbered numbers records = map (renumbered (renumber_by numbers)) (as_kept re
 
 -- no two families have one number, and each is there
 pub record AreHomes (numbers : List (ℕ × ℕ)) (families : List (Option Shared)) : Type 0 where
-  pub there : (f n : ℕ) → number_of_family numbers f ≡ Some n → is_some (family_at families n) ≡ true
+  pub there : (f n : ℕ) → number_of_family numbers f ≡ Some n → is_some (family_numbered families n) ≡ true
   pub apart : (f g n : ℕ) → number_of_family numbers f ≡ Some n → number_of_family numbers g ≡ Some n → f ≡ g
 
 -- the record's family is there, and shares what the record says
@@ -29,7 +29,7 @@ pub record HasHome (numbers : List (ℕ × ℕ)) (families : List (Option Shared
   pub number : ℕ
   pub number_is : number_of_family numbers r.family ≡ Some number
   pub shared : Shared
-  pub at : family_at families number ≡ Some shared
+  pub at : family_numbered families number ≡ Some shared
   pub agrees : AgreesWithRecord shared r
 
 -- so it is of each unexpired record
@@ -44,4 +44,4 @@ HomesStay numbers old new = (r : KeptRecord) → HasHome numbers old r → HasHo
 -- families that were there are there, under the numbers that they had
 pub record HasGrown (numbers : List (ℕ × ℕ)) (families : List (Option Shared)) (numbers' : List (ℕ × ℕ)) (families' : List (Option Shared)) : Type 0 where
   pub numbers_stay : (f n : ℕ) → number_of_family numbers f ≡ Some n → number_of_family numbers' f ≡ Some n
-  pub families_stay : (n : ℕ) (s : Shared) → family_at families n ≡ Some s → family_at families' n ≡ Some s
+  pub families_stay : (n : ℕ) (s : Shared) → family_numbered families n ≡ Some s → family_numbered families' n ≡ Some s

@@ -76,12 +76,12 @@ abbrev pub or_nothing : Option Shared → Shared
 or_nothing s = unwrap_or s nothing_shared
 
 -- the family with the number
-abbrev pub family_at : List (Option Shared) → ℕ → Option Shared
-family_at families n = slice_index_or families n None
+abbrev pub family_numbered : List (Option Shared) → ℕ → Option Shared
+family_numbered families n = slice_index_or families n None
 
 -- what the family with the number shares
 abbrev pub shared_at : List (Option Shared) → ℕ → Shared
-shared_at families n = or_nothing (family_at families n)
+shared_at families n = or_nothing (family_numbered families n)
 
 -- THE VIEW
 
@@ -128,7 +128,7 @@ has_owner owners q = list_any (is_at (owner_cmp q)) owners
 
 -- the families of each owner and client are those whose code is theirs
 abbrev pub IsOwned : List (Option Shared) → List ((ℕ × ℕ) × ℕ) → Type 0
-IsOwned families owners = (q : (ℕ × ℕ) × ℕ) → has_owner owners q ≡ is_coded q.0.0 q.0.1 (family_at families q.1)
+IsOwned families owners = (q : (ℕ × ℕ) × ℕ) → has_owner owners q ≡ is_coded q.0.0 q.0.1 (family_numbered families q.1)
 
 -- each family's count is that of its records, with those that are about to come: `awaited` has their families
 abbrev pub IsCounted : List (Option Shared) → List (List ℕ × Record) → List ℕ → Type 0

@@ -18,7 +18,7 @@ use Rattle.consent.specs.declared.change.CodeFacts.{CodeFacts}
 use Rattle.consent.specs.declared.change.NewToken.{NewToken}
 use Rattle.token_store.specs.Agenda.{is_deadline}
 use Rattle.token_store.specs.Kept.{Kept, kept_at, kept_unexpired}
-use Rattle.token_store.specs.Records.{terms_by, kept_under, kept_in, family_at, shared_at, kept_of, all_kept, expiry, expiry_of, owner_cmp, has_owner, code_shared, IsCounted, IsTied}
+use Rattle.token_store.specs.Records.{terms_by, kept_under, kept_in, family_numbered, shared_at, kept_of, all_kept, expiry, expiry_of, owner_cmp, has_owner, code_shared, IsCounted, IsTied}
 
 abbrev pub is_live_at : ℕ → Record → Bool
 is_live_at moment r = nat_lt moment (r.moment + r.life)
@@ -67,29 +67,29 @@ pub record Sheds (families : List (Option Shared)) (records : List (List ℕ × 
 
 -- each but the family with the number is as it was
 abbrev pub OthersStay : (old new : List (Option Shared)) → ℕ → Type 0
-OthersStay old new n = (k : ℕ) → k ≢ n → family_at new k ≡ family_at old k
+OthersStay old new n = (k : ℕ) → k ≢ n → family_numbered new k ≡ family_numbered old k
 
 -- so many records more are of the family
 pub record HasEntered (old new : List (Option Shared)) (n more : ℕ) : Type 0 where
-  pub here : family_at new n ≡ option_map (λ (s : Shared). record s { count = s.count + more }) (family_at old n)
+  pub here : family_numbered new n ≡ option_map (λ (s : Shared). record s { count = s.count + more }) (family_numbered old n)
   pub others : OthersStay old new n
 
 -- one record fewer is of the family, which goes with the last
 pub record HasLeft (old new : List (Option Shared)) (n : ℕ) : Type 0 where
-  pub gone : family_at old n ≡ None → family_at new n ≡ None
-  pub here : (s : Shared) → family_at old n ≡ Some s → family_at new n ≡
+  pub gone : family_numbered old n ≡ None → family_numbered new n ≡ None
+  pub here : (s : Shared) → family_numbered old n ≡ Some s → family_numbered new n ≡
       (if nat_le s.count 1 then None else Some (record s { count = s.count - 1 }))
   pub others : OthersStay old new n
 
 -- a family that was not there is there
 pub record HasOpened (old new : List (Option Shared)) (n : ℕ) (s : Shared) : Type 0 where
-  pub vacant : family_at old n ≡ None
-  pub here : family_at new n ≡ Some s
+  pub vacant : family_numbered old n ≡ None
+  pub here : family_numbered new n ≡ Some s
   pub others : OthersStay old new n
 
 -- a family is not there any more
 pub record HasClosed (old new : List (Option Shared)) (n : ℕ) : Type 0 where
-  pub here : family_at new n ≡ None
+  pub here : family_numbered new n ≡ None
   pub others : OthersStay old new n
 
 -- each of the family looks as it did
@@ -126,7 +126,7 @@ HasSpent old new digest = (moment : ℕ) → is_some (kept_at old digest moment)
 
 -- the family has the mark, if it is there
 pub record HasEnded (old new : List (Option Shared)) (n : ℕ) : Type 0 where
-  pub here : family_at new n ≡ option_map (λ (s : Shared). record s { ended = true }) (family_at old n)
+  pub here : family_numbered new n ≡ option_map (λ (s : Shared). record s { ended = true }) (family_numbered old n)
   pub others : OthersStay old new n
 
 -- the records, with that of the digest spent
@@ -149,7 +149,7 @@ lowered_shared owner client mask s =
 
 abbrev pub HasLowered : List (Option Shared) → List (Option Shared) → ℕ → ℕ → ℕ → Type 0
 HasLowered old new owner client mask =
-    (k : ℕ) → family_at new k ≡ option_map (lowered_shared owner client mask) (family_at old k)
+    (k : ℕ) → family_numbered new k ≡ option_map (lowered_shared owner client mask) (family_numbered old k)
 
 -- the number comes after this one, if there is this one
 abbrev pub IsAfter : Option ℕ → ℕ → Type 0

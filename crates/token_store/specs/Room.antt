@@ -9,7 +9,7 @@ use Rattle.token_store.specs.declared.tables.Coming.{Coming}
 use Rattle.token_store.specs.declared.tables.Tables.{Tables}
 use Rattle.token_store.specs.Agenda.{agenda_room}
 use Rattle.token_store.specs.Kept.{Texts, Expected, Room, Held}
-use Rattle.token_store.specs.Records.{family_at, shared_at, is_coded, code_shared, own_shared, texts_seen, texts_given}
+use Rattle.token_store.specs.Records.{family_numbered, shared_at, is_coded, code_shared, own_shared, texts_seen, texts_given}
 
 -- how many codes and tokens the change gives
 abbrev pub records_by : Change → ℕ
@@ -28,9 +28,9 @@ pub record HasSpare (room : Room) (n : ℕ) : Type 0 where
 
 -- the family is there without records, and is of whom the one that comes is
 pub record Waits (families : List (Option Shared)) (n : ℕ) (s : Shared) : Type 0 where
-  pub there : is_some (family_at families n) ≡ true
+  pub there : is_some (family_numbered families n) ≡ true
   pub empty : (shared_at families n).count ≡ 0
-  pub alike : (owner client : ℕ) → is_coded owner client (family_at families n) ≡ is_coded owner client (Some s)
+  pub alike : (owner client : ℕ) → is_coded owner client (family_numbered families n) ≡ is_coded owner client (Some s)
 
 -- the last that is expected is this, in a family of its own
 pub record NextIs (families : List (Option Shared)) (items front : List Expected) (e : Expected) (s : Shared) : Type 0 where

@@ -2,7 +2,7 @@
 ghost use Rattle.std.specs.Prelude.{◌≡◌, ◌+◌, ◌≤◌, ℕ, [], ◌∷◌, ◌++◌, true, filter, max, nat_lt, OnOk, length};
 ghost use Rattle.std.specs.List.{AllByRecursion, list_all};
 ghost use Rattle.token_store.specs.Agenda.{least, IsBounded, deadlines_in, deadlines_of, IsExact, agenda_room};
-ghost use Rattle.token_store.specs.AgendaParts.{is_ahead, is_filled, page_room, IsDue};
+ghost use Rattle.token_store.specs.AgendaParts.{is_ahead, is_filled, page_room, HasCome};
 
 use consent::{Digest, Moment};
 use std::alloc::{AllocError, Global};
@@ -136,7 +136,7 @@ impl Agenda {
     /// Strikes out the deadlines that have come.
     pub(crate) fn strike(&mut self, moment: Moment)
         requires exact { IsExact self.old }
-        requires due { IsDue (deadlines_of self.old) moment }
+        requires due { HasCome (deadlines_of self.old) moment }
         ensures struck { deadlines_of self.new ≡ filter (is_ahead moment) (deadlines_of self.old) }
         ensures filled { list_all is_filled self.new.pages.items ≡ true }
         ensures exact { IsExact self.new }
@@ -149,7 +149,7 @@ impl Agenda {
 }
 
 fn strike_out(deadlines: &mut Vec<Deadline>, moment: Moment)
-    requires due { IsDue deadlines.old.items moment }
+    requires due { HasCome deadlines.old.items moment }
     ensures { deadlines.new.items ≡ filter (is_ahead moment) deadlines.old.items }
 {
     deadlines.retain(|deadline| moment.get() < deadline.moment);

@@ -4,7 +4,7 @@ ghost use Rattle.std.specs.List.{AllByRecursion, IsDistinct};
 ghost use Rattle.std.specs.Str.{bytes_eq};
 ghost use Rattle.std.specs.Map.{keys_of};
 ghost use Rattle.token_store.specs.Agenda.{IsBounded, deadlines_in, deadlines_of};
-ghost use Rattle.token_store.specs.AgendaParts.{is_ahead, IsDue};
+ghost use Rattle.token_store.specs.AgendaParts.{is_ahead, HasCome};
 ghost use Rattle.token_store.specs.Records.{IsCounted, IsOwned, IsTied, kept_of};
 ghost use Rattle.token_store.specs.RecordsParts.{AllGone, AllLive, Sheds, TellsSame};
 
@@ -32,7 +32,7 @@ impl Tables {
     // Lets go of what has expired, where the least deadline has come.
     fn drop_due(&mut self, moment: Moment)
         requires tied { IsTied self.old [] }
-        requires due { IsDue (deadlines_of self.old.agenda) moment }
+        requires due { HasCome (deadlines_of self.old.agenda) moment }
         ensures tied { IsTied self.new [] }
         ensures same { TellsSame (kept_of self.old) (kept_of self.new) moment }
         ensures live { AllLive self.new.records.entries moment }
@@ -92,7 +92,7 @@ fn drop_all(
 )
     requires once { IsDistinct bytes_eq (keys_of records.old.entries) }
     requires counted { IsCounted families.old.slots records.old.entries [] }
-    requires due { IsDue deadlines.now moment }
+    requires due { HasCome deadlines.now moment }
     ensures sheds { Sheds families.old.slots records.old.entries families.new.slots records.new.entries moment }
     ensures owned { IsOwned families.old.slots owners.old.keys → IsOwned families.new.slots owners.new.keys }
     ensures gone { AllGone deadlines.now records.new.entries moment }

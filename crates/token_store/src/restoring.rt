@@ -6,7 +6,7 @@ ghost use Rattle.consent.specs.Limits.{record_limit};
 ghost use Rattle.consent.specs.History.{is_unexpired};
 ghost use Rattle.token_store.specs.Agenda.{deadlines_of};
 ghost use Rattle.token_store.specs.Kept.{kept_unexpired};
-ghost use Rattle.token_store.specs.Records.{family_at, kept_of, IsTied};
+ghost use Rattle.token_store.specs.Records.{family_numbered, kept_of, IsTied};
 ghost use Rattle.token_store.specs.RecordsParts.{deadline_of, kept_with, HasEntered, HasPut, TellsSame};
 ghost use Rattle.token_store.specs.Image.{as_kept, HasDigestTwice};
 ghost use Rattle.token_store.specs.ImageParts.{FindsAtMost, IsOneTooMany, IsRestored, IsSecond, is_unexpired_record};
@@ -36,7 +36,7 @@ impl Tables {
     // Keeps a record under a digest that nothing is kept under.
     fn put_new(&mut self, alloc: Global, digest: &Digest, new: Record) -> Result<(), AllocError>
         requires tied { IsTied self.old [] }
-        requires open { is_some (family_at self.old.families.slots new.family) ≡ true }
+        requires open { is_some (family_numbered self.old.families.slots new.family) ≡ true }
         requires absent { lookup (bytes_eq digest.now) self.old.records.entries ≡ None }
         ensures tied { OnOk result (IsTied self.new []) }
         ensures tells { OnOk result ((moment : ℕ) → TellsSame (kept_with self.old digest.now new) (kept_of self.new) moment) }

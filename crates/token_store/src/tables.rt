@@ -5,12 +5,12 @@ ghost use Rattle.std.specs.Str.{bytes_eq};
 ghost use Rattle.std.specs.Map.{lookup, keys_of, values_of};
 ghost use Rattle.std.specs.HashMap.{spare};
 ghost use Rattle.token_store.specs.Agenda.{deadlines_of, least};
-ghost use Rattle.token_store.specs.AgendaParts.{IsDue};
+ghost use Rattle.token_store.specs.AgendaParts.{HasCome};
 ghost use Rattle.token_store.specs.Kept.{kept_at, kept_unexpired};
 ghost use Rattle.token_store.specs.FitsParts.{are_kept, has_kept_room, kept_refusal};
 ghost use Rattle.token_store.specs.Room.{HasSpare, room_of};
 ghost use Rattle.token_store.specs.RoomParts.{KeepsRoom, WaitsStill};
-ghost use Rattle.token_store.specs.Records.{family_at, kept_under, kept_of, shared_at, IsCounted, IsOwned, IsTied};
+ghost use Rattle.token_store.specs.Records.{family_numbered, kept_under, kept_of, shared_at, IsCounted, IsOwned, IsTied};
 ghost use Rattle.token_store.specs.RecordsParts.{deadline_of, is_live_at, IsNextOwned, start_of, kept_found, HasEntered, HasLeft, HasEnded, HasIndexed, HasOpened, HasLowered, HasSpent, lowered_by, AllLive, ForgetsExpired, KeepsToo, OthersStay, RecordMark, all_marked, spent_in};
 
 use crate::agenda::Agenda;
@@ -102,7 +102,7 @@ impl Tables {
 
     // How many are so, where the least deadline has come.
     fn count_live(&self, moment: Moment) -> usize
-        requires { IsDue (deadlines_of self.now.agenda) moment }
+        requires { HasCome (deadlines_of self.now.agenda) moment }
         ensures { result ≡ count_by (is_live_at moment) (values_of self.now.records.entries) }
     {
         self.records
@@ -266,7 +266,7 @@ impl Tables {
     /// Keeps the record in its family.
     pub(crate) fn put(&mut self, digest: &Digest, new: Record)
         requires tied { IsTied self.old [] }
-        requires open { is_some (family_at self.old.families.slots new.family) ≡ true }
+        requires open { is_some (family_numbered self.old.families.slots new.family) ≡ true }
         requires room { HasSpare (room_of self.old) 1 }
         ensures tied { IsTied self.new [] }
         ensures keeps { KeepsToo self.old self.new digest.now new }
@@ -316,7 +316,7 @@ pub(crate) fn enter(families: &mut Slab<Shared>, number: usize, more: usize)
 
 // The family, which has no records, is as it is given.
 pub(crate) fn renew(families: &mut Slab<Shared>, number: usize, shared: Shared)
-    ensures here { is_some (family_at families.old.slots number) ≡ true → family_at families.new.slots number ≡ Some shared }
+    ensures here { is_some (family_numbered families.old.slots number) ≡ true → family_numbered families.new.slots number ≡ Some shared }
     ensures others { OthersStay families.old.slots families.new.slots number }
 {
     if let Some(found) = families.get_mut(number) {
@@ -374,7 +374,7 @@ fn start_of(owner: u32, client: u32, after: Option<usize>) -> Bound<((u32, u32),
 }
 
 fn lower_one(families: &mut Slab<Shared>, number: usize, mask: ScopeSet)
-    ensures lowered { family_at families.new.slots number ≡ option_map (lowered_by mask) (family_at families.old.slots number) }
+    ensures lowered { family_numbered families.new.slots number ≡ option_map (lowered_by mask) (family_numbered families.old.slots number) }
     ensures others { OthersStay families.old.slots families.new.slots number }
 {
     if let Some(shared) = families.get_mut(number) {
