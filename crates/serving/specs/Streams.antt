@@ -28,7 +28,7 @@ does_by remaining contents old WriteFailed new = Keeps (contents old) (contents 
 
 -- All that a stream did from one state on: the bytes that came from it, one read after another, and those that it took,
 -- one write after another.
-pub data Carries {S : Type 0} (does : S → Doing → S → Type 0) (first : S) : (heard written : List ℕ) → S → Type 0 where
+pub data Carries {S : Type 0} (does : S → Doing → S → Type 0) (first : S) : List ℕ → List ℕ → S → Type 0 where
   nothing : Carries does first [] [] first
   receives : {heard written : List ℕ} {s s' : S} (bytes : List ℕ) → Carries does first heard written s → does s (Received bytes) s' →
       Carries does first (heard ++ bytes) written s'
