@@ -14,7 +14,7 @@ use Rattle.http_edge.specs.Answers.{AnsweredRequest, changes_made, draws_in, mar
 use Rattle.http_edge.specs.Schedule.{World, Connection, Piece, AnsweredPiece, Happening, Opened, Came, HasEnded, Taken, Forgotten, Kept, Happens, Run, ended, has_stream_ended, is_closing_phase, first_world, resumed, fresh, heard, with_connection, without_connection, moment_after, faulty_if}
 use Rattle.http_edge.specs.Lanes.{SeenLane, lane_at, ShowsConnection, ShowsConnections}
 use Rattle.http_edge.specs.LanesParts.{with_lane, without_lane, fresh_lane}
-use Rattle.http_edge.specs.Heard.{AreMessagesRead, IsHeard, bytes_at, hearing}
+use Rattle.http_edge.specs.Heard.{AreMessagesRead, IsHeard, timed_bytes, hearing}
 use Rattle.http_edge.specs.Edges.{SeenEdge}
 use Rattle.http_edge.specs.Reached.{Journey, Reached, BeginsOver, ResumesOver, GoesOn, HappeningLeads, PieceLeads}
 use Rattle.http_edge.specs.Pieces.{PieceGiven, supplied}
@@ -224,7 +224,7 @@ shows_heard lane lane' k piece messages requests middle closes is_open shows num
 -- a piece that was heard leads on
 leads_heard : {H S : Type 0} (hosting : Hosting H) (sources : Sources S) (edge edge' : SeenEdge H) (piece : Piece) (lane lane' : SeenLane) (source source' : S) →
     lane_at edge.lanes piece.connection ≡ Some lane → lane.phase ≡ Open → length piece.bytes ≤ 65536 →
-    (hears : IsHeard hosting sources (hearing edge.server lane source) (bytes_at (lane.rest ++ piece.bytes) piece.moment) (hearing edge'.server lane' source')) → edge'.lanes ≡ with_lane piece.connection lane' edge.lanes →
+    (hears : IsHeard hosting sources (hearing edge.server lane source) (timed_bytes (lane.rest ++ piece.bytes) piece.moment) (hearing edge'.server lane' source')) → edge'.lanes ≡ with_lane piece.connection lane' edge.lanes →
     PieceLeads hosting edge edge' piece (draws_for sources source hears.messages)
 leads_heard hosting sources edge edge' piece lane lane' source source' here is_open short hears lanes journey reached =
     let world = journey.world in
@@ -285,7 +285,7 @@ leads_heard hosting sources edge edge' piece lane lane' source source' here is_o
 -- a piece was heard
 pub on_heard : {H S : Type 0} (hosting : Hosting H) (sources : Sources S) (edge edge' : SeenEdge H) (piece : Piece) (lane lane' : SeenLane) (source source' : S) →
     lane_at edge.lanes piece.connection ≡ Some lane → lane.phase ≡ Open → length piece.bytes ≤ 65536 →
-    IsHeard hosting sources (hearing edge.server lane source) (bytes_at (lane.rest ++ piece.bytes) piece.moment) (hearing edge'.server lane' source') → edge'.lanes ≡ with_lane piece.connection lane' edge.lanes →
+    IsHeard hosting sources (hearing edge.server lane source) (timed_bytes (lane.rest ++ piece.bytes) piece.moment) (hearing edge'.server lane' source') → edge'.lanes ≡ with_lane piece.connection lane' edge.lanes →
     PieceGiven hosting sources (supplied edge source) piece (supplied edge' source')
 on_heard hosting sources edge edge' piece lane lane' source source' here is_open short hears lanes = record {
   messages = hears.messages;

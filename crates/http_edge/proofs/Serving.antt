@@ -15,7 +15,7 @@ use Rattle.endpoints.specs.Server.{SeenServer, Outset, Before, FitsServer, AreNo
 use Rattle.endpoints.specs.Steps.{Steps}
 use Rattle.heads.specs.Message.{Message, Messages, asked_of_message}
 use Rattle.http_edge.specs.Answers.{AnsweredRequest, IsOutcomeOfRequest, AreAnswered, AreAskedBy, changes_made, draws_in, replies_of}
-use Rattle.http_edge.specs.Heard.{AreMessagesServed, IsStillNone, IsHeard, IsHearingRefusal, bytes_at, hearing, before_messages, replying}
+use Rattle.http_edge.specs.Heard.{AreMessagesServed, IsStillNone, IsHeard, IsHearingRefusal, timed_bytes, hearing, before_messages, replying}
 use Rattle.http_edge.specs.Lanes.{SeenLane}
 use Rattle.http_edge.specs.declared.source.DrawSource.{Ghosts as Sources}
 use Rattle.http_edge.specs.declared.fault.EdgeFault.TheVariants.{Memory}
@@ -139,7 +139,7 @@ served_push hosting first server server' output out outset history m moment mess
 -- bytes in which there is no message are heard
 pub heard_none : {H S : Type 0} (hosting : Hosting H) (sources : Sources S) (server : SeenServer H) (source : S) (lane lane' : SeenLane) (bytes : List ℕ) (moment : ℕ) → IsStillNone bytes →
     lane'.rest ≡ bytes → lane'.output ≡ lane.output → lane'.number ≡ lane.number → lane'.phase ≡ lane.phase →
-    IsHeard hosting sources (hearing server lane source) (bytes_at bytes moment) (hearing server lane' source)
+    IsHeard hosting sources (hearing server lane source) (timed_bytes bytes moment) (hearing server lane' source)
 heard_none hosting sources server source lane lane' bytes moment none same output number phase = record {
   messages = [];
   closes = false;

@@ -127,8 +127,8 @@ pub record TimedBytes : Type 0 where
   pub bytes : List ℕ
   pub moment : ℕ
 
-abbrev pub bytes_at : List ℕ → ℕ → TimedBytes
-bytes_at bytes moment = record { bytes = bytes; moment = moment }
+abbrev pub timed_bytes : List ℕ → ℕ → TimedBytes
+timed_bytes bytes moment = record { bytes = bytes; moment = moment }
 
 -- the messages of the bytes were answered, each with the source's next draws, and after them a faulty head, if one was told of
 pub record IsHeard {H S : Type 0} (hosting : Hosting H) (sources : Sources S) (old : Hearing H S) (came : TimedBytes) (new : Hearing H S) : Type 0 where

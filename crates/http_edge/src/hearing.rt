@@ -4,7 +4,7 @@ ghost use Rattle.heads.specs.Scan.{IsScan};
 ghost use Rattle.http_edge.specs.Limits.{piece_limit, request_limit, room_to_hear};
 ghost use Rattle.http_edge.specs.Schedule.{faulty_if};
 ghost use Rattle.http_edge.specs.Supply.{Suffices};
-ghost use Rattle.http_edge.specs.Heard.{IsHeard, IsHearingRefusal, bytes_at, hearing, reply_room};
+ghost use Rattle.http_edge.specs.Heard.{IsHeard, IsHearingRefusal, timed_bytes, hearing, reply_room};
 ghost use Rattle.http_edge.specs.declared.lane.Phase.TheVariants.{Closing};
 
 use crate::answering::answer_all;
@@ -93,7 +93,7 @@ fn answer_bytes<H: HookHost, S: DrawSource>(
     source: &mut S,
 ) -> Result<(), EdgeFault>
     ensures heard { OnOk result (IsHeard H.HookHost S.DrawSource (hearing server.old lane.old source.old)
-        (bytes_at bytes.now moment) (hearing server.new lane.new source.new)) }
+        (timed_bytes bytes.now moment) (hearing server.new lane.new source.new)) }
     ensures refused { IfErr result (λ fault. IsHearingRefusal fault bytes.now (S.supply source.old)) }
     ensures server_kept { OnErr result (server.new ≡ server.old) }
     ensures lane_kept { OnErr result (lane.new ≡ lane.old) }
@@ -136,7 +136,7 @@ pub(crate) fn hear<H: HookHost, S: DrawSource>(
     requires empty { vec_len work.old ≡ 0 }
     requires room { room_to_hear ≤ vec_capacity work.old }
     ensures heard { OnOk result (IsHeard H.HookHost S.DrawSource (hearing server.old lane.old source.old)
-        (bytes_at (lane.old.rest ++ piece.now) moment) (hearing server.new lane.new source.new)) }
+        (timed_bytes (lane.old.rest ++ piece.now) moment) (hearing server.new lane.new source.new)) }
     ensures refused { IfErr result (λ fault. IsHearingRefusal fault (lane.old.rest ++ piece.now) (S.supply source.old)) }
     ensures server_kept { OnErr result (server.new ≡ server.old) }
     ensures lane_kept { OnErr result (lane.new ≡ lane.old) }

@@ -5,7 +5,6 @@ ghost use Rattle.std.specs.List.{slice_split};
 ghost use Rattle.std.specs.Option.{option_map};
 ghost use Rattle.messages.specs.declared.request.Draws.{Draws};
 ghost use Rattle.transcript.specs.Pieces.{drawn, draws_in, AllDraw, SpellsDraws, SpellsPiece};
-ghost use Rattle.transcript.specs.SeenParts.{MeansOne, MeansOnly};
 
 use hex::{FromHex, FromHexError};
 use messages::Draws;
@@ -42,8 +41,9 @@ fn parts(alloc: Global, word: &str) -> Result<Vec<&str>, AllocError>
 
 /// What words of 128 hex digits each draw, where all of them do.
 fn all_draws(alloc: Global, words: &[&str]) -> Result<Option<Vec<Draws>>, AllocError>
-    ensures some { IfOk result (MeansOne (AllDraw (map (λ word. word.now) words.now)) (λ draws. draws.items)) }
-    ensures only { IfOk result (MeansOnly (AllDraw (map (λ word. word.now) words.now)) (λ draws. draws.items)) }
+    ensures some { IfOk result (λ o. IfSome o (λ draws. AllDraw (map (λ word. word.now) words.now) draws.items)) }
+    ensures only { IfOk result (λ o. (other : List Draws) → AllDraw (map (λ word. word.now) words.now) other →
+        option_map (λ draws. draws.items) o ≡ Some other) }
 {
     let mut all = Vec::new(alloc);
     for word in words {
