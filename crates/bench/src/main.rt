@@ -3,6 +3,7 @@
 #![tactic(auto)]
 
 mod draw;
+mod parts;
 mod programs;
 mod report;
 mod server_steps;

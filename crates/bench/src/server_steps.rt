@@ -1,6 +1,7 @@
-//! Replies: what a token and an introspection cost beside the records of other tokens.
+//! Replies: what their parts cost, and a token and an introspection beside the records of other tokens.
 
 use crate::draw::drawn;
+use crate::parts;
 use crate::report::{self, Least, Rounds};
 use clients::Registry;
 use endpoints::{Moment, Server};
@@ -151,8 +152,12 @@ fn report_introspections(rt: &HostRuntime, rounds: Rounds, busy: &mut Busy) -> i
     report::print(rt, rounds, &work, &came, least, REQUESTS as u128)
 }
 
-/// Tokens and introspections beside few live tokens, and in rounds also beside many.
+/// The parts of a request, and then tokens and introspections beside few live tokens, and in rounds also beside many.
 pub fn report_all(rt: &HostRuntime, rounds: Rounds) -> io::Result<()> {
+    let Ok(rules) = Registry::read(rt.alloc(), REGISTRY.as_bytes()) else {
+        return println!(rt; "no registry");
+    };
+    parts::report_all(rt, rounds, &rules)?;
     let beside: &[u32] = match rounds {
         Rounds::Once => &[100],
         Rounds::Timed => &[100, 1000, 65_000],
