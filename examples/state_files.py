@@ -184,13 +184,22 @@ def listed_now(trials, what, path):
 
 
 def tries_narrower_registries(trials, content):
-    """Under a registry that allows less, what goes beyond it has ended, and nothing else. Another name is refused."""
+    """Under a registry that allows less, what goes beyond it has ended, and nothing else; under any other, nothing. Another name is refused."""
     with open(trials.registry) as text:
         registry = json.load(text)
     app, others = registry["clients"][0], registry["clients"][1:]
     path = trials.file_of(content)
     before = listed_now(trials, "before", path)
 
+    told = trials.under("as it was", registry, path)
+    with open(path, "rb") as file:
+        if told or file.read() != content:
+            trials.wrong("as it was", f"{told!r}, or the file is another one")
+    told = trials.under("longer lives", dict(registry, refresh_life=registry["refresh_life"] + 1), path)
+    if told or len(listed_now(trials, "longer lives", path)) != len(before):
+        trials.wrong("longer lives", f"{told!r}, or something has ended")
+
+    path = trials.file_of(content)
     told = trials.under("shorter lives", dict(registry, access_life=200), path)
     after = listed_now(trials, "shorter lives", path)
     lives = [thing["life"] for thing in after if thing["kind"] == "access"]

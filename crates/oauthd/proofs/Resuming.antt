@@ -1,5 +1,5 @@
 -- A server that was started on the file of its state.
-use Rattle.std.proofs.Common.{◌≡◌, ◌⊎◌, ⊎_elim, arith, inl, inr, ℕ, List, [], length, Option, None, Some, refl, subst, sym}
+use Rattle.std.proofs.Common.{◌≡◌, ◌⊎◌, ◌↔◌, ⊎_elim, arith, inl, inr, ℕ, List, [], length, Option, None, Some, refl, subst, sym}
 use Rattle.std.specs.Prelude.{IsSome}
 use Rattle.batch_file.specs.Calls.{content, LeftSince}
 use Rattle.batch_file.specs.Crashes.{LeavesOnly}
@@ -21,9 +21,10 @@ use Rattle.state_file.specs.Standing.{StandsFor}
 use Rattle.state_file.specs.Telling.{rules_of}
 use Rattle.state_file.specs.declared.starting.Started.{Started}
 use Rattle.narrowing.specs.Left.{left_under}
-use Rattle.state_narrowing.specs.Narrowing.{GoesOn, IsEither, IsNarrower, history_under}
+use Rattle.state_narrowing.specs.Narrowing.{GoesOn, HasLeftOfEach, IsEither, IsNarrower, history_under}
+use Rattle.state_narrowing.specs.declared.narrowed.NarrowedFile.{NarrowedFile}
 use Rattle.oauthd.specs.Startings.{ComesOfState, StandsForOneOf}
-use Rattle.state_file.proofs.Replaying.{replays}
+use Rattle.state_file.specs.ReplayingLaws.{replays}
 
 -- a chain that came through the history was run
 pub was_run : (left : List ℕ) (history : List Event) → HaveNoImage (recovered left) ⊎ ((host : List Named) × HostRun chain.ghosts [] history host) → WasRun chain.ghosts [] left history
@@ -68,14 +69,20 @@ module _ {R : Type 0} (keeping : Crashes (BatchFile (DiskFile R))) (rules : Regi
       (λ left. StandsFor left history ⊎ StandsFor left (with_hooks started.moment history hooks)))
 
   -- what the file was narrowed to
-  pub record WasNarrowed (opened : Opened R) (ended : Option ℕ) (device : DiskFile R) (now : List ℕ) (first : List Named) : Type 0 where
-    pub narrower : IsSome ended → IsNarrower opened.bytes.items (rules_of rules)
-    pub left : IsSome ended → OfEachHistory chain.ghosts first opened.bytes.items (λ history. GoesOn chain.ghosts first now (left_under rules history))
-    pub same : ended ≡ None → now ≡ opened.bytes.items
-    pub crash : LeavesOnly (λ d. length d.log.calls) (λ d. LeftSince d.log.calls) opened.device device (IsEither opened.bytes.items now)
+  pub record WasNarrowed (opened : Opened R) (file : NarrowedFile (DiskFile R)) (first : List Named) : Type 0 where
+    pub exact : IsSome file.ended ↔ IsNarrower opened.bytes.items (rules_of rules)
+    pub left : HasLeftOfEach chain.ghosts first opened.bytes.items rules file
+    pub same : file.ended ≡ None → file.bytes.items ≡ opened.bytes.items
+    pub crash : LeavesOnly (λ d. length d.log.calls) (λ d. LeftSince d.log.calls) opened.device file.device (IsEither opened.bytes.items file.bytes.items)
 
-  module _ (opened : Opened R) (ended : Option ℕ) (device : DiskFile R) (now : List ℕ) (hooks : List HookFact) (seen : opened.bytes.items ≡ content opened.device.log.calls)
-      (narrowed : WasNarrowed opened ended device now []) (serves : Serves now hooks []) (held : Held now hooks []) (meanwhile : Meanwhile device now hooks []) where
+  module _ (opened : Opened R) (file : NarrowedFile (DiskFile R)) (hooks : List HookFact) (seen : opened.bytes.items ≡ content opened.device.log.calls)
+      (narrowed : WasNarrowed opened file []) (serves : Serves file.bytes.items hooks []) (held : Held file.bytes.items hooks []) (meanwhile : Meanwhile file.device file.bytes.items hooks []) where
+    abbrev ended : Option ℕ
+    ended = file.ended
+
+    abbrev now : List ℕ
+    now = file.bytes.items
+
     abbrev under : List Event → List Event
     under history = history_under rules ended history
 
@@ -84,7 +91,9 @@ module _ {R : Type 0} (keeping : Crashes (BatchFile (DiskFile R))) (rules : Regi
 
     start : (history : List Event) → StandsFor opened.bytes.items history → WasRight opened.bytes.items history →
         HaveNoImage (recovered opened.bytes.items) ⊎ ((host : List Named) × HostRun chain.ghosts [] history host) → IsStart now (under history)
-    start history stands was ran = is_start rules ended opened.bytes.items now narrowed.same narrowed.left history stands was (was_run opened.bytes.items history ran)
+    start history stands was ran =
+        is_start rules ended opened.bytes.items now narrowed.same (λ some history stands was run. (narrowed.left some history stands was run).goes_on)
+        history stands was (was_run opened.bytes.items history ran)
 
     on_the_way : (history : List Event) → StandsFor opened.bytes.items history → StandsFor now (under history) → (left : List ℕ) →
         IsEither opened.bytes.items now left → StandsForOneOf history (under history) (with history) left
@@ -99,22 +108,23 @@ module _ {R : Type 0} (keeping : Crashes (BatchFile (DiskFile R))) (rules : Regi
     comes = record {
       opened = opened;
       bytes_are = seen;
-      ended = ended;
-      narrower = narrowed.narrower;
+      narrowed = file;
+      narrower = narrowed.exact;
+      left = λ some history stands was ran. narrowed.left some history stands was (was_run opened.bytes.items history ran);
       serves = λ history stands was ran. (let on = start history stands was ran in serves (under history) on.stands on.was on.ran);
       held = λ history stands was ran. (let on = start history stands was ran in held (under history) on.stands on.was on.ran);
       meanwhile = λ history stands was ran. (let on = start history stands was ran in
-          then (λ (d : DiskFile R). length d.log.calls) (λ (d : DiskFile R). LeftSince d.log.calls) opened.device device started.keeper.device
+          then (λ (d : DiskFile R). length d.log.calls) (λ (d : DiskFile R). LeftSince d.log.calls) opened.device file.device started.keeper.device
           (IsEither opened.bytes.items now) (λ left. StandsFor left (under history) ⊎ StandsFor left (with history)) (StandsForOneOf history (under history) (with history))
           narrowed.crash (meanwhile (under history) on.stands on.was on.ran) (on_the_way history stands on.stands) (at_last history));
     }
 
   -- by what the calls say
-  pub comes_narrowed : (opened : Opened R) (ended : Option ℕ) (device : DiskFile R) (now bytes : List ℕ) (facts hooks : List HookFact) (first again : List Named) →
-      bytes ≡ now → facts ≡ hooks → first ≡ [] → again ≡ [] → opened.bytes.items ≡ content opened.device.log.calls →
-      WasNarrowed opened ended device now first → Serves bytes facts again → Held bytes facts again → Meanwhile device bytes facts again → ComesOfState keeping rules hooks started
-  comes_narrowed opened ended device now bytes facts hooks first again same are none nothing seen narrowed serves held meanwhile =
-      comes opened ended device now hooks seen (subst (λ (f : List Named). WasNarrowed opened ended device now f) none narrowed)
+  pub comes_narrowed : (opened : Opened R) (file : NarrowedFile (DiskFile R)) (bytes : List ℕ) (facts hooks : List HookFact) (first again : List Named) →
+      bytes ≡ file.bytes.items → facts ≡ hooks → first ≡ [] → again ≡ [] → opened.bytes.items ≡ content opened.device.log.calls →
+      WasNarrowed opened file first → Serves bytes facts again → Held bytes facts again → Meanwhile file.device bytes facts again → ComesOfState keeping rules hooks started
+  comes_narrowed opened file bytes facts hooks first again same are none nothing seen narrowed serves held meanwhile =
+      comes opened file hooks seen (subst (λ (f : List Named). WasNarrowed opened file f) none narrowed)
       (subst (λ b. Serves b hooks []) same (subst (λ fs. Serves bytes fs []) are (subst (λ f. Serves bytes facts f) nothing serves)))
       (subst (λ b. Held b hooks []) same (subst (λ fs. Held bytes fs []) are (subst (λ f. Held bytes facts f) nothing held)))
-      (subst (λ b. Meanwhile device b hooks []) same (subst (λ fs. Meanwhile device bytes fs []) are (subst (λ f. Meanwhile device bytes facts f) nothing meanwhile)))
+      (subst (λ b. Meanwhile file.device b hooks []) same (subst (λ fs. Meanwhile file.device bytes fs []) are (subst (λ f. Meanwhile file.device bytes facts f) nothing meanwhile)))

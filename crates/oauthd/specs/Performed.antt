@@ -10,6 +10,10 @@ use Rattle.oauthd.specs.Outputs.{Output, Outputs, IsUntouched, GetsText}
 use Rattle.oauthd.specs.Printed.{answer_text, told_text}
 use Rattle.oauthd.specs.Statuses.{end_status, status_of_answer}
 
+-- the fault is told in its line, and the status is that of the fault
+abbrev pub IsTold : {E : Type 0} → PerformFault → Status → Output E → Type 0
+IsTold fault status err = (status ≡ end_status fault) × GetsText err (told_text fault)
+
 -- what a command answers is printed, and it is done, or a program is refused
 pub record PrintsAnswer {W : Type 0} (command : Command) (file : Option NamedFile) (status : Status) (out : Output W) : Type 0 where
   pub answer : Answer

@@ -1,5 +1,5 @@
 -- How a server is started: anew, or on the file of its state.
-use Rattle.std.specs.Prelude.{◌≡◌, ◌⊎◌, ℕ, List, [], length, Option, Some, None, IsSome}
+use Rattle.std.specs.Prelude.{◌≡◌, ◌⊎◌, ◌↔◌, ℕ, List, [], length, Option, Some, None, IsSome}
 use Rattle.clients.specs.RegistryRecord.{RegistryRecord}
 use Rattle.consent.specs.History.{Event}
 use Rattle.batch_file.specs.Calls.{content, LeftSince}
@@ -31,7 +31,8 @@ use Rattle.state_file.specs.Standing.{StandsFor}
 use Rattle.state_file.specs.Telling.{rules_of}
 use Rattle.state_file.specs.declared.fault.StateFault.{StateFault}
 use Rattle.state_file.specs.declared.starting.Started.{Started}
-use Rattle.state_narrowing.specs.Narrowing.{IsNarrower, IsUnnarrowed, history_under}
+use Rattle.state_narrowing.specs.Narrowing.{HasLeft, IsNarrower, IsUnnarrowed, history_under}
+use Rattle.state_narrowing.specs.declared.narrowed.NarrowedFile.{NarrowedFile}
 use Rattle.oauthd.specs.declared.fault.PerformFault.{PerformFault}
 use Rattle.oauthd.specs.Faults.{of_opening, of_state}
 
@@ -74,21 +75,23 @@ StandsForOneOf history under with left = StandsFor left history ⊎ StandsFor le
 
 -- The file was opened, and a server was started on its bytes. Whatever history they stood for: with those of the hooks that it
 -- lacks, the server goes on from that history under these rules, and all that a crash may leave stands for it. Where the rules
--- are narrower than those that the bytes tell, it goes on from what is left of the history.
+-- are narrower than those that the bytes tell, and only there, the file is narrowed first, and the server goes on from what is
+-- left of the history.
 pub record ComesOfState {R : Type 0} (keeping : Crashes (BatchFile (DiskFile R))) (rules : RegistryRecord) (hooks : List HookFact)
     (started : Started (DiskFile R) (List Named)) : Type 0 where
   pub opened : Opened R
   pub bytes_are : opened.bytes.items ≡ content opened.device.log.calls
-  -- how many codes and tokens ended, where the rules are narrower
-  pub ended : Option ℕ
-  pub narrower : IsSome ended → IsNarrower opened.bytes.items (rules_of rules)
+  -- what then stood there, and how many codes and tokens ended, where it was narrowed
+  pub narrowed : NarrowedFile (DiskFile R)
+  pub narrower : IsSome narrowed.ended ↔ IsNarrower opened.bytes.items (rules_of rules)
+  pub left : IsSome narrowed.ended → OfEachRun opened.bytes.items (HasLeft chain.ghosts [] rules narrowed)
   pub serves : OfEachRun opened.bytes.items
-      (λ history. ServesOn chain.ghosts started (outset_of rules []) (with_hooks started.moment (history_under rules ended history) hooks))
-  pub held : OfEachRun opened.bytes.items (λ history. Holds keeping started.keeper (with_hooks started.moment (history_under rules ended history) hooks))
+      (λ history. ServesOn chain.ghosts started (outset_of rules []) (with_hooks started.moment (history_under rules narrowed.ended history) hooks))
+  pub held : OfEachRun opened.bytes.items (λ history. Holds keeping started.keeper (with_hooks started.moment (history_under rules narrowed.ended history) hooks))
   -- the keeper's file is the one that was opened
   pub meanwhile : OfEachRun opened.bytes.items
       (λ history. LeavesOnly (λ d. length d.log.calls) (λ d. LeftSince d.log.calls) opened.device started.keeper.device
-      (StandsForOneOf history (history_under rules ended history) (with_hooks started.moment (history_under rules ended history) hooks)))
+      (StandsForOneOf history (history_under rules narrowed.ended history) (with_hooks started.moment (history_under rules narrowed.ended history) hooks)))
 
 -- it served connections from there, and kept what happened in that file
 pub record HasResumed {N C J R : Type 0} (p : Promises N C J (BatchFile (DiskFile R)) (List Named)) (handed : Handed) (fault : LoopFault) : Type 0 where

@@ -62,6 +62,14 @@ IsOptional (commands.Hook (hook.ListSlots path)) = ⊤
 IsOptional (commands.Hook (hook.Why layout path)) = ⊤
 IsOptional command = ⊥
 
+-- no command has these words
+abbrev pub NameNone : List (List ℕ) → Type 0
+NameNone words = (command : Command) → words_of_command command ≢ words
+
+-- none that has an option has them
+abbrev pub NameNoOptional : List (List ℕ) → Type 0
+NameNoOptional words = (command : Command) → IsOptional command → words_of_command command ≢ words
+
 -- the path of the file that a command is about
 abbrev pub file_named_by : Command → Option (List ℕ)
 file_named_by (commands.Hook command) = file_of_hook_command command

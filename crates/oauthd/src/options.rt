@@ -1,7 +1,7 @@
 //! The commands that have an option, or many words.
 
 ghost use Rattle.std.specs.Prelude.{◌≡◌, ◌≢◌, [], ◌∷◌, map, string_bytes, IfSome, IfNone};
-ghost use Rattle.oauthd.specs.Words.{ask_words, words_of_command, IsAsking, IsCommand, IsOptional};
+ghost use Rattle.oauthd.specs.Words.{ask_words, words_of_command, IsAsking, IsCommand, NameNone, NameNoOptional};
 
 use crate::command::Command;
 use hook_commands::HookCommand;
@@ -11,8 +11,7 @@ use insn::layout::Layout;
 /// The command about a file that a name, an option and the file's path name.
 pub fn with_option<'w>(name: &str, option: &str, word: &'w str) -> Option<Command<'w>>
     ensures named { IfSome result (λ command. words_of_command command ≡ name.now ∷ option.now ∷ word.now ∷ []) }
-    ensures none { IfNone result ((command : Command) → IsOptional command →
-        words_of_command command ≢ name.now ∷ option.now ∷ word.now ∷ []) }
+    ensures none { IfNone result (NameNoOptional (name.now ∷ option.now ∷ word.now ∷ [])) }
 {
     match (name, option) {
         ("list", "--slots") => Some(Command::Hook(HookCommand::ListSlots { path: word })),
@@ -37,8 +36,7 @@ pub fn to_trace<'w>(
 ) -> Option<Command<'w>>
     ensures named { IfSome result (λ command.
         words_of_command command ≡ name.now ∷ option.now ∷ code_hex.now ∷ record_hex.now ∷ []) }
-    ensures none { IfNone result ((command : Command) →
-        words_of_command command ≢ name.now ∷ option.now ∷ code_hex.now ∷ record_hex.now ∷ []) }
+    ensures none { IfNone result (NameNone (name.now ∷ option.now ∷ code_hex.now ∷ record_hex.now ∷ [])) }
 {
     match (name, option) {
         ("run", "--trace") => Some(Command::Hook(HookCommand::Trace {
@@ -52,7 +50,7 @@ pub fn to_trace<'w>(
 /// The command that a name and the words of an ask name.
 fn asking<'w>(name: &str, words: AskWords<'w>) -> Option<Command<'w>>
     ensures named { IfSome result (λ command. words_of_command command ≡ name.now ∷ ask_words words.entry) }
-    ensures none { IfNone result ((command : Command) → words_of_command command ≢ name.now ∷ ask_words words.entry) }
+    ensures none { IfNone result (NameNone (name.now ∷ ask_words words.entry)) }
 {
     let layout = match name {
         "ask" => Layout::V1,

@@ -5,10 +5,8 @@ ghost use Rattle.std.specs.Option.{option_copied};
 ghost use Rattle.oauthd.specs.Endings.{EndsCall, EndsWords};
 ghost use Rattle.oauthd.specs.Listening.{EndsService, FailsService, files_in, ServeEnded};
 ghost use Rattle.oauthd.specs.Outputs.{GetsText, output, outputs};
-ghost use Rattle.oauthd.specs.Performed.{EndsCommand};
-ghost use Rattle.oauthd.specs.Printed.{told_text};
+ghost use Rattle.oauthd.specs.Performed.{EndsCommand, IsTold};
 ghost use Rattle.oauthd.specs.Startings.{startings};
-ghost use Rattle.oauthd.specs.Statuses.{end_status};
 
 use crate::call::Call;
 use crate::call_files::{CallFiles, read_files};
@@ -118,8 +116,7 @@ pub fn write_text<W: Write, D: Display + Drop>(to: &mut W, text: D) -> io::Resul
 
 /// Reports a fault in one line, and gives the status that it has.
 pub fn report<E: Write>(fault: PerformFault<'_>, err: &mut E) -> Result<Status, Unwritten>
-    ensures { IfOk result (λ status.
-        (status ≡ end_status fault.entry) × GetsText (output E.contents err.old err.new) (told_text fault.entry)) }
+    ensures { IfOk result (λ status. IsTold fault.entry status (output E.contents err.old err.new)) }
 {
     match write_text(err, format_args!("oauthd: {fault}\n")) {
         Ok(()) => Ok(fault.status()),
@@ -129,8 +126,7 @@ pub fn report<E: Write>(fault: PerformFault<'_>, err: &mut E) -> Result<Status, 
 
 /// Tells a fault in one line, and says how the program then ends. A write that fails is bad use.
 pub fn told<E: Write>(fault: PerformFault<'_>, err: &mut E) -> Status
-    ensures { (result ≡ Status.BadUse)
-        ⊎ ((result ≡ end_status fault.entry) × GetsText (output E.contents err.old err.new) (told_text fault.entry)) }
+    ensures { (result ≡ Status.BadUse) ⊎ IsTold fault.entry result (output E.contents err.old err.new) }
 {
     match report(fault, err) {
         Ok(status) => status,

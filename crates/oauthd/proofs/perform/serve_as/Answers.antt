@@ -1,5 +1,6 @@
 use Rattle.std.proofs.Common.{◌≡◌, [], Err, IsSome, None, Some, inl, inr, map, refl, rules, subst}
 use Rattle.oauthd.specs.Config.{HoldsRegistry}
+use Rattle.oauthd.specs.Faults.{of_listening}
 use Rattle.oauthd.specs.Hooks.{AreFactsOf, hook_fact_of, in_file, TakesHooks}
 use Rattle.oauthd.proofs.Beginning.{anew, comes_of, on_state, refused_of}
 use Rattle.oauthd.proofs.perform.serve_as.Goals.{in-None+in_ok-fault-in-None, in-Some+in_ok-server-in-Some+in_ok-fault-in-Some}
@@ -32,6 +33,16 @@ returns-in_err-server-in-Some-clause-fault g c =
         named = named;
         refused = refused_of c.in_ok-registry.registry fault c.deref-in-Some.result.now c.in_ok-chain.field-0.codes.items same c.in_err-server-in-Some.ensures.refused;
       }))),
+    ))
+
+pub returns-in_err-fault-in-Some-clause-fault : goal.returns-in_err-fault-in-Some-clause-fault
+returns-in_err-fault-in-Some-clause-fault g c =
+    let cause = c.in_err-fault-in-Some.field-0.0 in
+    let is : c.from_residual-in_err-fault-in-Some.result ≡ Err (of_listening cause) = search rules in
+    let named : IsSome c.in-Start.given.options.state = search rules in
+    rw is (inl (
+      inr (record { given = c.in-Start.given; service_is = c.in-Start.is; named = named }),
+      inr (inr (inr (record { registry = c.in_ok-registry.registry; held = c.in_ok-registry.ensures.found; cause = cause; fault_is = refl }))),
     ))
 
 pub returns-clause-fault : goal.returns-clause-fault

@@ -34,13 +34,15 @@ pub returns-clause-started : goal.returns-clause-started
 returns-clause-started g c =
     let same : c.deref-2.result.now ≡ c.in_ok-device-2.field-0.bytes.items = search rules in
     let are : map hook_fact c.deref-3.result.now ≡ map hook_fact_of c.args.codes.now = ap (λ hooks. map hook_fact hooks) c.deref-3.ensures.value ∙ c.in_ok-hooks.ensures in
-    comes_narrowed _ c.args.registry c.in_ok-started.started c.in_ok-device.field-0 c.in_ok-device-2.field-0.ended c.in_ok-device-2.field-0.device c.in_ok-device-2.field-0.bytes.items
+    comes_narrowed _ c.args.registry c.in_ok-started.started c.in_ok-device.field-0 c.in_ok-device-2.field-0
     c.deref-2.result.now (map hook_fact c.deref-3.result.now) (map hook_fact_of c.args.codes.now) c.new.result c.new-2.result
     same are c.new.ensures c.new-2.ensures c.in_ok-device.ensures.same
     (record {
-      narrower = c.in_ok-device-2.ensures.narrower;
+      exact = c.in_ok-device-2.ensures.exact;
       left = c.in_ok-device-2.ensures.left;
       same = λ none. ap (λ (v : _). v.items) (c.in_ok-device-2.ensures.as_it_was none).1;
       crash = c.in_ok-device-2.ensures.any_moment;
     })
-    c.in_ok-started.ensures.serves c.in_ok-started.ensures.held c.in_ok-started.ensures.any_moment
+    (λ history stands was run. (c.in_ok-started.ensures.starts history stands was run).serves)
+    (λ history stands was run. (c.in_ok-started.ensures.starts history stands was run).held)
+    (λ history stands was run. (c.in_ok-started.ensures.starts history stands was run).meanwhile)
