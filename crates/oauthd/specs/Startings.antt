@@ -96,7 +96,7 @@ pub record ComesOfState {R : Type 0} (keeping : Crashes (BatchFile (DiskFile R))
 -- it served connections from there, and kept what happened in that file
 pub record HasResumed {N C J R : Type 0} (p : Promises N C J (BatchFile (DiskFile R)) (List Named)) (handed : Handed) (fault : LoopFault) : Type 0 where
   pub started : Started (DiskFile R) (List Named)
-  pub comes : ComesOfState p.keeping handed.registry handed.codes started
+  pub comes : ComesOfState p.keeping.crashes handed.registry handed.codes started
   pub gone_on : HasGoneOn p started.server started.keeper handed.patience fault
 
 -- no server is started on the bytes of the file, for this fault
