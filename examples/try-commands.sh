@@ -1,9 +1,9 @@
 #!/usr/bin/env bash
 # Runs the built program on each command, with files and with each status, and says what differs from what is written
 # here. It also compares the hooks of examples/hooks and the code of examples/c with their copies in the tests.
-# Build the program first: (cd crates/oauthd && rt run -- help).
+# Build the program first: (cd crates/oauthd && rt run -- help). The variable OAUTHD names another one.
+program=$(realpath -m "${OAUTHD:-$(dirname "$0")/../crates/oauthd/out/oauthd}")
 cd "$(dirname "$0")/.." || exit 2
-program=$PWD/crates/oauthd/out/oauthd
 tests=$PWD/crates/hook_rows/src/tests/examples.rt
 hooks=$PWD/examples/hooks
 hex_tests=$PWD/crates/hook_rows/src/tests/c_hooks.rt
