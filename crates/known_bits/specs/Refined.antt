@@ -1,27 +1,11 @@
 -- Words that are left where two are equal.
-use Rattle.std.specs.Prelude.{◌≡◌, ◌^◌, ℕ, Bool, true, false}
+use Rattle.std.specs.Prelude.{◌≡◌, ◌^◌, ℕ, Bool}
 use Rattle.insn.specs.declared.operation.Width.{Width}
 use Rattle.insn.specs.declared.operation.Cond.{Cond}
-use Rattle.insn.specs.declared.operation.Cond.TheVariants.{Eq, Gt, Ge, Set, Ne, Sgt, Sge, Lt, Le, Slt, Sle}
 use Rattle.insn.specs.Word.{seen, word_holds}
 use Rattle.range.specs.Domain.{IsSingle}
 use Rattle.known_bits.specs.declared.bits.KnownBits.{KnownBits}
 use Rattle.known_bits.specs.Members.{HasBits}
-
--- conditions and answers that say that two words are equal
-abbrev pub says_equal : Cond → Bool → Bool
-says_equal Eq taken = taken
-says_equal Ne true = false
-says_equal Ne false = true
-says_equal Gt taken = false
-says_equal Ge taken = false
-says_equal Set taken = false
-says_equal Sgt taken = false
-says_equal Sge taken = false
-says_equal Lt taken = false
-says_equal Le taken = false
-says_equal Slt taken = false
-says_equal Sle taken = false
 
 -- a word of one has a word of the other that a width sees alike
 pub record HasPartner (w : Width) (b : KnownBits) (x : ℕ) : Type 0 where

@@ -1,6 +1,8 @@
 //! Known bits as a domain.
 
 ghost use Rattle.std.specs.Prelude.{◌≡◌, ℕ, IsTrue, IsNone, IfSome};
+ghost use Rattle.range.specs.Conditions.{says_equal};
+ghost use Rattle.range.specs.Sets.{AreWithin};
 ghost use Rattle.range.specs.Domain.{IsJoin, IsRefined, IsSingle, IsSoundResult, IsSingleResult, IsSoundImage, IsSingleImage, unary_result};
 
 use crate::bits::KnownBits;
@@ -22,7 +24,7 @@ fn image_of_word(op: UnOp, width: Width, n: u64) -> u64
 impl Domain for KnownBits {
     ghost use Rattle.known_bits.specs.Members.{HasBits, IsLeastBitsJoin};
     ghost use Rattle.known_bits.specs.MemberLaws.{HasBits-words};
-    ghost use Rattle.known_bits.specs.Refined.{IsOneBit, IsDecided, IsTight, IsUnanswered, says_equal};
+    ghost use Rattle.known_bits.specs.Refined.{IsOneBit, IsDecided, IsTight, IsUnanswered};
     ghost use Rattle.known_bits.specs.Exact.{HasExactBits, IsExactImage};
 
     ghost Has = { HasBits };
@@ -84,6 +86,7 @@ impl Domain for KnownBits {
         taken: bool,
     ) -> Option<(KnownBits, KnownBits)>
         ensures kept { IsRefined HasBits cond width taken a b result }
+        ensures within { AreWithin HasBits a b result }
         ensures tight { IsTrue (says_equal cond taken) → IfSome result (IsTight width a b) }
         ensures single { (x y : ℕ) → IsUnanswered cond width taken a b x y → IsNone result }
         ensures settled { (k : ℕ) → cond ≡ Cond.Set → IsOneBit width b k → IfSome result (IsDecided cond width taken b) }

@@ -3,7 +3,8 @@
 ghost use Rattle.std.specs.Prelude.{◌≡◌, ◌<◌, ◌^◌, ℕ, IsTrue, IsNone, IfSome, true, false};
 ghost use Rattle.insn.specs.Word.{seen, word_holds};
 ghost use Rattle.range.specs.Domain.{IsRefined};
-ghost use Rattle.known_bits.specs.Refined.{says_equal};
+ghost use Rattle.range.specs.Sets.{AreWithin};
+ghost use Rattle.range.specs.Conditions.{says_equal};
 
 use crate::bits::KnownBits;
 use insn::operation::{Cond, Width};
@@ -33,6 +34,7 @@ impl KnownBits {
     /// What two words can be of which a width sees the same; `None` where they cannot.
     pub(crate) fn equal(width: Width, a: KnownBits, b: KnownBits) -> Option<(KnownBits, KnownBits)>
         ensures kept { IsRefined HasBits Cond.Eq width true a b result }
+        ensures within { AreWithin HasBits a b result }
         ensures tight { IfSome result (IsTight width a b) }
     {
         let left = KnownBits::meet(a, b.seen_alike(width));
@@ -47,6 +49,7 @@ impl KnownBits {
     /// What two words can be with no common bit that a width sees, where the right word is known.
     pub(crate) fn apart(width: Width, a: KnownBits, b: KnownBits) -> Option<(KnownBits, KnownBits)>
         ensures kept { IsRefined HasBits Cond.Set width false a b result }
+        ensures within { AreWithin HasBits a b result }
         ensures settled { (k : ℕ) → IsOneBit width b k → IfSome result (IsDecided Cond.Set width false b) }
     {
         let tests = b.in_width(width);
@@ -66,6 +69,7 @@ impl KnownBits {
         b: KnownBits,
     ) -> Option<(KnownBits, KnownBits)>
         ensures kept { IsRefined HasBits Cond.Set width true a b result }
+        ensures within { AreWithin HasBits a b result }
         ensures settled { (k : ℕ) → IsOneBit width b k → IfSome result (IsDecided Cond.Set width true b) }
     {
         let tests = b.in_width(width);
@@ -97,6 +101,7 @@ impl KnownBits {
         taken: bool,
     ) -> Option<(KnownBits, KnownBits)>
         ensures kept { IsRefined HasBits cond width taken a b result }
+        ensures within { AreWithin HasBits a b result }
         ensures tight { IsTrue (says_equal cond taken) → IfSome result (IsTight width a b) }
         ensures single { (x y : ℕ) → IsUnanswered cond width taken a b x y → IsNone result }
         ensures settled { (k : ℕ) → cond ≡ Cond.Set → IsOneBit width b k → IfSome result (IsDecided cond width taken b) }

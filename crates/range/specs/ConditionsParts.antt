@@ -4,14 +4,14 @@ use Rattle.insn.specs.declared.operation.Width.{Width}
 use Rattle.insn.specs.declared.operation.Cond.{Cond}
 use Rattle.insn.specs.declared.operation.Cond.TheVariants.{Set}
 use Rattle.insn.specs.Word.{int_width, holds_in}
-use Rattle.range.specs.Conditions.{IsUnsignedOrder, IsSignedOrder}
+use Rattle.range.specs.Conditions.{OrdersWords, OrdersSigned}
 
 -- a condition that holds where another one has an answer
 pub record IsMeant (c : Cond) (taken : Bool) (m : Cond) : Type 0 where
   pub holds : (w : Width) (x y : ℕ) → holds_in (int_width w) c x y ≡ taken → holds_in (int_width w) m x y ≡ true
   pub answers : (w : Width) (x y : ℕ) → holds_in (int_width w) m x y ≡ true → holds_in (int_width w) c x y ≡ taken
-  pub unsigned : IsUnsignedOrder c → IsUnsignedOrder m
-  pub signed : IsSignedOrder c → IsSignedOrder m
+  pub unsigned : OrdersWords c taken → OrdersWords m true
+  pub signed : OrdersSigned c taken → OrdersSigned m true
 
 -- no condition says that two words have no bit in common
 abbrev pub Means : Cond → Bool → Option Cond → Type 0

@@ -9,7 +9,7 @@ use Rattle.insn.specs.declared.operation.UnOp.{UnOp}
 use Rattle.insn.specs.declared.operation.UnOp.TheVariants.{Neg, Swap, Extend}
 use Rattle.insn.specs.Word.{word_holds, word_result}
 use Rattle.insn.specs.declared.operation.Cond.{Cond}
-use Rattle.range.specs.Conditions.{IsSignedOrder}
+use Rattle.range.specs.Conditions.{OrdersSigned}
 use Rattle.range.specs.Sets.{IsLeastRefined}
 use Rattle.range.specs.Domain.{unary_result}
 use Rattle.range.specs.declared.signed.SRange.{SRange}
@@ -69,6 +69,6 @@ pub record HaveOneEnds (r : SRange) (s : HalfRange) : Type 0 where
   pub least : r.least ≡ s.least
   pub greatest : r.greatest ≡ s.greatest
 
--- in 32 bits a comparison of signed numbers leaves its operands the least ranges of low halves
+-- in 32 bits an answer that orders signed numbers leaves the operands the least ranges of low halves
 abbrev pub IsLeastHalfRefined : Cond → Bool → HalfRange → HalfRange → Option (HalfRange × HalfRange) → Type 0
-IsLeastHalfRefined c taken a b r = IsSignedOrder c → IsLeastRefined InHalfRange (λ x y. word_holds W32 c x y ≡ taken) a b r
+IsLeastHalfRefined c taken a b r = OrdersSigned c taken → IsLeastRefined InHalfRange (λ x y. word_holds W32 c x y ≡ taken) a b r

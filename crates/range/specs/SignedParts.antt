@@ -1,5 +1,5 @@
 -- Beside Signed: only the contracts of this crate's own parts and their proofs cite this, no public clause.
-use Rattle.std.specs.Prelude.{ℕ, ◌<◌, ◌<ℤ◌, ◌≤ℤ◌, Option, Some, None}
+use Rattle.std.specs.Prelude.{ℕ, ◌<ℤ◌, ◌≤ℤ◌, Option, Some, None}
 use Rattle.std.specs.Int.{w64, cast_signed}
 use Rattle.range.specs.declared.signed.SRange.{SRange}
 use Rattle.range.specs.declared.unsigned.URange.{URange}

@@ -1,15 +1,13 @@
 -- What is known of a register, and what it holds.
 -- Read with `exact`, it is said of shapes: the register holds the one thing that is described, but for the amounts of numbers.
 use Rattle.std.specs.Prelude.{◌≡◌, ℕ, ◌≤◌, ◌&&◌, nat_le, Bool, true, false, Option, Some, None, min, max}
-use Rattle.insn.specs.declared.operation.Cond.{Cond}
-use Rattle.insn.specs.declared.operation.Width.{Width}
-use Rattle.insn.specs.Word.{word_holds}
 use Rattle.insn.specs.declared.state.Region.{Region}
 use Rattle.insn.specs.declared.state.Region.TheVariants.{Record as InRecord, Stack as InStack}
 use Rattle.insn.specs.declared.state.Value.{Value}
 use Rattle.insn.specs.declared.state.Value.TheVariants.{Number as IsNumber, Address}
 use Rattle.scalar.specs.declared.scalar.Scalar.{Scalar}
 use Rattle.scalar.specs.Members.{InScalar}
+use Rattle.scalar.specs.Narrowed.{Answer, AreNarrowed, HaveAnswer}
 use Rattle.reg_kind.specs.declared.span.Span.{Span}
 use Rattle.reg_kind.specs.declared.reg.Reg.{Reg}
 use Rattle.reg_kind.specs.declared.reg.Reg.TheVariants.{Unset, Number, Record, Stack}
@@ -90,15 +88,20 @@ IsKindCover a b answer = answer ≡ false
 
 -- ---- comparisons
 
--- registers hold two numbers for which a condition has an answer
-pub record IsAnswered (cond : Cond) (w : Width) (taken : Bool) (a b : Reg) (x y : ℕ) : Type 0 where
+-- registers hold two numbers that have an answer
+pub record IsAnswered (t : Answer) (a b : Reg) (x y : ℕ) : Type 0 where
   pub left : RegFits false a (Some (IsNumber x))
   pub right : RegFits false b (Some (IsNumber y))
-  pub answer : word_holds w cond x y ≡ taken
+  pub answer : HaveAnswer t x y
 
--- a comparison keeps all numbers for which it has an answer, and every shape; none where there are no such numbers
-abbrev pub IsRegRefined : Cond → Width → Bool → Reg → Reg → Option (Reg × Reg) → Type 0
-IsRegRefined cond w taken a b None = (x y : ℕ) → IsAnswered cond w taken a b x y → ⊥
-IsRegRefined cond w taken a b (Some r) =
-    ((x y : ℕ) → IsAnswered cond w taken a b x y → RegFits false r.0 (Some (IsNumber x)) × RegFits false r.1 (Some (IsNumber y)))
+-- a comparison keeps all numbers that have its answer, and every shape; none where there are no such numbers
+abbrev pub IsRegRefined : Answer → Reg → Reg → Option (Reg × Reg) → Type 0
+IsRegRefined t a b None = (x y : ℕ) → IsAnswered t a b x y → ⊥
+IsRegRefined t a b (Some r) =
+    ((x y : ℕ) → IsAnswered t a b x y → RegFits false r.0 (Some (IsNumber x)) × RegFits false r.1 (Some (IsNumber y)))
     × ((o : Option Value) → RegFits true a o → RegFits true r.0 o) × ((o : Option Value) → RegFits true b o → RegFits true r.1 o)
+
+-- of two numbers it leaves what the answer leaves of their values; other registers stay as they are
+abbrev pub IsKindRefined : Answer → Reg → Reg → Reg × Reg → Type 0
+IsKindRefined t (Number a) (Number b) r = (c : Scalar) × (d : Scalar) × (r ≡ (Number c, Number d)) × AreNarrowed t a b (c, d)
+IsKindRefined t a b r = r ≡ (a, b)

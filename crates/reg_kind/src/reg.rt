@@ -1,8 +1,8 @@
 //! What is known of a register, or of eight bytes that hold what a register held.
 
-ghost use Rattle.std.specs.Prelude.{◌≡◌, Some, IsTrue};
+ghost use Rattle.std.specs.Prelude.{◌≡◌, Some, IfSome, IsTrue};
 ghost use Rattle.insn.specs.declared.state.Value.TheVariants.{Number as IsNumber};
-ghost use Rattle.reg_kind.specs.Fits.{IsKindCover, IsRegJoin, IsKindJoin, IsRegRefined};
+ghost use Rattle.reg_kind.specs.Fits.{IsKindCover, IsRegJoin, IsKindJoin, IsKindRefined, IsRegRefined};
 ghost use Rattle.reg_kind.specs.Operations.{copy_of, in_region, IsComputed, IsDifference, IsKindResult, IsKnownNumber, IsPointerDifference, IsPointerSum, IsRegSum, IsNumberOf, IsResult, IsImage, IsKindImage, number_in_reg};
 ghost use Rattle.reg_kind.specs.Accesses.{IsAccess, place_behind};
 ghost use Rattle.insn.specs.Instruction.{size_bytes};
@@ -188,7 +188,8 @@ impl Reg {
     /// What two numbers can still be where a condition of them has this answer; `None` where it never has it.
     /// Registers of which one holds no number stay as they are.
     pub fn refine(cond: Cond, width: Width, a: Reg, b: Reg, taken: bool) -> Option<(Reg, Reg)>
-        ensures { IsRegRefined cond width taken a b result }
+        ensures right { IsRegRefined (record { cond = cond; width = width; taken = taken }) a b result }
+        ensures kinds { IfSome result (IsKindRefined (record { cond = cond; width = width; taken = taken }) a b) }
     {
         let (Reg::Number(x), Reg::Number(y)) = (a, b) else {
             return Some((a, b));

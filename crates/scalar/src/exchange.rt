@@ -22,10 +22,12 @@ fn low_halves(bits: KnownBits) -> HalfRange
 
 impl Scalar {
     ghost use Rattle.scalar.specs.Members.{InScalar, ShowsOne, HasSame};
+    ghost use Rattle.scalar.specs.Bounds.{least_word, greatest_word};
 
     /// The word that its unsigned range is alone.
     pub(crate) fn only(self) -> Option<u64>
         ensures some { IfSome result (λ n. (x : ℕ) → InScalar self x → x ≡ n) }
+        ensures ends { IfSome result (λ n. (least_word self ≡ n) × (greatest_word self ≡ n)) }
         ensures single { (x : ℕ) → ShowsOne self x → result ≡ Some x }
     {
         let least = self.unsigned.least();

@@ -1,8 +1,9 @@
 //! An unsigned range, a signed range, known bits and a range of low halves of one word.
 
-ghost use Rattle.std.specs.Prelude.{◌≡◌, ◌<◌, ◌≤◌, ◌≤ℤ◌, ℕ, true};
+ghost use Rattle.std.specs.Prelude.{◌≡◌, ◌<◌, ◌≤◌, ◌^◌, ◌≤ℤ◌, ℕ, Bool, IfSome, true};
 ghost use Rattle.std.specs.Int.{w64, cast_signed};
 ghost use Rattle.insn.specs.Word.{word_holds, word_result};
+ghost use Rattle.range.specs.Conditions.{OrdersWords};
 
 use insn::operation::{BinOp, Cond, UnOp, Width};
 use known_bits::KnownBits;
@@ -14,7 +15,8 @@ use word::{alu, extend, neg, swap};
 
 /// Words below this answer a condition as their low halves do.
 fn plain_below(cond: Cond) -> u64
-    ensures { (x y : ℕ) → x < result → y < result → word_holds Width.W32 cond x y ≡ word_holds Width.W64 cond x y }
+    ensures alike { (x y : ℕ) → x < result → y < result → word_holds Width.W32 cond x y ≡ word_holds Width.W64 cond x y }
+    ensures whole { (taken : Bool) → OrdersWords cond taken → result ≡ 2 ^ 32 }
 {
     match cond {
         Cond::Eq | Cond::Gt | Cond::Ge | Cond::Set | Cond::Ne | Cond::Lt | Cond::Le =>
@@ -73,6 +75,9 @@ impl Scalar {
 impl Domain for Scalar {
     ghost use Rattle.scalar.specs.Members.{InScalar, ShowsOne};
     ghost use Rattle.scalar.specs.MemberLaws.{InScalar-words, shows_one};
+    ghost use Rattle.scalar.specs.Narrowed.{AreNarrowed, LiesInLeastSum};
+    ghost use Rattle.range.specs.Domain.{IsRefined, IsSoundResult, IsSingleResult};
+    ghost use Rattle.range.specs.Sets.{AreWithin};
 
     ghost Has = { InScalar };
 
@@ -100,7 +105,11 @@ impl Domain for Scalar {
         self.unsigned.has(n) && self.signed.has(n) && self.bits.has(n) && self.half.has(n)
     }
 
-    fn apply(op: BinOp, width: Width, a: Scalar, b: Scalar) -> Scalar {
+    fn apply(op: BinOp, width: Width, a: Scalar, b: Scalar) -> Scalar
+        ensures sound { IsSoundResult InScalar op width a b result }
+        ensures single { IsSingleResult ShowsOne op width a b result }
+        ensures sums { LiesInLeastSum op width a b result }
+    {
         match (a.only(), b.only()) {
             (Some(left), Some(right)) => Scalar::exact(alu(width, op, left, right)),
             _ => Scalar {
@@ -146,7 +155,11 @@ impl Domain for Scalar {
         a: Scalar,
         b: Scalar,
         taken: bool,
-    ) -> Option<(Scalar, Scalar)> {
+    ) -> Option<(Scalar, Scalar)>
+        ensures kept { IsRefined InScalar cond width taken a b result }
+        ensures within { AreWithin InScalar a b result }
+        ensures narrowed { IfSome result (AreNarrowed (record { cond = cond; width = width; taken = taken }) a b) }
+    {
         let asked = Scalar::width_asked(cond, width, a, b);
         let (left, right) = Scalar::refined_by_parts(cond, asked, a, b, taken)?;
         let (left, right) = Scalar::refined_by_halves(cond, width, left, right, taken)?;
@@ -160,13 +173,15 @@ impl Domain for Scalar {
 
 impl Scalar {
     ghost use Rattle.scalar.specs.Members.{InScalar, IsAskedAlike};
+    ghost use Rattle.scalar.specs.NarrowedParts.{AreHalvesNarrowed, ArePartsNarrowed, IsWidthAsked};
     ghost use Rattle.range.specs.Domain.{IsRefined};
     ghost use Rattle.range.specs.Signed.{InSignedRange};
 
     /// The width in which a condition is asked of each of the three: where no member has a bit that the low half
     /// leaves out or reads as a sign, a condition of low halves is one of whole words.
     fn width_asked(cond: Cond, width: Width, a: Scalar, b: Scalar) -> Width
-        ensures { IsAskedAlike cond width result a b }
+        ensures alike { IsAskedAlike cond width result a b }
+        ensures asked { IsWidthAsked width result cond a b }
     {
         let plain = plain_below(cond);
         if a.unsigned.greatest() < plain && b.unsigned.greatest() < plain {
@@ -200,7 +215,8 @@ impl Scalar {
         b: Scalar,
         taken: bool,
     ) -> Option<(Scalar, Scalar)>
-        ensures { IsRefined InScalar cond width taken a b result }
+        ensures kept { IsRefined InScalar cond width taken a b result }
+        ensures narrowed { IfSome result (AreHalvesNarrowed (record { cond = cond; width = width; taken = taken }) a b) }
     {
         let (left, right) = HalfRange::refine(cond, width, a.half, b.half, taken)?;
         Some((Scalar { half: left, ..a }, Scalar { half: right, ..b }))
@@ -214,7 +230,8 @@ impl Scalar {
         b: Scalar,
         taken: bool,
     ) -> Option<(Scalar, Scalar)>
-        ensures { IsRefined InScalar cond width taken a b result }
+        ensures kept { IsRefined InScalar cond width taken a b result }
+        ensures narrowed { IfSome result (ArePartsNarrowed (record { cond = cond; width = width; taken = taken }) a b) }
     {
         let unsigned = URange::refine(cond, width, a.unsigned, b.unsigned, taken)?;
         let signed = SRange::refine(cond, width, a.signed, b.signed, taken)?;

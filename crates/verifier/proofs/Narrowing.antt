@@ -1,10 +1,11 @@
 -- What a link leaves of what is known of its two registers.
-use Rattle.std.proofs.Common.{◌≡◌, ℕ, ◌<◌, Bool, true, false, List, Option, Some, None, get_or, set, length, refl, sym, ◌∙◌, subst}
+use Rattle.std.proofs.Common.{◌≡◌, ℕ, ◌+◌, ◌<◌, Bool, true, false, List, Option, Some, None, get_or, set, length, refl, sym, ◌∙◌, subst}
 use Rattle.std.proofs.lemmas.List.{length-set}
 use Rattle.insn.specs.declared.layout.Layout.{Layout}
 use Rattle.insn.specs.declared.state.Value.{Value}
 use Rattle.insn.specs.declared.state.Value.TheVariants.{Number, Address}
 use Rattle.insn.specs.Instruction.{reg_number}
+use Rattle.insn.specs.declared.register.RegNo.{RegNo}
 use Rattle.insn.specs.Values.{State, value_of}
 use Rattle.scalar.specs.declared.scalar.Scalar.{Scalar}
 use Rattle.reg_kind.specs.declared.reg.Reg.{Reg as Kind}
@@ -14,8 +15,9 @@ use Rattle.verifier.specs.declared.known.Known.{Known}
 use Rattle.verifier.specs.declared.known.Test.{Test}
 use Rattle.verifier.specs.declared.link.Link.{Link}
 use Rattle.verifier.specs.Fits.{StateFits}
-use Rattle.verifier.specs.Follows.{IsTested, reg_of}
-use Rattle.verifier.specs.Links.{AreValuesLinked, LinkHolds, link_at}
+use Rattle.verifier.specs.Follows.{reg_of}
+use Rattle.verifier.specs.Learnt.{IsSpreadFromBoth, IsCompared, IsSpreadBelow, IsSpread, IsTested, KeepsAnswered, MaySpread, SpreadOne}
+use Rattle.verifier.specs.Links.{AreValuesLinked, LinkHolds, joining, link_at}
 use Rattle.verifier.specs.LinksParts.{AreNumbersRefined, IsLinkRefined, IsNarrowed, IsNarrowedOrNone}
 use Rattle.verifier.specs.Shows.{RegShows}
 use Rattle.verifier.proofs.Linked.{links_same}
@@ -113,7 +115,20 @@ pub narrowed_then : (a b c : Known) (t : Bool) → IsNarrowed a b → IsNarrowed
 narrowed_then a b c true h g = narrowed_twice a b c h g
 narrowed_then a b c false h g = λ layout s f. g layout s (h.states layout s f)
 
+pub spread_one : (r : RegNo) (a b c : Known) (k : ℕ) (link : Link) → IsSpreadBelow r a k b → joining r k (link_at b.links k) ≡ Some link → IsSpread link k b c → IsSpreadBelow r a (k + 1) c
+spread_one r a b c k link h e one = SpreadOne h (subst (λ (o : Option Link). MaySpread o k b c) (sym e) one)
+
+pub spread_none : (r : RegNo) (a b : Known) (k : ℕ) → IsSpreadBelow r a k b → joining r k (link_at b.links k) ≡ None → IsSpreadBelow r a (k + 1) b
+spread_none r a b k h e = SpreadOne h (subst (λ (o : Option Link). MaySpread o k b b) (sym e) refl)
+
 -- a test, and then what links leave
-pub tested_then : (test : Test) (answer : Bool) (a b c : Known) (t : Bool) → IsTested test answer a b true → IsNarrowedOrNone b c t → IsTested test answer a c t
-tested_then test answer a b c true h g = (λ layout s f e. g.states layout s (h.0 layout s f e), λ layout s f. g.shapes layout s (h.1 layout s f), λ layout s f. g.shown layout s (h.2 layout s f))
-tested_then test answer a b c false h g = λ layout s f e. g layout s (h.0 layout s f e)
+pub tested_then : (test : Test) (answer : Bool) (a b c : Known) (t : Bool) → KeepsAnswered test answer a b → IsCompared test answer a b → IsNarrowedOrNone b c t → (t ≡ true → IsSpreadFromBoth test b c) → IsTested test answer a c t
+tested_then test answer a b c true h two g spread = (
+  record {
+    states = λ layout s f e. g.states layout s (h.states layout s f e);
+    shapes = λ layout s f. g.shapes layout s (h.shapes layout s f);
+    shown = λ layout s f. g.shown layout s (h.shown layout s f);
+  },
+  record { between = b; two = two; linked = spread refl },
+)
+tested_then test answer a b c false h two g spread = λ layout s f e. g layout s (h.states layout s f e)

@@ -28,7 +28,8 @@ use Rattle.verifier.specs.declared.known.Test.{Test}
 use Rattle.verifier.specs.declared.known.Flow.{Flow}
 use Rattle.verifier.specs.declared.known.Flow.TheVariants.{Next, Jump, Branch, Exit}
 use Rattle.verifier.specs.Fits.{StateFits}
-use Rattle.verifier.specs.Follows.{FlowOf, IsEntry, IsJoined, IsLearnt, goes_behind}
+use Rattle.verifier.specs.Follows.{FlowOf, IsEntry, IsJoined, goes_behind}
+use Rattle.verifier.specs.Learnt.{IsLearnt}
 use Rattle.verifier.specs.Kinds.{LeavesKnown}
 use Rattle.verifier.specs.Shows.{RegShows, StateShows}
 use Rattle.verifier.specs.Typing.{GoesTyped, HasTyping, IsTyping, MayCome}
@@ -109,7 +110,7 @@ module _ (layout : Layout) (typing : ℕ → Option State) where
 
   learnt_shown : (w w' : List (Option Known)) (from to : ℕ) (test : Test) (answer : Bool) (next : Known) (o : Option Known) → from ≤ to → IsLearnt test answer next o → MayPush w to o w' → IsShownAt to next → AllShown from w → AllShown from w'
   learnt_shown w w' from to test answer next None le learnt p new old = rw p old
-  learnt_shown w w' from to test answer next (Some a) le learnt p new old = pushed_shown w w' from to a le p (record { shape = new.shape; is = new.is; shows = learnt.2 layout new.shape new.shows }) old
+  learnt_shown w w' from to test answer next (Some a) le learnt p new old = pushed_shown w w' from to a le p (record { shape = new.shape; is = new.is; shows = learnt.0.shown layout new.shape new.shows }) old
 
 -- ---- the walk
 

@@ -1,5 +1,5 @@
 -- Beside Follows: only the contracts of this crate's own parts and their proofs cite this, no public clause.
-use Rattle.std.specs.Prelude.{◌≡◌, ◌≢◌, ℕ, ◌+◌, ◌≤◌, Bool, true, false, List, slice_set, ℤ, Option, Some, Result, Ok, Err}
+use Rattle.std.specs.Prelude.{◌≡◌, ◌≢◌, ℕ, ◌+◌, ◌≤◌, Bool, true, false, List, ℤ, Option, Some, Result, Ok, Err}
 use Rattle.insn.specs.declared.register.RegNo.{RegNo}
 use Rattle.insn.specs.declared.layout.Layout.{Layout}
 use Rattle.insn.specs.declared.verify_fault.WalkFault.{WalkFault}
@@ -15,7 +15,7 @@ use Rattle.insn.specs.declared.operation.SignedSize.{SignedSize}
 use Rattle.insn.specs.declared.operation.UnOp.{UnOp}
 use Rattle.insn.specs.declared.state.Value.TheVariants.{Number}
 use Rattle.range.specs.Domain.{unary_result}
-use Rattle.insn.specs.Instruction.{read_bits, read_size, reg_number, size_bytes}
+use Rattle.insn.specs.Instruction.{read_bits, read_size, size_bytes}
 use Rattle.reg_kind.specs.declared.reg.Reg.{Reg as Kind}
 use Rattle.reg_kind.specs.Fits.{HasFit, SpanFits, ValueFits}
 use Rattle.reg_kind.specs.declared.place.Place.{Place}
@@ -81,11 +81,6 @@ IsLoaded layout known size src offset (Ok value) =
 IsLoaded layout known size src offset (Err fault) =
     (fault ≢ FallsOff)
     × ((s : State) → StateFits true layout known s → first_of (load_tests layout s (value_of s.registers src) offset (size_bytes size)) ≡ Some fault)
-
--- registers of which an operand is set
-abbrev pub operand_set : List Kind → Operand → Kind → List Kind
-operand_set registers (Reg r) value = slice_set registers (reg_number r) value
-operand_set registers (Imm imm) value = registers
 
 -- what is known of two numbers that are compared
 abbrev pub IsBranch : Known → Test → ℤ → Result Flow WalkFault → Type 0

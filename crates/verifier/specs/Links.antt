@@ -44,6 +44,11 @@ abbrev pub link_left : RegNo → ℕ → Option Link → Option Link
 link_left written k None = None
 link_left written k (Some link) = if reg_number written == k || reg_number written == reg_number link.of then None else Some link
 
+-- a link of register k, where that or the other of its two is a register
+abbrev pub joining : RegNo → ℕ → Option Link → Option Link
+joining r k None = None
+joining r k (Some link) = if reg_number r == k || reg_number r == reg_number link.of then Some link else None
+
 abbrev pub AreLeft : RegNo → Links → Links → Type 0
 AreLeft written old new = (k : ℕ) → k < 11 → link_at new k ≡ link_left written k (link_at old k)
 

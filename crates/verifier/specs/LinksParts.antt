@@ -11,6 +11,8 @@ use Rattle.verifier.specs.declared.known.Known.{Known}
 use Rattle.verifier.specs.declared.link.Link.{Link}
 use Rattle.verifier.specs.Fits.{StateFits}
 use Rattle.verifier.specs.Links.{AreLinked, AreValuesLinked}
+use Rattle.verifier.specs.Learnt.{IsLearnt, KeepsAnswered}
+use Rattle.verifier.specs.declared.known.Test.{Test}
 use Rattle.verifier.specs.Shows.{StateShows}
 
 -- two sets keep all numbers that are linked; none where there are no such numbers
@@ -32,6 +34,11 @@ pub record IsNarrowed (known new : Known) : Type 0 where
   pub shown : (layout : Layout) (s : State) → StateShows layout known s → StateShows layout new s
   pub stack : new.stack ≡ known.stack
   pub links : new.links ≡ known.links
+
+-- all states that are known and of which a test has an answer stay known; none where it never has it
+abbrev pub IsKept : Test → Bool → Known → Known → Bool → Type 0
+IsKept test answer known new true = KeepsAnswered test answer known new
+IsKept test answer known new false = IsLearnt test answer known None
 
 -- what links leave of what is known, or that it is known of no state
 abbrev pub IsNarrowedOrNone : Known → Known → Bool → Type 0

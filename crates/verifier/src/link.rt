@@ -2,8 +2,9 @@
 
 ghost use Rattle.std.specs.Prelude.{◌≡◌, ◌<◌, ℕ, None, Some, if◌then◌else◌, IfNone, IfSome, length, slice_index_or, true};
 ghost use Rattle.insn.specs.Instruction.{reg_number};
-ghost use Rattle.verifier.specs.Links.{AreLeft, AreLinksJoined, AreMade, IsLinkJoin, copied, lesser, link_at, link_left, link_made, link_of as spec_link_of, raised, raised_of};
+ghost use Rattle.verifier.specs.Links.{AreLeft, AreLinksJoined, AreMade, IsLinkJoin, copied, joining as spec_joining, lesser, link_at, link_left, link_made, link_of as spec_link_of, raised, raised_of};
 ghost use Rattle.verifier.specs.LinksParts.{AreNumbersRefined, IsLinkRefined};
+ghost use Rattle.verifier.specs.Learnt.{AreLinkNarrowed, IsLinkNarrowed};
 
 use insn::instruction::Insn;
 use insn::operation::{AluOp, BinOp, Cond, Width};
@@ -72,7 +73,8 @@ impl Link {
 
     /// Whether a link of a register joins another one, or this is its own: then it is lost when that is written.
     fn joins(link: Option<Link>, other: RegNo, number: usize) -> bool
-        ensures { link_left other number link ≡ (if result then None else link) }
+        ensures left { link_left other number link ≡ (if result then None else link) }
+        ensures joined { spec_joining other number link ≡ (if result then link else None) }
     {
         let other = other.number();
         match link {
@@ -83,7 +85,8 @@ impl Link {
 
     /// What two linked numbers can still be; `None` where there are none.
     fn refine_numbers(self, a: Scalar, b: Scalar) -> Option<(Scalar, Scalar)>
-        ensures { AreNumbersRefined self a b result }
+        ensures right { AreNumbersRefined self a b result }
+        ensures narrowed { IfSome result (AreLinkNarrowed self a b) }
     {
         let plus = Scalar::exact(self.plus);
         let sums = Scalar::apply(BinOp::Add, self.width, a, plus);
@@ -96,7 +99,8 @@ impl Link {
     /// What the two registers can still hold; `None` where there is nothing. Those of which one holds no number stay
     /// as they are.
     pub(crate) fn refine(self, of: Reg, register: Reg) -> Option<(Reg, Reg)>
-        ensures { IsLinkRefined self of register result }
+        ensures right { IsLinkRefined self of register result }
+        ensures kinds { IfSome result (IsLinkNarrowed self of register) }
     {
         let (Reg::Number(a), Reg::Number(b)) = (of, register) else {
             return Some((of, register));
@@ -136,7 +140,7 @@ impl Links {
     pub(crate) fn joining(&self, register: RegNo, number: usize) -> Option<Link>
         requires { number < 11 }
         ensures own { IfSome result (λ link. link_at self.now number ≡ Some link) }
-        ensures others { IfNone result (link_left register number (link_at self.now number) ≡ link_at self.now number) }
+        ensures joining { result ≡ spec_joining register number (link_at self.now number) }
     {
         let link = self.at(number);
         if Link::joins(link, register, number) {

@@ -1,10 +1,10 @@
 //! The operations of a machine on low halves between bounds.
 
-ghost use Rattle.std.specs.Prelude.{◌≡◌, ◌<◌, ◌^◌, ◌↔◌, ℕ, bit_and, true};
+ghost use Rattle.std.specs.Prelude.{◌≡◌, ◌<◌, ◌^◌, ◌↔◌, ℕ, IsTrue, bit_and, true};
 ghost use Rattle.insn.specs.Word.{word_extended, word_result};
-ghost use Rattle.range.specs.Conditions.{HasAnswer};
+ghost use Rattle.range.specs.Conditions.{HasAnswer, says_equal};
 ghost use Rattle.range.specs.Domain.{unary_result, IsSoundResult, IsSoundImage, IsJoin, IsRefined};
-ghost use Rattle.range.specs.Sets.{IsLeastJoin};
+ghost use Rattle.range.specs.Sets.{AreWithin, IsLeastJoin};
 
 use crate::domain::Domain;
 use crate::half::HalfRange;
@@ -94,7 +94,8 @@ impl HalfRange {
         b: HalfRange,
         taken: bool,
     ) -> Option<(HalfRange, HalfRange)>
-        ensures refined { IsRefined InHalfRange cond Width.W32 taken a b result }
+        ensures kept { IsRefined InHalfRange cond Width.W32 taken a b result }
+        ensures within { AreWithin InHalfRange a b result }
         ensures least { IsLeastHalfRefined cond taken a b result }
     {
         let (left, right) = SRange::refine(cond, Width::W64, a.signed(), b.signed(), taken)?;
@@ -103,7 +104,8 @@ impl HalfRange {
 
     /// Whether an answer to a condition says that two words are one.
     fn says_equal(cond: Cond, taken: bool) -> bool
-        ensures { result ≡ true → (x y : ℕ) → HasAnswer cond taken x y → x ≡ y }
+        ensures words { result ≡ true → (x y : ℕ) → HasAnswer cond taken x y → x ≡ y }
+        ensures answer { result ≡ says_equal cond taken }
     {
         match (cond, taken) {
             (Cond::Eq, true) => true,
@@ -120,8 +122,10 @@ impl HalfRange {
         b: HalfRange,
         taken: bool,
     ) -> Option<(HalfRange, HalfRange)>
-        ensures refined { IsRefined InHalfRange cond width taken a b result }
+        ensures kept { IsRefined InHalfRange cond width taken a b result }
+        ensures within { AreWithin InHalfRange a b result }
         ensures least { width ≡ Width.W32 → IsLeastHalfRefined cond taken a b result }
+        ensures equal { width ≡ Width.W64 → IsTrue (says_equal cond taken) → IsLeastHalfRefined Cond.Eq true a b result }
     {
         match width {
             Width::W32 => HalfRange::answered(cond, a, b, taken),

@@ -1,9 +1,9 @@
 //! The operations of a machine on signed words between bounds.
 
 ghost use Rattle.std.specs.Prelude.{◌≡◌, ◌<◌, ◌^◌, ◌↔◌, ℕ, IsTrue};
-ghost use Rattle.range.specs.Conditions.{HasAnswer, IsSignedOrder};
+ghost use Rattle.range.specs.Conditions.{HasAnswer, OrdersSigned};
 ghost use Rattle.range.specs.Domain.{unary_result, IsSoundResult, IsSoundImage, IsSingle, IsSingleResult, IsSingleImage, IsJoin, IsRefined};
-ghost use Rattle.range.specs.Sets.{IsLeastJoin, IsLeastRefined};
+ghost use Rattle.range.specs.Sets.{AreWithin, IsLeastJoin, IsLeastRefined};
 
 use crate::condition::meant;
 use crate::domain::Domain;
@@ -45,8 +45,9 @@ impl SRange {
 
     /// The pairs of words for which a condition has an answer.
     fn answered(cond: Cond, a: SRange, b: SRange, taken: bool) -> Option<(SRange, SRange)>
-        ensures refined { IsRefined InSignedRange cond Width.W64 taken a b result }
-        ensures least { IsSignedOrder cond → IsLeastRefined InSignedRange (HasAnswer cond taken) a b result }
+        ensures kept { IsRefined InSignedRange cond Width.W64 taken a b result }
+        ensures within { AreWithin InSignedRange a b result }
+        ensures least { OrdersSigned cond taken → IsLeastRefined InSignedRange (HasAnswer cond taken) a b result }
     {
         match meant(cond, taken) {
             Some(holding) => SRange::related(holding, a, b),
@@ -109,7 +110,8 @@ impl Domain for SRange {
         b: SRange,
         taken: bool,
     ) -> Option<(SRange, SRange)>
-        ensures refined { IsRefined InSignedRange cond width taken a b result }
+        ensures kept { IsRefined InSignedRange cond width taken a b result }
+        ensures within { AreWithin InSignedRange a b result }
         ensures least { IsLeastSignedCompared cond width taken a b result }
     {
         match width {

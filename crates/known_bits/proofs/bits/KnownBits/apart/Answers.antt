@@ -39,3 +39,6 @@ pub returns-then-tests-ne0-clause-settled : goal.returns-then-tests-ne0-clause-s
 returns-then-tests-ne0-clause-settled c k one =
     let known : c.in_width-tests.result.mask ≡ 0 = c.in_width-tests.ensures.mask ∙ ap (seen c.args.width) one.known ∙ seen_zero c.args.width in
     absurd (c.if-tests-ne0.true known)
+
+pub returns-in-Some-clause-within : goal.returns-in-Some-clause-within
+returns-in-Some-clause-within c = (λ x h. ((c.in-Some.ensures x).0 h).0, λ x h. h)

@@ -29,3 +29,9 @@ returns-in-Some-Some-clause-tight c = record {
       let both = ((rw c.in-Some-Some.is-1 at c.meet-right.ensures) y).0 h in
       (both.0, c.seen_alike-2.ensures.partner y both.1);
 }
+
+pub returns-in-Some-Some-clause-within : goal.returns-in-Some-Some-clause-within
+returns-in-Some-Some-clause-within c = (
+  λ x h. (((rw c.in-Some-Some.is-0 at c.meet-left.ensures) x).0 h).0,
+  λ y h. (((rw c.in-Some-Some.is-1 at c.meet-right.ensures) y).0 h).0,
+)

@@ -44,3 +44,6 @@ pub returns-in-None-clause-settled : goal.returns-in-None-clause-settled
 returns-in-None-clause-settled c k one =
     let known : c.in_width-tests.result.mask ≡ 0 = c.in_width-tests.ensures.mask ∙ ap (seen c.args.width) one.known ∙ seen_zero c.args.width in
     absurd (c.in-None.ensures.none k known (c.in_width-tests.ensures.value ∙ one.one))
+
+pub returns-in-Some-meet-clause-within : goal.returns-in-Some-meet-clause-within
+returns-in-Some-meet-clause-within c = (λ x h. ((c.in-Some-meet.ensures x).0 h).0, λ x h. h)

@@ -11,5 +11,5 @@ met_by : (a o : SRange) (b : URange) (r : Option SRange) → ((x : ℕ) → InRa
 met_by a o b None to h = λ x hx hy. h x hx (to x hy)
 met_by a o b (Some r) to h = λ x hx hy. (h x).1 (hx, to x hy)
 
-pub returns : goal.returns
-returns c = met_by _ _ _ _ c.of_unsigned.ensures c.meet.ensures
+pub returns-clause-kept : goal.returns-clause-kept
+returns-clause-kept c = met_by _ _ _ _ c.of_unsigned.ensures c.meet.ensures

@@ -1,0 +1,131 @@
+-- What a test teaches: of the two numbers that it compares, and of those that are linked to them.
+use Rattle.std.specs.Prelude.{◌≡◌, ◌≢◌, ℕ, ◌+◌, Bool, true, false, List, slice_set, Option, Some, None}
+use Rattle.insn.specs.declared.register.RegNo.{RegNo}
+use Rattle.insn.specs.declared.instruction.Operand.{Operand}
+use Rattle.insn.specs.declared.instruction.Operand.TheVariants.{Reg, Imm}
+use Rattle.insn.specs.declared.layout.Layout.{Layout}
+use Rattle.insn.specs.declared.operation.BinOp.{BinOp}
+use Rattle.insn.specs.declared.operation.BinOp.TheVariants.{Add, Sub}
+use Rattle.insn.specs.declared.operation.Cond.TheVariants.{Eq}
+use Rattle.insn.specs.declared.operation.Width.{Width}
+use Rattle.insn.specs.Instruction.{reg_number}
+use Rattle.insn.specs.Values.{State}
+use Rattle.range.specs.Domain.{IsSingleResult, IsSoundResult}
+use Rattle.scalar.specs.declared.scalar.Scalar.{Scalar}
+use Rattle.scalar.specs.Members.{InScalar, ShowsOne}
+use Rattle.scalar.specs.Narrowed.{Answer, AreNarrowed, LiesInLeastSum}
+use Rattle.reg_kind.specs.declared.reg.Reg.{Reg as Kind}
+use Rattle.reg_kind.specs.declared.reg.Reg.TheVariants as kind
+use Rattle.reg_kind.specs.Fits.{IsKindRefined}
+use Rattle.verifier.specs.declared.known.Known.{Known}
+use Rattle.verifier.specs.declared.known.Test.{Test}
+use Rattle.verifier.specs.declared.link.Link.{Link}
+use Rattle.verifier.specs.Fits.{StateFits}
+use Rattle.verifier.specs.Follows.{IsOperand, reg_of, register_at, test_answer}
+use Rattle.verifier.specs.Links.{joining, link_at}
+use Rattle.verifier.specs.Shows.{StateShows}
+
+-- ---- the two numbers that are compared
+
+-- registers of which an operand is set
+abbrev pub operand_set : List Kind → Operand → Kind → List Kind
+operand_set registers (Reg r) value = slice_set registers (reg_number r) value
+operand_set registers (Imm imm) value = registers
+
+-- what a test asks, and its answer
+abbrev pub answer_of : Test → Bool → Answer
+answer_of test answer = record { cond = test.cond; width = test.width; taken = answer }
+
+-- of the two numbers the answer leaves what it leaves of their values, and all else stays
+pub record IsCompared (test : Test) (answer : Bool) (old new : Known) : Type 0 where
+  pub right : Kind
+  pub operand : IsOperand old test.right right
+  pub both : Kind × Kind
+  pub refined : IsKindRefined (answer_of test answer) (reg_of old test.left) right both
+  pub registers : new.registers ≡ slice_set (operand_set old.registers test.right both.1) (reg_number test.left) both.0
+  pub stack : new.stack ≡ old.stack
+  pub links : new.links ≡ old.links
+
+-- ---- numbers that are linked
+
+-- what an operation gives of a set's numbers and a link's constant
+pub record AreMoved (op : BinOp) (link : Link) (a moved : Scalar) : Type 0 where
+  pub plus : Scalar
+  pub is_plus : ShowsOne plus link.plus
+  pub sound : IsSoundResult InScalar op link.width a plus moved
+  pub single : IsSingleResult ShowsOne op link.width a plus moved
+  pub least : LiesInLeastSum op link.width a plus moved
+
+-- a set narrowed to what may equal a number of another in a width
+abbrev pub IsNarrowedTo : Width → Scalar → Scalar → Scalar → Type 0
+IsNarrowedTo w a other new = (rest : Scalar) × AreNarrowed (record { cond = Eq; width = w; taken = true }) a other (new, rest)
+
+-- what a link leaves of two sets: of the second what may equal a sum of the first and the constant, and then of the first what
+-- may equal a difference of that and the constant
+pub record AreLinkNarrowed (link : Link) (a b : Scalar) (r : Scalar × Scalar) : Type 0 where
+  pub sums : Scalar
+  pub are_sums : AreMoved Add link a sums
+  pub second : IsNarrowedTo link.width b sums r.1
+  pub differences : Scalar
+  pub are_differences : AreMoved Sub link r.1 differences
+  pub first : IsNarrowedTo link.width a differences r.0
+
+-- registers of which one holds no number stay as they are
+abbrev pub IsLinkNarrowed : Link → Kind → Kind → Kind × Kind → Type 0
+IsLinkNarrowed link (kind.Number a) (kind.Number b) r = (c : Scalar) × (d : Scalar) × (r ≡ (kind.Number c, kind.Number d)) × AreLinkNarrowed link a b (c, d)
+IsLinkNarrowed link a b r = r ≡ (a, b)
+
+-- what is known of two registers has spread by the link of register k: it leaves of the two what it leaves, and all else stays
+pub record IsSpread (link : Link) (k : ℕ) (old new : Known) : Type 0 where
+  pub both : Kind × Kind
+  pub narrowed : IsLinkNarrowed link (reg_of old link.of) (register_at old k) both
+  pub registers : new.registers ≡ slice_set (slice_set old.registers (reg_number link.of) both.0) k both.1
+  pub stack : new.stack ≡ old.stack
+  pub links : new.links ≡ old.links
+
+-- it has spread by a link, if there is one
+abbrev pub MaySpread : Option Link → ℕ → Known → Known → Type 0
+MaySpread None k old new = new ≡ old
+MaySpread (Some link) k old new = IsSpread link k old new
+
+-- it has spread by each link that joins a register, in the order of the registers, up to register k
+pub data IsSpreadBelow (r : RegNo) (old : Known) : ℕ → Known → Type 0 where
+  Unspread : IsSpreadBelow r old 0 old
+  SpreadOne : {k : ℕ} {between new : Known} → IsSpreadBelow r old k between → MaySpread (joining r k (link_at between.links k)) k between new → IsSpreadBelow r old (k + 1) new
+
+abbrev pub IsSpreadToAll : RegNo → Known → Known → Type 0
+IsSpreadToAll r old new = IsSpreadBelow r old 11 new
+
+abbrev pub IsSpreadFrom : Operand → Known → Known → Type 0
+IsSpreadFrom (Reg r) old new = IsSpreadToAll r old new
+IsSpreadFrom (Imm imm) old new = new ≡ old
+
+-- ---- the whole
+
+-- it has spread by the links of the left number, and then by those of the right one
+pub record IsSpreadFromBoth (test : Test) (old new : Known) : Type 0 where
+  pub between : Known
+  pub left : IsSpreadToAll test.left old between
+  pub right : IsSpreadFrom test.right between new
+
+-- a test teaches of its two numbers, and then of those that are linked to them
+pub record Teaches (test : Test) (answer : Bool) (old new : Known) : Type 0 where
+  pub between : Known
+  pub two : IsCompared test answer old between
+  pub linked : IsSpreadFromBoth test between new
+
+-- all states that are known and of which the test has the answer are known, and every shape
+pub record KeepsAnswered (test : Test) (answer : Bool) (old new : Known) : Type 0 where
+  pub states : (layout : Layout) (s : State) → StateFits false layout old s → test_answer test s ≡ Some answer → StateFits false layout new s
+  pub shapes : (layout : Layout) (s : State) → StateFits true layout old s → StateFits true layout new s
+  pub shown : (layout : Layout) (s : State) → StateShows layout old s → StateShows layout new s
+
+-- what is known where a test has an answer; None where it never has it
+abbrev pub IsLearnt : Test → Bool → Known → Option Known → Type 0
+IsLearnt test answer known None = (layout : Layout) (s : State) → StateFits false layout known s → test_answer test s ≢ Some answer
+IsLearnt test answer known (Some new) = KeepsAnswered test answer known new × Teaches test answer known new
+
+-- what a look at a test leaves, and whether it may have the answer
+abbrev pub IsTested : Test → Bool → Known → Known → Bool → Type 0
+IsTested test answer known new true = IsLearnt test answer known (Some new)
+IsTested test answer known new false = IsLearnt test answer known None
