@@ -22,7 +22,7 @@ fn bad_request() -> Halt
 }
 
 /// The parameters of the body, which is a form.
-pub fn form(alloc: Global, request: &Request<'_>) -> Result<Params, Halt>
+pub fn form<'a>(alloc: Global, request: &Request<'a>) -> Result<Params<'a>, Halt>
     ensures { (next : Parameters → Outcome) → LeadsOrHalts result (with_form (asked_of request.entry.now) next) next }
 {
     if !request.is_form() {
@@ -40,7 +40,7 @@ pub fn authenticated_client<'r>(
     alloc: Global,
     rules: &'r Registry,
     request: &Request<'_>,
-    params: &Params,
+    params: &Params<'_>,
 ) -> Result<KnownClient<'r>, Halt>
     ensures { LeadsOnWith result (with_credentials rules.now (asked_of request.entry.now) params.now) known_of }
 {
@@ -56,7 +56,7 @@ pub fn authenticated_client<'r>(
 }
 
 /// The client that the parameter `client_id` names.
-pub fn named_client<'r>(rules: &'r Registry, params: &Params) -> Option<KnownClient<'r>>
+pub fn named_client<'r>(rules: &'r Registry, params: &Params<'_>) -> Option<KnownClient<'r>>
     ensures { option_map known_of result ≡ client_named rules.now params.now }
 {
     let id = params.get("client_id")?;
@@ -76,7 +76,7 @@ pub fn owner(rules: &Registry, request: &Request<'_>) -> Option<OwnerNo>
 }
 
 /// The scope that is asked for, and this one where none is. None: the text is no scope text (RFC 6749, section 3.3).
-pub fn scope(rules: &Registry, otherwise: ScopeSet, params: &Params) -> Option<ScopeSet>
+pub fn scope(rules: &Registry, otherwise: ScopeSet, params: &Params<'_>) -> Option<ScopeSet>
     ensures { result ≡ scope_asked rules.now otherwise params.now }
 {
     match params.get("scope") {
@@ -86,7 +86,7 @@ pub fn scope(rules: &Registry, otherwise: ScopeSet, params: &Params) -> Option<S
 }
 
 /// The scope that is asked for, which is within the limit, and the limit where none is asked for.
-pub fn scope_within(rules: &Registry, limit: ScopeSet, params: &Params) -> Option<ScopeSet>
+pub fn scope_within(rules: &Registry, limit: ScopeSet, params: &Params<'_>) -> Option<ScopeSet>
     ensures { result ≡ scope_within rules.now limit params.now }
 {
     let scope = scope(rules, limit, params)?;

@@ -196,7 +196,7 @@ fn identified(
 fn by_header(
     alloc: Global,
     registry: &Registry,
-    params: &Params,
+    params: &Params<'_>,
     header: &[u8],
 ) -> Result<ClientNo, AuthFault>
     ensures { Authenticates registry.now.clients (Some header.now) params.now result }
@@ -211,7 +211,7 @@ fn by_header(
 }
 
 // The client that the parameters authenticate.
-fn by_parameters(registry: &Registry, params: &Params) -> Result<ClientNo, AuthFault>
+fn by_parameters(registry: &Registry, params: &Params<'_>) -> Result<ClientNo, AuthFault>
     ensures { result ≡ authenticated registry.now.clients None params.now }
 {
     let id = params.get("client_id").ok_or(AuthFault::NoClient)?;
@@ -224,7 +224,7 @@ fn by_header_or_parameters(
     alloc: Global,
     registry: &Registry,
     header: Option<&[u8]>,
-    params: &Params,
+    params: &Params<'_>,
 ) -> Result<ClientNo, AuthFault>
     ensures { Authenticates registry.now.clients (option_copied header.entry) params.now result }
 {
@@ -241,7 +241,7 @@ pub fn authenticate(
     alloc: Global,
     registry: &Registry,
     header: Option<&[u8]>,
-    params: &Params,
+    params: &Params<'_>,
 ) -> Result<ClientNo, AuthFault>
     ensures value { Authenticates registry.now.clients (option_copied header.entry) params.now result }
     ensures listed { IfOk result (λ number. number ≤ length registry.now.clients) }

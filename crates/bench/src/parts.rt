@@ -61,7 +61,7 @@ const PARTS: [Part; 10] = [
 struct Things<'a> {
     alloc: Global,
     rules: &'a Registry,
-    params: &'a Params,
+    params: &'a Params<'static>,
 }
 
 fn name(part: Part) -> &'static str {

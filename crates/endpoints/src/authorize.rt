@@ -28,7 +28,7 @@ pub(crate) struct Requester<'r, 'p> {
 }
 
 /// The parameters of the query.
-pub(crate) fn query(alloc: Global, request: &Request<'_>) -> Result<Params, Halt>
+pub(crate) fn query<'a>(alloc: Global, request: &Request<'a>) -> Result<Params<'a>, Halt>
     ensures leads { (next : Parameters → Outcome) →
         LeadsOrHalts result (with_query (asked_of request.entry.now) next) next }
     ensures short { length request.entry.now.target.now ≤ state_limit → IfOk result HasShortState }
@@ -41,7 +41,7 @@ pub(crate) fn query(alloc: Global, request: &Request<'_>) -> Result<Params, Halt
 }
 
 // The client and its redirect URI, without which nobody is sent anywhere.
-fn known<'r, 'p>(rules: &'r Registry, params: &'p Params) -> Result<Requester<'r, 'p>, Halt>
+fn known<'r, 'p>(rules: &'r Registry, params: &'p Params<'_>) -> Result<Requester<'r, 'p>, Halt>
     ensures leads { LeadsOnWith result (known_points rules.now params.now) known_with }
     ensures short { IfOk result (λ requester. length requester.redirect.now ≤ redirect_limit) }
 {
@@ -58,7 +58,7 @@ fn known<'r, 'p>(rules: &'r Registry, params: &'p Params) -> Result<Requester<'r
 }
 
 // The challenge, where its method is S256 (RFC 7636, section 4.3).
-fn challenge(params: &Params) -> Option<&str>
+fn challenge<'p>(params: &'p Params<'_>) -> Option<&'p str>
     ensures { option_copied result ≡ challenge_sent params.now }
 {
     let method = params.get("code_challenge_method")?;
@@ -74,7 +74,7 @@ fn challenge(params: &Params) -> Option<&str>
 fn code_facts<'p>(
     view: &View<'_>,
     request: &Request<'_>,
-    params: &'p Params,
+    params: &'p Params<'_>,
     requester: &Requester<'_, 'p>,
 ) -> Result<CodeFacts<'p>, ErrorName>
     ensures decides { InEachSetting view.now (λ s. DecidesCode s (asked_of request.entry.now) params.now requester.entry.now result) }
@@ -107,7 +107,7 @@ fn code_facts<'p>(
 }
 
 // The user agent is sent back with a code (RFC 6749, section 4.1.2).
-fn give_code<'p>(view: &View<'_>, params: &'p Params, facts: &CodeFacts<'p>) -> Decision<'p>
+fn give_code<'p>(view: &View<'_>, params: &'p Params<'_>, facts: &CodeFacts<'p>) -> Decision<'p>
     ensures told { InEachSetting view.now (λ s. outcome_told s result ≡ Some (code_by s params.now facts.entry.now)) }
     ensures short { length facts.entry.now.redirect.now ≤ redirect_limit → HasShortState params.now → IsShortAnswer result.answer }
 {
@@ -139,7 +139,7 @@ fn give_code<'p>(view: &View<'_>, params: &'p Params, facts: &CodeFacts<'p>) -> 
 pub(crate) fn authorize<'p>(
     view: &View<'_>,
     request: &Request<'_>,
-    params: &'p Params,
+    params: &'p Params<'_>,
 ) -> Result<Decision<'p>, Halt>
     ensures decides { InEachSetting view.now (λ s. Decides s result (query_points s (asked_of request.entry.now) params.now)) }
     ensures short { HasShortState params.now → IfOk result (λ decision. IsShortAnswer decision.answer) }

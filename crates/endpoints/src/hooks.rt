@@ -39,7 +39,7 @@ struct HookAsked<'a> {
 }
 
 // The version of the record that the hook reads.
-fn version_asked(params: &Params) -> Option<RecordVersion>
+fn version_asked(params: &Params<'_>) -> Option<RecordVersion>
     ensures { result ≡ version_asked (value_sent (codes "record") params.now) }
 {
     match params.get("record") {
@@ -50,7 +50,7 @@ fn version_asked(params: &Params) -> Option<RecordVersion>
 }
 
 // The hook that the parameters ask for.
-fn hook_asked(params: &Params) -> Option<HookAsked<'_>>
+fn hook_asked<'p>(params: &'p Params<'_>) -> Option<HookAsked<'p>>
     ensures { IsAskedFor params.now result }
 {
     let name = params.get("name")?;
@@ -79,7 +79,7 @@ fn refused<'c, H>(fault: HookFault) -> Result<Ruling<'c, H>, Halt>
 pub(crate) fn install<'c, H: HookHost>(
     host: &H,
     code: &'c [u8],
-    params: &'c Params,
+    params: &'c Params<'_>,
 ) -> Result<Ruling<'c, H>, Halt>
     ensures rules { (s : Setting) → RulesHooks H.HookHost host.now s (hook_set_by params.now code.now) result }
     ensures short { IfOk result (λ ruling. IsShortAnswer ruling.decision.answer) }
@@ -104,7 +104,7 @@ pub(crate) fn install<'c, H: HookHost>(
 }
 
 /// Decides on the removal of the hook that the form names.
-pub(crate) fn remove<'c, H: HookHost>(host: &H, params: &'c Params) -> Result<Ruling<'c, H>, Halt>
+pub(crate) fn remove<'c, H: HookHost>(host: &H, params: &'c Params<'_>) -> Result<Ruling<'c, H>, Halt>
     ensures rules { (s : Setting) → RulesHooks H.HookHost host.now s (hook_gone params.now) result }
     ensures short { IfOk result (λ ruling. IsShortAnswer ruling.decision.answer) }
 {

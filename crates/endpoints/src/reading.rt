@@ -15,24 +15,24 @@ use std::alloc::Global;
 
 /// What a request asks, with the parameters that a decision on it borrows from.
 #[derive(Drop)]
-pub enum Reading {
-    Authorize(Params),
+pub enum Reading<'a> {
+    Authorize(Params<'a>),
     GiveConsent,
     IssueToken,
     RevokeToken,
     Introspect,
-    InstallHook(Params),
-    RemoveHook(Params),
+    InstallHook(Params<'a>),
+    RemoveHook(Params<'a>),
     ListHooks,
 }
 
 /// Reads a request at its endpoint. Of the operator's requests the key is looked at first.
-pub(crate) fn read(
+pub(crate) fn read<'a>(
     alloc: Global,
     rules: &Registry,
     endpoint: Endpoint,
-    request: &Request<'_>,
-) -> Result<Reading, Halt>
+    request: &Request<'a>,
+) -> Result<Reading<'a>, Halt>
     ensures endpoint { IfOk result (λ reading. endpoint_of reading ≡ endpoint) }
     ensures read { IfOk result (IsRequestRead rules.now (asked_of request.entry.now)) }
     ensures ends { IfErr result (EndsAt endpoint rules.now (asked_of request.entry.now)) }

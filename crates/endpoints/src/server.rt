@@ -186,7 +186,7 @@ impl<H: HookHost> Server<H> {
     }
 
     /// Reads a request at its endpoint. Of the operator's requests the key is looked at first.
-    pub fn read(&self, endpoint: Endpoint, request: &Request<'_>) -> Result<Reading, Halt>
+    pub fn read<'a>(&self, endpoint: Endpoint, request: &Request<'a>) -> Result<Reading<'a>, Halt>
         ensures endpoint { IfOk result (λ reading. endpoint_of reading ≡ endpoint) }
         ensures read { IfOk result (IsRequestRead self.now.rules (asked_of request.now)) }
         ensures ends { IfErr result (EndsAt endpoint self.now.rules (asked_of request.now)) }
@@ -199,7 +199,7 @@ impl<H: HookHost> Server<H> {
     fn decide_alone<'a>(
         &self,
         request: &'a Request<'_>,
-        reading: &'a Reading,
+        reading: &'a Reading<'_>,
         draws: &Draws,
     ) -> Result<Decision<'a>, Halt>
         ensures decides { RulesReadAlone H.HookHost self.now (read_request (asked_of request.now) reading.now draws.now) result }
@@ -230,7 +230,7 @@ impl<H: HookHost> Server<H> {
     pub fn decide<'a>(
         &self,
         request: &'a Request<'_>,
-        reading: &'a Reading,
+        reading: &'a Reading<'_>,
         draws: &Draws,
     ) -> Result<Ruling<'a, H>, Halt>
         ensures rules { RulesRead H.HookHost self.now (read_request (asked_of request.now) reading.now draws.now) result }

@@ -1,5 +1,6 @@
 -- Names that stand twice.
-use Rattle.std.proofs.Common.{inl, inr, ◌≡◌, ◌<◌, ℕ, List, [], ◌∷◌, ◌++◌, true, false, ◌∙◌, length, refl, arith, String}
+use Rattle.std.proofs.Common.{inl, inr, ◌≡◌, ◌<◌, ℕ, List, [], ◌∷◌, ◌++◌, true, false, ◌∙◌, length, refl, arith}
+use Rattle.std.specs.declared.borrow.CowStr.{CowStr}
 use Rattle.std.specs.Prelude.{bytes_eq}
 use Rattle.std.specs.List.{list_any}
 use Rattle.std.proofs.lemmas.Bool.{or_left, or_right, or_cases}
@@ -17,7 +18,7 @@ any_twice-later (n ∷ names) name left stands =
     ]
 
 -- of fewer than two names none stands twice
-pub few_once : {A : Type 0} (ps : List (String A × String A)) → length ps < 2 → any_twice (names_of_pairs (texts_of ps)) ≡ false
+pub few_once : {A : Type 0} (ps : List (CowStr A × CowStr A)) → length ps < 2 → any_twice (names_of_pairs (texts_of ps)) ≡ false
 few_once [] few = refl
 few_once (p ∷ []) few = refl
 few_once (p ∷ q ∷ ps) few = absurd (omega (arith, few))

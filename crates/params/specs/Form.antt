@@ -1,7 +1,9 @@
 -- The parameters of a query or a form (RFC 6749, section 3.1 and appendix B).
-use Rattle.std.specs.Prelude.{◌≡◌, ◌⊎◌, ◌<◌, ℕ, List, [], ◌∷◌, length, map, filter, Bool, false, ◌||◌, bytes_eq, nat_eq, String, string_bytes, Option, Result, Ok, Err, if◌then◌else◌}
+use Rattle.std.specs.Prelude.{◌≡◌, ◌⊎◌, ◌<◌, ℕ, List, [], ◌∷◌, length, map, filter, Bool, false, ◌||◌, bytes_eq, nat_eq, Option, Result, Ok, Err, if◌then◌else◌}
 use Rattle.std.specs.List.{list_any, starts_with}
 use Rattle.std.specs.Map.{lookup}
+use Rattle.std.specs.Cow.{cow_str_bytes}
+use Rattle.std.specs.declared.borrow.CowStr.{CowStr}
 use Rattle.std.specs.Str.Lossy.{utf8_lossy, replacement_bytes}
 use Rattle.form_urlencoded.specs.Form.{raw_pairs, decode, is_nonempty}
 use Rattle.params.specs.declared.params.ParamFault.{ParamFault}
@@ -53,8 +55,8 @@ IsFormRefusal input fault =
     (read_params input ≡ Err fault) ⊎ ((fault ≡ Memory) × (0 < length (raw_pairs input)))
 
 -- the texts of names and values
-abbrev pub texts_of : {A : Type 0} → List (String A × String A) → List (List ℕ × List ℕ)
-texts_of ps = map (λ p. (string_bytes p.0, string_bytes p.1)) ps
+abbrev pub texts_of : {A : Type 0} → List (CowStr A × CowStr A) → List (List ℕ × List ℕ)
+texts_of ps = map (λ p. (cow_str_bytes p.0, cow_str_bytes p.1)) ps
 
 -- the value of the parameter of this name
 abbrev pub value_sent : List ℕ → List (List ℕ × List ℕ) → Option (List ℕ)

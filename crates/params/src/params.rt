@@ -1,11 +1,12 @@
 // The parameters of a query or a form.
-ghost use Rattle.std.specs.Prelude.{◌≡◌, ◌<◌, length, IfOk, IfErr, Ok, Some, option_copied, string_bytes};
+ghost use Rattle.std.specs.Prelude.{◌≡◌, ◌<◌, length, IfOk, IfErr, Ok, Some, option_copied};
 ghost use Rattle.params.specs.declared.params.ParamFault.TheVariants.{Memory};
 ghost use Rattle.params.specs.FaultTexts.{param_fault_text};
 ghost use Rattle.params.specs.Form.{IsFormRefusal, read_params, value_sent, has_replacement, any_twice, names_of_pairs, texts_of};
 
 use form_urlencoded::parse;
 use std::alloc::{AllocError, AllocFailed, Global};
+use std::borrow::CowStr;
 use std::collections::BTreeMap;
 use std::fmt;
 use std::marker::Model;
@@ -50,13 +51,13 @@ impl<T: Drop> From<AllocFailed<T>> for ParamFault {
 }
 
 /// The parameters of a query or a form, in the order in which they were sent, each name once (RFC 6749, section 3.1
-/// and appendix B).
+/// and appendix B). Names and values that stand there as they are, are no copies.
 #[derive(Drop)]
-pub struct Params {
-    pairs: Vec<(String, String)>,
+pub struct Params<'a> {
+    pairs: Vec<(CowStr<'a>, CowStr<'a>)>,
 }
 
-impl Model for Params {
+impl<'a> Model for Params<'a> {
     ghost use Rattle.std.specs.Prelude.{ℕ, List};
     ghost use Rattle.params.specs.Form.{texts_of};
 
@@ -65,10 +66,10 @@ impl Model for Params {
     ghost view = { λ a. texts_of a.pairs.items };
 }
 
-impl Params {
+impl<'a> Params<'a> {
     /// Reads the pairs of `application/x-www-form-urlencoded` bytes. A pair with an empty value counts as not sent,
     /// before anything else is tested of it. Bytes without a pair take no memory.
-    pub fn read(alloc: Global, input: &[u8]) -> Result<Params, ParamFault>
+    pub fn read(alloc: Global, input: &'a [u8]) -> Result<Params<'a>, ParamFault>
         // NotUtf8 is tested before Twice, and Memory may come in place of either.
         ensures ok { IfOk result (λ params. read_params input.now ≡ Ok params) }
         ensures err { IfErr result (IsFormRefusal input.now) }
@@ -82,7 +83,7 @@ impl Params {
             if has_replacement(&name) || has_replacement(&value) {
                 return Err(ParamFault::NotUtf8);
             }
-            pairs.push((name.into_owned(alloc)?, value.into_owned(alloc)?))?;
+            pairs.push((name, value))?;
         }
         if any_twice(alloc, &pairs)? {
             return Err(ParamFault::Twice);
@@ -104,7 +105,7 @@ impl Params {
 }
 
 // Whether some name stands twice.
-fn any_twice(alloc: Global, pairs: &[(String, String)]) -> Result<bool, AllocError>
+fn any_twice(alloc: Global, pairs: &[(CowStr<'_>, CowStr<'_>)]) -> Result<bool, AllocError>
     ensures ok { IfOk result (λ twice. twice ≡ any_twice (names_of_pairs (texts_of pairs.now))) }
     ensures err { IfErr result (λ _. 0 < length pairs.now) }
 {

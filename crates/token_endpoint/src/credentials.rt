@@ -54,7 +54,7 @@ fn granted<'c>(view: &View<'_>, client: ClientNo, left: Narrowed) -> Result<Deci
 pub(crate) fn client_credentials<'c, H: HookHost>(
     view: &View<'_>,
     host: &H,
-    params: &Params,
+    params: &Params<'_>,
     known: &KnownClient<'_>,
 ) -> Result<Decision<'c>, Halt>
     ensures decides { DecidesAsking view.now (H.answer host.now) result (λ s. client_credentials s params.now (known_of known.now)) }

@@ -127,7 +127,7 @@ fn exchange_at<'c, H: HookHost>(
 pub(crate) fn exchange<'c, H: HookHost>(
     view: &View<'_>,
     host: &H,
-    params: &Params,
+    params: &Params<'_>,
     known: &KnownClient<'_>,
 ) -> Result<Decision<'c>, Halt>
     ensures decides { DecidesAsking view.now (H.answer host.now) result (λ s. exchange s params.now (known_of known.now)) }

@@ -63,7 +63,7 @@ fn refreshed<'c>(
 pub(crate) fn refresh<'c, H: HookHost>(
     view: &View<'_>,
     host: &H,
-    params: &Params,
+    params: &Params<'_>,
     known: &KnownClient<'_>,
 ) -> Result<Decision<'c>, Halt>
     ensures decides { DecidesAsking view.now (H.answer host.now) result (λ s. refresh s params.now (known_of known.now)) }

@@ -21,7 +21,7 @@ use params::Params;
 use std::alloc::Global;
 
 // The grant type, which the client may use.
-fn grant_type(params: &Params, client: &Client) -> Result<GrantType, Halt>
+fn grant_type(params: &Params<'_>, client: &Client) -> Result<GrantType, Halt>
     ensures { (next : GrantType → Outcome) → LeadsOrHalts result (type_points params.now client.now next) next }
 {
     let Some(name) = params.get("grant_type") else {
@@ -40,7 +40,7 @@ fn grant_type(params: &Params, client: &Client) -> Result<GrantType, Halt>
 fn decide_for<'c, H: HookHost>(
     view: &View<'_>,
     host: &H,
-    params: &Params,
+    params: &Params<'_>,
     known: &KnownClient<'_>,
 ) -> Result<Decision<'c>, Halt>
     ensures decides { DecidesAsking view.now (H.answer host.now) result (λ s. token_points s params.now (known_of known.now)) }

@@ -36,7 +36,7 @@ fn registry(rt: &impl Abort, alloc: Global) -> Registry {
     read(alloc, REGISTRY).expect(rt, "the registry")
 }
 
-fn parameters(alloc: Global, input: &[u8]) -> Result<Params, ParamFault> {
+fn parameters(alloc: Global, input: &[u8]) -> Result<Params<'_>, ParamFault> {
     match Params::read(alloc, input) {
         Err(ParamFault::Memory) => Params::read(alloc, input),
         answer => answer,

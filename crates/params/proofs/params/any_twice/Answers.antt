@@ -1,4 +1,5 @@
-use Rattle.std.proofs.Common.{◌≡◌, ◌++◌, ◌∷◌, [], ◌∙◌, rules, sym, ap, true, false, string_bytes, drop, append_assoc, is_some, ◌+◌}
+use Rattle.std.proofs.Common.{◌≡◌, ◌++◌, ◌∷◌, [], ◌∙◌, rules, sym, ap, true, false, drop, append_assoc, is_some, ◌+◌}
+use Rattle.std.specs.Cow.{cow_str_bytes}
 use Rattle.std.specs.BTreeMap.{get_by}
 use Rattle.std.specs.Cmp.Lexicographic.{slice_cmp}
 use Rattle.std.specs.Ordering.{nat_cmp}
@@ -15,7 +16,7 @@ returns-then-pairs-lt2-clause-ok c = sym (few_once c.args.pairs.now c.if-pairs-l
 pub returns-then-is_some-clause-ok : goal.returns-then-is_some-clause-ok
 returns-then-is_some-clause-ok c =
     let inv = c.loop-name.invariant in
-    let name = string_bytes c.loop-name-item.result.0 in
+    let name = cow_str_bytes c.loop-name-item.result.0 in
     let left = names_of_pairs (texts_of (drop (c.loop-name.name-index + 1) c.args.pairs.now)) in
     let next = next_item c.args.pairs.now c.loop-name.name-index c.loop-name-item.result (search rules) (search rules) in
     let whole : inv.0 ++ name ∷ left ≡ names_of_pairs (texts_of c.args.pairs.now) = ap (λ ps. inv.0 ++ names_of_pairs (texts_of ps)) (sym next) ∙ inv.1 in
@@ -25,7 +26,7 @@ returns-then-is_some-clause-ok c =
 pub loop-name-preserved : goal.loop-name-preserved
 loop-name-preserved c =
     let inv = c.loop-name.invariant in
-    let name = string_bytes c.loop-name-item.result.0 in
+    let name = cow_str_bytes c.loop-name-item.result.0 in
     let left = names_of_pairs (texts_of (drop (c.loop-name.name-index + 1) c.args.pairs.now)) in
     let next = next_item c.args.pairs.now c.loop-name.name-index c.loop-name-item.result (search rules) (search rules) in
     let whole : inv.0 ++ name ∷ left ≡ names_of_pairs (texts_of c.args.pairs.now) = ap (λ ps. inv.0 ++ names_of_pairs (texts_of ps)) (sym next) ∙ inv.1 in
