@@ -6,6 +6,8 @@ pub mod Live
 pub mod Reply
 pub mod Written
 pub mod Small
+-- What a reply is made of, of which callers see the two parts.
+pub mod Contents
 -- Laws, each proved: a reader may skip them.
 pub mod SizeLaws
 pub mod SmallLaws

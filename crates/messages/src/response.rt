@@ -4,12 +4,21 @@ use crate::bytes::put_reply;
 use http::StatusCode;
 use std::marker::Model;
 
-/// A reply: its status, where it sends the user agent, and its body.
+/// What a reply has beside its status.
+#[derive(Drop)]
+pub(crate) enum Content {
+    Nothing,
+    /// Where it sends the user agent.
+    Location(String),
+    /// Its body, a JSON text.
+    Text(Vec<u8>),
+}
+
+/// A reply: its status, and where it sends the user agent or its body, if it has one of them.
 #[derive(Drop)]
 pub struct Response {
     status: StatusCode,
-    location: Option<String>,
-    body: Option<Vec<u8>>,
+    content: Content,
 }
 
 impl Model for Response {
@@ -17,9 +26,9 @@ impl Model for Response {
 
     ghost Value = { Written };
 
-    ghost use Rattle.std.specs.Prelude.{option_map, string_bytes};
+    ghost use Rattle.messages.specs.Contents.{location_in, text_in};
 
-    ghost view = { λ r. record { status = r.status; location = option_map string_bytes r.location; body = option_map (λ text. text.items) r.body } };
+    ghost view = { λ r. record { status = r.status; location = location_in r.content; body = text_in r.content } };
 }
 
 ghost use Rattle.std.specs.Prelude.{◌≡◌, ◌≤◌, ◌+◌, ◌++◌, None, Some, length, option_copied, string_bytes, vec_len, vec_capacity};
@@ -34,8 +43,7 @@ impl Response {
     {
         Response {
             status,
-            location: None,
-            body: None,
+            content: Content::Nothing,
         }
     }
 
@@ -45,8 +53,7 @@ impl Response {
     {
         Response {
             status,
-            location: None,
-            body: Some(body),
+            content: Content::Text(body),
         }
     }
 
@@ -56,8 +63,7 @@ impl Response {
     {
         Response {
             status: StatusCode::FOUND,
-            location: Some(location),
-            body: None,
+            content: Content::Location(location),
         }
     }
 
@@ -72,14 +78,20 @@ impl Response {
     pub fn location(&self) -> Option<&str>
         ensures { option_copied result ≡ self.now.location }
     {
-        self.location.as_deref()
+        match &self.content {
+            Content::Location(location) => Some(location.as_str()),
+            Content::Nothing | Content::Text(_) => None,
+        }
     }
 
     /// The JSON text.
     pub fn body(&self) -> Option<&[u8]>
         ensures { option_copied result ≡ self.now.body }
     {
-        self.body.as_deref()
+        match &self.content {
+            Content::Text(text) => Some(text.as_slice()),
+            Content::Nothing | Content::Location(_) => None,
+        }
     }
 
     /// Appends the reply's bytes (RFC 9112, section 4), where room was made for them.
