@@ -249,18 +249,3 @@ owned_uncoded old new owners n s none opened owned q = number_cases (eqb q.1 n) 
     number_cases false is = owned q ∙ ap (is_coded q.0.0 q.0.1) (sym (opened.others q.1 (λ e. false≢true (sym is ∙ eq-eqb q.1 n e))))
 
 -- CLOSING
-
-pub tied_closed : (old new : List (Option Shared)) (es : List (List ℕ × Record)) (agenda : Agenda) (owners owners' : List ((ℕ × ℕ) × ℕ)) (n : ℕ) → (shared_at old n).count ≡ 0 →
-    HasClosed old new n → IsOwned new owners' → Tied old es agenda owners [] → Tied new es agenda owners' []
-tied_closed old new es agenda owners owners' n empty closed owned tied = record {
-  once = tied.once;
-  listed = tied.listed;
-  exact = tied.exact;
-  counted = λ k. count_cases k (eqb k n) refl ∙ tied.counted k;
-  owned = owned;
-}
-  where
-    count_cases : (k : ℕ) (b : Bool) → eqb k n ≡ b → (shared_at new k).count ≡ (shared_at old k).count
-    count_cases k true is =
-        ap (λ i. (shared_at new i).count) (eqb-true k n is) ∙ ap (λ o. (or_nothing o).count) closed.here ∙ sym (ap (λ i. (shared_at old i).count) (eqb-true k n is) ∙ empty)
-    count_cases k false is = ap (λ o. (or_nothing o).count) (closed.others k (λ e. false≢true (sym is ∙ eq-eqb k n e)))

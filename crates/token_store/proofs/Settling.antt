@@ -1,7 +1,7 @@
 -- The tables as a record that was about to come has come.
-use Rattle.std.proofs.Common.{◌≡◌, ◌≢◌, ◌<◌, ◌≤◌, ℕ, ◌+◌, List, [], ◌∷◌, ◌++◌, Option, Some, None, Bool, true, false, cond, eqb, length, refl, ap, ◌∙◌, sym, arith}
+use Rattle.std.proofs.Common.{◌≡◌, ◌≢◌, ◌<◌, ◌≤◌, ℕ, ◌+◌, List, [], ◌∷◌, ◌++◌, Option, Some, None, Bool, true, false, cond, eqb, length, refl, ap, ◌∙◌, sym, subst, arith}
 use Rattle.std.specs.Prelude.{◌&&◌, ◌||◌, ◌==◌, is_some, slice_index_or, count_by, option_map, find}
-use Rattle.std.specs.List.{IsDistinct, list_any}
+use Rattle.std.specs.List.{AllByRecursion, IsDistinct, list_any}
 use Rattle.std.specs.List.Sorted.{IsPermutation}
 use Rattle.std.specs.Option.{option_or, MatchOption}
 use Rattle.std.specs.Str.{bytes_eq}
@@ -13,22 +13,24 @@ use Rattle.std.proofs.lemmas.Bool.{eqb-true, eq-eqb, false≢true, lt-ltb}
 use Rattle.std.proofs.lemmas.List.Folds.{find-append, list_any-append}
 use Rattle.std.proofs.lemmas.List.Sums.{count_by-le-length}
 use Rattle.std.proofs.lemmas.List.{length-map}
-use Rattle.std.proofs.lemmas.List.Sorted.{IsPermutation-map, sum_by_pushed}
+use Rattle.std.proofs.lemmas.List.Sorted.{IsPermutation-refl, IsPermutation-trans, IsPermutation-swap, IsPermutation-cons, IsPermutation-map, sum_by_pushed}
+use Rattle.std.proofs.lemmas.Cmp.{nat_list_eq_equiv}
+use Rattle.std.proofs.lemmas.Map.{lookup-remove_entry}
+use Rattle.std.proofs.lemmas.Map.Keys.{IsDistinct-head, IsDistinct-tail, IsDistinct-cons}
 use Rattle.std.proofs.lemmas.Map.Entries.{sum_by_values_permutation}
 use Rattle.std.proofs.lemmas.Slice.Eq.{bytes_eq-Decides}
 use Rattle.consent.specs.ListLaws.{count_by-cons}
 use Rattle.consent.specs.History.{is_named, is_unexpired}
 use Rattle.token_store.specs.declared.record.Record.{Record}
 use Rattle.token_store.specs.declared.record.Shared.{Shared}
-use Rattle.token_store.specs.declared.tables.Tables.{Tables}
 use Rattle.token_store.specs.declared.agenda.Agenda.{Agenda}
 use Rattle.token_store.specs.declared.agenda.Deadline.{Deadline}
 use Rattle.token_store.specs.Agenda.{deadlines_of, is_deadline, IsExact}
 use Rattle.token_store.specs.Kept.{Kept, kept_at}
-use Rattle.token_store.specs.Records.{shared_at, or_nothing, expiry, expiry_of, is_coded, kept_in, kept_under, kept_of, all_kept, AllListed, IsCounted, IsOwned, Tied, IsTied}
-use Rattle.token_store.specs.RecordsParts.{is_live_at, HasLeft, HasEntered, TellsSame, SharesSame, ForgetsExpired}
+use Rattle.token_store.specs.Records.{shared_at, or_nothing, expiry, expiry_of, is_coded, kept_in, kept_under, all_kept, AllListed, IsCounted, IsOwned, Tied}
+use Rattle.token_store.specs.RecordsParts.{is_live_at, HasLeft, HasEntered, TellsSame, SharesSame}
 use Rattle.token_store.specs.Room.{Waits}
-use Rattle.token_store.proofs.Looking.{shown, found, count-push, same_as_is}
+use Rattle.token_store.proofs.Looking.{shown, found, count-push, same_as_is, same_on, same_push, absent_on}
 use Rattle.token_store.proofs.Waiting.{waits_other}
 use Rattle.token_store.proofs.Dropping.{counted_without, dropped_one, same_shared, count_seen, member_counted}
 
@@ -57,26 +59,57 @@ fewer_listed : (es es' : List (List ℕ × Record)) (deadlines : List Deadline) 
     AllListed deadlines es → AllListed deadlines es'
 fewer_listed es es' deadlines digest taken listed d t at = listed d t (fewer_found es es' digest taken d t at)
 
-pub forgotten : (t t' : Tables) (digest : List ℕ) (n : ℕ) (r : Record) → IsTied t (n ∷ []) → lookup (bytes_eq digest) t.records.entries ≡ Some r → IsDistinct bytes_eq (keys_of t'.records.entries) →
-    IsPermutation (remove_entry (bytes_eq digest) t.records.entries) t'.records.entries →
-    ((d : List ℕ) → lookup (bytes_eq d) t'.records.entries ≡ cond (bytes_eq digest d) None (lookup (bytes_eq d) t.records.entries)) →
-    HasLeft t.families.slots t'.families.slots r.family → IsOwned t'.families.slots t'.owners.keys → t'.agenda ≡ t.agenda → lookup (bytes_eq digest) t'.records.entries ≡ None → ForgetsExpired t t' digest n
-forgotten t t' digest n r tied at once' moved taken left owned agenda absent =
-    let counted' = counted_without t.families.slots t'.families.slots t.records.entries t'.records.entries (n ∷ []) digest r tied.counted at moved left in
-    record {
-      tied = record {
-        once = once';
-        listed = rw agenda (fewer_listed t.records.entries t'.records.entries (deadlines_of t.agenda) digest taken tied.listed);
-        exact = rw agenda tied.exact;
-        counted = counted';
-        owned = owned;
-      };
-      absent = absent;
-      same = λ m none. dropped_one t.families.slots t'.families.slots t.records.entries t'.records.entries (n ∷ []) digest r m tied.once once' counted' at (late_from t.families.slots t.records.entries digest r m tied.once at none) moved taken left;
-      shares = λ d x. same_shared t.families.slots t'.families.slots r.family n d x left (some counted');
-    }
+-- The tables without what was under the digest, whose family it has left.
+pub record Without (families families' : List (Option Shared)) (es es' : List (List ℕ × Record)) (agenda : Agenda) (owners' : List ((ℕ × ℕ) × ℕ))
+    (digest : List ℕ) (n : ℕ) : Type 0 where
+  pub tied : Tied families' es' agenda owners' (n ∷ [])
+  pub absent : lookup (bytes_eq digest) es' ≡ None
+  pub others : (d : List ℕ) → bytes_eq digest d ≡ false → lookup (bytes_eq d) es' ≡ lookup (bytes_eq d) es
+  pub same : (moment : ℕ) → kept_at (all_kept families es) digest moment ≡ None → TellsSame (all_kept families es) (all_kept families' es') moment
+  pub shares : SharesSame families families' n
+
+all_without : (P : List ℕ → Type 0) (test : List ℕ → Bool) (es : List (List ℕ × Record)) → AllByRecursion P (keys_of es) → AllByRecursion P (keys_of (remove_entry test es))
+all_without P test [] all = tt
+all_without P test (e ∷ es) all =
+    elim (test e.0) as (λ b. AllByRecursion P (keys_of (cond b es (e ∷ remove_entry test es)))) [ true ↦ all.1 | false ↦ (all.0, all_without P test es all.1) ]
+
+once_without : (test : List ℕ → Bool) (es : List (List ℕ × Record)) → IsDistinct bytes_eq (keys_of es) → IsDistinct bytes_eq (keys_of (remove_entry test es))
+once_without test [] once = once
+once_without test (e ∷ es) once =
+    let rest = IsDistinct-tail bytes_eq e.0 (keys_of es) once in
+    let apart = all_without (λ d. bytes_eq e.0 d ≡ false) test es (IsDistinct-head bytes_eq e.0 (keys_of es) once) in
+    elim (test e.0) as (λ b. IsDistinct bytes_eq (keys_of (cond b es (e ∷ remove_entry test es)))) [
+      | true ↦ rest
+      | false ↦ IsDistinct-cons bytes_eq e.0 (keys_of (remove_entry test es)) apart (once_without test es rest)
+    ]
+
+pub forgotten : (families families' : List (Option Shared)) (es : List (List ℕ × Record)) (agenda : Agenda) (owners owners' : List ((ℕ × ℕ) × ℕ)) (digest : List ℕ) (n : ℕ) (r : Record) →
+    Tied families es agenda owners (n ∷ []) → lookup (bytes_eq digest) es ≡ Some r → HasLeft families families' r.family → IsOwned families' owners' →
+    Without families families' es (remove_entry (bytes_eq digest) es) agenda owners' digest n
+forgotten families families' es agenda owners owners' digest n r tied at left owned = record {
+  tied = record { once = once'; listed = fewer_listed es es' (deadlines_of agenda) digest taken tied.listed; exact = tied.exact; counted = counted'; owned = owned };
+  absent = taken digest ∙ ap (λ b. cond {A = Option Record} b None (lookup (bytes_eq digest) es)) ((bytes_eq-Decides digest digest).1 refl);
+  others = λ d other. taken d ∙ ap (λ b. cond {A = Option Record} b None (lookup (bytes_eq d) es)) other;
+  same = λ m none. dropped_one families families' es es' (n ∷ []) digest r m tied.once once' counted' at (late_from families es digest r m tied.once at none) moved taken left;
+  shares = λ d x. same_shared families families' r.family n d x left (some counted');
+}
   where
-    some : IsCounted t'.families.slots t'.records.entries (n ∷ []) → 0 < (shared_at t'.families.slots n).count
+    es' : List (List ℕ × Record)
+    es' = remove_entry (bytes_eq digest) es
+
+    taken : (d : List ℕ) → lookup (bytes_eq d) es' ≡ cond (bytes_eq digest d) None (lookup (bytes_eq d) es)
+    taken d = lookup-remove_entry nat_list_eq_equiv (bytes_eq digest) (λ x y same. ap (λ z. bytes_eq z y) ((bytes_eq-Decides digest x).0 same)) d es tied.once
+
+    once' : IsDistinct bytes_eq (keys_of es')
+    once' = once_without (bytes_eq digest) es tied.once
+
+    moved : IsPermutation es' es'
+    moved = IsPermutation-refl es'
+
+    counted' : IsCounted families' es' (n ∷ [])
+    counted' = counted_without families families' es es' (n ∷ []) digest r tied.counted at moved left
+
+    some : IsCounted families' es' (n ∷ []) → 0 < (shared_at families' n).count
     some counted =
         let same = counted n in
         let sums = count_by-cons (λ (c : ℕ). c == n) n [] in
@@ -84,8 +117,29 @@ forgotten t t' digest n r tied at once' moved taken left owned agenda absent =
         omega (arith, same, sums, one)
 
 -- where nothing has the digest there is nothing to forget
-pub forgot_none : (t : Tables) (digest : List ℕ) (n : ℕ) → IsTied t (n ∷ []) → lookup (bytes_eq digest) t.records.entries ≡ None → ForgetsExpired t t digest n
-forgot_none t digest n tied absent = record { tied = tied; absent = absent; same = λ m none. same_as_is (kept_of t) m; shares = λ d x. refl }
+pub forgot_none : (families : List (Option Shared)) (es : List (List ℕ × Record)) (agenda : Agenda) (owners : List ((ℕ × ℕ) × ℕ)) (digest : List ℕ) (n : ℕ) →
+    Tied families es agenda owners (n ∷ []) → lookup (bytes_eq digest) es ≡ None → Without families families es es agenda owners digest n
+forgot_none families es agenda owners digest n tied absent =
+    record { tied = tied; absent = absent; others = λ d other. refl; same = λ m none. same_as_is (all_kept families es) m; shares = λ d x. refl }
+
+-- an entry in another's place is one more where that is gone
+pub replaced : (digest : List ℕ) (o : Option Record) (old r : Record) (es es' : List (List ℕ × Record)) → o ≡ Some old → o ≡ lookup (bytes_eq digest) es →
+    MatchOption o (IsPermutation ((digest, r) ∷ es) es') (λ _. es' ≡ set_value (bytes_eq digest) es r) → IsPermutation ((digest, r) ∷ remove_entry (bytes_eq digest) es) es'
+replaced digest None old r es es' some is puts = cc
+replaced digest (Some x) old r es es' some is puts = rw puts (anew es (sym is))
+  where
+    anew : (xs : List (List ℕ × Record)) → lookup (bytes_eq digest) xs ≡ Some x → IsPermutation ((digest, r) ∷ remove_entry (bytes_eq digest) xs) (set_value (bytes_eq digest) xs r)
+    anew [] at = cc
+    anew (e ∷ xs) at = head_cases (bytes_eq digest e.0) refl at (anew xs)
+      where
+        head_cases : (b : Bool) → bytes_eq digest e.0 ≡ b → cond b (Some e.1) (lookup (bytes_eq digest) xs) ≡ Some x →
+            (lookup (bytes_eq digest) xs ≡ Some x → IsPermutation ((digest, r) ∷ remove_entry (bytes_eq digest) xs) (set_value (bytes_eq digest) xs r)) →
+            IsPermutation ((digest, r) ∷ cond b xs (e ∷ remove_entry (bytes_eq digest) xs)) (cond b ((e.0, r) ∷ xs) (e ∷ set_value (bytes_eq digest) xs r))
+        head_cases true is at more = subst (λ d. IsPermutation ((digest, r) ∷ xs) ((d, r) ∷ xs)) ((bytes_eq-Decides digest e.0).0 is) (IsPermutation-refl ((digest, r) ∷ xs))
+        head_cases false is at more =
+            IsPermutation-trans ((digest, r) ∷ e ∷ remove_entry (bytes_eq digest) xs) (e ∷ (digest, r) ∷ remove_entry (bytes_eq digest) xs) (e ∷ set_value (bytes_eq digest) xs r)
+            (IsPermutation-swap ((digest, r) ∷ e ∷ remove_entry (bytes_eq digest) xs) (e ∷ (digest, r) ∷ remove_entry (bytes_eq digest) xs) 0 1 (omega arith) (omega arith) refl)
+            (IsPermutation-cons e ((digest, r) ∷ remove_entry (bytes_eq digest) xs) (set_value (bytes_eq digest) xs r) (more at))
 
 -- a family that waits still does
 pub waits_left : (families families' : List (Option Shared)) (es : List (List ℕ × Record)) (awaited : List ℕ) (digest : List ℕ) (r : Record) (n : ℕ) (s : Shared) → IsCounted families es awaited →
@@ -230,6 +284,24 @@ same_awaiting families families' es es' m shares once once' moved finds = record
     shown_same : (d : List ℕ) (t : ℕ) (o : Option Record) → shown families' d t o ≡ shown families d t o
     shown_same d t None = refl
     shown_same d t (Some x) = ap (λ k. cond (is_live_at t x) (Some k) None) (shares x.family d x)
+
+-- the record comes into its family, in the place of what was under its digest
+pub kept_anew : (families f f' : List (Option Shared)) (es es1 es' : List (List ℕ × Record)) (agenda : Agenda) (owners' : List ((ℕ × ℕ) × ℕ)) (digest : List ℕ) (r : Record) (m : ℕ) →
+    HasEntered families f r.family 1 → Without f f' es es1 agenda owners' digest r.family → IsDistinct bytes_eq (keys_of es) → IsDistinct bytes_eq (keys_of es') → IsPermutation ((digest, r) ∷ es1) es' →
+    ((d : List ℕ) → lookup (bytes_eq d) es' ≡ cond (bytes_eq digest d) (Some r) (lookup (bytes_eq d) es)) → kept_at (all_kept families es) digest m ≡ None →
+    TellsSame (all_kept families es ++ kept_under (shared_at families r.family) digest r ∷ []) (all_kept f' es') m
+kept_anew families f f' es es1 es' agenda owners' digest r m entered without once once' moved finds none =
+    let shares = λ (k : ℕ). entered_shares families f r.family 1 k entered in
+    let same = same_awaiting families f es es m shares once once (IsPermutation-refl es) (λ d. refl) in
+    let none' = absent_on (all_kept families es) (all_kept f es) digest m same none in
+    let before = same_on (all_kept families es) (all_kept f es) (all_kept f' es1) m same (without.same m none') in
+    let first = same_push (all_kept families es) (all_kept f' es1) (kept_under (shared_at f' r.family) digest r) m before in
+    let more = settled_tells f' es1 es' digest r m without.tied.once once' without.absent moved (λ d. finds d ∙ found_so d (bytes_eq digest d) refl) in
+    rw (← shares r.family digest r, ← without.shares digest r) (same_on _ _ _ m first more)
+  where
+    found_so : (d : List ℕ) (b : Bool) → bytes_eq digest d ≡ b → cond b (Some r) (lookup (bytes_eq d) es) ≡ cond b (Some r) (lookup (bytes_eq d) es1)
+    found_so d true is = refl
+    found_so d false is = sym (without.others d is)
 
 -- no family has more records than there are
 pub count_few : (families : List (Option Shared)) (es : List (List ℕ × Record)) (n : ℕ) → IsCounted families es [] → (shared_at families n).count ≤ length es

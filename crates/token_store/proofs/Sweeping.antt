@@ -13,13 +13,18 @@ use Rattle.token_store.specs.declared.record.Record.{Record}
 use Rattle.token_store.specs.declared.record.Shared.{Shared}
 use Rattle.token_store.specs.Agenda.{least_from, is_deadline}
 use Rattle.token_store.specs.Records.{all_kept, expiry_of, IsCounted}
-use Rattle.token_store.specs.RecordsParts.{is_live_at, HasLeft, AllGone, Sheds}
+use Rattle.token_store.specs.RecordsParts.{is_live_at, HasLeft, HasTaken, IsNoneExpired, AllGone, Sheds}
 use Rattle.token_store.proofs.Looking.{same_as_is, same_on}
 use Rattle.token_store.proofs.Dropping.{counted_without, dropped_one}
 use Rattle.token_store.proofs.Settling.{fewer_found}
 use Rattle.token_store.proofs.Timing.{at_time, least_at}
 
 -- WHAT GOES
+
+pub taken_out : (old without new : List (List ℕ × Record)) (digest : List ℕ) (r : Record) → lookup (bytes_eq digest) old ≡ Some r → IsDistinct bytes_eq (keys_of without) →
+    IsPermutation (remove_entry (bytes_eq digest) old) without → ((d : List ℕ) → lookup (bytes_eq d) without ≡ cond (bytes_eq digest d) None (lookup (bytes_eq d) old)) →
+    new ≡ without → HasTaken old new digest r
+taken_out old without new digest r at once moved taken is = rw is (record { found = at; once = once; moved = moved; taken = taken })
 
 pub sheds_none : (families : List (Option Shared)) (es : List (List ℕ × Record)) (m : ℕ) → IsDistinct bytes_eq (keys_of es) → IsCounted families es [] → Sheds families es families es m
 sheds_none families es m once counted = record { once = once; counted = counted; same = same_as_is (all_kept families es) m; fewer = λ d t at. at }
@@ -36,15 +41,14 @@ late_at : (m : ℕ) (r : Record) → is_live_at m r ≡ false → r.moment + r.l
 late_at m r is = let not_before : ¬ (m < r.moment + r.life) = (λ lt. false≢true (sym is ∙ lt-ltb m (r.moment + r.life) lt)) in omega (arith, not_before)
 
 pub sheds_one : (families families' : List (Option Shared)) (es es' : List (List ℕ × Record)) (digest : List ℕ) (r : Record) (m : ℕ) → IsDistinct bytes_eq (keys_of es) → IsCounted families es [] →
-    lookup (bytes_eq digest) es ≡ Some r → is_live_at m r ≡ false → IsDistinct bytes_eq (keys_of es') → IsPermutation (remove_entry (bytes_eq digest) es) es' →
-    ((d : List ℕ) → lookup (bytes_eq d) es' ≡ cond (bytes_eq digest d) None (lookup (bytes_eq d) es)) → HasLeft families families' r.family → Sheds families es families' es' m
-sheds_one families families' es es' digest r m once counted at late once' moved taken left =
-    let counted' = counted_without families families' es es' [] digest r counted at moved left in
+    HasTaken es es' digest r → is_live_at m r ≡ false → HasLeft families families' r.family → Sheds families es families' es' m
+sheds_one families families' es es' digest r m once counted has late left =
+    let counted' = counted_without families families' es es' [] digest r counted has.found has.moved left in
     record {
-      once = once';
+      once = has.once;
       counted = counted';
-      same = dropped_one families families' es es' [] digest r m once once' counted' at (late_at m r late) moved taken left;
-      fewer = fewer_found es es' digest taken;
+      same = dropped_one families families' es es' [] digest r m once has.once counted' has.found (late_at m r late) has.moved has.taken left;
+      fewer = fewer_found es es' digest has.taken;
     }
 
 -- what is not there has no expiry
@@ -52,14 +56,13 @@ pub none_there : (o : Option Record) (t m : ℕ) → o ≡ None → expiry_of o 
 none_there None t m none at = cc
 none_there (Some r) t m none at = cc
 
-pub live_there : (o : Option Record) (r : Record) (t m : ℕ) → o ≡ Some r → is_live_at m r ≡ true → expiry_of o ≡ Some t → m < t
-live_there None r t m is live at = cc
-live_there (Some x) r t m is live at =
-    let lt = ltb-true m (r.moment + r.life) live in
-    let same : x ≡ r = cc in
+-- nor has what has not expired one that has come
+pub none_late : (o : Option Record) (t m : ℕ) → IsNoneExpired m o → expiry_of o ≡ Some t → m < t
+none_late None t m live at = cc
+none_late (Some x) t m live at =
+    let lt = ltb-true m (x.moment + x.life) live in
     let time : x.moment + x.life ≡ t = cc in
-    let when : x.moment + x.life ≡ r.moment + r.life = ap (λ (y : Record). y.moment + y.life) same in
-    omega (arith, lt, time, when)
+    omega (arith, lt, time)
 
 -- WHICH ARE GONE
 
@@ -92,6 +95,11 @@ gone_one e es m gone d t listed at = here_cases (is_deadline d t e) refl listed
         let same : d ≡ e.digest = (bytes_eq-Decides d e.digest).0 (at_time d t e is).0 in
         gone t (ap (λ x. expiry_of (lookup (bytes_eq x) es)) (sym same) ∙ at)
     here_cases false is h = cc
+
+-- what was taken out is not there
+pub taken_gone : (e : Deadline) (es es' : List (List ℕ × Record)) (r : Record) (m : ℕ) → HasTaken es es' e.digest r → AllGone (e ∷ []) es' m
+taken_gone e es es' r m has = gone_one e es' m (λ t at. none_there (lookup (bytes_eq e.digest) es') t m
+    (has.taken e.digest ∙ ap (λ b. cond {A = Option Record} b None (lookup (bytes_eq e.digest) es)) ((bytes_eq-Decides e.digest e.digest).1 refl)) at)
 
 -- those whose least is still to come
 pub gone_later : (xs : List Deadline) (bound m : ℕ) (es : List (List ℕ × Record)) → m < least_from bound xs → AllGone xs es m

@@ -5,7 +5,8 @@ use Rattle.std.specs.Str.{bytes_eq}
 use Rattle.std.specs.declared.ops.Bound.{Bound}
 use Rattle.std.specs.declared.ops.Bound.TheVariants.{Included, Excluded}
 use Rattle.std.specs.BTreeMap.{is_at}
-use Rattle.std.specs.Map.{lookup, keys_of, set_value}
+use Rattle.std.specs.List.Sorted.{IsPermutation}
+use Rattle.std.specs.Map.{lookup, keys_of, remove_entry, set_value}
 use Rattle.consent.specs.declared.grant.Kind.TheVariants as kind
 use Rattle.consent.specs.Limits.{code_life}
 use Rattle.consent.specs.History.{is_named, is_beyond, is_within}
@@ -18,7 +19,7 @@ use Rattle.consent.specs.declared.change.CodeFacts.{CodeFacts}
 use Rattle.consent.specs.declared.change.NewToken.{NewToken}
 use Rattle.token_store.specs.Agenda.{is_deadline}
 use Rattle.token_store.specs.Kept.{Kept, kept_at, kept_unexpired}
-use Rattle.token_store.specs.Records.{terms_by, kept_under, kept_in, family_numbered, shared_at, kept_of, all_kept, expiry, expiry_of, owner_cmp, has_owner, code_shared, IsCounted, IsTied}
+use Rattle.token_store.specs.Records.{terms_by, kept_under, kept_in, family_numbered, shared_at, kept_of, all_kept, expiry, expiry_of, owner_cmp, has_owner, code_shared, IsCounted}
 
 abbrev pub is_live_at : ℕ → Record → Bool
 is_live_at moment r = nat_lt moment (r.moment + r.life)
@@ -43,6 +44,18 @@ KeepsToo old new digest r = (moment : ℕ) → kept_at (kept_of old) digest mome
 -- the record is found under the digest, and under each other digest what was
 abbrev pub HasPut : (old new : List (List ℕ × Record)) → List ℕ → Record → Type 0
 HasPut old new digest r = (d : List ℕ) → lookup (bytes_eq d) new ≡ (if bytes_eq digest d then Some r else lookup (bytes_eq d) old)
+
+-- the record of the digest is taken out
+pub record HasTaken (old new : List (List ℕ × Record)) (digest : List ℕ) (r : Record) : Type 0 where
+  pub found : lookup (bytes_eq digest) old ≡ Some r
+  pub once : IsDistinct bytes_eq (keys_of new)
+  pub moved : IsPermutation (remove_entry (bytes_eq digest) old) new
+  pub taken : (d : List ℕ) → lookup (bytes_eq d) new ≡ (if bytes_eq digest d then None else lookup (bytes_eq d) old)
+
+-- there is none, or it has not expired
+abbrev pub IsNoneExpired : ℕ → Option Record → Type 0
+IsNoneExpired moment None = Unit {0}
+IsNoneExpired moment (Some r) = is_live_at moment r ≡ true
 
 -- none has expired
 abbrev pub AllLive : List (List ℕ × Record) → ℕ → Type 0
@@ -95,13 +108,6 @@ pub record HasClosed (old new : List (Option Shared)) (n : ℕ) : Type 0 where
 -- each of the family looks as it did
 abbrev pub SharesSame : List (Option Shared) → List (Option Shared) → ℕ → Type 0
 SharesSame old new n = (digest : List ℕ) (r : Record) → kept_under (shared_at new n) digest r ≡ kept_under (shared_at old n) digest r
-
--- nothing is kept under the digest any more, where only something expired was
-pub record ForgetsExpired (t t' : Tables) (digest : List ℕ) (n : ℕ) : Type 0 where
-  pub tied : IsTied t' (n ∷ [])
-  pub absent : lookup (bytes_eq digest) t'.records.entries ≡ None
-  pub same : (moment : ℕ) → kept_at (kept_of t) digest moment ≡ None → TellsSame (kept_of t) (kept_of t') moment
-  pub shares : SharesSame t.families.slots t'.families.slots n
 
 -- a mark, and which records it is meant for
 pub data RecordMark : Type 0 where

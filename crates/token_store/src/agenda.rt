@@ -81,6 +81,7 @@ impl Agenda {
     }
 
     /// Whether the moment comes before all deadlines.
+    #[inline]
     pub(crate) fn is_ahead(&self, moment: Moment) -> bool
         requires { IsExact self.now }
         ensures { result ≡ nat_lt moment (least (deadlines_of self.now)) }

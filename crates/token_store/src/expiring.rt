@@ -1,12 +1,12 @@
 //! What has expired goes.
-ghost use Rattle.std.specs.Prelude.{◌≡◌, ◌≤◌, [], ◌∷◌, filter};
+ghost use Rattle.std.specs.Prelude.{◌≡◌, ◌≤◌, [], ◌∷◌, false, filter, IfSome, IfNone};
 ghost use Rattle.std.specs.List.{AllByRecursion, IsDistinct};
 ghost use Rattle.std.specs.Str.{bytes_eq};
-ghost use Rattle.std.specs.Map.{keys_of};
+ghost use Rattle.std.specs.Map.{keys_of, lookup};
 ghost use Rattle.token_store.specs.Agenda.{IsBounded, deadlines_in, deadlines_of};
 ghost use Rattle.token_store.specs.AgendaParts.{is_ahead, HasCome};
 ghost use Rattle.token_store.specs.Records.{IsCounted, IsOwned, IsTied, kept_of};
-ghost use Rattle.token_store.specs.RecordsParts.{AllGone, AllLive, Sheds, TellsSame};
+ghost use Rattle.token_store.specs.RecordsParts.{AllGone, AllLive, HasTaken, IsNoneExpired, Sheds, TellsSame, is_live_at};
 
 use crate::agenda::{Deadline, Page};
 use crate::record::{Record, Shared};
@@ -14,9 +14,11 @@ use crate::tables::{Owners, Tables, leave};
 use consent::{Digest, Moment};
 use slab::Slab;
 use std::collections::HashMap;
+use std::collections::hash_map::Entry;
 
 impl Tables {
     /// Lets go of all that has expired.
+    #[inline]
     pub(crate) fn drop_expired(&mut self, moment: Moment)
         requires { IsTied self.old [] }
         ensures tied { IsTied self.new [] }
@@ -30,6 +32,7 @@ impl Tables {
     }
 
     // Lets go of what has expired, where the least deadline has come.
+    #[inline(never)]
     fn drop_due(&mut self, moment: Moment)
         requires tied { IsTied self.old [] }
         requires due { HasCome (deadlines_of self.old.agenda) moment }
@@ -71,15 +74,36 @@ fn drop_one(
     ensures owned { IsOwned families.old.slots owners.old.keys → IsOwned families.new.slots owners.new.keys }
     ensures gone { AllGone (deadline.now ∷ []) records.new.entries moment }
 {
-    let Some(record) = records.get(&deadline.digest) else {
-        return;
-    };
-    if record.is_unexpired(moment) {
-        return;
+    if let Some(expired) = take_expired(records, &deadline.digest, moment) {
+        leave(families, owners, expired.family);
     }
-    let family = record.family;
-    records.remove(&deadline.digest);
-    leave(families, owners, family);
+}
+
+// Takes the record of the digest, if it has expired.
+fn take_expired(
+    records: &mut HashMap<Digest, Record>,
+    digest: &Digest,
+    moment: Moment,
+) -> Option<Record>
+    ensures some { IfSome result (HasTaken records.old.entries records.new.entries digest.now) }
+    ensures expired { IfSome result (λ r. is_live_at moment r ≡ false) }
+    ensures none { IfNone result (records.new.entries ≡ records.old.entries) }
+    ensures live { IfNone result (IsNoneExpired moment (lookup (bytes_eq digest.now) records.old.entries)) }
+{
+    match records.entry(*digest) {
+        Ok(Entry::Occupied(entry)) => {
+            if entry.get().is_unexpired(moment) {
+                return None;
+            }
+            Some(entry.remove())
+        }
+        Ok(Entry::Vacant(entry)) => {
+            // Which gives the map back.
+            let _ = entry.into_key();
+            None
+        }
+        Err(_) => None,
+    }
 }
 
 // Lets go of the records of these deadlines that have expired.

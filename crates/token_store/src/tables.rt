@@ -11,7 +11,7 @@ ghost use Rattle.token_store.specs.FitsParts.{are_kept, has_kept_room, kept_refu
 ghost use Rattle.token_store.specs.Room.{HasSpare, room_of};
 ghost use Rattle.token_store.specs.RoomParts.{KeepsRoom, WaitsStill};
 ghost use Rattle.token_store.specs.Records.{family_numbered, kept_under, kept_of, shared_at, IsCounted, IsOwned, IsTied};
-ghost use Rattle.token_store.specs.RecordsParts.{deadline_of, is_live_at, IsNextOwned, start_of, kept_found, HasEntered, HasLeft, HasEnded, HasIndexed, HasOpened, HasLowered, HasSpent, lowered_by, AllLive, ForgetsExpired, KeepsToo, OthersStay, RecordMark, all_marked, spent_in};
+ghost use Rattle.token_store.specs.RecordsParts.{deadline_of, is_live_at, IsNextOwned, start_of, kept_found, HasEntered, HasLeft, HasClosed, HasEnded, HasIndexed, HasOpened, HasLowered, HasSpent, lowered_by, AllLive, KeepsToo, OthersStay, RecordMark, all_marked, spent_in};
 
 use crate::agenda::Agenda;
 use crate::fault::StoreFault;
@@ -112,6 +112,7 @@ impl Tables {
     }
 
     // Whether the moment comes before any record expires.
+    #[inline]
     pub(crate) fn is_none_expired(&self, moment: Moment) -> bool
         requires { IsTied self.now [] }
         ensures value { result ≡ nat_lt moment (least (deadlines_of self.now.agenda)) }
@@ -220,21 +221,6 @@ impl Tables {
         Ok(number)
     }
 
-    // Lets go of a family without records.
-    fn close_family(&mut self, number: usize)
-        requires tied { IsTied self.old [] }
-        requires empty { (shared_at self.old.families.slots number).count ≡ 0 }
-        ensures tied { IsTied self.new [] }
-        ensures same { kept_of self.new ≡ kept_of self.old }
-        ensures coming { self.new.coming ≡ self.old.coming }
-    {
-        let Some(shared) = self.families.try_remove(number) else {
-            return;
-        };
-        self.owners
-            .remove(&((shared.owner, shared.client.get()), number));
-    }
-
     /// Lets go of the family, if it has no records.
     pub(crate) fn close_if_empty(&mut self, number: usize)
         requires { IsTied self.old [] }
@@ -246,24 +232,11 @@ impl Tables {
             return;
         };
         if shared.count == 0 {
-            self.close_family(number);
+            close(&mut self.families, &mut self.owners, number);
         }
     }
 
-    // Lets go of what has expired under the digest of a record that is about to come.
-    fn forget(&mut self, digest: &Digest)
-        ensures forgotten { (n : ℕ) → IsTied self.old (n ∷ []) → ForgetsExpired self.old self.new digest.now n }
-        ensures waiting { (n k : ℕ) → IsTied self.old (k ∷ []) → WaitsStill self.old.families.slots self.new.families.slots n }
-        ensures spare { spare self.old.records ≤ spare self.new.records }
-        ensures agenda { self.new.agenda ≡ self.old.agenda }
-        ensures coming { self.new.coming ≡ self.old.coming }
-    {
-        if let Some(old) = self.records.remove(digest) {
-            leave(&mut self.families, &mut self.owners, old.family);
-        }
-    }
-
-    /// Keeps the record in its family.
+    /// Keeps the record in its family, in the place of what has expired under its digest.
     pub(crate) fn put(&mut self, digest: &Digest, new: Record)
         requires tied { IsTied self.old [] }
         requires open { is_some (family_numbered self.old.families.slots new.family) ≡ true }
@@ -278,11 +251,13 @@ impl Tables {
         // There are fewer than 2^63, and so there are of the family.
         let _ = self.records.len();
         enter(&mut self.families, new.family, 1);
-        self.forget(digest);
         self.agenda.add(digest, new.expiry());
-        let Ok(_) = self.records.insert(*digest, new) else {
+        let Ok(replaced) = self.records.insert(*digest, new) else {
             unreachable!()
         };
+        if let Some(expired) = replaced {
+            leave(&mut self.families, &mut self.owners, expired.family);
+        }
     }
 }
 
@@ -397,16 +372,25 @@ pub(crate) fn leave(families: &mut Slab<Shared>, owners: &mut Owners, number: us
     ensures owned { IsOwned families.old.slots owners.old.keys → IsOwned families.new.slots owners.new.keys }
     ensures left { HasLeft families.old.slots families.new.slots number }
 {
-    let Some(found) = families.get(number) else {
+    let Some(shared) = families.get_mut(number) else {
         return;
     };
-    let shared = *found;
     if shared.count > 1 {
-        if let Some(state) = families.get_mut(number) {
-            state.count = shared.count - 1;
-        }
+        shared.count -= 1;
         return;
     }
-    families.try_remove(number);
-    owners.remove(&((shared.owner, shared.client.get()), number));
+    close(families, owners, number);
+}
+
+// Lets go of the family, which the index has only if a code of some scope opened it.
+fn close(families: &mut Slab<Shared>, owners: &mut Owners, number: usize)
+    ensures owned { IsOwned families.old.slots owners.old.keys → IsOwned families.new.slots owners.new.keys }
+    ensures closed { HasClosed families.old.slots families.new.slots number }
+{
+    let Some(shared) = families.try_remove(number) else {
+        return;
+    };
+    if shared.code_scope.is_some() {
+        owners.remove(&((shared.owner, shared.client.get()), number));
+    }
 }
