@@ -16,7 +16,7 @@ use Rattle.event_loop.specs.Reading.{ReadsPlace}
 use Rattle.event_loop.specs.Writing as writing
 use Rattle.event_loop.specs.Writing.{WritesPlace}
 use Rattle.event_loop.specs.Closing.{Closes, leaves}
-use Rattle.event_loop.specs.Served.{LoopStep, Served, Shuts, waits, hears_of_listener, hears_of, hears_of_none, comes, tries_again, reads, writes, closes, reports, keeps, puts_image, no_image, begins, goes, stops, shuts, reports_last}
+use Rattle.event_loop.specs.Served.{LoopStep, Served, Shuts, TellsLast, tells_nothing, waits, hears_of_listener, hears_of, hears_of_none, comes, tries_again, reads, writes, closes, reports, keeps, puts_image, no_image, begins, goes, stops, shuts, reports_last}
 use Rattle.event_loop.specs.Durable.{Onward, stays, onward, KeeperHolds, StandsBetween, IsDurable, IsDurableToEnd}
 use Rattle.event_loop.specs.Ends.{CannotGoOn, no_wait, no_time, not_kept, not_imaged, no_more}
 use Rattle.event_loop.proofs.Answering.{served_answered}
@@ -276,10 +276,13 @@ module _ {N C J K H : Type 0} (p : Promises N C J K H) where
     shuts_keeper : (s s' : Scene N C J K H) → Shuts p s s' → s'.keeper ≡ s.keeper
     shuts_keeper s s' stops = refl
     shuts_keeper s s' (shuts {s = before} k place shut here taken closing) = closes_keeper k place before s' closing ∙ shuts_keeper s before shut
-    shuts_keeper s s' (reports_last {s = before} report journal shut wanted tells done) = shuts_keeper s before shut
+
+    last_keeper : (s s' : Scene N C J K H) → TellsLast p s s' → s'.keeper ≡ s.keeper
+    last_keeper s s' (reports_last report journal wanted tells done) = refl
+    last_keeper s s' (tells_nothing unwanted) = refl
 
     -- and so it is up to the end
-    pub durable_to_end : (s last failed end : Scene N C J K H) (fault : LoopFault) → Served p first s → Onward p s last → CannotGoOn p last fault failed → Shuts p failed end →
-        IsDurableToEnd p s last end
-    durable_to_end s last failed end fault served on failing shut = λ kept is c left.
-        fails_durable s last failed fault served on failing kept is c (subst (λ k. p.keeping.crashes.left_since k (p.keeping.crashes.moment s.keeper) c) (shuts_keeper failed end shut) left)
+    pub durable_to_end : (s last failed emptied end : Scene N C J K H) (fault : LoopFault) → Served p first s → Onward p s last → CannotGoOn p last fault failed → Shuts p failed emptied →
+        TellsLast p emptied end → IsDurableToEnd p s last end
+    durable_to_end s last failed emptied end fault served on failing shut told = λ kept is c left.
+        fails_durable s last failed fault served on failing kept is c (subst (λ k. p.keeping.crashes.left_since k (p.keeping.crashes.moment s.keeper) c) (last_keeper emptied end told ∙ shuts_keeper failed emptied shut) left)

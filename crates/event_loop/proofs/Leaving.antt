@@ -14,15 +14,16 @@ use Rattle.event_loop.specs.Courses.{IsReached}
 use Rattle.event_loop.specs.Deeds.{Accepting, done_since}
 use Rattle.event_loop.specs.Places.{IsOccupied}
 use Rattle.event_loop.specs.Scenes.{Promises, Scene}
-use Rattle.event_loop.specs.Closing.{Cause}
+use Rattle.event_loop.specs.Closing.{AreWithin, Cause}
 use Rattle.event_loop.specs.Served as served
 use Rattle.event_loop.specs.Served.{IsIdle, IsPatient, MayWait, goes, closes}
 use Rattle.event_loop.specs.Ends.{CannotGoOn, no_wait, no_time, not_kept, not_imaged, no_more}
 use Rattle.event_loop.specs.Goes as limited
-use Rattle.event_loop.specs.Goes.{Past, IsBusy, IsLimit, IsReadyToWait, IsKeptShort, LeadsAway, SettlesAll, AreAllSettled, MayRest, running, scene_of}
+use Rattle.event_loop.specs.Goes.{Past, IsQuick, IsReported, IsTried, NobodyIsSilent, OnlyTells, FreesPlace, IsBusy, IsLimit, IsReadyToWait, IsKeptShort, LeadsAway, SettlesAll, AreAllSettled, MayRest, running, scene_of}
 use Rattle.event_loop.proofs.Doing.{closes_done, closes_some, done_some, none_more}
 use Rattle.event_loop.proofs.Answering.{served_answered}
 use Rattle.event_loop.proofs.Leading.{closes_other}
+use Rattle.event_loop.proofs.Putting.{put_within}
 use Rattle.event_loop.proofs.Resting.{put_others, put_settled, free_rests, all_settled, settled_then}
 
 is_idle : {N C J K H : Type 0} (service : Service) (tools : Tools N C J K H) (past : Past H) → length service.places ≡ 64 → AreAllSettled service past → MayRest service → IsIdle (scene_of (running service tools) [] past)
@@ -30,6 +31,11 @@ is_idle service tools past size settled rest = record { places = λ k place here
   where
     below : (k : ℕ) (place : Place) → slice_get service.places k ≡ Some place → k < 64
     below k place here = let within = slice_get_within service.places k place here in omega (arith, size, within)
+
+-- where a place is freed, nobody is silent for longer
+pub frees_within : (k : ℕ) (place : Place) (service service' : Service) → FreesPlace k place service service' → NobodyIsSilent service → NobodyIsSilent service'
+frees_within k place service service' frees all =
+    subst NobodyIsSilent (sym frees) (put_within service.limits.idle service.times service.places k (record place { stage = Free }) (λ taken. absurd taken) all)
 
 module _ {N C J K H : Type 0} (p : Promises N C J K H) where
   pub leaves_to : (k : _) (place : Place) (service : Service) (tools : Tools N C J K H) (service' : Service) (tools' : Tools N C J K H) → slice_get service.places k ≡ Some place → IsOccupied place.stage →
@@ -73,7 +79,7 @@ pub may_wait : {N C J K H : Type 0} (p : Promises N C J K H) (service : Service)
 may_wait p service tools past limit room size ready is_limit roomy short = record {
   patient = is_patient service tools past limit size ready is_limit;
   fair = record { places = λ k place here. (let within = slice_get_within service.places k place here in (ready.settled k (omega (arith, size, within))).turned place here); queue = ready.queue };
-  prompt = record { idle = ready.quick.idle; crowded = ready.quick.crowded; tried = ready.quick.tried };
+  prompt = record { idle = ready.quick.idle; crowded = ready.quick.crowded; tried = ready.quick.tried; reported = ready.quick.reported };
   heard = refl;
   roomy = roomy;
   short = short;
@@ -86,8 +92,18 @@ ready_still service past service' same ready =
     subst (λ (s : Service). IsReadyToWait s past) (sym same) (record {
       settled = settled_then service past still past refl refl refl (none_more past.deeds) ready.settled;
       queue = ready.queue;
-      quick = record { idle = ready.quick.idle; crowded = ready.quick.crowded; tried = ready.quick.tried };
+      quick = record { idle = ready.quick.idle; crowded = ready.quick.crowded; tried = ready.quick.tried; reported = ready.quick.reported };
     })
+
+-- where what is told alone became other, all else is as quick
+pub quick_told : (service service' : Service) → OnlyTells service service' → NobodyIsSilent service → (service.queue ≡ Waits → AreWithin service.limits.crowded service.times service.places) → IsTried service → IsReported service' →
+    IsQuick service'
+quick_told service service' same idle crowded tried reported = record {
+  idle = subst NobodyIsSilent (sym same) idle;
+  crowded = subst (λ (s : Service). s.queue ≡ Waits → AreWithin s.limits.crowded s.times s.places) (sym same) crowded;
+  tried = subst IsTried (sym same) tried;
+  reported = reported;
+}
 
 -- nobody is to be accepted, or it was tried
 pub told_or_not : {P : Type 0} (queue : Queue) → (queue ≡ Told → P) → (queue ≢ Told) ⊎ P

@@ -1,5 +1,5 @@
 -- Where nothing is to be done.
-use Rattle.std.proofs.Common.{◌≡◌, ◌≢◌, inl, inr, ◌<◌, ℕ, suc, List, [], Bool, true, false, Option, Some, length, refl, sym, ap, subst, ◌∙◌, arith, ◌-◌}
+use Rattle.std.proofs.Common.{◌≡◌, ◌≢◌, inl, inr, ◌<◌, ℕ, suc, List, [], Bool, true, false, Option, Some, length, refl, sym, ap, subst, ◌∙◌, arith, ◌-◌, ◌==◌}
 use Rattle.std.specs.Prelude.{slice_get, slice_set}
 use Rattle.std.proofs.lemmas.Bool.{false≢true}
 use Rattle.std.proofs.lemmas.Bool.Decides.{eqb_tells}
@@ -7,7 +7,8 @@ use Rattle.http_edge.specs.Schedule.{World, Connection, connection_at, untaken}
 use Rattle.http_edge.specs.Reached.{is_closing}
 use Rattle.event_loop.specs.declared.clocks.Times.{Times}
 use Rattle.event_loop.specs.declared.place.Place.{Place}
-use Rattle.event_loop.specs.declared.place.Stage.TheVariants.{Free}
+use Rattle.event_loop.specs.declared.place.Stage.{Stage}
+use Rattle.event_loop.specs.declared.place.Stage.TheVariants.{Free, Open, Ended, Broken}
 use Rattle.event_loop.specs.declared.service.Service.{Service}
 use Rattle.event_loop.specs.declared.sockets.Ready.{Ready}
 use Rattle.event_loop.specs.declared.tools.Tools.{Tools}
@@ -16,9 +17,33 @@ use Rattle.event_loop.specs.Places.{IsOccupied, IsInService, MayRead, MayWrite, 
 use Rattle.event_loop.specs.Scenes.{Promises, Scene}
 use Rattle.event_loop.specs.Coming.{fresh_place}
 use Rattle.event_loop.specs.Served.{HadTurn, Served}
-use Rattle.event_loop.specs.Goes.{Past, DoneAfter, HoldsAt, IsHeardAt, IsSettledAt, AreAllSettled, StaysIdle, IsWorkLeft, a_read, a_write, IsLeftAt, LeavesOthers, IsRestedAt, IsRested, TidiesAt, running, standing, scene_of, to_read, to_write}
+use Rattle.event_loop.specs.Goes.{Past, IsToldAs, DoneAfter, HoldsAt, IsHeardAt, IsSettledAt, AreAllSettled, StaysIdle, IsWorkLeft, a_read, a_write, IsLeftAt, LeavesOthers, IsRestedAt, IsRested, TidiesAt, running, standing, scene_of, to_read, to_write}
 use Rattle.event_loop.proofs.Putting.{set_other, set_same, same_some}
 use Rattle.event_loop.proofs.Doing.{none_more}
+
+-- what is not empty has some
+pub some_there : (empty : Bool) (bytes : List ℕ) → empty ≡ (length bytes == 0) → empty ≡ false → 0 < length bytes
+some_there empty bytes is not = elim (eqb_tells (length bytes) 0) [
+  | inl none ↦ absurd (false≢true (sym not ∙ is ∙ none.0))
+  | inr some ↦ (let other = some.1 in omega (arith, other))
+]
+
+pub none_there : (empty : Bool) (bytes : List ℕ) → empty ≡ (length bytes == 0) → empty ≡ true → ¬ (0 < length bytes)
+none_there empty bytes is has_none some = elim (eqb_tells (length bytes) 0) [
+  | inl none ↦ (let zero = none.1 in absurd (omega (arith, zero, some)))
+  | inr other ↦ false≢true (sym other.0 ∙ sym is ∙ has_none)
+]
+
+-- what the edge tells of a connection
+pub told_as : (output : ℕ) (closing : Bool) (bytes : List ℕ) (connection : Option Connection) → output ≡ length bytes → bytes ≡ untaken connection → closing ≡ is_closing connection → IsToldAs output closing connection
+told_as output closing bytes connection size is_output closes = (sym (size ∙ ap length is_output), sym closes)
+
+-- where a connection is served, one is there
+pub served_taken : (stage : Stage) → IsInService stage → IsOccupied stage
+served_taken Free served = absurd served
+served_taken Open served = tt
+served_taken Ended served = tt
+served_taken (Broken fault) served = tt
 
 -- at a free place nothing is to be done
 pub free_rests : (p : Place) (o : Option Connection) → p.stage ≡ Free → IsPlaceAtRest p o

@@ -13,7 +13,7 @@ use Rattle.event_loop.specs.Durable.{Onward, KeeperHolds, IsDurable, IsDurableTo
 use Rattle.event_loop.specs.Places.{AllFree}
 use Rattle.event_loop.specs.Scenes.{Promises, Scene, IsAllKept, IsUnkept, with_deed}
 use Rattle.event_loop.specs.Answered.{IsAllAnswered}
-use Rattle.event_loop.specs.Served.{IsFirst, MayWait, Served, Shuts}
+use Rattle.event_loop.specs.Served.{IsFirst, MayWait, Served, Shuts, TellsLast}
 
 -- so many rounds can be counted
 abbrev pub rounds_limit : ℕ
@@ -52,8 +52,8 @@ tools_at s = record {
 }
 
 -- The clocks told the first times, and steps led on, whose every scene is answered, until something failed; then nothing
--- was done but that each connection that was left was closed and forgotten, and all places are free. Where the keeper held
--- at first what was kept, all that was kept is durable.
+-- was done but that each connection that was left was closed and forgotten, and all places are free, and that behind them,
+-- where reports are wanted, there was one more. Where the keeper held at first what was kept, all that was kept is durable.
 pub record HasServed {N C J K H : Type 0} (p : Promises N C J K H) (start : Beginning N C J K H) (fault : LoopFault) (tools' : Tools N C J K H) : Type 0 where
   pub first : Scene N C J K H
   pub is_first : IsFirst p first
@@ -67,8 +67,10 @@ pub record HasServed {N C J K H : Type 0} (p : Promises N C J K H) (start : Begi
   pub durable : KeeperHolds p first → (s s' : Scene N C J K H) → Served p first s → Onward p s s' → IsDurable p s s'
   pub failed : Scene N C J K H
   pub fails : CannotGoOn p last fault failed
+  pub emptied : Scene N C J K H
+  pub shuts : Shuts p failed emptied
   pub end : Scene N C J K H
-  pub shuts : Shuts p failed end
+  pub tells_last : TellsLast p emptied end
   pub durable_then : KeeperHolds p first → (s : Scene N C J K H) → Served p first s → Onward p s last → IsDurableToEnd p s last end
   pub free : AllFree end.places
   pub tools_are_then : tools' ≡ tools_at end

@@ -1,9 +1,11 @@
 -- How each part of the loop leads on. Only the contracts of its parts and their proofs cite this: no public clause does.
-use Rattle.std.specs.Prelude.{◌≡◌, ◌≢◌, ◌⊎◌, ◌≤◌, ◌<◌, ◌+◌, ℕ, true, false, List, [], ◌∷◌, Option, Some, slice_get, slice_set, None, ⊤}
+use Rattle.std.specs.Prelude.{◌≡◌, ◌≢◌, ◌⊎◌, ◌≤◌, ◌<◌, ◌+◌, ◌-◌, ℕ, Bool, true, false, List, [], ◌∷◌, Option, Some, length, slice_get, slice_set, None, ⊤}
 use Rattle.hook_host.specs.declared.host.HookHost.{Ghosts as Hosting}
-use Rattle.http_edge.specs.Schedule.{World, Connection, connection_at}
+use Rattle.http_edge.specs.Schedule.{World, Connection, connection_at, untaken}
 use Rattle.http_edge.specs.Edges.{SeenEdge}
-use Rattle.http_edge.specs.Reached.{InEach, Journey, Reached}
+use Rattle.http_edge.specs.Reached.{InEach, Journey, Reached, is_closing}
+use Rattle.event_loop.specs.declared.due.Due.{Due}
+use Rattle.event_loop.specs.declared.due.Due.TheVariants.{Close, Work, Rest}
 use Rattle.event_loop.specs.declared.fault.LoopFault.{LoopFault}
 use Rattle.event_loop.specs.declared.place.Place.{Place}
 use Rattle.event_loop.specs.declared.place.Stage.TheVariants.{Free}
@@ -14,11 +16,11 @@ use Rattle.event_loop.specs.declared.sockets.Ready.{Ready}
 use Rattle.event_loop.specs.declared.tools.Tools.{Tools}
 use Rattle.event_loop.specs.Deeds.{Deed, Task, Reading, Keeping, Writing, Accepting, IsDone, waits, done_since}
 use Rattle.event_loop.specs.Noting.{Noted}
-use Rattle.event_loop.specs.Places.{IsOccupied, MayRead, MayWrite, NeedsNoRead, NeedsNoWrite, IsPlaceAtRest, AllFree}
+use Rattle.event_loop.specs.Places.{IsOccupied, MayRead, MayWrite, NeedsNoRead, NeedsNoWrite, IsOver, IsPlaceAtRest, AllFree}
 use Rattle.event_loop.specs.Scenes.{Promises, Scene, IsAllKept}
 use Rattle.event_loop.specs.Closing.{IsSilentLongest, AreWithin, Closes, freed_queue}
 use Rattle.event_loop.specs.Reporting.{Tells}
-use Rattle.event_loop.specs.Served.{HadTurn, Served, Shuts}
+use Rattle.event_loop.specs.Served.{HadTurn, Served, Shuts, TellsLast}
 use Rattle.event_loop.specs.Ends.{CannotGoOn}
 
 -- it holds of the connection, wherever the edge was reached
@@ -168,6 +170,16 @@ LeadsToActs {N} {C} {J} {K} {H} p duty before after =
 pub data IsWorkLeft (place : Place) (connection : Option Connection) : Type 0 where
   a_read : place.readable ≡ true → MayRead place connection → IsWorkLeft place connection
   a_write : place.writable ≡ true → MayWrite place connection → IsWorkLeft place connection
+
+-- so much of the connection's output is left, and whether it was answered the 400 of a faulty head, as the edge tells
+abbrev pub IsToldAs : ℕ → Bool → Option Connection → Type 0
+IsToldAs output closing connection = (length (untaken connection) ≡ output) × (is_closing connection ≡ closing)
+
+-- what is due for the connection at a place
+abbrev pub IsDueFor : Place → Due → Option Connection → Type 0
+IsDueFor place Close connection = IsOver place connection
+IsDueFor place Work connection = IsWorkLeft place connection × ¬ (IsOver place connection)
+IsDueFor place Rest connection = IsPlaceAtRest place connection
 
 -- so it is at the place
 pub record IsLeftAt (k : ℕ) (service : Service) (world : World) : Type 0 where
@@ -357,11 +369,25 @@ LeadsWriting {N} {C} {J} {K} {H} p i before after =
 abbrev pub IsTried : Service → Type 0
 IsTried service = (since : ℕ) → service.queue ≡ Barred since → since ≡ service.times.steady
 
--- nobody is silent for too long, nor is accepting barred
+-- as the clocks told last, nobody is silent for too long
+abbrev pub NobodyIsSilent : Service → Type 0
+NobodyIsSilent service = AreWithin service.limits.idle service.times service.places
+
+-- where reports are wanted, one was told in this second, or less than so many seconds ago
+abbrev pub IsReported : Service → Type 0
+IsReported service =
+    (every : ℕ) → service.limits.report ≡ Some every → service.told.report ≡ service.times.steady ⊎ service.times.steady - service.told.report < every
+
+-- what is told of the server alone is other
+abbrev pub OnlyTells : Service → Service → Type 0
+OnlyTells service service' = service' ≡ record service { told = service'.told; full = service'.full }
+
+-- nobody is silent for too long, nor is accepting barred, nor is a report due
 pub record IsQuick (service : Service) : Type 0 where
-  pub idle : AreWithin service.limits.idle service.times service.places
+  pub idle : NobodyIsSilent service
   pub crowded : service.queue ≡ Waits → AreWithin service.limits.crowded service.times service.places
   pub tried : IsTried service
+  pub reported : IsReported service
 
 -- all places are settled, and nobody is to be accepted, or it was tried since the last wait
 pub record IsReadyToWait {H : Type 0} (service : Service) (past : Past H) : Type 0 where
@@ -398,6 +424,10 @@ LeadsWrong {N} {C} {J} {K} {H} p fault before after =
 -- a report tells what is so now
 abbrev pub TellsNow : {N C J K H : Type 0} → Promises N C J K H → Running N C J K H → Report → Type 0
 TellsNow {N} {C} {J} {K} {H} p now report = (found : List Ready) (past : Past H) → Tells p (scene_of now found past) report
+
+-- where reports are wanted, there is one more
+abbrev pub LeadsLast : {N C J K H : Type 0} → Promises N C J K H → Running N C J K H → Running N C J K H → Type 0
+LeadsLast {N} {C} {J} {K} {H} p before after = (found : List Ready) (past : Past H) → TellsLast p (scene_of before found past) (scene_of after found past)
 
 -- connections that are left are closed
 pub record GoesShut {N C J K H : Type 0} (p : Promises N C J K H) (first : Scene N C J K H) (found : List Ready) (after : Running N C J K H) : Type 0 where

@@ -1,5 +1,5 @@
 -- What is to be done at a place.
-use Rattle.std.specs.Prelude.{◌≡◌, ◌≤◌, ◌<◌, ℕ, true, false, List, [], Option, Some, length, slice_get, ⊤}
+use Rattle.std.specs.Prelude.{◌≡◌, ◌≤◌, ◌<◌, ℕ, Bool, true, false, List, [], Option, Some, count_by, length, slice_get, ⊤}
 use Rattle.http_edge.specs.Schedule.{Connection, untaken}
 use Rattle.http_edge.specs.Reached.{is_closing}
 use Rattle.event_loop.specs.declared.fault.ConnectionFault.{ConnectionFault}
@@ -27,6 +27,10 @@ backlog_limit = 65536
 abbrev pub IsOccupied : Stage → Type 0
 IsOccupied Free = ⊥
 IsOccupied stage = ⊤
+
+abbrev pub is_taken : Stage → Bool
+is_taken Free = false
+is_taken stage = true
 
 -- it is served
 abbrev pub IsInService : Stage → Type 0
@@ -75,6 +79,10 @@ IsFreeAt places k = (place : Place) → slice_get places k ≡ Some place → pl
 -- no connection is there
 abbrev pub AllFree : List Place → Type 0
 AllFree places = (k : ℕ) → IsFreeAt places k
+
+-- how many connections are there
+abbrev pub open_count : List Place → ℕ
+open_count places = count_by (λ place. is_taken place.stage) places
 
 -- a connection is at each place
 abbrev pub AllTaken : List Place → Type 0

@@ -4,11 +4,13 @@ use Rattle.event_loop.specs.declared.report.LastTold.{LastTold}
 use Rattle.event_loop.specs.declared.report.Notice.{Notice}
 use Rattle.event_loop.specs.declared.report.Notice.TheVariants.{Reported, StoreFull}
 use Rattle.event_loop.specs.declared.report.Report.{Report}
+use Rattle.event_loop.specs.Places.{open_count}
 use Rattle.event_loop.specs.Scenes.{Promises, Scene}
 
--- a report tells the moment, and how much the server keeps
+-- a report tells the moment, how many connections are there, and how much the server keeps
 pub record Tells {N C J K H : Type 0} (p : Promises N C J K H) (s : Scene N C J K H) (report : Report) : Type 0 where
   pub moment : report.moment ≡ s.times.moment
+  pub connections : report.«open» ≡ open_count s.places
   pub records : report.records ≡ length s.course.edge.server.store.kept
   pub consents : report.consents ≡ length s.course.edge.server.consents.masks
   pub hooks : report.hooks ≡ length (p.hosting.names s.course.edge.server.host)

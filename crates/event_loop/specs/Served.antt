@@ -1,5 +1,5 @@
 -- All that the loop does, step by step.
-use Rattle.std.specs.Prelude.{◌≡◌, ◌≢◌, ◌⊎◌, ◌<◌, ◌≤◌, ℕ, Bool, true, ◌||◌, List, [], ◌∷◌, Option, Some, None, IsSome, slice_get, length}
+use Rattle.std.specs.Prelude.{◌≡◌, ◌≢◌, ◌⊎◌, ◌<◌, ◌≤◌, ◌-◌, ℕ, Bool, true, ◌||◌, List, [], ◌∷◌, Option, Some, None, IsSome, slice_get, length}
 use Rattle.event_loop.specs.declared.clocks.Times.{Times}
 use Rattle.event_loop.specs.declared.place.Place.{Place}
 use Rattle.event_loop.specs.declared.queue.Queue.TheVariants.{Told, Empty, Barred, Waits}
@@ -42,11 +42,13 @@ pub record IsFair {N C J K H : Type 0} (s : Scene N C J K H) : Type 0 where
   pub queue : s.queue ≢ Told ⊎ IsDone Accepting s.deeds
 
 -- As the clocks told last, nobody is silent for longer than the limit, nor, where another connection waits for a place, for
--- longer than the other limit; and where an accept failed and was not tried again, it failed in this second.
+-- longer than the other limit; where an accept failed and was not tried again, it failed in this second; and where reports
+-- are wanted, one was told in this second, or less than so many seconds ago.
 pub record IsPrompt {N C J K H : Type 0} (s : Scene N C J K H) : Type 0 where
   pub idle : AreWithin s.limits.idle s.times s.places
   pub crowded : s.queue ≡ Waits → AreWithin s.limits.crowded s.times s.places
   pub tried : (since : ℕ) → s.queue ≡ Barred since → since ≡ s.times.steady
+  pub reported : (every : ℕ) → s.limits.report ≡ Some every → s.told.report ≡ s.times.steady ⊎ s.times.steady - s.told.report < every
 
 -- How long it waits, in milliseconds: not at all only where something was done since the last wait; else, where nothing is
 -- to be done, for a second, or, while no connection is there and no accept is to be tried again, for ever.
@@ -121,10 +123,14 @@ pub data Served {N C J K H : Type 0} (p : Promises N C J K H) (first : Scene N C
   begins : IsFirst p first → Served p first first
   goes : {s s' : Scene N C J K H} → Served p first s → LoopStep p s s' → Served p first s'
 
--- Connections that are left are closed and forgotten, one after another. Where reports are wanted, there is one more.
+-- Connections that are left are closed and forgotten, one after another.
 pub data Shuts {N C J K H : Type 0} (p : Promises N C J K H) (first : Scene N C J K H) : Scene N C J K H → Type 0 where
   stops : Shuts p first first
   shuts : {s s' : Scene N C J K H} (k : ℕ) (place : Place) → Shuts p first s → slice_get s.places k ≡ Some place → IsOccupied place.stage →
       Closes p k place s s' → Shuts p first s'
-  reports_last : {s : Scene N C J K H} (report : Report) (journal : J) → Shuts p first s → IsSome s.limits.report → Tells p s report →
-      p.journal.reports s.noted.journal (Reported report) journal → Shuts p first (record s { noted = record s.noted { journal = journal } })
+
+-- Behind that, where reports are wanted, there is one more.
+pub data TellsLast {N C J K H : Type 0} (p : Promises N C J K H) (s : Scene N C J K H) : Scene N C J K H → Type 0 where
+  reports_last : (report : Report) (journal : J) → IsSome s.limits.report → Tells p s report → p.journal.reports s.noted.journal (Reported report) journal →
+      TellsLast p s (record s { noted = record s.noted { journal = journal } })
+  tells_nothing : s.limits.report ≡ None → TellsLast p s s

@@ -1,24 +1,35 @@
 //! Where something may be due.
-ghost use Rattle.std.specs.Prelude.{◌≡◌, ◌≤◌, ◌<◌, ℕ, true, false, Some, slice_get, slice_set};
+ghost use Rattle.std.specs.Prelude.{◌≡◌, ◌≤◌, ◌<◌, ◌-◌, ℕ, true, false, Some, slice_get, slice_set};
 
 use std::marker::Model;
+
+/// What is due for a connection.
+#[derive(Clone, Copy, Debug)]
+pub enum Due {
+    /// A close: it is over.
+    Close,
+    /// A read or a write.
+    Work,
+    /// Nothing now.
+    Rest,
+}
 
 /// At which places something may be due: a read, a write or a close.
 #[derive(Drop)]
 pub(crate) struct DuePlaces {
     flags: [bool; 64],
-    // From there on nothing is due.
+    // From there on nothing is due, and right below something may be.
     end: u32,
 }
 
 impl Model for DuePlaces {
-    ghost use Rattle.std.specs.Prelude.{◌≡◌, ◌≤◌, ◌<◌, ℕ, List, Bool, false, Some, slice_get};
+    ghost use Rattle.std.specs.Prelude.{◌≡◌, ◌≤◌, ◌<◌, ◌-◌, ℕ, List, Bool, true, false, Some, slice_get};
 
     ghost Value = { List Bool };
 
     ghost view = { λ d. d.flags };
 
-    ghost invariant = { λ d. (d.end ≤ 64) × ((k : ℕ) → d.end ≤ k → k < 64 → slice_get d.flags k ≡ Some false) };
+    ghost invariant = { λ d. (d.end ≤ 64) × ((k : ℕ) → d.end ≤ k → k < 64 → slice_get d.flags k ≡ Some false) × (0 < d.end → slice_get d.flags (d.end - 1) ≡ Some true) };
 }
 
 impl DuePlaces {
@@ -32,10 +43,11 @@ impl DuePlaces {
         }
     }
 
-    /// From which place on nothing is due.
+    /// From which place on nothing is due. Right below that something may be.
     pub(crate) fn end(&self) -> u32
         ensures bound { result ≤ 64 }
         ensures none { (k : ℕ) → result ≤ k → k < 64 → slice_get self.now k ≡ Some false }
+        ensures last { 0 < result → slice_get self.now (result - 1) ≡ Some true }
     {
         self.end
     }

@@ -1,52 +1,27 @@
 //! Closing connections.
 ghost use Rattle.std.specs.Prelude.{◌≡◌, ◌≢◌, ◌<◌, ◌≤◌, ◌-◌, ℕ, true, false, Some, IfSome, IfNone, slice_get, length};
+ghost use Rattle.event_loop.specs.declared.clocks.Second.TheVariants.{Same};
 ghost use Rattle.event_loop.specs.declared.place.Stage.TheVariants.{Free};
-ghost use Rattle.event_loop.specs.Places.{AllFree, IsFreeAt, IsOccupied, IsOver};
+ghost use Rattle.event_loop.specs.Places.{AllFree, IsFreeAt, IsOccupied};
 ghost use Rattle.event_loop.specs.Closing.{AreWithin};
 ghost use Rattle.event_loop.specs.declared.queue.Queue.TheVariants.{Waits};
-ghost use Rattle.event_loop.specs.Goes.{IsLongestAt, IsTried, WhereKnown, LeadsAway, LeadsShut, LeadsToTidy, running, SettlesAll, FreesPlace};
+ghost use Rattle.event_loop.specs.Goes.{NobodyIsSilent, IsLongestAt, IsTried, LeadsAway, LeadsShut, LeadsToTidy, running, SettlesAll, FreesPlace};
 ghost use Rattle.event_loop.specs.Scenes.{promises};
 ghost use Rattle.image_keeper.specs.Keeping.{keeping};
 
-use crate::clocks::Clocks;
+use crate::clocks::{Clocks, Second};
+use crate::due::Due;
 use crate::journal::Journal;
 use crate::limits::PLACES;
 use crate::noting::note_end;
 use crate::place::{Place, Stage};
 use crate::queue::Queue;
-use crate::read::may_read;
 use crate::service::Service;
 use crate::sockets::Sockets;
 use crate::tools::Tools;
-use crate::write::may_write;
 use hook_host::HookHost;
-use http_edge::{ConnectionNo, Edge};
+use http_edge::ConnectionNo;
 use image_keeper::ImageKeeper;
-
-// Whether nothing is left to be done for a connection.
-fn is_over<H: HookHost>(edge: &Edge<H>, place: Place, k: u32) -> bool
-    ensures taken { result ≡ true → IsOccupied place.stage }
-    ensures over { result ≡ true → WhereKnown H.HookHost edge.now k (IsOver place) }
-    ensures goes_on { result ≡ false → WhereKnown H.HookHost edge.now k (λ connection. ¬ (IsOver place connection)) }
-{
-    if let Stage::Broken(_) = place.stage {
-        return true;
-    }
-    if !place.stage.is_served() {
-        return false;
-    }
-    let connection = ConnectionNo::new(k);
-    if !edge.output(connection).is_empty() {
-        return false;
-    }
-    if !place.stage.is_open() {
-        return true;
-    }
-    if edge.closing(connection) {
-        return true;
-    }
-    false
-}
 
 impl Service {
     // Closes and forgets a connection, and notes its fault.
@@ -82,19 +57,19 @@ impl Service {
         requires bound { k < 64 }
         ensures tidies { LeadsToTidy (promises N.Sockets C.Clocks J.Journal (keeping K.Keeper K.ImageKeeper.own) H.HookHost) k (running self.old tools.old) (running self.new tools.new) }
         ensures due { (j : ℕ) → j ≢ k → slice_get self.new.due j ≡ slice_get self.old.due j }
+        ensures within { NobodyIsSilent self.old → NobodyIsSilent self.new }
     {
         let place = self.place_at(k);
-        self.due.remove(k);
-        if is_over(&tools.edge, place, k) {
-            self.leave(tools, k, place);
-            return;
-        }
-        if may_read(&tools.edge, place, k) {
-            self.due.add(k);
-            return;
-        }
-        if may_write(&tools.edge, place, k) {
-            self.due.add(k);
+        let connection = ConnectionNo::new(k);
+        let output = tools.edge.output(connection).len();
+        let closing = tools.edge.closing(connection);
+        match place.due(output, closing) {
+            Due::Close => {
+                self.due.remove(k);
+                self.leave(tools, k, place);
+            }
+            Due::Work => self.due.add(k),
+            Due::Rest => self.due.remove(k),
         }
     }
 
@@ -122,29 +97,35 @@ impl Service {
         self.leave(tools, k, place);
     }
 
-    // Closes each of them.
+    // Closes each such connection. In the second of the round before, nobody can have become one.
     fn sweep<N: Sockets, C: Clocks, J: Journal, K: ImageKeeper, H: HookHost>(
         &mut self,
         tools: &mut Tools<N, C, J, K, H>,
+        second: Second,
     )
         ensures leads { SettlesAll (promises N.Sockets C.Clocks J.Journal (keeping K.Keeper K.ImageKeeper.own) H.HookHost) (running self.old tools.old) (running self.new tools.new) }
-        ensures within { AreWithin self.new.limits.idle self.new.times self.new.places }
+        ensures within { (second ≡ Same → NobodyIsSilent self.old) → NobodyIsSilent self.new }
     {
+        if let Second::Same = second {
+            return;
+        }
         for k in 0..PLACES {
             self.leave_silent(tools, k);
         }
     }
 
-    /// Silent connections are closed, and where an accept failed in another second, it is tried again.
+    /// In another second than that of the round before, silent connections are closed. Where an accept failed in another
+    /// second, it is tried again.
     pub(crate) fn tidy<N: Sockets, C: Clocks, J: Journal, K: ImageKeeper, H: HookHost>(
         &mut self,
         tools: &mut Tools<N, C, J, K, H>,
+        second: Second,
     )
         ensures leads { SettlesAll (promises N.Sockets C.Clocks J.Journal (keeping K.Keeper K.ImageKeeper.own) H.HookHost) (running self.old tools.old) (running self.new tools.new) }
-        ensures within { AreWithin self.new.limits.idle self.new.times self.new.places }
+        ensures within { (second ≡ Same → NobodyIsSilent self.old) → NobodyIsSilent self.new }
         ensures tried { IsTried self.new }
     {
-        self.sweep(tools);
+        self.sweep(tools, second);
         let Queue::Barred(since) = self.queue else {
             return;
         };

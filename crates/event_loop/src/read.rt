@@ -5,8 +5,8 @@ ghost use Rattle.http_edge.specs.Reached.{is_closing};
 ghost use Rattle.http_edge.specs.Schedule.{piece_of};
 ghost use Rattle.event_loop.specs.GivingParts.{LeadsToGiving, LeadsToRefusal};
 ghost use Rattle.event_loop.specs.Deeds.{Reading};
-ghost use Rattle.event_loop.specs.Places.{MayRead};
-ghost use Rattle.event_loop.specs.Goes.{WhereKnown, LeadsToActs, running, to_read};
+ghost use Rattle.event_loop.specs.Places.{IsOccupied, MayRead};
+ghost use Rattle.event_loop.specs.Goes.{NobodyIsSilent, WhereKnown, LeadsToActs, running, to_read};
 ghost use Rattle.event_loop.specs.Scenes.{promises};
 ghost use Rattle.image_keeper.specs.Keeping.{keeping};
 
@@ -27,6 +27,7 @@ use rand_chacha::ChaCha20Rng;
 /// Whether a connection may be read.
 pub(crate) fn may_read<H: HookHost>(edge: &Edge<H>, place: Place, k: u32) -> bool
     ensures readable { result ≡ true → place.readable ≡ true }
+    ensures taken { result ≡ true → IsOccupied place.stage }
     ensures may { result ≡ true → WhereKnown H.HookHost edge.now k (MayRead place) }
     ensures rests { result ≡ false → place.readable ≡ true → WhereKnown H.HookHost edge.now k (λ connection. ¬ (MayRead place connection)) }
 {
@@ -104,9 +105,11 @@ impl Service {
         requires bound { k < 64 }
         requires here { slice_get self.old.places k ≡ Some place }
         requires readable { place.readable ≡ true }
+        requires taken { IsOccupied place.stage }
         requires may { WhereKnown H.HookHost tools.old.edge k (MayRead place) }
         ensures acts { LeadsToActs (promises N.Sockets C.Clocks J.Journal (keeping K.Keeper K.ImageKeeper.own) H.HookHost) (to_read k) (running self.old tools.old) (running self.new tools.new) }
         ensures due { self.new.due ≡ self.old.due }
+        ensures within { NobodyIsSilent self.old → NobodyIsSilent self.new }
     {
         let i = k as usize;
         let connection = ConnectionNo::new(k);
@@ -157,6 +160,7 @@ impl Service {
         requires bound { k < 64 }
         ensures acts { LeadsToActs (promises N.Sockets C.Clocks J.Journal (keeping K.Keeper K.ImageKeeper.own) H.HookHost) (to_read k) (running self.old tools.old) (running self.new tools.new) }
         ensures due { self.new.due ≡ self.old.due }
+        ensures within { NobodyIsSilent self.old → NobodyIsSilent self.new }
     {
         let place = self.place_at(k);
         if may_read(&tools.edge, place, k) {

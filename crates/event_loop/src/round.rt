@@ -5,7 +5,7 @@ ghost use Rattle.event_loop.specs.Goes.{IsBusy, IsLimit, MayRest, LeadsRound, Le
 ghost use Rattle.event_loop.specs.Scenes.{promises};
 ghost use Rattle.image_keeper.specs.Keeping.{keeping};
 
-use crate::clocks::Clocks;
+use crate::clocks::{Clocks, Second};
 use crate::fault::LoopFault;
 use crate::journal::Journal;
 use crate::keep::keep_all;
@@ -67,7 +67,7 @@ impl Service {
     }
 
     /// Puts an image in the place of what is kept, where that is long. Then waits once and looks at the clocks, notes what was
-    /// found, reads each place, keeps what changed, writes to each, tells the journal what is due, and then closes and accepts.
+    /// found, reads each place, keeps what changed, writes to each, closes and accepts, and then tells the journal what is due.
     pub(crate) fn round<N: Sockets, C: Clocks, J: Journal, K: ImageKeeper, H: HookHost>(
         &mut self,
         tools: &mut Tools<N, C, J, K, H>,
@@ -87,6 +87,7 @@ impl Service {
         let Some(times) = tools.clocks.read() else {
             return Err(LoopFault::Clock);
         };
+        let second = Second::of(times.steady, self.times.steady);
         self.times = times;
         self.hear_all(tools, &found[..count]);
         self.read_all(tools);
@@ -94,10 +95,10 @@ impl Service {
             return Err(fault);
         }
         self.write_all(tools);
-        self.tell(tools);
-        self.tidy(tools);
+        self.tidy(tools, second);
         self.make_room(tools);
         self.admit_all(tools);
+        self.tell(tools);
         Ok(())
     }
 }

@@ -80,11 +80,6 @@ impl Service {
         ensures due { result ≡ true → IsDueSomewhere self.now }
         ensures none { result ≡ false → IsDueNowhere self.now }
     {
-        for k in 0..self.due.end() {
-            if self.due.is_at(k) {
-                return true;
-            }
-        }
-        false
+        self.due.end() > 0
     }
 }

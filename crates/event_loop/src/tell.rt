@@ -1,6 +1,7 @@
 //! Telling what the server does.
 ghost use Rattle.std.specs.Prelude.{◌≡◌, Some, IsSome};
-ghost use Rattle.event_loop.specs.Goes.{LeadsShut, running, SettlesAll, TellsNow};
+ghost use Rattle.event_loop.specs.Goes.{IsReported, LeadsLast, OnlyTells, running, SettlesAll, TellsNow};
+ghost use Rattle.event_loop.specs.Places.{open_count};
 ghost use Rattle.event_loop.specs.Reporting.{is_long_ago};
 ghost use Rattle.event_loop.specs.Scenes.{promises};
 ghost use Rattle.image_keeper.specs.Keeping.{keeping};
@@ -28,12 +29,15 @@ fn is_long_ago(last: Option<u64>, now: u64, seconds: u64) -> bool
 
 impl Service {
     // How many connections are there.
-    fn open_count(&self) -> u32 {
+    fn open_count(&self) -> u32
+        ensures { result ≡ open_count self.now.places }
+    {
         let mut count: u32 = 0;
         for k in 0..PLACES {
-            if self.place_at(k).stage.is_taken() {
-                count = count.saturating_add(1);
+            if !self.place_at(k).stage.is_taken() {
+                continue;
             }
+            count += 1;
         }
         count
     }
@@ -66,7 +70,8 @@ impl Service {
     )
         requires wanted { IsSome self.old.limits.report }
         ensures leads { SettlesAll (promises N.Sockets C.Clocks J.Journal (keeping K.Keeper K.ImageKeeper.own) H.HookHost) (running self.old tools.old) (running self.new tools.new) }
-        ensures limits { self.new.limits ≡ self.old.limits }
+        ensures rest { OnlyTells self.old self.new }
+        ensures report { self.new.told.report ≡ self.old.told.report }
     {
         let full = tools.edge.server().tally().wanted.store_room;
         if full == self.full {
@@ -87,7 +92,9 @@ impl Service {
         every: u64,
     )
         requires wanted { self.old.limits.report ≡ Some every }
-        ensures { SettlesAll (promises N.Sockets C.Clocks J.Journal (keeping K.Keeper K.ImageKeeper.own) H.HookHost) (running self.old tools.old) (running self.new tools.new) }
+        ensures leads { SettlesAll (promises N.Sockets C.Clocks J.Journal (keeping K.Keeper K.ImageKeeper.own) H.HookHost) (running self.old tools.old) (running self.new tools.new) }
+        ensures rest { OnlyTells self.old self.new }
+        ensures reported { IsReported self.new }
     {
         if self.times.steady.saturating_sub(self.told.report) < every {
             return;
@@ -102,7 +109,9 @@ impl Service {
         &mut self,
         tools: &mut Tools<N, C, J, K, H>,
     )
-        ensures { SettlesAll (promises N.Sockets C.Clocks J.Journal (keeping K.Keeper K.ImageKeeper.own) H.HookHost) (running self.old tools.old) (running self.new tools.new) }
+        ensures leads { SettlesAll (promises N.Sockets C.Clocks J.Journal (keeping K.Keeper K.ImageKeeper.own) H.HookHost) (running self.old tools.old) (running self.new tools.new) }
+        ensures rest { OnlyTells self.old self.new }
+        ensures reported { IsReported self.new }
     {
         let Some(every) = self.limits.report else {
             return;
@@ -116,7 +125,7 @@ impl Service {
         &self,
         tools: &mut Tools<N, C, J, K, H>,
     )
-        ensures { LeadsShut (promises N.Sockets C.Clocks J.Journal (keeping K.Keeper K.ImageKeeper.own) H.HookHost) (running self.now tools.old) (running self.now tools.new) }
+        ensures { LeadsLast (promises N.Sockets C.Clocks J.Journal (keeping K.Keeper K.ImageKeeper.own) H.HookHost) (running self.now tools.old) (running self.now tools.new) }
     {
         let Some(_every) = self.limits.report else {
             return;

@@ -1,7 +1,7 @@
 //! Turns.
 ghost use Rattle.std.specs.Prelude.{◌≡◌, ◌≢◌, ◌<◌, ℕ, List, [], slice_get};
 ghost use Rattle.event_loop.specs.declared.sockets.Ready.{Ready};
-ghost use Rattle.event_loop.specs.Goes.{HearsOf, LeadsToHearing, LeadsReading, LeadsWriting, LeadsToRest, running};
+ghost use Rattle.event_loop.specs.Goes.{NobodyIsSilent, HearsOf, LeadsToHearing, LeadsReading, LeadsWriting, LeadsToRest, running};
 ghost use Rattle.event_loop.specs.Scenes.{promises};
 ghost use Rattle.image_keeper.specs.Keeping.{keeping};
 
@@ -21,7 +21,8 @@ impl Service {
         tools: &Tools<N, C, J, K, H>,
         ready: Ready,
     )
-        ensures { HearsOf (promises N.Sockets C.Clocks J.Journal (keeping K.Keeper K.ImageKeeper.own) H.HookHost) ready (running self.old tools.now) (running self.new tools.now) }
+        ensures hears { HearsOf (promises N.Sockets C.Clocks J.Journal (keeping K.Keeper K.ImageKeeper.own) H.HookHost) ready (running self.old tools.now) (running self.new tools.now) }
+        ensures within { NobodyIsSilent self.old → NobodyIsSilent self.new }
     {
         match ready {
             Ready::Listener => self.queue = self.queue.told(),
@@ -47,7 +48,8 @@ impl Service {
         tools: &Tools<N, C, J, K, H>,
         found: &[Ready],
     )
-        ensures { LeadsToHearing (promises N.Sockets C.Clocks J.Journal (keeping K.Keeper K.ImageKeeper.own) H.HookHost) found.now (running self.old tools.now) [] (running self.new tools.now) }
+        ensures hears { LeadsToHearing (promises N.Sockets C.Clocks J.Journal (keeping K.Keeper K.ImageKeeper.own) H.HookHost) found.now (running self.old tools.now) [] (running self.new tools.now) }
+        ensures within { NobodyIsSilent self.old → NobodyIsSilent self.new }
     {
         for index in 0..found.len() {
             self.hear(tools, found[index]);
@@ -59,7 +61,8 @@ impl Service {
         &mut self,
         tools: &mut Tools<N, C, J, K, H>,
     )
-        ensures { LeadsReading (promises N.Sockets C.Clocks J.Journal (keeping K.Keeper K.ImageKeeper.own) H.HookHost) 64 (running self.old tools.old) (running self.new tools.new) }
+        ensures reads { LeadsReading (promises N.Sockets C.Clocks J.Journal (keeping K.Keeper K.ImageKeeper.own) H.HookHost) 64 (running self.old tools.old) (running self.new tools.new) }
+        ensures within { NobodyIsSilent self.old → NobodyIsSilent self.new }
     {
         for k in 0..self.due.end() {
             if !self.due.is_at(k) {
@@ -78,6 +81,7 @@ impl Service {
         requires bound { k < 64 }
         ensures rests { LeadsToRest (promises N.Sockets C.Clocks J.Journal (keeping K.Keeper K.ImageKeeper.own) H.HookHost) k (running self.old tools.old) (running self.new tools.new) }
         ensures due { (j : ℕ) → j ≢ k → slice_get self.new.due j ≡ slice_get self.old.due j }
+        ensures within { NobodyIsSilent self.old → NobodyIsSilent self.new }
     {
         self.write(tools, k);
         self.settle(tools, k);
@@ -88,7 +92,8 @@ impl Service {
         &mut self,
         tools: &mut Tools<N, C, J, K, H>,
     )
-        ensures { LeadsWriting (promises N.Sockets C.Clocks J.Journal (keeping K.Keeper K.ImageKeeper.own) H.HookHost) 64 (running self.old tools.old) (running self.new tools.new) }
+        ensures writes { LeadsWriting (promises N.Sockets C.Clocks J.Journal (keeping K.Keeper K.ImageKeeper.own) H.HookHost) 64 (running self.old tools.old) (running self.new tools.new) }
+        ensures within { NobodyIsSilent self.old → NobodyIsSilent self.new }
     {
         for k in 0..self.due.end() {
             if !self.due.is_at(k) {

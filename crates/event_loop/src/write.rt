@@ -1,8 +1,7 @@
 //! Writing output.
-ghost use Rattle.std.specs.Prelude.{◌≡◌, ◌<◌, true, false};
+ghost use Rattle.std.specs.Prelude.{◌≡◌, ◌<◌};
 ghost use Rattle.event_loop.specs.Deeds.{Writing};
-ghost use Rattle.event_loop.specs.Places.{MayWrite};
-ghost use Rattle.event_loop.specs.Goes.{WhereKnown, LeadsToActs, running, to_write};
+ghost use Rattle.event_loop.specs.Goes.{NobodyIsSilent, LeadsToActs, running, to_write};
 ghost use Rattle.event_loop.specs.Scenes.{promises};
 ghost use Rattle.image_keeper.specs.Keeping.{keeping};
 
@@ -14,26 +13,8 @@ use crate::service::Service;
 use crate::sockets::{Sent, Sockets};
 use crate::tools::Tools;
 use hook_host::HookHost;
-use http_edge::{ConnectionNo, Edge};
+use http_edge::ConnectionNo;
 use image_keeper::ImageKeeper;
-
-/// Whether a connection may be written to.
-pub(crate) fn may_write<H: HookHost>(edge: &Edge<H>, place: Place, k: u32) -> bool
-    ensures writable { result ≡ true → place.writable ≡ true }
-    ensures may { result ≡ true → WhereKnown H.HookHost edge.now k (MayWrite place) }
-    ensures rests { result ≡ false → place.writable ≡ true → WhereKnown H.HookHost edge.now k (λ connection. ¬ (MayWrite place connection)) }
-{
-    if !place.writable {
-        return false;
-    }
-    if !place.stage.is_served() {
-        return false;
-    }
-    if edge.output(ConnectionNo::new(k)).is_empty() {
-        return false;
-    }
-    true
-}
 
 impl Service {
     /// Writes to a connection once, where there is output and the socket may take it.
@@ -45,14 +26,18 @@ impl Service {
         requires bound { k < 64 }
         ensures acts { LeadsToActs (promises N.Sockets C.Clocks J.Journal (keeping K.Keeper K.ImageKeeper.own) H.HookHost) (to_write k) (running self.old tools.old) (running self.new tools.new) }
         ensures due { self.new.due ≡ self.old.due }
+        ensures within { NobodyIsSilent self.old → NobodyIsSilent self.new }
     {
         let i = k as usize;
         let place = self.place_at(k);
-        if !may_write(&tools.edge, place, k) {
+        if !place.may_take() {
             return;
         }
         let connection = ConnectionNo::new(k);
         let output = tools.edge.output(connection);
+        if output.is_empty() {
+            return;
+        }
         match tools.sockets.write(k, output) {
             Sent::Bytes(count) => {
                 tools.edge.take(connection, count);

@@ -1,5 +1,6 @@
 use Rattle.std.proofs.Common.{[], None, Some, ap, inl, inr, refl, sym, subst, ◌∙◌, ℕ, ◌≡◌}
 use Rattle.event_loop.specs.declared.clocks.Times.{Times}
+use Rattle.event_loop.specs.declared.report.LastTold.{LastTold}
 use Rattle.event_loop.specs.declared.queue.Queue.TheVariants.{Told, Empty, Barred}
 use Rattle.event_loop.specs.Places.{IsOccupied}
 use Rattle.event_loop.specs.Closing.{AreWithin}
@@ -28,13 +29,13 @@ returns g c = λ journey reached.
     let ready : IsReadyToWait c.new-service.result past = record {
       settled = λ k less. rested_settled k c.new-service.result past (λ none place here. free_rests place _ (c.new-service.ensures.free k place here)) (c.new-service.ensures.due k less);
       queue = inl (λ told. (let not : Empty ≡ Told = sym c.new-service.ensures.queue ∙ told in absurd (cc)));
-      quick = record { idle = nobody _; crowded = λ waits. nobody _; tried = λ since barred. (let not : Empty ≡ Barred since = sym c.new-service.ensures.queue ∙ barred in absurd (cc)) };
+      quick = record { idle = nobody _; crowded = λ waits. nobody _; tried = λ since barred. (let not : Empty ≡ Barred since = sym c.new-service.ensures.queue ∙ barred in absurd (cc)); reported = λ every wanted. inl (ap (λ (l : LastTold). l.report) is_first.told) };
     } in
     let wrong = c.rounds-fault.ensures first past (begins is_first) ready in
     let failed = scene_of (running c.rounds-fault.new.self c.rounds-fault.new.tools) wrong.found wrong.next in
     let last_reached = (served_answered p first wrong.last wrong.served).reached in
     let shut = c.leave_all.ensures.shut failed wrong.found wrong.next stops (fails_reached p wrong.last failed _ wrong.fails last_reached) in
-    let told = c.tell_last.ensures failed wrong.found shut.next shut.shuts shut.reached in
+    let told = c.tell_last.ensures wrong.found shut.next in
     inl (record {
       first = first;
       is_first = is_first;
@@ -48,9 +49,11 @@ returns g c = λ journey reached.
       durable = λ held. served_durable p g.met.K.Keeper.only_now first held;
       failed = failed;
       fails = wrong.fails;
-      end = scene_of (running c.leave_all.new.self c.tell_last.new.tools) wrong.found told.next;
-      shuts = told.shuts;
-      durable_then = λ held s served on. durable_to_end p g.met.K.Keeper.only_now first held s wrong.last failed _ _ served on wrong.fails told.shuts;
+      emptied = scene_of (running c.leave_all.new.self c.leave_all.new.tools) wrong.found shut.next;
+      shuts = shut.shuts;
+      end = scene_of (running c.leave_all.new.self c.tell_last.new.tools) wrong.found shut.next;
+      tells_last = told;
+      durable_then = λ held s served on. durable_to_end p g.met.K.Keeper.only_now first held s wrong.last failed _ _ _ served on wrong.fails shut.shuts told;
       free = c.leave_all.ensures.free;
       tools_are_then = refl;
     })

@@ -1,9 +1,11 @@
 use Rattle.std.proofs.Common.{drop}
-use Rattle.event_loop.specs.Goes.{LeadsToHearing, running}
+use Rattle.event_loop.specs.Goes.{NobodyIsSilent, LeadsToHearing, running}
 use Rattle.event_loop.specs.Scenes.{promises}
 use Rattle.image_keeper.specs.Keeping.{keeping}
 use Rattle.event_loop.proofs.service.Service.hear_all.Given as goal
 
 abbrev pub invariant-loop-index : goal.invariant-loop-index
-invariant-loop-index g l =
-    LeadsToHearing (promises g.N.Sockets g.C.Clocks g.J.Journal (keeping g.K.Keeper g.K.ImageKeeper) g.H.HookHost) l.found (running l.initial.self l.tools) (drop l.index l.found) (running l.self l.tools)
+invariant-loop-index g l = record {
+  hears : LeadsToHearing (promises g.N.Sockets g.C.Clocks g.J.Journal (keeping g.K.Keeper g.K.ImageKeeper) g.H.HookHost) l.found (running l.initial.self l.tools) (drop l.index l.found) (running l.self l.tools);
+  within : NobodyIsSilent l.initial.self → NobodyIsSilent l.self;
+}

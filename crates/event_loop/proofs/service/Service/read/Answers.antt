@@ -22,3 +22,6 @@ returns-else-may_read-clause-acts g c = λ first found past undone ready h. reco
         subst (λ q. NeedsNoRead q (connection_at past.journey.world.connections c.args.k)) (same_some c.place_at-place.result place (sym c.place_at-place.ensures ∙ here)) unread;
   });
 }
+
+pub returns-else-may_read-clause-within : goal.returns-else-may_read-clause-within
+returns-else-may_read-clause-within g c = λ all. all

@@ -14,7 +14,7 @@ use Rattle.event_loop.proofs.Others.{ends_other}
 use Rattle.event_loop.proofs.Telling.{gives_other}
 use Rattle.event_loop.proofs.Answering.{served_answered}
 use Rattle.event_loop.proofs.Doing.{one_more, not_another}
-use Rattle.event_loop.proofs.Putting.{taken_length}
+use Rattle.event_loop.proofs.Putting.{put_still, taken_length}
 use Rattle.event_loop.proofs.Resting.{put_others}
 use Rattle.event_loop.proofs.service.Service.read_once.Goals as goal
 
@@ -155,3 +155,27 @@ returns-in-Err-event-clause-acts g c = λ first found past undone ready h.
       due = refl;
       acts = inr (inl refl);
     })
+
+pub returns-in-Ok-clause-within : goal.returns-in-Ok-clause-within
+returns-in-Ok-clause-within g c = λ all.
+    rw c.read-in-Ok.ensures (put_still c.args.self.now.limits.idle c.args.self.now.times c.args.self.now.places c.args.k c.args.place (read_place c.args.place c.in-Bytes.count) c.requires.here (λ taken. taken) refl all)
+
+pub returns-in-Err-clause-within : goal.returns-in-Err-clause-within
+returns-in-Err-clause-within g c = λ all.
+    put_still c.args.self.now.limits.idle c.args.self.now.times c.args.self.now.places c.args.k c.args.place (record c.args.place { stage = Broken (Refused c.in-Err.fault) }) c.requires.here (λ taken. c.requires.taken) refl all
+
+pub returns-in-Ok-event-clause-within : goal.returns-in-Ok-event-clause-within
+returns-in-Ok-event-clause-within g c = λ all.
+    put_still c.args.self.now.limits.idle c.args.self.now.times c.args.self.now.places c.args.k c.args.place (record c.args.place { stage = Ended }) c.requires.here (λ taken. c.requires.taken) refl all
+
+pub returns-in-Err-event-clause-within : goal.returns-in-Err-event-clause-within
+returns-in-Err-event-clause-within g c = λ all.
+    put_still c.args.self.now.limits.idle c.args.self.now.times c.args.self.now.places c.args.k c.args.place (record c.args.place { stage = Broken (Refused c.in-Err-event.fault) }) c.requires.here (λ taken. c.requires.taken) refl all
+
+pub returns-in-Later-clause-within : goal.returns-in-Later-clause-within
+returns-in-Later-clause-within g c = λ all.
+    put_still c.args.self.now.limits.idle c.args.self.now.times c.args.self.now.places c.args.k c.args.place (record c.args.place { readable = false }) c.requires.here (λ taken. c.requires.taken) refl all
+
+pub returns-in-Failed-clause-within : goal.returns-in-Failed-clause-within
+returns-in-Failed-clause-within g c = λ all.
+    put_still c.args.self.now.limits.idle c.args.self.now.times c.args.self.now.places c.args.k c.args.place (record c.args.place { stage = Broken Read }) c.requires.here (λ taken. c.requires.taken) refl all

@@ -10,7 +10,8 @@ use Rattle.event_loop.specs.Goes.{Past, running, scene_of}
 use Rattle.event_loop.specs.Scenes.{promises}
 use Rattle.image_keeper.specs.Keeping.{keeping}
 use Rattle.event_loop.proofs.Leading.{to_then, kept_then}
-use Rattle.event_loop.proofs.Leaving.{may_wait, ready_still, told_or_not}
+use Rattle.event_loop.proofs.Leaving.{may_wait, quick_told, ready_still, told_or_not}
+use Rattle.event_loop.proofs.Putting.{steady_within}
 use Rattle.event_loop.proofs.service.Service.round.Goals as goal
 
 pub returns-in_default-wait-clause-wrong : goal.returns-in_default-wait-clause-wrong
@@ -59,8 +60,8 @@ returns-in-Err-keep_all-clause-wrong g c = λ first past begun was_ready.
     let may = may_wait (promises g.N.Sockets g.C.Clocks g.J.Journal (keeping g.K.Keeper g.K.ImageKeeper) g.H.HookHost) c.put_image.new.self c.put_image.new.tools past c.wait_limit-limit.result (length c.wait.new.found) size ready c.wait_limit-limit.ensures room put.1 in
     let waited = goes h (waits c.wait_limit-limit.result (length c.wait.new.found) heard c.wait.new.self c.in-Some-read.times c.read.new.self may c.in-Some.ensures.done c.in-Some-read.ensures) in
     let since : Past g.row.H.Denot = record past { deeds = deed.Waited c.wait_limit-limit.result (length c.wait.new.found) heard ∷ past.deeds } in
-    let told = c.hear_all.ensures first since waited (λ k less. (ready.settled k less).rested) in
-    let read = c.read_all.ensures first [] since (λ task is. is) told.1 told.0 in
+    let told = c.hear_all.ensures.hears first since waited (λ k less. (ready.settled k less).rested) in
+    let read = c.read_all.ensures.reads first [] since (λ task is. is) told.1 told.0 in
     record {
       last = scene_of (running c.read_all.new.self c.read_all.new.tools) [] read.next;
       served = read.served;
@@ -82,28 +83,31 @@ returns-clause-goes g c = λ first past begun was_ready.
     let may = may_wait (promises g.N.Sockets g.C.Clocks g.J.Journal (keeping g.K.Keeper g.K.ImageKeeper) g.H.HookHost) c.put_image.new.self c.put_image.new.tools past c.wait_limit-limit.result (length c.wait.new.found) size ready c.wait_limit-limit.ensures room put.1 in
     let waited = goes h (waits c.wait_limit-limit.result (length c.wait.new.found) heard c.wait.new.self c.in-Some-read.times c.read.new.self may c.in-Some.ensures.done c.in-Some-read.ensures) in
     let since : Past g.row.H.Denot = record past { deeds = deed.Waited c.wait_limit-limit.result (length c.wait.new.found) heard ∷ past.deeds } in
-    let told = c.hear_all.ensures first since waited (λ k less. (ready.settled k less).rested) in
-    let read = c.read_all.ensures first [] since (λ task is. is) told.1 told.0 in
-    let written = kept_then p first [] since _ c.read_all.new.self c.write_all.new.self _ c.read_all.new.tools c.keep_all.new.tools c.write_all.new.tools read c.in_default-keep_all.ensures.kept c.write_all.ensures in
-    let on = to_then p [] [] [] _ _ _ _ _ _ (c.tell.ensures []) (to_then p [] [] [] _ _ _ _ _ _ (c.tidy.ensures.leads []) (c.make_room.ensures.leads [])) first written.next written.served written.below in
+    let told = c.hear_all.ensures.hears first since waited (λ k less. (ready.settled k less).rested) in
+    let read = c.read_all.ensures.reads first [] since (λ task is. is) told.1 told.0 in
+    let written = kept_then p first [] since _ c.read_all.new.self c.write_all.new.self _ c.read_all.new.tools c.keep_all.new.tools c.write_all.new.tools read c.in_default-keep_all.ensures.kept c.write_all.ensures.writes in
+    let on = to_then p [] [] [] _ _ _ _ _ _ (c.tidy.ensures.leads []) (c.make_room.ensures.leads []) first written.next written.served written.below in
     let admitted = c.admit_all.ensures.leads [] first on.next on.served on.settled in
+    let last = c.tell.ensures.leads [] first admitted.goes.next admitted.goes.served admitted.goes.settled in
+    let queue : c.tell.new.self.queue ≡ c.admit_all.new.self.queue = ap (λ (s : Service). s.queue) c.tell.ensures.rest in
+    let since_then = steady_within c.put_image.new.self.limits.idle c.put_image.new.self.times c.in-Some-read.times c.put_image.new.self.places in
+    let idle = c.tidy.ensures.within (λ same. c.write_all.ensures.within (c.read_all.ensures.within (c.hear_all.ensures.within (since_then (c.of-second.ensures same) ready.quick.idle)))) in
     record {
-      next = admitted.goes.next;
-      served = admitted.goes.served;
+      next = last.next;
+      served = last.served;
       ready = record {
-        settled = admitted.goes.settled;
-        queue = told_or_not {P = IsDone Accepting admitted.goes.next.deeds} c.admit_all.new.self.queue admitted.tried;
-        quick = record {
-          idle =
-              subst (λ (l : Limits). AreWithin l.idle c.admit_all.new.self.times c.admit_all.new.self.places) (sym (c.admit_all.ensures.limits ∙ c.make_room.ensures.limits))
-              (c.admit_all.ensures.within _ (c.make_room.ensures.within _ c.tidy.ensures.within));
-          crowded = λ waits.
-              subst (λ (l : Limits). AreWithin l.crowded c.admit_all.new.self.times c.admit_all.new.self.places) (sym c.admit_all.ensures.limits)
-              (c.admit_all.ensures.within _ (c.make_room.ensures.crowded (c.admit_all.ensures.waits waits)));
-          tried = c.admit_all.ensures.tried (c.make_room.ensures.tried c.tidy.ensures.tried);
-        };
+        settled = last.settled;
+        queue = told_or_not {P = IsDone Accepting last.next.deeds} c.tell.new.self.queue (λ told. last.done.keeps Accepting (admitted.tried (sym queue ∙ told)));
+        quick =
+            quick_told c.admit_all.new.self c.tell.new.self c.tell.ensures.rest
+            (subst (λ (l : Limits). AreWithin l.idle c.admit_all.new.self.times c.admit_all.new.self.places) (sym (c.admit_all.ensures.limits ∙ c.make_room.ensures.limits))
+            (c.admit_all.ensures.within _ (c.make_room.ensures.within _ idle)))
+            (λ waits.
+            subst (λ (l : Limits). AreWithin l.crowded c.admit_all.new.self.times c.admit_all.new.self.places) (sym c.admit_all.ensures.limits)
+            (c.admit_all.ensures.within _ (c.make_room.ensures.crowded (c.admit_all.ensures.waits waits))))
+            (c.admit_all.ensures.tried (c.make_room.ensures.tried c.tidy.ensures.tried)) c.tell.ensures.reported;
       };
-      waits_are = admitted.goes.done.waits ∙ on.done.waits ∙ written.done.waits ∙ sym (add-one (deed.waits past.deeds));
+      waits_are = last.done.waits ∙ admitted.goes.done.waits ∙ on.done.waits ∙ written.done.waits ∙ sym (add-one (deed.waits past.deeds));
     }
 
 pub returns-in-Err-clause-wrong : goal.returns-in-Err-clause-wrong

@@ -1,4 +1,4 @@
-use Rattle.std.proofs.Common.{◌≡◌, true, false, refl, ap, sym, ◌∙◌}
+use Rattle.std.proofs.Common.{◌≡◌, true, false, length, refl, ap, sym, ◌∙◌}
 use Rattle.std.specs.Prelude.{slice_get, slice_set}
 use Rattle.http_edge.specs.Schedule.{connection_at}
 use Rattle.event_loop.specs.declared.place.Stage.TheVariants.{Free}
@@ -6,24 +6,24 @@ use Rattle.event_loop.specs.declared.service.Service.{Service}
 use Rattle.event_loop.specs.Places.{IsOver}
 use Rattle.event_loop.specs.Closing as closing
 use Rattle.event_loop.specs.Served.{goes, closes}
-use Rattle.event_loop.specs.Goes.{a_read, a_write}
 use Rattle.event_loop.specs.Scenes.{promises}
 use Rattle.image_keeper.specs.Keeping.{keeping}
 use Rattle.event_loop.proofs.Answering.{served_answered}
 use Rattle.event_loop.proofs.Doing.{closes_done, closes_some, closes_alone}
 use Rattle.event_loop.proofs.Leading.{closes_other, closes_kept}
+use Rattle.event_loop.proofs.Leaving.{frees_within}
 use Rattle.event_loop.proofs.Putting.{set_other}
-use Rattle.event_loop.proofs.Resting.{put_others, put_settled, free_rests, stays_tidy, not_due, not_rested}
+use Rattle.event_loop.proofs.Resting.{put_others, put_settled, free_rests, stays_tidy, not_due, not_rested, told_as}
 use Rattle.event_loop.proofs.service.Service.settle.Goals as goal
 
-pub returns-then-is_over-clause-tidies : goal.returns-then-is_over-clause-tidies
-returns-then-is_over-clause-tidies g c = λ first found past h.
+pub returns-in-Close-clause-tidies : goal.returns-in-Close-clause-tidies
+returns-in-Close-clause-tidies g c = λ first found past h.
     let p = promises g.N.Sockets g.C.Clocks g.J.Journal (keeping g.K.Keeper g.K.ImageKeeper) g.H.HookHost in
     let k = c.args.k in
     let reached = (served_answered p first _ h).reached in
     let place = c.place_at-place.result in
     let away = c.leave.ensures.away found past reached in
-    let over : IsOver place (connection_at past.journey.world.connections k) = c.is_over.ensures.over c.if-is_over.true past.journey reached in
+    let over : IsOver place (connection_at past.journey.world.connections k) = c.in-Close.ensures.due (connection_at past.journey.world.connections k) (told_as (length c.output-output.result.now) c.closing-closing.result c.output-output.result.now (connection_at past.journey.world.connections k) refl (rw c.new-connection.ensures at (c.output-output.ensures.output past.journey reached)) (rw c.new-connection.ensures at (c.closing-closing.ensures past.journey reached))) in
     let places : c.leave.new.self.places ≡ slice_set c.args.self.now.places k (record place { stage = Free }) = ap (λ (s : Service). s.places) c.leave.ensures.rest in
     let due : c.leave.new.self.due ≡ slice_set c.args.self.now.due k false = ap (λ (s : Service). s.due) c.leave.ensures.rest ∙ c.remove.ensures in
     let settled = put_settled k c.args.self.now c.leave.new.self (record place { stage = Free }) away.next places (free_rests _ _ refl) (λ e. closes_some p k place _ _ away.closes) in
@@ -31,7 +31,7 @@ returns-then-is_over-clause-tidies g c = λ first found past h.
       goes = record {
         next = away.next;
         done = closes_done p k place _ _ away.closes;
-        served = goes h (closes k place _ c.place_at-place.ensures (c.is_over.ensures.taken c.if-is_over.true) (closing.is_over over) away.closes);
+        served = goes h (closes k place _ c.place_at-place.ensures (c.due.ensures.taken c.in-Close.is) (closing.is_over over) away.closes);
         others =
             put_others k c.args.self.now c.leave.new.self (record place { stage = Free }) past.journey.world away.next.journey.world places
             (λ j other. ap (λ l. slice_get l j) due ∙ set_other c.args.self.now.due k j false other) (closes_other p k place _ _ away.closes);
@@ -43,38 +43,25 @@ returns-then-is_over-clause-tidies g c = λ first found past h.
       left = λ e. absurd (not_due c.args.self.now.due k (ap (λ l. slice_get l k) (sym due) ∙ e));
     }
 
-pub returns-then-may_read-clause-tidies : goal.returns-then-may_read-clause-tidies
-returns-then-may_read-clause-tidies g c = λ first found past h.
+pub returns-in-Work-clause-tidies : goal.returns-in-Work-clause-tidies
+returns-in-Work-clause-tidies g c = λ first found past h.
     let p = promises g.N.Sockets g.C.Clocks g.J.Journal (keeping g.K.Keeper g.K.ImageKeeper) g.H.HookHost in
     let reached = (served_answered p first _ h).reached in
     let due = c.args.self.now.due in
     let k = c.args.k in
-    rw (c.add.ensures, c.remove.ensures) (stays_tidy p first found k c.args.self.now c.args.tools.now past c.place_at-place.result (slice_set (slice_set due k false) k true) c.place_at-place.ensures
-    (c.is_over.ensures.goes_on c.if-is_over.false past.journey reached) (λ j other. set_other (slice_set due k false) k j true other ∙ set_other due k j false other)
-    (λ none. absurd (not_rested (slice_set due k false) k none))
-    (λ e. a_read (c.may_read.ensures.readable c.if-may_read.true) (c.may_read.ensures.may c.if-may_read.true past.journey reached)) h)
+    let work = c.in-Work.ensures.due (connection_at past.journey.world.connections k) (told_as (length c.output-output.result.now) c.closing-closing.result c.output-output.result.now (connection_at past.journey.world.connections k) refl (rw c.new-connection.ensures at (c.output-output.ensures.output past.journey reached)) (rw c.new-connection.ensures at (c.closing-closing.ensures past.journey reached))) in
+    rw c.add.ensures (stays_tidy p first found k c.args.self.now c.args.tools.now past c.place_at-place.result (slice_set due k true) c.place_at-place.ensures
+    work.1 (λ j other. set_other due k j true other) (λ none. absurd (not_rested due k none)) (λ e. work.0) h)
 
-pub returns-then-may_write-clause-tidies : goal.returns-then-may_write-clause-tidies
-returns-then-may_write-clause-tidies g c = λ first found past h.
+pub returns-in-Rest-clause-tidies : goal.returns-in-Rest-clause-tidies
+returns-in-Rest-clause-tidies g c = λ first found past h.
     let p = promises g.N.Sockets g.C.Clocks g.J.Journal (keeping g.K.Keeper g.K.ImageKeeper) g.H.HookHost in
     let reached = (served_answered p first _ h).reached in
     let due = c.args.self.now.due in
     let k = c.args.k in
-    rw (c.add-then-may_write.ensures, c.remove.ensures) (stays_tidy p first found k c.args.self.now c.args.tools.now past c.place_at-place.result (slice_set (slice_set due k false) k true) c.place_at-place.ensures
-    (c.is_over.ensures.goes_on c.if-is_over.false past.journey reached) (λ j other. set_other (slice_set due k false) k j true other ∙ set_other due k j false other)
-    (λ none. absurd (not_rested (slice_set due k false) k none))
-    (λ e. a_write (c.may_write.ensures.writable c.if-may_write.true) (c.may_write.ensures.may c.if-may_write.true past.journey reached)) h)
+    let rests = c.in-Rest.ensures.due (connection_at past.journey.world.connections k) (told_as (length c.output-output.result.now) c.closing-closing.result c.output-output.result.now (connection_at past.journey.world.connections k) refl (rw c.new-connection.ensures at (c.output-output.ensures.output past.journey reached)) (rw c.new-connection.ensures at (c.closing-closing.ensures past.journey reached))) in
+    rw c.remove-in-Rest.ensures (stays_tidy p first found k c.args.self.now c.args.tools.now past c.place_at-place.result (slice_set due k false) c.place_at-place.ensures
+    rests.goes_on (λ j other. set_other due k j false other) (λ none. rests) (λ e. absurd (not_due due k e)) h)
 
-pub returns-else-may_write-clause-tidies : goal.returns-else-may_write-clause-tidies
-returns-else-may_write-clause-tidies g c = λ first found past h.
-    let p = promises g.N.Sockets g.C.Clocks g.J.Journal (keeping g.K.Keeper g.K.ImageKeeper) g.H.HookHost in
-    let reached = (served_answered p first _ h).reached in
-    let due = c.args.self.now.due in
-    let k = c.args.k in
-    rw c.remove.ensures (stays_tidy p first found k c.args.self.now c.args.tools.now past c.place_at-place.result (slice_set due k false) c.place_at-place.ensures
-    (c.is_over.ensures.goes_on c.if-is_over.false past.journey reached) (λ j other. set_other due k j false other)
-    (λ none. record {
-      unread = λ readable. c.may_read.ensures.rests c.if-may_read.false readable past.journey reached;
-      unwritten = λ writable. c.may_write.ensures.rests c.if-may_write.false writable past.journey reached;
-      goes_on = c.is_over.ensures.goes_on c.if-is_over.false past.journey reached;
-    }) (λ e. absurd (not_due due k e)) h)
+pub returns-in-Close-clause-within : goal.returns-in-Close-clause-within
+returns-in-Close-clause-within g c = frees_within c.args.k c.place_at-place.result (record c.args.self.now { due = c.remove.new.self }) c.leave.new.self c.leave.ensures.rest

@@ -38,8 +38,14 @@ pub returns-clause-leads : goal.returns-clause-leads
 returns-clause-leads g c = c.loop-k.invariant.leads
 
 pub returns-clause-within : goal.returns-clause-within
-returns-clause-within g c = λ j place here taken.
+returns-clause-within g c = λ was j place here taken.
     let size : length c.args.self.now.places ≡ 64 = search rules in
     let same = c.loop-k.invariant.size in
     let within = slice_get_within c.loop-k.self.places j place here in
     c.loop-k.invariant.below j place (omega (arith, size, same, within, c.loop-k-test.false)) here taken
+
+pub returns-in-Same-clause-leads : goal.returns-in-Same-clause-leads
+returns-in-Same-clause-leads g c = λ found. nowhere (promises g.N.Sockets g.C.Clocks g.J.Journal (keeping g.K.Keeper g.K.ImageKeeper) g.H.HookHost) found _ _
+
+pub returns-in-Same-clause-within : goal.returns-in-Same-clause-within
+returns-in-Same-clause-within g c = λ was. was c.in-Same.is

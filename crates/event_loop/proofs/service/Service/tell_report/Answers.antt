@@ -8,11 +8,11 @@ use Rattle.event_loop.proofs.Leading.{nowhere}
 use Rattle.event_loop.proofs.Resting.{settled_then}
 use Rattle.event_loop.proofs.service.Service.tell_report.Goals as goal
 
-pub returns-then-saturating_sub-every : goal.returns-then-saturating_sub-every
-returns-then-saturating_sub-every g c = λ found. nowhere (promises g.N.Sockets g.C.Clocks g.J.Journal (keeping g.K.Keeper g.K.ImageKeeper) g.H.HookHost) found _ _
+pub returns-then-saturating_sub-every-clause-leads : goal.returns-then-saturating_sub-every-clause-leads
+returns-then-saturating_sub-every-clause-leads g c = λ found. nowhere (promises g.N.Sockets g.C.Clocks g.J.Journal (keeping g.K.Keeper g.K.ImageKeeper) g.H.HookHost) found _ _
 
-pub returns : goal.returns
-returns g c = λ found first past h settled.
+pub returns-clause-leads : goal.returns-clause-leads
+returns-clause-leads g c = λ found first past h settled.
     let due : c.args.every ≤ c.args.self.now.times.steady - c.args.self.now.told.report = omega arith in
     record {
       next = past;

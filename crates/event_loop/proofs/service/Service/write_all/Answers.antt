@@ -8,9 +8,9 @@ use Rattle.event_loop.proofs.Resting.{heard_other, rested_other}
 use Rattle.event_loop.proofs.service.Service.write_all.Goals as goal
 
 pub loop-k-init : goal.loop-k-init
-loop-k-init g c = (
-  c.end-k-end.ensures.none,
-  λ first found past rested heard unwritten kept h. record {
+loop-k-init g c = record {
+  due = c.end-k-end.ensures.none;
+  writes = λ first found past rested heard unwritten kept h. record {
     next = past;
     served = h;
     below = λ j less. absurd (omega (arith, less));
@@ -19,15 +19,16 @@ loop-k-init g c = (
     unwritten = λ j from. unwritten j;
     kept = kept;
     done = none_more past.deeds;
-  },
-)
+  };
+  within = λ all. all;
+}
 
 pub loop-k-preserved-then-not-is_at : goal.loop-k-preserved-then-not-is_at
-loop-k-preserved-then-not-is_at g c = (
-  c.loop-k.invariant.0,
-  λ first found past rested heard unwritten kept h.
+loop-k-preserved-then-not-is_at g c = record {
+  due = c.loop-k.invariant.due;
+  writes = λ first found past rested heard unwritten kept h.
       let k = c.loop-k.k in
-      let before = c.loop-k.invariant.1 first found past rested heard unwritten kept h in
+      let before = c.loop-k.invariant.writes first found past rested heard unwritten kept h in
       let none = subst (λ b. slice_get c.loop-k.self.due k ≡ Some b) c.if-not-is_at.true c.is_at.ensures in
       record {
         next = before.next;
@@ -38,15 +39,16 @@ loop-k-preserved-then-not-is_at g c = (
         unwritten = λ j from. before.unwritten j (omega (arith, from));
         kept = before.kept;
         done = before.done;
-      },
-)
+      };
+  within = c.loop-k.invariant.within;
+}
 
 pub loop-k-preserved : goal.loop-k-preserved
-loop-k-preserved g c = (
-  λ j from less. c.turn.ensures.due j (λ is. absurd (omega (arith, from, is, c.loop-k-test.true))) ∙ c.loop-k.invariant.0 j from less,
-  λ first found past rested heard unwritten kept h.
+loop-k-preserved g c = record {
+  due = λ j from less. c.turn.ensures.due j (λ is. absurd (omega (arith, from, is, c.loop-k-test.true))) ∙ c.loop-k.invariant.due j from less;
+  writes = λ first found past rested heard unwritten kept h.
       let k = c.loop-k.k in
-      let before = c.loop-k.invariant.1 first found past rested heard unwritten kept h in
+      let before = c.loop-k.invariant.writes first found past rested heard unwritten kept h in
       let turn = c.turn.ensures.rests first found before.next (before.heard k (omega arith) (omega (arith, c.loop-k-test.true))) (before.unwritten k (omega arith)) before.kept before.served in
       record {
         next = turn.goes.next;
@@ -57,18 +59,19 @@ loop-k-preserved g c = (
         unwritten = λ j from. turn.goes.alone _ (λ e. absurd (writing_other j k from e)) (before.unwritten j (omega (arith, from)));
         kept = turn.goes.ready before.kept;
         done = done_then _ _ _ before.done turn.goes.done;
-      },
-)
+      };
+  within = λ was. c.turn.ensures.within (c.loop-k.invariant.within was);
+}
 
-pub returns : goal.returns
-returns g c = λ first found past rested heard unwritten kept h.
-    let all = c.loop-k.invariant.1 first found past rested heard unwritten kept h in
+pub returns-clause-writes : goal.returns-clause-writes
+returns-clause-writes g c = λ first found past rested heard unwritten kept h.
+    let all = c.loop-k.invariant.writes first found past rested heard unwritten kept h in
     record {
       next = all.next;
       served = all.served;
       below = λ j less. elim (cases_lt j c.end-k-end.result) [
         | inl before ↦ all.below j (omega (arith, before, c.loop-k-test.false))
-        | inr from ↦ rested_settled j c.loop-k.self all.next (all.rested j (omega (arith, from, c.loop-k-test.false)) less) (c.loop-k.invariant.0 j from less)
+        | inr from ↦ rested_settled j c.loop-k.self all.next (all.rested j (omega (arith, from, c.loop-k-test.false)) less) (c.loop-k.invariant.due j from less)
       ];
       rested = λ j from less. absurd (omega (arith, from, less));
       heard = λ j from less. absurd (omega (arith, from, less));
@@ -76,3 +79,6 @@ returns g c = λ first found past rested heard unwritten kept h.
       kept = all.kept;
       done = all.done;
     }
+
+pub returns-clause-within : goal.returns-clause-within
+returns-clause-within g c = c.loop-k.invariant.within
