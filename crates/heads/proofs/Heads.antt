@@ -1,10 +1,12 @@
 -- What the parser's answers say of the front of the bytes.
-use Rattle.std.proofs.Common.{◌≡◌, ℕ, ◌+◌, ◌<◌, ◌≤◌, inl, inr, List, [], ◌∷◌, ◌++◌, Some, codes, zero, suc, get_or, length, take, drop, refl, sym, ap, ◌∙◌, arith, append-nil, length-append}
+use Rattle.std.proofs.Common.{◌≡◌, ◌≢◌, ◌⊎◌, ℕ, ◌+◌, ◌<◌, ◌≤◌, inl, inr, List, [], ◌∷◌, ◌++◌, Some, codes, zero, suc, get_or, length, take, drop, refl, sym, ap, ◌∙◌, arith, append-nil, length-append}
 use Rattle.std.proofs.lemmas.Str.{IsUtf8-from_ascii}
 use Rattle.std.proofs.lemmas.List.Elements.{All-nil, All-cons}
 use Rattle.std.proofs.lemmas.List.{take_at, take-append-drop, take-append-le, length-take-le, length-take, length-drop, drop-drop, length-map}
 use Rattle.httparse.specs.Grammar.{is_token_byte, is_uri_byte, lf, IsField, IsRequestHead, RequestHead, print_request, ReadsRequest, HasNoRequest, NeverHasRequest, MayBecomeRequest, Field}
-use Rattle.httparse.specs.Spans.{RequestOverflows, IsWithin, AreFieldsAt, header_bytes, name_and_value}
+use Rattle.httparse.specs.Spans.{RequestOverflows, RequestExceeds, IsWithin, AreFieldsAt, header_bytes, name_and_value}
+use Rattle.httparse.specs.declared.Error.{Error}
+use Rattle.httparse.specs.declared.Error.TheVariants as error
 use Rattle.httparse.specs.declared.spans.Span.{Span}
 use Rattle.httparse.specs.declared.spans.HeaderSpan.{HeaderSpan}
 use Rattle.httparse.proofs.GrammarLemmas.{request_unique, request_prefix_free, ReadsRequest-append}
@@ -13,29 +15,25 @@ use Rattle.heads.specs.Fields.{content_length, AreGoodFields}
 use Rattle.heads.specs.PlacesParts.{AreFieldsIn}
 use Rattle.heads.specs.declared.fields.FieldSpans.{FieldSpans}
 use Rattle.std.specs.Prelude.{is_some, IsTrue, Option}
-use Rattle.heads.specs.Message.{BeginsWithMessage, IsHopeless, IsGood, head_fields}
+use Rattle.heads.specs.Message.{BeginsWithMessage, IsHopeless, MayTell, IsGood, head_fields}
 use Rattle.heads.specs.Waiting.{IsUnfinished, Wants}
 use Rattle.heads.specs.ReadingLaws.{some_head, reads_head, same_some}
 
--- an error about the input
-pub hopeless_invalid : (bytes : List ℕ) → NeverHasRequest bytes → IsHopeless bytes
-hopeless_invalid bytes never more m rest b = never more m.head (m.body ++ rest) (reads_head _ m rest b)
-
--- more lines than there is room for
-pub hopeless_overflow : (bytes : List ℕ) → RequestOverflows field_line_limit bytes → IsHopeless bytes
+-- whatever error the parser answers
+hopeless_overflow : (bytes : List ℕ) → RequestOverflows field_line_limit bytes → IsHopeless bytes
 hopeless_overflow bytes over more m rest b =
     let many = over more m.head (m.body ++ rest) (reads_head _ m rest b) in
     let few = b.good.lines in
     omega (arith, many, few)
 
 -- a whole head that is not good
-pub hopeless_head : (bytes : List ℕ) (head : RequestHead) (after : List ℕ) → ReadsRequest bytes head after → ¬ (IsGood head) → IsHopeless bytes
+hopeless_head : (bytes : List ℕ) (head : RequestHead) (after : List ℕ) → ReadsRequest bytes head after → ¬ (IsGood head) → IsHopeless bytes
 hopeless_head bytes head after whole bad more m rest b =
     let same = request_prefix_free bytes more head m.head after (m.body ++ rest) whole (reads_head _ m rest b) in
     bad (rw same.0 b.good)
 
 -- as many bytes as a head may have, and no head at their front
-pub hopeless_long : (bytes : List ℕ) → head_size_limit ≤ length bytes → HasNoRequest bytes → IsHopeless bytes
+hopeless_long : (bytes : List ℕ) → head_size_limit ≤ length bytes → HasNoRequest bytes → IsHopeless bytes
 hopeless_long bytes long none more m rest b =
     let t : List ℕ = print_request m.head in
     let size = b.good.size in
@@ -43,6 +41,31 @@ hopeless_long bytes long none more m rest b =
     let front : take (length t) bytes ≡ t =
     sym (take-append-le (length t) bytes more fits) ∙ ap (take (length t)) b.text ∙ take_at t (m.body ++ rest) (length t) refl in
     none m.head (drop (length t) bytes) (b.head, sym (take-append-drop (length t) bytes) ∙ ap (λ (l : List ℕ). l ++ drop (length t) bytes) front)
+
+-- ---- a faulty head is told
+
+pub faulty_head : (bytes : List ℕ) (head : RequestHead) (after : List ℕ) → ReadsRequest bytes head after → ¬ (IsGood head) → IsHopeless bytes × MayTell bytes
+faulty_head bytes head after whole bad =
+    (hopeless_head bytes head after whole bad, inl (inl (record { head = head; after = after; reads = whole; faulty = bad })))
+
+pub faulty_long : (bytes : List ℕ) → head_size_limit ≤ length bytes → HasNoRequest bytes → IsHopeless bytes × MayTell bytes
+faulty_long bytes long none =
+    (hopeless_long bytes long none, inl (inr (inr (record { size = long; none = λ head after reads good. none head after reads }))))
+
+-- an error is of the lines' number, or of the input
+pub faulty_error : (bytes : List ℕ) (e : Error) → RequestOverflows field_line_limit bytes → (e ≢ error.TooManyHeaders → NeverHasRequest bytes) →
+    (e ≡ error.TooManyHeaders → RequestExceeds field_line_limit bytes) → IsHopeless bytes × MayTell bytes
+faulty_error bytes e over invalid many = (hopeless_overflow bytes over, inr (by e invalid many))
+  where
+    by : (e : Error) → (e ≢ error.TooManyHeaders → NeverHasRequest bytes) → (e ≡ error.TooManyHeaders → RequestExceeds field_line_limit bytes) →
+        NeverHasRequest bytes ⊎ RequestExceeds field_line_limit bytes
+    by error.HeaderName invalid many = inl (invalid (λ is. absurd (cc)))
+    by error.HeaderValue invalid many = inl (invalid (λ is. absurd (cc)))
+    by error.NewLine invalid many = inl (invalid (λ is. absurd (cc)))
+    by error.Status invalid many = inl (invalid (λ is. absurd (cc)))
+    by error.Token invalid many = inl (invalid (λ is. absurd (cc)))
+    by error.TooManyHeaders invalid many = inr (many refl)
+    by error.Version invalid many = inl (invalid (λ is. absurd (cc)))
 
 -- ---- more bytes are wanted
 

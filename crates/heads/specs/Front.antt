@@ -3,7 +3,7 @@ use Rattle.std.specs.Prelude.{◌≡◌, ◌≤◌, ◌<◌, ℕ, List, length, 
 use Rattle.httparse.specs.Spans.{span_bytes, IsWithin}
 use Rattle.heads.specs.Fields.{field_value}
 use Rattle.heads.specs.Places.{bytes_at_place, IsOptionWithin}
-use Rattle.heads.specs.Message.{Message, BeginsWithMessage, IsHopeless, head_fields}
+use Rattle.heads.specs.Message.{Message, BeginsWithMessage, IsHopeless, MayTell, head_fields}
 use Rattle.heads.specs.Waiting.{Wants}
 use Rattle.heads.specs.declared.front.Found.{Found}
 use Rattle.heads.specs.declared.front.Front.{Front}
@@ -36,4 +36,4 @@ pub record IsWholeAt (bytes : List ℕ) (found : Found) (m : Message) : Type 0 w
 abbrev pub IsFront : List ℕ → Front → Type 0
 IsFront bytes (Whole found) = IsFoundWithin bytes found × ((m : Message) × IsWholeAt bytes found m)
 IsFront bytes (More wanted) = Wants bytes wanted
-IsFront bytes Faulty = IsHopeless bytes
+IsFront bytes Faulty = IsHopeless bytes × MayTell bytes

@@ -1,7 +1,7 @@
 -- A stream of bytes as requests and a rest (RFC 9112, section 2), over the grammar of `httparse`.
 use Rattle.std.specs.Prelude.{◌≡◌, ℕ, ◌≤◌, ◌⊎◌, List, [], ◌∷◌, ◌++◌, length, map, Some, codes}
-use Rattle.httparse.specs.Grammar.{RequestHead, print_request, IsRequestHead, ReadsRequest, HasNoRequest, MayBecomeRequest}
-use Rattle.httparse.specs.Spans.{name_and_value}
+use Rattle.httparse.specs.Grammar.{RequestHead, print_request, IsRequestHead, ReadsRequest, HasNoRequest, NeverHasRequest, MayBecomeRequest}
+use Rattle.httparse.specs.Spans.{name_and_value, RequestExceeds}
 use Rattle.messages.specs.Asked.{Asked}
 use Rattle.heads.specs.Limits.{head_size_limit, field_line_limit}
 use Rattle.heads.specs.Fields.{AreGoodFields, content_length, field_value}
@@ -67,6 +67,14 @@ pub record IsHeadTooLong (bytes : List ℕ) : Type 0 where
 -- a faulty head has to be told at the latest now
 abbrev pub MustTell : List ℕ → Type 0
 MustTell bytes = BeginsFaulty bytes ⊎ (CannotBecomeHead bytes ⊎ IsHeadTooLong bytes)
+
+-- more lines than a head may have, before its end came
+abbrev pub HasTooManyLines : List ℕ → Type 0
+HasTooManyLines bytes = RequestExceeds field_line_limit bytes
+
+-- a faulty head may be told now: it has to be, or none can come of the bytes, or there are too many lines
+abbrev pub MayTell : List ℕ → Type 0
+MayTell bytes = MustTell bytes ⊎ (NeverHasRequest bytes ⊎ HasTooManyLines bytes)
 
 -- what a message asks
 abbrev pub asked_of_message : Message → Asked

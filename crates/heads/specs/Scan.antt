@@ -1,7 +1,7 @@
 -- What is read of all the bytes.
 use Rattle.std.specs.Prelude.{◌≡◌, ◌≤◌, ◌<◌, ℕ, List, length, drop, true, false}
 use Rattle.heads.specs.Limits.{message_size_limit}
-use Rattle.heads.specs.Message.{Message, Messages, IsHopeless, MustTell}
+use Rattle.heads.specs.Message.{Message, Messages, IsHopeless, MustTell, MayTell}
 use Rattle.heads.specs.Waiting.{IsWaiting, Wants}
 use Rattle.heads.specs.declared.scan.Scan.{Scan}
 
@@ -12,6 +12,7 @@ pub record IsScan (bytes : List ℕ) (scan : Scan) : Type 0 where
   pub end : scan.end ≤ length bytes
   pub reads : Messages bytes messages (drop scan.end bytes)
   pub hopeless : scan.faulty ≡ true → IsHopeless (drop scan.end bytes)
+  pub may : scan.faulty ≡ true → MayTell (drop scan.end bytes)
   pub must : MustTell (drop scan.end bytes) → scan.faulty ≡ true
   pub nothing : scan.faulty ≡ true → scan.wanted ≡ 0
   pub short : scan.faulty ≡ false → length (drop scan.end bytes) < message_size_limit

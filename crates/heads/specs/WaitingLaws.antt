@@ -20,4 +20,4 @@ waiting_unfinished rest wanted waits fewer = rw append-nil at (waits [] (rw appe
 pub front_whole : (bytes : List ℕ) (front : Front) → IsFront bytes front → ¬ (HasNone bytes) → (found : Found) × (front ≡ Whole found)
 front_whole bytes (Whole found) is some = (found, refl)
 front_whole bytes (More wanted) is some = absurd (some (waiting_unfinished bytes wanted is.waiting is.fewer).none)
-front_whole bytes Faulty is some = absurd (some (hopeless_has_none bytes is))
+front_whole bytes Faulty is some = absurd (some (hopeless_has_none bytes is.0))

@@ -5,7 +5,7 @@ use Rattle.consent.specs.History.{Event, with_changes}
 use Rattle.messages.specs.declared.request.Draws.{Draws}
 use Rattle.messages.specs.Small.{reply_limit}
 use Rattle.endpoints.specs.Server.{SeenServer, Outset, Before, FitsServer, AreNoted}
-use Rattle.heads.specs.Message.{Message, HasNone, ReadsMessages, Messages, IsHopeless, MustTell}
+use Rattle.heads.specs.Message.{Message, HasNone, ReadsMessages, Messages, IsHopeless, MustTell, MayTell}
 use Rattle.heads.specs.declared.scan.Scan.{Scan}
 use Rattle.http_edge.specs.Limits.{request_limit}
 use Rattle.http_edge.specs.Answers.{AnsweredRequest, AreAnswered, AreAskedBy, draws_in, changes_made, replies_of}
@@ -110,7 +110,7 @@ pub record AreMessagesRead (bytes kept : List ℕ) (messages : List Message) (cl
   pub reads : Messages bytes messages rest
   pub few : length messages ≤ request_limit
   pub kept_is : kept ≡ (if closes then [] else rest)
-  pub may_tell : closes ≡ true → IsHopeless rest
+  pub may_tell : closes ≡ true → IsHopeless rest × MayTell rest
   pub must_tell : MustTell rest → closes ≡ true
 
 -- what hears bytes: a server, the lane on which they come, and what their requests have their draws from

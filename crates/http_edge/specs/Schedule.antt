@@ -7,7 +7,7 @@ use Rattle.messages.specs.declared.request.Draws.{Draws}
 use Rattle.messages.specs.Written.{faulty_bytes}
 use Rattle.endpoints.specs.Bounded.{AllRight}
 use Rattle.endpoints.specs.Server.{Outset}
-use Rattle.heads.specs.Message.{Message, Messages, IsHopeless, MustTell}
+use Rattle.heads.specs.Message.{Message, Messages, IsHopeless, MustTell, MayTell}
 use Rattle.http_edge.specs.Limits.{connection_limit, piece_limit, request_limit}
 use Rattle.http_edge.specs.Answers.{AnswerMark, AnsweredRequest, AreAnswered, AreAskedBy, draws_in, marks_in, changes_made, replies_of}
 use Rattle.http_edge.specs.declared.lane.Phase.{Phase}
@@ -147,8 +147,8 @@ pub record PieceComes {H : Type 0} (hosting : Hosting H) (outset : Outset H) (ol
   pub draws : came.draws ≡ draws_in requests ++ left
   pub marks : came.marks ≡ marks_in requests
   pub answered : AreAnswered hosting outset new.greatest old.history requests
-  -- a faulty head is told of only where nothing good can come, and at the latest where it must be
-  pub may_tell : came.closes ≡ true → IsHopeless rest
+  -- a faulty head is told of only where nothing good can come and it may be, and at the latest where it must be
+  pub may_tell : came.closes ≡ true → IsHopeless rest × MayTell rest
   pub must_tell : MustTell rest → came.closes ≡ true
   pub greatest : new.greatest ≡ moment_after old.greatest came.piece.moment messages
   pub history : new.history ≡ with_changes old.history new.greatest (changes_made requests)

@@ -1,11 +1,12 @@
 //! A piece is read and answered.
-ghost use Rattle.std.specs.Prelude.{◌≡◌, ◌≤◌, ◌<◌, ◌+◌, ℕ, List, [], ◌++◌, length, drop, vec_len, vec_capacity, OnOk, IfErr, OnErr, if◌then◌else◌};
+ghost use Rattle.std.specs.Prelude.{◌≡◌, ◌≤◌, ◌<◌, ◌+◌, ℕ, List, [], ◌++◌, length, drop, vec_len, vec_capacity, OnOk, IfErr, OnErr, IsErrOf, if◌then◌else◌};
 ghost use Rattle.heads.specs.Scan.{IsScan};
 ghost use Rattle.http_edge.specs.Limits.{piece_limit, request_limit, room_to_hear};
 ghost use Rattle.http_edge.specs.Schedule.{faulty_if};
 ghost use Rattle.http_edge.specs.Supply.{Suffices};
 ghost use Rattle.http_edge.specs.Heard.{IsHeard, IsHearingRefusal, timed_bytes, hearing, reply_room};
 ghost use Rattle.http_edge.specs.declared.lane.Phase.TheVariants.{Closing};
+ghost use Rattle.http_edge.specs.declared.fault.EdgeFault.TheVariants.{Memory};
 
 use crate::answering::answer_all;
 use crate::fault::EdgeFault;
@@ -26,7 +27,7 @@ const FAULTY_SIZE: usize = 66;
 // How much room the replies need at most.
 fn room_for(scan: &Scan) -> usize
     requires { scan.now.count ≤ request_limit }
-    ensures { reply_room scan.now ≤ result }
+    ensures { result ≡ reply_room scan.now }
 {
     if scan.faulty {
         scan.count * REPLY_LIMIT + FAULTY_SIZE
@@ -41,6 +42,7 @@ fn make_room<S: DrawSource>(output: &mut Vec<u8>, scan: &Scan, source: &S) -> Re
     ensures enough { OnOk result (Suffices (S.supply source.now) scan.now.count) }
     ensures room { OnOk result (vec_len output.new + reply_room scan.now ≤ vec_capacity output.new) }
     ensures refused { (bytes : List ℕ) → IsScan bytes scan.now → IfErr result (λ fault. IsHearingRefusal fault bytes (S.supply source.now)) }
+    ensures missing { IsErrOf result Memory → vec_capacity output.old < vec_len output.old + reply_room scan.now }
     ensures items { output.new.items ≡ output.old.items }
 {
     if scan.count > REQUEST_LIMIT {

@@ -4,24 +4,24 @@ use Rattle.heads.specs.Fields.{AreGoodFields}
 use Rattle.heads.specs.PlacesParts.{AreFieldsIn}
 use Rattle.heads.specs.Message.{IsGood, head_fields}
 use Rattle.heads.specs.ReadingLaws.{some_head}
-use Rattle.heads.proofs.Heads.{hopeless_head, wants_body, begins_whole, few_lines, good_fields, within_more}
+use Rattle.heads.proofs.Heads.{faulty_head, wants_body, begins_whole, few_lines, good_fields, within_more}
 use Rattle.heads.proofs.front.after_head.Goals as goal
 
 pub returns-then-head-ne-MINOR_VERSION : goal.returns-then-head-ne-MINOR_VERSION
 returns-then-head-ne-MINOR_VERSION c =
     let at = c.requires.head.1 in
-    hopeless_head c.args.bytes.now c.requires.head.0 _ at.reads (λ good. c.if-head-ne-MINOR_VERSION.true (at.version ∙ good.version))
+    faulty_head c.args.bytes.now c.requires.head.0 _ at.reads (λ good. c.if-head-ne-MINOR_VERSION.true (at.version ∙ good.version))
 
 pub returns-then-head-gt-HEAD_SIZE_LIMIT : goal.returns-then-head-gt-HEAD_SIZE_LIMIT
 returns-then-head-gt-HEAD_SIZE_LIMIT c =
     let at = c.requires.head.1 in
-    hopeless_head c.args.bytes.now c.requires.head.0 _ at.reads (λ good. (let size = good.size in let len = at.len in omega (arith, size, len, c.if-head-gt-HEAD_SIZE_LIMIT.true)))
+    faulty_head c.args.bytes.now c.requires.head.0 _ at.reads (λ good. (let size = good.size in let len = at.len in omega (arith, size, len, c.if-head-gt-HEAD_SIZE_LIMIT.true)))
 
 pub returns-in_default : goal.returns-in_default
 returns-in_default c =
     let at = c.requires.head.1 in
     let bad : ¬ (AreGoodFields (map (header_bytes c.args.bytes.now) (take c.args.head.headers c.args.headers.now))) = search rules in
-    hopeless_head c.args.bytes.now c.requires.head.0 _ at.reads (λ good. bad (rw at.fields good.fields))
+    faulty_head c.args.bytes.now c.requires.head.0 _ at.reads (λ good. bad (rw at.fields good.fields))
 
 pub returns-then-end-bytes : goal.returns-then-end-bytes
 returns-then-end-bytes c =

@@ -1,7 +1,7 @@
 use Rattle.std.proofs.Common.{◌≡◌, ℕ, List, ◌+◌, ◌-◌, length, take, drop, [], ◌∷◌, ◌++◌, refl, arith, length-append}
 use Rattle.std.proofs.lemmas.Bool.{true≢false, false≢true}
 use Rattle.std.proofs.lemmas.List.{take_all, length-drop, drop-drop}
-use Rattle.heads.specs.Message.{Message, BeginsWithMessage, IsHopeless}
+use Rattle.heads.specs.Message.{Message, BeginsWithMessage, IsHopeless, MayTell}
 use Rattle.heads.specs.Waiting.{Wants}
 use Rattle.heads.specs.Front.{IsFoundWithin, IsWholeAt}
 use Rattle.heads.specs.ReadingLaws.{reads_push, hopeless_has_none}
@@ -10,6 +10,9 @@ use Rattle.heads.proofs.scan.scan_behind.Goals as goal
 
 tail_is : (n : ℕ) (bytes : List ℕ) → take (length bytes - n) (drop n bytes) ≡ drop n bytes
 tail_is n bytes = take_all _ _ (let l = length-drop n bytes in omega (arith, l))
+
+pub front_of-requires : goal.front_of-requires
+front_of-requires c = λ none. rw (tail_is c.requests.end c.args.bytes.now, c.requests.invariant.front none) c.requires
 
 pub requests-preserved : goal.requests-preserved
 requests-preserved c =
@@ -50,6 +53,7 @@ returns-in-More c =
       end = before.end;
       reads = record { reads = before.reads; none = unfinished.none };
       hopeless = λ e. absurd (false≢true e);
+      may = λ e. absurd (false≢true e);
       must = λ must. absurd (unfinished.untold must);
       nothing = λ e. absurd (false≢true e);
       short = λ e. unfinished.short;
@@ -62,14 +66,15 @@ returns-in-Faulty c =
     let bytes = c.args.bytes.now in
     let end = c.requests.end in
     let rest : List ℕ = drop end bytes in
-    let hopeless : IsHopeless rest = rw (← tail_is end bytes) c.in-Faulty.ensures in
+    let told : IsHopeless rest × MayTell rest = rw (← tail_is end bytes) c.in-Faulty.ensures in
     let before = c.requests.invariant in
     record {
       messages = before.messages;
       count = before.count;
       end = before.end;
-      reads = record { reads = before.reads; none = hopeless_has_none rest hopeless };
-      hopeless = λ e. hopeless;
+      reads = record { reads = before.reads; none = hopeless_has_none rest told.0 };
+      hopeless = λ e. told.0;
+      may = λ e. told.1;
       must = λ must. refl;
       nothing = λ e. refl;
       short = λ e. absurd (true≢false e);

@@ -17,6 +17,9 @@ use Rattle.http_edge.proofs.Drawing.{draws_push, behind_push}
 use Rattle.http_edge.proofs.Supplying.{suffices_one, suffices_behind, suffices_for}
 use Rattle.http_edge.proofs.answering.answer_all.Goals as goal
 
+pub front_of-requires : goal.front_of-requires
+front_of-requires g c = λ none. rw (tail_is c.loop-i.start c.args.bytes.now, c.loop-i.invariant.front none) c.requires.first
+
 pub unreachable-requires : goal.unreachable-requires
 unreachable-requires g c =
     let bytes = c.args.bytes.now in

@@ -23,7 +23,7 @@ returns-clause-heard g c =
         reads = all.reads;
         few = omega (arith, count, few);
         kept_is = c.in-Ok.ensures.ok;
-        may_tell = all.hopeless;
+        may_tell = λ e. (all.hopeless e, all.may e);
         must_tell = all.must;
       };
       enough = suffices_for _ _ _ count c.in_default.ensures.enough;
