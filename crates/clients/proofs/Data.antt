@@ -1,11 +1,11 @@
 -- Text that is JSON, and bytes that are not.
-use Rattle.std.proofs.Common.{◌≡◌, ℕ, List, Bool, true, false, refl, Some, None, Ok, Err}
+use Rattle.std.proofs.Common.{◌≡◌, ℕ, List, Bool, true, false, refl, Option, Some, None, Ok, Err}
 use Rattle.std.specs.Str.{IsUtf8, is_utf8}
 use Rattle.std.proofs.lemmas.Str.{IsUtf8-from_is_utf8, is_utf8-from_IsUtf8}
 use Rattle.serde_json.specs.Data.{Data}
 use Rattle.serde_json.specs.Read.{read}
 use Rattle.clients.specs.Registry.{data_of}
-use Rattle.clients.specs.declared.fault.ConfigFault.TheVariants.{NotJson}
+use Rattle.clients.specs.declared.fault.ConfigFault.TheVariants.{NotJson, Memory}
 
 pub data_where : (bytes : List ℕ) (value : Data) → IsUtf8 bytes → read bytes ≡ Some value → data_of bytes ≡ Ok value
 data_where bytes value is found = rw (is_utf8-from_IsUtf8 bytes is, found) refl
@@ -16,3 +16,12 @@ no_data_where bytes none = by (is_utf8 bytes) refl
     by : (b : Bool) → is_utf8 bytes ≡ b → data_of bytes ≡ Err NotJson
     by true e = rw (e, none (IsUtf8-from_is_utf8 bytes e)) refl
     by false e = rw e refl
+
+-- want of memory is no fault of a text
+pub data_takes_no_memory : (bytes : List ℕ) → ¬ (data_of bytes ≡ Err Memory)
+data_takes_no_memory bytes is = by (is_utf8 bytes) refl (read bytes) refl
+  where
+    by : (b : Bool) → is_utf8 bytes ≡ b → (value : Option Data) → read bytes ≡ value → ⊥
+    by true e (Some value) found = absurd (cc (rw (e, found) at is))
+    by true e None found = absurd (cc (rw (e, found) at is))
+    by false e value found = absurd (cc (rw e at is))

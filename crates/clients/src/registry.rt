@@ -1,6 +1,6 @@
 //! The registry: owners, scope names and clients, and the lives of tokens.
 
-ghost use Rattle.std.specs.Prelude.{◌≡◌, ◌<◌, ◌≤◌, [], true, length, Some, IfOk, OnOk, IfSome, option_copied, IsUtf8};
+ghost use Rattle.std.specs.Prelude.{◌≡◌, ◌<◌, ◌≤◌, [], true, length, Some, IfOk, OnOk, OnErr, IfSome, option_copied, IsUtf8};
 ghost use Rattle.serde_json.specs.View.{view, items_view};
 ghost use Rattle.clients.specs.Faults.{GivesUnless};
 ghost use Rattle.clients.specs.FaultsParts.{seen_by};
@@ -87,8 +87,10 @@ impl Registry {
     }
 
     /// Where in JSON text of no registry its first fault lies. None: the text as a whole is at fault.
+    #[tactic(auto, using(crate::proofs::Data::data_takes_no_memory))]
     pub fn spot_of_fault(alloc: Global, bytes: &[u8]) -> Result<Option<Spot>, AllocError>
-        ensures { IfOk result (λ spot. spot ≡ spot_in bytes.now) }
+        ensures value { IfOk result (λ spot. spot ≡ spot_in bytes.now) }
+        ensures memory { OnErr result (IsReadable bytes.now) }
     {
         if bytes.len() > MOST_BYTES {
             return Ok(None);
