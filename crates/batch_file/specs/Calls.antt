@@ -1,5 +1,5 @@
 -- The calls that were made on a file, and what a crash between them may leave.
-use Rattle.std.specs.Prelude.{◌≡◌, ◌+◌, ◌≤◌, ◌⊎◌, ℕ, is_ok, List, [], ◌∷◌, ◌++◌, length, take, drop, Bool, true, if◌then◌else◌}
+use Rattle.std.specs.Prelude.{◌≡◌, ◌+◌, ◌≤◌, ◌⊎◌, ℕ, List, [], ◌∷◌, ◌++◌, length, take, drop, Bool, true, if◌then◌else◌}
 use Rattle.batch_file.specs.Crashes.{Torn, Cut, Swapped}
 
 pub data Call : Type 0 where

@@ -3,7 +3,8 @@
 //!
 //! The lock is held on a file of its own beside it, since the file itself is another one after a replacement.
 
-ghost use Rattle.std.specs.Prelude.{◌≡◌, length, IfOk, Some};
+ghost use Rattle.std.specs.Prelude.{◌≡◌, length, IfOk, OnOk, IfSome, Some};
+ghost use Rattle.std.specs.Io.KnownBytes.{IsAtEnd};
 ghost use Rattle.std.specs.IoError.{error_kind};
 ghost use Rattle.std.specs.Path.{path_bytes};
 ghost use Rattle.batch_file.specs.declared.disk_file.OpenFault.TheVariants.{Memory};
@@ -15,7 +16,7 @@ ghost use Rattle.batch_file.specs.Moments.{counts_now_of, only_now_of};
 
 use crate::call_log::{CallLog, DiskCall};
 use crate::device::{Device, DeviceFault};
-use std::alloc::AllocError;
+use std::alloc::{AllocError, Global};
 use std::fmt::{self, Display, Formatter, Write as _};
 use std::fs::{self, File, OpenOptions, TryLockError};
 use std::io::{self, ErrorKind, Read, Write};
@@ -161,6 +162,16 @@ fn options() -> OpenOptions {
     options
 }
 
+/// All that a reader has left: what it refuses to give is no end.
+fn read_whole<R: Read>(alloc: Global, from: &mut R) -> io::Result<Vec<u8>>
+    ensures whole { IfOk result (λ bytes. IfSome (R.remaining from.old) (λ left. bytes.items ≡ left)) }
+    ensures end { OnOk result (IsAtEnd (R.remaining from.new)) }
+{
+    let mut bytes = Vec::new(alloc);
+    from.read_to_end(&mut bytes)?;
+    Ok(bytes)
+}
+
 /// The folder in which the file of a path lies.
 fn folder_of(path: &str) -> Path<'_>
     ensures { path_bytes result ≡ folder_of path.now }
@@ -190,8 +201,7 @@ impl<'r, R: Files<File = File> + AllocGlobal> DiskFile<'r, R> {
         let mut file = options().open(rt, path.as_str())?;
         file.sync_all()?;
         folder.sync_all()?;
-        let mut bytes = Vec::new(alloc);
-        file.read_to_end(&mut bytes)?;
+        let bytes = read_whole(alloc, &mut file)?;
         let mut log = CallLog::new();
         let _ = log.told(DiskCall::Opened(&bytes), Ok(()));
         let device = DiskFile {
