@@ -22,7 +22,11 @@ pub(crate) struct NewConsent {
 }
 
 // The owner, the client and what the one consents to the other's having.
-fn consented(view: &View<'_>, request: &Request<'_>, params: &Params<'_>) -> Result<NewConsent, Halt>
+fn consented(
+    view: &View<'_>,
+    request: &Request<'_>,
+    params: &Params<'_>,
+) -> Result<NewConsent, Halt>
     ensures { InEachSetting view.now (λ s. DecidesConsent s (asked_of request.entry.now) params.now result) }
 {
     let Some(owner) = owner(view.rules, request) else {

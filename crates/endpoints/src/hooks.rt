@@ -104,7 +104,10 @@ pub(crate) fn install<'c, H: HookHost>(
 }
 
 /// Decides on the removal of the hook that the form names.
-pub(crate) fn remove<'c, H: HookHost>(host: &H, params: &'c Params<'_>) -> Result<Ruling<'c, H>, Halt>
+pub(crate) fn remove<'c, H: HookHost>(
+    host: &H,
+    params: &'c Params<'_>,
+) -> Result<Ruling<'c, H>, Halt>
     ensures rules { (s : Setting) → RulesHooks H.HookHost host.now s (hook_gone params.now) result }
     ensures short { IfOk result (λ ruling. IsShortAnswer ruling.decision.answer) }
 {
