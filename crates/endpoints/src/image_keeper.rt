@@ -1,7 +1,8 @@
-//! Where changes are kept, and an image of a server may stand in their place.
+//! What keeps changes, and may put an image of a server in the place of all that it keeps: what is left of the server when
+//! what has expired goes.
 
+use crate::server::Server;
 use change_codec::{Keeper, NoKeeper};
-use endpoints::Server;
 use hook_host::HookHost;
 use std::alloc::AllocError;
 
@@ -18,7 +19,7 @@ pub enum ImageFault {
 
 impl From<AllocError> for ImageFault {
     ghost use Rattle.std.specs.Prelude.{◌≡◌};
-    ghost use Rattle.image_keeper.specs.declared.keeper.ImageFault.TheVariants.{Memory};
+    ghost use Rattle.endpoints.specs.declared.image_keeper.ImageFault.TheVariants.{Memory};
 
     ghost from_gives = { λ _ fault. fault ≡ Memory };
 
@@ -31,8 +32,8 @@ impl From<AllocError> for ImageFault {
 pub trait ImageKeeper: Keeper {
     ghost use Rattle.std.specs.Prelude.{◌≡◌, OnOk, IsErrOf};
     ghost use Rattle.change_codec.specs.Keeping.{crashes};
-    ghost use Rattle.image_keeper.specs.Imaging.{KeepsImage, KeepsNoImage};
-    ghost use Rattle.image_keeper.specs.declared.keeper.ImageFault.TheVariants.{Memory, TooLong, Failed};
+    ghost use Rattle.endpoints.specs.Imaging.{KeepsImage, KeepsNoImage};
+    ghost use Rattle.endpoints.specs.declared.image_keeper.ImageFault.TheVariants.{Memory, TooLong, Failed};
 
     // It keeps more than it may, beside an image.
     ghost is_long: { Self → Type 0 };

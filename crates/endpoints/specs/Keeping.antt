@@ -1,7 +1,7 @@
 -- What a keeper promises that may put an image of a server in the place of what it keeps.
 use Rattle.change_codec.specs.Keeping.{Crashes, crashes}
 use Rattle.change_codec.specs.declared.keeper.Keeper.{Ghosts as Keeper}
-use Rattle.image_keeper.specs.declared.keeper.ImageKeeper.{Ghosts as ImageKeeper}
+use Rattle.endpoints.specs.declared.image_keeper.ImageKeeper.{Ghosts as ImageKeeper}
 
 -- what crashes leave of it, and when it keeps more than it may beside an image
 pub record Keeping (K : Type 0) : Type 1 where
