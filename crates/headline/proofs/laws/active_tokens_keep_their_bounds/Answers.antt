@@ -1,6 +1,6 @@
 use Rattle.endpoints.specs.BoundedLaws.{tokens_keep_their_bounds}
-use Rattle.promises.proofs.Telling.{active_bounded}
-use Rattle.promises.proofs.laws.active_tokens_keep_their_bounds.Goals as goal
+use Rattle.headline.proofs.Telling.{active_bounded}
+use Rattle.headline.proofs.laws.active_tokens_keep_their_bounds.Goals as goal
 
 pub returns : goal.returns
 returns g c = λ server outset history m fits.

@@ -1,5 +1,5 @@
 use Rattle.consent.specs.HistoryLaws.{code_terms-kin}
-use Rattle.promises.proofs.laws.tokens_have_the_owner_of_their_code.Goals as goal
+use Rattle.headline.proofs.laws.tokens_have_the_owner_of_their_code.Goals as goal
 
 pub returns : goal.returns
 returns g c = λ server outset history m fits digest moment token terms at of_code.

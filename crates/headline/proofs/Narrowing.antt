@@ -40,10 +40,10 @@ use Rattle.token_endpoint.specs.Exchange.{ends_family, exchange, exchanged, spen
 use Rattle.token_endpoint.specs.Grants.{access_for, access_issued, ask_for, both_digests, both_for, left_by_host, refresh_issued}
 use Rattle.token_endpoint.specs.Refresh.{refresh}
 use Rattle.token_endpoint.specs.TokenPath.{issue_token, grant_points}
-use Rattle.promises.specs.Occasions.{Occasion, GoesTo, outcome_of, reply_on, setting_on}
-use Rattle.promises.specs.Hooked.{allows_all, without_hooks, IsNarrowed}
-use Rattle.promises.proofs.Walking.{no_error_200, other}
-use Rattle.promises.proofs.Exchanged.{at_path}
+use Rattle.headline.specs.Occasions.{Occasion, GoesTo, outcome_of, reply_on, setting_on}
+use Rattle.headline.specs.Hooked.{allows_all, without_hooks, IsNarrowed}
+use Rattle.headline.proofs.Walking.{no_error_200, other}
+use Rattle.headline.proofs.Exchanged.{at_path}
 
 -- where the one is granted
 abbrev pub Narrows : Outcome → Outcome → Type 0

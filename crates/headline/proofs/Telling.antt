@@ -48,10 +48,10 @@ use Rattle.endpoints.specs.Revoke.{revoke_token}
 use Rattle.endpoints.specs.HookPaths.{install_hook, remove_hook, list_hooks, change_hooks, by_fault, installation, removal, is_operator}
 use Rattle.endpoints.specs.Introspect.{introspect, told_of}
 use Rattle.endpoints.specs.Bounded.{IsBounded, token_life_limit}
-use Rattle.promises.specs.Occasions.{Occasion, outcome_of, reply_on, setting_on}
-use Rattle.promises.specs.Grants.{KeepsScope, TellsBounded}
-use Rattle.promises.proofs.Bounding.{live_keeps, there}
-use Rattle.promises.proofs.Walking.{at_point, at_need, at_left, at_untaken, at_chosen, at_authenticated, other}
+use Rattle.headline.specs.Occasions.{Occasion, outcome_of, reply_on, setting_on}
+use Rattle.headline.specs.Grants.{KeepsScope, TellsBounded}
+use Rattle.headline.proofs.Bounding.{live_keeps, there}
+use Rattle.headline.proofs.Walking.{at_point, at_need, at_left, at_untaken, at_chosen, at_authenticated, other}
 
 -- the body tells of no active token
 abbrev pub IsQuiet : Body → Type 0

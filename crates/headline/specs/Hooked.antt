@@ -7,7 +7,7 @@ use Rattle.hook_record.specs.declared.Ask.{Ask}
 use Rattle.hook_record.specs.declared.Narrowed.{Narrowed}
 use Rattle.hook_record.specs.declared.Narrowed.TheVariants.{Allowed}
 use Rattle.answers.specs.Outcomes.{Outcome}
-use Rattle.promises.specs.Occasions.{GoesTo, Occasion, outcome_of, reply_on}
+use Rattle.headline.specs.Occasions.{GoesTo, Occasion, outcome_of, reply_on}
 
 -- a host without hooks allows all that is asked
 abbrev pub allows_all : Ask → Narrowed

@@ -18,11 +18,11 @@ use Rattle.token_endpoint.specs.TokenPath.{issue_token}
 use Rattle.endpoints.specs.Paths.{endpoint_at, method_at}
 use Rattle.endpoints.specs.Replies.{outcome_at}
 use Rattle.endpoints.specs.Revoke.{revoke_token, revoked}
-use Rattle.promises.specs.Occasions.{Occasion, outcome_of, history_after, setting_on}
-use Rattle.promises.specs.Uses.{Exchanges, IsGivenAmong, Revokes}
-use Rattle.promises.proofs.Walking.{at_point, at_need, at_authenticated, no_error_200, other, same_some, granted_at}
-use Rattle.promises.proofs.Spending.{has_digest, grant_at-still, is_spent-by, ended_by, ended_stays, live_is}
-use Rattle.promises.proofs.Exchanging.{IsUse, IsUsed, issue_used}
+use Rattle.headline.specs.Occasions.{Occasion, outcome_of, history_after, setting_on}
+use Rattle.headline.specs.Uses.{Exchanges, IsGivenAmong, Revokes}
+use Rattle.headline.proofs.Walking.{at_point, at_need, at_authenticated, no_error_200, other, same_some, granted_at}
+use Rattle.headline.proofs.Spending.{has_digest, grant_at-still, is_spent-by, ended_by, ended_stays, live_is}
+use Rattle.headline.proofs.Exchanging.{IsUse, IsUsed, issue_used}
 
 module _ (rules : RegistryRecord) (history : List Event) (occasion : Occasion) where
   -- the outcome at the path

@@ -29,9 +29,9 @@ use Rattle.token_endpoint.specs.Exchange.{ends_family, exchange, exchanged, spen
 use Rattle.token_endpoint.specs.Grants.{access_for, access_issued, ask_for, both_digests, both_for, left_by_host, refresh_issued}
 use Rattle.token_endpoint.specs.Refresh.{refresh}
 use Rattle.token_endpoint.specs.TokenPath.{issue_token, grant_points}
-use Rattle.promises.specs.Uses.{Presents}
-use Rattle.promises.proofs.Walking.{at_point, at_need, at_left, at_untaken, at_authenticated, no_error_200, other, same_some}
-use Rattle.promises.proofs.Spending.{has_digest}
+use Rattle.headline.specs.Uses.{Presents}
+use Rattle.headline.proofs.Walking.{at_point, at_need, at_left, at_untaken, at_authenticated, no_error_200, other, same_some}
+use Rattle.headline.proofs.Spending.{has_digest}
 
 -- what the digest names is unspent, and is then spent, and nothing else is given under the digest
 pub record IsUse (history : List Event) (m : ℕ) (digest : List ℕ) (changes : List Change) : Type 0 where

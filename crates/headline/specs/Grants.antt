@@ -12,7 +12,7 @@ use Rattle.messages.specs.Reply.{Body}
 use Rattle.messages.specs.Reply.Body.{Active}
 use Rattle.endpoints.specs.Bounded.{IsOwn, MayHave, token_life_limit}
 use Rattle.endpoints.specs.Server.{SeenServer, Outset, FitsServer}
-use Rattle.promises.specs.Occasions.{Occasion, reply_on}
+use Rattle.headline.specs.Occasions.{Occasion, reply_on}
 
 -- the scope is within what the client may have and, unless the token is the client's own, within what the owner consents to now
 pub record KeepsScope (rules : RegistryRecord) (history : List Event) (token : Grant) : Type 0 where

@@ -8,7 +8,7 @@ use Rattle.consent.specs.History.{Event, Grant, grants, live_grant}
 use Rattle.answers.specs.Requesters.{Parameters, form_of}
 use Rattle.answers.specs.Texts.{digest_told}
 use Rattle.answers.specs.Tokens.{live_token}
-use Rattle.promises.specs.Occasions.{Occasion, GoesTo, history_after, reply_on}
+use Rattle.headline.specs.Occasions.{Occasion, GoesTo, history_after, reply_on}
 
 -- the parameters present the text as a code or as a refresh token
 abbrev pub Presents : Parameters → List ℕ → Type 0

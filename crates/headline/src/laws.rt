@@ -1,9 +1,9 @@
 //! Laws of every history that a server comes to, of requests and of their replies.
 
-ghost use Rattle.promises.specs.Grants.{AreOfClients, AreOfTheirCodes, InEachHistory, KeepsToConsents, TellsWithin};
-ghost use Rattle.promises.specs.Hooked.{WidensNothing};
-ghost use Rattle.promises.specs.Occasions.{IsIdleWhere503, OnEachOccasion};
-ghost use Rattle.promises.specs.Uses.{RevokesForGood, UsesUp};
+ghost use Rattle.headline.specs.Grants.{AreOfClients, AreOfTheirCodes, InEachHistory, KeepsToConsents, TellsWithin};
+ghost use Rattle.headline.specs.Hooked.{WidensNothing};
+ghost use Rattle.headline.specs.Occasions.{IsIdleWhere503, OnEachOccasion};
+ghost use Rattle.headline.specs.Uses.{RevokesForGood, UsesUp};
 
 use hook_host::HookHost;
 

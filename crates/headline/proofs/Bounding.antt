@@ -12,8 +12,8 @@ use Rattle.consent.specs.HistoryLaws.{grant_at-given}
 use Rattle.consent.specs.declared.grant.Kind.TheVariants.{Token}
 use Rattle.consent.specs.declared.grant.TokenKind.{TokenKind}
 use Rattle.endpoints.specs.Bounded.{IsBounded, IsAllowed, IsConsentedAt, IsOwn, token_life_limit}
-use Rattle.promises.specs.Grants.{KeepsScope, IsSince}
-use Rattle.promises.proofs.Spending.{live_is, ended_stays}
+use Rattle.headline.specs.Grants.{KeepsScope, IsSince}
+use Rattle.headline.proofs.Spending.{live_is, ended_stays}
 
 -- a life within the limit of the kind
 abbrev pub IsShort : RegistryRecord → Grant → Type 0
