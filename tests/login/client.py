@@ -1,5 +1,5 @@
 #!/usr/bin/env python3
-"""A client of the library requests-oauthlib, for examples/try-login.sh: client.py PORT SERVER SECRET
+"""A client of the library requests-oauthlib, for tests/try-login.sh: client.py PORT SERVER SECRET
 
 Its page / sends the browser to the server; /cb takes what comes back, and says what the client has got."""
 import base64

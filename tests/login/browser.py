@@ -1,5 +1,5 @@
 #!/usr/bin/env python3
-"""Goes through login and consent in Chromium, for examples/try-login.sh: browser.py SCREENSHOT KEY
+"""Goes through login and consent in Chromium, for tests/try-login.sh: browser.py SCREENSHOT KEY
 
 KEY is the owner's key, which must not reach the browser. Drives chromedriver by HTTP, with the standard library alone."""
 import base64

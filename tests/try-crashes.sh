@@ -7,4 +7,4 @@ program=$(realpath -m "${OAUTHD:-$(dirname "$0")/../crates/oauthd/out/oauthd}")
 cd "$(dirname "$0")/.." || exit 2
 [ -x "$program" ] || { echo "there is no $program: run 'rt run -- help' in crates/oauthd first"; exit 2; }
 command -v python3 >/dev/null || { echo "there is no python3: apt-get install python3"; exit 2; }
-exec python3 examples/crashes.py "$program" examples/registry.json "$@"
+exec python3 tests/crashes.py "$program" examples/registry.json "$@"

@@ -1,6 +1,6 @@
 #!/usr/bin/env bash
 # Runs the lines of docs/OPERATING.md, "From an empty machine to the first token", as they stand there, under a systemd
-# of its own (examples/own-systemd.sh), and then tries what the page says of the result. Prints a line for each check,
+# of its own (tests/own-systemd.sh), and then tries what the page says of the result. Prints a line for each check,
 # ends with 0 where all is as wanted, and leaves nothing behind. It takes two to five minutes. Needs root, and Debian's packages
 # nginx, curl, openssl and python3.
 # Build the program first: (cd crates/oauthd && rt run -- help). The variable OAUTHD names another one.

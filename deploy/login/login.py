@@ -4,7 +4,7 @@
     login.py serve CONFIG KEPT    serves; CONFIG is as login.json, KEPT the file of what owners have allowed
     login.py password             reads a password from its input, and prints what CONFIG has of it
 
-nginx passes /login on, and asks /owner itself before each /authorize (examples/nginx/oauthd.conf). The answer of /owner:
+nginx passes /login on, and asks /owner itself before each /authorize (deploy/nginx/oauthd.conf). The answer of /owner:
 
     401                           the user has to see a page first: nginx sends the browser to /login?back=REQUEST
     200 with X-Owner-Key          signed in, and all that is asked for is allowed: nginx passes the key on to oauthd

@@ -1,6 +1,6 @@
 #!/usr/bin/env bash
 # Installs server, nginx and login by the lines of docs/OPERATING.md under a systemd of its own
-# (examples/own-systemd.sh), and goes through login and consent in Chromium, with a client of requests-oauthlib. Prints a
+# (tests/own-systemd.sh), and goes through login and consent in Chromium, with a client of requests-oauthlib. Prints a
 # line for each check, ends with 0 where all is as wanted, and leaves nothing behind but a picture of the consent page,
 # if a word names a file for it. It takes two to five minutes. Needs root, and Debian's packages nginx, curl, openssl, python3,
 # chromium, chromium-driver and python3-requests-oauthlib.
@@ -37,7 +37,7 @@ server {
 NGINX
 echo '127.0.0.1 app.example' >>/etc/hosts
 systemctl reload nginx
-/usr/bin/python3 examples/login/client.py 9100 https://auth.example "$(registered '["clients"][0]["secret"]')" &
+/usr/bin/python3 tests/login/client.py 9100 https://auth.example "$(registered '["clients"][0]["secret"]')" &
 curl -s -o /dev/null --retry 60 --retry-delay 1 --retry-connrefused http://127.0.0.1:9100/ || echo "the client does not answer"
 # Chromium would give itself a higher priority than it was started with.
-setpriv --bounding-set -sys_nice --inh-caps -sys_nice python3 examples/login/browser.py /given/consent.png "$(registered '["owners"][0]')"
+setpriv --bounding-set -sys_nice --inh-caps -sys_nice python3 tests/login/browser.py /given/consent.png "$(registered '["owners"][0]')"
