@@ -18,6 +18,8 @@ import threading
 import time
 import urllib.parse
 
+from server import address_of
+
 APP = {"client_id": "app", "client_secret": "s3cret"}
 # Tokens live for so many seconds, so that the store is not full of those that nobody asks for again.
 LIFE = 120
@@ -46,8 +48,7 @@ class Server:
         line = self.process.stdout.readline()
         if not line:
             raise SystemExit(f"the server did not start: status {self.process.wait()}")
-        host, port = line.split()[-1].rsplit(":", 1)
-        self.address = (host, int(port))
+        self.address = address_of(line)
 
     def kill(self):
         self.process.send_signal(signal.SIGKILL)

@@ -1,14 +1,12 @@
 #!/usr/bin/env bash
-# own-systemd.sh SCRIPT FOLDER: runs `SCRIPT inside` as root, under a systemd of its own, on this machine's files.
+# own-systemd.sh SCRIPT FOLDER: runs `tests/SCRIPT inside` as root, under a systemd of its own, on this machine's files.
 # All that it writes lies over them in memory, and is gone when it ends, but for FOLDER, which it sees as /given. It has
-# a network of its own, without a way out, and so all ports. It sees docs, examples and the built program in
-# /root/oauthd. It is ended after 900 seconds. Needs root, and Linux with overlay file systems and control groups.
+# a network of its own, without a way out, and so all ports. It stands in /root/oauthd, with docs, examples, deploy, tests
+# and the built program. It is ended after 900 seconds. Needs root, and Linux with overlay file systems and control groups.
 # Ends with the script's status. Tried with version 252 of systemd on control groups of version 1.
-script=$(realpath "$1") given=$(realpath "$2")
-program=$(realpath -m "${OAUTHD:-$(dirname "$0")/../crates/oauthd/out/oauthd}")
-cd "$(dirname "$0")/.." || exit 2
+script=$1 given=$(realpath "$2")
+. "$(dirname "$0")/lib.sh"
 [ "$(id -u)" = 0 ] || { echo "this wants to be root"; exit 2; }
-[ -x "$program" ] || { echo "there is no $program: run 'rt run -- help' in crates/oauthd first"; exit 2; }
 for name in /lib/systemd/systemd /usr/bin/unshare /usr/sbin/nginx /usr/bin/curl /usr/bin/openssl /usr/bin/python3; do
     [ -x "$name" ] || { echo "there is no $name: apt-get install systemd util-linux nginx curl openssl python3"; exit 2; }
 done
@@ -38,7 +36,7 @@ inside() {
     mount -t tmpfs tmpfs root
     rm -rf etc/systemd/system/*.wants etc/systemd/system/oauthd* etc/oauthd* etc/nginx/conf.d/oauthd* usr/local/lib/oauthd
     mkdir -p root/oauthd/crates/oauthd/out given old
-    cp -r "$repository/docs" "$repository/examples" root/oauthd
+    cp -r "$repository"/{docs,examples,deploy,tests} root/oauthd
     cp "$program" root/oauthd/crates/oauthd/out/oauthd
     mount -t proc proc proc
     mount -t sysfs -o ro sysfs sys
@@ -58,9 +56,8 @@ inside() {
     ln -s pts/ptmx dev/ptmx
     ln -s /proc/self/fd dev/fd
     mount --bind "$given" given
-    cp "$script" run/script
     printf '[Unit]\nRequires=script.service\nAfter=script.service\n' >etc/systemd/system/script.target
-    cat >etc/systemd/system/script.service <<'UNIT'
+    cat >etc/systemd/system/script.service <<UNIT
 [Unit]
 DefaultDependencies=no
 Requires=systemd-journald.service
@@ -69,8 +66,8 @@ After=systemd-journald.service
 Type=oneshot
 Environment=HOME=/root
 WorkingDirectory=/root/oauthd
-ExecStart=/bin/bash /run/script inside
-ExecStopPost=/bin/sh -c 'echo $EXIT_STATUS >/given/.status; systemctl --force --force poweroff'
+ExecStart=/bin/bash tests/$script inside
+ExecStopPost=/bin/sh -c 'echo \$EXIT_STATUS >/given/.status; systemctl --force --force poweroff'
 StandardOutput=file:/given/.out
 StandardError=inherit
 UNIT
@@ -81,7 +78,7 @@ UNIT
         --log-target=journal --show-status=no </dev/null
 }
 export -f inside
-export room given script program groups repository=$PWD
+export room given script program groups repository=$root
 
 : >"$given/.out"
 echo 2 >"$given/.status"

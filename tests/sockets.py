@@ -18,6 +18,8 @@ import tempfile
 import threading
 import time
 
+from server import address_of
+
 PLACES = 64
 FAULTY = b"HTTP/1.1 400 Bad Request\r\nContent-Length: 0\r\nConnection: close\r\n\r\n"
 NO_PATH = b"GET /a HTTP/1.1\r\n\r\n"
@@ -72,8 +74,7 @@ class Server:
         if not line.startswith("listening "):
             self.process.kill()
             raise Wrong(f"`{' '.join(words)}` said {line!r} and {self.lines()}")
-        host, port = line.split()[1].rsplit(":", 1)
-        self.at = (host, int(port))
+        self.at = address_of(line)
 
     def __enter__(self):
         return self

@@ -14,7 +14,8 @@ import subprocess
 import sys
 import tempfile
 
-from crashes import APP, Client, Gone, Server, consents
+from crashes import Client, Gone, Server, consents
+from server import address_of
 
 # The line that tells what a start cuts off.
 CUT = "oauthd: state: cut "
@@ -265,9 +266,8 @@ def tries_a_full_disk(trials):
         process, line, status, told = trials.start(f"{disk}/state")
         if not line:
             return trials.wrong("a small disk", f"status {status}, {told!r}")
-        host, port = line.split()[-1].rsplit(":", 1)
         server = Server(trials.program, trials.registry, f"{disk}/state")
-        server.address, server.process = (host, int(port)), process
+        server.address, server.process = address_of(line), process
         client = Client(server, 2)
         try:
             consents(client, "read")
@@ -282,8 +282,7 @@ def tries_a_full_disk(trials):
         process, line, status, told = trials.start(f"{disk}/state")
         if not line:
             return trials.wrong("a disk with room again", f"status {status}, {told!r}")
-        host, port = line.split()[-1].rsplit(":", 1)
-        server.address, server.process, client.connection = (host, int(port)), process, None
+        server.address, server.process, client.connection = address_of(line), process, None
         asked, lost = client.faults()
         for it in lost:
             trials.wrong("a disk that was full", it)

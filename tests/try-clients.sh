@@ -2,31 +2,15 @@
 # Tries what people write clients with against a server behind nginx with TLS: a code with PKCE, a refresh, client
 # credentials, introspection and revocation, each with a secret of base64url characters and with one that has `%` and `+`
 # in it. Starts all it needs on ports of its own, in a folder of its own, prints a line for each way of each client, says
-# what is not installed, and ends with 0 where all is as wanted. Words name the clients to try; without words all are.
-# Build the program first: (cd crates/oauthd && rt run -- help). The variable OAUTHD names another one, PYTHON another
-# python3 for the libraries of Python. It takes half a minute of one processor.
-program=$(realpath -m "${OAUTHD:-$(dirname "$0")/../crates/oauthd/out/oauthd}")
-cd "$(dirname "$0")/.." || exit 2
-here=$PWD/examples/clients
+# what is not installed, and ends with 0 where all is as wanted. Words name the clients to try; without words all are. The
+# variable PYTHON names another python3 for the libraries of Python. It takes half a minute of one processor.
+. "$(dirname "$0")/lib.sh"
+here=$root/examples/clients
 wanted=" ${*:-curl requests-oauthlib authlib go perl ruby fetch openidc oauth2 hook raw} "
-[ -x "$program" ] || { echo "there is no $program: run 'rt run -- help' in crates/oauthd first"; exit 2; }
-for tool in curl nginx openssl python3; do
-    command -v $tool >/dev/null || { echo "there is no $tool: apt-get install $tool"; exit 2; }
-done
-room=$(mktemp -d) || exit 2
+for tool in curl nginx openssl python3; do needs $tool; done
+make_room
 chmod 711 "$room"
-started=()
-trap 'for each in "${started[@]}"; do kill "$each" 2>/dev/null; done; wait 2>/dev/null; rm -rf "$room"' EXIT
-
-tried=0
-differing=0
 missing=0
-
-# differs TEXT: something is not as it should be
-differs() {
-    differing=$((differing + 1))
-    echo "DIFFERS: $1"
-}
 
 # lacks CLIENT PACKAGE..: a client that is not tried, and what to install for it
 lacks() {
@@ -39,30 +23,14 @@ is_wanted() {
     [[ $wanted == *" $1 "* ]]
 }
 
-# listens PORT: waits until somebody listens there
-listens() {
-    for _ in $(seq 200); do
-        (exec 3<>"/dev/tcp/127.0.0.1/$1") 2>/dev/null && return 0
-        sleep 0.05
-    done
-    return 1
-}
-
 # placed FILE: the file, with the folder and the ports of this run
 placed() {
-    sed -e "s|ROOM|$room|g; s|SERVER|$server|g; s|TLS_PORT|$tls_port|g; s|LOGIN_PORT|$login_port|g" \
+    sed -e "s|ROOM|$room|g; s|SERVER|$at|g; s|TLS_PORT|$tls_port|g; s|LOGIN_PORT|$login_port|g" \
         -e "s|HTTPD_PORT|$httpd_port|g" "$1"
 }
 
 # the server, nginx in front of it, and a certificate for nginx
-"$program" start 127.0.0.1:0 "$here/registry.json" >"$room/listening" 2>"$room/server.log" &
-started+=($!)
-for _ in $(seq 100); do
-    grep -q '^listening ' "$room/listening" && break
-    sleep 0.05
-done
-server=$(sed -n 's/^listening //p' "$room/listening")
-[ -n "$server" ] || { echo "no server: $(cat "$room/server.log")"; exit 1; }
+start 127.0.0.1:0 "$here/registry.json"
 read -r tls_port login_port httpd_port < <(python3 -c '
 import socket
 held = [socket.socket() for _ in range(3)]
@@ -72,15 +40,14 @@ openssl req -x509 -newkey rsa:2048 -nodes -days 2 -subj /CN=localhost -addext su
     -keyout "$room/key.pem" -out "$room/cert.pem" 2>/dev/null || { echo 'openssl made no certificate'; exit 1; }
 placed "$here/nginx.conf" >"$room/nginx.conf"
 nginx -c "$room/nginx.conf" -e "$room/nginx.log" 2>"$room/nginx.err" &
-started+=($!)
-listens "$tls_port" || { echo "no nginx: $(cat "$room/nginx.err" "$room/nginx.log")"; exit 1; }
+awaits 10 takes_connections "$tls_port" || { echo "no nginx: $(cat "$room/nginx.err" "$room/nginx.log")"; exit 1; }
 export AUTH=https://localhost:$tls_port CA=$room/cert.pem
 # where each kind of client looks for certificates
 export CURL_CA_BUNDLE=$CA REQUESTS_CA_BUNDLE=$CA SSL_CERT_FILE=$CA PERL_LWP_SSL_CA_FILE=$CA HTTPS_CA_FILE=$CA NODE_EXTRA_CA_CERTS=$CA
 
 # the owner consents to what both clients may have
 for id in plain signs; do
-    curl -sS -o /dev/null -w '' -H 'X-Owner-Key: ann-key' -d client_id=$id -d 'scope=read write' "http://$server/consent" ||
+    curl -sS -o /dev/null -w '' -H 'X-Owner-Key: ann-key' -d client_id=$id -d 'scope=read write' "http://$at/consent" ||
         differs 'no consent'
 done
 
@@ -221,9 +188,8 @@ asks() {
     placed "$here/httpd.conf" >"$room/httpd.conf"
     apache2 -f "$room/httpd.conf" -DFOREGROUND 2>"$room/err" &
     httpd=$!
-    started+=("$httpd")
     tried=$((tried + 1))
-    if listens "$httpd_port"; then
+    if awaits 10 takes_connections "$httpd_port"; then
         token=$(curl -sS -u "${plain[0]}:${plain[1]}" -d grant_type=client_credentials "$AUTH/token" |
             sed -nE 's/.*"access_token":"([^"]*)".*/\1/p')
         statuses+=("$(shown_page "$token")" "$(shown_page none)")
@@ -305,8 +271,8 @@ fi
 # a hook that leaves the scope read alone of what this owner grants: what then becomes of clients that asked for more
 if is_wanted hook; then
     "$program" asm examples/hooks/read-only-outside-an-owner-list.asm >"$room/hook.hex"
-    printf "$(sed 's/../\\x&/g' "$room/hook.hex")" >"$room/hook.bin"
-    curl -sS -o /dev/null -H 'X-Operator-Key: op-key' --data-binary "@$room/hook.bin" "http://$server/hooks?name=listed"
+    bytes_of "$room/hook.hex" >"$room/hook.bin"
+    curl -sS -o /dev/null -H 'X-Operator-Key: op-key' --data-binary "@$room/hook.bin" "http://$at/hooks?name=listed"
     goes_once 'curl, beside a hook' "$all" bash "$here/curl.sh" -u
     if python=$(python_with requests_oauthlib); then
         goes_once 'requests-oauthlib, beside a hook' \
@@ -318,16 +284,15 @@ if is_wanted hook; then
         goes_once 'Authlib, beside a hook' "$all" "$python" "$here/authlib_client.py" client_secret_basic
     fi
     [ ! -x "$room/go-client" ] || goes_once 'Go, beside a hook' "$all" "$room/go-client" in-header
-    curl -sS -o /dev/null -H 'X-Operator-Key: op-key' -d name=listed "http://$server/hooks/remove"
+    curl -sS -o /dev/null -H 'X-Operator-Key: op-key' -d name=listed "http://$at/hooks/remove"
 fi
 
 if is_wanted raw; then
-    python3 "$here/raw.py" "$server" "${plain[@]}" "$tls_port" 2>"$room/err" | tee "$room/raw"
+    python3 "$here/raw.py" "$at" "${plain[@]}" "$tls_port" 2>"$room/err" | tee "$room/raw"
     tried=$((tried + $(grep -c '^raw, [^,]*, \|^raw, .*: ' "$room/raw")))
     differing=$((differing + $(grep -c '^DIFFERS' "$room/raw")))
     [ ! -s "$room/err" ] || { differs 'raw.py ended early'; cat "$room/err"; }
 fi
 
-[ -s "$room/server.log" ] && { differs 'wanted no line on the standard error of the server'; cat "$room/server.log"; }
-printf '%s tried, %s differ, %s clients not installed\n' "$tried" "$differing" "$missing"
-[ "$differing" = 0 ]
+stop
+end_with ways ", $missing clients not installed"

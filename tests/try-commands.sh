@@ -1,20 +1,13 @@
 #!/usr/bin/env bash
 # Runs the built program on each command, with files and with each status, and says what differs from what is written
 # here. It also compares the hooks of examples/hooks and the code of examples/c with their copies in the tests.
-# Build the program first: (cd crates/oauthd && rt run -- help). The variable OAUTHD names another one.
-program=$(realpath -m "${OAUTHD:-$(dirname "$0")/../crates/oauthd/out/oauthd}")
-cd "$(dirname "$0")/.." || exit 2
-tests=$PWD/crates/hook_rows/src/tests/examples.rt
-hooks=$PWD/examples/hooks
-hex_tests=$PWD/crates/hook_rows/src/tests/c_hooks.rt
-compiled=$PWD/examples/c
-room=$(mktemp -d) || exit 2
-trap 'rm -rf "$room"' EXIT
+. "$(dirname "$0")/lib.sh"
+tests=$root/crates/hook_rows/src/tests/examples.rt
+hooks=$root/examples/hooks
+hex_tests=$root/crates/hook_rows/src/tests/c_hooks.rt
+compiled=$root/examples/c
+make_room
 cd "$room" || exit 2
-[ -x "$program" ] || { echo "there is no $program: run 'rt run -- help' in crates/oauthd first"; exit 2; }
-
-rows=0
-differing=0
 
 # ends NAME STATUS OUT ERR WORDS..: a command ends with this status, and writes this (printf's escapes count)
 ends() {
@@ -24,10 +17,9 @@ ends() {
     shift 4
     "$program" "$@" >given.out 2>given.err
     local given=$?
-    rows=$((rows + 1))
+    tried=$((tried + 1))
     if [ "$given" != "$status" ] || ! cmp -s wanted.out given.out || ! cmp -s wanted.err given.err; then
-        differing=$((differing + 1))
-        echo "differs: $name (status $given, wanted $status)"
+        differs "$name (status $given, wanted $status)"
         diff wanted.out given.out
         diff wanted.err given.err
     fi
@@ -39,10 +31,9 @@ begins() {
     shift 2
     "$program" "$@" >given.out 2>given.err
     local given=$?
-    rows=$((rows + 1))
+    tried=$((tried + 1))
     if [ "$given" != 0 ] || [ -s given.err ] || [ "$(head -n 1 given.out)" != "$line" ]; then
-        differing=$((differing + 1))
-        echo "differs: $name (status $given)"
+        differs "$name (status $given)"
         cat given.out given.err
     fi
 }
@@ -102,7 +93,7 @@ ends 'an ELF file' 2 '' 'oauthd: ELF file: hook.o\n' list --slots hook.o
 ends 'no such file' 2 '' 'oauthd: cannot read nowhere\n' list nowhere
 printf 'exit\n\377' >bytes.asm
 ends 'a text that is not UTF-8' 2 '' 'oauthd: cannot read bytes.asm\n' asm bytes.asm
-registry=$OLDPWD/examples/registry.json
+registry=$root/examples/registry.json
 for words in '127.0.0.1=wants a port' '127.0.0.1:0 c --frob 1=--frob is not known' '127.0.0.1:0 c 60 --full=--full wants a value' \
     '127.0.0.1:0 c --silence 0=--silence has a bad value' '127.0.0.1:0 c 60 --silence 5=--silence is given twice'; do
     why=${words##*=}
@@ -123,19 +114,17 @@ ends 'a state file that is not there' 2 '' 'oauthd: cannot read nowhere\n' state
 printf '\1\0\0\0\1\7' >other.state
 ends 'a state file of another program' 2 '' 'oauthd: State NoRules in batch 1\n' state other.state
 printf '\0abc' >torn.state
-rows=$((rows + 1))
+tried=$((tried + 1))
 if ! "$program" state torn.state | grep -qE '^\{"kind":"file","bytes":4,"batches":0,"torn":3,"last":0,"age":[0-9]+\}$'; then
-    differing=$((differing + 1))
-    echo 'differs: a torn state file'
+    differs 'a torn state file'
     "$program" state torn.state
 fi
 if [ -w /dev/full ]; then
     "$program" list hook.hex >/dev/full 2>given.err
     given=$?
-    rows=$((rows + 1))
+    tried=$((tried + 1))
     if [ $given != 2 ] || [ "$(cat given.err)" != 'oauthd: cannot write' ]; then
-        differing=$((differing + 1))
-        echo "differs: a full disk (status $given)"
+        differs "a full disk (status $given)"
         cat given.err
     fi
 fi
@@ -143,30 +132,28 @@ fi
 # memory: the least address space in which the program is loaded, and a file that does not fit in it
 head -c 300000000 /dev/zero | tr '\0' ' ' >long.hex
 (ulimit -v 200000; "$program" check long.hex >given.out 2>given.err; echo $? >given.status)
-rows=$((rows + 1))
+tried=$((tried + 1))
 if [ "$(cat given.status)" != 3 ] || [ -s given.out ] || [ "$(cat given.err)" != 'oauthd: out of memory' ]; then
-    differing=$((differing + 1))
-    echo "differs: no memory (status $(cat given.status))"
+    differs "no memory (status $(cat given.status))"
     cat given.out given.err
 fi
 
 # the example hooks, and their copies in the tests
 for hook in "$hooks"/*.asm; do
-    rows=$((rows + 1))
+    tried=$((tried + 1))
     awk -v name="/// $(basename "$hook")." '$0 == name { wait = 1; next } wait == 1 { wait = 2; next }
         wait == 2 && $0 == "\";" { exit } wait == 2 { print }' "$tests" >copy.asm
     if ! cmp -s "$hook" copy.asm; then
-        differing=$((differing + 1))
-        echo "differs: $hook and its copy in $tests"
+        differs "$hook and its copy in $tests"
         diff "$hook" copy.asm
     fi
-    "$program" asm "$hook" >hook.hex || differing=$((differing + 1))
-    "$program" check hook.hex >given.out || { differing=$((differing + 1)); echo "differs: $hook is not accepted"; }
+    "$program" asm "$hook" >hook.hex || differs "$hook is not assembled"
+    "$program" check hook.hex >given.out || differs "$hook is not accepted"
 done
 
 # the compiled hooks, and their copies in the tests
 for code in "$compiled"/hex/*; do
-    rows=$((rows + 1))
+    tried=$((tried + 1))
     file=$(basename "$code")
     name=${file%.*}
     awk -v name="/// $name.c for " -v cpu="${file##*.}" '
@@ -174,17 +161,10 @@ for code in "$compiled"/hex/*; do
         wait && /^const / { next }
         wait { last = /";$/; gsub(/[ \\";]/, ""); printf "%s", $0; if (last) exit }
         END { print "" }' "$hex_tests" >copy.hex
-    if ! cmp -s "$code" copy.hex; then
-        differing=$((differing + 1))
-        echo "differs: $code and its copy in $hex_tests"
-    fi
+    cmp -s "$code" copy.hex || differs "$code and its copy in $hex_tests"
     command=check
     grep -q 'struct record2' "$compiled/$name.c" && command=check2
-    if ! "$program" $command "$code" >given.out 2>given.err; then
-        differing=$((differing + 1))
-        echo "differs: $code is not accepted: $(cat given.err)"
-    fi
+    "$program" $command "$code" >given.out 2>given.err || differs "$code is not accepted: $(cat given.err)"
 done
 
-echo "$rows rows, $differing differ"
-[ $differing = 0 ]
+end_with rows

@@ -2,39 +2,22 @@
 # Compiles hooks in C as docs/HOOKS.md says, and sees what becomes of each: which examples/c/build refuses, of which the
 # program tells a fault, and what the others answer on records. Then it goes the way at the head of docs/HOOKS.md, line
 # by line, on a server of its own, and compares what each line prints. It ends with 0 where all is as it should be.
-# CLANG, OBJCOPY and READELF name other compilers than clang-19 and llvm-19, and OAUTHD another program.
-# Build the program first: (cd crates/oauthd && rt run -- help).
-program=$(realpath -m "${OAUTHD:-$(dirname "$0")/../crates/oauthd/out/oauthd}")
-cd "$(dirname "$0")/.." || exit 2
-root=$PWD
-[ -x "$program" ] || { echo "there is no $program: run 'rt run -- help' in crates/oauthd first"; exit 2; }
+# CLANG, OBJCOPY and READELF name other compilers than clang-19 and llvm-19.
+. "$(dirname "$0")/lib.sh"
 unset CPU
 clang=${CLANG:-clang-19}
 objcopy=${OBJCOPY:-llvm-objcopy-19}
 for tool in "$clang" "$objcopy" "${READELF:-${objcopy/objcopy/readelf}}"; do
-    command -v "$tool" >/dev/null || {
-        echo "there is no $tool: apt-get install clang-19 llvm-19, or name others by CLANG, OBJCOPY and READELF"
-        exit 2
-    }
+    needs "$tool" 'clang-19 llvm-19, or name others by CLANG, OBJCOPY and READELF'
 done
-command -v curl >/dev/null || { echo "there is no curl: apt-get install curl"; exit 2; }
-room=$(mktemp -d) || exit 2
-server=
-trap '[ -z "$server" ] || kill "$server" 2>/dev/null; rm -rf "$room"' EXIT
+needs curl
+make_room
 cd "$room" || exit 2
-
-rows=0
-differing=0
-
-# differs TEXT: something is not as it should be
-differs() {
-    differing=$((differing + 1))
-    echo "DIFFERS: $1"
-}
+server=
 
 # compiled: builds the hook of standard input, whose head is written before it, with what build says in built.err
 compiled() {
-    rows=$((rows + 1))
+    tried=$((tried + 1))
     { echo '#include "oauthd_hook.h"'; cat; } >my.c
     "$root/examples/c/build" my.c >built.out 2>built.err
 }
@@ -66,7 +49,7 @@ taken() {
 # answers KIND CLIENT OWNER WANTED: what the hook that was compiled last answers; scopes 7 and 300 seconds are asked for
 answers() {
     local record
-    rows=$((rows + 1))
+    tried=$((tried + 1))
     record=$(printf '01000000 %02x000000 e803000000000000 %02x00000000000000 %02x00000000000000' "$1" "$2" "$3")
     record="$record 0700000000000000 0700000000000000 2c010000 00000000 0700000000000000"
     "$program" run "$(cat my.hex)" "$record" >given 2>&1
@@ -609,7 +592,7 @@ C
 # the hooks of examples/c, and their hex, which is that of clang 19
 if "$clang" --version | grep -q 'version 19\.'; then
     cp -r "$root/examples/c" examples
-    rows=$((rows + 1))
+    tried=$((tried + 1))
     ./examples/build || differs 'the hooks of examples/c are not compiled'
     diff -r "$root/examples/c/hex" examples/hex || differs 'the hooks of examples/c have other code'
 else
@@ -627,7 +610,7 @@ awk '/^## / { here = /^## From an empty folder/ }
     here && /^```/ { fence = fence == "" ? $0 : ""; print "```" fence; next }
     here && fence != ""' "$root/docs/HOOKS.md" | sed 's/^``````/```/' >way
 port=18080
-while (exec 3<>"/dev/tcp/127.0.0.1/$port") 2>/dev/null; do port=$((port + 1)); done
+while takes_connections $port; do port=$((port + 1)); done
 oauthd=$program
 at=127.0.0.1:$port
 mkdir empty && cd empty || exit 2
@@ -637,17 +620,13 @@ command=
 # step: runs the command that was read, and compares what it prints
 step() {
     [ -n "$command" ] || return 0
-    rows=$((rows + 1))
+    tried=$((tried + 1))
     case $command in
         root=*) ;;
         *'&')
             eval "${command%&} >../given 2>&1 &"
             server=$!
-            for _ in $(seq 200); do
-                grep -q '^listening ' ../given && break
-                kill -0 "$server" 2>/dev/null || break
-                sleep 0.05
-            done
+            awaits 10 has_begun ../given $server
             ;;
         'kill '*)
             [ "$!" = "$server" ] || { differs "docs/HOOKS.md: $command is not for the server"; exit 1; }
@@ -679,5 +658,4 @@ step
 [ -s ../way ] || differs 'docs/HOOKS.md has no way at its head'
 [ -z "$server" ] || differs 'docs/HOOKS.md does not stop the server'
 
-echo "$rows rows, $differing differ"
-[ $differing = 0 ]
+end_with rows

@@ -3,38 +3,30 @@
 # of its own (tests/own-systemd.sh), and then tries what the page says of the result. Prints a line for each check,
 # ends with 0 where all is as wanted, and leaves nothing behind. It takes two to five minutes. Needs root, and Debian's packages
 # nginx, curl, openssl and python3.
-# Build the program first: (cd crates/oauthd && rt run -- help). The variable OAUTHD names another one.
+. "$(dirname "$0")/lib.sh"
 if [ "$1" != inside ]; then
-    given=$(mktemp -d) || exit 2
-    trap 'rm -rf "$given"' EXIT
-    "$(dirname "$0")/own-systemd.sh" "$0" "$given"
+    make_room
+    tests/own-systemd.sh try-install.sh "$room"
     exit
 fi
-
-echo 'APT::Get::Upgrade "false";' >/etc/apt/apt.conf.d/99offline     # the packages that are here will do
-awk '/^## /{on=($0=="## From an empty machine to the first token")} on&&/^```/{code=($0=="```sh"); next} on&&code' \
-    docs/OPERATING.md >/run/page
-bash -ev /run/page 2>&1 || { echo "NOT AS WANTED page: a line of it failed"; journalctl --no-pager -u "oauthd*" | tail -n 20; exit 1; }
+install_by_page
 echo
 
-checks=0
-differing=0
 # check NAME WANTED GOT: is this text what it should be? WANTED is a pattern of the shell.
 check() {
-    checks=$((checks + 1))
+    tried=$((tried + 1))
     case $3 in
         $2) echo "ok $1: $3" ;;
-        *) differing=$((differing + 1)); echo "NOT AS WANTED $1: $3, wanted: $2" ;;
+        *) differs "$1: $3, wanted: $2" ;;
     esac
 }
-registered() { python3 -c "import json; print(json.load(open('/etc/oauthd/registry.json'))$1)"; }
 web() { curl -s --cacert /etc/ssl/certs/auth.example.pem --max-time 20 "$@"; }
 status() { web -o /dev/null -w '%{http_code}' "$@"; }
 auth=https://auth.example
 bot=bot:$(registered '["clients"][1]["secret"]')
 ann=$(registered '["owners"][0]')
 token() { web -u "$bot" -d grant_type=client_credentials $auth/token; }
-opened() { for _ in $(seq 100); do [ -e /run/oauthd/open ] && return; sleep 0.1; done; echo "NOT AS WANTED: never opened"; }
+opened() { awaits 10 test -e /run/oauthd/open || differs 'never opened'; }
 request="/authorize?response_type=code&client_id=app&redirect_uri=https://app.example/cb&scope=read&state=a%26b"
 request="$request&code_challenge=E9Melhoa2OwvFrEMTJguCHaoeK1t8URWbuGJSstw-cM&code_challenge_method=S256"
 
@@ -166,5 +158,5 @@ print("\n".join([registry["operator"], *registry["owners"], *(client["secret"] f
 PY
 )
 check secrets-in-logs 0 "$( (journalctl --no-pager; cat /var/log/nginx/*) | grep -cF "$secrets")"
-echo "$checks checks, $differing not as wanted"
-[ "$checks" = 44 ] && [ "$differing" = 0 ]
+[ "$tried" = 44 ] || differs 'wanted 44 checks'
+end_with checks

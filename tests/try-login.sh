@@ -4,26 +4,19 @@
 # line for each check, ends with 0 where all is as wanted, and leaves nothing behind but a picture of the consent page,
 # if a word names a file for it. It takes two to five minutes. Needs root, and Debian's packages nginx, curl, openssl, python3,
 # chromium, chromium-driver and python3-requests-oauthlib.
-# Build the program first: (cd crates/oauthd && rt run -- help). The variable OAUTHD names another one.
+picture=${1:+$(realpath -m "$1")}
+. "$(dirname "$0")/lib.sh"
 if [ "$1" != inside ]; then
-    for name in chromium chromedriver; do
-        command -v $name >/dev/null || { echo "there is no $name: apt-get install chromium chromium-driver"; exit 2; }
-    done
-    given=$(mktemp -d) || exit 2
-    trap 'rm -rf "$given"' EXIT
-    "$(dirname "$0")/own-systemd.sh" "$0" "$given"
+    for tool in chromium chromedriver; do needs $tool 'chromium chromium-driver'; done
+    make_room
+    tests/own-systemd.sh try-login.sh "$room"
     status=$?
-    [ -z "$1" ] || cp "$given/consent.png" "$1"
+    [ -z "$picture" ] || cp "$room/consent.png" "$picture"
     exit $status
 fi
-
-echo 'APT::Get::Upgrade "false";' >/etc/apt/apt.conf.d/99offline     # the packages that are here will do
-awk '/^## /{on=($0=="## From an empty machine to the first token")} on&&/^```/{code=($0=="```sh"); next} on&&code' \
-    docs/OPERATING.md >/run/page
-bash -e /run/page >/run/page.out 2>&1 || { tail /run/page.out; echo "NOT AS WANTED page: a line of it failed"; exit 1; }
+install_by_page
 
 # The client: https://app.example, by the same nginx
-registered() { python3 -c "import json; print(json.load(open('/etc/oauthd/registry.json'))$1)"; }
 openssl req -x509 -newkey ec -pkeyopt ec_paramgen_curve:P-256 -nodes -days 30 -subj /CN=app.example \
     -keyout /run/app.key -out /run/app.pem 2>/dev/null
 cat >/etc/nginx/conf.d/app.conf <<'NGINX'

@@ -3,24 +3,10 @@
 # refresh, a revocation, and a hook that is installed, seen and removed. It starts a server of its own, prints each
 # command and its answer, says which answers are not as docs/HTTP.md has them, and ends with 0 where all are.
 # A word names the address to listen on; without one it is 127.0.0.1 and a free port.
-# Build the program first: (cd crates/oauthd && rt run -- help). The variable OAUTHD names another one.
-program=$(realpath -m "${OAUTHD:-$(dirname "$0")/../crates/oauthd/out/oauthd}")
-cd "$(dirname "$0")/.." || exit 2
+. "$(dirname "$0")/lib.sh"
 address=${1:-127.0.0.1:0}
-[ -x "$program" ] || { echo "there is no $program: run 'rt run -- help' in crates/oauthd first"; exit 2; }
-command -v curl >/dev/null || { echo "there is no curl: apt-get install curl"; exit 2; }
-room=$(mktemp -d) || exit 2
-server=
-trap '[ -z "$server" ] || kill "$server" 2>/dev/null; rm -rf "$room"' EXIT
-
-requests=0
-differing=0
-
-# differs TEXT: something is not as it should be
-differs() {
-    differing=$((differing + 1))
-    echo "DIFFERS: $1"
-}
+needs curl
+make_room
 
 # step TEXT: what comes next
 step() {
@@ -65,7 +51,7 @@ wanted_head() {
 answers() {
     local status=$1 wanted=$2 location=
     shift 2
-    requests=$((requests + 1))
+    tried=$((tried + 1))
     printf '$ curl -i'
     shown "$@"
     echo
@@ -105,15 +91,7 @@ code() {
 
 # serves OPTIONS..: a server, and where it listens
 serves() {
-    "$program" start "$address" examples/registry.json "$@" >"$room/listening" 2>"$room/err" &
-    server=$!
-    for _ in $(seq 100); do
-        grep -q '^listening ' "$room/listening" && break
-        kill -0 "$server" 2>/dev/null || break
-        sleep 0.05
-    done
-    at=$(sed -n 's/^listening //p' "$room/listening")
-    [ -n "$at" ] || { echo "no server: $(cat "$room/err")"; exit 1; }
+    start "$address" examples/registry.json "$@"
     echo "\$ oauthd start $address examples/registry.json $*"
     echo "listening $at"
 }
@@ -252,7 +230,7 @@ echo "\$ oauthd asm $hook >hook.hex"
 "$program" asm "$hook" >"$room/hook.hex" || differs 'wanted the hook to be assembled'
 cat "$room/hook.hex"
 echo '$ printf "$(sed '"'s/../\\\\x&/g'"' hook.hex)" >hook.bin'
-printf "$(sed 's/../\\x&/g' "$room/hook.hex")" >"$room/hook.bin"
+bytes_of "$room/hook.hex" >"$room/hook.bin"
 answers 403 '{"error":"access_denied"}' -H 'X-Operator-Key: eve' --data-binary @hook.bin "http://$at/hooks?name=listed"
 answers 200 '{"name":"listed"}' "${operator[@]}" --data-binary @hook.bin "http://$at/hooks?name=listed"
 answers 400 '{"detail":"NameTaken","error":"hook_refused"}' "${operator[@]}" --data-binary @hook.bin \
@@ -282,26 +260,20 @@ step 'a faulty head'
 answers faulty '' -H 'Transfer-Encoding: chunked' "${bot[@]}" -d grant_type=client_credentials "http://$at/token"
 
 step 'one connection for two requests'
-requests=$((requests + 1))
+tried=$((tried + 1))
 connections=$(curl -sS --max-time 20 -o /dev/null -o /dev/null -w '%{num_connects} ' "http://$at/" "http://$at/")
 echo "connections made for the first and for the second: $connections"
 [ "$connections" = '1 0 ' ] || differs 'wanted the second request to go over the first connection'
 
 step 'a signal ends the server'
-kill "$server"
-wait "$server"
-status=$?
-server=
+stop
 echo "ended with $status"
 [ "$status" = 143 ] || differs 'wanted it to end by SIGTERM, which a shell calls 143'
-[ -s "$room/err" ] && { differs 'wanted no line on standard error'; cat "$room/err"; }
 
 step 'a server that has its hooks before the first request'
 serves --hook "listed=$room/hook.hex" --silence 30 --hook "again=$room/hook.bin"
 answers 200 '{"hooks":["listed","again"]}' "${operator[@]}" "http://$at/hooks/list"
-kill "$server"
-wait "$server"
-server=
+stop
 
-printf '\n%s requests, %s differ\n' "$requests" "$differing"
-[ "$differing" = 0 ]
+echo
+end_with requests
