@@ -1,10 +1,18 @@
 //! A file of rows in blocks: lines that begin something, each with the lines behind it.
+//!
+//! Before the first row a line that is empty or begins with `#` says nothing, and these define:
+//! - `$NAME TEXT`: a name of a text;
+//! - `$NAME` alone: a name of a text in the lines behind it, up to an empty one, joined without their ends;
+//! - `-- lines NAME`: a name of the lines behind it, up to an empty one.
+//!
+//! A row begins with `== ` and its name, and goes up to the next one. In it a line that begins with `$ ` (or is `$`) is a command
+//! line, and one that begins with `-- ` begins a section. What stands behind these belongs to them.
 
 use crate::fault::{LineFault, Stop, Why};
 use std::alloc::Global;
 
 /// What begins with a line.
-#[derive(Clone, Copy, Debug, PartialEq, Eq)]
+#[derive(Clone, Copy)]
 pub enum Heading<'t> {
     /// `$NAME TEXT`, outside of rows.
     Name(&'t str, &'t str),
@@ -32,7 +40,7 @@ pub struct Block<'t> {
 }
 
 /// What the lines belong to that begin nothing.
-#[derive(Clone, Copy, Debug, PartialEq, Eq)]
+#[derive(Clone, Copy)]
 enum Place {
     /// Nothing: they stand before the first row, outside of definitions.
     Outside,
@@ -43,8 +51,13 @@ enum Place {
 }
 
 /// Whether a line says nothing, where it is no part of a section.
-pub fn says_nothing(line: &str) -> bool {
+fn says_nothing(line: &str) -> bool {
     line.is_empty() || line.starts_with('#')
+}
+
+/// Whether lines say nothing, where they are no part of a section.
+pub fn say_nothing(lines: &str) -> bool {
+    lines.split('\n').all(says_nothing)
 }
 
 /// What begins with a line before the first row.

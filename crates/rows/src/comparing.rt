@@ -27,7 +27,7 @@ pub struct Ending<'w> {
 }
 
 /// What differs.
-#[derive(Clone, Copy, Debug, PartialEq, Eq)]
+#[derive(Clone, Copy)]
 enum Aspect {
     Status,
     Out,
@@ -80,12 +80,17 @@ fn parted(alloc: Global, wanted: &[u8], found: &[u8]) -> Result<Option<Shown>, A
     Ok(Some(Shown { wanted, found }))
 }
 
-/// The first line of a text that stands nowhere in another one, if there is one.
+/// Whether a text has this line.
+fn has_line(text: &str, line: &str) -> bool {
+    text.split('\n').any(|other| other == line)
+}
+
+/// The first line of a text that is none of another one, if there is one.
 fn missing(alloc: Global, wanted: &[u8], found: &[u8]) -> Result<Option<Shown>, AllocError> {
     let lines = String::from_utf8_lossy(alloc, wanted)?;
     let text = String::from_utf8_lossy(alloc, found)?;
-    for line in lines.split('\n') {
-        if !text.contains(line) {
+    for line in lines.trim_end_matches('\n').split('\n') {
+        if !has_line(text.as_str(), line) {
             let wanted = String::from_str(alloc, line)?;
             let found = part_round(alloc, found, 0)?;
             return Ok(Some(Shown { wanted, found }));

@@ -5,7 +5,7 @@ use std::fmt::{self, Display, Formatter};
 use std::io::{self, ErrorKind};
 
 /// What is wrong with a line of a file of rows.
-#[derive(Clone, Copy, Debug, PartialEq, Eq)]
+#[derive(Clone, Copy)]
 pub enum Why {
     /// It stands outside of a row, and defines nothing.
     NoDefinition,
@@ -50,7 +50,7 @@ impl Display for Why {
 }
 
 /// Why a line, or what begins there, is not read.
-#[derive(Clone, Copy, Debug, PartialEq, Eq)]
+#[derive(Clone, Copy)]
 pub enum LineFault {
     /// Memory was refused.
     OutOfMemory,
@@ -87,7 +87,7 @@ impl LineFault {
 }
 
 /// Why the runner stops.
-#[derive(Clone, Copy, Debug, PartialEq, Eq)]
+#[derive(Clone, Copy)]
 pub enum Stop<'f> {
     /// Memory was refused.
     OutOfMemory,

@@ -27,7 +27,7 @@ use std::random::RandomSource;
 use std::rt::{Clock, Env, Files};
 
 /// How many rows ran, and how many of them differ.
-#[derive(Clone, Copy, Debug, PartialEq, Eq)]
+#[derive(Clone, Copy)]
 struct Tally {
     rows: u64,
     differ: u64,

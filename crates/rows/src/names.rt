@@ -1,4 +1,8 @@
 //! Names of longer texts, and of lines.
+//!
+//! From its definition on, a text stands wherever its name does in a command line, a section or a talk. Names are put in one after
+//! the other, in the order in which they are defined, so that a text may name those that are defined behind it. Lines of a talk
+//! stand in the place of `with NAME`.
 
 use crate::fault::{LineFault, Why};
 use std::alloc::{AllocError, Global};
@@ -47,8 +51,7 @@ impl Names {
         }
     }
 
-    /// Defines a name of a text, which begins with `$`. One that is defined twice names the first text until the second one
-    /// comes, and that in the first one's place.
+    /// Defines a name of a text, which begins with `$`. What it stood for before is forgotten.
     pub fn define(&mut self, name: String, text: String) -> Result<(), AllocError> {
         self.texts
             .retain(|definition| definition.name.as_str() != name.as_str());

@@ -1,6 +1,6 @@
 //! Reading a file of rows.
 
-use crate::blocks::{Block, Heading, blocks_of, says_nothing};
+use crate::blocks::{Block, Heading, blocks_of, say_nothing};
 use crate::fault::{LineFault, Stop, Why};
 use crate::names::Names;
 use crate::row::{Row, Section};
@@ -43,11 +43,6 @@ fn put_section(row: &mut Row, section: Section) -> Result<(), LineFault> {
         Section::Now(seconds) => say(&mut row.now, seconds),
         Section::Talk(talk) => say(&mut row.talk, talk),
     }
-}
-
-/// Whether lines say nothing, outside of a section.
-fn say_nothing(lines: &str) -> bool {
-    lines.split('\n').all(says_nothing)
 }
 
 /// The text of lines, joined without line ends.

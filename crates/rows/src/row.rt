@@ -1,13 +1,13 @@
 //! Rows: command lines, or a talk, and what they are to come to.
 
 /// How a text that is wanted is compared with the one that is found.
-#[derive(Clone, Copy, Debug, PartialEq, Eq)]
+#[derive(Clone, Copy)]
 pub enum Likeness {
     /// Both are the same.
     Whole,
     /// The one that is found begins with it.
     Front,
-    /// Each of its lines stands somewhere in the one that is found.
+    /// Each of its lines is one of the text that is found.
     Lines,
 }
 
@@ -21,7 +21,7 @@ pub struct Wanted {
 }
 
 /// What a file is made of.
-#[derive(Clone, Copy, Debug, PartialEq, Eq)]
+#[derive(Clone, Copy)]
 pub enum Making {
     /// It has the bytes that the row gives.
     Given,
@@ -49,15 +49,17 @@ pub enum Word {
     OfFile(String),
 }
 
-/// In which pieces the requests of a talk come on connection 1.
-#[derive(Clone, Copy, Debug, PartialEq, Eq)]
+/// In which pieces the requests of a talk come.
+#[derive(Clone, Copy)]
 pub enum Pieces {
     /// Each comes whole.
     Whole,
-    /// Each comes byte by byte.
+    /// Each on connection 1 comes byte by byte.
     Bytes,
-    /// Each comes in two pieces, and the row runs once for each place at which one of them can be cut.
+    /// Each on connection 1 comes in two pieces, and the row runs once for each place at which one of them can be cut.
     Two,
+    /// Of each on connection 2 only a front comes, and the row runs once for each front that one of them has.
+    Front,
 }
 
 /// What comes on connections, and what goes out.

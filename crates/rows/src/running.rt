@@ -1,11 +1,12 @@
 //! Running a row.
 
-use command_line::{Status, perform};
 use crate::comparing::{Ended, Ending, differences};
 use crate::fault::Stop;
 use crate::row::{Likeness, Making, Row, RowFile, Talk, Wanted, Word};
 use crate::talk::Cut;
 use crate::world::World;
+use command_line::perform;
+use commands::Status;
 use std::alloc::{AllocError, Global};
 use std::fs::{self, File, OpenOptions};
 use std::io::{self, Write};
@@ -73,7 +74,7 @@ fn write_files<'f, R: Files<File = File> + Net + Clock + RandomSource + AllocGlo
 ) -> Result<String, Stop<'f>> {
     for file in files {
         write_file(rt, file.name.as_str(), &file.bytes)?;
-        if file.making == Making::Assembled {
+        if let Making::Assembled = file.making {
             let told = assemble(rt, file.name.as_str())?;
             if !told.is_empty() {
                 return Ok(told);
@@ -132,7 +133,9 @@ fn run_commands<'f, R: Files<File = File> + Net + Clock + RandomSource + AllocGl
 /// Tells where a talk is cut that differs.
 fn told_of_cut(alloc: Global, cut: Cut, told: String) -> Result<String, AllocError> {
     match cut {
-        Cut::Behind(place) => format!(in alloc; ": cut behind {place} bytes{told}"),
+        Cut::Behind(place) | Cut::Off(place) => {
+            format!(in alloc; ": cut behind {place} bytes{told}")
+        }
         Cut::Nowhere | Cut::Everywhere => Ok(told),
     }
 }

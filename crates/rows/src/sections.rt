@@ -1,5 +1,17 @@
-//! The sections of a row.
+//! The sections of a row, and their lines. Empty lines at the end of a section say nothing.
+//!
+//! - `-- file NAME`: a file of this name has these lines, each with its end. `-- file NAME cut`: the last one has none.
+//!   `-- file NAME hex`: it has the bytes that the hex digits in the lines say, with any blanks between them.
+//!   `-- file NAME assembled`: it has what `asm` makes of the lines.
+//! - `-- out` (or `cut`, or `hex`): these lines (or bytes) are written to standard output. `-- out begins`, `-- out begins cut`:
+//!   what is written begins with them. `-- out has`: each of these lines is one of those that are written.
+//! - `-- err`: the same for standard error.
+//! - `-- status N`, `-- now N`: the exit status, and the seconds since 1970 that the clock tells. No line that says anything may
+//!   stand behind these.
+//! - `-- talk $NAME`: a talk with a server of the registry that the name stands for, in place of command lines.
+//!   `byte by byte`, `in two pieces` or `broken off` may stand behind the name.
 
+use crate::blocks::say_nothing;
 use crate::fault::{LineFault, Why};
 use crate::names::Names;
 use crate::row::{Likeness, Making, Pieces, RowFile, Section, Talk, Wanted};
@@ -48,6 +60,7 @@ fn bytes_in(alloc: Global, form: &str, text: &str) -> Result<Vec<u8>, LineFault>
 fn wanted(alloc: Global, form: &str, text: &str) -> Result<Wanted, LineFault> {
     let (likeness, form) = match form {
         "begins" => (Likeness::Front, ""),
+        "begins cut" => (Likeness::Front, "cut"),
         "has" => (Likeness::Lines, ""),
         form => (Likeness::Whole, form),
     };
@@ -80,6 +93,7 @@ fn pieces(form: &str) -> Result<Pieces, LineFault> {
         "" => Ok(Pieces::Whole),
         "byte by byte" => Ok(Pieces::Bytes),
         "in two pieces" => Ok(Pieces::Two),
+        "broken off" => Ok(Pieces::Front),
         _ => Err(LineFault::Wrong(Why::UnknownSection)),
     }
 }
@@ -135,7 +149,7 @@ pub fn section_of(
         "file" => Ok(Section::File(file(alloc, form, text.as_str())?)),
         "out" => Ok(Section::Out(wanted(alloc, form, text.as_str())?)),
         "err" => Ok(Section::Err(wanted(alloc, form, text.as_str())?)),
-        _ if !lines_in(body).is_empty() => Err(LineFault::Wrong(Why::NoSection)),
+        _ if !say_nothing(body) => Err(LineFault::Wrong(Why::NoSection)),
         "status" => Ok(Section::Status(status(form)?)),
         "now" => Ok(Section::Now(seconds(form)?)),
         _ => Err(LineFault::Wrong(Why::UnknownSection)),

@@ -1,11 +1,21 @@
 //! Talks: what comes on connections, and what goes out on them. A talk is told to `replay` as a transcript.
+//!
+//! A line of a talk is one of these, where C is the number of a connection:
+//! - `open C`, `end C` and `bytes ..`, as in a transcript;
+//! - `C MOMENT X/Y METHOD TARGET | PART | ..`: a request at that moment. Its two draws repeat the bytes X and Y, which are hex. A
+//!   part with a colon and a space is a header's line, another one is the body, behind `0x` as hex. `Content-Length` is filled in
+//!   where there is a body;
+//! - `C MOMENT X/Y ^TEXT`: a text as it is, with CRLF in the place of each `^`;
+//! - `C = CODE TEXT`: the reply that goes out on C, whose text is JSON, or a Location behind 302. With no text, 200 is the reply
+//!   to a revocation, 400 that to a faulty head, and others are those that say nothing else;
+//! - `# ..`, or no text at all: nothing.
 
 use crate::row::{Pieces, Talk};
 use std::alloc::{AllocError, Global};
 use std::str;
 
 /// A request, as a line of a talk says it.
-#[derive(Clone, Copy, Debug, PartialEq, Eq)]
+#[derive(Clone, Copy)]
 pub struct Request<'t> {
     /// The number of its connection.
     connection: &'t str,
@@ -20,7 +30,7 @@ pub struct Request<'t> {
 }
 
 /// A reply, as a line of a talk says it.
-#[derive(Clone, Copy, Debug, PartialEq, Eq)]
+#[derive(Clone, Copy)]
 pub struct Reply<'t> {
     /// The number of its connection.
     connection: &'t str,
@@ -31,7 +41,7 @@ pub struct Reply<'t> {
 }
 
 /// A line of a talk.
-#[derive(Clone, Copy, Debug, PartialEq, Eq)]
+#[derive(Clone, Copy)]
 pub enum TalkLine<'t> {
     /// It says nothing.
     Nothing,
@@ -43,15 +53,17 @@ pub enum TalkLine<'t> {
     Reply(Reply<'t>),
 }
 
-/// Where the requests on connection 1 are cut into pieces.
-#[derive(Clone, Copy, Debug, PartialEq, Eq)]
+/// Where requests are cut into pieces.
+#[derive(Clone, Copy)]
 pub enum Cut {
     /// Nowhere.
     Nowhere,
-    /// Behind so many bytes, where there are more.
+    /// On connection 1 behind so many bytes, where there are more.
     Behind(usize),
-    /// Behind each byte.
+    /// On connection 1 behind each byte.
     Everywhere,
+    /// On connection 2 behind so many bytes, and what stands behind them does not come.
+    Off(usize),
 }
 
 impl<'t> TalkLine<'t> {
@@ -136,27 +148,31 @@ impl<'t> Request<'t> {
         Ok(front)
     }
 
-    /// Whether it comes in pieces.
-    fn is_cut(&self) -> bool {
-        self.connection == "1"
-    }
-
     /// Puts the lines of its pieces behind those of a transcript.
     fn push_to(&self, alloc: Global, transcript: &mut String, cut: Cut) -> Result<(), AllocError> {
         let front = self.front(alloc)?;
         let digits = self.digits(alloc)?;
-        let digits = digits.as_str();
-        match cut {
-            Cut::Behind(place) if self.is_cut() => {
-                let place = place.saturating_mul(2);
-                let (first, rest) = digits.split_at_checked(place).unwrap_or((digits, ""));
+        match (self.connection, cut) {
+            ("1", Cut::Behind(place)) => {
+                let (first, rest) = parted(digits.as_str(), place);
                 push_piece(transcript, front.as_str(), first)?;
                 push_piece(transcript, front.as_str(), rest)
             }
-            Cut::Everywhere if self.is_cut() => push_bytes(transcript, front.as_str(), digits),
-            _ => push_piece(transcript, front.as_str(), digits),
+            ("1", Cut::Everywhere) => push_bytes(transcript, front.as_str(), digits.as_str()),
+            ("2", Cut::Off(place)) => {
+                let (first, _) = parted(digits.as_str(), place);
+                push_piece(transcript, front.as_str(), first)
+            }
+            _ => push_piece(transcript, front.as_str(), digits.as_str()),
         }
     }
+}
+
+/// The digits of so many bytes, and those behind them.
+fn parted(digits: &str, place: usize) -> (&str, &str) {
+    digits
+        .split_at_checked(place.saturating_mul(2))
+        .unwrap_or((digits, ""))
 }
 
 /// A piece goes behind what stands before it in its line, where it has any bytes.
@@ -280,12 +296,12 @@ impl Talk {
         Ok(all)
     }
 
-    /// How many bytes the longest request has that comes in pieces.
-    fn longest(&self, alloc: Global) -> Result<usize, AllocError> {
+    /// How many bytes the longest request on a connection has.
+    fn longest(&self, alloc: Global, connection: &str) -> Result<usize, AllocError> {
         let mut longest = 0;
         for line in self.lines.split('\n') {
             if let Some(TalkLine::Request(request)) = TalkLine::of(line)
-                && request.is_cut()
+                && request.connection == connection
             {
                 longest = longest.max(request.digits(alloc)?.len() / 2);
             }
@@ -300,8 +316,13 @@ impl Talk {
             Pieces::Whole => cuts.push(Cut::Nowhere)?,
             Pieces::Bytes => cuts.push(Cut::Everywhere)?,
             Pieces::Two => {
-                for place in 1..self.longest(alloc)? {
+                for place in 1..self.longest(alloc, "1")? {
                     cuts.push(Cut::Behind(place))?;
+                }
+            }
+            Pieces::Front => {
+                for place in 1..self.longest(alloc, "2")? {
+                    cuts.push(Cut::Off(place))?;
                 }
             }
         }

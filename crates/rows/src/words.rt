@@ -1,4 +1,6 @@
-//! The words of a command line.
+//! The words of a command line: `$ WORD WORD ..`. One space stands between two words. A word in double quotes may be empty and
+//! have spaces; one that begins with `@` is what stands in the row's file of that name, without the end of its last line. `$`
+//! alone has no words.
 
 use crate::fault::{LineFault, Why};
 use crate::row::Word;

@@ -9,7 +9,7 @@ use std::rt::{Clock, Files};
 use std::time::Duration;
 
 /// The machine, whose clock stands.
-#[derive(Clone, Copy)]
+#[derive(Drop)]
 pub struct World<'m, R> {
     machine: &'m R,
     /// What its clock tells, since 1970.
