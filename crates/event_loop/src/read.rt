@@ -8,20 +8,18 @@ ghost use Rattle.event_loop.specs.Deeds.{Reading};
 ghost use Rattle.event_loop.specs.Places.{IsOccupied, MayRead};
 ghost use Rattle.event_loop.specs.Goes.{NobodyIsSilent, WhereKnown, LeadsToActs, running, to_read};
 ghost use Rattle.event_loop.specs.Scenes.{promises};
-ghost use Rattle.image_keeper.specs.Keeping.{keeping};
+ghost use Rattle.endpoints.specs.Keeping.{keeping};
 
-use crate::clocks::Clocks;
 use crate::fault::ConnectionFault;
-use crate::journal::Journal;
 use crate::limits::{BACKLOG_LIMIT, CUT_LIMIT};
 use crate::place::{Place, Stage};
 use crate::service::Service;
 use crate::sockets::{Received, Sockets};
-use crate::tools::Tools;
+use crate::tools::{Clocks, Journal, Tools};
 use consent::Moment;
+use endpoints::ImageKeeper;
 use hook_host::HookHost;
 use http_edge::{ConnectionNo, Edge, EdgeFault, Event};
-use image_keeper::ImageKeeper;
 use rand_chacha::ChaCha20Rng;
 
 /// Whether a connection may be read.

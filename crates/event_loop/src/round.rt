@@ -3,19 +3,18 @@ ghost use Rattle.std.specs.Prelude.{◌≡◌, ◌≤◌, length, true, false, O
 ghost use Rattle.event_loop.specs.Places.{AllFree};
 ghost use Rattle.event_loop.specs.Goes.{IsBusy, IsLimit, MayRest, LeadsRound, LeadsWrong, running};
 ghost use Rattle.event_loop.specs.Scenes.{promises};
-ghost use Rattle.image_keeper.specs.Keeping.{keeping};
+ghost use Rattle.endpoints.specs.Keeping.{keeping};
 
 use crate::clocks::{Clocks, Second};
 use crate::fault::LoopFault;
-use crate::journal::Journal;
 use crate::keep::keep_all;
 use crate::limits::PLACES;
 use crate::queue::Queue;
 use crate::service::Service;
 use crate::sockets::{Ready, Sockets};
-use crate::tools::Tools;
+use crate::tools::{Journal, Tools};
+use endpoints::ImageKeeper;
 use hook_host::HookHost;
-use image_keeper::ImageKeeper;
 
 // In milliseconds.
 const SECOND: u64 = 1000;
