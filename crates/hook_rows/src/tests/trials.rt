@@ -1,7 +1,7 @@
 //! Rows of `check --why`, `list --slots`, `run --trace`, `ask` and `ask2`.
 
 use super::*;
-use hook_commands::AskWords;
+use hook_trial::asking::AskWords;
 
 /// `check --why` and `check2 --why` on a file.
 const WHY: [HookCommand<'static>; 2] = [
