@@ -169,25 +169,28 @@ fn wanted_of_talk(alloc: Global, talk: &Talk) -> Result<Wanted, AllocError> {
     })
 }
 
-/// Runs a row whose files stand there, and tells what differs.
+/// How the command lines of a row are to end, with this on standard output.
+fn ending_of<'w>(row: &'w Row, out: Option<&'w Wanted>) -> Ending<'w> {
+    Ending {
+        status: row.status.unwrap_or(0),
+        out,
+        err: row.err.as_ref(),
+    }
+}
+
+/// Runs a row whose files stand there, and tells what differs. A talk ends with its replies, unless the row says what is written.
 fn run_on_files<'f, R: Files<File = File> + Net + Clock + RandomSource + AllocGlobal>(
     rt: &R,
     row: &Row,
 ) -> Result<String, Stop<'f>> {
-    let mut ending = Ending {
-        status: row.status.unwrap_or(0),
-        out: row.out.as_ref(),
-        err: row.err.as_ref(),
-    };
     let Some(talk) = &row.talk else {
-        return run_commands(rt, &row.commands, ending);
+        return run_commands(rt, &row.commands, ending_of(row, row.out.as_ref()));
     };
-    if ending.out.is_some() || ending.err.is_some() {
-        return run_talk(rt, talk, ending);
+    if row.out.is_some() || row.err.is_some() {
+        return run_talk(rt, talk, ending_of(row, row.out.as_ref()));
     }
     let wanted = wanted_of_talk(rt.alloc(), talk)?;
-    ending.out = Some(&wanted);
-    run_talk(rt, talk, ending)
+    run_talk(rt, talk, ending_of(row, Some(&wanted)))
 }
 
 /// Runs a row, and tells what differs: nothing, where all ended as it is to end. Its files are removed behind it.

@@ -9,13 +9,13 @@
 //! - `-- status N`, `-- now N`: the exit status, and the seconds since 1970 that the clock tells. No line that says anything may
 //!   stand behind these.
 //! - `-- talk $NAME`: a talk with a server of the registry that the name stands for, in place of command lines.
-//!   `byte by byte`, `in two pieces` or `broken off` may stand behind the name.
+//!   `byte by byte`, `in two pieces` or `broken off` may stand behind the name. It ends with its replies, unless the row has an
+//!   `-- out` or `-- err`.
 
 use crate::blocks::say_nothing;
 use crate::fault::{LineFault, Why};
 use crate::names::Names;
 use crate::row::{Likeness, Making, Pieces, RowFile, Section, Talk, Wanted};
-use crate::talk::TalkLine;
 use std::alloc::{AllocError, Global};
 
 /// The lines of a section's text, without the empty ones at its end and the end of the last one.
@@ -65,7 +65,12 @@ fn wanted(alloc: Global, form: &str, text: &str) -> Result<Wanted, LineFault> {
         form => (Likeness::Whole, form),
     };
     let bytes = bytes_in(alloc, form, text)?;
-    Ok(Wanted { likeness, bytes })
+    match likeness {
+        Likeness::Front | Likeness::Lines if bytes.is_empty() => {
+            Err(LineFault::Wrong(Why::NoText))
+        }
+        _ => Ok(Wanted { likeness, bytes }),
+    }
 }
 
 /// A file: its name, and the form of its text.
@@ -105,16 +110,16 @@ fn talk(alloc: Global, names: &Names, heading: &str, text: &str) -> Result<Talk,
     let pieces = pieces(form)?;
     let lines = names.with_lines(alloc, text)?;
     let lines = names.written_out(alloc, lines.as_str())?;
-    for line in lines.split('\n') {
-        if TalkLine::of(line).is_none() {
-            return Err(LineFault::Wrong(Why::BadTalk));
-        }
-    }
-    Ok(Talk {
+    let talk = Talk {
         config,
         pieces,
         lines,
-    })
+    };
+    if talk.is_whole() {
+        Ok(talk)
+    } else {
+        Err(LineFault::Wrong(Why::BadTalk))
+    }
 }
 
 /// An exit status.

@@ -250,6 +250,25 @@ impl<'t> Reply<'t> {
 }
 
 impl Talk {
+    /// Whether a connection is opened.
+    fn opens(&self, connection: &str) -> bool {
+        self.lines
+            .split('\n')
+            .any(|line| line.strip_prefix("open ") == Some(connection))
+    }
+
+    /// Whether each line has one of the forms, and goes out on a connection that is opened, if it goes out.
+    pub fn is_whole(&self) -> bool {
+        for line in self.lines.split('\n') {
+            match TalkLine::of(line) {
+                None => return false,
+                Some(TalkLine::Reply(reply)) if !self.opens(reply.connection) => return false,
+                Some(_) => {}
+            }
+        }
+        true
+    }
+
     /// The transcript that says what comes.
     pub fn transcript(&self, alloc: Global, cut: Cut) -> Result<String, AllocError> {
         let config = self.config.as_str();
