@@ -103,17 +103,20 @@ fn pieces(form: &str) -> Result<Pieces, LineFault> {
     }
 }
 
+/// The lines of a talk, with those that it names, written out.
+fn talk_lines(alloc: Global, names: &Names, text: &str) -> Result<String, LineFault> {
+    let lines = names.with_lines(alloc, text)?;
+    Ok(names.written_out(alloc, lines.as_str())?)
+}
+
 /// A talk: the name of its registry and in which pieces requests come, and its lines.
 fn talk(alloc: Global, names: &Names, heading: &str, text: &str) -> Result<Talk, LineFault> {
     let (name, form) = heading.split_once(' ').unwrap_or((heading, ""));
-    let config = names.text_of(alloc, name)?;
     let pieces = pieces(form)?;
-    let lines = names.with_lines(alloc, text)?;
-    let lines = names.written_out(alloc, lines.as_str())?;
     let talk = Talk {
-        config,
+        config: names.text_of(alloc, name)?,
         pieces,
-        lines,
+        lines: talk_lines(alloc, names, text)?,
     };
     if talk.is_whole() {
         Ok(talk)
@@ -138,6 +141,20 @@ fn seconds(form: &str) -> Result<u64, LineFault> {
     }
 }
 
+/// A section of one line, with no lines behind it.
+fn one_line(kind: &str, form: &str, body: &str) -> Result<Section, LineFault> {
+    let section = match kind {
+        "status" => Section::Status(status(form)?),
+        "now" => Section::Now(seconds(form)?),
+        _ => return Err(LineFault::Wrong(Why::UnknownSection)),
+    };
+    if say_nothing(body) {
+        Ok(section)
+    } else {
+        Err(LineFault::Wrong(Why::NoSection))
+    }
+}
+
 /// The section of this heading, behind `-- `, with these lines.
 pub fn section_of(
     alloc: Global,
@@ -154,9 +171,6 @@ pub fn section_of(
         "file" => Ok(Section::File(file(alloc, form, text.as_str())?)),
         "out" => Ok(Section::Out(wanted(alloc, form, text.as_str())?)),
         "err" => Ok(Section::Err(wanted(alloc, form, text.as_str())?)),
-        _ if !say_nothing(body) => Err(LineFault::Wrong(Why::NoSection)),
-        "status" => Ok(Section::Status(status(form)?)),
-        "now" => Ok(Section::Now(seconds(form)?)),
-        _ => Err(LineFault::Wrong(Why::UnknownSection)),
+        _ => one_line(kind, form, body),
     }
 }
