@@ -15,9 +15,9 @@ pub enum Why {
     NoName,
     /// There is no section of this form.
     UnknownSection,
-    /// The row says the same twice, or has command lines and a talk.
+    /// The row says the same twice.
     Twice,
-    /// The row has no command line and no talk.
+    /// The row has no command line and no talk, or both.
     NoCommand,
     /// The words of a command line are not parted by single spaces, or a double quote is missing.
     BadWords,
@@ -25,9 +25,11 @@ pub enum Why {
     BadNumber,
     /// What is to be hex is none.
     BadHex,
+    /// Nothing is wanted that any text would not have.
+    NoText,
     /// A name of a registry or of lines is not defined.
     Undefined,
-    /// A line of a talk has another form.
+    /// A line of a talk has another form, or goes out on a connection that is not opened.
     BadTalk,
 }
 
@@ -39,10 +41,11 @@ impl Display for Why {
             Why::NoName => "no name",
             Why::UnknownSection => "unknown section",
             Why::Twice => "said twice",
-            Why::NoCommand => "no command line",
+            Why::NoCommand => "no command line and no talk, or both",
             Why::BadWords => "bad words",
             Why::BadNumber => "bad number",
             Why::BadHex => "bad hex",
+            Why::NoText => "no text",
             Why::Undefined => "undefined name",
             Why::BadTalk => "bad line in a talk",
         })

@@ -78,6 +78,19 @@ fn put_in_last(rows: &mut Vec<Row>, section: Section) -> Result<(), LineFault> {
     }
 }
 
+/// Defines a name of a text.
+fn define(alloc: Global, names: &mut Names, name: &str, text: String) -> Result<(), LineFault> {
+    let name = String::from_str(alloc, name)?;
+    Ok(names.define(name, text)?)
+}
+
+/// Defines a name of lines.
+fn define_lines(alloc: Global, names: &mut Names, name: &str, body: &str) -> Result<(), LineFault> {
+    let lines = names.with_lines(alloc, body.trim_end_matches('\n'))?;
+    let name = String::from_str(alloc, name)?;
+    Ok(names.define_lines(name, lines)?)
+}
+
 /// Reads a block: defines a name, or goes on with the rows.
 fn read_block(
     alloc: Global,
@@ -87,28 +100,19 @@ fn read_block(
 ) -> Result<(), LineFault> {
     let body = block.body.as_str();
     match block.heading {
-        Heading::Name(name, text) => {
-            Ok(names.define(
-                String::from_str(alloc, name)?,
-                String::from_str(alloc, text)?,
-            )?)
-        }
-        Heading::LongName(name) => {
-            Ok(names.define(String::from_str(alloc, name)?, joined(alloc, body)?)?)
-        }
-        Heading::Lines(name) => {
-            let lines = names.with_lines(alloc, body.trim_end_matches('\n'))?;
-            Ok(names.define_lines(String::from_str(alloc, name)?, lines)?)
-        }
+        Heading::Name(name, text) => define(alloc, names, name, String::from_str(alloc, text)?),
+        Heading::LongName(name) => define(alloc, names, name, joined(alloc, body)?),
+        Heading::Lines(name) => define_lines(alloc, names, name, body),
         Heading::Row(name) => Ok(rows.push(row(alloc, block.line, name, body)?)?),
         Heading::Command(words) => put_in_last(rows, command(alloc, names, words, body)?),
         Heading::Section(heading) => put_in_last(rows, section_of(alloc, names, heading, body)?),
     }
 }
 
-/// Whether a row has command lines, or a talk, and not both.
-fn is_whole(row: &Row) -> bool {
-    row.commands.is_empty() == row.talk.is_some()
+/// The first row, if there is one, that has neither command lines nor a talk, or both.
+fn unfinished(rows: &[Row]) -> Option<&Row> {
+    rows.iter()
+        .find(|row| row.commands.is_empty() != row.talk.is_some())
 }
 
 /// The rows in the text that stands in the file of a path. What it defines is known from there on.
@@ -119,14 +123,13 @@ pub fn rows_of<'f>(
     text: &str,
 ) -> Result<Vec<Row>, Stop<'f>> {
     let mut rows: Vec<Row> = Vec::new(alloc);
-    let blocks = blocks_of(alloc, path, text)?;
-    for block in &blocks {
-        read_block(alloc, names, &mut rows, block).map_err(|fault| fault.at(path, block.line))?;
-    }
-    for row in &rows {
-        if !is_whole(row) {
-            return Err(Stop::NoRows(path, row.line, Why::NoCommand));
+    for block in &blocks_of(alloc, path, text)? {
+        if let Err(fault) = read_block(alloc, names, &mut rows, block) {
+            return Err(fault.at(path, block.line));
         }
     }
-    Ok(rows)
+    match unfinished(&rows) {
+        Some(row) => Err(Stop::NoRows(path, row.line, Why::NoCommand)),
+        None => Ok(rows),
+    }
 }

@@ -43,13 +43,18 @@ fn ended<'f, R: Files<File = File> + Net + Clock + RandomSource + AllocGlobal>(
     Ok(Ended { status, out, err })
 }
 
-/// Words of texts.
-fn words_of(alloc: Global, texts: &[&str]) -> Result<Vec<String>, AllocError> {
+/// The words of a command on a file.
+fn words_of(alloc: Global, command: &str, file: &str) -> Result<Vec<String>, AllocError> {
     let mut words = Vec::new(alloc);
-    for text in texts {
-        words.push(String::from_str(alloc, text)?)?;
-    }
+    words.push(String::from_str(alloc, command)?)?;
+    words.push(String::from_str(alloc, file)?)?;
     Ok(words)
+}
+
+/// Tells why a file is not assembled.
+fn told_of_file(alloc: Global, name: &str, err: &[u8]) -> Result<String, AllocError> {
+    let why = String::from_utf8_lossy(alloc, err)?;
+    format!(in alloc; ": {name} is not assembled: {why:?}")
 }
 
 /// Puts what `asm` makes of a file in its place, and tells what is wrong with it, if anything is.
@@ -57,14 +62,14 @@ fn assemble<'f, R: Files<File = File> + Net + Clock + RandomSource + AllocGlobal
     rt: &R,
     name: &str,
 ) -> Result<String, Stop<'f>> {
-    let words = words_of(rt.alloc(), &["asm", name])?;
-    let ended = ended(rt, &words, 0)?;
-    if ended.status == 0 {
-        write_file(rt, name, &ended.out)?;
-        return Ok(String::new(rt.alloc()));
+    let words = words_of(rt.alloc(), "asm", name)?;
+    let Ended { status, out, err } = ended(rt, &words, 0)?;
+    if status == 0 {
+        write_file(rt, name, &out)?;
+        Ok(String::new(rt.alloc()))
+    } else {
+        Ok(told_of_file(rt.alloc(), name, &err)?)
     }
-    let why = String::from_utf8_lossy(rt.alloc(), &ended.err)?;
-    Ok(format!(in rt.alloc(); ": {name} is not assembled: {why:?}")?)
 }
 
 /// Writes the files of a row, and tells what is wrong with one, if anything is.
@@ -140,24 +145,33 @@ fn told_of_cut(alloc: Global, cut: Cut, told: String) -> Result<String, AllocErr
     }
 }
 
+/// Runs a talk with a cut, and tells what differs.
+fn run_cut<'f, R: Files<File = File> + Net + Clock + RandomSource + AllocGlobal>(
+    rt: &R,
+    talk: &Talk,
+    cut: Cut,
+    ending: Ending<'_>,
+) -> Result<String, Stop<'f>> {
+    let transcript = talk.transcript(rt.alloc(), cut)?;
+    write_file(rt, TRANSCRIPT, transcript.as_bytes())?;
+    let words = words_of(rt.alloc(), "replay", TRANSCRIPT)?;
+    let ended = ended(rt, &words, ending.status)?;
+    Ok(differences(rt.alloc(), ending, &ended)?)
+}
+
 /// Runs a talk, up to the first cut with which it ends otherwise, and tells what differs.
 fn run_talk<'f, R: Files<File = File> + Net + Clock + RandomSource + AllocGlobal>(
     rt: &R,
     talk: &Talk,
     ending: Ending<'_>,
 ) -> Result<String, Stop<'f>> {
-    let alloc = rt.alloc();
-    let words = words_of(alloc, &["replay", TRANSCRIPT])?;
-    for cut in &talk.cuts(alloc)? {
-        let transcript = talk.transcript(alloc, *cut)?;
-        write_file(rt, TRANSCRIPT, transcript.as_bytes())?;
-        let ended = ended(rt, &words, ending.status)?;
-        let told = differences(alloc, ending, &ended)?;
+    for cut in &talk.cuts(rt.alloc())? {
+        let told = run_cut(rt, talk, *cut, ending)?;
         if !told.is_empty() {
-            return Ok(told_of_cut(alloc, *cut, told)?);
+            return Ok(told_of_cut(rt.alloc(), *cut, told)?);
         }
     }
-    Ok(String::new(alloc))
+    Ok(String::new(rt.alloc()))
 }
 
 /// What `replay` is to print of a talk.
@@ -169,25 +183,28 @@ fn wanted_of_talk(alloc: Global, talk: &Talk) -> Result<Wanted, AllocError> {
     })
 }
 
-/// Runs a row whose files stand there, and tells what differs.
+/// How the command lines of a row are to end, with this on standard output.
+fn ending_of<'w>(row: &'w Row, out: Option<&'w Wanted>) -> Ending<'w> {
+    Ending {
+        status: row.status.unwrap_or(0),
+        out,
+        err: row.err.as_ref(),
+    }
+}
+
+/// Runs a row whose files stand there, and tells what differs. A talk ends with its replies, unless the row says what is written.
 fn run_on_files<'f, R: Files<File = File> + Net + Clock + RandomSource + AllocGlobal>(
     rt: &R,
     row: &Row,
 ) -> Result<String, Stop<'f>> {
-    let mut ending = Ending {
-        status: row.status.unwrap_or(0),
-        out: row.out.as_ref(),
-        err: row.err.as_ref(),
-    };
     let Some(talk) = &row.talk else {
-        return run_commands(rt, &row.commands, ending);
+        return run_commands(rt, &row.commands, ending_of(row, row.out.as_ref()));
     };
-    if ending.out.is_some() || ending.err.is_some() {
-        return run_talk(rt, talk, ending);
+    if row.out.is_some() || row.err.is_some() {
+        return run_talk(rt, talk, ending_of(row, row.out.as_ref()));
     }
     let wanted = wanted_of_talk(rt.alloc(), talk)?;
-    ending.out = Some(&wanted);
-    run_talk(rt, talk, ending)
+    run_talk(rt, talk, ending_of(row, Some(&wanted)))
 }
 
 /// Runs a row, and tells what differs: nothing, where all ended as it is to end. Its files are removed behind it.

@@ -9,13 +9,13 @@
 //! - `-- status N`, `-- now N`: the exit status, and the seconds since 1970 that the clock tells. No line that says anything may
 //!   stand behind these.
 //! - `-- talk $NAME`: a talk with a server of the registry that the name stands for, in place of command lines.
-//!   `byte by byte`, `in two pieces` or `broken off` may stand behind the name.
+//!   `byte by byte`, `in two pieces` or `broken off` may stand behind the name. It ends with its replies, unless the row has an
+//!   `-- out` or `-- err`.
 
 use crate::blocks::say_nothing;
 use crate::fault::{LineFault, Why};
 use crate::names::Names;
 use crate::row::{Likeness, Making, Pieces, RowFile, Section, Talk, Wanted};
-use crate::talk::TalkLine;
 use std::alloc::{AllocError, Global};
 
 /// The lines of a section's text, without the empty ones at its end and the end of the last one.
@@ -65,7 +65,12 @@ fn wanted(alloc: Global, form: &str, text: &str) -> Result<Wanted, LineFault> {
         form => (Likeness::Whole, form),
     };
     let bytes = bytes_in(alloc, form, text)?;
-    Ok(Wanted { likeness, bytes })
+    match likeness {
+        Likeness::Front | Likeness::Lines if bytes.is_empty() => {
+            Err(LineFault::Wrong(Why::NoText))
+        }
+        _ => Ok(Wanted { likeness, bytes }),
+    }
 }
 
 /// A file: its name, and the form of its text.
@@ -98,23 +103,26 @@ fn pieces(form: &str) -> Result<Pieces, LineFault> {
     }
 }
 
+/// The lines of a talk, with those that it names, written out.
+fn talk_lines(alloc: Global, names: &Names, text: &str) -> Result<String, LineFault> {
+    let lines = names.with_lines(alloc, text)?;
+    Ok(names.written_out(alloc, lines.as_str())?)
+}
+
 /// A talk: the name of its registry and in which pieces requests come, and its lines.
 fn talk(alloc: Global, names: &Names, heading: &str, text: &str) -> Result<Talk, LineFault> {
     let (name, form) = heading.split_once(' ').unwrap_or((heading, ""));
-    let config = names.text_of(alloc, name)?;
     let pieces = pieces(form)?;
-    let lines = names.with_lines(alloc, text)?;
-    let lines = names.written_out(alloc, lines.as_str())?;
-    for line in lines.split('\n') {
-        if TalkLine::of(line).is_none() {
-            return Err(LineFault::Wrong(Why::BadTalk));
-        }
-    }
-    Ok(Talk {
-        config,
+    let talk = Talk {
+        config: names.text_of(alloc, name)?,
         pieces,
-        lines,
-    })
+        lines: talk_lines(alloc, names, text)?,
+    };
+    if talk.is_whole() {
+        Ok(talk)
+    } else {
+        Err(LineFault::Wrong(Why::BadTalk))
+    }
 }
 
 /// An exit status.
@@ -130,6 +138,20 @@ fn seconds(form: &str) -> Result<u64, LineFault> {
     match form.parse() {
         Ok(seconds) => Ok(seconds),
         Err(_) => Err(LineFault::Wrong(Why::BadNumber)),
+    }
+}
+
+/// A section of one line, with no lines behind it.
+fn one_line(kind: &str, form: &str, body: &str) -> Result<Section, LineFault> {
+    let section = match kind {
+        "status" => Section::Status(status(form)?),
+        "now" => Section::Now(seconds(form)?),
+        _ => return Err(LineFault::Wrong(Why::UnknownSection)),
+    };
+    if say_nothing(body) {
+        Ok(section)
+    } else {
+        Err(LineFault::Wrong(Why::NoSection))
     }
 }
 
@@ -149,9 +171,6 @@ pub fn section_of(
         "file" => Ok(Section::File(file(alloc, form, text.as_str())?)),
         "out" => Ok(Section::Out(wanted(alloc, form, text.as_str())?)),
         "err" => Ok(Section::Err(wanted(alloc, form, text.as_str())?)),
-        _ if !say_nothing(body) => Err(LineFault::Wrong(Why::NoSection)),
-        "status" => Ok(Section::Status(status(form)?)),
-        "now" => Ok(Section::Now(seconds(form)?)),
-        _ => Err(LineFault::Wrong(Why::UnknownSection)),
+        _ => one_line(kind, form, body),
     }
 }

@@ -12,6 +12,7 @@
 
 use crate::row::{Pieces, Talk};
 use std::alloc::{AllocError, Global};
+use std::ops::Range;
 use std::str;
 
 /// A request, as a line of a talk says it.
@@ -99,21 +100,48 @@ impl<'t> TalkLine<'t> {
 }
 
 /// The head of a request, without the empty line at its end, and its body in hex.
-fn parts_of(alloc: Global, text: &str) -> Result<(String, String), AllocError> {
-    let (line, parts) = text.split_once(" | ").unwrap_or((text, ""));
-    let mut head = format!(in alloc; "{line} HTTP/1.1\r\n")?;
-    let mut body = String::new(alloc);
-    for part in parts.split(" | ") {
+#[derive(Drop)]
+struct Parts {
+    head: String,
+    body: String,
+}
+
+impl Parts {
+    /// Puts a part of a request behind the others.
+    fn put(&mut self, alloc: Global, part: &str) -> Result<(), AllocError> {
         if part.contains(": ") {
-            head.push_str(part)?;
-            head.push_str("\r\n")?;
+            self.head.push_str(part)?;
+            self.head.push_str("\r\n")
         } else if let Some(digits) = part.strip_prefix("0x") {
-            body.push_str(digits)?;
+            self.body.push_str(digits)
         } else {
-            body = hex::encode(alloc, part)?;
+            let digits = hex::encode(alloc, part)?;
+            self.body.push_str(digits.as_str())
         }
     }
-    Ok((head, body))
+
+    /// Puts the line of the body's length behind the others, where there is a body, and the end of the head.
+    fn end(&mut self, alloc: Global) -> Result<(), AllocError> {
+        if !self.body.is_empty() {
+            let length = self.body.len() / 2;
+            let line = format!(in alloc; "Content-Length: {length}\r\n")?;
+            self.head.push_str(line.as_str())?;
+        }
+        self.head.push_str("\r\n")
+    }
+}
+
+/// The parts of a request.
+fn parts_of(alloc: Global, text: &str) -> Result<Parts, AllocError> {
+    let (line, parts) = text.split_once(" | ").unwrap_or((text, ""));
+    let head = format!(in alloc; "{line} HTTP/1.1\r\n")?;
+    let body = String::new(alloc);
+    let mut all = Parts { head, body };
+    for part in parts.split(" | ") {
+        all.put(alloc, part)?;
+    }
+    all.end(alloc)?;
+    Ok(all)
 }
 
 impl<'t> Request<'t> {
@@ -123,15 +151,9 @@ impl<'t> Request<'t> {
             let bytes = raw.replace(alloc, '^', "\r\n")?;
             return hex::encode(alloc, bytes.as_str());
         }
-        let (mut head, body) = parts_of(alloc, self.text)?;
-        if !body.is_empty() {
-            let length = body.len() / 2;
-            let line = format!(in alloc; "Content-Length: {length}\r\n")?;
-            head.push_str(line.as_str())?;
-        }
-        head.push_str("\r\n")?;
-        let mut digits = hex::encode(alloc, head.as_str())?;
-        digits.push_str(body.as_str())?;
+        let parts = parts_of(alloc, self.text)?;
+        let mut digits = hex::encode(alloc, parts.head.as_str())?;
+        digits.push_str(parts.body.as_str())?;
         Ok(digits)
     }
 
@@ -250,6 +272,25 @@ impl<'t> Reply<'t> {
 }
 
 impl Talk {
+    /// Whether a connection is opened.
+    fn opens(&self, connection: &str) -> bool {
+        self.lines
+            .split('\n')
+            .any(|line| line.strip_prefix("open ") == Some(connection))
+    }
+
+    /// Whether each line has one of the forms, and goes out on a connection that is opened, if it goes out.
+    pub fn is_whole(&self) -> bool {
+        for line in self.lines.split('\n') {
+            match TalkLine::of(line) {
+                None => return false,
+                Some(TalkLine::Reply(reply)) if !self.opens(reply.connection) => return false,
+                Some(_) => {}
+            }
+        }
+        true
+    }
+
     /// The transcript that says what comes.
     pub fn transcript(&self, alloc: Global, cut: Cut) -> Result<String, AllocError> {
         let config = self.config.as_str();
@@ -309,23 +350,18 @@ impl Talk {
         Ok(longest)
     }
 
+    /// Where the longest request on a connection can be cut.
+    fn places(&self, alloc: Global, connection: &str) -> Result<Range<usize>, AllocError> {
+        Ok(1..self.longest(alloc, connection)?)
+    }
+
     /// The cuts of its requests, for each of which it runs.
     pub fn cuts(&self, alloc: Global) -> Result<Vec<Cut>, AllocError> {
-        let mut cuts = Vec::new(alloc);
         match self.pieces {
-            Pieces::Whole => cuts.push(Cut::Nowhere)?,
-            Pieces::Bytes => cuts.push(Cut::Everywhere)?,
-            Pieces::Two => {
-                for place in 1..self.longest(alloc, "1")? {
-                    cuts.push(Cut::Behind(place))?;
-                }
-            }
-            Pieces::Front => {
-                for place in 1..self.longest(alloc, "2")? {
-                    cuts.push(Cut::Off(place))?;
-                }
-            }
+            Pieces::Whole => Vec::from_slice(alloc, &[Cut::Nowhere]),
+            Pieces::Bytes => Vec::from_slice(alloc, &[Cut::Everywhere]),
+            Pieces::Two => self.places(alloc, "1")?.map(Cut::Behind).collect(alloc),
+            Pieces::Front => self.places(alloc, "2")?.map(Cut::Off).collect(alloc),
         }
-        Ok(cuts)
     }
 }
