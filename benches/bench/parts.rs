@@ -1,6 +1,6 @@
 //! Parts of a request: what each costs by itself.
 
-use crate::draw::drawn;
+use crate::draw::{digest, drawn};
 use crate::report::{self, Least, Rounds};
 use authentication::authenticate;
 use clients::Registry;
@@ -8,7 +8,7 @@ use consent::{ScopeSet, TokenKind};
 use heads::{Front, lend, read_front};
 use messages::{ActiveToken, active, tokens};
 use params::Params;
-use pkce::{digest_of, read_token, token_text};
+use pkce::{read_token, token_text};
 use std::alloc::Global;
 use std::io;
 use std::time::Instant;
@@ -60,6 +60,7 @@ const PARTS: [Part; 10] = [
 #[derive(Clone, Copy)]
 struct Things<'a> {
     alloc: Global,
+    request: &'a [u8],
     rules: &'a Registry,
     params: &'a Params<'static>,
 }
@@ -84,10 +85,10 @@ fn one_if(done: bool) -> u32 {
 }
 
 // Whether a head is read, and is that of a form where that is looked at.
-fn head(looks: bool) -> bool {
-    match read_front(REQUEST) {
+fn head(bytes: &[u8], looks: bool) -> bool {
+    match read_front(bytes) {
         Front::Whole(found) => {
-            let request = lend(REQUEST, &found);
+            let request = lend(bytes, &found);
             !looks || request.is_form()
         }
         Front::More { .. } | Front::Faulty => false,
@@ -108,13 +109,13 @@ fn live() -> ActiveToken<'static> {
 fn is_done(things: &Things<'_>, part: Part) -> bool {
     let alloc = things.alloc;
     match part {
-        Part::Head => head(false),
-        Part::MediaType => head(true),
+        Part::Head => head(things.request, false),
+        Part::MediaType => head(things.request, true),
         Part::Form => Params::read(alloc, FORM).is_ok(),
         Part::Authentication => {
             authenticate(alloc, things.rules, Some(CREDENTIALS), things.params).is_ok()
         }
-        Part::Digest => digest_of(&drawn(7)).bytes()[0] != 0,
+        Part::Digest => digest(7).bytes()[0] != 0,
         Part::TokenRead => read_token(TOKEN).is_some(),
         Part::TokenText => token_text(alloc, &drawn(7)).is_ok(),
         Part::ScopeText => {
@@ -159,6 +160,7 @@ pub fn report_all(rt: &HostRuntime, rounds: Rounds, rules: &Registry) -> io::Res
     };
     let things = Things {
         alloc: rt.alloc(),
+        request: REQUEST,
         rules,
         params: &params,
     };

@@ -77,13 +77,9 @@ const WORKS: [Work; 7] = [
 
 /// The whole text of a program.
 fn text_of(alloc: Global, work: &Work) -> Result<String, AllocError> {
-    let mut text = String::new(alloc);
-    text.push_str(work.head)?;
-    for _ in 0..work.turns {
-        text.push_str(work.turn)?;
-    }
-    text.push_str(work.tail)?;
-    Ok(text)
+    let (head, tail) = (work.head, work.tail);
+    let turns = work.turn.repeat(alloc, work.turns)?;
+    format!(in alloc; "{head}{turns}{tail}")
 }
 
 /// The program of a work.
@@ -113,29 +109,38 @@ fn report_verdict(rt: &HostRuntime, rounds: Rounds, work: &Work) -> io::Result<(
     report::print(rt, rounds, &name, came, least, 1)
 }
 
+/// How a run ended.
+fn ending(alloc: Global, outcome: Outcome) -> Result<String, AllocError> {
+    match outcome {
+        Outcome::Exit(r0, steps) => format!(in alloc; "{r0} after {steps} steps"),
+        Outcome::Stuck(slot) => format!(in alloc; "stuck at {slot}"),
+    }
+}
+
+/// Of how many steps its time is.
+fn step_count(outcome: Outcome) -> usize {
+    match outcome {
+        Outcome::Exit(_, steps) => steps,
+        Outcome::Stuck(_) => 1,
+    }
+}
+
 /// Runs a program on the checked machine in rounds, and prints how it ended.
 fn report_checked_run(rt: &HostRuntime, rounds: Rounds, work: &Work) -> io::Result<()> {
     let Some(program) = program_of(rt.alloc(), work)? else {
         return println!(rt; "{}: no program", work.name);
     };
     let mut least = Least::new();
-    let mut steps = 0;
-    let mut came = format!(in rt.alloc(); "not run")?;
+    let mut outcome = Outcome::Stuck(0);
     for _ in 0..rounds.count() {
         let mut record = [9u8; 64];
         let start = Instant::now(rt)?;
-        let outcome = run_checked(&program, Layout::V1, &mut record);
+        outcome = run_checked(&program, Layout::V1, &mut record);
         least.since(rt, &start)?;
-        came = match outcome {
-            Outcome::Exit(r0, taken) => {
-                steps = taken;
-                format!(in rt.alloc(); "{r0} after {taken} steps")?
-            }
-            Outcome::Stuck(slot) => format!(in rt.alloc(); "stuck at {slot}")?,
-        };
     }
     let name = format!(in rt.alloc(); "a step of run_checked, {}", work.name)?;
-    report::print(rt, rounds, &name, &came, least, steps as u128)
+    let came = ending(rt.alloc(), outcome)?;
+    report::print(rt, rounds, &name, &came, least, step_count(outcome) as u128)
 }
 
 /// Runs a verified program on the machine that tests no access, in rounds, and prints how it ended.
@@ -148,16 +153,17 @@ fn report_flat_run(
     requires { verified.now.layout ≡ Layout.V1 }
 {
     let mut least = Least::new();
-    let (mut r0, mut steps) = (0, 0);
+    let mut outcome = Outcome::Stuck(0);
     for _ in 0..rounds.count() {
         let mut record = [9u8; 64];
         let start = Instant::now(rt)?;
-        (r0, steps) = run(verified, &mut record);
+        let (r0, steps) = run(verified, &mut record);
         least.since(rt, &start)?;
+        outcome = Outcome::Exit(r0, steps);
     }
     let name = format!(in rt.alloc(); "a step of run, {}", work.name)?;
-    let came = format!(in rt.alloc(); "{r0} after {steps} steps")?;
-    report::print(rt, rounds, &name, &came, least, steps as u128)
+    let came = ending(rt.alloc(), outcome)?;
+    report::print(rt, rounds, &name, &came, least, step_count(outcome) as u128)
 }
 
 /// Each program: its verdict, and its run on both machines, where it is accepted.

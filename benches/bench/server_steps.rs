@@ -74,6 +74,17 @@ impl Busy {
         Moment::new(seconds as u64)
     }
 
+    /// Sends a request: 1 where it is answered by 200, and else 0.
+    fn send(&mut self, request: &Request<'_>, draws: &Draws) -> u32 {
+        let moment = self.moment();
+        let reply = self.server.step(request, moment, draws);
+        if reply.status() == StatusCode::OK {
+            1
+        } else {
+            0
+        }
+    }
+
     /// Asks for so many tokens, each drawn anew: how many are given.
     fn issue(&mut self, times: u32) -> u32 {
         let mut given: u32 = 0;
@@ -82,11 +93,7 @@ impl Busy {
                 first: drawn(self.issued),
                 second: [0; 32],
             };
-            let moment = self.moment();
-            let reply = self.server.step(&TOKEN, moment, &draws);
-            if reply.status() == StatusCode::OK {
-                given = given.saturating_add(1);
-            }
+            given = given.saturating_add(self.send(&TOKEN, &draws));
             self.issued = self.issued.saturating_add(1);
         }
         given
@@ -110,14 +117,10 @@ impl Busy {
             first: [0; 32],
             second: [0; 32],
         };
-        let moment = self.moment();
         let mut answered: u32 = 0;
         for question in questions {
             let request = introspection(question.as_bytes());
-            let reply = self.server.step(&request, moment, &draws);
-            if reply.status() == StatusCode::OK {
-                answered = answered.saturating_add(1);
-            }
+            answered = answered.saturating_add(self.send(&request, &draws));
         }
         answered
     }

@@ -1,11 +1,10 @@
 //! The store of grants: what its calls cost beside as many records as it may have, a third of them codes.
 
-use crate::draw::drawn;
+use crate::draw::digest;
 use crate::report::{self, Least, Rounds};
 use consent::{
     Change, Changes, ClientNo, CodeFacts, Digest, Moment, NewToken, OwnerNo, ScopeSet, TokenKind,
 };
-use pkce::digest_of;
 use std::alloc::{AllocError, Global};
 use std::io;
 use std::time::Instant;
@@ -61,9 +60,9 @@ impl Trio {
         let first = number.wrapping_mul(3);
         Trio {
             owner: OwnerNo::new(number.saturating_add(1)),
-            code: digest_of(&drawn(first)),
-            access: digest_of(&drawn(first.wrapping_add(1))),
-            refresh: digest_of(&drawn(first.wrapping_add(2))),
+            code: digest(first),
+            access: digest(first.wrapping_add(1)),
+            refresh: digest(first.wrapping_add(2)),
         }
     }
 
