@@ -1,0 +1,5 @@
+mod Failing
+mod Naming
+mod Resuming
+mod Hooking
+pub mod Beginning

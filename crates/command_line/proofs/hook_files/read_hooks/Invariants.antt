@@ -1,0 +1,7 @@
+use Rattle.std.proofs.Common.{◌≡◌, map, take}
+use Rattle.start_words.specs.Options.{hook_said}
+use Rattle.command_line.specs.Hooks.{in_file, said_of}
+use Rattle.command_line.proofs.hook_files.read_hooks.Given as goal
+
+abbrev pub invariant-loop-hook : goal.invariant-loop-hook
+invariant-loop-hook g l = said_of (map in_file l.all.items) ≡ map hook_said (take l.hook-index l.hooks)

@@ -1,0 +1,70 @@
+-- The commands that serve connections: their words, and the file that they name.
+use Rattle.std.specs.Prelude.{◌≡◌, ⊤, ℕ, List, [], ◌∷◌, map, codes, length, Some, unwrap_or, Ok, Err}
+use Rattle.std.specs.String.{string_bytes}
+use Rattle.start_words.specs.Numbers.{number_said}
+use Rattle.start_words.specs.Options.{HookSaid, Said, wrong}
+use Rattle.start_words.specs.Start.{given_by, start_in}
+use Rattle.start_words.specs.declared.words.StartWords.{StartWords}
+use Rattle.daemon.specs.declared.patience.Patience.{Patience}
+use Rattle.command_line.specs.declared.fault.PerformFault.{PerformFault}
+use Rattle.command_line.specs.declared.fault.PerformFault.TheVariants.{Command, BadWord}
+use Rattle.commands.specs.declared.fault.CommandFault.TheVariants.{OutOfMemory}
+use Rattle.command_line.specs.declared.service.ServeWords.{ServeWords}
+use Rattle.command_line.specs.declared.service.Service.{Service}
+use Rattle.command_line.specs.declared.service.Service.TheVariants.{Serve, Start}
+use Rattle.hook_commands.specs.HexText.{IsHexOf}
+use Rattle.commands.specs.Words.{Arguments}
+
+-- a text is hex of a seed, which has 32 bytes
+abbrev pub IsSeed : List ℕ → List ℕ → Type 0
+IsSeed text seed = IsHexOf text seed × (length seed ≡ 32)
+
+-- the words behind `serve` are ADDR CONFIG SEEDHEX COUNT
+pub record GiveServe (words : List (List ℕ)) (given : ServeWords) : Type 0 where
+  pub seed_hex : List ℕ
+  pub count : List ℕ
+  pub words_are : words ≡ given.address.now ∷ given.config.now ∷ seed_hex ∷ count ∷ []
+  pub seed_is : IsSeed seed_hex given.seed
+  pub count_is : number_said count ≡ Some given.count
+
+-- the words behind `start` are ADDR CONFIG, and its options
+abbrev pub GiveStart : List (List ℕ) → StartWords → Type 0
+GiveStart words given = start_in words ≡ Ok (given_by given)
+
+-- why a word behind `start` is refused; memory may be wanted, too
+abbrev pub StartFails : List (List ℕ) → PerformFault → Type 0
+StartFails words (BadWord word fault) = start_in words ≡ Err (wrong word.now fault)
+StartFails words (Command OutOfMemory) = ⊤
+StartFails words fault = ⊥
+
+-- words name a service: its name, and what it is given
+abbrev pub NameService : List (List ℕ) → Service → Type 0
+NameService [] service = ⊥
+NameService (name ∷ words) (Serve given) = (name ≡ codes "serve") × GiveServe words given
+NameService (name ∷ words) (Start given) = (name ≡ codes "start") × GiveStart words given
+
+abbrev pub IsService : Arguments → Service → Type 0
+IsService words service = NameService (map string_bytes words) service
+
+abbrev pub IsNoService : Arguments → Type 0
+IsNoService words = (service : Service) → NameService (map string_bytes words) service → ⊥
+
+-- why words that begin with a service's name are refused
+abbrev pub ServiceFails : List (List ℕ) → PerformFault → Type 0
+ServiceFails words (Command OutOfMemory) = ⊤
+ServiceFails (name ∷ words) (BadWord word fault) = (name ≡ codes "start") × StartFails words (BadWord word fault)
+ServiceFails words fault = ⊥
+
+-- the hooks that are installed before it listens
+abbrev pub hooks_installed : Service → List HookSaid
+hooks_installed (Serve given) = []
+hooks_installed (Start given) = given.options.hooks
+
+-- the seconds for which its server is patient, 60 and 5 where they are left out, and those from report to report
+abbrev pub patience_of : Said → Patience
+patience_of said = record { silence = unwrap_or said.silence 60; full = unwrap_or said.full 5; report = said.report }
+
+-- the path of the registry's file
+abbrev pub config_of : Service → List ℕ
+config_of (Serve given) = given.config.now
+config_of (Start given) = given.config.now

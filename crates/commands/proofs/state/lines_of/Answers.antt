@@ -1,0 +1,19 @@
+use Rattle.std.proofs.Common.{[]}
+use Rattle.image_codec.specs.Facts.{image_fact}
+use Rattle.commands.specs.RunLaws.{was_run}
+use Rattle.commands.proofs.state.lines_of.Goals as goal
+
+pub returns : goal.returns
+returns c =
+    let bytes = c.args.bytes.now in
+    let of = c.requires.of in
+    let image = image_fact c.in_ok-image.image in
+    let is = c.in_ok-image.ensures bytes [] of in
+    record {
+      image = image;
+      torn = c.args.account.now.torn;
+      each = λ history stands was ran. is.each history stands was (was_run bytes history ran);
+      told = is.told;
+      torn_is = of.torn;
+      text_is = rw of.batches at c.in_ok-text.ensures;
+    }

@@ -1,0 +1,23 @@
+-- What a fault of a layer below is to a command: want of memory is told alike wherever it comes.
+use Rattle.clients.specs.declared.fault.ConfigFault.{ConfigFault}
+use Rattle.clients.specs.declared.fault.ConfigFault.TheVariants as config
+use Rattle.state_file.specs.declared.account.AccountFault.{AccountFault}
+use Rattle.state_file.specs.declared.account.AccountFault.TheVariants as accounts
+use Rattle.transcript.specs.declared.fault.ReplayFault.{ReplayFault}
+use Rattle.transcript.specs.declared.fault.ReplayFault.TheVariants as replay
+use Rattle.commands.specs.declared.fault.CommandFault.{CommandFault}
+use Rattle.commands.specs.declared.fault.CommandFault.TheVariants.{Config, BadLine, Event, StateAt, OutOfMemory}
+
+abbrev pub of_configuring : ConfigFault → CommandFault
+of_configuring config.Memory = OutOfMemory
+of_configuring fault = Config fault
+
+abbrev pub of_replaying : ReplayFault → CommandFault
+of_replaying (replay.Config fault) = Config fault
+of_replaying (replay.BadLine line) = BadLine line
+of_replaying (replay.Refused line fault) = Event line fault
+of_replaying replay.Memory = OutOfMemory
+
+abbrev pub of_account : AccountFault → CommandFault
+of_account accounts.Memory = OutOfMemory
+of_account (accounts.Batch number fault) = StateAt number fault

@@ -1,0 +1,16 @@
+-- Beside Statuses: only the contracts of this crate's own parts and their proofs cite this, no public clause.
+use Rattle.std.specs.Prelude.{Option, None, Result, Ok, Err}
+use Rattle.std.specs.declared.io.ErrorKind.{ErrorKind}
+use Rattle.std.specs.declared.io.ErrorKind.TheVariants as kinds
+use Rattle.commands.specs.declared.fault.CommandFault.{CommandFault}
+use Rattle.commands.specs.declared.fault.CommandFault.TheVariants.{BadArguments, OutOfMemory}
+
+-- why a program's words can't be had: memory is refused, or one of them is no text
+abbrev pub words_fault : ErrorKind → CommandFault
+words_fault kinds.OutOfMemory = OutOfMemory
+words_fault kind = BadArguments
+
+-- what comes of a file that isn't read: memory is refused, or the command has none
+abbrev pub unread : {File : Type 0} → ErrorKind → Result (Option File) CommandFault
+unread kinds.OutOfMemory = Err OutOfMemory
+unread kind = Ok None

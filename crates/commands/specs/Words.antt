@@ -1,0 +1,81 @@
+-- Which words name which command.
+use Rattle.std.specs.Prelude.{◌≡◌, ◌≢◌, ⊤, ℕ, List, [], ◌∷◌, map, codes, Option, Some, None, String}
+use Rattle.std.specs.String.{string_bytes}
+use Rattle.std.specs.declared.alloc.Global.{Global}
+use Rattle.hook_trial.specs.declared.asking.AskWords.{AskWords}
+use Rattle.insn.specs.declared.layout.Layout.TheVariants.{V1, V2}
+use Rattle.hook_commands.specs.Answers.{file_of_hook_command}
+use Rattle.hook_commands.specs.declared.command.HookCommand.{HookCommand}
+use Rattle.hook_commands.specs.declared.command.HookCommand.TheVariants as hook
+use Rattle.commands.specs.declared.command.Command.{Command}
+use Rattle.commands.specs.declared.command.Command.TheVariants as commands
+use Rattle.commands.specs.declared.command.HelpWord.TheVariants.{Help, Long, Short}
+
+-- the words behind the program's name
+abbrev pub Arguments : Type 0
+Arguments = List (String Global)
+
+-- the words that tell an ask
+abbrev pub ask_words : AskWords → List (List ℕ)
+ask_words w = w.kind.now ∷ w.now.now ∷ w.client.now ∷ w.owner.now ∷ w.scope.now ∷ w.life.now ∷ []
+
+-- the words that name a command about a hook
+abbrev pub hook_words_of : HookCommand → List (List ℕ)
+hook_words_of (hook.Run code_hex record_hex) = codes "run" ∷ code_hex.now ∷ record_hex.now ∷ []
+hook_words_of (hook.Trace code_hex record_hex) = codes "run" ∷ codes "--trace" ∷ code_hex.now ∷ record_hex.now ∷ []
+hook_words_of (hook.Assemble path) = codes "asm" ∷ path.now ∷ []
+hook_words_of (hook.List path) = codes "list" ∷ path.now ∷ []
+hook_words_of (hook.ListSlots path) = codes "list" ∷ codes "--slots" ∷ path.now ∷ []
+hook_words_of (hook.Check V1 path) = codes "check" ∷ path.now ∷ []
+hook_words_of (hook.Check V2 path) = codes "check2" ∷ path.now ∷ []
+hook_words_of (hook.Why V1 path) = codes "check" ∷ codes "--why" ∷ path.now ∷ []
+hook_words_of (hook.Why V2 path) = codes "check2" ∷ codes "--why" ∷ path.now ∷ []
+hook_words_of (hook.Ask V1 words) = codes "ask" ∷ ask_words words
+hook_words_of (hook.Ask V2 words) = codes "ask2" ∷ ask_words words
+
+-- the words that name a command
+abbrev pub words_of_command : Command → List (List ℕ)
+words_of_command (commands.Hook command) = hook_words_of command
+words_of_command (commands.Registry path) = codes "registry" ∷ path.now ∷ []
+words_of_command (commands.State path) = codes "state" ∷ path.now ∷ []
+words_of_command (commands.Replay path) = codes "replay" ∷ path.now ∷ []
+words_of_command (commands.Help Help) = codes "help" ∷ []
+words_of_command (commands.Help Long) = codes "--help" ∷ []
+words_of_command (commands.Help Short) = codes "-h" ∷ []
+words_of_command (commands.Explain name) = codes "help" ∷ name.now ∷ []
+words_of_command commands.Version = codes "--version" ∷ []
+
+abbrev pub IsCommand : Arguments → Command → Type 0
+IsCommand words command = map string_bytes words ≡ words_of_command command
+
+abbrev pub IsNoCommand : Arguments → Type 0
+IsNoCommand words = (command : Command) → map string_bytes words ≢ words_of_command command
+
+-- a command that tells an ask
+abbrev pub IsAsking : Command → Type 0
+IsAsking (commands.Hook (hook.Ask layout words)) = ⊤
+IsAsking command = ⊥
+
+-- a command about a file that has an option
+abbrev pub IsOptional : Command → Type 0
+IsOptional (commands.Hook (hook.ListSlots path)) = ⊤
+IsOptional (commands.Hook (hook.Why layout path)) = ⊤
+IsOptional command = ⊥
+
+-- no command has these words
+abbrev pub NameNone : List (List ℕ) → Type 0
+NameNone words = (command : Command) → words_of_command command ≢ words
+
+-- none that has an option has them
+abbrev pub NameNoOptional : List (List ℕ) → Type 0
+NameNoOptional words = (command : Command) → IsOptional command → words_of_command command ≢ words
+
+-- the path of the file that a command is about
+abbrev pub file_named_by : Command → Option (List ℕ)
+file_named_by (commands.Hook command) = file_of_hook_command command
+file_named_by (commands.Registry path) = Some path.now
+file_named_by (commands.State path) = Some path.now
+file_named_by (commands.Replay path) = Some path.now
+file_named_by (commands.Help word) = None
+file_named_by (commands.Explain name) = None
+file_named_by commands.Version = None

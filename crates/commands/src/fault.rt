@@ -1,0 +1,140 @@
+//! Why a command has no answer, and with which status the program then ends.
+
+ghost use Rattle.std.specs.Prelude.{◌≡◌, Some};
+ghost use Rattle.commands.specs.Statuses.{status_of_command_fault, status_of_hook_command};
+ghost use Rattle.commands.specs.Faults.{of_account, of_configuring, of_replaying};
+ghost use Rattle.commands.specs.Printed.{command_fault_text};
+ghost use Rattle.commands.specs.declared.fault.CommandFault.TheVariants.{OutOfMemory};
+
+use crate::status::Status;
+use clients::{ConfigFault, Spot};
+use hook_commands::HookCommandFault;
+use http_edge::EdgeFault;
+use state_file::{AccountFault, StateFault};
+use std::alloc::AllocError;
+use std::fmt::{self, Display, Formatter};
+use transcript::ReplayFault;
+
+/// Why a command has no answer.
+#[derive(Debug, Drop)]
+pub enum CommandFault<'w> {
+    /// The words are no command.
+    BadArguments,
+    /// A command about a hook has no answer.
+    HookCommand(HookCommandFault<'w>),
+    /// The file of this path cannot be read.
+    CannotRead(&'w str),
+    /// A registry is refused.
+    Config(ConfigFault),
+    /// A registry is refused for what stands there.
+    ConfigAt(ConfigFault, Spot),
+    /// The line of a transcript with this number has another form.
+    BadLine(usize),
+    /// The event of the line with this number is refused.
+    Event(usize, EdgeFault),
+    /// It is not told what a state file stands for, for what is wrong with the batch of this number.
+    StateAt(usize, StateFault),
+    /// Memory was refused.
+    OutOfMemory,
+    /// The answer could not be written.
+    CannotWrite,
+}
+
+/// The status with which the program ends where a command about a hook has no answer.
+fn status_of_hook_command(fault: &HookCommandFault<'_>) -> Status
+    ensures { result ≡ status_of_hook_command fault.now }
+{
+    match fault {
+        HookCommandFault::Text(_) | HookCommandFault::Insn(_) | HookCommandFault::Verify(_) => {
+            Status::Refused
+        }
+        HookCommandFault::BadArguments
+        | HookCommandFault::BadRecord
+        | HookCommandFault::CannotRead(_)
+        | HookCommandFault::IsElf(_)
+        | HookCommandFault::IsNotHex(_) => Status::BadUse,
+        HookCommandFault::OutOfMemory => Status::NoMemory,
+    }
+}
+
+impl<'w> CommandFault<'w> {
+    /// The status with which the program then ends.
+    pub fn status(&self) -> Status
+        ensures { result ≡ status_of_command_fault self.now }
+    {
+        match self {
+            CommandFault::HookCommand(fault) => status_of_hook_command(fault),
+            CommandFault::Event(_, _) => Status::Refused,
+            CommandFault::BadArguments
+            | CommandFault::CannotRead(_)
+            | CommandFault::Config(_)
+            | CommandFault::ConfigAt(_, _)
+            | CommandFault::BadLine(_)
+            | CommandFault::StateAt(_, _)
+            | CommandFault::CannotWrite => Status::BadUse,
+            CommandFault::OutOfMemory => Status::NoMemory,
+        }
+    }
+}
+
+impl<'w> Display for CommandFault<'w> {
+    ghost output = { λ fault. Some (command_fault_text fault) };
+
+    fn fmt<W: fmt::Write>(&self, f: &mut Formatter<W>) -> fmt::Result {
+        match self {
+            CommandFault::BadArguments => write!(f, "bad arguments"),
+            CommandFault::HookCommand(fault) => write!(f, "{fault}"),
+            CommandFault::CannotRead(path) => write!(f, "cannot read {path}"),
+            CommandFault::Config(fault) => write!(f, "Config {fault}"),
+            CommandFault::ConfigAt(fault, spot) => write!(f, "Config {fault} at {spot}"),
+            CommandFault::BadLine(line) => write!(f, "line {line}: bad line"),
+            CommandFault::Event(line, fault) => write!(f, "line {line}: {fault}"),
+            CommandFault::StateAt(number, fault) => { write!(f, "State {fault} in batch {number}") }
+            CommandFault::OutOfMemory => write!(f, "out of memory"),
+            CommandFault::CannotWrite => write!(f, "cannot write"),
+        }
+    }
+}
+
+impl<'w> From<ConfigFault> for CommandFault<'w> {
+    ghost from_gives = { λ fault f. f ≡ of_configuring fault };
+
+    fn from(fault: ConfigFault) -> CommandFault<'w> {
+        match fault {
+            ConfigFault::Memory => CommandFault::OutOfMemory,
+            fault => CommandFault::Config(fault),
+        }
+    }
+}
+
+impl<'w> From<ReplayFault> for CommandFault<'w> {
+    ghost from_gives = { λ fault f. f ≡ of_replaying fault };
+
+    fn from(fault: ReplayFault) -> CommandFault<'w> {
+        match fault {
+            ReplayFault::Config(fault) => CommandFault::Config(fault),
+            ReplayFault::BadLine(line) => CommandFault::BadLine(line),
+            ReplayFault::Refused(line, fault) => CommandFault::Event(line, fault),
+            ReplayFault::Memory => CommandFault::OutOfMemory,
+        }
+    }
+}
+
+impl<'w> From<AccountFault> for CommandFault<'w> {
+    ghost from_gives = { λ fault f. f ≡ of_account fault };
+
+    fn from(fault: AccountFault) -> CommandFault<'w> {
+        match fault {
+            AccountFault::Memory => CommandFault::OutOfMemory,
+            AccountFault::Batch(number, fault) => CommandFault::StateAt(number, fault),
+        }
+    }
+}
+
+impl<'w> From<AllocError> for CommandFault<'w> {
+    ghost from_gives = { λ _ f. f ≡ OutOfMemory };
+
+    fn from(_error: AllocError) -> CommandFault<'w> {
+        CommandFault::OutOfMemory
+    }
+}

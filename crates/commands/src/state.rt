@@ -1,0 +1,54 @@
+//! `state FILE`: what a state file stands for. It is read alone, and not written to or locked.
+
+ghost use Rattle.std.specs.Prelude.{[], IfOk};
+ghost use Rattle.std.specs.Option.{option_copied};
+ghost use Rattle.hook_chain.specs.contracts.chain.ChainHookHost.TheImpl as chain;
+ghost use Rattle.state_file.specs.Accounts.{IsAccountOf};
+ghost use Rattle.commands.specs.States.{IsStateText, IsStateTold};
+
+use crate::answer::Answer;
+use crate::fault::CommandFault;
+use consent::Moment;
+use hook_chain::Chain;
+use state_file::{Account, account_of};
+use state_listing::{FileFacts, listing};
+use std::alloc::{AllocError, Global};
+
+/// The lines that tell what the bytes of a state file stand for.
+fn lines_of(
+    alloc: Global,
+    bytes: &[u8],
+    account: &Account<Chain>,
+    now: Option<Moment>,
+) -> Result<Vec<u8>, AllocError>
+    requires of { IsAccountOf chain.ghosts bytes.now [] account.now }
+    ensures { IfOk result (λ text. IsStateText bytes.now now text.items) }
+{
+    let image = account.image(alloc)?;
+    let file = FileFacts {
+        bytes: bytes.len() as u64,
+        batches: account.batches as u64,
+        torn: account.torn as u64,
+        looked_at: now,
+    };
+    let text = listing(alloc, &image, &file)?;
+    Ok(text)
+}
+
+/// What the state file stands for, and how old it is now.
+pub fn told_state<'w>(
+    alloc: Global,
+    path: &'w str,
+    file: Option<&[u8]>,
+    now: Option<Moment>,
+) -> Result<Answer, CommandFault<'w>>
+    ensures { IsStateTold path.now (option_copied file.entry) now result }
+{
+    let Some(bytes) = file else {
+        return Err(CommandFault::CannotRead(path));
+    };
+    match account_of(alloc, bytes, Chain::new(alloc)) {
+        Ok(account) => Ok(Answer::Lines(lines_of(alloc, bytes, &account, now)?)),
+        Err(fault) => Err(CommandFault::from(fault)),
+    }
+}

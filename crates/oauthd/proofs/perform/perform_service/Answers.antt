@@ -1,9 +1,0 @@
-use Rattle.oauthd.specs.Listening.{files_in}
-use Rattle.oauthd.specs.Outputs.{output}
-use Rattle.oauthd.proofs.Failing.{fails_told}
-use Rattle.oauthd.proofs.perform.perform_service.Goals as goal
-
-pub returns-in-Err : goal.returns-in-Err
-returns-in-Err g c =
-    fails_told _ c.args.service.now (files_in c.args.files) c.in-Err.fault c.told.result (output g.W.Write.contents c.args.out.now c.serve_as.new.out)
-    (output g.E.Write.contents c.args.err.now c.told.new.err) c.serve_as.new.err c.in-Err.ensures.fault c.told.ensures
