@@ -13,4 +13,5 @@ mod programs;
 mod sockets;
 mod store;
 mod streams;
+mod visits;
 mod words;
