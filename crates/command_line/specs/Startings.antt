@@ -12,7 +12,7 @@ use Rattle.batch_file.specs.declared.disk_file.Opened.{Opened}
 use Rattle.change_codec.specs.Keeping.{Crashes, Holds, crashes}
 use Rattle.change_codec.specs.contracts.keeper.NoKeeperKeeper.TheImpl as no_keeper
 use Rattle.change_codec.specs.declared.keeper.Keeper.{Ghosts as Keeper}
-use Rattle.image_keeper.specs.contracts.keeper.NoKeeperImageKeeper.TheImpl as no_imaging
+use Rattle.endpoints.specs.contracts.image_keeper.NoKeeperImageKeeper.TheImpl as no_imaging
 use Rattle.daemon.specs.Started.{HasGoneOn, HasStarted, keeping_by}
 use Rattle.daemon.specs.contracts.sockets.MachineSocketsSockets.TheImpl as sockets
 use Rattle.daemon.specs.declared.patience.Patience.{Patience}

@@ -10,8 +10,8 @@ use Rattle.http_edge.specs.Edges.{SeenEdge}
 use Rattle.http_edge.specs.Reached.{Journey, Reached, new_journey, resumed_journey}
 use Rattle.hook_chain.specs.Chains.{Named}
 use Rattle.hook_chain.specs.contracts.chain.ChainHookHost.TheImpl as chain
-use Rattle.image_keeper.specs.Keeping.{Keeping, keeping}
-use Rattle.image_keeper.specs.contracts.keeper.NoKeeperImageKeeper.TheImpl as no_imaging
+use Rattle.endpoints.specs.Keeping.{Keeping, keeping}
+use Rattle.endpoints.specs.contracts.image_keeper.NoKeeperImageKeeper.TheImpl as no_imaging
 use Rattle.event_loop.specs.declared.clocks.Clocks.{Ghosts as Clocks}
 use Rattle.event_loop.specs.declared.fault.LoopFault.{LoopFault}
 use Rattle.event_loop.specs.declared.journal.Journal.{Ghosts as Journal}

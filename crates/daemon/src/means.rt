@@ -4,18 +4,17 @@ ghost use Rattle.endpoints.specs.Server.{outset_of};
 ghost use Rattle.event_loop.specs.Ends.{RunEnds};
 ghost use Rattle.event_loop.specs.Scenes.{promises};
 ghost use Rattle.http_edge.specs.Reached.{new_journey};
-ghost use Rattle.image_keeper.specs.Keeping.{keeping};
+ghost use Rattle.endpoints.specs.Keeping.{keeping};
 ghost use Rattle.daemon.specs.Started.{Serves, ServesFrom, limits_of, tools_of};
 
 use crate::by_count::new_edge;
 use crate::patience::Patience;
 use clients::Registry;
-use endpoints::Server;
+use endpoints::{ImageKeeper, Server};
 use event_loop::{Clocks, Journal, LoopFault, Sockets, Tools, serve_all};
 use hook_chain::Chain;
 use hook_host::HookHost;
 use http_edge::Edge;
-use image_keeper::ImageKeeper;
 use rand_chacha::ChaCha20Rng;
 use std::alloc::Global;
 

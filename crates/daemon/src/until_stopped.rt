@@ -1,7 +1,7 @@
 //! Connections until the program is stopped.
 
 ghost use Rattle.std.specs.Prelude.{◌≡◌, ◌≢◌, OnOk, OnErr, IfOk, IfErr};
-ghost use Rattle.image_keeper.specs.Keeping.{keeping};
+ghost use Rattle.endpoints.specs.Keeping.{keeping};
 ghost use Rattle.daemon.specs.Listening.{Announces};
 ghost use Rattle.daemon.specs.Started.{HasGoneOn, HasStarted, keeping_nothing, on_machine};
 ghost use Rattle.daemon.specs.declared.fault.ListenFault.TheVariants.{Unwritten};
@@ -15,10 +15,9 @@ use crate::patience::Patience;
 use crate::sockets::MachineSockets;
 use change_codec::NoKeeper;
 use clients::Registry;
-use endpoints::Server;
+use endpoints::{ImageKeeper, Server};
 use event_loop::{Clocks, Journal, LoopFault};
 use hook_chain::Chain;
-use image_keeper::ImageKeeper;
 use rand_chacha::ChaCha20Rng;
 use rand_core::SeedableRng;
 use std::io::Write;

@@ -20,6 +20,8 @@ pub mod Redo
 pub mod FaultTexts
 pub mod Steps
 pub mod Restoring
+pub mod Imaging
+pub mod Keeping
 -- What only the contracts of this crate's own parts and their proofs cite.
 pub mod Parts
 pub mod HookAsking

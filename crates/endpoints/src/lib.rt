@@ -7,6 +7,7 @@ mod beside;
 mod consenting;
 mod endpoint;
 mod hooks;
+mod image_keeper;
 mod introspect;
 mod noting;
 mod reading;
@@ -20,6 +21,7 @@ mod widening;
 
 pub use consent::Moment;
 pub use endpoint::Endpoint;
+pub use image_keeper::{ImageFault, ImageKeeper};
 pub use reading::Reading;
 pub use redo::{RedoFault, layout_of};
 pub use restoring::RestoreFault;

@@ -6,7 +6,7 @@ use Rattle.http_edge.specs.Schedule.{World}
 use Rattle.event_loop.specs.declared.sockets.Sockets.{Ghosts as Sockets}
 use Rattle.event_loop.specs.declared.clocks.Clocks.{Ghosts as Clocks}
 use Rattle.event_loop.specs.declared.journal.Journal.{Ghosts as Journal}
-use Rattle.image_keeper.specs.Keeping.{Keeping}
+use Rattle.endpoints.specs.Keeping.{Keeping}
 use Rattle.event_loop.specs.declared.clocks.Times.{Times}
 use Rattle.event_loop.specs.declared.limits.Limits.{Limits}
 use Rattle.event_loop.specs.declared.place.Place.{Place}

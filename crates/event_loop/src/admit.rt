@@ -5,7 +5,7 @@ ghost use Rattle.event_loop.specs.Places.{IsFreeAt, AllTaken};
 ghost use Rattle.event_loop.specs.Closing.{AreWithin};
 ghost use Rattle.event_loop.specs.Goes.{IsTried, LeadsToAccepts, running};
 ghost use Rattle.event_loop.specs.Scenes.{promises};
-ghost use Rattle.image_keeper.specs.Keeping.{keeping};
+ghost use Rattle.endpoints.specs.Keeping.{keeping};
 
 use crate::clocks::Clocks;
 use crate::fault::ConnectionFault;
@@ -17,9 +17,9 @@ use crate::queue::Queue;
 use crate::service::Service;
 use crate::sockets::{Accepted, Sockets};
 use crate::tools::Tools;
+use endpoints::ImageKeeper;
 use hook_host::HookHost;
 use http_edge::{ConnectionNo, Event};
-use image_keeper::ImageKeeper;
 
 impl Service {
     // A place where no connection is.

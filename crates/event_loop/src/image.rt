@@ -3,7 +3,7 @@ ghost use Rattle.std.specs.Prelude.{◌≡◌, true, false, Some, OnOk, IfErr};
 ghost use Rattle.http_edge.specs.Reached.{InEach};
 ghost use Rattle.event_loop.specs.Goes.{LeadsToNoImage, LeadsToShort, running};
 ghost use Rattle.event_loop.specs.Scenes.{promises, IsAllKept, IsUnkept};
-ghost use Rattle.image_keeper.specs.Keeping.{keeping};
+ghost use Rattle.endpoints.specs.Keeping.{keeping};
 
 use crate::clocks::Clocks;
 use crate::fault::LoopFault;
@@ -11,9 +11,9 @@ use crate::journal::Journal;
 use crate::service::Service;
 use crate::sockets::Sockets;
 use crate::tools::Tools;
+use endpoints::{ImageFault, ImageKeeper};
 use hook_host::HookHost;
 use http_edge::Edge;
-use image_keeper::{ImageFault, ImageKeeper};
 
 // Whether nothing is unkept.
 fn is_all_kept<H: HookHost>(edge: &Edge<H>) -> bool

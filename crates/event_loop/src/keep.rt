@@ -2,7 +2,7 @@
 ghost use Rattle.std.specs.Prelude.{OnOk, IfErr};
 ghost use Rattle.event_loop.specs.Goes.{LeadsToKept, LeadsToLoss};
 ghost use Rattle.event_loop.specs.Scenes.{promises};
-ghost use Rattle.image_keeper.specs.Keeping.{keeping};
+ghost use Rattle.endpoints.specs.Keeping.{keeping};
 
 use crate::clocks::Clocks;
 use crate::fault::LoopFault;
@@ -10,8 +10,8 @@ use crate::journal::Journal;
 use crate::sockets::Sockets;
 use crate::tools::Tools;
 use change_codec::Keeper;
+use endpoints::ImageKeeper;
 use hook_host::HookHost;
-use image_keeper::ImageKeeper;
 
 /// What is unkept is kept, all at once.
 pub(crate) fn keep_all<N: Sockets, C: Clocks, J: Journal, K: ImageKeeper, H: HookHost>(

@@ -7,7 +7,7 @@ ghost use Rattle.event_loop.specs.Closing.{AreWithin};
 ghost use Rattle.event_loop.specs.declared.queue.Queue.TheVariants.{Waits};
 ghost use Rattle.event_loop.specs.Goes.{NobodyIsSilent, IsLongestAt, IsTried, LeadsAway, LeadsShut, LeadsToTidy, running, SettlesAll, FreesPlace};
 ghost use Rattle.event_loop.specs.Scenes.{promises};
-ghost use Rattle.image_keeper.specs.Keeping.{keeping};
+ghost use Rattle.endpoints.specs.Keeping.{keeping};
 
 use crate::clocks::{Clocks, Second};
 use crate::due::Due;
@@ -19,9 +19,9 @@ use crate::queue::Queue;
 use crate::service::Service;
 use crate::sockets::Sockets;
 use crate::tools::Tools;
+use endpoints::ImageKeeper;
 use hook_host::HookHost;
 use http_edge::ConnectionNo;
-use image_keeper::ImageKeeper;
 
 impl Service {
     // Closes and forgets a connection, and notes its fault.

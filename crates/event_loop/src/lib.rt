@@ -22,8 +22,6 @@ mod serve;
 mod service;
 mod sockets;
 mod tell;
-#[cfg(test)]
-mod tests;
 mod tools;
 mod turn;
 mod write;

@@ -8,7 +8,7 @@ ghost use Rattle.event_loop.specs.Deeds.{Reading};
 ghost use Rattle.event_loop.specs.Places.{IsOccupied, MayRead};
 ghost use Rattle.event_loop.specs.Goes.{NobodyIsSilent, WhereKnown, LeadsToActs, running, to_read};
 ghost use Rattle.event_loop.specs.Scenes.{promises};
-ghost use Rattle.image_keeper.specs.Keeping.{keeping};
+ghost use Rattle.endpoints.specs.Keeping.{keeping};
 
 use crate::clocks::Clocks;
 use crate::fault::ConnectionFault;
@@ -19,9 +19,9 @@ use crate::service::Service;
 use crate::sockets::{Received, Sockets};
 use crate::tools::Tools;
 use consent::Moment;
+use endpoints::ImageKeeper;
 use hook_host::HookHost;
 use http_edge::{ConnectionNo, Edge, EdgeFault, Event};
-use image_keeper::ImageKeeper;
 use rand_chacha::ChaCha20Rng;
 
 /// Whether a connection may be read.

@@ -3,7 +3,7 @@ ghost use Rattle.std.specs.Prelude.{◌≡◌, ◌≤◌, length, true, false, O
 ghost use Rattle.event_loop.specs.Places.{AllFree};
 ghost use Rattle.event_loop.specs.Goes.{IsBusy, IsLimit, MayRest, LeadsRound, LeadsWrong, running};
 ghost use Rattle.event_loop.specs.Scenes.{promises};
-ghost use Rattle.image_keeper.specs.Keeping.{keeping};
+ghost use Rattle.endpoints.specs.Keeping.{keeping};
 
 use crate::clocks::{Clocks, Second};
 use crate::fault::LoopFault;
@@ -14,8 +14,8 @@ use crate::queue::Queue;
 use crate::service::Service;
 use crate::sockets::{Ready, Sockets};
 use crate::tools::Tools;
+use endpoints::ImageKeeper;
 use hook_host::HookHost;
-use image_keeper::ImageKeeper;
 
 // In milliseconds.
 const SECOND: u64 = 1000;

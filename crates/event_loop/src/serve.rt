@@ -2,7 +2,7 @@
 ghost use Rattle.event_loop.specs.Ends.{RunEnds};
 ghost use Rattle.event_loop.specs.Goes.{LeadsWrong, running};
 ghost use Rattle.event_loop.specs.Scenes.{promises};
-ghost use Rattle.image_keeper.specs.Keeping.{keeping};
+ghost use Rattle.endpoints.specs.Keeping.{keeping};
 
 use crate::clocks::Clocks;
 use crate::fault::LoopFault;
@@ -11,8 +11,8 @@ use crate::limits::Limits;
 use crate::service::Service;
 use crate::sockets::{Ready, Sockets};
 use crate::tools::Tools;
+use endpoints::ImageKeeper;
 use hook_host::HookHost;
-use image_keeper::ImageKeeper;
 
 impl Service {
     // Makes round after round.

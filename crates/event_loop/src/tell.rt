@@ -4,7 +4,7 @@ ghost use Rattle.event_loop.specs.Goes.{IsReported, LeadsLast, OnlyTells, runnin
 ghost use Rattle.event_loop.specs.Places.{open_count};
 ghost use Rattle.event_loop.specs.Reporting.{is_long_ago};
 ghost use Rattle.event_loop.specs.Scenes.{promises};
-ghost use Rattle.image_keeper.specs.Keeping.{keeping};
+ghost use Rattle.endpoints.specs.Keeping.{keeping};
 
 use crate::clocks::Clocks;
 use crate::journal::Journal;
@@ -14,8 +14,8 @@ use crate::service::Service;
 use crate::sockets::Sockets;
 use crate::tools::Tools;
 use change_codec::Keeper;
+use endpoints::ImageKeeper;
 use hook_host::HookHost;
-use image_keeper::ImageKeeper;
 
 // Whether that was never, or so many seconds ago.
 fn is_long_ago(last: Option<u64>, now: u64, seconds: u64) -> bool

@@ -3,7 +3,7 @@ ghost use Rattle.std.specs.Prelude.{◌≡◌, ◌≢◌, ◌<◌, ℕ, List, []
 ghost use Rattle.event_loop.specs.declared.sockets.Ready.{Ready};
 ghost use Rattle.event_loop.specs.Goes.{NobodyIsSilent, HearsOf, LeadsToHearing, LeadsReading, LeadsWriting, LeadsToRest, running};
 ghost use Rattle.event_loop.specs.Scenes.{promises};
-ghost use Rattle.image_keeper.specs.Keeping.{keeping};
+ghost use Rattle.endpoints.specs.Keeping.{keeping};
 
 use crate::clocks::Clocks;
 use crate::journal::Journal;
@@ -11,8 +11,8 @@ use crate::limits::PLACES;
 use crate::service::Service;
 use crate::sockets::{Ready, Sockets};
 use crate::tools::Tools;
+use endpoints::ImageKeeper;
 use hook_host::HookHost;
-use image_keeper::ImageKeeper;
 
 impl Service {
     // What was found ready is noted.

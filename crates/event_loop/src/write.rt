@@ -3,7 +3,7 @@ ghost use Rattle.std.specs.Prelude.{◌≡◌, ◌<◌};
 ghost use Rattle.event_loop.specs.Deeds.{Writing};
 ghost use Rattle.event_loop.specs.Goes.{NobodyIsSilent, LeadsToActs, running, to_write};
 ghost use Rattle.event_loop.specs.Scenes.{promises};
-ghost use Rattle.image_keeper.specs.Keeping.{keeping};
+ghost use Rattle.endpoints.specs.Keeping.{keeping};
 
 use crate::clocks::Clocks;
 use crate::fault::ConnectionFault;
@@ -12,9 +12,9 @@ use crate::place::{Place, Stage};
 use crate::service::Service;
 use crate::sockets::{Sent, Sockets};
 use crate::tools::Tools;
+use endpoints::ImageKeeper;
 use hook_host::HookHost;
 use http_edge::ConnectionNo;
-use image_keeper::ImageKeeper;
 
 impl Service {
     /// Writes to a connection once, where there is output and the socket may take it.

@@ -1,3 +1,10 @@
 pub mod Talking
 pub mod Leading
 pub mod Chaining
+pub mod Walking
+pub mod Spending
+pub mod Exchanging
+pub mod Exchanged
+pub mod Bounding
+pub mod Telling
+pub mod Narrowing

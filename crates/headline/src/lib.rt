@@ -1,7 +1,8 @@
-//! What the server is proved to do, in one sentence: `make_calls`.
+//! What the server is proved to do: in one sentence, `make_calls`, and what a sceptic would ask of it, as laws.
 #![tactic(auto)]
 
 mod call;
+pub mod laws;
 mod making;
 
 pub use call::{EdgeCall, Upshot};

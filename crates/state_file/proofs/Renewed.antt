@@ -13,8 +13,8 @@ use Rattle.image_codec.specs.Spelling.{ImageFits, RulesFit, image_spelling, rule
 use Rattle.state_file.specs.Knowing.{IsLong, image_size}
 use Rattle.endpoints.specs.Server.{SeenServer}
 use Rattle.hook_host.specs.declared.host.HookHost.{Ghosts as Hosting}
-use Rattle.image_keeper.specs.declared.keeper.ImageFault.{ImageFault}
-use Rattle.image_keeper.specs.declared.keeper.ImageFault.TheVariants.{TooLong}
+use Rattle.endpoints.specs.declared.image_keeper.ImageFault.{ImageFault}
+use Rattle.endpoints.specs.declared.image_keeper.ImageFault.TheVariants.{TooLong}
 use Rattle.state_file.specs.Hooks.{hooks_set_in}
 use Rattle.state_file.specs.Renewing.{HasTooMuch, IsUnspelled}
 use Rattle.state_file.specs.Standing.{IsImageOf, StandsFor}

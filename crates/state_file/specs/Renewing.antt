@@ -5,9 +5,9 @@ use Rattle.endpoints.specs.Server.{SeenServer}
 use Rattle.hook_host.specs.declared.host.HookHost.{Ghosts as Hosting}
 use Rattle.image_codec.specs.Facts.{HookFact, ImageFact}
 use Rattle.image_codec.specs.Spelling.{ImageCounts, ImageFits, image_spelling, rules_spelling}
-use Rattle.image_keeper.specs.Imaging.{OfFitted}
-use Rattle.image_keeper.specs.declared.keeper.ImageFault.{ImageFault}
-use Rattle.image_keeper.specs.declared.keeper.ImageFault.TheVariants.{Memory, TooLong, Failed}
+use Rattle.endpoints.specs.Imaging.{OfFitted}
+use Rattle.endpoints.specs.declared.image_keeper.ImageFault.{ImageFault}
+use Rattle.endpoints.specs.declared.image_keeper.ImageFault.TheVariants.{Memory, TooLong, Failed}
 use Rattle.state_file.specs.declared.fault.StateFault.{StateFault}
 use Rattle.state_file.specs.declared.fault.StateFault.TheVariants as state
 use Rattle.state_file.specs.Hooks.{hooks_set_in}

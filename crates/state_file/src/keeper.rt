@@ -4,9 +4,8 @@ use crate::hooks::SetHooks;
 use batch_file::appending::BatchFile;
 use batch_file::device::Device;
 use change_codec::{Batch, KeepFault, Keeper};
-use endpoints::Server;
+use endpoints::{ImageFault, ImageKeeper, Server};
 use hook_host::HookHost;
-use image_keeper::{ImageFault, ImageKeeper};
 use std::alloc::Global;
 use std::marker::Model;
 

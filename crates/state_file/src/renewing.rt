@@ -1,8 +1,8 @@
 //! An image of a server in the place of all that a state file has.
 
 ghost use Rattle.std.specs.Prelude.{◌≡◌, ◌<◌, ◌^◌, true, false, length, OnOk, IfOk, IfErr, IsErrOf};
-ghost use Rattle.image_keeper.specs.Imaging.{KeepsImage, KeepsNoImage};
-ghost use Rattle.image_keeper.specs.declared.keeper.ImageFault.TheVariants.{Memory, TooLong, Failed};
+ghost use Rattle.endpoints.specs.Imaging.{KeepsImage, KeepsNoImage};
+ghost use Rattle.endpoints.specs.declared.image_keeper.ImageFault.TheVariants.{Memory, TooLong, Failed};
 ghost use Rattle.state_file.specs.Knowing.{IsLong, IsLongFile, file_crashes};
 ghost use Rattle.state_file.specs.Renewing.{HasTooMuch, IsUnspelled, SpellImage};
 ghost use Rattle.state_file.specs.Telling.{KeepRules};
@@ -12,10 +12,9 @@ use crate::imaging::image_of;
 use crate::keeper::StateKeeper;
 use batch_file::device::Device;
 use batch_file::file_of;
-use endpoints::Server;
+use endpoints::{ImageFault, Server};
 use hook_host::HookHost;
 use image_codec::{EncodeFault, decode_rules, encode};
-use image_keeper::ImageFault;
 use std::alloc::Global;
 
 /// A file of fewer bytes is left as it is.

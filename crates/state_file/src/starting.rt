@@ -6,7 +6,7 @@ ghost use Rattle.clients.specs.RegistryRecord.{RegistryRecord};
 ghost use Rattle.endpoints.specs.Server.{NowNotes, outset_of};
 ghost use Rattle.endpoints.specs.Widening.{IsWider};
 ghost use Rattle.image_codec.specs.Facts.{hook_fact};
-ghost use Rattle.image_keeper.specs.Imaging.{KeepsImage};
+ghost use Rattle.endpoints.specs.Imaging.{KeepsImage};
 ghost use Rattle.state_file.specs.Knowing.{file_crashes};
 ghost use Rattle.state_file.specs.Renewing.{IsKeptShort, IsOfDisk};
 ghost use Rattle.state_file.specs.Resuming.{KeepsNoted};
@@ -21,10 +21,9 @@ use batch_file::device::Device;
 use change_codec::KeepFault;
 use clients::Registry;
 use consent::Moment;
-use endpoints::Server;
+use endpoints::{ImageFault, Server};
 use hook_host::HookHost;
 use image_codec::KeptHook;
-use image_keeper::ImageFault;
 use std::alloc::Global;
 
 /// A server that goes on from a state file, and notes what happens; what keeps that; and the moment from which it goes on.

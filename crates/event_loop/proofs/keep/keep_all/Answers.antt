@@ -5,7 +5,7 @@ use Rattle.http_edge.specs.Reached.{led_on}
 use Rattle.event_loop.specs.Served.{goes, keeps}
 use Rattle.event_loop.specs.Ends.{not_kept}
 use Rattle.event_loop.specs.Scenes.{promises}
-use Rattle.image_keeper.specs.Keeping.{keeping}
+use Rattle.endpoints.specs.Keeping.{keeping}
 use Rattle.event_loop.proofs.Answering.{served_answered}
 use Rattle.event_loop.proofs.Doing.{none_more, kept_more, not_another}
 use Rattle.event_loop.proofs.Kept.{none_unkept, nothing_unkept, something_unkept, unkept_happened, kept_connections, all_kept_now, not_empty}

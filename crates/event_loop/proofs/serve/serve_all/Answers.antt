@@ -5,7 +5,7 @@ use Rattle.event_loop.specs.declared.queue.Queue.TheVariants.{Told, Empty, Barre
 use Rattle.event_loop.specs.Places.{IsOccupied}
 use Rattle.event_loop.specs.Closing.{AreWithin}
 use Rattle.event_loop.specs.Scenes.{Scene, promises}
-use Rattle.image_keeper.specs.Keeping.{keeping}
+use Rattle.endpoints.specs.Keeping.{keeping}
 use Rattle.event_loop.specs.Served.{IsFirst, begins, stops}
 use Rattle.event_loop.specs.Goes.{Past, IsReadyToWait, running, scene_of}
 use Rattle.event_loop.proofs.Answering.{served_answered}

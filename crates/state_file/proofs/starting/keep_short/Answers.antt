@@ -1,6 +1,6 @@
 use Rattle.std.proofs.Common.{inr, sym, subst, ap, Err}
 use Rattle.batch_file.specs.declared.appending.BatchFile.{BatchFile}
-use Rattle.image_keeper.specs.declared.keeper.ImageFault.{ImageFault}
+use Rattle.endpoints.specs.declared.image_keeper.ImageFault.{ImageFault}
 use Rattle.state_file.specs.Renewing.{HasTooMuch}
 use Rattle.state_file.proofs.starting.keep_short.Goals as goal
 

@@ -10,7 +10,7 @@ use Rattle.event_loop.specs.Coming.{opens, denies, finds_nobody, fails, fresh_pl
 use Rattle.event_loop.specs.Served.{goes, comes}
 use Rattle.event_loop.specs.Goes.{Past, noted_in}
 use Rattle.event_loop.specs.Scenes.{promises}
-use Rattle.image_keeper.specs.Keeping.{keeping}
+use Rattle.endpoints.specs.Keeping.{keeping}
 use Rattle.event_loop.proofs.Doing.{one_more, done_then}
 use Rattle.event_loop.specs.declared.queue.Queue.TheVariants.{Told, Barred, Waits}
 use Rattle.event_loop.proofs.Putting.{put_within}

@@ -3,7 +3,7 @@ use Rattle.event_loop.specs.declared.queue.Queue.TheVariants.{Waits}
 use Rattle.event_loop.specs.Closing.{AreWithin}
 use Rattle.event_loop.specs.Goes.{IsTried, LeadsToAccepts, running}
 use Rattle.event_loop.specs.Scenes.{promises}
-use Rattle.image_keeper.specs.Keeping.{keeping}
+use Rattle.endpoints.specs.Keeping.{keeping}
 use Rattle.event_loop.proofs.service.Service.admit_all.Given as goal
 
 abbrev pub invariant-loop-nth : goal.invariant-loop-nth

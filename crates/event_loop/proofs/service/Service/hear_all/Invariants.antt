@@ -1,7 +1,7 @@
 use Rattle.std.proofs.Common.{drop}
 use Rattle.event_loop.specs.Goes.{NobodyIsSilent, LeadsToHearing, running}
 use Rattle.event_loop.specs.Scenes.{promises}
-use Rattle.image_keeper.specs.Keeping.{keeping}
+use Rattle.endpoints.specs.Keeping.{keeping}
 use Rattle.event_loop.proofs.service.Service.hear_all.Given as goal
 
 abbrev pub invariant-loop-index : goal.invariant-loop-index

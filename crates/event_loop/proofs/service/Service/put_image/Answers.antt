@@ -1,12 +1,12 @@
 use Rattle.std.proofs.Common.{rules, ◌≡◌, true, false, Err, Some, refl, sym, ap, subst}
-use Rattle.image_keeper.specs.declared.keeper.ImageFault.{ImageFault}
+use Rattle.endpoints.specs.declared.image_keeper.ImageFault.{ImageFault}
 use Rattle.endpoints.specs.Server.{SeenServer, FitsServer}
 use Rattle.event_loop.specs.declared.service.Service.{Service}
 use Rattle.event_loop.specs.Ends.{not_imaged}
 use Rattle.event_loop.specs.Goes.{running, scene_of}
 use Rattle.event_loop.specs.Scenes.{promises, IsAllKept}
 use Rattle.event_loop.specs.Served.{Served, goes, no_image, puts_image}
-use Rattle.image_keeper.specs.Keeping.{keeping}
+use Rattle.endpoints.specs.Keeping.{keeping}
 use Rattle.event_loop.proofs.Answering.{served_answered}
 use Rattle.event_loop.proofs.service.Service.put_image.Goals as goal
 

@@ -3,7 +3,7 @@ use Rattle.std.proofs.lemmas.Bool.{cases_lt}
 use Rattle.std.specs.Prelude.{slice_get}
 use Rattle.event_loop.specs.Goes.{IsHeardAt}
 use Rattle.event_loop.specs.Scenes.{promises}
-use Rattle.image_keeper.specs.Keeping.{keeping}
+use Rattle.endpoints.specs.Keeping.{keeping}
 use Rattle.event_loop.proofs.Doing.{none_more, done_then}
 use Rattle.event_loop.proofs.Leading.{one_below, heard_next, acts_heard, rested_next, rested_heard, reading_other}
 use Rattle.event_loop.proofs.service.Service.read_all.Goals as goal

@@ -1,7 +1,7 @@
 use Rattle.std.proofs.Common.{◌≡◌}
 use Rattle.event_loop.specs.Goes.{NobodyIsSilent, LeadsReading, running}
 use Rattle.event_loop.specs.Scenes.{promises}
-use Rattle.image_keeper.specs.Keeping.{keeping}
+use Rattle.endpoints.specs.Keeping.{keeping}
 use Rattle.event_loop.proofs.service.Service.read_all.Given as goal
 
 abbrev pub invariant-loop-k : goal.invariant-loop-k

@@ -9,7 +9,7 @@ use Rattle.event_loop.specs.Places.{read_limit}
 use Rattle.event_loop.specs.Reading.{hears, refuses, ends, ends_nothing, finds_nothing, fails, read_place}
 use Rattle.event_loop.specs.Served.{goes, reads}
 use Rattle.event_loop.specs.Scenes.{promises}
-use Rattle.image_keeper.specs.Keeping.{keeping}
+use Rattle.endpoints.specs.Keeping.{keeping}
 use Rattle.event_loop.proofs.Others.{ends_other}
 use Rattle.event_loop.proofs.Telling.{gives_other}
 use Rattle.event_loop.proofs.Answering.{served_answered}

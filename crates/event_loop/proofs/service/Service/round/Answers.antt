@@ -8,7 +8,7 @@ use Rattle.event_loop.specs.Served.{goes, waits}
 use Rattle.event_loop.specs.Ends.{no_wait, no_time}
 use Rattle.event_loop.specs.Goes.{Past, running, scene_of}
 use Rattle.event_loop.specs.Scenes.{promises}
-use Rattle.image_keeper.specs.Keeping.{keeping}
+use Rattle.endpoints.specs.Keeping.{keeping}
 use Rattle.event_loop.proofs.Leading.{to_then, kept_then}
 use Rattle.event_loop.proofs.Leaving.{may_wait, quick_told, ready_still, told_or_not}
 use Rattle.event_loop.proofs.Putting.{steady_within}

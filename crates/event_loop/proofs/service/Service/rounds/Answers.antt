@@ -2,7 +2,7 @@ use Rattle.std.proofs.Common.{[], arith}
 use Rattle.event_loop.specs.Ends.{no_more}
 use Rattle.event_loop.specs.Goes.{running, scene_of}
 use Rattle.event_loop.specs.Scenes.{promises}
-use Rattle.image_keeper.specs.Keeping.{keeping}
+use Rattle.endpoints.specs.Keeping.{keeping}
 use Rattle.event_loop.proofs.Leading.{no_round, round_then, then_wrong}
 use Rattle.event_loop.proofs.service.Service.rounds.Goals as goal
 

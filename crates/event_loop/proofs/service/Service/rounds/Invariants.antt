@@ -1,6 +1,6 @@
 use Rattle.event_loop.specs.Goes.{LeadsRound, running}
 use Rattle.event_loop.specs.Scenes.{promises}
-use Rattle.image_keeper.specs.Keeping.{keeping}
+use Rattle.endpoints.specs.Keeping.{keeping}
 use Rattle.event_loop.proofs.service.Service.rounds.Given as goal
 
 abbrev pub invariant-loop-nth : goal.invariant-loop-nth

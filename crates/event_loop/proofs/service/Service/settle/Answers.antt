@@ -7,7 +7,7 @@ use Rattle.event_loop.specs.Places.{IsOver}
 use Rattle.event_loop.specs.Closing as closing
 use Rattle.event_loop.specs.Served.{goes, closes}
 use Rattle.event_loop.specs.Scenes.{promises}
-use Rattle.image_keeper.specs.Keeping.{keeping}
+use Rattle.endpoints.specs.Keeping.{keeping}
 use Rattle.event_loop.proofs.Answering.{served_answered}
 use Rattle.event_loop.proofs.Doing.{closes_done, closes_some, closes_alone}
 use Rattle.event_loop.proofs.Leading.{closes_other, closes_kept}

@@ -4,7 +4,7 @@ use Rattle.event_loop.specs.declared.place.Place.{Place}
 use Rattle.event_loop.specs.Places.{IsOccupied}
 use Rattle.event_loop.specs.Goes.{SettlesAll, running}
 use Rattle.event_loop.specs.Scenes.{promises}
-use Rattle.image_keeper.specs.Keeping.{keeping}
+use Rattle.endpoints.specs.Keeping.{keeping}
 use Rattle.event_loop.proofs.service.Service.sweep.Given as goal
 
 abbrev pub invariant-loop-k : goal.invariant-loop-k

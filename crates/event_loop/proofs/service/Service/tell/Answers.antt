@@ -1,5 +1,5 @@
 use Rattle.event_loop.specs.Scenes.{promises}
-use Rattle.image_keeper.specs.Keeping.{keeping}
+use Rattle.endpoints.specs.Keeping.{keeping}
 use Rattle.event_loop.proofs.Leading.{nowhere, to_then}
 use Rattle.event_loop.proofs.service.Service.tell.Goals as goal
 

@@ -2,7 +2,7 @@ use Rattle.std.proofs.Common.{refl, sym, ◌∙◌}
 use Rattle.event_loop.specs.Reporting.{full}
 use Rattle.event_loop.specs.Served.{goes, reports}
 use Rattle.event_loop.specs.Scenes.{promises}
-use Rattle.image_keeper.specs.Keeping.{keeping}
+use Rattle.endpoints.specs.Keeping.{keeping}
 use Rattle.event_loop.proofs.Doing.{none_more}
 use Rattle.event_loop.proofs.Leading.{nowhere}
 use Rattle.event_loop.proofs.Resting.{settled_then}

@@ -9,7 +9,7 @@ use Rattle.event_loop.specs.Places.{MayWrite, NeedsNoWrite}
 use Rattle.event_loop.specs.Writing.{sends, finds_no_room, fails}
 use Rattle.event_loop.specs.Served.{goes, writes}
 use Rattle.event_loop.specs.Scenes.{promises}
-use Rattle.image_keeper.specs.Keeping.{keeping}
+use Rattle.endpoints.specs.Keeping.{keeping}
 use Rattle.event_loop.proofs.Others.{takes_other}
 use Rattle.event_loop.proofs.Kept.{takes_kept}
 use Rattle.event_loop.proofs.Answering.{served_answered}

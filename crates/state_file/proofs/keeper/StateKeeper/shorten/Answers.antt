@@ -5,7 +5,7 @@ use Rattle.batch_file.specs.declared.appending.BatchFile.{BatchFile}
 use Rattle.change_codec.specs.Keeping.{Keeps, KeepsNot}
 use Rattle.image_codec.specs.Facts.{RulesFact}
 use Rattle.image_codec.specs.Spelling.{image_spelling, rules_spelling}
-use Rattle.image_keeper.specs.declared.keeper.ImageFault.TheVariants.{TooLong}
+use Rattle.endpoints.specs.declared.image_keeper.ImageFault.TheVariants.{TooLong}
 use Rattle.state_file.specs.Renewing.{HasTooMuch}
 use Rattle.state_file.specs.Telling.{LeavesRules}
 use Rattle.state_file.proofs.Kept.{of_file}

@@ -1,0 +1,15 @@
+-- What a keeper promises that may put an image of a server in the place of what it keeps.
+use Rattle.change_codec.specs.Keeping.{Crashes, crashes}
+use Rattle.change_codec.specs.declared.keeper.Keeper.{Ghosts as Keeper}
+use Rattle.endpoints.specs.declared.image_keeper.ImageKeeper.{Ghosts as ImageKeeper}
+
+-- what crashes leave of it, and when it keeps more than it may beside an image
+pub record Keeping (K : Type 0) : Type 1 where
+  pub crashes : Crashes K
+  pub is_long : K → Type 0
+
+abbrev pub keeping : {K : Type 0} → Keeper K → ImageKeeper K → Keeping K
+keeping keeper imaging = record {
+  crashes = crashes keeper.stands_for keeper.may_leave keeper.moment keeper.left_since;
+  is_long = imaging.is_long;
+}

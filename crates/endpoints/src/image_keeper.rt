@@ -1,0 +1,60 @@
+//! What keeps changes, and may put an image of a server in the place of all that it keeps: what is left of the server when
+//! what has expired goes.
+
+use crate::server::Server;
+use change_codec::{Keeper, NoKeeper};
+use hook_host::HookHost;
+use std::alloc::AllocError;
+
+/// Why no image is put.
+#[derive(Clone, Copy, Debug, PartialEq, Eq)]
+pub enum ImageFault {
+    /// Memory was refused. What is kept is as it was.
+    Memory,
+    /// The image is too long to be kept. What is kept is as it was.
+    TooLong,
+    /// It could not be written, and nothing is kept any more.
+    Failed,
+}
+
+impl From<AllocError> for ImageFault {
+    ghost use Rattle.std.specs.Prelude.{◌≡◌};
+    ghost use Rattle.endpoints.specs.declared.image_keeper.ImageFault.TheVariants.{Memory};
+
+    ghost from_gives = { λ _ fault. fault ≡ Memory };
+
+    fn from(_refused: AllocError) -> ImageFault {
+        ImageFault::Memory
+    }
+}
+
+/// A keeper that may put an image of a server in the place of all that it keeps, so that this does not grow without end.
+pub trait ImageKeeper: Keeper {
+    ghost use Rattle.std.specs.Prelude.{◌≡◌, OnOk, IsErrOf};
+    ghost use Rattle.change_codec.specs.Keeping.{crashes};
+    ghost use Rattle.endpoints.specs.Imaging.{KeepsImage, KeepsNoImage};
+    ghost use Rattle.endpoints.specs.declared.image_keeper.ImageFault.TheVariants.{Memory, TooLong, Failed};
+
+    // It keeps more than it may, beside an image.
+    ghost is_long: { Self → Type 0 };
+
+    /// Where it keeps more than it may, an image of the server is put in the place of that, and else nothing is done. The
+    /// server has to be one of which all is kept.
+    fn put_image<H: HookHost>(&mut self, server: &Server<H>) -> Result<(), ImageFault>
+        ensures kept { OnOk result (KeepsImage H.HookHost (crashes Self.stands_for Self.may_leave Self.moment Self.left_since) server.now self.old self.new) }
+        ensures short { OnOk result (¬ (is_long self.new)) }
+        ensures left { OnOk result (¬ (is_long self.old) → self.new ≡ self.old) }
+        ensures no_memory { IsErrOf result Memory → self.new ≡ self.old }
+        ensures too_long { IsErrOf result TooLong → self.new ≡ self.old }
+        ensures failed { IsErrOf result Failed → KeepsNoImage H.HookHost (crashes Self.stands_for Self.may_leave Self.moment Self.left_since) server.now self.old self.new };
+}
+
+impl ImageKeeper for NoKeeper {
+    ghost use Rattle.std.specs.Prelude.{⊤};
+
+    ghost is_long = { λ _. ⊥ };
+
+    fn put_image<H: HookHost>(&mut self, _server: &Server<H>) -> Result<(), ImageFault> {
+        Ok(())
+    }
+}

@@ -1,0 +1,45 @@
+-- What hooks leave of tokens.
+use Rattle.std.specs.Prelude.{◌≡◌, ◌≤◌, ⊤, List, [], ◌∷◌, true, codes}
+use Rattle.clients.specs.RegistryRecord.{RegistryRecord}
+use Rattle.consent.specs.History.{Change, Event, is_within}
+use Rattle.consent.specs.History.Change.{Issued}
+use Rattle.hook_record.specs.declared.Ask.{Ask}
+use Rattle.hook_record.specs.declared.Narrowed.{Narrowed}
+use Rattle.hook_record.specs.declared.Narrowed.TheVariants.{Allowed}
+use Rattle.answers.specs.Outcomes.{Outcome}
+use Rattle.headline.specs.Occasions.{GoesTo, Occasion, outcome_of, reply_on}
+
+-- a host without hooks allows all that is asked
+abbrev pub allows_all : Ask → Narrowed
+allows_all ask = Allowed ask.scope ask.life
+
+-- the same at such a host
+abbrev pub without_hooks : Occasion → Occasion
+without_hooks occasion = record {
+  arrival = occasion.arrival;
+  host = record { answer = allows_all; names = occasion.host.names; fault = occasion.host.fault };
+  refused = occasion.refused;
+}
+
+-- the token is the other one, but for some of its scope and some of its life; all else is the same
+abbrev pub IsPart : Change → Change → Type 0
+IsPart (Issued family client owner kind digest scope life) (Issued f c o k d whole most) =
+    (Issued family client owner kind digest whole most ≡ Issued f c o k d whole most) × (is_within scope whole ≡ true) × (life ≤ most)
+IsPart change other = change ≡ other
+
+-- each of them, in their order
+abbrev pub AreParts : List Change → List Change → Type 0
+AreParts [] [] = ⊤
+AreParts (change ∷ changes) (other ∷ others) = IsPart change other × AreParts changes others
+AreParts changes others = ⊥
+
+-- both outcomes are granted, and the one's tokens are parts of the other's
+pub record IsNarrowed (outcome other : Outcome) : Type 0 where
+  pub granted : other.reply.status ≡ 200
+  pub parts : AreParts outcome.changes other.changes
+
+-- tokens that are answered would be answered without hooks too, and are parts of what they would be then
+abbrev pub WidensNothing : RegistryRecord → List Event → Occasion → Type 0
+WidensNothing rules history occasion =
+    GoesTo occasion (codes "/token") → (reply_on rules history occasion).status ≡ 200 →
+    IsNarrowed (outcome_of rules history occasion) (outcome_of rules history (without_hooks occasion))

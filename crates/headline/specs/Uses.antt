@@ -1,0 +1,61 @@
+-- What is done with codes and tokens, by requests and their replies.
+use Rattle.std.specs.Prelude.{◌≡◌, ◌≢◌, ◌⊎◌, ◌++◌, ℕ, List, true, codes, Some}
+use Rattle.std.specs.List.{list_any}
+use Rattle.std.specs.Str.{bytes_eq}
+use Rattle.params.specs.Form.{value_sent}
+use Rattle.clients.specs.RegistryRecord.{RegistryRecord}
+use Rattle.consent.specs.History.{Event, Grant, grants, live_grant}
+use Rattle.answers.specs.Requesters.{Parameters, form_of}
+use Rattle.answers.specs.Texts.{digest_told}
+use Rattle.answers.specs.Tokens.{live_token}
+use Rattle.headline.specs.Occasions.{Occasion, GoesTo, history_after, reply_on}
+
+-- the parameters present the text as a code or as a refresh token
+abbrev pub Presents : Parameters → List ℕ → Type 0
+Presents params text =
+    ((value_sent (codes "grant_type") params ≡ Some (codes "authorization_code")) × (value_sent (codes "code") params ≡ Some text))
+    ⊎ ((value_sent (codes "grant_type") params ≡ Some (codes "refresh_token")) × (value_sent (codes "refresh_token") params ≡ Some text))
+
+-- the code or refresh token of the text is exchanged for tokens
+pub record Exchanges (rules : RegistryRecord) (history : List Event) (occasion : Occasion) (text : List ℕ) : Type 0 where
+  pub goes_to : GoesTo occasion (codes "/token")
+  pub params : Parameters
+  pub form : form_of occasion.arrival.asked ≡ Some params
+  pub presents : Presents params text
+  pub granted : (reply_on rules history occasion).status ≡ 200
+
+-- a code or token of the text is given among the events
+pub record IsGivenAmong (events : List Event) (text : List ℕ) : Type 0 where
+  pub digest : List ℕ
+  pub told : digest_told text ≡ Some digest
+  pub given : list_any (λ g. bytes_eq digest g.digest) (grants events) ≡ true
+
+-- the live token is revoked
+pub record Revokes (rules : RegistryRecord) (history : List Event) (occasion : Occasion) (token : Grant) : Type 0 where
+  pub goes_to : GoesTo occasion (codes "/revoke")
+  pub params : Parameters
+  pub form : form_of occasion.arrival.asked ≡ Some params
+  pub text : List ℕ
+  pub presents : value_sent (codes "token") params ≡ Some text
+  pub live : live_token history occasion.arrival.moment text ≡ Some token
+  pub done : (reply_on rules history occasion).status ≡ 200
+
+-- after this history the text is exchanged only where a code or token of it was given since
+abbrev pub IsUsedUp : RegistryRecord → List Event → List ℕ → Type 0
+IsUsedUp rules history text =
+    (between : List Event) (occasion : Occasion) → Exchanges rules (history ++ between) occasion text → IsGivenAmong between text
+
+-- no code and no token of the family is live, at any moment
+abbrev pub IsDead : List Event → ℕ → Type 0
+IsDead history family =
+    (digest : List ℕ) (moment : ℕ) (grant : Grant) → live_grant history digest moment ≡ Some grant → grant.family ≢ family
+
+-- each text that is exchanged is used up
+abbrev pub UsesUp : RegistryRecord → List Event → Occasion → Type 0
+UsesUp rules history occasion = (text : List ℕ) → Exchanges rules history occasion text → IsUsedUp rules (history_after rules history occasion) text
+
+-- the family of each token that is revoked is dead, whatever comes
+abbrev pub RevokesForGood : RegistryRecord → List Event → Occasion → Type 0
+RevokesForGood rules history occasion =
+    (token : Grant) (later : List Event) → Revokes rules history occasion token →
+    IsDead (history_after rules history occasion ++ later) token.family

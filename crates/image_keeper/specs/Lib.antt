@@ -1,2 +1,0 @@
-pub mod Imaging
-pub mod Keeping

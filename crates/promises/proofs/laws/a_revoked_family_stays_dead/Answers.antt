@@ -1,5 +1,0 @@
-use Rattle.promises.proofs.Exchanged.{revoked_stays}
-use Rattle.promises.proofs.laws.a_revoked_family_stays_dead.Goals as goal
-
-pub returns : goal.returns
-returns c = λ rules history occasion token later it digest moment grant. revoked_stays rules history occasion token it later grant digest moment

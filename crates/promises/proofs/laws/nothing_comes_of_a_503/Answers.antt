@@ -1,5 +1,0 @@
-use Rattle.promises.proofs.Telling.{nothing_of_503}
-use Rattle.promises.proofs.laws.nothing_comes_of_a_503.Goals as goal
-
-pub returns : goal.returns
-returns c = nothing_of_503

@@ -1,4 +1,0 @@
-pub mod Occasions
-pub mod Uses
-pub mod Grants
-pub mod Hooked

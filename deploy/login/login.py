@@ -1,0 +1,368 @@
+#!/usr/bin/env python3
+"""A login and a consent page for oauthd, behind nginx, of Python's standard library alone.
+
+    login.py serve CONFIG KEPT    serves; CONFIG is as login.json, KEPT the file of what owners have allowed
+    login.py password             reads a password from its input, and prints what CONFIG has of it
+
+nginx passes /login on, and asks /owner itself before each /authorize (deploy/nginx/oauthd.conf). The answer of /owner:
+
+    401                           the user has to see a page first: nginx sends the browser to /login?back=REQUEST
+    200 with X-Owner-Key          signed in, and all that is asked for is allowed: nginx passes the key on to oauthd
+    200 without it                oauthd shall answer for nobody: the user has denied, or the request is faulty
+
+So an owner's key goes from here to nginx and to oauthd, and never to a browser. Sessions are in memory: a restart signs
+all out. What owners have allowed is kept in a file, and told to oauthd again whenever it counts, for oauthd forgets it
+when it is restarted. A user who denies changes nothing at oauthd: the client hears access_denied, once.
+"""
+import base64
+import hashlib
+import hmac
+import html
+import http.client
+import http.server
+import json
+import os
+import secrets
+import sys
+import threading
+import time
+import urllib.parse
+
+COOKIE = "__Host-login"     # this prefix: browsers take it over TLS alone, for this host alone
+SESSION_LIFE = 8 * 3600     # in seconds
+SESSIONS = 10000            # more are refused
+HEADERS = (
+    ("Cache-Control", "no-store"),
+    ("Content-Security-Policy", "default-src 'none'; style-src 'unsafe-inline'; base-uri 'none'; frame-ancestors 'none'"),
+    ("X-Frame-Options", "DENY"),
+    ("X-Content-Type-Options", "nosniff"),
+    ("Referrer-Policy", "no-referrer"),
+)   # no form-action: browsers would hold the way back to the client against it
+PAGE = """<!DOCTYPE html>
+<html lang="en">
+<meta charset="utf-8">
+<meta name="viewport" content="width=device-width">
+<title>{title}</title>
+<style>
+body {{ font: 1.1em/1.5 sans-serif; max-width: 26em; margin: 3em auto; padding: 0 1em; color: #222 }}
+h1 {{ font-size: 1.5em }}
+input, button {{ font: inherit; padding: .4em .8em; margin: .2em .4em .2em 0 }}
+label {{ display: block }}
+.wrong {{ color: #a00 }}
+</style>
+<h1>{title}</h1>
+{body}
+</html>
+"""
+
+
+def digest(password, salt):
+    return hashlib.scrypt(password.encode(), salt=salt, n=16384, r=8, p=1)
+
+
+def kept_form(password):
+    salt = secrets.token_bytes(16)
+    return base64.b64encode(salt).decode() + "$" + base64.b64encode(digest(password, salt)).decode()
+
+
+def matches(password, form):
+    salt, wanted = (base64.b64decode(part) for part in form.split("$"))
+    return hmac.compare_digest(digest(password, salt), wanted)
+
+
+class Session:
+    """A browser whose user has signed in."""
+
+    def __init__(self, user):
+        self.user = user
+        self.ends = time.monotonic() + SESSION_LIFE
+        self.denied = None      # the request that was denied last: it goes to oauthd without a key, once
+
+
+class Login:
+    def __init__(self, config_file, kept_file):
+        with open(config_file, encoding="utf-8") as file:
+            config = json.load(file)
+        self.listen = config["listen"]
+        self.oauthd = config["oauthd"]
+        self.users = config["users"]
+        self.clients = config["clients"]
+        self.scopes = config["scopes"]
+        self.kept_file = kept_file
+        self.key = secrets.token_bytes(32)
+        self.sessions = {}
+        self.sessions_lock = threading.Lock()
+        self.kept_lock = threading.RLock()
+        self.at_once = threading.Semaphore(4)       # passwords that are looked at: each takes 16 MB
+        self.nobody = kept_form(secrets.token_urlsafe(16))
+        try:
+            with open(kept_file, encoding="utf-8") as file:
+                self.kept = json.load(file)
+        except FileNotFoundError:
+            self.kept = {}
+
+    # Sessions
+
+    def token(self, name):
+        """What each form carries that is shown to the browser with this cookie: other sites do not know it."""
+        return hmac.new(self.key, name.encode(), "sha256").hexdigest()
+
+    def begin(self, user):
+        """The name of a new session, or None where there are too many."""
+        with self.sessions_lock:
+            now = time.monotonic()
+            for name in [n for n, session in self.sessions.items() if session.ends <= now]:
+                del self.sessions[name]
+            if len(self.sessions) >= SESSIONS:
+                return None
+            name = secrets.token_urlsafe(32)
+            self.sessions[name] = Session(user)
+            return name
+
+    def session(self, name):
+        with self.sessions_lock:
+            session = self.sessions.get(name)
+            return session if session and session.ends > time.monotonic() else None
+
+    def end(self, name):
+        with self.sessions_lock:
+            self.sessions.pop(name, None)
+
+    def entered(self, user, password):
+        """Is this the user's password? Takes as long for users that there are not."""
+        form = self.users.get(user, {}).get("password", self.nobody)
+        with self.at_once:
+            return matches(password, form) and user in self.users
+
+    # What is asked of oauthd
+
+    def ask(self, method, path, headers, body=None):
+        connection = http.client.HTTPConnection(self.oauthd, timeout=10)
+        try:
+            connection.request(method, path, body, headers)
+            reply = connection.getresponse()
+            reply.read()
+            return reply.status, reply.getheader("Location")
+        except (OSError, http.client.HTTPException):
+            return 503, None
+        finally:
+            connection.close()
+
+    def asked(self, back):
+        """What the request asks an owner for: client, scopes and the address to go back to. None where oauthd
+        refuses it whoever the owner is: asked without a key, it then gives another answer than access_denied."""
+        if not request_in(back):
+            return None
+        status, location = self.ask("GET", back, {})
+        if status != 302:
+            return None
+        to = urllib.parse.urlsplit(location)
+        if urllib.parse.parse_qs(to.query).get("error") != ["access_denied"]:
+            return None
+        parameters = dict(urllib.parse.parse_qsl(urllib.parse.urlsplit(back).query))
+        client = parameters.get("client_id")
+        if client not in self.clients:
+            return None
+        scopes = parameters.get("scope", self.clients[client]["scope"]).split(" ")
+        return client, scopes, f"{to.scheme}://{to.netloc}"
+
+    def consent(self, user, client, scopes):
+        """Tells oauthd that this user lets this client have these scopes, and no others."""
+        body = urllib.parse.urlencode({"client_id": client, "scope": " ".join(scopes)})
+        headers = {"X-Owner-Key": self.users[user]["owner_key"], "Content-Type": "application/x-www-form-urlencoded"}
+        return self.ask("POST", "/consent", headers, body)[0] == 200
+
+    def allow(self, user, client, scopes):
+        """Keeps it and tells it, in one go for all users."""
+        with self.kept_lock:
+            if not self.consent(user, client, scopes):
+                return False
+            self.kept.setdefault(user, {})[client] = scopes
+            with open(self.kept_file + ".new", "w", encoding="utf-8") as file:
+                json.dump(self.kept, file)
+                file.flush()
+                os.fsync(file.fileno())
+            os.replace(self.kept_file + ".new", self.kept_file)
+            return True
+
+    def owner_key(self, session, back):
+        """The answer of /owner: a key, None for no key, or False where the user has to see a page first."""
+        if session is None:
+            return False
+        with self.sessions_lock:
+            if session.denied == back:
+                session.denied = None
+                return None
+        asked = self.asked(back)
+        if asked is None:
+            return None
+        client, scopes, _ = asked
+        with self.kept_lock:
+            kept = self.kept.get(session.user, {}).get(client, [])
+            if not set(scopes) <= set(kept) or not self.consent(session.user, client, kept):
+                return False
+        return self.users[session.user]["owner_key"]
+
+
+def request_in(text):
+    """A request for /authorize as a browser sends it, or the empty text: nobody is sent to another place by a link."""
+    good = text.startswith("/authorize?") and all("!" <= c <= "~" for c in text)
+    return text if good else ""
+
+
+class Handler(http.server.BaseHTTPRequestHandler):
+    protocol_version = "HTTP/1.1"
+    server_version = "login"
+    sys_version = ""
+    timeout = 30
+
+    def log_message(self, form, *words):
+        pass                                        # nginx has a log; a line here would have requests in it
+
+    def reply(self, status, body="", headers=()):
+        data = body.encode()
+        self.send_response(status)
+        for name, value in HEADERS + tuple(headers):
+            self.send_header(name, value)
+        if data:
+            self.send_header("Content-Type", "text/html; charset=utf-8")
+        self.send_header("Content-Length", str(len(data)))
+        self.end_headers()
+        self.wfile.write(data)
+
+    def page(self, title, body, status=200, headers=()):
+        self.reply(status, PAGE.format(title=html.escape(title), body=body), headers)
+
+    def send(self, back, headers=()):
+        self.reply(303, headers=(("Location", back),) + tuple(headers))
+
+    def cookie(self, name):
+        life = "" if name else "; Max-Age=0"
+        return (("Set-Cookie", f"{COOKIE}={name}; Path=/{life}; Secure; HttpOnly; SameSite=Lax"),)
+
+    def session_name(self):
+        for part in self.headers.get("Cookie", "").split(";"):
+            name, _, value = part.strip().partition("=")
+            if name == COOKIE:
+                return value
+        return ""
+
+    def do_GET(self):
+        login = self.server.login
+        path, _, query = self.path.partition("?")
+        session = login.session(self.session_name())
+        if path == "/owner":
+            key = login.owner_key(session, self.headers.get("X-Request-Uri", ""))
+            if key is False:
+                self.reply(401)
+            else:
+                self.reply(200, headers=(("X-Owner-Key", key),) if key else ())
+        elif path == "/login":
+            # All behind back= is the request as the browser has sent it, with its own ? and &.
+            back = query[len("back="):] if query.startswith("back=") else ""
+            self.show(session, self.session_name(), request_in(back))
+        else:
+            self.reply(404)
+
+    def form(self, name, back, inner):
+        return (f'<form method="post" action="/login"><input type="hidden" name="token" '
+                f'value="{self.server.login.token(name)}"><input type="hidden" name="back" '
+                f'value="{html.escape(back)}">{inner}</form>')
+
+    def show(self, session, name, back, wrong=""):
+        """The page that comes next: who are you, this client wants these scopes, or what you have allowed."""
+        login = self.server.login
+        if session is None:
+            headers = () if name else self.cookie(name := secrets.token_urlsafe(32))
+            return self.page("Who are you?", self.form(name, back, (
+                (f'<p class="wrong">{wrong}</p>' if wrong else "") +
+                '<p><label>Name <input name="user" autocomplete="username" autofocus></label>'
+                '<label>Password <input name="password" type="password" autocomplete="current-password"></label></p>'
+                '<button name="do" value="enter">Sign in</button>')), 403 if wrong else 200, headers)
+        user = html.escape(session.user)
+        leave = self.form(name, "", f'<p>You are {user}. <button name="do" value="leave">Sign out</button></p>')
+        if not back:
+            kept = login.kept.get(session.user, {})
+            rows = "".join(self.form(name, "", (
+                f'<p>{html.escape(login.clients.get(client, {}).get("name", client))}: {html.escape(", ".join(scopes))} '
+                f'<input type="hidden" name="client" value="{html.escape(client)}">'
+                '<button name="do" value="withdraw">Withdraw</button></p>')) for client, scopes in list(kept.items()) if scopes)
+            return self.page("What you have allowed", (rows or "<p>Nothing.</p>") + leave)
+        asked = login.asked(back)
+        if asked is None:
+            return self.send(back)                  # oauthd says what is wrong with it
+        client, scopes, to = asked
+        listed = "".join(f"<li>{html.escape(login.scopes.get(scope, scope))} ({html.escape(scope)})</li>" for scope in scopes)
+        self.page(f"{login.clients[client]['name']} asks", self.form(name, back, (
+            f"<p><b>{html.escape(login.clients[client]['name'])}</b> wants to:</p><ul>{listed}</ul>"
+            f"<p>You then go back to {html.escape(to)}.</p>"
+            '<button name="do" value="allow">Allow</button><button name="do" value="deny">Deny</button>')) + leave)
+
+    def do_POST(self):
+        login = self.server.login
+        length = self.headers.get("Content-Length", "")
+        if self.path != "/login" or not length.isdecimal() or int(length) > 65536:
+            self.close_connection = True
+            return self.reply(400)
+        form = dict(urllib.parse.parse_qsl(self.rfile.read(int(length)).decode("utf-8", "replace")))
+        name = self.session_name()
+        session = login.session(name)
+        back = request_in(form.get("back", ""))
+        if not name or not hmac.compare_digest(form.get("token", "").encode(), login.token(name).encode()):
+            # Another site's form, or one from before a restart: nothing is done.
+            return self.page("Again, please", '<p>This page was too old. <a href="' + html.escape(
+                "/login?back=" + back if back else "/login") + '">Go on</a></p>', 403)
+        do = form.get("do", "")
+        if do == "enter":
+            user = form.get("user", "")
+            if not login.entered(user, form.get("password", "")):
+                return self.show(None, name, back, "Name and password do not belong together.")
+            login.end(name)                         # and a new name: nobody else can have set it
+            name = login.begin(user)
+            if name is None:
+                return self.page("Too many visitors", "<p>Try again in some minutes.</p>", 503)
+            return self.send(back or "/login", self.cookie(name))
+        if session is None:
+            return self.show(None, name, back)
+        if do == "leave":
+            login.end(name)
+            return self.send("/login", self.cookie(""))
+        if do == "withdraw":
+            client = form.get("client", "")
+            if client in login.kept.get(session.user, {}):
+                login.allow(session.user, client, [])
+            return self.send("/login")
+        asked = login.asked(back) if back else None
+        if do == "allow" and asked:
+            client, scopes, _ = asked
+            with login.kept_lock:
+                kept = login.kept.get(session.user, {}).get(client, [])
+                if not login.allow(session.user, client, kept + [s for s in scopes if s not in kept]):
+                    return self.page("Not now", "<p>The server could not keep this. Try again later.</p>", 503)
+        elif do == "deny" and back:
+            with login.sessions_lock:
+                session.denied = back               # oauthd tells the client
+        self.send(back or "/login")
+
+
+class Server(http.server.ThreadingHTTPServer):
+    daemon_threads = True
+    request_queue_size = 128
+
+
+def main(words):
+    if words == ["password"]:
+        print(kept_form(sys.stdin.readline().rstrip("\n")))
+    elif len(words) == 3 and words[0] == "serve":
+        login = Login(words[1], words[2])
+        host, _, port = login.listen.rpartition(":")
+        server = Server((host, int(port)), Handler)
+        server.login = login
+        print(f"listening {login.listen}", flush=True)
+        server.serve_forever()
+    else:
+        sys.exit(__doc__)
+
+
+if __name__ == "__main__":
+    main(sys.argv[1:])

@@ -1,0 +1,170 @@
+#!/usr/bin/env bash
+# Runs the built program on each command, with files and with each status, and says what differs from what is written
+# here. It also compares the hooks of examples/hooks and the code of examples/c with their copies in the tests.
+. "$(dirname "$0")/lib.sh"
+tests=$root/crates/hook_rows/src/tests/examples.rt
+hooks=$root/examples/hooks
+hex_tests=$root/crates/hook_rows/src/tests/c_hooks.rt
+compiled=$root/examples/c
+make_room
+cd "$room" || exit 2
+
+# ends NAME STATUS OUT ERR WORDS..: a command ends with this status, and writes this (printf's escapes count)
+ends() {
+    local name=$1 status=$2
+    printf "$3" >wanted.out
+    printf "$4" >wanted.err
+    shift 4
+    "$program" "$@" >given.out 2>given.err
+    local given=$?
+    tried=$((tried + 1))
+    if [ "$given" != "$status" ] || ! cmp -s wanted.out given.out || ! cmp -s wanted.err given.err; then
+        differs "$name (status $given, wanted $status)"
+        diff wanted.out given.out
+        diff wanted.err given.err
+    fi
+}
+
+# begins NAME LINE WORDS..: a command is done, and its first line is this
+begins() {
+    local name=$1 line=$2
+    shift 2
+    "$program" "$@" >given.out 2>given.err
+    local given=$?
+    tried=$((tried + 1))
+    if [ "$given" != 0 ] || [ -s given.err ] || [ "$(head -n 1 given.out)" != "$line" ]; then
+        differs "$name (status $given)"
+        cat given.out given.err
+    fi
+}
+
+allow=b7000000010000009500000000000000
+record='01000000 01000000 e803000000000000 0100000000000000 0100000000000000 0300000000000000 0300000000000000 2c010000 00000000 0300000000000000'
+
+# what is done
+ends 'run allows' 0 'r0 1\nsteps 2\nallowed 3 300\n' '' run $allow "$record"
+ends 'run denies' 0 'r0 0\nsteps 2\ndenied\n' '' run b7000000000000009500000000000000 "$record"
+ends 'a lifetime of 0 denies' 0 'r0 1\nsteps 3\ndenied\n' '' run b7000000010000006201300000000000"9500000000000000" "$record"
+ends 'no scope is left' 0 'r0 1\nsteps 3\nempty scope\n' '' run b7000000010000007a01280000000000"9500000000000000" "$record"
+printf 'mov64 r0 1\nexit\n' >hook.asm
+ends asm 0 "$allow\n" '' asm hook.asm
+printf "$allow\n" >hook.hex
+ends list 0 'mov64 r0 1\nexit\n' '' list hook.hex
+ends check 0 'accepted 2\n' '' check hook.hex
+ends check2 0 'accepted 2\n' '' check2 hook.hex
+ends 'list --slots' 0 '0: mov64 r0 1\n1: exit\n' '' list --slots hook.hex
+ends 'check --why' 0 'accepted 2\n' '' check --why hook.hex
+ends 'check2 --why' 0 'accepted 2\n' '' check2 --why hook.hex
+ends ask 0 "$(echo "$record" | tr -d ' ')\n" '' ask 1 1000 1 1 3 300
+ends ask2 0 "02$(echo "${record:2}" | tr -d ' ')0300000000000000""2c0100002c01000000000000000000000000000000000000\n" '' ask2 1 1000 1 1 3 300
+ends 'run --trace' 0 '0: mov64 r0 1\n  r0: 1\n1: exit\nr0 1\nsteps 2\nallowed 3 300\n' '' run --trace $allow "$record"
+ends --version 0 'oauthd 0.1.0\n' '' --version
+for word in help --help -h; do
+    begins "$word" 'oauthd: an OAuth 2.0 authorization server with verified token hooks.' "$word"
+done
+begins 'help of a command' 'asm FILE: turns the text of a hook into the hex of its code. docs/ASSEMBLY.md is the language.' help asm
+
+# what is refused
+printf 'mov64 r0 1\nfrob\n' >bad.asm
+ends 'a text that says no program' 1 '' 'oauthd: line 2: UnknownWord\n' asm bad.asm
+printf '8500000000000000\n' >call.hex
+ends 'bytes that are no program' 1 '' 'oauthd: Insn Call(0)\n' list call.hex
+printf '0500ffff000000009500000000000000\n' >back.hex
+ends 'a program that is not accepted' 1 '' 'oauthd: Verify JumpBack(0)\n' check back.hex
+printf '7110400000000000b7000000010000009500000000000000\n' >behind.hex
+ends 'a load behind a record of version 1' 1 '' 'oauthd: Verify OutOfRegion(0)\n' check behind.hex
+ends 'the same load in version 2' 0 'accepted 3\n' '' check2 behind.hex
+printf '9500000000000000\n' >unset.hex
+ends 'why a program is not accepted' 1 "refused UnsetRegister(0)\n0: exit\nr0: unset\nfrom slot 0: nothing writes r0\n\n$("$program" help UnsetRegister | sed 's/%/%%/g')\n" '' check --why unset.hex
+ends 'a traced run that would be stuck' 1 '' 'oauthd: Verify UnsetRegister(0)\n' run --trace 9500000000000000 "$record"
+ends 'a run that would be stuck' 1 '' 'oauthd: Verify UnsetRegister(0)\n' run 9500000000000000 "$record"
+ends 'a run that is refused' 1 '' 'oauthd: Insn Empty\n' run '' "$record"
+
+# what is used badly
+ends 'no words' 2 '' 'oauthd: bad arguments\n'
+ends 'other words' 2 '' 'oauthd: bad arguments\n' frob
+ends 'code that is no hex' 2 '' 'oauthd: bad arguments\n' run 9 "$record"
+ends 'a kind that is none' 2 '' 'oauthd: bad arguments\n' ask 4 1000 1 1 3 300
+ends 'a record that is none' 2 '' 'oauthd: bad record\n' run $allow 00
+ends 'a file that is no hex' 2 '' 'oauthd: bad arguments\n' check bad.asm
+ends 'a file that is no hex, told' 2 '' 'oauthd: not hex: bad.asm\n' check --why bad.asm
+printf '\177ELF\2\1\1' >hook.o
+ends 'an ELF file' 2 '' 'oauthd: ELF file: hook.o\n' list --slots hook.o
+ends 'no such file' 2 '' 'oauthd: cannot read nowhere\n' list nowhere
+printf 'exit\n\377' >bytes.asm
+ends 'a text that is not UTF-8' 2 '' 'oauthd: cannot read bytes.asm\n' asm bytes.asm
+registry=$root/examples/registry.json
+for words in '127.0.0.1=wants a port' '127.0.0.1:0 c --frob 1=--frob is not known' '127.0.0.1:0 c 60 --full=--full wants a value' \
+    '127.0.0.1:0 c --silence 0=--silence has a bad value' '127.0.0.1:0 c 60 --silence 5=--silence is given twice'; do
+    why=${words##*=}
+    [ "$why" = 'wants a port' ] && why='127.0.0.1 wants a port'
+    ends "start ${words%=*}" 2 '' "oauthd: bad arguments: $why\n" start ${words%=*}
+done
+ends 'a number by place that is none' 2 '' 'oauthd: bad arguments\n' start 127.0.0.1:0 "$registry" x
+ends 'a hook that is not there' 2 '' 'oauthd: cannot read nowhere\n' start 127.0.0.1:0 "$registry" --hook a=nowhere
+ends 'a hook that is refused' 2 '' 'oauthd: hook b: Verify JumpBack(0)\n' start 127.0.0.1:0 "$registry" --hook a=hook.hex --hook b=back.hex
+ends 'two hooks of one name' 2 '' 'oauthd: hook a: NameTaken\n' start 127.0.0.1:0 "$registry" --hook a=hook.hex --hook2 a=hook.hex
+install -m 640 "$registry" own.json
+said='access_life 300\nrefresh_life 86400\nowners 2\nclients 2\nscopes read write admin\n'
+ends 'a registry' 0 "$said" '' registry own.json
+chmod 644 own.json
+ends 'a registry that everybody may read' 0 "${said}warning: everybody may read the file\n" '' registry own.json
+# state files: none, one of nobody's, and bytes of an unfinished write; the age is that of a moment that is told
+ends 'a state file that is not there' 2 '' 'oauthd: cannot read nowhere\n' state nowhere
+printf '\1\0\0\0\1\7' >other.state
+ends 'a state file of another program' 2 '' 'oauthd: State NoRules in batch 1\n' state other.state
+printf '\0abc' >torn.state
+tried=$((tried + 1))
+if ! "$program" state torn.state | grep -qE '^\{"kind":"file","bytes":4,"batches":0,"torn":3,"last":0,"age":[0-9]+\}$'; then
+    differs 'a torn state file'
+    "$program" state torn.state
+fi
+if [ -w /dev/full ]; then
+    "$program" list hook.hex >/dev/full 2>given.err
+    given=$?
+    tried=$((tried + 1))
+    if [ $given != 2 ] || [ "$(cat given.err)" != 'oauthd: cannot write' ]; then
+        differs "a full disk (status $given)"
+        cat given.err
+    fi
+fi
+
+# memory: the least address space in which the program is loaded, and a file that does not fit in it
+head -c 300000000 /dev/zero | tr '\0' ' ' >long.hex
+(ulimit -v 200000; "$program" check long.hex >given.out 2>given.err; echo $? >given.status)
+tried=$((tried + 1))
+if [ "$(cat given.status)" != 3 ] || [ -s given.out ] || [ "$(cat given.err)" != 'oauthd: out of memory' ]; then
+    differs "no memory (status $(cat given.status))"
+    cat given.out given.err
+fi
+
+# the example hooks, and their copies in the tests
+for hook in "$hooks"/*.asm; do
+    tried=$((tried + 1))
+    awk -v name="/// $(basename "$hook")." '$0 == name { wait = 1; next } wait == 1 { wait = 2; next }
+        wait == 2 && $0 == "\";" { exit } wait == 2 { print }' "$tests" >copy.asm
+    if ! cmp -s "$hook" copy.asm; then
+        differs "$hook and its copy in $tests"
+        diff "$hook" copy.asm
+    fi
+    "$program" asm "$hook" >hook.hex || differs "$hook is not assembled"
+    "$program" check hook.hex >given.out || differs "$hook is not accepted"
+done
+
+# the compiled hooks, and their copies in the tests
+for code in "$compiled"/hex/*; do
+    tried=$((tried + 1))
+    file=$(basename "$code")
+    name=${file%.*}
+    awk -v name="/// $name.c for " -v cpu="${file##*.}" '
+        index($0, name) == 1 { wait = ($0 ~ (" " cpu "[ .]")); next }
+        wait && /^const / { next }
+        wait { last = /";$/; gsub(/[ \\";]/, ""); printf "%s", $0; if (last) exit }
+        END { print "" }' "$hex_tests" >copy.hex
+    cmp -s "$code" copy.hex || differs "$code and its copy in $hex_tests"
+    command=check
+    grep -q 'struct record2' "$compiled/$name.c" && command=check2
+    "$program" $command "$code" >given.out 2>given.err || differs "$code is not accepted: $(cat given.err)"
+done
+
+end_with rows

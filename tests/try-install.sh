@@ -1,0 +1,162 @@
+#!/usr/bin/env bash
+# Runs the lines of docs/OPERATING.md, "From an empty machine to the first token", as they stand there, under a systemd
+# of its own (tests/own-systemd.sh), and then tries what the page says of the result. Prints a line for each check,
+# ends with 0 where all is as wanted, and leaves nothing behind. It takes two to five minutes. Needs root, and Debian's packages
+# nginx, curl, openssl and python3.
+. "$(dirname "$0")/lib.sh"
+if [ "$1" != inside ]; then
+    make_room
+    tests/own-systemd.sh try-install.sh "$room"
+    exit
+fi
+install_by_page
+echo
+
+# check NAME WANTED GOT: is this text what it should be? WANTED is a pattern of the shell.
+check() {
+    tried=$((tried + 1))
+    case $3 in
+        $2) echo "ok $1: $3" ;;
+        *) differs "$1: $3, wanted: $2" ;;
+    esac
+}
+web() { curl -s --cacert /etc/ssl/certs/auth.example.pem --max-time 20 "$@"; }
+status() { web -o /dev/null -w '%{http_code}' "$@"; }
+auth=https://auth.example
+bot=bot:$(registered '["clients"][1]["secret"]')
+ann=$(registered '["owners"][0]')
+token() { web -u "$bot" -d grant_type=client_credentials $auth/token; }
+opened() { awaits 10 test -e /run/oauthd/open || differs 'never opened'; }
+request="/authorize?response_type=code&client_id=app&redirect_uri=https://app.example/cb&scope=read&state=a%26b"
+request="$request&code_challenge=E9Melhoa2OwvFrEMTJguCHaoeK1t8URWbuGJSstw-cM&code_challenge_method=S256"
+
+# The unit
+process=$(systemctl show -p MainPID --value oauthd)
+check user oauthd "$(stat -c %U /proc/"$process")"
+check privileges '0000000000000000 1' "$(awk '/^CapEff|^NoNewPrivs/{print $2}' /proc/"$process"/status | xargs)"
+check files-it-may-write '/run/oauthd/open /var/lib/oauthd/state /var/lib/oauthd/state.lock' "$(nsenter -t "$process" -m -- setpriv --reuid oauthd --regid oauthd --clear-groups \
+    find /etc /run /srv /usr/local /var -maxdepth 3 -writable -type f 2>/dev/null | head -n 3 | xargs)"
+check others-read-no-registry 'cat: *Permission denied' "$(setpriv --reuid nobody --regid nogroup --clear-groups \
+    cat /etc/oauthd/registry.json 2>&1)"
+check login-reads-no-registry 'cat: *Permission denied' "$(setpriv --reuid oauthd-login --regid oauthd-login --clear-groups \
+    cat /etc/oauthd/registry.json 2>&1)"
+check exposure '0.* SAFE*' "$(systemd-analyze security oauthd --no-pager | sed -n 's/.*oauthd.service: //p')"
+
+# TLS, and what the outside gets
+for version in 1.0 1.1; do
+    check "tls-$version" '*alert protocol version' "$(web -S --tls-max $version --ciphers DEFAULT:@SECLEVEL=0 $auth/ 2>&1)"
+done
+for version in 1.2 1.3; do check "tls-$version" 404 "$(status --tlsv$version --tls-max $version $auth/)"; done
+check hsts '*trict-*ransport-*ecurity: max-age=31536000*' "$(web -si $auth/token | grep -i strict | tr -d '\r')"
+check port-80 000 "$(status http://auth.example/)"
+check metadata 'https://auth.example/token S256' "$(web $auth/.well-known/oauth-authorization-server | python3 -c \
+    'import json, sys; m = json.load(sys.stdin); print(m["token_endpoint"], *m["code_challenge_methods_supported"])')"
+for path in /hooks /hooks/list /consent /owner /login/owner /%6fwner //owner /authorize/../owner; do
+    check "outside$path" 404 "$(status --path-as-is -H "X-Operator-Key: $(cut -d' ' -f2 /etc/oauthd/operator)" -H "X-Owner-Key: $ann" "$auth$path")"
+done
+check not-logged-in "302 /login?back=$request" "$(web -o /dev/null -w '%{http_code} %header{location}' "$auth$request")"
+check key-from-outside "302 /login?back=*" "$(web -H "X-Owner-Key: $ann" -o /dev/null -w '%{http_code} %header{location}' "$auth$request")"
+
+# Many connections at once: each is answered
+cat >/run/many.py <<'PY'
+import base64, collections, http.client, ssl, sys, threading
+context = ssl.create_default_context(cafile="/etc/ssl/certs/auth.example.pem")
+headers = {"Authorization": "Basic " + base64.b64encode(sys.argv[1].encode()).decode(),
+           "Content-Type": "application/x-www-form-urlencoded"}
+seen = collections.Counter()
+begin = threading.Barrier(80)
+def ask():
+    connection = http.client.HTTPSConnection("auth.example", context=context)
+    connection.connect()
+    begin.wait()
+    for _ in range(20):
+        connection.request("POST", "/introspect", "token=none", headers)
+        reply = connection.getresponse()
+        reply.read()
+        seen[reply.status] += 1
+threads = [threading.Thread(target=ask) for _ in range(80)]
+for thread in threads: thread.start()
+for thread in threads: thread.join()
+print(*(f"{seen[status]} times {status}" for status in sorted(seen)))
+PY
+check 80-connections '1600 times 200' "$(python3 /run/many.py "$bot")"
+
+# Who asks without end
+asked_often() { for _ in $(seq 150); do printf 'url=%s/token\noutput=/dev/null\n' $auth; done |
+    web -Z --parallel-max 30 -K - "$@" -d grant_type=client_credentials -w '%{http_code}\n' 2>/dev/null | sort | uniq -c | xargs; }
+check rate-of-a-client '* 401 * 429' "$(asked_often -u bot:wrong)"
+check rate-of-another-one 200 "$(status -u "$bot" -d grant_type=client_credentials $auth/token)"
+check rate-of-an-address '* 401 * 429' "$(asked_often --interface 127.0.0.3 -d client_id=bot -d client_secret=wrong)"
+check introspection-from-elsewhere 403 "$(status --interface 127.0.0.3 -u "$bot" -d token=none $auth/introspect)"
+
+# A restart forgets nothing, and nothing is let through before the hooks are there
+hooks() { curl -s -H @/etc/oauthd/operator http://127.0.0.1:8080/hooks/list; }
+check hooks '{"hooks":\["capped"\]}' "$(hooks)"
+before=$(token | python3 -c 'import json, sys; print(json.load(sys.stdin)["access_token"])')
+check before-a-restart '{"active":true*' "$(web -u "$bot" -d "token=$before" $auth/introspect)"
+systemctl kill -s KILL oauthd
+check just-killed '50[23]' "$(status -u "$bot" -d "token=$before" $auth/introspect)"
+opened
+check hooks-after-it '{"hooks":\["capped"\]}' "$(hooks)"
+check after-a-restart '{"active":true*' "$(web -u "$bot" -d "token=$before" $auth/introspect)"
+install -m 755 crates/oauthd/out/oauthd /usr/local/bin/oauthd
+systemctl restart oauthd
+check another-version 200 "$(status -u "$bot" -d grant_type=client_credentials $auth/token)"
+systemctl stop oauthd
+check stopped 503 "$(status -u "$bot" -d grant_type=client_credentials $auth/token)"
+mv /etc/oauthd/hooks/10.capped.bin /etc/oauthd/hooks/10.capped.bin.kept
+head -c 12 /dev/urandom >/etc/oauthd/hooks/10.faulty.bin
+chmod 644 /etc/oauthd/hooks/10.faulty.bin
+systemctl start oauthd 2>/dev/null
+check refused-hook 503 "$(status -u "$bot" -d grant_type=client_credentials $auth/token)"
+systemctl stop oauthd
+
+# Signals, and line feeds within a header's value: to the server itself, and through nginx
+cat >/run/signals.py <<'PY'
+import signal, socket, ssl, subprocess, sys
+command = ["/usr/local/bin/oauthd", "start", "127.0.0.1:8080", "/etc/oauthd/registry.json"]
+def server():
+    begun = subprocess.Popen(command, stdout=subprocess.PIPE)
+    begun.stdout.readline()
+    return begun
+def asked(stream, path, host, body):
+    head = f"{path} HTTP/1.1\r\nHost: {host}\r\nX-Note: a\nX-Owner-Key: {sys.argv[1]}\r\nContent-Length: {len(body)}\r\n\r\n"
+    stream.sendall((head + body).encode())
+    return stream.recv(4096).decode()
+for name in "TERM", "INT", "HUP", "USR1", "USR2":
+    begun = server()
+    begun.send_signal(signal.Signals["SIG" + name])
+    try:
+        print(f"SIG{name}: {-begun.wait(5) == signal.Signals['SIG' + name]}")
+    except subprocess.TimeoutExpired:
+        print(f"SIG{name}: goes on")
+        begun.kill()
+begun = server()
+with socket.create_connection(("127.0.0.1", 8080)) as stream:
+    print("line-feed:", asked(stream, "POST /consent", "a", "client_id=app&scope=read").split("\r\n\r\n")[-1])
+open("/run/oauthd/open", "w").close()
+context = ssl.create_default_context(cafile="/etc/ssl/certs/auth.example.pem")
+with context.wrap_socket(socket.create_connection(("auth.example", 443)), server_hostname="auth.example") as stream:
+    print("line-feed-through-nginx:", [line for line in asked(stream, "GET " + sys.argv[2], "auth.example", "").split("\r\n")
+                                       if line.startswith("Location")][0][:23])
+begun.kill()
+PY
+mkdir /run/oauthd
+while IFS=': ' read -r name got; do
+    case $name in
+        SIG*) check "$name-ends-it" True "$got" ;;
+        line-feed) check line-feed-makes-a-header '{"scope":"read"}' "$got" ;;
+        *) check "$name" 'Location: /login?back=*' "$got" ;;
+    esac
+done < <(python3 /run/signals.py "$ann" "$request" 2>&1)
+
+# No secret in a log
+secrets=$(python3 - <<'PY'
+import json
+registry = json.load(open("/etc/oauthd/registry.json"))
+print("\n".join([registry["operator"], *registry["owners"], *(client["secret"] for client in registry["clients"])]))
+PY
+)
+check secrets-in-logs 0 "$( (journalctl --no-pager; cat /var/log/nginx/*) | grep -cF "$secrets")"
+[ "$tried" = 44 ] || differs 'wanted 44 checks'
+end_with checks
