@@ -57,32 +57,30 @@ fn push_request(rng: &mut ChaCha20Rng, form: &[u8], bytes: &mut Vec<u8>) -> Resu
     Ok(())
 }
 
-/// Drawn requests of 12,800 bytes at least.
-fn drawn_requests(alloc: Global, rng: &mut ChaCha20Rng) -> Result<Vec<u8>, AllocError> {
-    let mut bytes = Vec::new(alloc);
-    for _ in 0..12_800 {
-        if bytes.len() >= 12_800 {
-            return Ok(bytes);
-        }
-        let place = below(rng, 24) as usize;
-        push_request(rng, REQUESTS.get(place).copied().unwrap_or(b""), &mut bytes)?;
-    }
-    Ok(bytes)
-}
-
 /// 25 drawn pieces of 1 to 512 bytes come on a connection.
-fn come(rt: &impl Abort, edge: &mut Edge<Chain>, rng: &mut ChaCha20Rng, number: u32, bytes: &[u8]) {
-    let connection = ConnectionNo::new(number);
+fn come(
+    rt: &impl Abort,
+    edge: &mut Edge<Chain>,
+    rng: &mut ChaCha20Rng,
+    bytes: &mut Vec<u8>,
+    connection: ConnectionNo,
+) -> Result<(), AllocError> {
     assert_eq!(rt; given(edge, Event::Open(connection)), Ok(()));
-    let mut left = bytes;
     for second in 0..25u32 {
-        let length = 1 + (below(rng, 512) % 512) as usize;
-        let (piece, rest) = left.split_at(length.min(left.len()));
-        let moment = Moment::new(u64::from(1000 + second));
+        let length = below(rng, 512) as usize;
+        for _ in 0..512 {
+            if bytes.len() <= length {
+                let form = REQUESTS.get(below(rng, 24) as usize);
+                push_request(rng, form.copied().unwrap_or(b""), bytes)?;
+            }
+        }
+        let piece = bytes.as_slice().get(..=length).unwrap_or(&[]);
+        let moment = Moment::new(1000 + u64::from(second));
         assert_eq!(rt; edge.hear(connection, piece, moment, rng), Ok(()));
-        left = rest;
+        bytes.drain(..=length);
     }
     assert_eq!(rt; given(edge, Event::End(connection)), Ok(()));
+    Ok(())
 }
 
 #[test]
@@ -92,8 +90,8 @@ fn drawn_requests_are_served(rt: HostRuntime) -> Result<(), Fail> {
         let mut rng = ChaCha20Rng::from_seed([seed; 32]);
         let mut edge = edge_of(alloc, Chain::new(alloc))?;
         for number in 0..8 {
-            let bytes = drawn_requests(alloc, &mut rng)?;
-            come(&rt, &mut edge, &mut rng, number, &bytes);
+            let mut bytes = Vec::new(alloc);
+            come(&rt, &mut edge, &mut rng, &mut bytes, ConnectionNo::new(number))?;
         }
         for number in 0..8 {
             let output = edge.output(ConnectionNo::new(number));

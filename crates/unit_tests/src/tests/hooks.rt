@@ -248,6 +248,45 @@ fn programs_of_4_096_slots(rt: HostRuntime) -> Result<(), Fail> {
     Ok(())
 }
 
+/// The faults of a store that leaves its table, where its pointer is moved too far, and where it may stand behind the end.
+type Faults = (VerifyFault, VerifyFault);
+
+/// Asserts that a store at an index of at most `most`, into a table of so many bytes, is accepted where it stays in it.
+fn assert_table<R: Abort + AllocGlobal>(rt: &R, text: &str, most: u64, size: u64, faults: Faults) {
+    let (range, region) = faults;
+    let asm = HookCommand::Assemble { path: "hook" };
+    let Ok(HookAnswer::Code(code)) = asm.answer(rt.alloc(), Some(text.as_bytes())) else {
+        panic!(rt; "{text}");
+    };
+    match check(Layout::V1).answer(rt.alloc(), Some(code.as_bytes())) {
+        Ok(HookAnswer::Accepted(8)) => assert!(rt; most < size, "{text}"),
+        Err(HookCommandFault::Verify(fault)) => {
+            // The pointer may stand one past the stack's end, and the store may not.
+            assert!(rt; most >= size && fault == if most > size { range } else { region }, "{text}");
+        }
+        _ => panic!(rt; "{text}"),
+    }
+}
+
+#[test]
+fn indexes_are_accepted_where_they_stay_in_the_table(rt: HostRuntime) -> Result<(), Fail> {
+    let masked_faults = (VerifyFault::PointerRange(4), VerifyFault::OutOfRegion(5));
+    let tested_faults = (VerifyFault::PointerRange(5), VerifyFault::OutOfRegion(6));
+    for most in 0..64u64 {
+        for size in 1..65u64 {
+            let masked = format!(in rt.alloc();
+                "ldxb r2 r1 0\nand64 r2 {most}\nmov64 r3 r10\nadd64 r3 -{size}\nadd64 r3 r2\nstb r3 0 0\nmov64 r0 1\nexit"
+            )?;
+            assert_table(&rt, &masked, most, size, masked_faults);
+            let tested = format!(in rt.alloc();
+                "mov64 r0 1\nldxdw r2 r1 8\njgt64 r2 {most} +4\nmov64 r3 r10\nadd64 r3 -{size}\nadd64 r3 r2\nstb r3 0 0\nexit"
+            )?;
+            assert_table(&rt, &tested, most, size, tested_faults);
+        }
+    }
+    Ok(())
+}
+
 /// Asserts that a text has too many instructions up to a line.
 fn assert_too_long<R: Abort + AllocGlobal>(rt: &R, text: &str, line: usize) {
     let asm = HookCommand::Assemble { path: "hook" };

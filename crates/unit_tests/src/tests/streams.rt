@@ -5,6 +5,7 @@ use consent::Moment;
 use endpoints::Server;
 use hook_chain::Chain;
 use http_edge::{ConnectionNo, Demand, DrawSource, Edge};
+use pkce::digest_of;
 use rand_chacha::ChaCha20Rng;
 use rand_core::SeedableRng;
 use serving::{Clock, ServeFault, serve_one};
@@ -242,6 +243,15 @@ const BLOCKS: [&[u8; 32]; 4] = [
     b"\x9f\x07\xe7\xbe\x55\x51\x38\x7a\x98\xba\x97\x7c\x73\x2d\x08\x0d\xcb\x0f\x29\xa0\x48\xe3\x65\x69\x12\xc6\x53\x3e\x32\xee\x7a\xed",
     b"\x29\xb7\x21\x76\x9c\xe6\x4e\x43\xd5\x71\x33\xb0\x74\xd8\x39\xd5\x31\xed\x1f\x28\x51\x0a\xfb\x45\xac\xe1\x0a\x1f\x4b\x79\x4d\x6f",
 ];
+
+/// The SHA-256 of 32 zero bytes, as `sha256sum` gives it.
+const DIGEST: &[u8; 32] =
+    b"\x66\x68\x7a\xad\xf8\x62\xbd\x77\x6c\x8f\xc1\x8b\x8e\x9f\x8e\x20\x08\x97\x14\x85\x6e\xe2\x33\xb3\x90\x2a\x59\x1d\x0d\x5f\x29\x25";
+
+#[test]
+fn digests_bytes(rt: HostRuntime) {
+    assert!(rt; digest_of(&[0; 32]).bytes().as_slice() == DIGEST.as_slice());
+}
 
 #[test]
 fn draws_are_in_order(rt: HostRuntime) {

@@ -328,6 +328,19 @@ fn a_client_of_serve_reads_its_reply(rt: HostRuntime) -> Result<(), Fail> {
 }
 
 #[test]
+fn no_connection_is_served(rt: HostRuntime) -> Result<(), Fail> {
+    let config = registry_path(&rt)?;
+    let words = words_of(rt.alloc(), &["serve", "127.0.0.1:0", &config, SEED, "0"])?;
+    let (mut out, mut err) = (Page::new(rt.alloc()), Page::new(rt.alloc()));
+    assert_eq!(rt; perform(&rt, &words, &mut out, &mut err).code(), 0);
+    fs::remove_file(&rt, &config)?;
+    assert_eq!(rt; err.text(), "");
+    let line = out.text();
+    assert!(rt; line.starts_with("listening 127.0.0.1:") && !line.ends_with(":0\n"), "{line}");
+    Ok(())
+}
+
+#[test]
 fn a_connection_of_start_comes_is_read_and_written_and_closed(rt: HostRuntime) -> Result<(), Fail> {
     let config = registry_path(&rt)?;
     let visit = served(&rt, &["start", "127.0.0.1:0", &config], REQUEST)?;
