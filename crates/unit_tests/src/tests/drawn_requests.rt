@@ -65,7 +65,7 @@ fn come(
     bytes: &mut Vec<u8>,
     connection: ConnectionNo,
 ) -> Result<(), AllocError> {
-    assert_eq!(rt; given(edge, Event::Open(connection)), Ok(()));
+    assert_eq!(rt; given(edge, &Event::Open(connection)), Ok(()));
     for second in 0..25u32 {
         let length = below(rng, 512) as usize;
         for _ in 0..512 {
@@ -79,7 +79,7 @@ fn come(
         assert_eq!(rt; edge.hear(connection, piece, moment, rng), Ok(()));
         bytes.drain(..=length);
     }
-    assert_eq!(rt; given(edge, Event::End(connection)), Ok(()));
+    assert_eq!(rt; given(edge, &Event::End(connection)), Ok(()));
     Ok(())
 }
 

@@ -38,7 +38,7 @@ pub(super) fn edge_of<H: HookHost>(alloc: Global, host: H) -> Result<Edge<H>, Co
 /// An edge over a server without hooks, and connection 1.
 pub(super) fn opened(alloc: Global) -> Result<Edge<Chain>, ConfigFault> {
     let mut edge = edge_of(alloc, Chain::new(alloc))?;
-    let _ = given(&mut edge, Event::Open(first()));
+    let _ = given(&mut edge, &Event::Open(first()));
     Ok(edge)
 }
 
@@ -48,9 +48,9 @@ pub(super) fn first() -> ConnectionNo {
 }
 
 /// What comes, comes, where memory was refused once more.
-pub(super) fn given<H: HookHost>(edge: &mut Edge<H>, event: Event<'_>) -> Result<(), EdgeFault> {
-    match edge.event(event) {
-        Err(EdgeFault::Memory) => edge.event(event),
+pub(super) fn given<H: HookHost>(edge: &mut Edge<H>, event: &Event<'_>) -> Result<(), EdgeFault> {
+    match edge.event(*event) {
+        Err(EdgeFault::Memory) => edge.event(*event),
         answer => answer,
     }
 }
@@ -64,7 +64,7 @@ fn asked<H: HookHost>(edge: &mut Edge<H>, exchange: &Exchange) -> Result<(), Edg
     }];
     given(
         edge,
-        Event::Bytes {
+        &Event::Bytes {
             connection: first(),
             piece: exchange.request,
             moment: Moment::new(u64::from(exchange.moment)),

@@ -225,7 +225,7 @@ fn any_host_can_only_narrow(rt: HostRuntime) -> Result<(), Fail> {
         let host = Answering { answer, hooks };
         assert!(rt; decided(&host, &ASK) == left);
         let mut edge = edge_of(alloc, host)?;
-        assert_eq!(rt; given(&mut edge, Event::Open(first())), Ok(()));
+        assert_eq!(rt; given(&mut edge, &Event::Open(first())), Ok(()));
         assert_answered(&rt, &mut edge, CODE_GIVEN);
         assert_answered(&rt, &mut edge, exchanges);
     }

@@ -83,7 +83,7 @@ fn a_piece_that_is_given_again(rt: HostRuntime) -> Result<(), Fail> {
         moment: Moment::new(1000),
         draws: &[],
     };
-    assert_eq!(rt; given(&mut edge, undrawn), Err(EdgeFault::DrawsShort));
+    assert_eq!(rt; given(&mut edge, &undrawn), Err(EdgeFault::DrawsShort));
     assert_answered(&rt, &mut edge, STRAY);
     Ok(())
 }

@@ -337,7 +337,7 @@ struct Run {
 }
 
 /// 80 connections come.
-fn run(alloc: Global, seed: u8, failures: Option<u32>) -> Result<Run, ConfigFault> {
+fn ended(alloc: Global, seed: u8, failures: Option<u32>) -> Result<Run, ConfigFault> {
     let rng = ChaCha20Rng::from_seed([seed; 32]);
     let sockets = Fake {
         rng,
@@ -374,7 +374,7 @@ fn run(alloc: Global, seed: u8, failures: Option<u32>) -> Result<Run, ConfigFaul
 #[test]
 fn all_requests_are_answered_through_short_reads_and_writes(rt: HostRuntime) -> Result<(), Fail> {
     for seed in [1u8, 2] {
-        let run = run(rt.alloc(), seed, None)?;
+        let run = ended(rt.alloc(), seed, None)?;
         assert!(rt; run.fault == LoopFault::Wait);
         assert_eq!(rt; run.sockets.wrong_bytes, 0, "seed {seed}");
         assert_eq!(rt; run.sockets.served, 80, "seed {seed}");
@@ -385,7 +385,7 @@ fn all_requests_are_answered_through_short_reads_and_writes(rt: HostRuntime) -> 
 #[test]
 fn a_failure_ends_its_connection_alone(rt: HostRuntime) -> Result<(), Fail> {
     for seed in [1u8, 2] {
-        let run = run(rt.alloc(), seed, Some(50))?;
+        let run = ended(rt.alloc(), seed, Some(50))?;
         assert!(rt; run.fault == LoopFault::Wait);
         let (served, cut_off) = (run.sockets.served, run.sockets.cut_off);
         assert_eq!(rt; run.sockets.wrong_bytes, 0, "seed {seed}");
@@ -396,7 +396,7 @@ fn a_failure_ends_its_connection_alone(rt: HostRuntime) -> Result<(), Fail> {
 
 #[test]
 fn reports_come_in_time_and_at_the_end(rt: HostRuntime) -> Result<(), Fail> {
-    let run = run(rt.alloc(), 1, None)?;
+    let run = ended(rt.alloc(), 1, None)?;
     assert_eq!(rt; run.journal.reports, (run.seconds / 5).saturating_add(1));
     let last = run.journal.last.ok_or("no report")?;
     assert!(rt; last.moment.get() == 1000 && last.seconds == run.seconds);
