@@ -1,10 +1,9 @@
 #!/usr/bin/env bash
 # Runs the built program on each command, with files and with each status, and says what differs from what is written
-# here. It also compares the hooks of examples/hooks and the code of examples/c with their copies in the tests.
+# here. It also compares the hooks of examples/hooks and the code of examples/c with their copies in the rows.
 . "$(dirname "$0")/lib.sh"
-tests=$root/crates/hook_rows/src/tests/examples.rt
+rows=$root/crates/rows/data
 hooks=$root/examples/hooks
-hex_tests=$root/crates/hook_rows/src/tests/c_hooks.rt
 compiled=$root/examples/c
 make_room
 cd "$room" || exit 2
@@ -138,30 +137,29 @@ if [ "$(cat given.status)" != 3 ] || [ -s given.out ] || [ "$(cat given.err)" !=
     cat given.out given.err
 fi
 
-# the example hooks, and their copies in the tests
+# the example hooks, and their copies in the rows
 for hook in "$hooks"/*.asm; do
     tried=$((tried + 1))
-    awk -v name="/// $(basename "$hook")." '$0 == name { wait = 1; next } wait == 1 { wait = 2; next }
-        wait == 2 && $0 == "\";" { exit } wait == 2 { print }' "$tests" >copy.asm
+    awk -v file="-- file ${hook##*/}" '/^-- / { here = $0 == file; next } here' "$rows/examples.txt" >copy.asm
     if ! cmp -s "$hook" copy.asm; then
-        differs "$hook and its copy in $tests"
+        differs "$hook and its copy in $rows/examples.txt"
         diff "$hook" copy.asm
     fi
     "$program" asm "$hook" >hook.hex || differs "$hook is not assembled"
     "$program" check hook.hex >given.out || differs "$hook is not accepted"
 done
 
-# the compiled hooks, and their copies in the tests
+# the compiled hooks, and their copies in the rows: NAME_V3_V4 is the code of name.c for the versions 3 and 4
 for code in "$compiled"/hex/*; do
     tried=$((tried + 1))
-    file=$(basename "$code")
+    file=${code##*/}
     name=${file%.*}
-    awk -v name="/// $name.c for " -v cpu="${file##*.}" '
-        index($0, name) == 1 { wait = ($0 ~ (" " cpu "[ .]")); next }
-        wait && /^const / { next }
-        wait { last = /";$/; gsub(/[ \\";]/, ""); printf "%s", $0; if (last) exit }
-        END { print "" }' "$hex_tests" >copy.hex
-    cmp -s "$code" copy.hex || differs "$code and its copy in $hex_tests"
+    awk -v name="^[$]${name^^}(_V[1-4])+$" -v version="_${file##*.}" '
+        /^[$]/ { here = $0 ~ name && index($0 "_", toupper(version) "_"); next }
+        here && /^$/ { exit }
+        here { printf "%s", $0 }
+        END { print "" }' "$rows/compiled.txt" >copy.hex
+    cmp -s "$code" copy.hex || differs "$code and its copy in $rows/compiled.txt"
     command=check
     grep -q 'struct record2' "$compiled/$name.c" && command=check2
     "$program" $command "$code" >given.out 2>given.err || differs "$code is not accepted: $(cat given.err)"

@@ -7,16 +7,14 @@ ghost use Rattle.event_loop.specs.Goes.{IsTried, LeadsToAccepts, running};
 ghost use Rattle.event_loop.specs.Scenes.{promises};
 ghost use Rattle.endpoints.specs.Keeping.{keeping};
 
-use crate::clocks::Clocks;
 use crate::fault::ConnectionFault;
-use crate::journal::Journal;
 use crate::limits::PLACES;
 use crate::noting::note;
 use crate::place::{Place, Stage};
 use crate::queue::Queue;
 use crate::service::Service;
 use crate::sockets::{Accepted, Sockets};
-use crate::tools::Tools;
+use crate::tools::{Clocks, Journal, Tools};
 use endpoints::ImageKeeper;
 use hook_host::HookHost;
 use http_edge::{ConnectionNo, Event};

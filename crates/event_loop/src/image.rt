@@ -5,12 +5,9 @@ ghost use Rattle.event_loop.specs.Goes.{LeadsToNoImage, LeadsToShort, running};
 ghost use Rattle.event_loop.specs.Scenes.{promises, IsAllKept, IsUnkept};
 ghost use Rattle.endpoints.specs.Keeping.{keeping};
 
-use crate::clocks::Clocks;
 use crate::fault::LoopFault;
-use crate::journal::Journal;
 use crate::service::Service;
-use crate::sockets::Sockets;
-use crate::tools::Tools;
+use crate::tools::{Clocks, Journal, Sockets, Tools};
 use endpoints::{ImageFault, ImageKeeper};
 use hook_host::HookHost;
 use http_edge::Edge;

@@ -4,11 +4,8 @@ ghost use Rattle.event_loop.specs.Goes.{LeadsToKept, LeadsToLoss};
 ghost use Rattle.event_loop.specs.Scenes.{promises};
 ghost use Rattle.endpoints.specs.Keeping.{keeping};
 
-use crate::clocks::Clocks;
 use crate::fault::LoopFault;
-use crate::journal::Journal;
-use crate::sockets::Sockets;
-use crate::tools::Tools;
+use crate::tools::{Clocks, Journal, Sockets, Tools};
 use change_codec::Keeper;
 use endpoints::ImageKeeper;
 use hook_host::HookHost;

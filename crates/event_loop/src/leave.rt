@@ -11,14 +11,12 @@ ghost use Rattle.endpoints.specs.Keeping.{keeping};
 
 use crate::clocks::{Clocks, Second};
 use crate::due::Due;
-use crate::journal::Journal;
 use crate::limits::PLACES;
 use crate::noting::note_end;
 use crate::place::{Place, Stage};
 use crate::queue::Queue;
 use crate::service::Service;
-use crate::sockets::Sockets;
-use crate::tools::Tools;
+use crate::tools::{Journal, Sockets, Tools};
 use endpoints::ImageKeeper;
 use hook_host::HookHost;
 use http_edge::ConnectionNo;

@@ -10,14 +10,12 @@ ghost use Rattle.event_loop.specs.Goes.{NobodyIsSilent, WhereKnown, LeadsToActs,
 ghost use Rattle.event_loop.specs.Scenes.{promises};
 ghost use Rattle.endpoints.specs.Keeping.{keeping};
 
-use crate::clocks::Clocks;
 use crate::fault::ConnectionFault;
-use crate::journal::Journal;
 use crate::limits::{BACKLOG_LIMIT, CUT_LIMIT};
 use crate::place::{Place, Stage};
 use crate::service::Service;
 use crate::sockets::{Received, Sockets};
-use crate::tools::Tools;
+use crate::tools::{Clocks, Journal, Tools};
 use consent::Moment;
 use endpoints::ImageKeeper;
 use hook_host::HookHost;

@@ -7,13 +7,12 @@ ghost use Rattle.endpoints.specs.Keeping.{keeping};
 
 use crate::clocks::{Clocks, Second};
 use crate::fault::LoopFault;
-use crate::journal::Journal;
 use crate::keep::keep_all;
 use crate::limits::PLACES;
 use crate::queue::Queue;
 use crate::service::Service;
 use crate::sockets::{Ready, Sockets};
-use crate::tools::Tools;
+use crate::tools::{Journal, Tools};
 use endpoints::ImageKeeper;
 use hook_host::HookHost;
 

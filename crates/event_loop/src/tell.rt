@@ -6,13 +6,10 @@ ghost use Rattle.event_loop.specs.Reporting.{is_long_ago};
 ghost use Rattle.event_loop.specs.Scenes.{promises};
 ghost use Rattle.endpoints.specs.Keeping.{keeping};
 
-use crate::clocks::Clocks;
-use crate::journal::Journal;
 use crate::limits::{MINUTE, PLACES};
 use crate::report::{Notice, Report};
 use crate::service::Service;
-use crate::sockets::Sockets;
-use crate::tools::Tools;
+use crate::tools::{Clocks, Journal, Sockets, Tools};
 use change_codec::Keeper;
 use endpoints::ImageKeeper;
 use hook_host::HookHost;

@@ -1,4 +1,7 @@
 //! What the loop works with.
+pub use crate::clocks::Clocks;
+pub use crate::journal::Journal;
+pub use crate::sockets::Sockets;
 use http_edge::Edge;
 use rand_chacha::ChaCha20Rng;
 

@@ -5,12 +5,10 @@ ghost use Rattle.event_loop.specs.Goes.{NobodyIsSilent, HearsOf, LeadsToHearing,
 ghost use Rattle.event_loop.specs.Scenes.{promises};
 ghost use Rattle.endpoints.specs.Keeping.{keeping};
 
-use crate::clocks::Clocks;
-use crate::journal::Journal;
 use crate::limits::PLACES;
 use crate::service::Service;
 use crate::sockets::{Ready, Sockets};
-use crate::tools::Tools;
+use crate::tools::{Clocks, Journal, Tools};
 use endpoints::ImageKeeper;
 use hook_host::HookHost;
 

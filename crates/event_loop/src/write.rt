@@ -5,13 +5,11 @@ ghost use Rattle.event_loop.specs.Goes.{NobodyIsSilent, LeadsToActs, running, to
 ghost use Rattle.event_loop.specs.Scenes.{promises};
 ghost use Rattle.endpoints.specs.Keeping.{keeping};
 
-use crate::clocks::Clocks;
 use crate::fault::ConnectionFault;
-use crate::journal::Journal;
 use crate::place::{Place, Stage};
 use crate::service::Service;
 use crate::sockets::{Sent, Sockets};
-use crate::tools::Tools;
+use crate::tools::{Clocks, Journal, Tools};
 use endpoints::ImageKeeper;
 use hook_host::HookHost;
 use http_edge::ConnectionNo;

@@ -1,0 +1,205 @@
+//! Running a row.
+
+use crate::comparing::{Ended, Ending, differences};
+use crate::fault::Stop;
+use crate::row::{Likeness, Making, Row, RowFile, Talk, Wanted, Word};
+use crate::talk::Cut;
+use crate::world::World;
+use command_line::perform;
+use commands::Status;
+use std::alloc::{AllocError, Global};
+use std::fs::{self, File, OpenOptions};
+use std::io::{self, Write};
+use std::net::Net;
+use std::os::unix::fs::OpenOptionsExt;
+use std::random::RandomSource;
+use std::rt::{Clock, Files};
+
+/// The machine's clock, where a row does not set it.
+const NOW: u64 = 1060;
+
+/// The file of a talk.
+const TRANSCRIPT: &str = "transcript";
+
+/// Writes a file that its owner alone may read.
+fn write_file<R: Files>(rt: &R, name: &str, bytes: &[u8]) -> io::Result<()> {
+    let mut how = OpenOptions::new();
+    how.write(true).create(true).truncate(true).mode(0o600);
+    let mut file = how.open(rt, name)?;
+    file.write_all(bytes)
+}
+
+/// Carries out a command line. Where memory is refused the runner stops, unless the row wants that.
+fn ended<'f, R: Files<File = File> + Net + Clock + RandomSource + AllocGlobal>(
+    rt: &R,
+    words: &[String],
+    wanted: u8,
+) -> Result<Ended, Stop<'f>> {
+    let (mut out, mut err) = (Vec::new(rt.alloc()), Vec::new(rt.alloc()));
+    let status = perform(rt, words, &mut out, &mut err).code();
+    if status == Status::NoMemory.code() && status != wanted {
+        return Err(Stop::OutOfMemory);
+    }
+    Ok(Ended { status, out, err })
+}
+
+/// Words of texts.
+fn words_of(alloc: Global, texts: &[&str]) -> Result<Vec<String>, AllocError> {
+    let mut words = Vec::new(alloc);
+    for text in texts {
+        words.push(String::from_str(alloc, text)?)?;
+    }
+    Ok(words)
+}
+
+/// Puts what `asm` makes of a file in its place, and tells what is wrong with it, if anything is.
+fn assemble<'f, R: Files<File = File> + Net + Clock + RandomSource + AllocGlobal>(
+    rt: &R,
+    name: &str,
+) -> Result<String, Stop<'f>> {
+    let words = words_of(rt.alloc(), &["asm", name])?;
+    let ended = ended(rt, &words, 0)?;
+    if ended.status == 0 {
+        write_file(rt, name, &ended.out)?;
+        return Ok(String::new(rt.alloc()));
+    }
+    let why = String::from_utf8_lossy(rt.alloc(), &ended.err)?;
+    Ok(format!(in rt.alloc(); ": {name} is not assembled: {why:?}")?)
+}
+
+/// Writes the files of a row, and tells what is wrong with one, if anything is.
+fn write_files<'f, R: Files<File = File> + Net + Clock + RandomSource + AllocGlobal>(
+    rt: &R,
+    files: &[RowFile],
+) -> Result<String, Stop<'f>> {
+    for file in files {
+        write_file(rt, file.name.as_str(), &file.bytes)?;
+        if let Making::Assembled = file.making {
+            let told = assemble(rt, file.name.as_str())?;
+            if !told.is_empty() {
+                return Ok(told);
+            }
+        }
+    }
+    Ok(String::new(rt.alloc()))
+}
+
+/// Removes the files of a row. One that is not there stays away.
+fn remove_files<R: Files>(rt: &R, files: &[RowFile]) {
+    for file in files {
+        let _ = fs::remove_file(rt, file.name.as_str());
+    }
+    let _ = fs::remove_file(rt, TRANSCRIPT);
+}
+
+/// A word as a command is called with it. Of a file it has all but the last line end.
+fn written_word<R: Files + AllocGlobal>(rt: &R, word: &Word) -> io::Result<String> {
+    match word {
+        Word::Text(text) => Ok(String::from_str(rt.alloc(), text)?),
+        Word::OfFile(name) => {
+            let text = fs::read_to_string(rt, name.as_str())?;
+            let word = text.strip_suffix('\n').unwrap_or(text.as_str());
+            Ok(String::from_str(rt.alloc(), word)?)
+        }
+    }
+}
+
+/// The words that a command is called with.
+fn written_words<R: Files + AllocGlobal>(rt: &R, words: &[Word]) -> io::Result<Vec<String>> {
+    let mut written = Vec::new(rt.alloc());
+    for word in words {
+        written.push(written_word(rt, word)?)?;
+    }
+    Ok(written)
+}
+
+/// Runs the command lines of a row, up to the first that ends otherwise, and tells what differs.
+fn run_commands<'f, R: Files<File = File> + Net + Clock + RandomSource + AllocGlobal>(
+    rt: &R,
+    commands: &[Vec<Word>],
+    ending: Ending<'_>,
+) -> Result<String, Stop<'f>> {
+    for command in commands {
+        let words = written_words(rt, command)?;
+        let ended = ended(rt, &words, ending.status)?;
+        let told = differences(rt.alloc(), ending, &ended)?;
+        if !told.is_empty() {
+            return Ok(told);
+        }
+    }
+    Ok(String::new(rt.alloc()))
+}
+
+/// Tells where a talk is cut that differs.
+fn told_of_cut(alloc: Global, cut: Cut, told: String) -> Result<String, AllocError> {
+    match cut {
+        Cut::Behind(place) | Cut::Off(place) => {
+            format!(in alloc; ": cut behind {place} bytes{told}")
+        }
+        Cut::Nowhere | Cut::Everywhere => Ok(told),
+    }
+}
+
+/// Runs a talk, up to the first cut with which it ends otherwise, and tells what differs.
+fn run_talk<'f, R: Files<File = File> + Net + Clock + RandomSource + AllocGlobal>(
+    rt: &R,
+    talk: &Talk,
+    ending: Ending<'_>,
+) -> Result<String, Stop<'f>> {
+    let alloc = rt.alloc();
+    let words = words_of(alloc, &["replay", TRANSCRIPT])?;
+    for cut in &talk.cuts(alloc)? {
+        let transcript = talk.transcript(alloc, *cut)?;
+        write_file(rt, TRANSCRIPT, transcript.as_bytes())?;
+        let ended = ended(rt, &words, ending.status)?;
+        let told = differences(alloc, ending, &ended)?;
+        if !told.is_empty() {
+            return Ok(told_of_cut(alloc, *cut, told)?);
+        }
+    }
+    Ok(String::new(alloc))
+}
+
+/// What `replay` is to print of a talk.
+fn wanted_of_talk(alloc: Global, talk: &Talk) -> Result<Wanted, AllocError> {
+    let replies = talk.replies(alloc)?;
+    Ok(Wanted {
+        likeness: Likeness::Whole,
+        bytes: replies.into_bytes(),
+    })
+}
+
+/// Runs a row whose files stand there, and tells what differs.
+fn run_on_files<'f, R: Files<File = File> + Net + Clock + RandomSource + AllocGlobal>(
+    rt: &R,
+    row: &Row,
+) -> Result<String, Stop<'f>> {
+    let mut ending = Ending {
+        status: row.status.unwrap_or(0),
+        out: row.out.as_ref(),
+        err: row.err.as_ref(),
+    };
+    let Some(talk) = &row.talk else {
+        return run_commands(rt, &row.commands, ending);
+    };
+    if ending.out.is_some() || ending.err.is_some() {
+        return run_talk(rt, talk, ending);
+    }
+    let wanted = wanted_of_talk(rt.alloc(), talk)?;
+    ending.out = Some(&wanted);
+    run_talk(rt, talk, ending)
+}
+
+/// Runs a row, and tells what differs: nothing, where all ended as it is to end. Its files are removed behind it.
+pub fn run_row<'f, R: Files<File = File> + Net + Clock + RandomSource + AllocGlobal>(
+    rt: &R,
+    row: &Row,
+) -> Result<String, Stop<'f>> {
+    let world = World::new(rt, row.now.unwrap_or(NOW));
+    let mut told = write_files(&world, &row.files)?;
+    if told.is_empty() {
+        told = run_on_files(&world, row)?;
+    }
+    remove_files(&world, &row.files);
+    Ok(told)
+}
