@@ -42,17 +42,19 @@ const REQUESTS: &[&[u8]] = &[
 
 /// A drawn request, behind what is there. Of one in eight a byte is altered.
 fn push_request(rng: &mut ChaCha20Rng, form: &[u8], bytes: &mut Vec<u8>) -> Result<(), AllocError> {
-    let altered = if below(rng, 8) == 0 { below(rng, 256) as usize } else { usize::MAX };
+    let altered = if below(rng, 8) == 0 {
+        below(rng, 256) as usize
+    } else {
+        usize::MAX
+    };
     for (i, &given) in form.iter().enumerate() {
-        bytes.push(
-            if given == b'*' {
-                b"0123456789abcdef"[(byte(rng) % 16) as usize]
-            } else if given == b'#' || i == altered {
-                byte(rng)
-            } else {
-                given
-            },
-        )?;
+        bytes.push(if given == b'*' {
+            b"0123456789abcdef"[(byte(rng) % 16) as usize]
+        } else if given == b'#' || i == altered {
+            byte(rng)
+        } else {
+            given
+        })?;
     }
     Ok(())
 }
@@ -66,18 +68,21 @@ fn come(
     connection: ConnectionNo,
 ) -> Result<(), AllocError> {
     assert_eq!(rt; given(edge, &Event::Open(connection)), Ok(()));
+    let mut end = 0usize;
     for second in 0..25u32 {
-        let length = below(rng, 512) as usize;
+        let start = end;
+        end = start
+            .saturating_add(1)
+            .saturating_add(below(rng, 512) as usize);
         for _ in 0..512 {
-            if bytes.len() <= length {
+            if bytes.len() < end {
                 let form = REQUESTS.get(below(rng, 24) as usize);
                 push_request(rng, form.copied().unwrap_or(b""), bytes)?;
             }
         }
-        let piece = bytes.as_slice().get(..=length).unwrap_or(&[]);
-        let moment = Moment::new(1000 + u64::from(second));
+        let piece = bytes.as_slice().get(start..end).unwrap_or(&[]);
+        let moment = Moment::new(u64::from(1000 + second));
         assert_eq!(rt; edge.hear(connection, piece, moment, rng), Ok(()));
-        bytes.drain(..=length);
     }
     assert_eq!(rt; given(edge, &Event::End(connection)), Ok(()));
     Ok(())
@@ -91,7 +96,13 @@ fn drawn_requests_are_served(rt: HostRuntime) -> Result<(), Fail> {
         let mut edge = edge_of(alloc, Chain::new(alloc))?;
         for number in 0..8 {
             let mut bytes = Vec::new(alloc);
-            come(&rt, &mut edge, &mut rng, &mut bytes, ConnectionNo::new(number))?;
+            come(
+                &rt,
+                &mut edge,
+                &mut rng,
+                &mut bytes,
+                ConnectionNo::new(number),
+            )?;
         }
         for number in 0..8 {
             let output = edge.output(ConnectionNo::new(number));

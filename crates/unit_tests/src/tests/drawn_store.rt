@@ -1,7 +1,7 @@
 //! Drawn histories, in which the store answers as the plain list does.
 
-use super::store::make;
 use super::plain_store::{Item, Plain};
+use super::store::make;
 use consent::{
     CODE_LIFE, Change, Changes, ClientNo, CodeFacts, Digest, Kind, Moment, NewToken, OwnerNo,
     ScopeSet, TokenKind,
@@ -43,11 +43,11 @@ impl Draws {
     }
 
     fn owner(&mut self) -> OwnerNo {
-        OwnerNo::new(u32::from(self.below(2)).saturating_add(1))
+        OwnerNo::new(if self.below(2) == 0 { 1 } else { 2 })
     }
 
     fn client(&mut self) -> ClientNo {
-        ClientNo::new(u32::from(self.below(2)).saturating_add(1))
+        ClientNo::new(if self.below(2) == 0 { 1 } else { 2 })
     }
 
     fn scope(&mut self) -> ScopeSet {

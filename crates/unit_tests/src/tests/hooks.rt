@@ -98,6 +98,7 @@ fn change(rng: &mut ChaCha20Rng, code: &mut [u8]) {
 
 /// How many programs are drawn from each, and how many of them have to be accepted in all, so that the test tests something.
 const DRAWN: u32 = 100;
+
 const ACCEPTED: usize = 500;
 
 /// Asserts that a program is accepted and runs alike on both machines. So do those that are drawn from it where they are
@@ -132,7 +133,11 @@ fn programs_run_alike(rt: HostRuntime) -> Result<(), Fail> {
     let mut rng = ChaCha20Rng::from_seed([7; 32]);
     let mut count = 0usize;
     for line in PROGRAMS.split('\n') {
-        let layout = if line.starts_with("2") { Layout::V2 } else { Layout::V1 };
+        let layout = if line.starts_with("2") {
+            Layout::V2
+        } else {
+            Layout::V1
+        };
         let (_, digits) = line.rsplit_once(' ').unwrap_or(("", ""));
         let mut code = bytes_of_hex(rt.alloc(), digits.as_bytes())?.ok_or("it is no hex")?;
         count = count.saturating_add(assert_all_run_alike(&rt, &mut rng, layout, &mut code)?);
@@ -262,7 +267,10 @@ fn assert_table<R: Abort + AllocGlobal>(rt: &R, text: &str, most: u64, size: u64
         Ok(HookAnswer::Accepted(8)) => assert!(rt; most < size, "{text}"),
         Err(HookCommandFault::Verify(fault)) => {
             // The pointer may stand one past the stack's end, and the store may not.
-            assert!(rt; most >= size && fault == if most > size { range } else { region }, "{text}");
+            assert!(rt;
+                most >= size && fault == if most > size { range } else { region },
+                "{text}"
+            );
         }
         _ => panic!(rt; "{text}"),
     }

@@ -1,10 +1,10 @@
 //! A client whose requests come one a round, some of which change something, over a keeper that fails after so many batches.
 
 use super::sockets::{Count, Ticking, edge_that_notes, limits};
-use event_loop::{Accepted, LoopFault, Ready, Received, Sent, Sockets, Tools, serve_all};
 use change_codec::{Batch, KeepFault, Keeper, decode};
 use clients::ConfigFault;
 use endpoints::{ImageFault, ImageKeeper, Server};
+use event_loop::{Accepted, LoopFault, Ready, Received, Sent, Sockets, Tools, serve_all};
 use hook_host::HookHost;
 use rand_chacha::ChaCha20Rng;
 use rand_core::SeedableRng;

@@ -151,7 +151,11 @@ impl Fake {
 
     /// Where nothing is told for long, all is done, or something was forgotten.
     fn is_over(&mut self, is_quiet: bool) -> bool {
-        self.quiet_waits = if is_quiet { self.quiet_waits.saturating_add(1) } else { 0 };
+        self.quiet_waits = if is_quiet {
+            self.quiet_waits.saturating_add(1)
+        } else {
+            0
+        };
         self.quiet_waits > 50
     }
 }
@@ -389,7 +393,10 @@ fn a_failure_ends_its_connection_alone(rt: HostRuntime) -> Result<(), Fail> {
         assert!(rt; run.fault == LoopFault::Wait);
         let (served, cut_off) = (run.sockets.served, run.sockets.cut_off);
         assert_eq!(rt; run.sockets.wrong_bytes, 0, "seed {seed}");
-        assert!(rt; cut_off > 0 && served.saturating_add(cut_off) == 80, "seed {seed}");
+        assert!(rt;
+            cut_off > 0 && served.saturating_add(cut_off) == 80,
+            "seed {seed}"
+        );
     }
     Ok(())
 }

@@ -5,11 +5,11 @@ use std::alloc::Global;
 use std::process::Abort;
 use token_store::{Store, StoreFault};
 
-fn numbered(number: usize, life: u32) -> NewToken {
-    let mut digest = [0; 32];
-    digest[0] = (number % 256) as u8;
-    digest[1] = (number / 256 % 256) as u8;
-    digest[2] = (number / 65536 % 256) as u8;
+fn numbered(number: u32, life: u32) -> NewToken {
+    let [low, middle, high, _] = number.to_le_bytes();
+    let mut digest = [high; 32];
+    digest[0] = low;
+    digest[1] = middle;
     NewToken {
         kind: TokenKind::Access,
         digest: Digest::new(digest),
@@ -34,7 +34,7 @@ fn issue(store: &mut Store, token: NewToken, moment: Moment) -> Option<StoreFaul
 }
 
 // So many tokens of this life, given at 1000, each in a family of its own.
-fn filled(rt: &impl Abort, alloc: Global, count: usize, life: u32) -> Store {
+fn filled(rt: &impl Abort, alloc: Global, count: u32, life: u32) -> Store {
     let mut store = Store::new(alloc);
     for number in 0..count {
         let fault = issue(&mut store, numbered(number, life), Moment::new(1000));

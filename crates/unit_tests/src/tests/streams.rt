@@ -177,7 +177,11 @@ fn comes(alloc: Global, course: Course, wanted: Wanted) -> Result<bool, ConfigFa
 }
 
 /// Asserts what comes of a connection. What wants memory that is refused ends otherwise, so it is served twice then.
-fn assert_comes<R: Abort + AllocGlobal>(rt: &R, course: Course, wanted: Wanted) -> Result<(), Fail> {
+fn assert_comes<R: Abort + AllocGlobal>(
+    rt: &R,
+    course: Course,
+    wanted: Wanted,
+) -> Result<(), Fail> {
     if let Ok(true) = comes(rt.alloc(), course, wanted) {
         return Ok(());
     }
@@ -214,7 +218,11 @@ fn a_write_fails_or_takes_one_byte(rt: HostRuntime) -> Result<(), Fail> {
             ..SMOOTH
         };
         let wanted = Wanted {
-            ended: if writes == ANY { Ok(()) } else { Err(ServeFault::Write) },
+            ended: if writes == ANY {
+                Ok(())
+            } else {
+                Err(ServeFault::Write)
+            },
             bytes,
             issued,
         };

@@ -304,7 +304,9 @@ fn fresh_path<R: RandomSource + AllocGlobal>(rt: &R) -> Result<String, Fail> {
 }
 
 /// The path of a file where the registry stands.
-fn registry_path<R: Files<File = File> + RandomSource + AllocGlobal>(rt: &R) -> Result<String, Fail> {
+fn registry_path<R: Files<File = File> + RandomSource + AllocGlobal>(
+    rt: &R,
+) -> Result<String, Fail> {
     let path = fresh_path(rt)?;
     fs::write(rt, &path, REGISTRY)?;
     Ok(path)
@@ -336,7 +338,10 @@ fn no_connection_is_served(rt: HostRuntime) -> Result<(), Fail> {
     fs::remove_file(&rt, &config)?;
     assert_eq!(rt; err.text(), "");
     let line = out.text();
-    assert!(rt; line.starts_with("listening 127.0.0.1:") && !line.ends_with(":0\n"), "{line}");
+    assert!(rt;
+        line.starts_with("listening 127.0.0.1:") && !line.ends_with(":0\n"),
+        "{line}"
+    );
     Ok(())
 }
 
