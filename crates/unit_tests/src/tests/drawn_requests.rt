@@ -1,7 +1,7 @@
 //! Drawn requests: in ample memory no event is refused for it, and no reply is 503.
 
 use super::draws::{below, byte};
-use super::exchanges::{edge_of, given};
+use super::exchanges::{edge_of, open};
 use consent::Moment;
 use hook_chain::Chain;
 use http_edge::{ConnectionNo, Edge, Event};
@@ -67,7 +67,7 @@ fn come(
     bytes: &mut Vec<u8>,
     connection: ConnectionNo,
 ) -> Result<(), AllocError> {
-    assert_eq!(rt; given(edge, &Event::Open(connection)), Ok(()));
+    assert_eq!(rt; open(edge, connection), Ok(()));
     let mut end = 0usize;
     for second in 0..25u32 {
         let start = end;
@@ -84,7 +84,7 @@ fn come(
         let moment = Moment::new(u64::from(1000 + second));
         assert_eq!(rt; edge.hear(connection, piece, moment, rng), Ok(()));
     }
-    assert_eq!(rt; given(edge, &Event::End(connection)), Ok(()));
+    assert_eq!(rt; edge.event(Event::End(connection)), Ok(()));
     Ok(())
 }
 

@@ -38,7 +38,7 @@ pub(super) fn edge_of<H: HookHost>(alloc: Global, host: H) -> Result<Edge<H>, Co
 /// An edge over a server without hooks, and connection 1.
 pub(super) fn opened(alloc: Global) -> Result<Edge<Chain>, ConfigFault> {
     let mut edge = edge_of(alloc, Chain::new(alloc))?;
-    let _ = given(&mut edge, &Event::Open(first()));
+    let _ = open(&mut edge, first());
     Ok(edge)
 }
 
@@ -47,30 +47,40 @@ pub(super) fn first() -> ConnectionNo {
     ConnectionNo::new(1)
 }
 
-/// What comes, comes, where memory was refused once more.
-pub(super) fn given<H: HookHost>(edge: &mut Edge<H>, event: &Event<'_>) -> Result<(), EdgeFault> {
-    match edge.event(*event) {
-        Err(EdgeFault::Memory) => edge.event(*event),
+/// A connection is opened, where memory was refused once more.
+pub(super) fn open<H: HookHost>(edge: &mut Edge<H>, c: ConnectionNo) -> Result<(), EdgeFault> {
+    match edge.event(Event::Open(c)) {
+        Err(EdgeFault::Memory) => edge.event(Event::Open(c)),
         answer => answer,
     }
 }
 
-/// A request comes on connection 1.
+/// A piece comes on connection 1.
+pub(super) fn piece<H: HookHost>(
+    edge: &mut Edge<H>,
+    piece: &[u8],
+    moment: u32,
+    draws: &[Draws],
+) -> Result<(), EdgeFault> {
+    edge.event(Event::Bytes {
+        connection: first(),
+        piece,
+        moment: Moment::new(u64::from(moment)),
+        draws,
+    })
+}
+
+/// A request comes on connection 1, where memory was refused once more.
 fn asked<H: HookHost>(edge: &mut Edge<H>, exchange: &Exchange) -> Result<(), EdgeFault> {
     let (one, other) = exchange.draws;
     let draws = [Draws {
         first: [one; 32],
         second: [other; 32],
     }];
-    given(
-        edge,
-        &Event::Bytes {
-            connection: first(),
-            piece: exchange.request,
-            moment: Moment::new(u64::from(exchange.moment)),
-            draws: &draws,
-        },
-    )
+    match piece(edge, exchange.request, exchange.moment, &draws) {
+        Err(EdgeFault::Memory) => piece(edge, exchange.request, exchange.moment, &draws),
+        answer => answer,
+    }
 }
 
 /// All that goes out on connection 1 is taken.

@@ -1,10 +1,9 @@
 //! What hosts of hooks may answer, and what is made of it.
 
-use super::exchanges::{Exchange, assert_answered, edge_of, first, given};
+use super::exchanges::{Exchange, assert_answered, edge_of, first, open};
 use hook_chain::Chain;
 use hook_host::{HookFault, HookHost, decided};
 use hook_record::{Ask, Kind, Narrowed};
-use http_edge::Event;
 use insn::layout::Layout;
 use std::test::Fail;
 
@@ -225,7 +224,7 @@ fn any_host_can_only_narrow(rt: HostRuntime) -> Result<(), Fail> {
         let host = Answering { answer, hooks };
         assert!(rt; decided(&host, &ASK) == left);
         let mut edge = edge_of(alloc, host)?;
-        assert_eq!(rt; given(&mut edge, &Event::Open(first())), Ok(()));
+        assert_eq!(rt; open(&mut edge, first()), Ok(()));
         assert_answered(&rt, &mut edge, CODE_GIVEN);
         assert_answered(&rt, &mut edge, exchanges);
     }

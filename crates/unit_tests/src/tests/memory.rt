@@ -1,8 +1,7 @@
 //! Events that are refused for want of memory or of draws and given again, and what is counted of them.
 
-use super::exchanges::{Exchange, assert_answered, first, given, opened};
-use consent::Moment;
-use http_edge::{EdgeFault, Event};
+use super::exchanges::{Exchange, assert_answered, opened, piece};
+use http_edge::EdgeFault;
 use std::test::Fail;
 
 /// From a consent to a token that is told of, and a hook.
@@ -77,13 +76,8 @@ const STRAY: &[Exchange] = &[Exchange {
 #[test]
 fn a_piece_that_is_given_again(rt: HostRuntime) -> Result<(), Fail> {
     let mut edge = opened(rt.alloc())?;
-    let undrawn = Event::Bytes {
-        connection: first(),
-        piece: b"GET /a HTTP/1.1\r\n\r\n",
-        moment: Moment::new(1000),
-        draws: &[],
-    };
-    assert_eq!(rt; given(&mut edge, &undrawn), Err(EdgeFault::DrawsShort));
+    let undrawn = piece(&mut edge, b"GET /a HTTP/1.1\r\n\r\n", 1000, &[]);
+    assert_eq!(rt; undrawn, Err(EdgeFault::DrawsShort));
     assert_answered(&rt, &mut edge, STRAY);
     Ok(())
 }
