@@ -1,10 +1,10 @@
 //! Drawn requests: in ample memory no event is refused for it, and no reply is 503.
 
 use super::draws::{below, byte};
-use super::exchanges::{edge_of, open};
+use super::exchanges::{edge_of, end, open};
 use consent::Moment;
 use hook_chain::Chain;
-use http_edge::{ConnectionNo, Edge, Event};
+use http_edge::{ConnectionNo, Edge};
 use rand_chacha::ChaCha20Rng;
 use rand_core::SeedableRng;
 use std::alloc::{AllocError, Global};
@@ -68,23 +68,23 @@ fn come(
     connection: ConnectionNo,
 ) -> Result<(), AllocError> {
     assert_eq!(rt; open(edge, connection), Ok(()));
-    let mut end = 0usize;
+    let mut past = 0usize;
     for second in 0..25u32 {
-        let start = end;
-        end = start
+        let start = past;
+        past = start
             .saturating_add(1)
             .saturating_add(below(rng, 512) as usize);
         for _ in 0..512 {
-            if bytes.len() < end {
+            if bytes.len() < past {
                 let form = REQUESTS.get(below(rng, 24) as usize);
                 push_request(rng, form.copied().unwrap_or(b""), bytes)?;
             }
         }
-        let piece = bytes.as_slice().get(start..end).unwrap_or(&[]);
+        let piece = bytes.as_slice().get(start..past).unwrap_or(&[]);
         let moment = Moment::new(u64::from(1000 + second));
         assert_eq!(rt; edge.hear(connection, piece, moment, rng), Ok(()));
     }
-    assert_eq!(rt; edge.event(Event::End(connection)), Ok(()));
+    assert_eq!(rt; end(edge, connection), Ok(()));
     Ok(())
 }
 

@@ -55,6 +55,11 @@ pub(super) fn open<H: HookHost>(edge: &mut Edge<H>, c: ConnectionNo) -> Result<(
     }
 }
 
+/// The stream of a connection ends.
+pub(super) fn end<H: HookHost>(edge: &mut Edge<H>, c: ConnectionNo) -> Result<(), EdgeFault> {
+    edge.event(Event::End(c))
+}
+
 /// A piece comes on connection 1.
 pub(super) fn piece<H: HookHost>(
     edge: &mut Edge<H>,
@@ -85,8 +90,9 @@ fn asked<H: HookHost>(edge: &mut Edge<H>, exchange: &Exchange) -> Result<(), Edg
 
 /// All that goes out on connection 1 is taken.
 fn take_all<H: HookHost>(edge: &mut Edge<H>) {
-    let length = edge.output(first()).len();
-    edge.take(first(), length);
+    let connection = first();
+    let length = edge.output(connection).len();
+    edge.take(connection, length);
 }
 
 /// Asserts that requests are answered as they are to be.
