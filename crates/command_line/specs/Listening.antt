@@ -11,7 +11,6 @@ use Rattle.command_line.specs.declared.fault.PerformFault.{PerformFault}
 use Rattle.command_line.specs.declared.fault.PerformFault.TheVariants.{Command, Stopped}
 use Rattle.commands.specs.declared.status.Status.{Status}
 use Rattle.commands.specs.declared.status.Status.TheVariants.{Done}
-use Rattle.command_line.specs.declared.hook_files.HookRead.{HookRead}
 use Rattle.commands.specs.declared.named_file.NamedFile.{NamedFile}
 use Rattle.command_line.specs.declared.service.ServeWords.{ServeWords}
 use Rattle.start_words.specs.declared.words.StartWords.{StartWords}

@@ -2,7 +2,7 @@
 use Rattle.std.specs.Prelude.{◌≡◌, ◌≢◌, ⊤, ℕ, List, [], ◌∷◌, map, codes, Option, Some, None, String}
 use Rattle.std.specs.String.{string_bytes}
 use Rattle.std.specs.declared.alloc.Global.{Global}
-use Rattle.hook_trial.specs.declared.asking.AskWords.{AskWords}
+use Rattle.hook_commands.specs.declared.asking.AskWords.{AskWords}
 use Rattle.insn.specs.declared.layout.Layout.TheVariants.{V1, V2}
 use Rattle.hook_commands.specs.Answers.{file_of_hook_command}
 use Rattle.hook_commands.specs.declared.command.HookCommand.{HookCommand}

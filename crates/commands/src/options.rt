@@ -4,8 +4,7 @@ ghost use Rattle.std.specs.Prelude.{◌≡◌, ◌≢◌, [], ◌∷◌, map, st
 ghost use Rattle.commands.specs.Words.{ask_words, words_of_command, IsAsking, IsCommand, NameNone, NameNoOptional};
 
 use crate::command::Command;
-use hook_commands::HookCommand;
-use hook_trial::asking::AskWords;
+use hook_commands::{AskWords, HookCommand};
 use insn::layout::Layout;
 
 /// The command about a file that a name, an option and the file's path name.

@@ -1,2 +1,3 @@
+pub mod Ways
 mod HexReading
 mod Refusing

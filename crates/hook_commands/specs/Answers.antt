@@ -3,7 +3,7 @@ use Rattle.std.specs.Prelude.{◌≡◌, ◌≢◌, ◌⊎◌, ℕ, List, ◌++�
 use Rattle.std.specs.String.{string_bytes}
 use Rattle.insn.specs.declared.instruction.Insn.{Insn as Instruction}
 use Rattle.encoding.specs.Spelling.{Spells}
-use Rattle.hook_trial.specs.Tracing.{IsTraceTold}
+use Rattle.hook_commands.specs.Tracing.{IsTraceTold}
 use Rattle.insn.specs.declared.fault.InsnFault.TheVariants as insn
 use Rattle.insn.specs.declared.verify_fault.VerifyFault.TheVariants as verify
 use Rattle.hook_commands.specs.declared.command.HookCommand.{HookCommand}

@@ -4,10 +4,9 @@ use Rattle.std.specs.String.{string_bytes}
 use Rattle.insn.specs.declared.instruction.Insn.{Insn}
 use Rattle.insn.specs.declared.layout.Layout.{Layout}
 use Rattle.hook_record.specs.declared.Ask.{Ask}
-use Rattle.hook_trial.specs.declared.asking.AskWords.{AskWords}
-use Rattle.hook_trial.specs.Asking.{SayAsk, record_hex}
-use Rattle.hook_trial.specs.declared.why.Told.TheVariants.{Accepted, Refused}
-use Rattle.hook_trial.specs.Explanations.{IsExplanation}
+use Rattle.hook_commands.specs.declared.asking.AskWords.{AskWords}
+use Rattle.hook_commands.specs.Asking.{SayAsk, record_hex}
+use Rattle.hook_commands.specs.Explanations.{IsExplanation}
 use Rattle.lister.specs.Slots.{slotted_text}
 use Rattle.hook_commands.specs.declared.answer.HookAnswer.{HookAnswer}
 use Rattle.hook_commands.specs.declared.answer.HookAnswer.TheVariants as answers
@@ -43,11 +42,9 @@ IsListedWithSlotsAs path file (Err fault) = HoldsNoToldProgram path file fault
 
 -- ---- `check --why` and `check2 --why`
 
--- the answer tells what is found of the file's program: an acceptance is a listing, and a refusal one of its own
+-- the answer tells what is found of the file's program
 abbrev pub IsExplainedOn : Layout → List ℕ → File → Result HookAnswer HookCommandFault → Type 0
-IsExplainedOn layout path file (Ok (answers.Listing text)) = (program : List Insn) × HoldsProgram file program × IsExplanation layout program (Accepted text)
-IsExplainedOn layout path file (Ok (answers.Refusal text)) = (program : List Insn) × HoldsProgram file program × IsExplanation layout program (Refused text)
-IsExplainedOn layout path file (Ok answer) = ⊥
+IsExplainedOn layout path file (Ok answer) = (program : List Insn) × HoldsProgram file program × IsExplanation layout program answer
 IsExplainedOn layout path file (Err fault) = HoldsNoToldProgram path file fault
 
 -- ---- `ask` and `ask2`

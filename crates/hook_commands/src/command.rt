@@ -5,6 +5,7 @@ ghost use Rattle.std.specs.Option.{option_copied};
 ghost use Rattle.hook_commands.specs.Answers.{file_of_hook_command, IsHookAnsweredBy};
 
 use crate::answer::HookAnswer;
+use crate::asking::AskWords;
 use crate::commands::ask::asked;
 use crate::commands::asm::assembled;
 use crate::commands::check::check;
@@ -14,7 +15,6 @@ use crate::commands::slots::listing_with_slots;
 use crate::commands::trace::traced;
 use crate::commands::why::explained_check;
 use crate::fault::HookCommandFault;
-use hook_trial::asking::AskWords;
 use insn::layout::Layout;
 use std::alloc::Global;
 

@@ -4,16 +4,29 @@
 //! one has no answer, each with the text that it is printed as. `judge` takes a hook's bytes and a record's through the
 //! layers below, and `hex_text` reads hex as arguments and files have it. No word of a command line, no file and no status
 //! is known here.
+//!
+//! `why` tells what `verifier::explain` finds, with what the manual says of a fault; `reading` names the registers that
+//! an instruction reads, `known_text` tells what is known of one, and `bytes_text` what is known of the stack's bytes that
+//! a load reads; `way` finds the jumps that lead to an instruction. `trace` tells the steps of a run, and `asking` makes
+//! the record that a run is tried on.
 #![tactic(auto)]
 
 pub mod answer;
+mod asking;
+mod bytes_text;
 pub mod command;
 mod commands;
 pub mod fault;
 pub mod hex_text;
 pub mod judge;
+mod known_text;
+mod reading;
+mod trace;
+mod way;
+mod why;
 
 pub use answer::HookAnswer;
+pub use asking::AskWords;
 pub use command::HookCommand;
 pub use commands::text_file::text_in;
 pub use fault::HookCommandFault;

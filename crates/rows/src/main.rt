@@ -2,21 +2,12 @@
 //! makes of its words.
 #![tactic(auto)]
 
-mod blocks;
-mod comparing;
-mod fault;
-mod names;
-mod reading;
-mod row;
 mod running;
-mod sections;
-mod talk;
-mod words;
 mod world;
 
-use fault::Stop;
-use names::Names;
-use reading::rows_of;
+use row_files::fault::Stop;
+use row_files::names::Names;
+use row_files::reading::rows_of;
 use running::run_row;
 use std::env;
 use std::fs::{self, File};

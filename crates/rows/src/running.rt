@@ -1,12 +1,12 @@
 //! Running a row.
 
-use crate::comparing::{Ended, Ending, differences};
-use crate::fault::Stop;
-use crate::row::{Likeness, Making, Row, RowFile, Talk, Wanted, Word};
-use crate::talk::Cut;
 use crate::world::World;
 use command_line::perform;
 use commands::Status;
+use row_files::comparing::{Ended, Ending, differences};
+use row_files::fault::Stop;
+use row_files::row::{Likeness, Making, Row, RowFile, Talk, Wanted, Word};
+use row_files::talk::Cut;
 use std::alloc::{AllocError, Global};
 use std::fs::{self, File, OpenOptions};
 use std::io::{self, Write};

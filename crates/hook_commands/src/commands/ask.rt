@@ -3,8 +3,8 @@
 ghost use Rattle.hook_commands.specs.Telling.{IsAskedAs};
 
 use crate::answer::HookAnswer;
+use crate::asking::{AskWords, hex_of, told_ask};
 use crate::fault::HookCommandFault;
-use hook_trial::asking::{AskWords, hex_of, told_ask};
 use insn::layout::Layout;
 use std::alloc::Global;
 

@@ -8,8 +8,8 @@ use crate::commands::run::run;
 use crate::fault::HookCommandFault;
 use crate::hex_text::bytes_of_hex;
 use crate::judge::{Asked, Judged};
+use crate::trace::trace_told;
 use encoding::decode;
-use hook_trial::trace::trace_told;
 use std::alloc::Global;
 use std::fmt::Write;
 

@@ -6,7 +6,7 @@ ghost use Rattle.hook_commands.specs.Telling.{IsExplainedOn};
 use crate::answer::HookAnswer;
 use crate::commands::told_file::told_program_in;
 use crate::fault::HookCommandFault;
-use hook_trial::why::{Told, explanation};
+use crate::why::explanation;
 use insn::layout::Layout;
 use std::alloc::Global;
 
@@ -20,8 +20,5 @@ pub fn explained_check<'w>(
     ensures { IsExplainedOn layout path.now (option_copied file.entry) result }
 {
     let program = told_program_in(alloc, path, file)?;
-    match explanation(alloc, &program, layout)? {
-        Told::Accepted(text) => Ok(HookAnswer::Listing(text)),
-        Told::Refused(text) => Ok(HookAnswer::Refusal(text)),
-    }
+    Ok(explanation(alloc, &program, layout)?)
 }

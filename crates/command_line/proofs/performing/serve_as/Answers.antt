@@ -1,5 +1,4 @@
 use Rattle.std.proofs.Common.{◌≡◌, [], Err, IsSome, None, Some, inl, inr, map, refl, rules, subst}
-use Rattle.commands.specs.Config.{HoldsRegistry}
 use Rattle.command_line.specs.Faults.{of_listening}
 use Rattle.command_line.specs.Hooks.{AreFactsOf, hook_fact_of, in_file, TakesHooks}
 use Rattle.command_line.proofs.Beginning.{anew, comes_of, on_state, refused_of}

@@ -1,4 +1,4 @@
-use Rattle.std.proofs.Common.{◌≡◌, ◌∙◌, Err, ap, inl, inr, map, refl, rules, sym, subst}
+use Rattle.std.proofs.Common.{◌≡◌, ◌∙◌, Err, ap, inl, inr, map, refl, rules}
 use Rattle.image_codec.specs.Facts.{hook_fact}
 use Rattle.command_line.specs.Faults.{of_state}
 use Rattle.command_line.specs.Hooks.{hook_fact_of}

@@ -1,0 +1,57 @@
+-- How a way is sought: a table has for each slot the step by which one goes on towards a goal. No public clause cites these.
+use Rattle.std.specs.Prelude.{◌≡◌, ◌≢◌, ◌==◌, ◌||◌, ℕ, ◌≤◌, ◌<◌, Bool, if◌then◌else◌, List, Option, Some, None, is_some, length, slice_index_or}
+use Rattle.std.specs.Option.{option_map, option_or}
+use Rattle.insn.specs.declared.instruction.Insn.{Insn}
+use Rattle.insn.specs.declared.register.RegNo.{RegNo}
+use Rattle.insn.specs.Program.{slot_count}
+use Rattle.hook_commands.specs.declared.way.Hop.{Hop}
+use Rattle.hook_commands.specs.declared.way.Step.{Step}
+use Rattle.hook_commands.specs.declared.way.Step.TheVariants.{Past, Jumping}
+use Rattle.hook_commands.specs.Ways.{goes_past, jump_target, slot_behind, GoesBehind, IsJump, Leads}
+
+-- a way leads to the goal from a slot of which the table has the step, and from the goal itself
+abbrev pub is_led : List (Option Step) → ℕ → ℕ → Bool
+is_led steps goal slot = (slot == goal) || is_some (slice_index_or steps slot None)
+
+-- a slot, if a way leads from it to the goal
+abbrev pub where_led : List (Option Step) → ℕ → Option ℕ → Option ℕ
+where_led steps goal None = None
+where_led steps goal (Some to) = if is_led steps goal to then Some to else None
+
+-- where one goes on behind an instruction at a slot
+abbrev pub target_past : Option RegNo → ℕ → Insn → Option ℕ
+target_past unwritten slot i = if goes_past unwritten i then Some (slot_behind slot i) else None
+
+-- the step from a slot, of what begins there: past it, if a way leads on there, or else by its jump
+abbrev pub step_of : List (Option Step) → Option RegNo → ℕ → ℕ → Option Insn → Option Step
+step_of steps unwritten goal slot None = None
+step_of steps unwritten goal slot (Some i) =
+    option_or
+    (option_map Past (where_led steps goal (target_past unwritten slot i)))
+    (option_map Jumping (where_led steps goal (jump_target slot i)))
+
+abbrev pub step_slot : Step → ℕ
+step_slot (Past to) = to
+step_slot (Jumping to) = to
+
+-- one takes a step from a slot
+abbrev pub Moves : List Insn → Option RegNo → ℕ → Step → Type 0
+Moves program unwritten from (Past to) = GoesBehind program unwritten from to
+Moves program unwritten from (Jumping to) = IsJump program from to
+
+-- a step goes further, and a way leads on from there
+pub record WayLeadsOn (program : List Insn) (unwritten : Option RegNo) (goal slot : ℕ) (step : Step) : Type 0 where
+  pub moves : Moves program unwritten slot step
+  pub rest : List Hop
+  pub leads : Leads program unwritten (step_slot step) rest goal
+  pub further : slot < step_slot step
+
+-- a step leads on from a slot; or no way leads from it to the goal
+abbrev pub IsStepFrom : List Insn → Option RegNo → ℕ → ℕ → Option Step → Type 0
+IsStepFrom program unwritten goal slot None = (hops : List Hop) → Leads program unwritten slot hops goal → ⊥
+IsStepFrom program unwritten goal slot (Some step) = WayLeadsOn program unwritten goal slot step
+
+-- a table has the steps from a slot on, but of the goal, where one steps no more
+pub record AreWaySteps (program : List Insn) (unwritten : Option RegNo) (goal from : ℕ) (steps : List (Option Step)) : Type 0 where
+  pub long : length steps ≡ slot_count program
+  pub each : (k : ℕ) → from ≤ k → k ≢ goal → IsStepFrom program unwritten goal k (slice_index_or steps k None)

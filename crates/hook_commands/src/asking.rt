@@ -1,0 +1,97 @@
+//! The record of an ask that is told by a few numbers.
+
+ghost use Rattle.std.specs.Prelude.{◌≡◌, ◌^◌, ℕ, IfOk, IfSome, IfNone};
+ghost use Rattle.std.specs.String.{string_bytes};
+ghost use Rattle.hook_record.specs.Record.{kind_of};
+ghost use Rattle.hook_commands.specs.Asking.{record_hex, IsNumber, SayAsk};
+
+use hook_record::{Ask, Kind, write, write_v2};
+use insn::layout::Layout;
+use std::alloc::{AllocError, Global};
+
+/// Six numbers as text, which tell an ask.
+#[derive(Clone, Copy, Debug)]
+pub struct AskWords<'w> {
+    /// The number of the grant's kind.
+    pub kind: &'w str,
+    /// The moment, in seconds.
+    pub now: &'w str,
+    /// The client's number.
+    pub client: &'w str,
+    /// The owner's number.
+    pub owner: &'w str,
+    /// The mask of the scopes.
+    pub scope: &'w str,
+    /// The access token's lifetime, in seconds.
+    pub life: &'w str,
+}
+
+/// The number that digits say, where it is below `2^64`.
+fn number(text: &str) -> Option<u64>
+    ensures some { IfSome result (IsNumber (2 ^ 64) text.now) }
+    ensures none { IfNone result ((n : ℕ) → IsNumber (2 ^ 64) text.now n → ⊥) }
+{
+    if text.starts_with('+') {
+        return None;
+    }
+    text.parse::<u64>().ok()
+}
+
+/// The number that digits say, where it is below `2^32`.
+fn short_number(text: &str) -> Option<u32>
+    ensures some { IfSome result (IsNumber (2 ^ 32) text.now) }
+    ensures none { IfNone result ((n : ℕ) → IsNumber (2 ^ 32) text.now n → ⊥) }
+{
+    if text.starts_with('+') {
+        return None;
+    }
+    text.parse::<u32>().ok()
+}
+
+/// The kind that a number names.
+fn kind_of(number: u64) -> Option<Kind>
+    ensures { result ≡ kind_of number }
+{
+    match number {
+        1 => Some(Kind::Code),
+        2 => Some(Kind::Refresh),
+        3 => Some(Kind::ClientCredentials),
+        _ => None,
+    }
+}
+
+/// The ask that words tell.
+pub fn told_ask(words: AskWords<'_>) -> Option<Ask>
+    ensures some { IfSome result (SayAsk words.entry) }
+    ensures none { IfNone result ((ask : Ask) → SayAsk words.entry ask → ⊥) }
+{
+    let kind = kind_of(number(words.kind)?)?;
+    let now = number(words.now)?;
+    let client = number(words.client)?;
+    let owner = number(words.owner)?;
+    let scope = number(words.scope)?;
+    let life = short_number(words.life)?;
+    Some(Ask {
+        kind,
+        now,
+        client,
+        owner,
+        asked: scope,
+        scope,
+        life,
+        allowed: scope,
+        consented: scope,
+        access_limit: life,
+        refresh_limit: life,
+    })
+}
+
+/// The record of an ask, in the version of a layout, as hex.
+pub fn hex_of(alloc: Global, layout: Layout, ask: &Ask) -> Result<String, AllocError>
+    ensures { IfOk result (λ hex. string_bytes hex ≡ record_hex layout ask.entry.now) }
+{
+    match layout {
+        Layout::V1 => hex::encode(alloc, write(ask)),
+        Layout::V2 => hex::encode(alloc, write_v2(ask)),
+    }
+}

@@ -1,0 +1,238 @@
+//! The way to a slot: by which jumps control can come there from slot 0, in program text, whatever the values.
+
+ghost use Rattle.std.specs.Prelude.{◌≡◌, ◌<◌, ◌≤◌, ◌^◌, Some, None, IfOk, length, slice_index_or};
+ghost use Rattle.std.specs.Option.{option_copied};
+ghost use Rattle.std.specs.String.{string_bytes};
+ghost use Rattle.insn.specs.Program.{places, slot_count, SLOT_LIMIT};
+ghost use Rattle.hook_commands.specs.Ways.{goes_on, goes_past, hop_text, hops_of, jump_target, unwritten_text, way_text, IsWayFound, TellsWay};
+ghost use Rattle.hook_commands.specs.WaySteps.{step_of, target_past, where_led, AreWaySteps};
+
+use insn::instruction::Insn;
+use insn::program::Program;
+use insn::register::RegNo;
+use machine::trace::written_by;
+use std::alloc::{AllocError, Global};
+use std::fmt::{self, Display, Formatter, Write};
+
+/// A jump that is taken.
+#[derive(Clone, Copy)]
+pub struct Hop {
+    /// The slot of the jump.
+    pub from: usize,
+    /// The slot to which it leads.
+    pub to: usize,
+}
+
+/// How one goes on from a slot towards a goal, and to which slot one comes.
+#[derive(Clone, Copy)]
+enum Step {
+    /// Past the instruction, to the slot behind it.
+    Past(usize),
+    /// By its jump.
+    Jumping(usize),
+}
+
+/// Whether control may go on behind an instruction.
+fn goes_on(insn: Insn) -> bool
+    ensures { result ≡ goes_on insn }
+{
+    !matches!(insn, Insn::Exit | Insn::Jump { .. } | Insn::JumpLong { .. })
+}
+
+/// Whether a way goes on behind an instruction, leaving a register unwritten, if one is to be.
+fn goes_past(unwritten: Option<RegNo>, insn: Insn) -> bool
+    ensures { result ≡ goes_past unwritten insn }
+{
+    let leaves = match (unwritten, written_by(insn)) {
+        (Some(register), Some(written)) => written.number() != register.number(),
+        _ => true,
+    };
+    goes_on(insn) && leaves
+}
+
+/// Where one goes on behind an instruction at a slot.
+fn target_past(unwritten: Option<RegNo>, slot: usize, insn: Insn) -> Option<usize>
+    requires { slot ≤ SLOT_LIMIT }
+    ensures { result ≡ target_past unwritten slot insn }
+{
+    if goes_past(unwritten, insn) {
+        Some(slot + insn.slots())
+    } else {
+        None
+    }
+}
+
+/// Where the jump of an instruction at a slot leads.
+fn jump_target(slot: usize, insn: Insn) -> Option<usize>
+    requires { slot ≤ SLOT_LIMIT }
+    ensures { result ≡ jump_target slot insn }
+{
+    let distance = insn.distance()?;
+    if distance < 0 {
+        return None;
+    }
+    Some(slot + insn.slots() + distance as usize)
+}
+
+/// The step that a table has for a slot.
+fn step_at(steps: &[Option<Step>], slot: usize) -> Option<Step>
+    ensures { result ≡ slice_index_or steps.now slot None }
+{
+    *steps.get(slot)?
+}
+
+/// A slot, if a way leads from it to the goal.
+fn where_led(steps: &[Option<Step>], goal: usize, slot: Option<usize>) -> Option<usize>
+    ensures { result ≡ where_led steps.now goal slot }
+{
+    let slot = slot?;
+    if slot == goal || step_at(steps, slot).is_some() {
+        Some(slot)
+    } else {
+        None
+    }
+}
+
+/// The step from a slot, of what begins there: past it, if a way leads on there, or else by its jump.
+fn step_of(
+    steps: &[Option<Step>],
+    unwritten: Option<RegNo>,
+    goal: usize,
+    slot: usize,
+    begins: Option<Insn>,
+) -> Option<Step>
+    requires { slot ≤ SLOT_LIMIT }
+    ensures { result ≡ step_of steps.now unwritten goal slot begins }
+{
+    let insn = begins?;
+    if let Some(to) = where_led(steps, goal, target_past(unwritten, slot, insn)) {
+        return Some(Step::Past(to));
+    }
+    let to = where_led(steps, goal, jump_target(slot, insn))?;
+    Some(Step::Jumping(to))
+}
+
+/// What begins at each slot of some instructions.
+fn places_of(alloc: Global, insns: &[Insn]) -> Result<Vec<Option<Insn>>, AllocError>
+    ensures { IfOk result (λ begins. begins.items ≡ places insns.now) }
+{
+    let mut begins = Vec::new(alloc);
+    for insn in insns {
+        begins.push(Some(*insn))?;
+        if insn.slots() == 2 {
+            begins.push(None)?;
+        }
+    }
+    Ok(begins)
+}
+
+/// For each slot the step by which one goes on towards a goal.
+fn steps_to(
+    alloc: Global,
+    program: &Program,
+    unwritten: Option<RegNo>,
+    goal: usize,
+) -> Result<Vec<Option<Step>>, AllocError>
+    ensures { IfOk result (λ steps. AreWaySteps program.now unwritten goal 0 steps.items) }
+{
+    let begins = places_of(alloc, program.insns())?;
+    let mut slot = begins.len();
+    let mut steps: Vec<Option<Step>> = vec![in alloc; None; slot]?;
+    while slot > 0 {
+        slot -= 1;
+        let step = step_of(&steps, unwritten, goal, slot, begins[slot]);
+        steps[slot] = step;
+    }
+    Ok(steps)
+}
+
+/// A way to a slot on which nothing writes a register, if one is named; none where no such way leads there. It fails only
+/// where memory is refused.
+pub fn way_to(
+    alloc: Global,
+    program: &Program,
+    unwritten: Option<RegNo>,
+    slot: usize,
+) -> Result<Option<Vec<Hop>>, AllocError>
+    ensures { IfOk result (λ way. IsWayFound program.now unwritten slot (hops_of way)) }
+{
+    let steps = steps_to(alloc, program, unwritten, slot)?;
+    let mut hops = Vec::new(alloc);
+    let mut at = 0;
+    while at != slot {
+        match step_at(&steps, at) {
+            Some(Step::Past(to)) => at = to,
+            Some(Step::Jumping(to)) => {
+                hops.push(Hop { from: at, to })?;
+                at = to;
+            }
+            None => return Ok(None),
+        }
+    }
+    Ok(Some(hops))
+}
+
+/// A jump of a way.
+#[derive(Clone, Copy)]
+struct HopWords(Hop);
+
+impl Display for HopWords {
+    ghost output = { λ words. Some (hop_text words.0) };
+
+    fn fmt<W: Write>(&self, f: &mut Formatter<W>) -> fmt::Result {
+        let (from, to) = (self.0.from, self.0.to);
+        write!(f, ", {from} jumps to {to}")
+    }
+}
+
+/// That nothing writes a register, if there is one.
+#[derive(Clone, Copy)]
+struct Unwritten(Option<RegNo>);
+
+impl Display for Unwritten {
+    ghost output = { λ unwritten. Some (unwritten_text unwritten.0) };
+
+    fn fmt<W: Write>(&self, f: &mut Formatter<W>) -> fmt::Result {
+        match self.0 {
+            Some(register) => {
+                let number = register.number();
+                write!(f, ": nothing writes r{number}")
+            }
+            None => Ok(()),
+        }
+    }
+}
+
+/// The line of a way on which nothing writes a register, if there is one.
+fn way_told(alloc: Global, unwritten: Option<RegNo>, hops: &[Hop]) -> Result<String, AllocError>
+    ensures { IfOk result (λ text. string_bytes text ≡ way_text unwritten hops.now) }
+{
+    let mut text = String::new(alloc);
+    write!(text, "from slot 0")?;
+    for hop in hops {
+        let words = HopWords(*hop);
+        write!(text, "{words}")?;
+    }
+    let end = Unwritten(unwritten);
+    write!(text, "{end}\n")?;
+    Ok(text)
+}
+
+/// The line of a way to a slot: of one on which nothing writes a register, where one is named and there is such a way, and
+/// else of any; nothing where no way leads there. It fails only where memory is refused.
+pub fn way_to_told(
+    alloc: Global,
+    program: &Program,
+    unwritten: Option<RegNo>,
+    slot: usize,
+) -> Result<String, AllocError>
+    ensures { IfOk result (λ text. TellsWay program.now unwritten slot (string_bytes text)) }
+{
+    if let Some(hops) = way_to(alloc, program, unwritten, slot)? {
+        return way_told(alloc, unwritten, &hops);
+    }
+    match way_to(alloc, program, None, slot)? {
+        Some(hops) => way_told(alloc, None, &hops),
+        None => Ok(String::new(alloc)),
+    }
+}

@@ -1,0 +1,13 @@
+//! Files of rows: what stands in them, what a talk over connections is as a transcript, and where what a row came to differs
+//! from what it wants.
+#![tactic(auto)]
+
+mod blocks;
+pub mod comparing;
+pub mod fault;
+pub mod names;
+pub mod reading;
+pub mod row;
+mod sections;
+pub mod talk;
+mod words;

@@ -1,0 +1,107 @@
+//! Requests to a server and the replies to them, one after the other. What memory is refused for is asked once more.
+
+use clients::{ConfigFault, Registry};
+use consent::Moment;
+use endpoints::Server;
+use hook_chain::Chain;
+use hook_host::HookHost;
+use http_edge::{ConnectionNo, Edge, EdgeFault, Event};
+use messages::Draws;
+use std::alloc::Global;
+use std::process::Abort;
+
+/// Two clients and an owner.
+const REGISTRY: &[u8] =
+    br#"{"access_life":300,"refresh_life":86400,"operator":"op-key","owners":["ann-key"],"scopes":["read","write","admin"],"clients":[{"id":"app","secret":"s3cret","redirects":["https://app.example/cb"],"scope":"read write","grants":["authorization_code","refresh_token"]},{"id":"bot","secret":"b0t","redirects":[],"scope":"read","grants":["client_credentials"]}]}"#;
+
+/// What a request is answered that memory is refused for.
+const UNAVAILABLE: &[u8] = b"HTTP/1.1 503 Service Unavailable\r\nContent-Length: 0\r\n\r\n";
+
+/// A request at a second, whose two draws repeat bytes, and the reply to it.
+#[derive(Clone, Copy)]
+pub(super) struct Exchange {
+    pub(super) moment: u32,
+    pub(super) draws: (u8, u8),
+    pub(super) request: &'static [u8],
+    pub(super) reply: &'static [u8],
+}
+
+/// An edge over a server of the registry.
+pub(super) fn edge_of<H: HookHost>(alloc: Global, host: H) -> Result<Edge<H>, ConfigFault> {
+    let rules = match Registry::read(alloc, REGISTRY) {
+        Err(ConfigFault::Memory) => Registry::read(alloc, REGISTRY)?,
+        rules => rules?,
+    };
+    Ok(Edge::new(alloc, Server::new(alloc, rules, host)))
+}
+
+/// An edge over a server without hooks, and connection 1.
+pub(super) fn opened(alloc: Global) -> Result<Edge<Chain>, ConfigFault> {
+    let mut edge = edge_of(alloc, Chain::new(alloc))?;
+    let _ = open(&mut edge, first());
+    Ok(edge)
+}
+
+/// Connection 1.
+pub(super) fn first() -> ConnectionNo {
+    ConnectionNo::new(1)
+}
+
+/// A connection is opened, where memory was refused once more.
+pub(super) fn open<H: HookHost>(edge: &mut Edge<H>, c: ConnectionNo) -> Result<(), EdgeFault> {
+    match edge.event(Event::Open(c)) {
+        Err(EdgeFault::Memory) => edge.event(Event::Open(c)),
+        answer => answer,
+    }
+}
+
+/// A piece comes on connection 1.
+pub(super) fn piece<H: HookHost>(
+    edge: &mut Edge<H>,
+    piece: &[u8],
+    moment: u32,
+    draws: &[Draws],
+) -> Result<(), EdgeFault> {
+    edge.event(Event::Bytes {
+        connection: first(),
+        piece,
+        moment: Moment::new(u64::from(moment)),
+        draws,
+    })
+}
+
+/// A request comes on connection 1, where memory was refused once more.
+fn asked<H: HookHost>(edge: &mut Edge<H>, exchange: &Exchange) -> Result<(), EdgeFault> {
+    let (one, other) = exchange.draws;
+    let draws = [Draws {
+        first: [one; 32],
+        second: [other; 32],
+    }];
+    match piece(edge, exchange.request, exchange.moment, &draws) {
+        Err(EdgeFault::Memory) => piece(edge, exchange.request, exchange.moment, &draws),
+        answer => answer,
+    }
+}
+
+/// All that goes out on connection 1 is taken.
+fn take_all<H: HookHost>(edge: &mut Edge<H>) {
+    let length = edge.output(first()).len();
+    edge.take(first(), length);
+}
+
+/// Asserts that requests are answered as they are to be.
+pub(super) fn assert_answered<H: HookHost>(
+    rt: &impl Abort,
+    edge: &mut Edge<H>,
+    exchanges: &[Exchange],
+) {
+    for (i, exchange) in exchanges.iter().enumerate() {
+        assert_eq!(rt; asked(edge, exchange), Ok(()), "exchange {i}");
+        if edge.output(first()) == UNAVAILABLE && exchange.reply != UNAVAILABLE {
+            take_all(edge);
+            assert_eq!(rt; asked(edge, exchange), Ok(()), "exchange {i}");
+        }
+        assert!(rt; edge.output(first()) == exchange.reply, "exchange {i}");
+        take_all(edge);
+    }
+}

@@ -1,0 +1,320 @@
+//! Hooks under refused memory, programs that run alike on both machines, and the longest programs.
+
+use super::draws::{below, byte};
+use super::programs::PROGRAMS;
+use assembler::AsmFault;
+use encoding::decode;
+use flat_machine::run;
+use hook_chain::Chain;
+use hook_commands::{HookAnswer, HookCommand, HookCommandFault, bytes_of_hex};
+use hook_host::{HookFault, HookHost};
+use hook_record::{Ask, Kind, Narrowed};
+use insn::fault::InsnFault;
+use insn::layout::Layout;
+use insn::verify_fault::VerifyFault;
+use machine::run::{Outcome, run_checked};
+use rand_chacha::ChaCha20Rng;
+use rand_core::SeedableRng;
+use std::alloc::{AllocError, Global};
+use std::process::Abort;
+use std::test::Fail;
+use verifier::verified::{Verified, verify};
+
+const ASK: Ask = Ask {
+    kind: Kind::Code,
+    now: 1000,
+    client: 1,
+    owner: 1,
+    asked: 3,
+    scope: 3,
+    life: 300,
+    allowed: 7,
+    consented: 0,
+    access_limit: 0,
+    refresh_limit: 0,
+};
+
+/// `stw r1 48 250`, `mov64 r0 1`, `exit`.
+const CAP: &[u8] = b"\x62\x01\x30\0\xfa\0\0\0\xb7\0\0\0\x01\0\0\0\x95\0\0\0\0\0\0\0";
+
+/// Under refused memory an install is refused for it, leaves the chain as it was, and can be made again.
+#[test]
+fn a_chain_under_refused_memory(rt: HostRuntime) {
+    let mut chain = Chain::new(rt.alloc());
+    for name in ["a", "b"] {
+        if chain.install(name, Layout::V1, CAP) == Err(HookFault::Memory) {
+            assert_eq!(rt; chain.remove(name), Err(HookFault::Unknown));
+            assert_eq!(rt; chain.install(name, Layout::V1, CAP), Ok(()));
+        }
+    }
+    assert_eq!(rt; chain.name_at(0), Some("a"));
+    assert_eq!(rt; chain.name_at(1), Some("b"));
+    assert_eq!(rt; chain.name_at(2), None);
+    let capped = Narrowed::Allowed {
+        scope: 3,
+        life: 250,
+    };
+    assert!(rt; chain.decide(&ASK) == capped);
+}
+
+/// The program of some code where it is accepted.
+fn accepted(alloc: Global, layout: Layout, code: &[u8]) -> Result<Option<Verified>, AllocError> {
+    let program = match decode(alloc, code) {
+        Ok(program) => program,
+        Err(InsnFault::Memory) => return Err(AllocError),
+        Err(_) => return Ok(None),
+    };
+    match verify(alloc, program, layout) {
+        Ok(verified) => Ok(Some(verified)),
+        Err((_, VerifyFault::Memory)) => Err(AllocError),
+        Err(_) => Ok(None),
+    }
+}
+
+/// Whether both machines run a program to the same end, on a record of one repeated byte.
+fn runs_alike(verified: &Verified, fill: u8) -> bool {
+    let mut checked = [fill; 96];
+    let mut flat = [fill; 96];
+    let size = verified.layout().size();
+    let outcome = run_checked(verified.program(), verified.layout(), &mut checked[..size]);
+    let (r0, steps) = run(verified, &mut flat[..size]);
+    outcome == Outcome::Exit(r0, steps) && checked == flat
+}
+
+/// Asserts that both machines run a program alike, on records of four kinds.
+fn assert_runs_alike(rt: &impl Abort, verified: &Verified) {
+    for fill in [0u8, 1, 127, 255] {
+        assert!(rt; runs_alike(verified, fill));
+    }
+}
+
+/// Draws one byte of some code anew.
+fn change(rng: &mut ChaCha20Rng, code: &mut [u8]) {
+    let place = below(rng, 1024) as usize % code.len().max(1);
+    if let Some(old) = code.get_mut(place) {
+        *old = byte(rng);
+    }
+}
+
+/// How many programs are drawn from each, and how many of them have to be accepted in all, so that the test tests something.
+const DRAWN: u32 = 100;
+
+const ACCEPTED: usize = 500;
+
+/// Asserts that a program is accepted and runs alike on both machines. So do those that are drawn from it where they are
+/// accepted; how many are.
+fn assert_all_run_alike<R: Abort + AllocGlobal>(
+    rt: &R,
+    rng: &mut ChaCha20Rng,
+    layout: Layout,
+    code: &mut Vec<u8>,
+) -> Result<usize, Fail> {
+    let Some(verified) = accepted(rt.alloc(), layout, code)? else {
+        return Err(Fail::from("it is refused"));
+    };
+    assert_runs_alike(rt, &verified);
+    let mut count = 0usize;
+    for _ in 0..DRAWN {
+        let mut drawn = code.clone()?;
+        change(rng, &mut drawn);
+        if below(rng, 2) == 1 {
+            change(rng, &mut drawn);
+        }
+        if let Some(verified) = accepted(rt.alloc(), layout, &drawn)? {
+            count = count.saturating_add(1);
+            assert_runs_alike(rt, &verified);
+        }
+    }
+    Ok(count)
+}
+
+#[test]
+fn programs_run_alike(rt: HostRuntime) -> Result<(), Fail> {
+    let mut rng = ChaCha20Rng::from_seed([7; 32]);
+    let mut count = 0usize;
+    for line in PROGRAMS.split('\n') {
+        let layout = if line.starts_with("2") {
+            Layout::V2
+        } else {
+            Layout::V1
+        };
+        let (_, digits) = line.rsplit_once(' ').unwrap_or(("", ""));
+        let mut code = bytes_of_hex(rt.alloc(), digits.as_bytes())?.ok_or("it is no hex")?;
+        count = count.saturating_add(assert_all_run_alike(&rt, &mut rng, layout, &mut code)?);
+    }
+    assert!(rt; count >= ACCEPTED, "{count} were accepted");
+    Ok(())
+}
+
+/// A record of version 1 of `ASK`.
+const RECORD: &str =
+    "0100000001000000e80300000000000001000000000000000100000000000000030000000000000003000000000000002c010000000000000300000000000000";
+
+/// `mov64 r0 1`.
+const MOVE: [u8; 8] = [0xb7, 0, 0, 0, 1, 0, 0, 0];
+
+/// `exit`.
+const EXIT: [u8; 8] = [0x95, 0, 0, 0, 0, 0, 0, 0];
+
+/// The first slot of `lddw r0`.
+const WIDE: [u8; 8] = [0x18, 0, 0, 0, 0, 0, 0, 0];
+
+/// What stands in a program between its first move and its end.
+#[derive(Clone, Copy)]
+enum Middle {
+    Moves,
+    /// Jumps to the end, where R0 isn't 1.
+    ToTheEnd,
+    /// Jumps to the next slot, where R0 is 1.
+    ToTheNext,
+}
+
+/// The slot with so many behind it up to the end.
+fn slot(middle: Middle, left: u16) -> [u8; 8] {
+    let [low, high] = left.to_le_bytes();
+    match middle {
+        Middle::Moves => MOVE,
+        Middle::ToTheEnd => [0x55, 0, low, high, 1, 0, 0, 0],
+        Middle::ToTheNext => [0x15, 0, 0, 0, 1, 0, 0, 0],
+    }
+}
+
+/// The hex of a move, so many slots, and an end.
+fn long_program(
+    alloc: Global,
+    middle: Middle,
+    count: u16,
+    end: [u8; 8],
+) -> Result<String, AllocError> {
+    let mut code = Vec::new(alloc);
+    code.extend_from_slice(&MOVE)?;
+    for passed in 0..count {
+        code.extend_from_slice(&slot(middle, count.wrapping_sub(passed).wrapping_sub(1)))?;
+    }
+    code.extend_from_slice(&end)?;
+    hex::encode(alloc, &code)
+}
+
+/// `check` or `check2` of a file.
+fn check(layout: Layout) -> HookCommand<'static> {
+    HookCommand::Check {
+        layout,
+        path: "hook",
+    }
+}
+
+/// Asserts that a program is accepted for both versions, and what it answers to `RECORD`.
+fn assert_accepted<R: Abort + AllocGlobal>(rt: &R, code: &str) {
+    for layout in [Layout::V1, Layout::V2] {
+        let checked = check(layout).answer(rt.alloc(), Some(code.as_bytes()));
+        assert!(rt; matches!(checked, Ok(HookAnswer::Accepted(4096))));
+    }
+    let run = HookCommand::Run {
+        code_hex: code,
+        record_hex: RECORD,
+    };
+    let Ok(HookAnswer::Judged(judged)) = run.answer(rt.alloc(), None) else {
+        panic!(rt; "it does not run");
+    };
+    let whole = Narrowed::Allowed {
+        scope: 3,
+        life: 300,
+    };
+    assert!(rt; judged.r0 == 1 && judged.steps == 4096 && judged.answer == whole);
+}
+
+/// Asserts that a file spells no program.
+fn assert_unspelled<R: Abort + AllocGlobal>(rt: &R, code: &str, wanted: InsnFault) {
+    match check(Layout::V1).answer(rt.alloc(), Some(code.as_bytes())) {
+        Err(HookCommandFault::Insn(fault)) => assert_eq!(rt; fault, wanted),
+        _ => panic!(rt; "it is a program"),
+    }
+}
+
+#[test]
+fn programs_of_4_096_slots(rt: HostRuntime) -> Result<(), Fail> {
+    let alloc = rt.alloc();
+    for middle in [Middle::Moves, Middle::ToTheEnd, Middle::ToTheNext] {
+        let code = long_program(alloc, middle, 4094, EXIT)?;
+        assert_accepted(&rt, &code);
+    }
+    let mut code = long_program(alloc, Middle::Moves, 4094, WIDE)?;
+    assert_unspelled(&rt, &code, InsnFault::TruncatedWide(4095));
+    code.push_str("00")?;
+    assert_unspelled(&rt, &code, InsnFault::BadLength);
+    let code = long_program(alloc, Middle::Moves, 4095, EXIT)?;
+    assert_unspelled(&rt, &code, InsnFault::TooLong);
+    let run = HookCommand::Run {
+        code_hex: &code,
+        record_hex: RECORD,
+    };
+    let ran = run.answer(alloc, None);
+    assert!(rt; matches!(ran, Err(HookCommandFault::Insn(InsnFault::TooLong))));
+    Ok(())
+}
+
+/// The faults of a store that leaves its table, where its pointer is moved too far, and where it may stand behind the end.
+type Faults = (VerifyFault, VerifyFault);
+
+/// Asserts that a store at an index of at most `most`, into a table of so many bytes, is accepted where it stays in it.
+fn assert_table<R: Abort + AllocGlobal>(rt: &R, text: &str, most: u64, size: u64, faults: Faults) {
+    let (range, region) = faults;
+    let asm = HookCommand::Assemble { path: "hook" };
+    let Ok(HookAnswer::Code(code)) = asm.answer(rt.alloc(), Some(text.as_bytes())) else {
+        panic!(rt; "{text}");
+    };
+    match check(Layout::V1).answer(rt.alloc(), Some(code.as_bytes())) {
+        Ok(HookAnswer::Accepted(8)) => assert!(rt; most < size, "{text}"),
+        Err(HookCommandFault::Verify(fault)) => {
+            // The pointer may stand one past the stack's end, and the store may not.
+            assert!(rt;
+                most >= size && fault == if most > size { range } else { region },
+                "{text}"
+            );
+        }
+        _ => panic!(rt; "{text}"),
+    }
+}
+
+#[test]
+fn indexes_are_accepted_where_they_stay_in_the_table(rt: HostRuntime) -> Result<(), Fail> {
+    let masked_faults = (VerifyFault::PointerRange(4), VerifyFault::OutOfRegion(5));
+    let tested_faults = (VerifyFault::PointerRange(5), VerifyFault::OutOfRegion(6));
+    for most in 0..64u64 {
+        for size in 1..65u64 {
+            let masked = format!(in rt.alloc();
+                "ldxb r2 r1 0\nand64 r2 {most}\nmov64 r3 r10\nadd64 r3 -{size}\nadd64 r3 r2\nstb r3 0 0\nmov64 r0 1\nexit"
+            )?;
+            assert_table(&rt, &masked, most, size, masked_faults);
+            let tested = format!(in rt.alloc();
+                "mov64 r0 1\nldxdw r2 r1 8\njgt64 r2 {most} +4\nmov64 r3 r10\nadd64 r3 -{size}\nadd64 r3 r2\nstb r3 0 0\nexit"
+            )?;
+            assert_table(&rt, &tested, most, size, tested_faults);
+        }
+    }
+    Ok(())
+}
+
+/// Asserts that a text has too many instructions up to a line.
+fn assert_too_long<R: Abort + AllocGlobal>(rt: &R, text: &str, line: usize) {
+    let asm = HookCommand::Assemble { path: "hook" };
+    match asm.answer(rt.alloc(), Some(text.as_bytes())) {
+        Err(HookCommandFault::Text(fault)) => assert_eq!(rt; fault, AsmFault::TooLong(line)),
+        _ => panic!(rt; "it is a program"),
+    }
+}
+
+#[test]
+fn texts_of_4_097_instructions(rt: HostRuntime) -> Result<(), Fail> {
+    let text = "exit\n".repeat(rt.alloc(), 4097)?;
+    assert_too_long(&rt, &text, 4097);
+    // A label at each of 4,096 slots.
+    let mut text = String::new(rt.alloc());
+    for n in 0..4096 {
+        let lines = format!(in rt.alloc(); "label_{n}:\njeq64 r1 5 label_{n}\n")?;
+        text.push_str(&lines)?;
+    }
+    text.push_str("\nexit")?;
+    assert_too_long(&rt, &text, 8194);
+    Ok(())
+}

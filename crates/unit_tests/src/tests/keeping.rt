@@ -1,0 +1,209 @@
+//! A client whose requests come one a round, some of which change something, over a keeper that fails after so many batches.
+
+use super::sockets::{Count, Ticking, edge_that_notes, limits};
+use change_codec::{Batch, KeepFault, Keeper, decode};
+use clients::ConfigFault;
+use endpoints::{ImageFault, ImageKeeper, Server};
+use event_loop::{Accepted, LoopFault, Ready, Received, Sent, Sockets, Tools, serve_all};
+use hook_host::HookHost;
+use rand_chacha::ChaCha20Rng;
+use rand_core::SeedableRng;
+use std::alloc::Global;
+use std::cell::Cell;
+use std::test::Fail;
+
+/// It changes something: a token is issued.
+const ASKS: &str =
+    "POST /token HTTP/1.1\r\nContent-Length: 61\r\n\r\ngrant_type=client_credentials&client_id=bot&client_secret=b0t";
+
+/// It changes nothing.
+const STRAYS: &str = "GET /x HTTP/1.1\r\n\r\n";
+
+/// Sockets with one client, a request of which comes in each round until there are no more.
+#[derive(Drop)]
+struct OneClient<'t> {
+    requests: &'t [&'t str],
+    /// How many of them were read.
+    read: usize,
+    has_come: bool,
+    kept: &'t Cell<usize>,
+    /// How many batches had been kept at each write.
+    writes: Vec<usize>,
+}
+
+impl Sockets for OneClient<'_> {
+    ghost use Rattle.std.specs.Prelude.{⊤};
+
+    ghost does = { λ _ _ _. ⊤ };
+
+    fn wait(&mut self, _limit: Option<u64>, found: &mut [Ready]) -> Option<usize> {
+        if self.read >= self.requests.len() || found.is_empty() {
+            return None;
+        }
+        found[0] = if self.has_come {
+            Ready::Connection {
+                place: 0,
+                readable: true,
+                writable: true,
+                hung: false,
+            }
+        } else {
+            Ready::Listener
+        };
+        Some(1)
+    }
+
+    fn ask(&mut self) {}
+
+    fn accept(&mut self, _place: u32) -> Accepted {
+        if self.has_come {
+            return Accepted::Later;
+        }
+        self.has_come = true;
+        Accepted::Taken
+    }
+
+    fn read(&mut self, _place: u32, buffer: &mut [u8]) -> Received {
+        let Some(request) = self.requests.get(self.read) else {
+            return Received::Later;
+        };
+        let count = request.len().min(buffer.len());
+        if count == 0 {
+            return Received::Failed;
+        }
+        buffer[..count].copy_from_slice(&request.as_bytes()[..count]);
+        self.read = self.read.saturating_add(1);
+        Received::Bytes(count)
+    }
+
+    fn write(&mut self, _place: u32, bytes: &[u8]) -> Sent {
+        let Ok(()) = self.writes.push(self.kept.get()) else {
+            return Sent::Failed;
+        };
+        if bytes.is_empty() {
+            return Sent::Failed;
+        }
+        Sent::Bytes(bytes.len())
+    }
+
+    fn close(&mut self, _place: u32) {}
+}
+
+/// It keeps so many batches.
+#[derive(Drop)]
+struct Patient<'t> {
+    alloc: Global,
+    most: usize,
+    kept: &'t Cell<usize>,
+    /// How many changes each batch had.
+    changes: Vec<usize>,
+    /// How often it was asked for an image.
+    images: &'t Cell<usize>,
+}
+
+impl Keeper for Patient<'_> {
+    ghost use Rattle.std.specs.Prelude.{⊤};
+
+    ghost stands_for = { λ _ _. ⊤ };
+
+    ghost may_leave = { λ _ _. ⊥ };
+
+    ghost moment = { λ _. 0 };
+
+    ghost left_since = { λ _ _ _. ⊥ };
+
+    fn keep(&mut self, batch: &Batch) -> Result<(), KeepFault> {
+        if self.changes.len() >= self.most {
+            return Err(KeepFault::Failed);
+        }
+        let Ok(changes) = decode(self.alloc, batch.bytes()) else {
+            return Err(KeepFault::Failed);
+        };
+        let Ok(()) = self.changes.push(changes.len()) else {
+            return Err(KeepFault::Failed);
+        };
+        self.kept.set(self.changes.len());
+        Ok(())
+    }
+
+    ghost only_now = { λ keeper c left. left };
+}
+
+impl ImageKeeper for Patient<'_> {
+    ghost is_long = { λ _. ⊥ };
+
+    fn put_image<H: HookHost>(&mut self, server: &Server<H>) -> Result<(), ImageFault> {
+        match server.unkept() {
+            Some(batch) if !batch.is_empty() => Err(ImageFault::Failed),
+            _ => {
+                self.images.set(self.images.get().wrapping_add(1));
+                Ok(())
+            }
+        }
+    }
+}
+
+/// What came of the requests, where so many batches can be kept.
+#[derive(Drop)]
+struct Outcome {
+    fault: LoopFault,
+    writes: Vec<usize>,
+    changes: Vec<usize>,
+    images: usize,
+}
+
+fn outcome_of(alloc: Global, most: usize) -> Result<Outcome, ConfigFault> {
+    let kept = Cell::new(0);
+    let images = Cell::new(0);
+    let mut tools = Tools {
+        sockets: OneClient {
+            requests: &[ASKS, STRAYS, ASKS],
+            read: 0,
+            has_come: false,
+            kept: &kept,
+            writes: Vec::new(alloc),
+        },
+        edge: edge_that_notes(alloc, true)?,
+        clocks: Ticking { steady: 0 },
+        generator: ChaCha20Rng::from_seed([0; 32]),
+        journal: Count {
+            reports: 0,
+            last: None,
+        },
+        keeper: Patient {
+            alloc,
+            most,
+            kept: &kept,
+            changes: Vec::new(alloc),
+            images: &images,
+        },
+    };
+    let fault = serve_all(&mut tools, limits(None));
+    Ok(Outcome {
+        fault,
+        writes: tools.sockets.writes,
+        changes: tools.keeper.changes,
+        images: images.get(),
+    })
+}
+
+#[test]
+fn what_changes_is_kept_before_the_reply(rt: HostRuntime) -> Result<(), Fail> {
+    // A round without changes keeps nothing, and where keeping fails, nothing of that round is written. Before each wait an
+    // image is asked for.
+    let rows: [(usize, LoopFault, &[usize], &[usize], usize); 3] = [
+        (9, LoopFault::Wait, &[1, 1, 2], &[1, 1], 5),
+        (1, LoopFault::Keep, &[1, 1], &[1], 4),
+        (0, LoopFault::Keep, &[], &[], 2),
+    ];
+    for (most, fault, writes, changes, images) in rows {
+        let Ok(outcome) = outcome_of(rt.alloc(), most) else {
+            return Err(Fail::from("no registry"));
+        };
+        assert_eq!(rt; outcome.fault, fault, "most {most}");
+        assert_eq!(rt; outcome.writes.as_slice(), writes, "most {most}");
+        assert_eq!(rt; outcome.changes.as_slice(), changes, "most {most}");
+        assert_eq!(rt; outcome.images, images, "most {most}");
+    }
+    Ok(())
+}

@@ -1,0 +1,427 @@
+//! Clients of `serve` and `start`, over the machine's sockets.
+
+use command_line::perform;
+use std::alloc::{AllocError, Allocator, Global};
+use std::cell::Cell;
+use std::fs::{self, File, Metadata, OpenOptions};
+use std::io::{self, ErrorKind, Read, Write};
+use std::net::{Net, OpenStream, Shutdown, SocketAddr, TcpStream};
+use std::process::Abort;
+use std::random::RandomSource;
+use std::rt::{Clock, Files};
+use std::str;
+use std::test::Fail;
+use std::time::Duration;
+
+const REGISTRY: &[u8] =
+    br#"{"access_life":300,"refresh_life":86400,"operator":"op-key","owners":["ann-key"],"scopes":["read","write","admin"],"clients":[{"id":"app","secret":"s3cret","redirects":["https://app.example/cb"],"scope":"read write","grants":["authorization_code","refresh_token"]},{"id":"bot","secret":"b0t","redirects":[],"scope":"read","grants":["client_credentials"]}]}"#;
+
+/// The hex of a seed.
+const SEED: &str = "0707070707070707070707070707070707070707070707070707070707070707";
+
+const REQUEST: &str = "GET /a HTTP/1.1\r\n\r\n";
+
+const REPLY: &str = "HTTP/1.1 404 Not Found\r\nContent-Length: 0\r\n\r\n";
+
+/// A client asks for a token for itself.
+const TOKEN: &str =
+    "POST /token HTTP/1.1\r\nAuthorization: Basic Ym90OmIwdA==\r\nContent-Length: 29\r\n\r\ngrant_type=client_credentials";
+
+/// So often is the steady clock looked at before it fails in any case. Between two looks a second goes by at most.
+const LOOKS: u32 = 20;
+
+/// A client that sends a request and no more, and one that stays and sends nothing.
+#[derive(Drop)]
+struct Clients<S> {
+    asking: S,
+    silent: S,
+    reply: Vec<u8>,
+    has_ended: bool,
+}
+
+impl<S: Read> Clients<S> {
+    /// Reads what has come of the reply, and its end.
+    fn listen(&mut self) {
+        let mut buffer = [0; 64];
+        match self.asking.read(&mut buffer) {
+            Ok(0) => self.has_ended = true,
+            Ok(count) => {
+                let _ = self.reply.extend_from_slice(&buffer[..count]);
+            }
+            Err(_) => {}
+        }
+    }
+}
+
+/// Where the clients of a server are, once they have come.
+type Seats<R> = Cell<Option<Clients<<R as Net>::Stream>>>;
+
+/// Clients of a server that tells in a line where it listens, of which one sends this request.
+fn clients_of<R: Net + AllocGlobal>(
+    rt: &R,
+    line: &[u8],
+    request: &str,
+) -> io::Result<Clients<R::Stream>> {
+    let line = str::from_utf8(line).unwrap_or("");
+    let address = line.strip_prefix("listening ").unwrap_or("").trim_end();
+    let mut asking = TcpStream::connect(rt, address)?;
+    asking.write_all(request.as_bytes())?;
+    asking.shutdown(Shutdown::Write)?;
+    asking.set_nonblocking(true)?;
+    let silent = TcpStream::connect(rt, address)?;
+    Ok(Clients {
+        asking,
+        silent,
+        reply: Vec::new(rt.alloc()),
+        has_ended: false,
+    })
+}
+
+/// A machine that has clients. They listen at each look at its steady clock, which fails once all has come.
+#[derive(Drop)]
+struct Visited<'r, R: Net> {
+    rt: &'r R,
+    seats: &'r Seats<R>,
+    looks: Cell<u32>,
+}
+
+impl<'r, R: Net> Visited<'r, R> {
+    /// The clients listen. Whether all has come, or they have waited for long enough.
+    fn is_over(&self) -> bool {
+        let looks = self.looks.get().saturating_add(1);
+        self.looks.set(looks);
+        let Some(mut clients) = self.seats.replace(None) else {
+            return false;
+        };
+        clients.listen();
+        let has_ended = clients.has_ended;
+        self.seats.set(Some(clients));
+        has_ended || looks > LOOKS
+    }
+}
+
+impl<'r, R: Net + AllocGlobal> Alloc for Visited<'r, R> {
+    type A = Global;
+
+    fn alloc(&self) -> Global {
+        self.rt.alloc()
+    }
+}
+
+impl<'r, R: Net + RandomSource> RandomSource for Visited<'r, R> {
+    fn fill_bytes(&self, buf: &mut [u8]) -> io::Result<()> {
+        self.rt.fill_bytes(buf)
+    }
+}
+
+impl<'r, R: Net + Clock> Clock for Visited<'r, R> {
+    fn monotonic(&self) -> io::Result<Duration> {
+        if self.is_over() {
+            return Err(io::Error::from(ErrorKind::Other));
+        }
+        self.rt.monotonic()
+    }
+
+    fn since_1970(&self) -> io::Result<Duration> {
+        self.rt.since_1970()
+    }
+}
+
+impl<'r, R: Net + Files> Files for Visited<'r, R> {
+    type File = R::File;
+
+    type Dir = R::Dir;
+
+    fn open_file(&self, how: &OpenOptions, path: &str) -> io::Result<R::File> {
+        self.rt.open_file(how, path)
+    }
+
+    fn open_dir(&self, path: &str) -> io::Result<R::Dir> {
+        self.rt.open_dir(path)
+    }
+
+    fn metadata(&self, path: &str) -> io::Result<Metadata> {
+        self.rt.metadata(path)
+    }
+
+    fn symlink_metadata(&self, path: &str) -> io::Result<Metadata> {
+        self.rt.symlink_metadata(path)
+    }
+
+    fn copy(&self, from: &str, to: &str) -> io::Result<u64> {
+        self.rt.copy(from, to)
+    }
+
+    fn rename(&self, from: &str, to: &str) -> io::Result<()> {
+        self.rt.rename(from, to)
+    }
+
+    fn remove_file(&self, path: &str) -> io::Result<()> {
+        self.rt.remove_file(path)
+    }
+
+    fn create_dir(&self, path: &str) -> io::Result<()> {
+        self.rt.create_dir(path)
+    }
+
+    fn remove_dir(&self, path: &str) -> io::Result<()> {
+        self.rt.remove_dir(path)
+    }
+
+    fn remove_dir_all<B: Allocator>(&self, alloc: B, path: &str) -> io::Result<()> {
+        self.rt.remove_dir_all(alloc, path)
+    }
+}
+
+impl<'r, R: Net> Net for Visited<'r, R> {
+    type Stream = R::Stream;
+
+    type Listener = R::Listener;
+
+    fn bind(&self, addr: SocketAddr) -> io::Result<R::Listener> {
+        self.rt.bind(addr)
+    }
+
+    fn connect(&self, addr: SocketAddr) -> io::Result<R::Stream> {
+        self.rt.connect(addr)
+    }
+}
+
+/// Where a server says that it listens. Clients come as soon as it is said.
+#[derive(Drop)]
+struct Door<'r, R: Net> {
+    rt: &'r R,
+    seats: &'r Seats<R>,
+    request: &'r str,
+    line: Vec<u8>,
+}
+
+impl<'r, R: Net + AllocGlobal> Write for Door<'r, R> {
+    fn write(&mut self, buf: &[u8]) -> io::Result<usize> {
+        self.line.extend_from_slice(buf)?;
+        Ok(buf.len())
+    }
+
+    fn flush(&mut self) -> io::Result<()> {
+        let clients = clients_of(self.rt, &self.line, self.request)?;
+        self.seats.set(Some(clients));
+        Ok(())
+    }
+}
+
+/// What is written to it, with so much room, and whether it can't be brought to its end.
+#[derive(Drop)]
+struct Page {
+    text: Vec<u8>,
+    room: usize,
+    is_full: bool,
+}
+
+impl Page {
+    fn new(alloc: Global) -> Page {
+        Page {
+            text: Vec::new(alloc),
+            room: usize::MAX,
+            is_full: false,
+        }
+    }
+
+    fn text(&self) -> &str {
+        str::from_utf8(&self.text).unwrap_or("")
+    }
+}
+
+impl Write for Page {
+    fn write(&mut self, buf: &[u8]) -> io::Result<usize> {
+        let count = buf.len().min(self.room);
+        self.room -= count;
+        self.text.extend_from_slice(&buf[..count])?;
+        Ok(count)
+    }
+
+    fn flush(&mut self) -> io::Result<()> {
+        if self.is_full {
+            return Err(io::Error::from(ErrorKind::StorageFull));
+        }
+        Ok(())
+    }
+}
+
+/// Words as the program is called with them.
+fn words_of(alloc: Global, texts: &[&str]) -> Result<Vec<String>, AllocError> {
+    let mut words = Vec::new(alloc);
+    for text in texts {
+        words.push(String::from_str(alloc, text)?)?;
+    }
+    Ok(words)
+}
+
+/// What came of a service: its status, what it told, and its clients.
+#[derive(Drop)]
+struct Visit<S> {
+    status: u8,
+    err: Page,
+    clients: Clients<S>,
+}
+
+/// Serves clients as words say, of which one sends this request.
+fn served<R: Files<File = File> + Net + Clock + RandomSource + AllocGlobal>(
+    rt: &R,
+    texts: &[&str],
+    request: &str,
+) -> Result<Visit<R::Stream>, Fail> {
+    let words = words_of(rt.alloc(), texts)?;
+    let seats = Cell::new(None);
+    let visited = Visited {
+        rt,
+        seats: &seats,
+        looks: Cell::new(0),
+    };
+    let mut door = Door {
+        rt,
+        seats: &seats,
+        request,
+        line: Vec::new(rt.alloc()),
+    };
+    let mut err = Page::new(rt.alloc());
+    let status = perform(&visited, &words, &mut door, &mut err).code();
+    match seats.replace(None) {
+        Some(clients) => Ok(Visit {
+            status,
+            err,
+            clients,
+        }),
+        None => Err(Fail::from("nobody came")),
+    }
+}
+
+/// The path of a file that nobody else has.
+fn fresh_path<R: RandomSource + AllocGlobal>(rt: &R) -> Result<String, Fail> {
+    let mut name = [0; 16];
+    rt.fill_bytes(&mut name)?;
+    let name = hex::encode(rt.alloc(), name)?;
+    Ok(format!(in rt.alloc(); "/tmp/oauthd-{name}")?)
+}
+
+/// The path of a file where the registry stands.
+fn registry_path<R: Files<File = File> + RandomSource + AllocGlobal>(
+    rt: &R,
+) -> Result<String, Fail> {
+    let path = fresh_path(rt)?;
+    fs::write(rt, &path, REGISTRY)?;
+    Ok(path)
+}
+
+#[test]
+fn a_client_of_serve_reads_its_reply(rt: HostRuntime) -> Result<(), Fail> {
+    let config = registry_path(&rt)?;
+    let words = ["serve", "127.0.0.1:0", &config, SEED, "1"];
+    let mut visit = served(&rt, &words, REQUEST)?;
+    fs::remove_file(&rt, &config)?;
+    assert_eq!(rt; visit.status, 0);
+    assert_eq!(rt; visit.err.text(), "");
+    visit.clients.asking.set_nonblocking(false)?;
+    for _ in 0..LOOKS {
+        visit.clients.listen();
+    }
+    assert!(rt; visit.clients.has_ended);
+    assert!(rt; visit.clients.reply.as_slice() == REPLY.as_bytes());
+    Ok(())
+}
+
+#[test]
+fn no_connection_is_served(rt: HostRuntime) -> Result<(), Fail> {
+    let config = registry_path(&rt)?;
+    let words = words_of(rt.alloc(), &["serve", "127.0.0.1:0", &config, SEED, "0"])?;
+    let (mut out, mut err) = (Page::new(rt.alloc()), Page::new(rt.alloc()));
+    assert_eq!(rt; perform(&rt, &words, &mut out, &mut err).code(), 0);
+    fs::remove_file(&rt, &config)?;
+    assert_eq!(rt; err.text(), "");
+    let line = out.text();
+    assert!(rt;
+        line.starts_with("listening 127.0.0.1:") && !line.ends_with(":0\n"),
+        "{line}"
+    );
+    Ok(())
+}
+
+#[test]
+fn a_connection_of_start_comes_is_read_and_written_and_closed(rt: HostRuntime) -> Result<(), Fail> {
+    let config = registry_path(&rt)?;
+    let visit = served(&rt, &["start", "127.0.0.1:0", &config], REQUEST)?;
+    fs::remove_file(&rt, &config)?;
+    assert_eq!(rt; visit.status, 2);
+    // No connection ended by a fault, and no accept failed.
+    assert_eq!(rt; visit.err.text(), "oauthd: stopped: Clock\n");
+    assert!(rt; visit.clients.has_ended);
+    assert!(rt; visit.clients.reply.as_slice() == REPLY.as_bytes());
+    Ok(())
+}
+
+/// The access token in a reply.
+fn token_in(reply: &[u8]) -> &str {
+    let text = str::from_utf8(reply).unwrap_or("");
+    let (_, behind) = text.split_once("\"access_token\":\"").unwrap_or(("", ""));
+    let (token, _) = behind.split_once('"').unwrap_or(("", ""));
+    token
+}
+
+#[test]
+fn a_token_outlives_its_server(rt: HostRuntime) -> Result<(), Fail> {
+    let alloc = rt.alloc();
+    let config = registry_path(&rt)?;
+    let path = fresh_path(&rt)?;
+    let words = ["start", "127.0.0.1:0", &config, "--state", &path];
+    let first = served(&rt, &words, TOKEN)?;
+    let token = token_in(&first.clients.reply);
+    let asked = format!(in alloc;
+        "POST /introspect HTTP/1.1\r\nAuthorization: Basic Ym90OmIwdA==\r\nContent-Length: 49\r\n\r\ntoken={token}"
+    )?;
+    let second = served(&rt, &words, &asked)?;
+    assert_eq!(rt; first.err.text(), "oauthd: stopped: Clock\n");
+    assert_eq!(rt; second.err.text(), "oauthd: stopped: Clock\n");
+    let told = str::from_utf8(&second.clients.reply).unwrap_or("");
+    assert!(rt; told.contains("{\"active\":true,"), "{told}");
+    fs::remove_file(&rt, &config)?;
+    fs::remove_file(&rt, &path)?;
+    let lock = format!(in alloc; "{path}.lock")?;
+    fs::remove_file(&rt, &lock)?;
+    Ok(())
+}
+
+/// A hook that allows every grant.
+const ALLOW: &str = "b7000000010000009500000000000000";
+
+/// A record of version 1.
+const RECORD: &str =
+    "0100000001000000e80300000000000001000000000000000100000000000000030000000000000003000000000000002c010000000000000300000000000000";
+
+#[test]
+fn answers_that_cannot_be_written(rt: HostRuntime) -> Result<(), Fail> {
+    let words = words_of(rt.alloc(), &["run", ALLOW, RECORD])?;
+    for (room, is_full) in [(0usize, false), (8, false), (4096, true)] {
+        let mut out = Page {
+            text: Vec::new(rt.alloc()),
+            room,
+            is_full,
+        };
+        let mut err = Page::new(rt.alloc());
+        assert_eq!(rt; perform(&rt, &words, &mut out, &mut err).code(), 2);
+        assert_eq!(rt; err.text(), "oauthd: cannot write\n");
+    }
+    Ok(())
+}
+
+#[test]
+fn a_fault_that_cannot_be_told(rt: HostRuntime) -> Result<(), Fail> {
+    let words = words_of(rt.alloc(), &["run", "", RECORD])?;
+    let mut out = Page::new(rt.alloc());
+    let mut err = Page {
+        text: Vec::new(rt.alloc()),
+        room: 0,
+        is_full: false,
+    };
+    assert_eq!(rt; perform(&rt, &words, &mut out, &mut err).code(), 2);
+    assert_eq!(rt; out.text(), "");
+    Ok(())
+}
