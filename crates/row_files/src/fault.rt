@@ -11,14 +11,18 @@ pub enum Why {
     NoDefinition,
     /// It stands in a row, and in none of its sections.
     NoSection,
-    /// A row or a definition has no name.
+    /// A row, a file or a definition has no name of its form.
     NoName,
+    /// A name begins another one.
+    Clash,
     /// There is no section of this form.
     UnknownSection,
     /// The row says the same twice.
     Twice,
     /// The row has no command line and no talk, or both.
     NoCommand,
+    /// A word stands for what is in a file that the row does not have.
+    NoFile,
     /// The words of a command line are not parted by single spaces, or a double quote is missing.
     BadWords,
     /// What is to be a number is none.
@@ -39,9 +43,11 @@ impl Display for Why {
             Why::NoDefinition => "no definition",
             Why::NoSection => "outside of a section",
             Why::NoName => "no name",
+            Why::Clash => "a name that begins another one, or begins with it",
             Why::UnknownSection => "unknown section",
             Why::Twice => "said twice",
             Why::NoCommand => "no command line and no talk, or both",
+            Why::NoFile => "a word of a file that the row has not",
             Why::BadWords => "bad words",
             Why::BadNumber => "bad number",
             Why::BadHex => "bad hex",

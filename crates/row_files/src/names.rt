@@ -42,6 +42,24 @@ fn put_in(alloc: Global, text: String, definition: &Definition) -> Result<String
     }
 }
 
+/// Whether a byte may stand in a name.
+fn is_of_name(byte: u8) -> bool {
+    byte.is_ascii_uppercase() || byte.is_ascii_digit() || byte == b'_'
+}
+
+/// Whether a text is a name of a text: `$` and capital letters, digits and `_`.
+fn is_name(text: &str) -> bool {
+    match text.strip_prefix('$') {
+        Some(name) => !name.is_empty() && name.bytes().all(is_of_name),
+        None => false,
+    }
+}
+
+/// Whether one of two names begins the other.
+fn begin_alike(one: &str, other: &str) -> bool {
+    one.starts_with(other) || other.starts_with(one)
+}
+
 impl Names {
     /// Nothing is defined.
     pub fn new(alloc: Global) -> Names {
@@ -51,10 +69,19 @@ impl Names {
         }
     }
 
-    /// Defines a name of a text, which begins with `$`. What it stood for before is forgotten.
-    pub fn define(&mut self, name: String, text: String) -> Result<(), AllocError> {
+    /// Defines a name of a text. What it stood for before is forgotten. It may not begin another one.
+    pub fn define(&mut self, name: String, text: String) -> Result<(), LineFault> {
         self.texts
             .retain(|definition| definition.name.as_str() != name.as_str());
+        if !is_name(name.as_str()) {
+            return Err(LineFault::Wrong(Why::NoName));
+        }
+        if self.texts.iter().any(|definition| begin_alike(
+            definition.name.as_str(),
+            name.as_str(),
+        )) {
+            return Err(LineFault::Wrong(Why::Clash));
+        }
         self.texts.push(Definition { name, text })?;
         Ok(())
     }

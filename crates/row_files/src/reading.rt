@@ -36,6 +36,9 @@ fn say<T: Drop>(place: &mut Option<T>, value: T) -> Result<(), LineFault> {
 fn put_section(row: &mut Row, section: Section) -> Result<(), LineFault> {
     match section {
         Section::Command(words) => Ok(row.commands.push(words)?),
+        Section::File(file) if row.has_file(file.name.as_str()) => {
+            Err(LineFault::Wrong(Why::Twice))
+        }
         Section::File(file) => Ok(row.files.push(file)?),
         Section::Out(wanted) => say(&mut row.out, wanted),
         Section::Err(wanted) => say(&mut row.err, wanted),
@@ -81,7 +84,7 @@ fn put_in_last(rows: &mut Vec<Row>, section: Section) -> Result<(), LineFault> {
 /// Defines a name of a text.
 fn define(alloc: Global, names: &mut Names, name: &str, text: String) -> Result<(), LineFault> {
     let name = String::from_str(alloc, name)?;
-    Ok(names.define(name, text)?)
+    names.define(name, text)
 }
 
 /// Defines a name of lines.
@@ -109,10 +112,25 @@ fn read_block(
     }
 }
 
-/// The first row, if there is one, that has neither command lines nor a talk, or both.
-fn unfinished(rows: &[Row]) -> Option<&Row> {
-    rows.iter()
-        .find(|row| row.commands.is_empty() != row.talk.is_some())
+/// What is wrong with a row that was read, if anything is.
+fn wrong_with(row: &Row) -> Option<Why> {
+    if !row.is_called() {
+        Some(Why::NoCommand)
+    } else if !row.has_its_files() {
+        Some(Why::NoFile)
+    } else {
+        None
+    }
+}
+
+/// Looks for a row with which something is wrong.
+fn look_at_rows<'f>(path: &'f str, rows: &[Row]) -> Result<(), Stop<'f>> {
+    for row in rows {
+        if let Some(why) = wrong_with(row) {
+            return Err(Stop::NoRows(path, row.line, why));
+        }
+    }
+    Ok(())
 }
 
 /// The rows in the text that stands in the file of a path. What it defines is known from there on.
@@ -128,8 +146,6 @@ pub fn rows_of<'f>(
             return Err(fault.at(path, block.line));
         }
     }
-    match unfinished(&rows) {
-        Some(row) => Err(Stop::NoRows(path, row.line, Why::NoCommand)),
-        None => Ok(rows),
-    }
+    look_at_rows(path, &rows)?;
+    Ok(rows)
 }

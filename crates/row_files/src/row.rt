@@ -114,3 +114,28 @@ pub struct Row {
     /// Its talk, where it has one.
     pub talk: Option<Talk>,
 }
+
+impl Row {
+    /// Whether it has a file of this name.
+    pub fn has_file(&self, name: &str) -> bool {
+        self.files.iter().any(|file| file.name.as_str() == name)
+    }
+
+    /// Whether it has command lines or a talk, and not both.
+    pub fn is_called(&self) -> bool {
+        self.commands.is_empty() == self.talk.is_some()
+    }
+
+    /// Whether it has each file whose contents are words of its command lines.
+    pub fn has_its_files(&self) -> bool {
+        for words in &self.commands {
+            for word in words {
+                match word {
+                    Word::OfFile(name) if !self.has_file(name.as_str()) => return false,
+                    _ => {}
+                }
+            }
+        }
+        true
+    }
+}

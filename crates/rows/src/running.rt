@@ -165,7 +165,11 @@ fn run_talk<'f, R: Files<File = File> + Net + Clock + RandomSource + AllocGlobal
     talk: &Talk,
     ending: Ending<'_>,
 ) -> Result<String, Stop<'f>> {
-    for cut in &talk.cuts(rt.alloc())? {
+    let cuts = talk.cuts(rt.alloc())?;
+    if cuts.is_empty() {
+        return Ok(String::from_str(rt.alloc(), ": nothing can be cut")?);
+    }
+    for cut in &cuts {
         let told = run_cut(rt, talk, *cut, ending)?;
         if !told.is_empty() {
             return Ok(told_of_cut(rt.alloc(), *cut, told)?);
