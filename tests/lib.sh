@@ -107,3 +107,8 @@ install_by_page() {
 registered() {
     python3 -c "import json; print(json.load(open('/etc/oauthd/registry.json'))$1)"
 }
+
+# password_of USER: the password that the installation gave this user
+password_of() {
+    sed -n "s/^$1 //p" /root/oauthd-passwords
+}

@@ -1,8 +1,8 @@
 #!/usr/bin/env bash
 # Runs the lines of docs/OPERATING.md, "From an empty machine to the first token", as they stand there, under a systemd
 # of its own (tests/own-systemd.sh), and then tries what the page says of the result. Prints a line for each check,
-# ends with 0 where all is as wanted, and leaves nothing behind. It takes two to five minutes. Needs root, and Debian's packages
-# nginx, curl, openssl and python3.
+# ends with 0 where all is as wanted, and leaves nothing behind. It takes half a minute, five where packages are slow. Needs
+# root, and Debian's packages nginx, curl, openssl and python3.
 . "$(dirname "$0")/lib.sh"
 if [ "$1" != inside ]; then
     make_room
@@ -57,6 +57,14 @@ done
 check not-logged-in "302 /login?back=$request" "$(web -o /dev/null -w '%{http_code} %header{location}' "$auth$request")"
 check key-from-outside "302 /login?back=*" "$(web -H "X-Owner-Key: $ann" -o /dev/null -w '%{http_code} %header{location}' "$auth$request")"
 
+# The login: passwords of its own
+login_page() { web -c /run/cookies $auth/login | sed -n 's/.*name="token" value="\([0-9a-f]*\)".*/\1/p' | head -n 1; }
+signed_in() { status -b /run/cookies -d do=enter -d "user=$1" --data-urlencode "password=$2" -d "token=$(login_page)" $auth/login; }
+check password-of-the-example 403 "$(signed_in ann ann-password)"
+check password-of-ann 303 "$(signed_in ann "$(password_of ann)")"
+check password-of-bob 303 "$(signed_in bob "$(password_of bob)")"
+check passwords-are-root-s '600 root' "$(stat -c '%a %U' /root/oauthd-passwords)"
+
 # Many connections at once: each is answered
 cat >/run/many.py <<'PY'
 import base64, collections, http.client, ssl, sys, threading
@@ -104,11 +112,33 @@ systemctl restart oauthd
 check another-version 200 "$(status -u "$bot" -d grant_type=client_credentials $auth/token)"
 systemctl stop oauthd
 check stopped 503 "$(status -u "$bot" -d grant_type=client_credentials $auth/token)"
-mv /etc/oauthd/hooks/10.capped.bin /etc/oauthd/hooks/10.capped.bin.kept
-head -c 12 /dev/urandom >/etc/oauthd/hooks/10.faulty.bin
-chmod 644 /etc/oauthd/hooks/10.faulty.bin
-systemctl start oauthd 2>/dev/null
+
+# The folder of hooks: another file takes the place of a hook, a hook without a file is named, a refused one keeps nginx closed
+said() { journalctl --no-pager -o cat -u oauthd | grep -cF -- "$1"; }
+install_hook() { printf "$1" | install -m 640 -g oauthd /dev/stdin "/etc/oauthd/hooks/$2"; }
+deny='\xb7\0\0\0\0\0\0\0\x95\0\0\0\0\0\0\0'
+mv /etc/oauthd/hooks/10.capped.bin /run/capped
+install_hook "$deny" 10.capped.bin
+systemctl restart oauthd
+check another-file '{"error":"unauthorized_client"}' "$(token)"
+mv /etc/oauthd/hooks/10.capped.bin /etc/oauthd/hooks/20.denied.bin
+install -m 640 -g oauthd /run/capped /etc/oauthd/hooks/30.capped.bin
+systemctl restart oauthd
+check order-of-the-files '{"hooks":\["denied","capped"\]}' "$(hooks)"
+rm /etc/oauthd/hooks/20.denied.bin
+systemctl restart oauthd
+check hook-without-a-file '1 {"hooks":\["denied","capped"\]}' "$(said 'the hook denied has no file') $(hooks)"
+curl -s -o /dev/null -H @/etc/oauthd/operator -d name=denied http://127.0.0.1:8080/hooks/remove
+install_hook 'no hook at all' 10.faulty.bin
+systemctl restart oauthd 2>/dev/null
 check refused-hook 503 "$(status -u "$bot" -d grant_type=client_credentials $auth/token)"
+awaits 40 systemctl is-failed -q oauthd
+check refused-hook-is-named '[1-9]*' "$(said 'the hook of /etc/oauthd/hooks/10.faulty.bin is refused')"
+rm /etc/oauthd/hooks/10.faulty.bin
+check too-many-starts 1 "$(systemctl start oauthd 2>/dev/null; echo $?)"
+systemctl reset-failed oauthd
+systemctl start oauthd
+check started-again '{"hooks":\["capped"\]}' "$(hooks)"
 systemctl stop oauthd
 
 # Signals, and line feeds within a header's value: to the server itself, and through nginx
@@ -156,7 +186,7 @@ import json
 registry = json.load(open("/etc/oauthd/registry.json"))
 print("\n".join([registry["operator"], *registry["owners"], *(client["secret"] for client in registry["clients"])]))
 PY
-)
+cut -d ' ' -f 2 /root/oauthd-passwords)
 check secrets-in-logs 0 "$( (journalctl --no-pager; cat /var/log/nginx/*) | grep -cF "$secrets")"
-[ "$tried" = 44 ] || differs 'wanted 44 checks'
+[ "$tried" = 54 ] || differs 'wanted 54 checks'
 end_with checks

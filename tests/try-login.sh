@@ -33,4 +33,4 @@ systemctl reload nginx
 /usr/bin/python3 tests/login/client.py 9100 https://auth.example "$(registered '["clients"][0]["secret"]')" &
 curl -s -o /dev/null --retry 60 --retry-delay 1 --retry-connrefused http://127.0.0.1:9100/ || echo "the client does not answer"
 # Chromium would give itself a higher priority than it was started with.
-setpriv --bounding-set -sys_nice --inh-caps -sys_nice python3 tests/login/browser.py /given/consent.png "$(registered '["owners"][0]')"
+setpriv --bounding-set -sys_nice --inh-caps -sys_nice python3 tests/login/browser.py /given/consent.png "$(registered '["owners"][0]')" "$(password_of ann)"

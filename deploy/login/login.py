@@ -3,6 +3,7 @@
 
     login.py serve CONFIG KEPT    serves; CONFIG is as login.json, KEPT the file of what owners have allowed
     login.py password             reads a password from its input, and prints what CONFIG has of it
+    login.py passwords CONFIG     gives each user of CONFIG a new password, and prints them: a line NAME PASSWORD each
 
 nginx passes /login on, and asks /owner itself before each /authorize (deploy/nginx/oauthd.conf). The answer of /owner:
 
@@ -68,6 +69,19 @@ def kept_form(password):
 def matches(password, form):
     salt, wanted = (base64.b64decode(part) for part in form.split("$"))
     return hmac.compare_digest(digest(password, salt), wanted)
+
+
+def renew(config_file):
+    """Gives each user a new password, which is printed here and known nowhere else."""
+    with open(config_file, encoding="utf-8") as file:
+        config = json.load(file)
+    drawn = {name: secrets.token_urlsafe(12) for name in config["users"]}
+    for name, password in drawn.items():
+        config["users"][name]["password"] = kept_form(password)
+    with open(config_file, "w", encoding="utf-8") as file:
+        json.dump(config, file, indent=2, ensure_ascii=False)
+    for name, password in drawn.items():
+        print(name, password)
 
 
 class Session:
@@ -353,6 +367,8 @@ class Server(http.server.ThreadingHTTPServer):
 def main(words):
     if words == ["password"]:
         print(kept_form(sys.stdin.readline().rstrip("\n")))
+    elif len(words) == 2 and words[0] == "passwords":
+        renew(words[1])
     elif len(words) == 3 and words[0] == "serve":
         login = Login(words[1], words[2])
         host, _, port = login.listen.rpartition(":")

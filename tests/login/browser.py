@@ -1,7 +1,8 @@
 #!/usr/bin/env python3
-"""Goes through login and consent in Chromium, for tests/try-login.sh: browser.py SCREENSHOT KEY
+"""Goes through login and consent in Chromium, for tests/try-login.sh: browser.py SCREENSHOT KEY PASSWORD
 
-KEY is the owner's key, which must not reach the browser. Drives chromedriver by HTTP, with the standard library alone."""
+KEY is the owner's key, which must not reach the browser, PASSWORD the user's. Drives chromedriver by HTTP, with the
+standard library alone."""
 import base64
 import http.client
 import json
@@ -9,7 +10,7 @@ import subprocess
 import sys
 import time
 
-screenshot, key = sys.argv[1:]
+screenshot, key, password = sys.argv[1:]
 checks, differing = 0, 0
 driver = subprocess.Popen(["chromedriver", "--port=9515", "--silent"], stdout=subprocess.DEVNULL, stderr=subprocess.DEVNULL)
 
@@ -90,7 +91,7 @@ try:
     press("enter")
     check("wrong-password", "do not belong together", text(".wrong"))
     fill("[name=user]", "ann")
-    fill("[name=password]", "ann-password")
+    fill("[name=password]", password)
     press("enter")
     check("consent", "The example's app asks | auth.example", seen())
     check("consent-scopes", "read what you have written (read)", text("ul"))
