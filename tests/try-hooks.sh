@@ -467,6 +467,67 @@ int hook(struct record *record)
     return grades[record->owner] ? ALLOW : DENY;
 }
 C
+faulty 'a flag that guards an index' 'Verify PointerRange' <<'C'
+int hook(struct record *record)
+{
+    volatile u8 lives[16];
+#pragma unroll
+    for (int i = 0; i < 16; i++)
+        lives[i] = i;
+    u64 at = record->owner;
+    int known = 0;
+    if (at < 16)
+        known = 1;
+    asm volatile("" : "+r"(known));
+    if (known)
+        record->life = lives[at];
+    return ALLOW;
+}
+C
+taken 'the same, with an index that is good without the flag' <<'C'
+int hook(struct record *record)
+{
+    volatile u8 lives[16];
+#pragma unroll
+    for (int i = 0; i < 16; i++)
+        lives[i] = i;
+    u64 at = record->owner;
+    int known = 0;
+    if (at < 16)
+        known = 1;
+    else
+        at = 0;
+    asm volatile("" : "+r"(known));
+    if (known)
+        record->life = lives[at];
+    return ALLOW;
+}
+C
+answers 1 1 5 'allowed 7 5'
+answers 1 1 16 'allowed 7 300'
+faulty 'a mask that clang joins with the address by or64' 'Verify PointerMisuse' <<'C'
+int hook(struct record *record)
+{
+    u8 lives[8];
+    __builtin_memset(lives, 3, sizeof lives);
+    lives[record->client & 7] = 1;
+    return lives[record->owner & 7] == 1 ? ALLOW : DENY;
+}
+C
+taken 'the same mask, out of sight of the compiler' <<'C'
+int hook(struct record *record)
+{
+    u8 lives[8];
+    __builtin_memset(lives, 3, sizeof lives);
+    u64 client = record->client & 7, owner = record->owner & 7;
+    asm volatile("" : "+r"(client));
+    asm volatile("" : "+r"(owner));
+    lives[client] = 1;
+    return lives[owner] == 1 ? ALLOW : DENY;
+}
+C
+answers 1 5 13 'allowed 7 300'
+answers 1 5 14 denied
 taken 'a signed test of both ends' <<'C'
 int hook(struct record *record)
 {
