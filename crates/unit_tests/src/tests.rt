@@ -13,5 +13,4 @@ mod programs;
 mod sockets;
 mod store;
 mod streams;
-mod visits;
 mod words;
