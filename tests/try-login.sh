@@ -2,8 +2,8 @@
 # Installs server, nginx and login by the lines of docs/OPERATING.md under a systemd of its own
 # (tests/own-systemd.sh), and goes through login and consent in Chromium, with a client of requests-oauthlib. Prints a
 # line for each check, ends with 0 where all is as wanted, and leaves nothing behind but a picture of the consent page,
-# if a word names a file for it. It takes two to five minutes. Needs root, and Debian's packages nginx, curl, openssl, python3,
-# chromium, chromium-driver and python3-requests-oauthlib.
+# if a word names a file for it. It takes half a minute, five where packages are slow. Needs root, and Debian's packages
+# nginx, curl, openssl, python3, chromium, chromium-driver and python3-requests-oauthlib.
 picture=${1:+$(realpath -m "$1")}
 . "$(dirname "$0")/lib.sh"
 if [ "$1" != inside ]; then
