@@ -90,12 +90,17 @@ bytes_of() {
 
 # For what runs under tests/own-systemd.sh, and nowhere else, since it installs things:
 
+# lines_of SECTION: the lines of docs/OPERATING.md in this section that are to be run
+lines_of() {
+    awk -v section="## $1" '/^## / { here = $0 == section }
+        here && /^```/ { code = $0 == "```sh"; next }
+        here && code' docs/OPERATING.md
+}
+
 # install_by_page: installs the server as docs/OPERATING.md says, line by line, with the packages that are here, and shows it
 install_by_page() {
     echo 'APT::Get::Upgrade "false";' >/etc/apt/apt.conf.d/99offline
-    awk '/^## / { here = $0 == "## From an empty machine to the first token" }
-        here && /^```/ { code = $0 == "```sh"; next }
-        here && code' docs/OPERATING.md >/run/page
+    lines_of 'From an empty machine to the first token' >/run/page
     bash -ev /run/page 2>&1 || {
         differs 'a line of docs/OPERATING.md failed'
         journalctl --no-pager -u 'oauthd*' | tail -n 20

@@ -1,6 +1,6 @@
 #!/usr/bin/env bash
 # Runs the lines of docs/OPERATING.md, "From an empty machine to the first token", as they stand there, under a systemd
-# of its own (tests/own-systemd.sh), and then tries what the page says of the result. Prints a line for each check,
+# of its own (tests/own-systemd.sh), tries what the page says of the result, and runs those of backup and restore. Prints a line for each check,
 # ends with 0 where all is as wanted, and leaves nothing behind. It takes half a minute, five where packages are slow. Needs
 # root, and Debian's packages nginx, curl, openssl and python3.
 . "$(dirname "$0")/lib.sh"
@@ -113,6 +113,18 @@ check another-version 200 "$(status -u "$bot" -d grant_type=client_credentials $
 systemctl stop oauthd
 check stopped 503 "$(status -u "$bot" -d grant_type=client_credentials $auth/token)"
 
+# Backup and restore, by the lines of the page: what was done since is undone
+systemctl start oauthd
+opened
+lines_of 'Daily work' >/run/daily
+kept=$(token | python3 -c 'import json, sys; print(json.load(sys.stdin)["access_token"])')
+bash -e <(sed '/^systemctl stop/,$d' /run/daily)
+web -u "$bot" -d "token=$kept" $auth/revoke
+check revoked-after-the-backup '{"active":false}' "$(web -u "$bot" -d "token=$kept" $auth/introspect)"
+bash -e <(sed -n '/^systemctl stop/,$p' /run/daily)
+check restored '{"active":true*' "$(web -u "$bot" -d "token=$kept" $auth/introspect)"
+check backup-is-root-s '600 root' "$(stat -c '%a %U' /var/backups/oauthd/state)"
+
 # The folder of hooks: another file takes the place of a hook, a hook without a file is named, a refused one keeps nginx closed
 said() { journalctl --no-pager -o cat -u oauthd | grep -cF -- "$1"; }
 install_hook() { printf "$1" | install -m 640 -g oauthd /dev/stdin "/etc/oauthd/hooks/$2"; }
@@ -188,5 +200,5 @@ print("\n".join([registry["operator"], *registry["owners"], *(client["secret"] f
 PY
 cut -d ' ' -f 2 /root/oauthd-passwords)
 check secrets-in-logs 0 "$( (journalctl --no-pager; cat /var/log/nginx/*) | grep -cF "$secrets")"
-[ "$tried" = 54 ] || differs 'wanted 54 checks'
+[ "$tried" = 57 ] || differs 'wanted 57 checks'
 end_with checks
