@@ -6,7 +6,7 @@ use Rattle.insn.specs.declared.state.Region.TheVariants.{Record as InRecord, Sta
 use Rattle.insn.specs.declared.state.Value.{Value}
 use Rattle.insn.specs.declared.state.Value.TheVariants.{Number as IsNumber, Address}
 use Rattle.scalar.specs.declared.scalar.Scalar.{Scalar}
-use Rattle.scalar.specs.Members.{InScalar}
+use Rattle.scalar.specs.Members.{InScalar, LiesInEachJoin}
 use Rattle.scalar.specs.Narrowed.{Answer, AreNarrowed, HaveAnswer}
 use Rattle.reg_kind.specs.declared.span.Span.{Span}
 use Rattle.reg_kind.specs.declared.reg.Reg.{Reg}
@@ -67,9 +67,9 @@ pub record IsHull (a b c : Span) : Type 0 where
   pub least : c.least ≡ min a.least b.least
   pub greatest : c.greatest ≡ max a.greatest b.greatest
 
--- registers of one kind and region keep it; two of different ones have nothing in common
+-- registers of one kind and region keep it, with no more than is in each join of both; two of different ones have nothing in common
 abbrev pub IsKindJoin : Reg → Reg → Reg → Type 0
-IsKindJoin (Number a) (Number b) c = (n : Scalar) × (c ≡ Number n)
+IsKindJoin (Number a) (Number b) c = (n : Scalar) × (c ≡ Number n) × LiesInEachJoin a b n
 IsKindJoin (Record a) (Record b) c = (s : Span) × (c ≡ Record s) × IsHull a b s
 IsKindJoin (Stack a) (Stack b) c = (s : Span) × (c ≡ Stack s) × IsHull a b s
 IsKindJoin a b c = c ≡ Unset
@@ -101,7 +101,8 @@ IsRegRefined t a b (Some r) =
     ((x y : ℕ) → IsAnswered t a b x y → RegFits false r.0 (Some (IsNumber x)) × RegFits false r.1 (Some (IsNumber y)))
     × ((o : Option Value) → RegFits true a o → RegFits true r.0 o) × ((o : Option Value) → RegFits true b o → RegFits true r.1 o)
 
--- of two numbers it leaves what the answer leaves of their values; other registers stay as they are
-abbrev pub IsKindRefined : Answer → Reg → Reg → Reg × Reg → Type 0
-IsKindRefined t (Number a) (Number b) r = (c : Scalar) × (d : Scalar) × (r ≡ (Number c, Number d)) × AreNarrowed t a b (c, d)
-IsKindRefined t a b r = r ≡ (a, b)
+-- of two numbers it leaves what the answer leaves of their values, if anything; other registers stay as they are
+abbrev pub IsKindRefined : Answer → Reg → Reg → Option (Reg × Reg) → Type 0
+IsKindRefined t (Number a) (Number b) None = Unit {0}
+IsKindRefined t (Number a) (Number b) (Some r) = (c : Scalar) × (d : Scalar) × (r ≡ (Number c, Number d)) × AreNarrowed t a b (c, d)
+IsKindRefined t a b r = r ≡ Some (a, b)

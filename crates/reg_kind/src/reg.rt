@@ -189,7 +189,7 @@ impl Reg {
     /// Registers of which one holds no number stay as they are.
     pub fn refine(cond: Cond, width: Width, a: Reg, b: Reg, taken: bool) -> Option<(Reg, Reg)>
         ensures right { IsRegRefined (record { cond = cond; width = width; taken = taken }) a b result }
-        ensures kinds { IfSome result (IsKindRefined (record { cond = cond; width = width; taken = taken }) a b) }
+        ensures kinds { IsKindRefined (record { cond = cond; width = width; taken = taken }) a b result }
     {
         let (Reg::Number(x), Reg::Number(y)) = (a, b) else {
             return Some((a, b));

@@ -18,7 +18,8 @@ use Rattle.known_bits.specs.declared.bits.KnownBits.{KnownBits}
 use Rattle.known_bits.specs.Members.{HasBits}
 use Rattle.known_bits.specs.Refined.{HasPartner, IsTight}
 use Rattle.scalar.specs.declared.scalar.Scalar.{Scalar}
-use Rattle.scalar.specs.Members.{InScalar}
+use Rattle.scalar.specs.MemberLaws.{shows_one}
+use Rattle.scalar.specs.Members.{InScalar, IsAskedAlike}
 use Rattle.scalar.specs.Narrowed.{Answer, HasLowAnswer, AreNarrowed}
 use Rattle.scalar.specs.NarrowedParts.{AreHalvesNarrowed, ArePartsNarrowed, IsWidthAsked}
 use Rattle.scalar.proofs.Same.{AreSame}
@@ -78,13 +79,21 @@ partner_seen : (w : Width) (b : KnownBits) (x : ℕ) → HasPartner W64 b x → 
 partner_seen W64 b x h = h
 partner_seen W32 b x h = record { partner = h.partner; there = h.there; alike = subst (λ (y : ℕ). h.partner % 2 ^ 32 ≡ y % 2 ^ 32) h.alike refl }
 
+-- ---- answers
+
+pub not_not : (b c : Bool) → ((b ≡ c → ⊥) → ⊥) → b ≡ c
+not_not true true h = refl
+not_not false false h = refl
+not_not true false h = absurd (h (λ e. cc))
+not_not false true h = absurd (h (λ e. cc))
+
 -- ---- the four together
 
 abbrev asked_of : Answer → Width → Answer
 asked_of t asked = record { cond = t.cond; width = asked; taken = t.taken }
 
 module _ (t : Answer) (asked : Width) (a b : Scalar) (p q r : Scalar × Scalar)
-    (width : IsWidthAsked t.width asked t.cond a b)
+    (width : IsWidthAsked t.width asked t.cond a b) (same : IsAskedAlike t.cond t.width asked a b)
     (parts : ArePartsNarrowed (asked_of t asked) a b p) (halves : AreHalvesNarrowed t p.0 p.1 q)
     (left : AreSame q.0 r.0) (right : AreSame q.1 r.1) where
   in_left : (x : ℕ) → InScalar r.0 x → InScalar p.0 x
@@ -132,13 +141,14 @@ module _ (t : Answer) (asked : Width) (a b : Scalar) (p q r : Scalar × Scalar)
     within = (λ x m. parts.within.0 x (in_left x m), λ y m. parts.within.1 y (in_right y m));
     words = λ sees orders.
         let pair = parts.words (width.whole t.taken orders sees) orders in
-        (λ s all x m. pair.left.least s all x (in_left x m).unsigned, λ s all y m. pair.right.least s all y (in_right y m).unsigned);
+        record { left = λ s all x m. pair.left.least s all x (in_left x m).unsigned; right = λ s all y m. pair.right.least s all y (in_right y m).unsigned; some = pair.some };
     numbers = λ e orders.
         let pair = parts.numbers (wide e) orders in
-        (λ s all x m. pair.left.least s all x (in_left x m).signed, λ s all y m. pair.right.least s all y (in_right y m).signed);
+        record { left = λ s all x m. pair.left.least s all x (in_left x m).signed; right = λ s all y m. pair.right.least s all y (in_right y m).signed; some = pair.some };
     halves = λ e orders.
         let pair = rw (parts.halves.0, parts.halves.1) at halves.low e orders in
-        (λ s all x m. pair.left.least s all x ((left x).0 m).half, λ s all y m. pair.right.least s all y ((right y).0 m).half);
+        record { left = λ s all x m. pair.left.least s all x ((left x).0 m).half; right = λ s all y m. pair.right.least s all y ((right y).0 m).half; some = pair.some };
     equal = λ sees says. three_equal (width.whole t.taken (equal_orders t.cond t.taken says).0 sees) says;
     bits = λ says. partners asked refl (parts.tight says) t.width width.own;
+    single = λ x y one other. same x y ((shows_one a x one x).1 refl) ((shows_one b y other y).1 refl) ∙ parts.single x y one other;
   }

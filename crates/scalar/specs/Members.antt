@@ -3,7 +3,7 @@ use Rattle.std.specs.Prelude.{◌≡◌, ◌↔◌, ℕ, Option, Some, None}
 use Rattle.insn.specs.declared.operation.Cond.{Cond}
 use Rattle.insn.specs.declared.operation.Width.{Width}
 use Rattle.insn.specs.Word.{word_holds}
-use Rattle.range.specs.Domain.{IsSingle}
+use Rattle.range.specs.Domain.{IsJoin, IsSingle}
 use Rattle.range.specs.Unsigned.{InRange}
 use Rattle.range.specs.Signed.{InSignedRange}
 use Rattle.range.specs.Half.{InHalfRange}
@@ -23,6 +23,17 @@ pub record ShowsOne (s : Scalar) (x : ℕ) : Type 0 where
   pub signed : IsSingle InSignedRange s.signed x
   pub bits : IsSingle HasBits s.bits x
   pub half : InHalfRange s.half x
+
+-- each word of a value is in every join of two sets
+abbrev pub LiesInJoins : {A : Type 0} → (A → ℕ → Type 0) → A → A → Scalar → Type 0
+LiesInJoins {A = A} Has a b c = (s : A) → IsJoin Has a b s → (x : ℕ) → InScalar c x → Has s x
+
+-- each word of a value is in every join of two others, part by part
+pub record LiesInEachJoin (a b c : Scalar) : Type 0 where
+  pub unsigned : LiesInJoins InRange a.unsigned b.unsigned c
+  pub signed : LiesInJoins InSignedRange a.signed b.signed c
+  pub bits : LiesInJoins HasBits a.bits b.bits c
+  pub half : LiesInJoins InHalfRange a.half b.half c
 
 -- a value with the same members; none where there is no member
 abbrev pub HasSame : Scalar → Option Scalar → Type 0

@@ -14,7 +14,7 @@ use Rattle.range.specs.Half.{InHalfRange}
 use Rattle.known_bits.specs.Refined.{HasPartner}
 use Rattle.scalar.specs.declared.scalar.Scalar.{Scalar}
 use Rattle.scalar.specs.Bounds.{greatest_word}
-use Rattle.scalar.specs.Members.{InScalar}
+use Rattle.scalar.specs.Members.{InScalar, ShowsOne}
 
 -- a condition of two words in a width, and the answer that it has
 pub record Answer : Type 0 where
@@ -43,16 +43,19 @@ LiesIn {A = A} Has Kind c = (s : A) → ((x : ℕ) → Kind x → Has s x) → (
 abbrev pub LiesInLeastSum : BinOp → Width → Scalar → Scalar → Scalar → Type 0
 LiesInLeastSum op w a b c = op ≡ Add → w ≡ W64 → greatest_word a + greatest_word b < 2 ^ 64 → LiesIn InRange (IsWordSum a.unsigned b.unsigned) c
 
--- two values have no words but those of the least sets that keep all pairs of related words
-abbrev pub LieInLeast : {A : Type 0} → (A → ℕ → Type 0) → (ℕ → ℕ → Type 0) → A → A → Scalar × Scalar → Type 0
-LieInLeast Has Related a b r = LiesIn Has (IsLeft Has Related a b) r.0 × LiesIn Has (IsRight Has Related a b) r.1
+-- two values have no words but those of the least sets that keep all pairs of related words, of which there is one
+pub record LieInLeast {A : Type 0} (Has : A → ℕ → Type 0) (Related : ℕ → ℕ → Type 0) (a b : A) (r : Scalar × Scalar) : Type 0 where
+  pub left : LiesIn Has (IsLeft Has Related a b) r.0
+  pub right : LiesIn Has (IsRight Has Related a b) r.1
+  pub some : (x : ℕ) × IsLeft Has Related a b x
 
 -- each word of two values has one of the other's known bits that a width sees alike
 abbrev pub HavePartners : Width → Scalar → Scalar → Scalar × Scalar → Type 0
 HavePartners w a b r = ((x : ℕ) → InScalar r.0 x → HasPartner w b.bits x) × ((y : ℕ) → InScalar r.1 y → HasPartner w a.bits y)
 
--- what an answer leaves of two values was there. One that orders words, or signed readings, leaves what is in the least
--- ranges that keep the pairs which have it; one that says that words are equal leaves of each what is in both.
+-- What an answer leaves of two values was there. One that orders words, or signed readings, leaves what is in the least
+-- ranges that keep the pairs which have it, and there is such a pair; one that says that words are equal leaves of each
+-- what is in both. Two words that are each known alone have the answer.
 pub record AreNarrowed (t : Answer) (a b : Scalar) (r : Scalar × Scalar) : Type 0 where
   pub within : IsWithin InScalar r.0 a × IsWithin InScalar r.1 b
   pub words : SeesAll t.width a b → OrdersWords t.cond t.taken → LieInLeast InRange (HasAnswer t.cond t.taken) a.unsigned b.unsigned r
@@ -60,3 +63,4 @@ pub record AreNarrowed (t : Answer) (a b : Scalar) (r : Scalar × Scalar) : Type
   pub halves : t.width ≡ W32 → OrdersSigned t.cond t.taken → LieInLeast InHalfRange (HasLowAnswer t.cond t.taken) a.half b.half r
   pub equal : SeesAll t.width a b → IsTrue (says_equal t.cond t.taken) → IsWithin InScalar r.0 b × IsWithin InScalar r.1 a
   pub bits : IsTrue (says_equal t.cond t.taken) → HavePartners t.width a b r
+  pub single : (x y : ℕ) → ShowsOne a x → ShowsOne b y → HaveAnswer t x y

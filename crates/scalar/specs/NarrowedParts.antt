@@ -1,5 +1,5 @@
 -- Beside Narrowed: only the contracts of this crate's own parts and their proofs cite this, no public clause.
-use Rattle.std.specs.Prelude.{◌≡◌, ◌⊎◌, true, Bool, IsTrue}
+use Rattle.std.specs.Prelude.{◌≡◌, ◌⊎◌, ℕ, true, Bool, IsTrue}
 use Rattle.insn.specs.declared.operation.Cond.{Cond}
 use Rattle.insn.specs.declared.operation.Cond.TheVariants.{Eq}
 use Rattle.insn.specs.declared.operation.Width.{Width}
@@ -11,8 +11,8 @@ use Rattle.range.specs.Signed.{InSignedRange}
 use Rattle.range.specs.Half.{InHalfRange}
 use Rattle.known_bits.specs.Refined.{IsTight}
 use Rattle.scalar.specs.declared.scalar.Scalar.{Scalar}
-use Rattle.scalar.specs.Members.{InScalar}
-use Rattle.scalar.specs.Narrowed.{Answer, HasLowAnswer, SeesAll}
+use Rattle.scalar.specs.Members.{InScalar, ShowsOne}
+use Rattle.scalar.specs.Narrowed.{Answer, HasLowAnswer, HaveAnswer, SeesAll}
 
 -- the width in which an answer is asked of whole words
 pub record IsWidthAsked (w asked : Width) (c : Cond) (a b : Scalar) : Type 0 where
@@ -26,6 +26,7 @@ pub record ArePartsNarrowed (t : Answer) (a b : Scalar) (r : Scalar × Scalar) :
   pub words : t.width ≡ W64 → OrdersWords t.cond t.taken → IsLeastPair InRange (HasAnswer t.cond t.taken) a.unsigned b.unsigned r.0.unsigned r.1.unsigned
   pub numbers : t.width ≡ W64 → OrdersSigned t.cond t.taken → IsLeastPair InSignedRange (HasAnswer t.cond t.taken) a.signed b.signed r.0.signed r.1.signed
   pub tight : IsTrue (says_equal t.cond t.taken) → IsTight t.width a.bits b.bits (r.0.bits, r.1.bits)
+  pub single : (x y : ℕ) → ShowsOne a x → ShowsOne b y → HaveAnswer t x y
 
 -- what it leaves of their low halves; of equal words these are equal
 pub record AreHalvesNarrowed (t : Answer) (a b : Scalar) (r : Scalar × Scalar) : Type 0 where

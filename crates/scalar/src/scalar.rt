@@ -73,10 +73,10 @@ impl Scalar {
 }
 
 impl Domain for Scalar {
-    ghost use Rattle.scalar.specs.Members.{InScalar, ShowsOne};
+    ghost use Rattle.scalar.specs.Members.{InScalar, LiesInEachJoin, ShowsOne};
     ghost use Rattle.scalar.specs.MemberLaws.{InScalar-words, shows_one};
     ghost use Rattle.scalar.specs.Narrowed.{AreNarrowed, LiesInLeastSum};
-    ghost use Rattle.range.specs.Domain.{IsRefined, IsSoundResult, IsSingleResult};
+    ghost use Rattle.range.specs.Domain.{IsJoin, IsRefined, IsSoundResult, IsSingleResult};
     ghost use Rattle.range.specs.Sets.{AreWithin};
 
     ghost Has = { InScalar };
@@ -139,7 +139,10 @@ impl Domain for Scalar {
         }
     }
 
-    fn join(a: Scalar, b: Scalar) -> Scalar {
+    fn join(a: Scalar, b: Scalar) -> Scalar
+        ensures join { IsJoin InScalar a b result }
+        ensures least { LiesInEachJoin a b result }
+    {
         Scalar {
             unsigned: URange::join(a.unsigned, b.unsigned),
             signed: SRange::join(a.signed, b.signed),

@@ -1,28 +1,31 @@
 -- What is known at the slot that a walk has come to holds of each run that comes there.
-use Rattle.std.proofs.Common.{◌≡◌, ◌≢◌, ℕ, zero, suc, ◌+◌, ◌-◌, ◌<◌, ◌≤◌, false, List, [], length, take, drop, Option, Some, None, Result, Ok, Err, IfOk, refl, sym, ap, ◌∙◌, arith, get_or, inl, inr, ◌⊎◌}
-use Rattle.std.proofs.lemmas.Bool.{cases_lt}
+use Rattle.std.proofs.Common.{◌≡◌, ◌≢◌, ℕ, zero, suc, ◌+◌, ◌-◌, ◌<◌, ◌≤◌, false, List, [], length, take, drop, Option, Some, None, Result, Ok, Err, IfOk, refl, sym, ap, ◌∙◌, arith, get_or, set, inl, inr, ◌⊎◌}
+use Rattle.std.proofs.lemmas.Bool.{cases_eq, cases_lt}
 use Rattle.std.specs.Prelude.{All}
+use Rattle.std.proofs.lemmas.List.{get_or-set_other, get_or-set_same, length-set}
 use Rattle.std.proofs.lemmas.List.Elements.{All-push}
 use Rattle.std.specs.declared.alloc.AllocError.{AllocError}
 use Rattle.insn.specs.declared.instruction.Insn.{Insn}
 use Rattle.insn.specs.declared.layout.Layout.{Layout}
 use Rattle.insn.specs.declared.verify_fault.VerifyFault.{VerifyFault}
 use Rattle.insn.specs.declared.verify_fault.VerifyFault.TheVariants.{Memory}
-use Rattle.insn.specs.Refusals.{look_verdict, walk_fault_at}
+use Rattle.insn.specs.Refusals.{look_verdict}
 use Rattle.insn.specs.Instruction.{slots_of}
-use Rattle.insn.specs.Program.{begins_at, slot_count}
+use Rattle.insn.specs.Program.{slot_count}
 use Rattle.insn.specs.RunLaws.{exit_ends}
 use Rattle.insn.specs.Step.{Reaches, step, steps}
 use Rattle.insn.specs.Values.{◌>>=◌, Config, IsRecord, start}
 use Rattle.verifier.specs.declared.known.Known.{Known}
 use Rattle.verifier.specs.declared.explain.Finding.{Finding}
 use Rattle.verifier.specs.declared.explain.Finding.TheVariants.{Accepted, Looked, Refused}
-use Rattle.verifier.specs.Findings.{IsAcceptance, IsKnownAt, IsWalkFinding, NoneComesTo}
-use Rattle.verifier.specs.FindingsParts.{IsNoted, IsRefusedWith}
+use Rattle.verifier.specs.Findings.{AreToldOnward, IsAcceptance, IsKnownAt, IsWalkFinding, NoneComesTo}
+use Rattle.verifier.specs.FindingsParts.{IsNoted, IsRefusedWith, TellsOnward}
 use Rattle.verifier.specs.Fits.{StateFits}
-use Rattle.verifier.specs.Waits.{IsBegun, IsRefusedHere, IsVisited}
+use Rattle.verifier.specs.declared.walk.Onward.{Onward}
+use Rattle.verifier.specs.Waits.{GoesOn, IsBegun, IsRefusedHere, IsVisited, nowhere}
 use Rattle.verifier.proofs.Straight.{later, same_reached}
-use Rattle.verifier.proofs.Walks.{Ended, Standing, Walked, Walking, begins_now, begins_walking, ends_walking, is_refusal, one_more, slot_inside}
+use Rattle.verifier.proofs.Walks.{Ended, Standing, Walked, Walking, begins_walking, came_here, ends_walking, one_more, refusal_of, slot_inside, walked_here}
+use Rattle.verifier.proofs.Ways.{behind_it}
 
 -- what waits at a slot fits a state
 pub record Arrives (layout : Layout) (w : List (Option Known)) (c : Config) : Type 0 where
@@ -95,6 +98,11 @@ module _ (layout : Layout) (program : List Insn) (slot : ℕ) (rest : List Insn)
       let q : Some known ≡ Some k.0 = k.1 in
       let same : known ≡ k.0 = cc in rw same k.2
 
+-- it has told where walks go on from the instructions before a slot
+pub record Telling (layout : Layout) (program : List Insn) (slot : ℕ) (onward : List Onward) : Type 0 where
+  pub long : length onward ≡ slot_count program
+  pub told : AreToldOnward layout program slot onward
+
 -- what the loop keeps
 pub record Exploring (layout : Layout) (program : List Insn) (slot : ℕ) (rest : List Insn) (w : List (Option Known)) (unreached : List ℕ) : Type 0 where
   pub walking : Walking layout program slot rest w
@@ -120,26 +128,49 @@ module _ (layout : Layout) (program : List Insn) (slot : ℕ) (rest : List Insn)
   pub one_explored : (w' : List (Option Known)) (o : Option Known) (after : List ℕ) → IsVisited layout now slot w w' → o ≡ get_or w slot None → IsNoted slot o unreached after → Exploring layout program (slot + slots_of now) others w' after
   one_explored w' o after v here n = record { walking = one_more layout program slot rest w d some h.walking w' v; none = noted o after (sym here) n }
 
-  told : (fault : VerifyFault) (o : Option Known) (finding : Finding) → o ≡ get_or w slot None → (fault ≢ Memory → IsRefusedHere layout now slot w fault) → IsRefusedWith fault slot now o finding → IsWalkFinding layout program finding
-  told fault o (Accepted slots) here why r = absurd r
-  told fault o (Looked other) here why r = absurd r
-  told fault o (Refused refusal) here why r =
-      let here_is : IsRefusedHere layout now slot w fault = why r.0 in
-      let faults : refusal.fault ≡ fault = r.1 in
-      let slots : refusal.slot ≡ slot = r.2 in
-      let insns : refusal.insn ≡ now = r.3 in
-      let waits : get_or w slot None ≡ Some refusal.known.value = sym here ∙ r.4 in
-      record {
-        refused = rw faults (is_refusal layout program slot rest w d some h.walking fault here_is);
-        wrong = here_is.wrong;
-        is = faults ∙ here_is.is ∙ ap (walk_fault_at here_is.wrong) (sym slots);
-        begins = ap (begins_at program) slots ∙ begins_now layout program slot rest w d some h.walking ∙ ap (λ (i : Insn). Some i) (sym insns);
-        known = rw slots (known_comes layout program slot rest w h.walking.walked refusal.known.value waits);
-      }
+  pub told_inside : (onward : List Onward) → Telling layout program slot onward → slot < length onward
+  told_inside onward t = omega (arith, slot_inside layout program slot rest w d some h.walking, t.long)
 
-  pub refused_told : (fault : VerifyFault) (o : Option Known) (r : Result Finding AllocError) → o ≡ get_or w slot None → (fault ≢ Memory → IsRefusedHere layout now slot w fault) → IfOk r (IsRefusedWith fault slot now o) → IfOk r (IsWalkFinding layout program)
-  refused_told fault o (Ok finding) here why r = told fault o finding here why r
-  refused_told fault o (Err e) here why r = tt
+  pub one_told : (onward : List Onward) (here : Onward) → GoesOn layout now (get_or w slot None) here → Telling layout program slot onward → Telling layout program (slot + slots_of now) (set onward slot here)
+  one_told onward here goes t = record {
+    long = length-set onward slot here ∙ t.long;
+    told = λ k i lt begins.
+        elim (cases_eq k slot) [
+          | inl same ↦
+              let there : get_or (set onward slot here) slot nowhere ≡ here = get_or-set_same onward slot here nowhere (told_inside onward t) in
+              rw (same, there) (record { insn = now; rest = others; waiting = w; walked = came_here layout program slot rest w d some h.walking; goes = goes })
+          | inr other ↦
+              elim (cases_lt slot k) [
+                | inl less ↦ absurd (omega (arith, behind_it program slot k now i others (walked_here layout program slot rest w d some h.walking).stands begins less))
+                | inr ge ↦ rw (get_or-set_other onward slot k here nowhere other) (t.told k i (omega arith) begins)
+              ]
+        ];
+  }
+
+  module _ (fault : VerifyFault) (o : Option Known) (onward : List Onward) (here : o ≡ get_or w slot None) (why : fault ≢ Memory → IsRefusedHere layout now slot w fault) (t : Telling layout program slot onward) where
+    told : (finding : Finding) → IsRefusedWith fault slot now o finding → TellsOnward onward finding → IsWalkFinding layout program finding
+    told (Accepted slots) r g = absurd r
+    told (Looked other) r g = absurd r
+    told (Refused refusal) r g =
+        let faults : refusal.fault ≡ fault = r.1 in
+        let here_is : IsRefusedHere layout now slot w refusal.fault = rw faults (why r.0) in
+        let slots : refusal.slot ≡ slot = r.2 in
+        let waits : get_or w slot None ≡ Some refusal.known.value = sym here ∙ r.4 in
+        let waited : get_or w slot None ≡ Some here_is.known = here_is.taken.here in
+        let same : refusal.known.value ≡ here_is.known = cc in
+        let is = refusal_of layout program slot rest w d some h.walking refusal.fault here_is in
+        record {
+          refused = is.0;
+          slot = slots ∙ sym is.1;
+          insn = r.3 ∙ sym is.2;
+          waits = same ∙ sym is.3;
+          known = rw slots (known_comes layout program slot rest w h.walking.walked refusal.known.value waits);
+          onward = rw (slots, g) t.told;
+        }
+
+    pub refused_told : (r : Result Finding AllocError) → IfOk r (IsRefusedWith fault slot now o) → IfOk r (TellsOnward onward) → IfOk r (IsWalkFinding layout program)
+    refused_told (Ok finding) r g = told finding r g
+    refused_told (Err e) r g = tt
 
 pub ends_exploring : (layout : Layout) (program : List Insn) (slot : ℕ) (rest : List Insn) (w : List (Option Known)) (unreached : List ℕ) → length rest < 1 → Exploring layout program slot rest w unreached → IsAcceptance layout program unreached
 ends_exploring layout program slot rest w unreached none h = record { safe = ends_walking layout program slot rest w none h.walking; unreached = h.none }

@@ -1,9 +1,8 @@
 -- What is told of a program that is looked at.
-use Rattle.std.specs.Prelude.{◌≡◌, ◌≢◌, ℕ, false, List, Some, None, All}
+use Rattle.std.specs.Prelude.{◌≡◌, ◌≢◌, ℕ, ◌<◌, false, List, Some, None, All, slice_index_or}
 use Rattle.insn.specs.declared.instruction.Insn.{Insn}
 use Rattle.insn.specs.declared.layout.Layout.{Layout}
-use Rattle.insn.specs.declared.verify_fault.WalkFault.{WalkFault}
-use Rattle.insn.specs.Refusals.{look_verdict, walk_fault_at}
+use Rattle.insn.specs.Refusals.{look_verdict}
 use Rattle.insn.specs.Program.{begins_at}
 use Rattle.insn.specs.Step.{Reaches, Safe}
 use Rattle.insn.specs.Values.{Config, IsRecord}
@@ -12,7 +11,9 @@ use Rattle.verifier.specs.declared.explain.Refusal.{Refusal}
 use Rattle.verifier.specs.declared.explain.Finding.{Finding}
 use Rattle.verifier.specs.declared.explain.Finding.TheVariants.{Accepted, Looked, Refused}
 use Rattle.verifier.specs.Fits.{StateFits}
+use Rattle.verifier.specs.declared.walk.Onward.{Onward}
 use Rattle.verifier.specs.Verdicts.{IsRefusal}
+use Rattle.verifier.specs.Waits.{HasGoneOn, nowhere}
 
 -- whatever the record is, a run that comes to a slot does so in a state of which this is known
 abbrev pub IsKnownAt : Layout → List Insn → ℕ → Known → Type 0
@@ -25,13 +26,20 @@ abbrev pub NoneComesTo : Layout → List Insn → ℕ → Type 0
 NoneComesTo layout program slot =
     (bytes : List ℕ) (n : ℕ) (c : Config) → IsRecord layout bytes → Reaches layout program bytes n c → c.slot ≢ slot
 
--- a program is refused with this fault, at this instruction, and this is known of each run that comes to it
+-- by slots it is told where walks go on from the instructions before a slot
+abbrev pub AreToldOnward : Layout → List Insn → ℕ → List Onward → Type 0
+AreToldOnward layout program slot onward =
+    (k : ℕ) (i : Insn) → k < slot → begins_at program k ≡ Some i → HasGoneOn layout program k (slice_index_or onward k nowhere)
+
+-- A program is refused with this fault, at this instruction, by what waits there, of which nothing else is told. It is known
+-- of each run that comes there, and it is told where walks went before.
 pub record IsExplained (layout : Layout) (program : List Insn) (refusal : Refusal) : Type 0 where
   pub refused : IsRefusal layout program refusal.fault
-  pub wrong : WalkFault
-  pub is : refusal.fault ≡ walk_fault_at wrong refusal.slot
-  pub begins : begins_at program refusal.slot ≡ Some refusal.insn
+  pub slot : refusal.slot ≡ refused.slot
+  pub insn : refusal.insn ≡ refused.insn
+  pub waits : refusal.known.value ≡ refused.refused.known
   pub known : IsKnownAt layout program refusal.slot refusal.known.value
+  pub onward : AreToldOnward layout program refusal.slot refusal.onward.items
 
 -- a program is accepted, and no run comes to these slots
 pub record IsAcceptance (layout : Layout) (program : List Insn) (slots : List ℕ) : Type 0 where

@@ -41,7 +41,7 @@ pub record IsCompared (test : Test) (answer : Bool) (old new : Known) : Type 0 w
   pub right : Kind
   pub operand : IsOperand old test.right right
   pub both : Kind × Kind
-  pub refined : IsKindRefined (answer_of test answer) (reg_of old test.left) right both
+  pub refined : IsKindRefined (answer_of test answer) (reg_of old test.left) right (Some both)
   pub registers : new.registers ≡ slice_set (operand_set old.registers test.right both.1) (reg_number test.left) both.0
   pub stack : new.stack ≡ old.stack
   pub links : new.links ≡ old.links

@@ -3,12 +3,12 @@
 ghost use Rattle.std.specs.Prelude.{◌≡◌, IfOk, IsOk};
 ghost use Rattle.insn.specs.Refusals.{look_verdict};
 ghost use Rattle.verifier.specs.Findings.{IsFinding, IsWalkFinding};
-ghost use Rattle.verifier.specs.FindingsParts.{IsNoted, IsRefusedWith};
+ghost use Rattle.verifier.specs.FindingsParts.{IsNoted, IsRefusedWith, TellsOnward};
 ghost use Rattle.verifier.specs.Follows.{reg_of};
 
 use crate::first_look::first_look;
 use crate::known::Known;
-use crate::walk::{Waiting, visit};
+use crate::walk::{NOWHERE, Onward, Waiting, visit};
 use insn::instruction::Insn;
 use insn::layout::Layout;
 use insn::program::Program;
@@ -29,6 +29,8 @@ pub struct Refusal {
     pub insn: Insn,
     /// What is known before it of the registers and the stack, whichever way leads there.
     pub known: Box<Known>,
+    /// By slots, where the walk went on from the instructions before it.
+    pub onward: Vec<Onward>,
 }
 
 /// What a look at a program finds.
@@ -58,15 +60,17 @@ impl Known {
     }
 }
 
-/// What is found where an instruction is refused. `known` is what was known before it.
+/// What is found where an instruction is refused. `known` is what was known before it, and `onward` where the walk went.
 fn refused(
     alloc: Global,
     fault: VerifyFault,
     slot: usize,
     insn: Insn,
     known: Option<Known>,
+    onward: Vec<Onward>,
 ) -> Result<Finding, AllocError>
-    ensures { IfOk result (IsRefusedWith fault slot insn known) }
+    ensures with { IfOk result (IsRefusedWith fault slot insn known) }
+    ensures onward { IfOk result (TellsOnward onward.items) }
 {
     match (fault, known) {
         (VerifyFault::Memory, _) | (_, None) => Err(AllocError),
@@ -75,6 +79,7 @@ fn refused(
             slot,
             insn,
             known: Box::new(alloc, known)?,
+            onward,
         })),
     }
 }
@@ -98,11 +103,13 @@ fn walked(alloc: Global, program: &Program, layout: Layout) -> Result<Finding, A
     let mut rest = program.insns();
     let mut waiting = Waiting::new(alloc, slots)?;
     let mut unreached = Vec::new(alloc);
+    let mut onward = vec![in alloc; NOWHERE; slots]?;
     let mut slot = 0;
     while let [insn, after @ ..] = rest {
         let known = waiting.at(slot);
-        if let Err(fault) = visit(&mut waiting, layout, *insn, slot, slots) {
-            return refused(alloc, fault, slot, *insn, known);
+        match visit(&mut waiting, layout, *insn, slot, slots) {
+            Ok(here) => onward[slot] = here,
+            Err(fault) => return refused(alloc, fault, slot, *insn, known, onward),
         }
         note(&mut unreached, slot, &known)?;
         slot += insn.slots();

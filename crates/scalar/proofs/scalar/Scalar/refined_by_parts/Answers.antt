@@ -1,4 +1,6 @@
 use Rattle.std.proofs.Common.{refl}
+use Rattle.insn.specs.Word.{word_holds}
+use Rattle.scalar.proofs.Narrowing.{not_not}
 use Rattle.scalar.proofs.scalar.Scalar.refined_by_parts.Goals as goal
 
 pub returns-clause-narrowed : goal.returns-clause-narrowed
@@ -11,4 +13,6 @@ returns-clause-narrowed c = record {
   words = λ e o. c.in_ok-unsigned.ensures.least e o;
   numbers = λ e o. c.in_ok-signed.ensures.least e o;
   tight = λ s. c.in_ok-bits.ensures.tight s;
+  single = λ x y one other.
+      not_not (word_holds c.args.width c.args.cond x y) c.args.taken (λ unanswered. let none = c.in_ok-bits.ensures.single x y (record { left = one.bits; right = other.bits; other = unanswered }) in cc);
 }
