@@ -1,11 +1,11 @@
 //! The one place that writes replies.
-ghost use Rattle.std.specs.Prelude.{◌≡◌, ◌≤◌, IfOk, IfSome, length, map};
+ghost use Rattle.std.specs.Prelude.{◌≡◌, ◌≤◌, IfOk, IsOk, IfSome, length, map};
 ghost use Rattle.std.specs.Option.{option_copied};
 ghost use Rattle.clients.specs.Limits.{identifier_limit, key_limit};
 ghost use Rattle.clients.specs.Owners.{sub_of};
 ghost use Rattle.token_store.specs.Found.{owner_number};
 ghost use Rattle.hook_host.specs.Names.{AreHookNames};
-ghost use Rattle.messages.specs.Reply.{plain};
+ghost use Rattle.messages.specs.Reply.{IsBare, plain};
 ghost use Rattle.messages.specs.Reply.Body.{Consent, HookRefused, Hooks};
 ghost use Rattle.messages.specs.Written.{in_writing};
 ghost use Rattle.pkce.specs.Token.{token_text};
@@ -148,7 +148,7 @@ fn turned(
     redirect(alloc, uri, "error", error.text(), state)
 }
 
-/// The reply, written: of the hooks, the host's names are read. A bare status takes no memory.
+/// The reply, written: of the hooks, the host's names are read. A status and nothing else takes no memory.
 pub fn write<H: HookHost>(
     alloc: Global,
     rules: &Registry,
@@ -157,6 +157,7 @@ pub fn write<H: HookHost>(
 ) -> Result<Response, AllocError>
     ensures value { IfOk result (λ reply. reply ≡ in_writing (reply_of rules.now (H.names host.now) answer.entry.now)) }
     ensures short { IsShortAnswer answer.entry.now → IfOk result IsShortReply }
+    ensures bare { IsBare (reply_of rules.now (H.names host.now) answer.entry.now) → IsOk result }
 {
     match *answer {
         Answer::Done => Ok(Response::bare(StatusCode::OK)),

@@ -10,7 +10,6 @@ use Rattle.base64.specs.GeneralPurpose.{decode_of, encode_of}
 use Rattle.form_urlencoded.specs.Form.{byte_serialize}
 use Rattle.params.specs.Form.{lossy_text, has_replacement, value_sent}
 use Rattle.clients.specs.Faults.{◌>>=◌, GivesUnless}
-use Rattle.clients.specs.Texts.{is_key}
 use Rattle.clients.specs.Numbers.{number_among}
 use Rattle.clients.specs.Clients.{ids, client_at, has_secret}
 use Rattle.clients.specs.ClientRecord.{ClientRecord}
@@ -110,6 +109,6 @@ basic_header id secret = codes "Basic " ++ encode_of standard (byte_serialize id
 abbrev pub HeadersAuthenticate : List ClientRecord → Type 0
 HeadersAuthenticate clients =
     (number : ℕ) (client : ClientRecord) (secret : List ℕ) (params : List (List ℕ × List ℕ)) → client_at number clients ≡ Some client
-    → is_key secret ≡ true → has_secret secret client ≡ true
+    → has_secret secret client ≡ true
     → value_sent (codes "client_id") params ≡ None → value_sent (codes "client_secret") params ≡ None
     → authenticated clients (Some (basic_header client.id secret)) params ≡ Ok number

@@ -28,7 +28,7 @@ use Rattle.clients.specs.Clients.{ids, has_secret}
 use Rattle.clients.specs.ClientRecord.{ClientRecord}
 use Rattle.clients.specs.RegistryRecord.{RegistryRecord}
 use Rattle.clients.specs.RegistryRules.{IsRegistry}
-use Rattle.clients.specs.RegistryLaws.{client-of}
+use Rattle.clients.specs.RegistryLaws.{client-of, secret-key}
 use Rattle.authentication.specs.Authentication.{basic_text, form_text, around_colon, basic_credentials, basic_header, is_secret_of, identified, HeadersAuthenticate}
 use Rattle.authentication.specs.declared.authentication.AuthFault.{AuthFault}
 use Rattle.authentication.specs.declared.authentication.AuthFault.TheVariants.{NoClient, BadSecret, TwoMethods, BadHeader}
@@ -134,9 +134,9 @@ numbered (c ∷ clients) (suc at) i client once is =
 
 -- each client of a registry is authenticated by the header of its identifier and secret
 pub headers_authenticate : (rules : RegistryRecord) → IsRegistry rules → HeadersAuthenticate rules.clients
-headers_authenticate rules is number client secret params at is_key right no_id no_secret =
+headers_authenticate rules is number client secret params at right no_id no_secret =
     let one = client-of rules number client is at in
-    let sent = credentials-back client.id secret (identifier-ascii client.id one.is_client.id) (key-ascii secret is_key) in
+    let sent = credentials-back client.id secret (identifier-ascii client.id one.is_client.id) (key-ascii secret (secret-key secret client right)) in
     let known : number_among client.id (ids rules.clients) ≡ Some number = number_where (number == 0) refl at in
     let among : is_secret_of number rules.clients secret ≡ true = ap (λ (o : Option ClientRecord). option_map_or (has_secret secret) o false) at ∙ right in
     by (value_sent (codes "client_secret") params) (value_sent (codes "client_id") params) (basic_credentials (basic_header client.id secret)) no_secret no_id sent

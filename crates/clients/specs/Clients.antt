@@ -1,16 +1,15 @@
 -- The clients of a registry (RFC 6749, section 2).
-use Rattle.std.specs.Prelude.{ℕ, List, [], ◌∷◌, ◌++◌, map, codes, ◌-◌, ◌==◌, slice_get, if◌then◌else◌, Bool, Option, None, Result, Ok, Err}
+use Rattle.std.specs.Prelude.{ℕ, List, [], ◌∷◌, ◌++◌, map, codes, ◌-◌, ◌==◌, slice_get, if◌then◌else◌, Bool, false, Option, None, Result, Ok, Err}
 use Rattle.std.specs.List.{list_any}
 use Rattle.std.specs.Option.{option_map_or}
 use Rattle.std.specs.Str.{bytes_eq}
-use Rattle.sha2.specs.Sha256.{sha256}
 use Rattle.serde_json.specs.Data.{Data, Items, no_items, item}
 use Rattle.serde_json.specs.Find.{as_array}
 use Rattle.clients.specs.Limits.{redirect_count_limit}
 use Rattle.clients.specs.Faults.{◌>>=◌}
 use Rattle.clients.specs.Json.{member_of, list_of, items_within}
 use Rattle.clients.specs.Texts.{identifier_of}
-use Rattle.clients.specs.Keys.{key_digest}
+use Rattle.clients.specs.Keys.{sent_digest, key_digest}
 use Rattle.clients.specs.Numbers.{new_among}
 use Rattle.clients.specs.Redirect.{redirects_after}
 use Rattle.clients.specs.Scopes.{scope_of}
@@ -28,9 +27,9 @@ ids clients = map (λ c. c.id) clients
 abbrev pub client_at : ℕ → List ClientRecord → Option ClientRecord
 client_at number clients = if number == 0 then None else slice_get clients (number - 1)
 
--- whether this is a secret of the client: one that has one of the digests
+-- whether this is a secret of the client: it has the form of a key, and one of the digests
 abbrev pub has_secret : List ℕ → ClientRecord → Bool
-has_secret secret client = list_any (bytes_eq (sha256 secret)) client.secrets
+has_secret secret client = option_map_or (λ digest. list_any (bytes_eq digest) client.secrets) (sent_digest secret) false
 
 -- whether the text is one of the client's redirect URIs
 abbrev pub has_redirect : List ℕ → ClientRecord → Bool

@@ -1,5 +1,5 @@
 -- The digests of keys and secrets, by which alone they are known: SHA-256 (FIPS 180-4).
-use Rattle.std.specs.Prelude.{ℕ, List, codes, is_some, if◌then◌else◌, Result, Ok}
+use Rattle.std.specs.Prelude.{ℕ, List, codes, is_some, if◌then◌else◌, Option, Some, None, Result, Ok}
 use Rattle.std.specs.Option.{ok_or}
 use Rattle.std.specs.Result.{result_ok}
 use Rattle.sha2.specs.Sha256.{sha256}
@@ -8,7 +8,7 @@ use Rattle.serde_json.specs.Data.{Data}
 use Rattle.serde_json.specs.Find.{as_object}
 use Rattle.clients.specs.Faults.{◌>>=◌}
 use Rattle.clients.specs.Json.{member_of, text_of}
-use Rattle.clients.specs.Texts.{key_of}
+use Rattle.clients.specs.Texts.{is_key, key_of}
 use Rattle.clients.specs.declared.fault.ConfigFault.{ConfigFault}
 use Rattle.clients.specs.declared.fault.ConfigFault.TheVariants.{OutOfRange}
 
@@ -28,6 +28,10 @@ abbrev pub made_digest : Data → Result (List ℕ) ConfigFault
 made_digest value = do
   key ← key_of value
   Ok (sha256 key)
+
+-- the digest of what was sent as a key or a secret, by which alone it is compared: what has not the form of a key has none
+abbrev pub sent_digest : List ℕ → Option (List ℕ)
+sent_digest sent = if is_key sent then Some (sha256 sent) else None
 
 -- the digest of a key or a secret: of the key itself, or as an object has it
 abbrev pub key_digest : Data → Result (List ℕ) ConfigFault

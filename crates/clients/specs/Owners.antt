@@ -1,11 +1,10 @@
 -- The owners of a registry.
 use Rattle.std.specs.Prelude.{ℕ, ◌-◌, ◌==◌, List, [], ◌∷◌, ◌++◌, map, codes, slice_get, unwrap_or, if◌then◌else◌, Option, Some, None, option_and_then, Result, Ok}
-use Rattle.sha2.specs.Sha256.{sha256}
 use Rattle.serde_json.specs.Data.{Data, Items, no_items, item}
 use Rattle.serde_json.specs.Find.{get}
 use Rattle.clients.specs.Faults.{◌>>=◌}
 use Rattle.clients.specs.Texts.{key_of}
-use Rattle.clients.specs.Keys.{key_digest}
+use Rattle.clients.specs.Keys.{sent_digest, key_digest}
 use Rattle.clients.specs.Numbers.{number_among, new_among}
 use Rattle.clients.specs.OwnerRecord.{OwnerRecord}
 use Rattle.clients.specs.declared.fault.ConfigFault.{ConfigFault}
@@ -14,9 +13,9 @@ use Rattle.clients.specs.declared.fault.ConfigFault.{ConfigFault}
 abbrev pub keys : List OwnerRecord → List (List ℕ)
 keys owners = map (λ o. o.key) owners
 
--- the number of the owner whose key this is: the one with its digest
+-- the number of the owner whose key this is: it has the form of a key, and the owner's digest
 abbrev pub owner_with : List ℕ → List OwnerRecord → Option ℕ
-owner_with key owners = number_among (sha256 key) (keys owners)
+owner_with key owners = option_and_then (λ digest. number_among digest (keys owners)) (sent_digest key)
 
 -- what the owner of a number is called
 abbrev pub sub_of : ℕ → List OwnerRecord → Option (List ℕ)

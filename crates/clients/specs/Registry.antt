@@ -1,15 +1,14 @@
 -- The registry that JSON text stands for, or its first fault.
-use Rattle.std.specs.Prelude.{◌≤◌, ℕ, List, [], length, codes, Bool, bytes_eq, is_some, nat_lt, if◌then◌else◌, IsOk, IsUtf8, Result, Ok, Err}
-use Rattle.std.specs.Option.{ok_or}
+use Rattle.std.specs.Prelude.{◌≤◌, ℕ, List, [], length, codes, Bool, false, bytes_eq, is_some, nat_lt, if◌then◌else◌, IsOk, IsUtf8, Result, Ok, Err}
+use Rattle.std.specs.Option.{ok_or, option_map_or}
 use Rattle.std.specs.Str.{is_utf8}
-use Rattle.sha2.specs.Sha256.{sha256}
 use Rattle.serde_json.specs.Data.{Data}
 use Rattle.serde_json.specs.Read.{read}
 use Rattle.params.specs.Limits.{scope_name_count_limit}
 use Rattle.clients.specs.Limits.{registry_limit, owner_limit, client_limit}
 use Rattle.clients.specs.Faults.{◌>>=◌}
 use Rattle.clients.specs.Json.{member_of, life_of, items_within}
-use Rattle.clients.specs.Keys.{key_digest}
+use Rattle.clients.specs.Keys.{sent_digest, key_digest}
 use Rattle.clients.specs.OwnerRecord.{OwnerRecord}
 use Rattle.clients.specs.Numbers.{number_among}
 use Rattle.clients.specs.Owners.{keys, owners_after}
@@ -64,9 +63,9 @@ registry_of value = do
   clients ← clients_member scopes value
   Ok (record { access_life = access_life; refresh_life = refresh_life; operator = operator; owners = owners; scopes = scopes; clients = clients })
 
--- this is the operator's key: it has the digest
+-- this is the operator's key: it has the form of a key, and the operator's digest
 abbrev pub is_operator_key : List ℕ → RegistryRecord → Bool
-is_operator_key key rules = bytes_eq (sha256 key) rules.operator
+is_operator_key key rules = option_map_or (λ digest. bytes_eq digest rules.operator) (sent_digest key) false
 
 -- an owner has the operator's key
 abbrev pub has_operator_among_owners : RegistryRecord → Bool

@@ -9,6 +9,7 @@ use Rattle.std.proofs.lemmas.List.Folds.{list_all-append}
 use Rattle.std.proofs.lemmas.List.Elements.{All-nil, All-push, All-get_or}
 use Rattle.std.proofs.lemmas.Option.{slice_get_within, get_or_from_slice_get}
 use Rattle.std.proofs.lemmas.Slice.Eq.{bytes_eq-Decides}
+use Rattle.sha2.specs.Sha256.{sha256}
 use Rattle.url.specs.Parser.{parse_url}
 use Rattle.serde_json.specs.Find.{get, as_number, as_u64, as_array}
 use Rattle.serde_json.specs.Data.{Data, Items, no_items, item}
@@ -26,7 +27,7 @@ use Rattle.clients.specs.Owners.{key_if_any, sub_member}
 use Rattle.clients.specs.Redirect.{is_redirect, is_written, redirect_of, redirects_after}
 use Rattle.clients.specs.Scopes.{with_name, scopes_after}
 use Rattle.clients.specs.Numbers.{number_among}
-use Rattle.clients.specs.Clients.{ids, id_member, one_or_two, secrets_of, secret_member, redirects_member, scope_member, grants_member, client_of, clients_after, client_at}
+use Rattle.clients.specs.Clients.{ids, id_member, one_or_two, secrets_of, secret_member, redirects_member, scope_member, grants_member, client_of, clients_after, client_at, has_secret}
 use Rattle.clients.specs.ClientRecord.{ClientRecord}
 use Rattle.clients.specs.RegistryRecord.{RegistryRecord}
 use Rattle.clients.specs.Registry.{life_member, operator_member, owners_member, scopes_member, clients_member, registry_of}
@@ -227,6 +228,14 @@ redirect-among uri (r ∷ redirects) are among =
   where
     short : is_redirect uri ≡ true → length uri ≤ redirect_limit
     short is = leb-true (length uri) redirect_limit (and_parts (nat_le (length uri) redirect_limit) (is_written uri (parse_url None uri)) is).0
+
+-- a secret of a client has the form of a key
+pub secret-key : (secret : List ℕ) (client : ClientRecord) → has_secret secret client ≡ true → is_key secret ≡ true
+secret-key secret client has = by (is_key secret) has
+  where
+    by : (form : Bool) → option_map_or (λ digest. list_any (bytes_eq digest) client.secrets) (if form then Some (sha256 secret) else None) false ≡ true → form ≡ true
+    by true is = refl
+    by false is = cc is
 
 -- a client of a registry is one of its scope names
 pub client-of : (rules : RegistryRecord) (number : ℕ) (client : ClientRecord) → IsRegistry rules → client_at number rules.clients ≡ Some client → IsClientOf rules.scopes client

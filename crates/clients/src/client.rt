@@ -12,7 +12,7 @@ ghost use Rattle.clients.specs.Numbers.{number_among};
 ghost use Rattle.clients.specs.Clients.{ids, has_secret, has_redirect, id_member, secret_member, redirects_member, scope_member, grants_member, client_at, client_of, clients_after};
 ghost use Rattle.clients.specs.Spots.{item_at, redirect_at_fault, grant_at_fault, redirects_in, grants_in, client_spot, clients_spot};
 
-use crate::digest::digest_of;
+use crate::digest::sent_digest;
 use crate::fault::ConfigFault;
 use crate::grant::{GrantType, Grants, grant_at_fault, grant_set};
 use crate::json::{items, list, member};
@@ -68,11 +68,15 @@ impl Client {
         &self.id
     }
 
-    /// Whether this is a secret of the client: one with a SHA-256 that it has. It is compared with each.
+    /// Whether this is a secret of the client: 1 to 128 visible characters with a SHA-256 that it has. It is compared with
+    /// each.
     pub fn has_secret(&self, secret: &str) -> bool
         ensures { result ≡ has_secret secret.now self.now }
     {
-        self.secrets.has(&digest_of(secret.as_bytes()))
+        match sent_digest(secret.as_bytes()) {
+            Some(digest) => self.secrets.has(&digest),
+            None => false,
+        }
     }
 
     /// Whether the text is one of the client's redirect URIs, character by character (RFC 6749, section 3.1.2.3).

@@ -3,21 +3,32 @@
 ghost use Rattle.std.specs.Prelude.{◌≡◌, bytes_eq};
 ghost use Rattle.sha2.specs.Sha256.{sha256};
 ghost use Rattle.serde_json.specs.View.{view};
-ghost use Rattle.clients.specs.Keys.{digest_in, written_digest, made_digest, key_digest};
+ghost use Rattle.clients.specs.Keys.{digest_in, written_digest, made_digest, sent_digest, key_digest};
 
 use crate::fault::ConfigFault;
 use crate::json::{member, text};
-use crate::text::key;
+use crate::text::{is_key, key};
 use consent::Digest;
 use hex::FromHex;
 use serde_json::Value;
 use sha2::{Digest as _, Sha256};
 
-// The digest of a key or a secret that was sent.
-pub(crate) fn digest_of(key: &[u8]) -> Digest
+fn digest_of(key: &[u8]) -> Digest
     ensures { result ≡ sha256 key.now }
 {
     Digest::new(Sha256::digest(key))
+}
+
+// The digest of what was sent as a key or a secret. What has not the form of one has none, and is compared with nothing: a
+// registry may have the digest of any text, the empty one too.
+pub(crate) fn sent_digest(sent: &[u8]) -> Option<Digest>
+    ensures { result ≡ sent_digest sent.now }
+{
+    if is_key(sent) {
+        Some(digest_of(sent))
+    } else {
+        None
+    }
 }
 
 // Whether the digests are the same. All their bytes are compared, so that the time tells nothing of them.

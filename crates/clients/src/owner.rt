@@ -10,7 +10,7 @@ ghost use Rattle.clients.specs.Numbers.{number_among};
 ghost use Rattle.clients.specs.Owners.{keys, owner_with, sub_of, key_in, new_key, sub_member, owner_of, owners_after};
 ghost use Rattle.clients.specs.Spots.{owner_at_fault};
 
-use crate::digest::{are_same, digest_of, key_digest};
+use crate::digest::{are_same, key_digest, sent_digest};
 use crate::fault::ConfigFault;
 use crate::text::key;
 use consent::{Digest, OwnerNo};
@@ -102,12 +102,12 @@ impl Owners {
         found.map(OwnerNo::new)
     }
 
-    // The number of the owner whose key this is.
+    // The number of the owner whose key this is, if it has the form of one.
     pub(crate) fn with_key(&self, key: &[u8]) -> Option<OwnerNo>
         ensures value { result ≡ owner_with key.now self.now }
         ensures listed { IfSome result (λ number. number ≤ length self.now) }
     {
-        self.number(&digest_of(key))
+        self.number(&sent_digest(key)?)
     }
 
     // Whether this is the digest of an owner's key.

@@ -13,7 +13,7 @@ ghost use Rattle.clients.specs.Spots.{item_at, owner_at_fault, scope_at_fault, o
 ghost use Rattle.clients.specs.RegistryRules.{IsRegistry};
 
 use crate::client::{Client, Clients, client_list, clients_spot};
-use crate::digest::{are_same, digest_of, key_digest};
+use crate::digest::{are_same, key_digest, sent_digest};
 use crate::fault::ConfigFault;
 use crate::json::{items, life, member};
 use crate::owner::{Owners, owner_at_fault, owner_list};
@@ -148,7 +148,8 @@ impl Registry {
         self.clients.get(number)
     }
 
-    /// The number of the owner whose key this is: the one with its SHA-256. It is compared with that of each owner.
+    /// The number of the owner whose key this is: 1 to 128 visible characters, and the owner's SHA-256. It is compared with
+    /// that of each owner.
     pub fn owner_no(&self, key: &[u8]) -> Option<OwnerNo>
         ensures value { result ≡ owner_with key.now self.now.owners }
         ensures listed { IfSome result (λ number. number ≤ length self.now.owners) }
@@ -164,11 +165,14 @@ impl Registry {
         self.owners.sub(number)
     }
 
-    /// Whether this is the operator's key: one of the operator's SHA-256.
+    /// Whether this is the operator's key: 1 to 128 visible characters of the operator's SHA-256.
     pub fn is_operator(&self, key: &[u8]) -> bool
         ensures { result ≡ is_operator_key key.now self.now }
     {
-        are_same(&digest_of(key), &self.operator)
+        match sent_digest(key) {
+            Some(digest) => are_same(&digest, &self.operator),
+            None => false,
+        }
     }
 
     /// The life of an access token, in seconds.

@@ -38,10 +38,11 @@ fn are_identifier_bytes(bytes: &[u8]) -> bool
     bytes.iter().all(|&byte| is_identifier_byte(byte))
 }
 
-fn is_key(text: &str) -> bool
+// Whether this has the form of a key or a secret.
+pub(crate) fn is_key(text: &[u8]) -> bool
     ensures { result ≡ is_key text.now }
 {
-    1 <= text.len() && text.len() <= LONGEST_KEY && are_visible(text.as_bytes())
+    1 <= text.len() && text.len() <= LONGEST_KEY && are_visible(text)
 }
 
 fn is_identifier(text: &str) -> bool
@@ -55,7 +56,7 @@ pub(crate) fn key(value: &Value) -> Result<&str, ConfigFault>
     ensures { seen_by (λ s. s.now) result ≡ key_of (view value.now) }
 {
     let text = text(value)?;
-    if is_key(text) {
+    if is_key(text.as_bytes()) {
         Ok(text)
     } else {
         Err(ConfigFault::OutOfRange)

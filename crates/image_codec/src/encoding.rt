@@ -1,6 +1,6 @@
 //! An image as bytes, and rules.
 
-ghost use Rattle.std.specs.Prelude.{◌≡◌, ◌↔◌, ◌++◌, length, map, IsTrue, IsErrOf, OnOk};
+ghost use Rattle.std.specs.Prelude.{◌≡◌, ◌↔◌, ◌++◌, length, map, IsTrue, IsErrOf, IfOk, OnOk};
 ghost use Rattle.change_codec.specs.declared.fault.EncodeFault.TheVariants.{TooLong};
 ghost use Rattle.change_codec.specs.Spelling.{FitsFourBytes, IsText, counted, kind_byte, short};
 ghost use Rattle.image_codec.specs.Facts.{Code, Token, client_fact, hook_fact, image_fact, kind_fact, record_fact, rules_fact};
@@ -13,7 +13,7 @@ use change_codec::field::{
     put_text, put_version, put_wide,
 };
 use consent::{KeptConsent, OwnerNo, ScopeSet, TokenKind};
-use std::alloc::AllocError;
+use std::alloc::{AllocError, Global};
 use token_store::{KeptKind, KeptRecord};
 
 // ---- what can be counted
@@ -371,34 +371,32 @@ fn put_rules_alone(out: &mut Vec<u8>, rules: &Rules) -> Result<(), AllocError>
     Ok(())
 }
 
-/// Writes the one spelling of the rules behind what `out` holds. `TooLong` leaves `out` as it was; where memory is
-/// refused, a part of the spelling may stand there.
-pub fn encode_rules(out: &mut Vec<u8>, rules: &Rules) -> Result<(), EncodeFault>
-    ensures written { OnOk result (out.new.items ≡ out.old.items ++ rules_spelling (rules_fact rules.now)) }
+/// The one spelling of the rules.
+pub fn encode_rules(alloc: Global, rules: &Rules) -> Result<Vec<u8>, EncodeFault>
+    ensures written { IfOk result (λ bytes. bytes.items ≡ rules_spelling (rules_fact rules.now)) }
     // What is written can be read again.
     ensures fits { OnOk result (RulesFit (rules_fact rules.now)) }
     ensures too_long { IsErrOf result TooLong ↔ ¬ (RulesCount (rules_fact rules.now)) }
-    ensures kept { IsErrOf result TooLong → out.new.items ≡ out.old.items }
 {
     if !rules_count(rules) {
         return Err(EncodeFault::TooLong);
     }
-    put_rules_alone(out, rules)?;
-    Ok(())
+    let mut bytes = Vec::new(alloc);
+    put_rules_alone(&mut bytes, rules)?;
+    Ok(bytes)
 }
 
-/// Writes the one spelling of the image behind what `out` holds. `TooLong` leaves `out` as it was; where memory is
-/// refused, a part of the spelling may stand there.
-pub fn encode(out: &mut Vec<u8>, image: &Image) -> Result<(), EncodeFault>
-    ensures written { OnOk result (out.new.items ≡ out.old.items ++ image_spelling (image_fact image.now)) }
+/// The one spelling of the image.
+pub fn encode(alloc: Global, image: &Image) -> Result<Vec<u8>, EncodeFault>
+    ensures written { IfOk result (λ bytes. bytes.items ≡ image_spelling (image_fact image.now)) }
     // What is written can be read again.
     ensures fits { OnOk result (ImageFits (image_fact image.now)) }
     ensures too_long { IsErrOf result TooLong ↔ ¬ (ImageCounts (image_fact image.now)) }
-    ensures kept { IsErrOf result TooLong → out.new.items ≡ out.old.items }
 {
     if !image_counts(image) {
         return Err(EncodeFault::TooLong);
     }
-    put_image(out, image)?;
-    Ok(())
+    let mut bytes = Vec::new(alloc);
+    put_image(&mut bytes, image)?;
+    Ok(bytes)
 }

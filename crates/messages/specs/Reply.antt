@@ -1,5 +1,5 @@
 -- A reply as a value: its status, where it sends the user agent, and what its body says.
-use Rattle.std.specs.Prelude.{ℕ, List, [], ◌∷◌, Option, Some, None, codes}
+use Rattle.std.specs.Prelude.{◌≡◌, ℕ, List, [], ◌∷◌, Option, Some, None, codes}
 use Rattle.consent.specs.declared.grant.TokenKind.{TokenKind}
 use Rattle.messages.specs.declared.error.ErrorName.{ErrorName}
 
@@ -34,6 +34,11 @@ pub record Reply : Type 0 where
   pub status : ℕ
   pub location : Option Redirection
   pub body : Body
+
+-- the reply is a status and nothing else
+pub record IsBare (reply : Reply) : Type 0 where
+  pub location : reply.location ≡ None
+  pub body : reply.body ≡ Empty
 
 -- a reply without redirection
 abbrev pub plain : ℕ → Body → Reply

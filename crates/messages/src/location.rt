@@ -1,5 +1,5 @@
 //! Where a reply sends the user agent (RFC 6749, section 4.1.2).
-ghost use Rattle.std.specs.Prelude.{◌≡◌, ◌∷◌, IfOk, string_bytes, option_copied};
+ghost use Rattle.std.specs.Prelude.{◌≡◌, ◌≤◌, ◌+◌, ◌*◌, [], ◌∷◌, IfOk, length, string_bytes, option_copied, unwrap_or};
 ghost use Rattle.messages.specs.Reply.{state_pair};
 ghost use Rattle.messages.specs.Written.{location_text};
 
@@ -10,11 +10,21 @@ use std::alloc::{AllocError, Global};
 const REST: usize = 64;
 
 // Room for a state, of which each byte may take three.
-fn state_room(state: Option<&str>) -> usize {
+fn state_room(state: Option<&str>) -> usize
+    ensures { result ≤ 3 * length (unwrap_or (option_copied state.entry) []) }
+{
     match state {
         Some(state) => state.len().saturating_mul(3),
         None => 0,
     }
+}
+
+// Room for a location.
+fn room_of(uri: &str, value: &str, state: Option<&str>) -> usize
+    ensures { result ≤ length uri.now + length value.now + 3 * length (unwrap_or (option_copied state.entry) []) + 64 }
+{
+    let texts = uri.len().saturating_add(value.len());
+    texts.saturating_add(state_room(state)).saturating_add(REST)
 }
 
 pub(crate) fn location_of(
@@ -27,9 +37,7 @@ pub(crate) fn location_of(
     ensures { IfOk result (λ text. string_bytes text ≡ location_text
         (record { uri = uri.now; pairs = (name.now, value.now) ∷ state_pair (option_copied state.entry) })) }
 {
-    let texts = uri.len().saturating_add(value.len());
-    let room = texts.saturating_add(state_room(state)).saturating_add(REST);
-    let mut text = String::with_capacity(alloc, room)?;
+    let mut text = String::with_capacity(alloc, room_of(uri, value, state))?;
     text.push_str(uri)?;
     text.push('?')?;
     let mut form = Serializer::for_suffix(text, uri.len() + 1);

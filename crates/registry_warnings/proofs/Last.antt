@@ -36,13 +36,10 @@ any_text text [] = refl
 any_text text (s ∷ ss) = ap (λ b. bytes_eq text (string_bytes s) || b) (any_text text ss)
 
 -- the innermost one is the last
-pub last-innermost : (text : List ℕ) (open_ones : List (Vec (String Global) Global)) (last : Option (Vec (String Global) Global))
-    → last ≡ slice_get open_ones (length open_ones - 1)
-    → option_map_or (λ names. list_any (λ s. bytes_eq text (string_bytes s)) names.items) last false ≡ list_any (bytes_eq text) (innermost (map names_listed open_ones))
-last-innermost text [] None is = refl
-last-innermost text [] (Some names) is = absurd (cc is)
-last-innermost text (o ∷ []) None is = absurd (cc is)
-last-innermost text (o ∷ []) (Some names) is =
+pub last-innermost : (open_ones : List (Vec (String Global) Global)) (names : Vec (String Global) Global)
+    → Some names ≡ slice_get open_ones (length open_ones - 1) → names_listed names ≡ innermost (map names_listed open_ones)
+last-innermost [] names is = absurd (cc is)
+last-innermost (o ∷ []) names is =
     let same : names ≡ o = cc is in
-    rw same (any_text text o.items)
-last-innermost text (o ∷ (p ∷ rest)) last is = last-innermost text (p ∷ rest) last (is ∙ simp unary_clauses)
+    ap names_listed same
+last-innermost (o ∷ (p ∷ rest)) names is = last-innermost (p ∷ rest) names (is ∙ simp unary_clauses)

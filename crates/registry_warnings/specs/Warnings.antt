@@ -1,8 +1,12 @@
 -- What in the text of a registry may be a mistake.
-use Rattle.std.specs.Prelude.{ℕ, List, [], ◌∷◌, ◌++◌, length, map, codes, bytes_eq, string_bytes, slice_get, option_and_then, Bool, Option, ◌-◌, ◌==◌, if◌then◌else◌, String, Vec}
+use Rattle.std.specs.Prelude.{ℕ, List, [], ◌∷◌, ◌++◌, length, map, codes, bytes_eq, string_bytes, slice_get, option_and_then, Bool, false, Option, ◌-◌, ◌==◌, ◌&&◌, if◌then◌else◌, String, Vec}
 use Rattle.std.specs.declared.alloc.Global.{Global}
 use Rattle.std.specs.List.{list_any}
+use Rattle.std.specs.Option.{option_map_or}
+use Rattle.std.specs.Result.{result_ok}
 use Rattle.std.specs.Str.{is_utf8}
+use Rattle.hex.specs.Hex.{decode_sized}
+use Rattle.sha2.specs.Sha256.{sha256}
 use Rattle.json.specs.Token.{Token, begin_object, end_object, begin_array, end_array, key, string, number, boolean, null, bad}
 use Rattle.json.specs.Lex.{tokens}
 use Rattle.registry_warnings.specs.Names.{is_of_registry, is_of_key, is_known_in}
@@ -30,9 +34,12 @@ outer (names ∷ (more ∷ objects)) = names ∷ outer (more ∷ objects)
 abbrev pub with_member : List ℕ → Objects → Objects
 with_member name objects = outer objects ++ (innermost objects ++ name ∷ []) ∷ []
 
+abbrev pub last_name : List (List ℕ) → Option (List ℕ)
+last_name names = slice_get names (length names - 1)
+
 -- the name of the registry's member that is read
 abbrev pub member_read : Objects → Option (List ℕ)
-member_read objects = option_and_then (λ names. slice_get names (length names - 1)) (slice_get objects 0)
+member_read objects = option_and_then last_name (slice_get objects 0)
 
 -- WARNINGS
 
@@ -62,13 +69,23 @@ unknown_text objects name = if is_known objects name then [] else codes "warning
 abbrev pub twice_text : Objects → List ℕ → List ℕ
 twice_text objects name = if list_any (bytes_eq name) (innermost objects) then codes "warning: a member stands twice: " ++ name ++ codes "\n" else []
 
+-- the 64 hexadecimal digits, in either case, of the SHA-256 of the empty text (FIPS 180-4)
+abbrev pub is_empty_digest : List ℕ → Bool
+is_empty_digest text = option_map_or (bytes_eq (sha256 [])) (result_ok (decode_sized text 32)) false
+
+-- a digest in place of a key that no key has: a line
+abbrev pub digest_text : Objects → List ℕ → List ℕ
+digest_text objects text =
+    if option_map_or is_of_key (last_name (innermost objects)) false && is_empty_digest text
+    then codes "warning: a key is the SHA-256 of the empty text, which nobody can send\n" else []
+
 abbrev pub token_warnings : Objects → Token → List ℕ
 token_warnings objects (key name) = unknown_text objects name ++ twice_text objects name
 token_warnings objects begin_object = []
 token_warnings objects end_object = []
 token_warnings objects begin_array = []
 token_warnings objects end_array = []
-token_warnings objects (string text) = []
+token_warnings objects (string text) = digest_text objects text
 token_warnings objects (number text) = []
 token_warnings objects (boolean b) = []
 token_warnings objects null = []

@@ -1,4 +1,5 @@
-//! What in the text of a registry may be a mistake: members whose names mean nothing there, and members that stand twice.
+//! What in the text of a registry may be a mistake: members whose names mean nothing there, members that stand twice,
+//! and digests that no key has.
 #![tactic(auto)]
 
 mod names;

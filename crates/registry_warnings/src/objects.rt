@@ -3,7 +3,7 @@
 ghost use Rattle.std.specs.Prelude.{◌≡◌, ◌-◌, map, slice_get, option_copied, [], ◌∷◌, ◌++◌, length, bytes_eq, string_bytes, OnOk};
 ghost use Rattle.std.specs.Option.{option_map_or};
 ghost use Rattle.std.specs.List.{list_any};
-ghost use Rattle.registry_warnings.specs.Warnings.{member_read, names_listed, innermost, outer, with_member};
+ghost use Rattle.registry_warnings.specs.Warnings.{last_name, member_read, names_listed, innermost, outer, with_member};
 
 use std::alloc::{AllocError, Global};
 use std::marker::Model;
@@ -15,7 +15,7 @@ fn stands_among(name: &str, names: &[String]) -> bool
 }
 
 fn last_of(names: &[String]) -> Option<&str>
-    ensures { option_copied result ≡ slice_get (map string_bytes names.now) (length names.now - 1) }
+    ensures { option_copied result ≡ last_name (map string_bytes names.now) }
 {
     match names.last() {
         Some(name) => Some(name.as_str()),
@@ -59,6 +59,16 @@ impl Objects {
         ensures { option_copied result ≡ member_read self.now }
     {
         match self.open.first() {
+            Some(names) => last_of(names),
+            None => None,
+        }
+    }
+
+    // The name of the member of the innermost one that is read.
+    pub(crate) fn member(&self) -> Option<&str>
+        ensures { option_copied result ≡ last_name (innermost self.now) }
+    {
+        match self.open.last() {
             Some(names) => last_of(names),
             None => None,
         }

@@ -1,13 +1,17 @@
 //! The warnings about a registry's text, a line each.
 
-ghost use Rattle.std.specs.Prelude.{◌≡◌, [], ◌++◌, string_bytes, codes, IfOk, OnOk};
+ghost use Rattle.std.specs.Prelude.{◌≡◌, [], ◌++◌, false, string_bytes, codes, IfOk, OnOk};
+ghost use Rattle.std.specs.Option.{option_map_or};
 ghost use Rattle.json.specs.Reads.{token_of};
 ghost use Rattle.json.specs.Lex.{tokens};
-ghost use Rattle.registry_warnings.specs.Warnings.{is_known, unknown_text, twice_text, after, token_warnings, warnings, warnings_in};
+ghost use Rattle.registry_warnings.specs.Names.{is_of_key};
+ghost use Rattle.registry_warnings.specs.Warnings.{innermost, last_name, is_known, unknown_text, twice_text, is_empty_digest, digest_text, after, token_warnings, warnings, warnings_in};
 
 use crate::names::{is_known_in, is_of_key, is_of_registry};
 use crate::objects::Objects;
+use hex::FromHex;
 use json::{Reader, Scratch, Token};
+use sha2::{Digest as _, Sha256};
 use std::alloc::{AllocError, Global};
 use std::str;
 
@@ -51,6 +55,35 @@ fn push_twice(lines: &mut String, objects: &Objects, name: &str) -> Result<(), A
     push_line(lines, "warning: a member stands twice: ", name)
 }
 
+fn is_empty_digest(text: &str) -> bool
+    ensures { result ≡ is_empty_digest text.now }
+{
+    match <[u8; 32] as FromHex>::from_hex(text) {
+        Ok(bytes) => Sha256::digest(b"") == bytes,
+        Err(_) => false,
+    }
+}
+
+// Whether the member that is read is a digest in place of a key.
+fn is_in_digest(objects: &Objects) -> bool
+    ensures { result ≡ option_map_or is_of_key (last_name (innermost objects.now)) false }
+{
+    match objects.member() {
+        Some(name) => is_of_key(name),
+        None => false,
+    }
+}
+
+// Tells of a digest that no key has.
+fn push_digest(lines: &mut String, objects: &Objects, text: &str) -> Result<(), AllocError>
+    ensures { OnOk result (string_bytes lines.new ≡ string_bytes lines.old ++ digest_text objects.now text.now) }
+{
+    if !is_in_digest(objects) || !is_empty_digest(text) {
+        return Ok(());
+    }
+    lines.push_str("warning: a key is the SHA-256 of the empty text, which nobody can send\n")
+}
+
 // Takes a token, and tells of it.
 fn take_token(
     alloc: Global,
@@ -72,6 +105,7 @@ fn take_token(
             push_twice(lines, objects, name)?;
             objects.take(alloc, name)
         }
+        Token::String(text) => push_digest(lines, objects, text),
         _ => Ok(()),
     }
 }
@@ -91,7 +125,8 @@ fn text_warnings(alloc: Global, text: &str) -> Result<String, AllocError>
 }
 
 /// The warnings about the JSON text of a registry, in the order of the text: of each member whose name means nothing where it
-/// stands, and of each that stands in its object already. Of bytes that are not UTF-8 there are none.
+/// stands, of each that stands in its object already, and of each digest in place of a key that is the empty text's, which no
+/// key has. Of bytes that are not UTF-8 there are none.
 #[tactic(auto, using(crate::proofs::Utf8::warnings_where, crate::proofs::Utf8::no_warnings_where))]
 pub fn warnings(alloc: Global, bytes: &[u8]) -> Result<String, AllocError>
     ensures { IfOk result (λ lines. string_bytes lines ≡ warnings_in bytes.now) }

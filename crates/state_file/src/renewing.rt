@@ -35,12 +35,11 @@ fn spelled_image<H: HookHost>(
         return Err(ImageFault::Memory);
     };
     let image = image_of(alloc, server, hooks, rules)?;
-    let mut bytes = Vec::new(alloc);
-    match encode(&mut bytes, &image) {
-        Ok(()) => {}
+    let bytes = match encode(alloc, &image) {
+        Ok(bytes) => bytes,
         Err(EncodeFault::TooLong) => return Err(ImageFault::TooLong),
         Err(EncodeFault::Memory) => return Err(ImageFault::Memory),
-    }
+    };
     if bytes.len() > u32::MAX as usize {
         return Err(ImageFault::TooLong);
     }

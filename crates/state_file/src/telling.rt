@@ -90,9 +90,8 @@ fn are_spelled(alloc: Global, rules: &Rules<'_>, bytes: &[u8]) -> Result<bool, S
     ensures same { IfOk result (λ same. IsTrue same ↔ rules_spelling (rules_fact rules.now) ≡ bytes.now) }
     ensures refused { IfErr result (λ fault. fault ≡ Memory) }
 {
-    let mut again = Vec::new(alloc);
-    match encode_rules(&mut again, rules) {
-        Ok(()) => Ok(again.as_slice() == bytes),
+    match encode_rules(alloc, rules) {
+        Ok(again) => Ok(again.as_slice() == bytes),
         Err(EncodeFault::Memory) => Err(StateFault::Memory),
         Err(EncodeFault::TooLong) => unreachable!(),
     }
@@ -148,8 +147,7 @@ pub(crate) fn rules_behind(
     ensures refused { IfErr result (RefuseRules (lists batches.now) (rules_of registry.now)) }
 {
     let rules = registry_rules(alloc, registry)?;
-    let mut bytes = Vec::new(alloc);
-    encode_rules(&mut bytes, &rules)?;
+    let bytes = encode_rules(alloc, &rules)?;
     let told = compare_behind(alloc, batches, &rules, bytes.as_slice())?;
     Ok(Spelled { bytes, told })
 }

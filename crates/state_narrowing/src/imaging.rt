@@ -95,8 +95,7 @@ pub(crate) fn image_left<H: HookHost>(
     let ended = ended_count(registry, told.greatest, told.records.as_slice());
     let records = records_left(alloc, registry, told.greatest, told.records.as_slice())?;
     let image = image_with(alloc, registry, told, records)?;
-    let mut bytes = Vec::new(alloc);
-    encode(&mut bytes, &image)?;
+    let bytes = encode(alloc, &image)?;
     if bytes.len() > u32::MAX as usize {
         return Err(StateFault::TooLong);
     }

@@ -11,7 +11,7 @@ returns-in-Err-TooLong-clause-refused g c =
 pub returns-then-len-clause-refused : goal.returns-then-len-clause-refused
 returns-then-len-clause-refused g c =
     let image = image_fact c.in_ok-image.image in
-    let spelled : c.encode.new.out.items ≡ image_spelling image = c.in-Ok-encode.ensures.written ∙ ap (λ (xs : List ℕ). xs ++ image_spelling image) c.new-bytes.ensures.items in
+    let spelled = c.in-Ok.ensures.written in
     (image, c.in_ok-image.ensures.is, inr (let all = ap length spelled in let n = c.len.ensures in let long = c.if-len.true in omega (arith, all, n, long)))
 
 pub returns-clause-is : goal.returns-clause-is
@@ -20,7 +20,7 @@ returns-clause-is g c =
     record {
       image = image;
       fits = c.in-Ok-encode.ensures.fits;
-      spelled = c.in-Ok-encode.ensures.written ∙ ap (λ (xs : List ℕ). xs ++ image_spelling image) c.new-bytes.ensures.items;
+      spelled = c.in-Ok-encode.ensures.written;
       rules_are = c.in-Ok.ensures.spelled ∙ ap rules_spelling (sym c.in_ok-image.ensures.rules);
       hooks_are = c.in_ok-image.ensures.hooks;
       is = c.in_ok-image.ensures.is;

@@ -27,8 +27,8 @@ returns-clause-is g c =
     let with = c.in_ok-image.ensures.with in
     record {
       image = image;
-      fits = c.in_ok-encode.ensures.fits;
-      spelled = c.in_ok-encode.ensures.written ∙ ap (λ (xs : List ℕ). xs ++ image_spelling image) c.new-bytes.ensures.items;
+      fits = c.in_ok-bytes.ensures.fits;
+      spelled = c.in_ok-bytes.ensures.written;
       rules_are = ap (λ (i : ImageFact). i.rules) with;
       is = right_image g.H.HookHost c.in-Ok.account c.args.bytes.now c.args.host c.args.registry.now told image c.in_ok-told.told.records.items c.in_ok-records.records.items
           refl (sym (ap (λ (i : ImageFact). i.records) with)) (ap (λ (i : ImageFact). i.greatest) with) (ap (λ (i : ImageFact). i.consents) with) (ap (λ (i : ImageFact). i.hooks) with)
