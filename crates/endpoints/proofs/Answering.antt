@@ -22,8 +22,8 @@ use Rattle.answers.specs.Replies.{reply_of}
 use Rattle.endpoints.specs.declared.endpoint.Endpoint.{Endpoint}
 use Rattle.endpoints.specs.declared.ruling.Ruling.{Ruling}
 use Rattle.endpoints.specs.HookPaths.{hook_change_at}
-use Rattle.endpoints.specs.Hosts.{IsHostFault, says_with}
-use Rattle.endpoints.specs.Making.{IsSame, Makes, StandsAlone}
+use Rattle.endpoints.specs.Hosts.{HostRun, IsHostFault, says_with}
+use Rattle.endpoints.specs.Making.{IsSame, Makes, MakesHost, StandsAlone}
 use Rattle.endpoints.specs.Noting.{with_notes}
 use Rattle.endpoints.specs.Bounded.{AllRightAfter}
 use Rattle.endpoints.specs.Ruling.{CanMakeAll}
@@ -68,18 +68,22 @@ module _ {H : Type 0} (hosting : Hosting H) where
   -- nothing happens
   pub bare_step : (before : Before H) (new : SeenServer H) (status : ℕ) (reply : Written) →
       FitsServer hosting new before.outset before.history before.moment → reply ≡ in_writing (bare status).reply →
-      new.unkept ≡ before.server.unkept → IsStep hosting before (bare status) reply new
-  bare_step before new status reply fits is same =
-      record { reply_is = is; fits = rw (append-nil before.history) fits; noted = still_noted before.server new before.history same }
+      new.unkept ≡ before.server.unkept → new.host ≡ before.server.host → IsStep hosting before (bare status) reply new
+  bare_step before new status reply fits is same host_same = record {
+    reply_is = is;
+    fits = rw (append-nil before.history) fits;
+    hosts = host_same;
+    noted = still_noted before.server new before.history same;
+  }
 
   -- the ruling is written, room is made for its changes, and they are made
   pub answered : (old mid new : SeenServer H) (first : H) (history : List Event) (asking : Asking) (ruling : Ruling H) (reply : Written) →
       IsRuling hosting old history asking ruling → IsSame hosting old mid → Makes hosting mid (as_list ruling.decision.changes) ruling.checked new →
-      new.unkept ≡ with_notes mid.unkept mid.greatest ruling.decision.changes →
+      MakesHost hosting mid.host (as_list ruling.decision.changes) ruling.checked new.host → new.unkept ≡ with_notes mid.unkept mid.greatest ruling.decision.changes →
       reply ≡ in_writing (reply_of old.rules (hosting.names old.host) ruling.decision.answer) → FitsNow hosting old first history →
       (fault : Option HookFault) × IsHostFault hosting old.host (hook_change_at asking.endpoint asking.asked) fault
       × IsStep hosting (before_now old first history) (comes_to hosting old history asking fault) reply new
-  answered old mid new first history asking ruling reply r same makes noted is fits =
+  answered old mid new first history asking ruling reply r same makes runs noted is fits =
       let outset = outset_of old.rules first in
       let o = comes_to hosting old history asking r.fault in
       let changes = told_changes hosting (setting_now hosting old history asking.draws r.fault) ruling.decision o r.told_is in
@@ -92,6 +96,9 @@ module _ {H : Type 0} (hosting : Hosting H) where
         record {
           reply_is = is ∙ ap in_writing (sym (told_reply hosting (setting_now hosting old history asking.draws r.fault) ruling.decision o r.told_is));
           fits = go (same.fits outset history old.greatest fits) changes r.follow r.right r.alone (rw same.host r.hooks);
+          hosts =
+              subst (λ (h : H). HostRun hosting h (with_changes [] old.greatest o.changes) new.host) same.host
+              (runs history old.greatest o.changes r.alone (rw same.host r.hooks) changes);
           noted = λ kept before.
               let now : new.unkept ≡ with_notes old.unkept old.greatest ruling.decision.changes =
               noted ∙ ap (λ u. with_notes u mid.greatest ruling.decision.changes) same.unkept ∙ ap (λ n. with_notes old.unkept n ruling.decision.changes) same.greatest in
@@ -108,10 +115,11 @@ module _ {H : Type 0} (hosting : Hosting H) where
 
   -- what was noted before time went on is noted still
   noted_before : (older : SeenServer H) (before : Before H) (new : SeenServer H) (outcome : Outcome) (reply : Written) → before.server.unkept ≡ older.unkept →
-      IsStep hosting before outcome reply new → IsStep hosting (record before { server = older }) outcome reply new
-  noted_before older before new outcome reply same step = record {
+      before.server.host ≡ older.host → IsStep hosting before outcome reply new → IsStep hosting (record before { server = older }) outcome reply new
+  noted_before older before new outcome reply same host_same step = record {
     reply_is = step.reply_is;
     fits = step.fits;
+    hosts = subst (λ (h : H). HostRun hosting h (with_changes [] before.moment outcome.changes) new.host) host_same step.hosts;
     noted = λ kept notes. step.noted kept (subst (λ u. AreUnkept u kept before.history) (sym same) notes);
   }
 
@@ -133,6 +141,7 @@ module _ {H : Type 0} (hosting : Hosting H) where
           hosts = fits.hosts;
           right = fits.right;
         };
+        hosts = step.hosts;
         noted = step.noted;
       }
 
@@ -151,7 +160,7 @@ module _ {H : Type 0} (hosting : Hosting H) where
       × IsStep hosting (record { server = older; outset = outset_of r outset.first; history = history; moment = old.greatest })
       (request_outcome refused (record { rules = r; history = history; host = says_with hosting host fault; moment = old.greatest; draws = draws }) asked) reply new in
       let here : Stepped old.rules old.host =
-      rw (at, method) (false, done.0, done.1, noted_before older (before_now old outset.first history) new (comes_to hosting old history (record { endpoint = endpoint; asked = asked; draws = draws }) done.0) reply unkept_same done.2) in
+      rw (at, method) (false, done.0, done.1, noted_before older (before_now old outset.first history) new (comes_to hosting old history (record { endpoint = endpoint; asked = asked; draws = draws }) done.0) reply unkept_same host_same done.2) in
       subst (λ (host : H). Stepped outset.rules host) host_same (subst (λ (r : RegistryRecord). Stepped r old.host) fits.rules_are here)
 
 -- two that are seen alike have noted the same, and have the same host

@@ -19,14 +19,14 @@ use Rattle.hook_host.specs.declared.host.HookHost.{Ghosts as Hosting}
 use Rattle.token_store.specs.Fits.{FitsStore}
 use Rattle.token_store.specs.Kept.{Held}
 use Rattle.endpoints.specs.Hosts.{HostRun, HostStep}
-use Rattle.endpoints.specs.Making.{AllPlain, IsPlain, Makes}
-use Rattle.endpoints.specs.MakingParts.{MakesConsents, MakesHost}
+use Rattle.endpoints.specs.Making.{AllPlain, IsPlain, Makes, MakesHost}
+use Rattle.endpoints.specs.MakingParts.{MakesConsents}
 use Rattle.endpoints.specs.Ruling.{CanMake}
 use Rattle.endpoints.specs.declared.ruling.Checked.{Checked}
 use Rattle.endpoints.specs.declared.ruling.Checked.TheVariants.{NoHook, Installs, Removes}
 use Rattle.endpoints.specs.Server.{SeenServer}
 use Rattle.endpoints.proofs.Ruled.{begins, same_some}
-use Rattle.endpoints.proofs.Stepping.{AllQuiet, IsQuiet, all_right-more, host_push, quiet_consents, quiet_host}
+use Rattle.endpoints.proofs.Stepping.{AllQuiet, IsQuiet, all_right-more, host_join, quiet_consents, quiet_host}
 
 -- a change that is none of these is plain
 pub plain_of : (c : Change) → ((owner client mask : ℕ) → c ≡ Consented owner client mask → ⊥) →
@@ -96,20 +96,18 @@ many_consents kept (Three a b c) other = λ history m next alone. plain_consents
 
 module _ {H : Type 0} (hosting : Hosting H) where
   pub plain_host : (host : H) (cs : List Change) (checked : Checked H) → AllPlain cs → MakesHost hosting host cs checked host
-  plain_host host cs checked are first history m next alone can is run =
-      quiet_host hosting first host history m next (all_quiet history m cs next are is) run
+  plain_host host cs checked are history m next alone can is = quiet_host hosting host m next (all_quiet history m cs next are is)
 
   pub many_host : (host : H) (changes : Changes) (checked : Checked H) → ((c : Change) → changes ≡ One c → ⊥) → MakesHost hosting host (as_list changes) checked host
   many_host host Nothing checked other = plain_host host [] checked tt
   many_host host (One c) checked other = absurd (other c refl)
-  many_host host (Two a b) checked other = λ first history m next alone. plain_host host (a ∷ b ∷ []) checked alone first history m next alone
-  many_host host (Three a b c) checked other = λ first history m next alone. plain_host host (a ∷ b ∷ c ∷ []) checked alone first history m next alone
+  many_host host (Two a b) checked other = λ history m next alone. plain_host host (a ∷ b ∷ []) checked alone history m next alone
+  many_host host (Three a b c) checked other = λ history m next alone. plain_host host (a ∷ b ∷ c ∷ []) checked alone history m next alone
 
   step_host : (old new : H) (c : Change) (checked : Checked H) (wanted : happening) → ((history : List Event) (m : ℕ) → change_of history m c ≡ Some wanted) →
       HostStep hosting old wanted new → MakesHost hosting old (c ∷ []) checked new
-  step_host old new c checked wanted meant step first history m next alone can is run =
-      subst (λ n. HostRun hosting first (with_changes history m n) new) (sym (one_meant history m c next wanted is (meant history m)))
-      (host_push hosting first old new history (event_at m wanted) run step)
+  step_host old new c checked wanted meant step history m next alone can is =
+      subst (λ n. HostRun hosting old (with_changes [] m n) new) (sym (one_meant history m c next wanted is (meant history m))) (new, step, refl)
 
   pub consented_host : (host : H) (c : Change) (checked : Checked H) (owner client mask : ℕ) → c ≡ Consented owner client mask → MakesHost hosting host (c ∷ []) checked host
   consented_host host c checked owner client mask same = step_host host host c checked (told.Consented owner client mask) (λ history m. ap (change_of history m) same) refl
@@ -131,7 +129,7 @@ module _ {H : Type 0} (hosting : Hosting H) where
 
   pub unset_host : (old : H) (c : Change) (checked : Checked H) (name : Bor (List ℕ)) (version : RecordVersion) (code : Bor (List ℕ)) → c ≡ HookSet name version code →
       ((hook : H) → checked ≡ Installs hook → ⊥) → MakesHost hosting old (c ∷ []) checked old
-  unset_host old c checked name version code same other first history m next alone can is run =
+  unset_host old c checked name version code same other history m next alone can is =
       absurd (unset old name version code checked other (subst (λ c. CanMake hosting old c checked) same can))
 
   -- and is gone only where it was there
@@ -141,7 +139,7 @@ module _ {H : Type 0} (hosting : Hosting H) where
   kept_on host name Removes other can = other refl
 
   pub kept_host : (old : H) (c : Change) (checked : Checked H) (name : Bor (List ℕ)) → c ≡ HookGone name → (checked ≡ Removes → ⊥) → MakesHost hosting old (c ∷ []) checked old
-  kept_host old c checked name same other first history m next alone can is run =
+  kept_host old c checked name same other history m next alone can is =
       absurd (kept_on old name checked other (subst (λ c. CanMake hosting old c checked) same can))
 
   -- what is made beside the store and in it is made in the server
@@ -155,6 +153,7 @@ module _ {H : Type 0} (hosting : Hosting H) where
     greatest_is = refl;
     store = keeps history next fits.store is follow;
     consents = puts history old.greatest next alone is fits.consents;
-    hosts = runs outset.first history old.greatest next alone can is fits.hosts;
+    hosts =
+        host_join hosting outset.first old.host host history (with_changes [] old.greatest next) fits.hosts (runs history old.greatest next alone can is);
     right = all_right-more outset.rules history old.greatest next fits.right right;
   }

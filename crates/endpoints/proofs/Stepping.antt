@@ -42,11 +42,11 @@ quiet_consents kept history m (c ∷ cs) q fits =
     (quiet_consents kept (with_change history m c) m cs q.1 (fits_consents-push_other kept history (event_at m c) (no_consent c q.0) fits))
 
 module _ {H : Type 0} (hosting : Hosting H) where
-  -- the host goes on by one more event
-  pub host_push : (first mid new : H) (history : List Event) (e : Event) → HostRun hosting first history mid →
-      HostStep hosting mid e.change new → HostRun hosting first (history ++ e ∷ []) new
-  host_push first mid new [] e run step = (new, subst (λ (h : H). HostStep hosting h e.change new) run step, refl)
-  host_push first mid new (x ∷ later) e run step = (run.0, run.1, host_push (run.0) mid new later e run.2 step)
+  -- the host goes on by more events
+  pub host_join : (first mid new : H) (history more : List Event) → HostRun hosting first history mid →
+      HostRun hosting mid more new → HostRun hosting first (history ++ more) new
+  host_join first mid new [] more run on = subst (λ (h : H). HostRun hosting h more new) run on
+  host_join first mid new (x ∷ later) more run on = (run.0, run.1, host_join run.0 mid new later more run.2 on)
 
   quiet_step : (host : H) (c : Change) → IsQuiet c → HostStep hosting host c host
   quiet_step host (Consented owner client mask) q = absurd q
@@ -57,12 +57,9 @@ module _ {H : Type 0} (hosting : Hosting H) where
   quiet_step host (Spent digest) q = refl
   quiet_step host (FamilyEnded family) q = refl
 
-  pub quiet_host : (first host : H) (history : List Event) (m : ℕ) (changes : List Change) → AllQuiet changes →
-      HostRun hosting first history host → HostRun hosting first (with_changes history m changes) host
-  quiet_host first host history m [] q run = rw (append-nil history) run
-  quiet_host first host history m (c ∷ cs) q run =
-      rw (with_changes-cons history m c cs)
-      (quiet_host first host (with_change history m c) m cs q.1 (host_push first host host history (event_at m c) run (quiet_step host c q.0)))
+  pub quiet_host : (host : H) (m : ℕ) (changes : List Change) → AllQuiet changes → HostRun hosting host (with_changes [] m changes) host
+  quiet_host host m [] q = refl
+  quiet_host host m (c ∷ cs) q = (host, quiet_step host c q.0, quiet_host host m cs q.1)
 
 all_right-push : (rules : RegistryRecord) (before history : List Event) (e : Event) → AllRight rules before history →
     IsRightChange rules (before ++ history) e.change → AllRight rules before (history ++ e ∷ [])

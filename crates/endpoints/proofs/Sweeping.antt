@@ -1,19 +1,15 @@
--- What a step leaves is swept and bounded.
+-- What a step leaves is swept.
 use Rattle.std.proofs.Common.{◌≡◌, ℕ, List, length, max, ap, sym, ◌∙◌, arith, subst}
 use Rattle.consent.specs.History.{Event, unexpired_count}
 use Rattle.hook_host.specs.declared.host.HookHost.{Ghosts as Hosting}
 use Rattle.messages.specs.Written.{Written}
 use Rattle.token_store.specs.Fits.{FitsStore}
 use Rattle.token_store.specs.Kept.{Held}
-use Rattle.endpoints.specs.BoundedLaws.{tokens_keep_their_bounds}
 use Rattle.endpoints.specs.Server.{SeenServer, Outset, FitsServer}
-use Rattle.endpoints.specs.Steps.{Arrival, IsSwept, KeepsBounds, Steps, Sweeps}
+use Rattle.endpoints.specs.Steps.{Arrival, IsSwept, Steps, Sweeps}
 use Rattle.endpoints.proofs.Answering.{swept_step}
 
 module _ {H : Type 0} (hosting : Hosting H) where
-  pub bounded : (server : SeenServer H) → KeepsBounds hosting server
-  bounded server outset history m fits = tokens_keep_their_bounds outset.rules history m fits.store.fits.is_history fits.right
-
   pub swept_steps : (old mid : SeenServer H) (kept : Held) (arrival : Arrival) (reply : Written) →
       ((history : List Event) → FitsStore mid.store history mid.greatest → FitsStore kept history mid.greatest) →
       Steps hosting old arrival reply mid → Steps hosting old arrival reply (record mid { store = kept })

@@ -9,6 +9,7 @@ use Rattle.consent.specs.declared.change.Changes.{Changes}
 use Rattle.hook_host.specs.declared.host.HookHost.{Ghosts as Hosting}
 use Rattle.token_store.specs.Room.{HasRoom}
 use Rattle.endpoints.specs.Bounded.{AllRightAfter}
+use Rattle.endpoints.specs.Hosts.{HostRun}
 use Rattle.endpoints.specs.Noting.{ArePrepared}
 use Rattle.endpoints.specs.Ruling.{CanMakeAll, CanTake}
 use Rattle.endpoints.specs.declared.ruling.Checked.{Checked}
@@ -53,6 +54,12 @@ pub record IsSame {H : Type 0} (hosting : Hosting H) (old new : SeenServer H) : 
 pub record IsReadyToMake {H : Type 0} (hosting : Hosting H) (server : SeenServer H) (changes : Changes) (checked : Checked H) : Type 0 where
   pub rooms : HasRooms server server.greatest changes
   pub hook : CanTake hosting server.host (as_list changes) checked
+
+-- Whatever the changes mean, the host comes by them from the one before, where it can make its own.
+abbrev pub MakesHost : {H : Type 0} → Hosting H → H → List Change → Checked H → H → Type 0
+MakesHost hosting old changes checked new =
+    (history : List Event) (m : ℕ) (next : List Happening) → StandsAlone changes → CanMakeAll hosting old changes checked →
+    changes_of history m changes ≡ Some next → HostRun hosting old (with_changes [] m next) new
 
 -- Whatever history the server fitted, it then fits that history with the changes, where they may come next and are right,
 -- stand alone if they have to, and the host can make its own.

@@ -4,10 +4,6 @@ use Rattle.consent.specs.Changes.{changes_of}
 use Rattle.consent.specs.Consents.{KeptConsents, FitsConsents}
 use Rattle.consent.specs.History.{Event, Change as Happening, with_changes}
 use Rattle.consent.specs.declared.change.Change.{Change}
-use Rattle.hook_host.specs.declared.host.HookHost.{Ghosts as Hosting}
-use Rattle.endpoints.specs.Hosts.{HostRun}
-use Rattle.endpoints.specs.Ruling.{CanMakeAll}
-use Rattle.endpoints.specs.declared.ruling.Checked.{Checked}
 use Rattle.endpoints.specs.Making.{StandsAlone}
 
 -- whatever the changes mean, the consents that are kept are then those with them
@@ -15,9 +11,3 @@ abbrev pub MakesConsents : KeptConsents → List Change → KeptConsents → Typ
 MakesConsents old changes new =
     (history : List Event) (m : ℕ) (next : List Happening) → StandsAlone changes → changes_of history m changes ≡ Some next →
     FitsConsents old history → FitsConsents new (with_changes history m next)
-
--- and so does the host come from the first one, where it can make its own change
-abbrev pub MakesHost : {H : Type 0} → Hosting H → H → List Change → Checked H → H → Type 0
-MakesHost {H = H} hosting old changes checked new =
-    (first : H) (history : List Event) (m : ℕ) (next : List Happening) → StandsAlone changes → CanMakeAll hosting old changes checked →
-    changes_of history m changes ≡ Some next → HostRun hosting first history old → HostRun hosting first (with_changes history m next) new

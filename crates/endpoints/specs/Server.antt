@@ -70,8 +70,10 @@ pub record Before (H : Type 0) : Type 0 where
   pub history : List Event
   pub moment : ℕ
 
--- the reply is the outcome's, the server fits the history with the outcome's changes, and just these are noted
+-- the reply is the outcome's, the server fits the history with the outcome's changes, its host comes from the one before by
+-- these, and just these are noted
 pub record IsStep {H : Type 0} (hosting : Hosting H) (before : Before H) (outcome : Outcome) (reply : Written) (new : SeenServer H) : Type 0 where
   pub reply_is : reply ≡ in_writing outcome.reply
   pub fits : FitsServer hosting new before.outset (with_changes before.history before.moment outcome.changes) before.moment
+  pub hosts : HostRun hosting before.server.host (with_changes [] before.moment outcome.changes) new.host
   pub noted : AreNoted before.server new before.history (with_changes before.history before.moment outcome.changes)

@@ -1,8 +1,8 @@
 //! The changes that are made beside the store: of consents and of hooks.
 ghost use Rattle.std.specs.Prelude.{[], ◌∷◌};
 ghost use Rattle.consent.specs.Changes.{as_list};
-ghost use Rattle.endpoints.specs.Making.{HasConsentRoom};
-ghost use Rattle.endpoints.specs.MakingParts.{MakesConsents, MakesHost};
+ghost use Rattle.endpoints.specs.Making.{HasConsentRoom, MakesHost};
+ghost use Rattle.endpoints.specs.MakingParts.{MakesConsents};
 ghost use Rattle.endpoints.specs.Ruling.{CanTake};
 
 use crate::ruling::Checked;

@@ -6,7 +6,7 @@ ghost use Rattle.messages.specs.Asked.{asked_of};
 ghost use Rattle.answers.specs.Short.{IsShortReply, IsShortAnswer, state_limit};
 ghost use Rattle.change_codec.specs.Batches.{facts_in};
 ghost use Rattle.endpoints.specs.Parts.{WhereverFits};
-ghost use Rattle.endpoints.specs.Making.{HasRooms, IsReadyToMake, IsSame, Makes};
+ghost use Rattle.endpoints.specs.Making.{HasRooms, IsReadyToMake, IsSame, Makes, MakesHost};
 ghost use Rattle.consent.specs.History.{unexpired_count};
 ghost use Rattle.endpoints.specs.Redo.{RedoesChange, RefusesRedo};
 ghost use Rattle.endpoints.specs.RedoParts.{FollowsEach};
@@ -17,7 +17,7 @@ ghost use Rattle.endpoints.specs.Rulings.{RulesRead, asking_at, read_request};
 ghost use Rattle.endpoints.specs.RulingsParts.{AnswersRequest, IsHalted, RulesReadAlone};
 ghost use Rattle.endpoints.specs.Restoring.{AreConsentsOf, AreRecordsOf, GoesOnFrom, RefusesRestore, remains};
 ghost use Rattle.endpoints.specs.Server.{FitsServer, Notes, NowNotes, outset_of};
-ghost use Rattle.endpoints.specs.Steps.{KeepsBounds, Steps, Sweeps};
+ghost use Rattle.endpoints.specs.Steps.{Steps, Sweeps};
 ghost use Rattle.token_store.specs.Fits.{FitsStore};
 
 use crate::authorize::authorize;
@@ -274,6 +274,7 @@ impl<H: HookHost> Server<H> {
     pub fn apply(&mut self, changes: &Changes<'_>, checked: Checked<H>)
         requires { IsReadyToMake H.HookHost self.old changes.now checked }
         ensures makes { Makes H.HookHost self.old (as_list changes.now) checked self.new }
+        ensures host { MakesHost H.HookHost self.old.host (as_list changes.now) checked self.new.host }
         ensures notes { self.new.unkept ≡ with_notes self.old.unkept self.old.greatest changes.now }
     {
         note_prepared(&mut self.unkept);
@@ -350,11 +351,10 @@ impl<H: HookHost> Server<H> {
 
     /// Answers a request at the greatest moment so far: the reply of the first point of its endpoint's list that holds, or
     /// the 503 of refused memory, with which nothing happens. What no endpoint answers (404, 405) takes no memory. It is
-    /// counted. Afterwards nothing is kept that has expired, and each code and token keeps to its bounds.
+    /// counted. Afterwards nothing is kept that has expired.
     pub fn step(&mut self, request: &Request<'_>, moment: Moment, draws: &Draws) -> Response
         ensures replies { Steps H.HookHost self.old
             (record { asked = asked_of request.now; moment = moment; draws = draws.now }) result self.new }
-        ensures bounded { KeepsBounds H.HookHost self.new }
         ensures kept { Sweeps H.HookHost self.old self.new }
         ensures short { length request.now.target.now ≤ state_limit → IsShortReply result }
     {

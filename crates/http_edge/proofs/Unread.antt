@@ -56,21 +56,21 @@ second_method a b c false is none = absurd (cc)
 module _ {H : Type 0} (hosting : Hosting H) (outset : Outset H) (m : ℕ) (history : List Event) (request : AnsweredRequest) (draws : Draws) (none : wants_draws request.asked ≡ false) where
   unread_at : (endpoint : Option Endpoint) → endpoint_at (path_of request.asked.target) ≡ endpoint → IsOutcomeOfRequest hosting outset m history request →
       IsOutcomeOfRequest hosting outset m history (record request { draws = draws })
-  unread_at None found o = record { host = o.host; comes = o.comes; fault = o.fault; outcome_is = rw found (rw found at o.outcome_is) }
-  unread_at (Some GiveConsent) found o = record { host = o.host; comes = o.comes; fault = o.fault; outcome_is = rw found (rw found at o.outcome_is) }
-  unread_at (Some RevokeToken) found o = record { host = o.host; comes = o.comes; fault = o.fault; outcome_is = rw found (rw found at o.outcome_is) }
-  unread_at (Some Introspect) found o = record { host = o.host; comes = o.comes; fault = o.fault; outcome_is = rw found (rw found at o.outcome_is) }
-  unread_at (Some InstallHook) found o = record { host = o.host; comes = o.comes; fault = o.fault; outcome_is = rw found (rw found at o.outcome_is) }
-  unread_at (Some RemoveHook) found o = record { host = o.host; comes = o.comes; fault = o.fault; outcome_is = rw found (rw found at o.outcome_is) }
-  unread_at (Some ListHooks) found o = record { host = o.host; comes = o.comes; fault = o.fault; outcome_is = rw found (rw found at o.outcome_is) }
+  unread_at None found o = record { host = o.host; comes = o.comes; fault = o.fault; after = o.after; changes = o.changes; outcome_is = rw found (rw found at o.outcome_is) }
+  unread_at (Some GiveConsent) found o = record { host = o.host; comes = o.comes; fault = o.fault; after = o.after; changes = o.changes; outcome_is = rw found (rw found at o.outcome_is) }
+  unread_at (Some RevokeToken) found o = record { host = o.host; comes = o.comes; fault = o.fault; after = o.after; changes = o.changes; outcome_is = rw found (rw found at o.outcome_is) }
+  unread_at (Some Introspect) found o = record { host = o.host; comes = o.comes; fault = o.fault; after = o.after; changes = o.changes; outcome_is = rw found (rw found at o.outcome_is) }
+  unread_at (Some InstallHook) found o = record { host = o.host; comes = o.comes; fault = o.fault; after = o.after; changes = o.changes; outcome_is = rw found (rw found at o.outcome_is) }
+  unread_at (Some RemoveHook) found o = record { host = o.host; comes = o.comes; fault = o.fault; after = o.after; changes = o.changes; outcome_is = rw found (rw found at o.outcome_is) }
+  unread_at (Some ListHooks) found o = record { host = o.host; comes = o.comes; fault = o.fault; after = o.after; changes = o.changes; outcome_is = rw found (rw found at o.outcome_is) }
   unread_at (Some Authorize) found o =
       let here = first_holds (bytes_eq (path_of request.asked.target) (codes "/authorize")) (bytes_eq (path_of request.asked.target) (codes "/consent")) (bytes_eq (path_of request.asked.target) (codes "/token")) (bytes_eq (path_of request.asked.target) (codes "/revoke")) (bytes_eq (path_of request.asked.target) (codes "/introspect")) (bytes_eq (path_of request.asked.target) (codes "/hooks")) (bytes_eq (path_of request.asked.target) (codes "/hooks/remove")) (bytes_eq (path_of request.asked.target) (codes "/hooks/list")) found in
       let other : bytes_eq request.asked.method (codes "GET") ≡ false = first_method (bytes_eq request.asked.method (codes "GET")) (bytes_eq (path_of request.asked.target) (codes "/authorize")) (bytes_eq request.asked.method (codes "POST")) (bytes_eq (path_of request.asked.target) (codes "/token")) here none in
-      record { host = o.host; comes = o.comes; fault = o.fault; outcome_is = rw (found, other) (rw (found, other) at o.outcome_is) }
+      record { host = o.host; comes = o.comes; fault = o.fault; after = o.after; changes = o.changes; outcome_is = rw (found, other) (rw (found, other) at o.outcome_is) }
   unread_at (Some IssueToken) found o =
       let here = third_holds (bytes_eq (path_of request.asked.target) (codes "/authorize")) (bytes_eq (path_of request.asked.target) (codes "/consent")) (bytes_eq (path_of request.asked.target) (codes "/token")) (bytes_eq (path_of request.asked.target) (codes "/revoke")) (bytes_eq (path_of request.asked.target) (codes "/introspect")) (bytes_eq (path_of request.asked.target) (codes "/hooks")) (bytes_eq (path_of request.asked.target) (codes "/hooks/remove")) (bytes_eq (path_of request.asked.target) (codes "/hooks/list")) found in
       let other : bytes_eq request.asked.method (codes "POST") ≡ false = second_method (bytes_eq request.asked.method (codes "GET")) (bytes_eq (path_of request.asked.target) (codes "/authorize")) (bytes_eq request.asked.method (codes "POST")) (bytes_eq (path_of request.asked.target) (codes "/token")) here none in
-      record { host = o.host; comes = o.comes; fault = o.fault; outcome_is = rw (found, other) (rw (found, other) at o.outcome_is) }
+      record { host = o.host; comes = o.comes; fault = o.fault; after = o.after; changes = o.changes; outcome_is = rw (found, other) (rw (found, other) at o.outcome_is) }
 
   pub unread : IsOutcomeOfRequest hosting outset m history request → IsOutcomeOfRequest hosting outset m history (record request { draws = draws })
   unread o = unread_at (endpoint_at (path_of request.asked.target)) refl o

@@ -26,7 +26,8 @@ pub record AnsweredRequest : Type 0 where
   pub mark : AnswerMark
   pub outcome : Outcome
 
--- the request has its outcome at the history, by what a host says that comes of the first one by that history
+-- The request has its outcome at the history, by what a host says that comes of the first one by that history. By the outcome's
+-- changes another host comes of this one: where it cannot make a hook's change, the outcome has none.
 pub record IsOutcomeOfRequest {H : Type 0} (hosting : Hosting H) (outset : Outset H) (m : ℕ) (history : List Event) (request : AnsweredRequest) :
     Type 0 where
   pub host : H
@@ -39,6 +40,8 @@ pub record IsOutcomeOfRequest {H : Type 0} (hosting : Hosting H) (outset : Outse
     moment = m;
     draws = request.draws;
   }) request.asked
+  pub after : H
+  pub changes : HostRun hosting host (with_changes [] m request.outcome.changes) after
 
 -- the requests have their outcomes, each at the history that the one before left
 abbrev pub AreAnswered : {H : Type 0} → Hosting H → Outset H → ℕ → List Event → List AnsweredRequest → Type 0

@@ -24,7 +24,7 @@ returns-in_default-clause-replies g c = λ outset history m fits0.
     let moment = at_moment _ m c.args.moment _ c.greater-self-inside.ensures fits.greatest_is in
     let none : endpoint_at (path_of c.args.request.now.target.now) ≡ None = ap endpoint_at (sym c.path.ensures) ∙ sym c.at.ensures ∙ c.in_default.is in
     let now = swept g.H.HookHost _ outset history m _ _ moment.0 fits (c.drop_expired.ensures.fits history) in
-    (false, None, tt, rw (none, ← moment.1) (bare_step g.H.HookHost (record { server = c.args.self.now; outset = outset; history = history; moment = c.greater-self-inside.result }) _ 404 _ now c.bare.ensures (unkept_as _ _ c.self.view_is)))
+    (false, None, tt, rw (none, ← moment.1) (bare_step g.H.HookHost (record { server = c.args.self.now; outset = outset; history = history; moment = c.greater-self-inside.result }) _ 404 _ now c.bare.ensures (unkept_as _ _ c.self.view_is) (host_as _ _ c.self.view_is)))
 
 pub returns-then-ne-clause-replies : goal.returns-then-ne-clause-replies
 returns-then-ne-clause-replies g c = λ outset history m fits0.
@@ -34,7 +34,7 @@ returns-then-ne-clause-replies g c = λ outset history m fits0.
     let other : not (bytes_eq c.args.request.now.method.now (method_at c.in-Some.endpoint)) ≡ true =
     sym (c.ne.ensures ∙ ap (λ b. not (bytes_eq c.args.request.now.method.now b)) c.method.ensures) ∙ c.if-ne.true in
     let now = swept g.H.HookHost _ outset history m _ _ moment.0 fits (c.drop_expired.ensures.fits history) in
-    (false, None, tt, rw (there, other, ← moment.1) (bare_step g.H.HookHost (record { server = c.args.self.now; outset = outset; history = history; moment = c.greater-self-inside.result }) _ 405 _ now c.bare-then-ne.ensures (unkept_as _ _ c.self.view_is)))
+    (false, None, tt, rw (there, other, ← moment.1) (bare_step g.H.HookHost (record { server = c.args.self.now; outset = outset; history = history; moment = c.greater-self-inside.result }) _ 405 _ now c.bare-then-ne.ensures (unkept_as _ _ c.self.view_is) (host_as _ _ c.self.view_is)))
 
 pub returns-in_default-answer_at-clause-replies : goal.returns-in_default-answer_at-clause-replies
 returns-in_default-answer_at-clause-replies g c = λ outset history m fits0.
@@ -45,7 +45,7 @@ returns-in_default-answer_at-clause-replies g c = λ outset history m fits0.
     not_false _ (sym (c.ne.ensures ∙ ap (λ b. not (bytes_eq c.args.request.now.method.now b)) c.method.ensures) ∙ c.if-ne.false) in
     let now = swept g.H.HookHost _ outset history m _ _ moment.0 fits (c.drop_expired.ensures.fits history) in
     let same = none_made g.H.HookHost _ _ (record { endpoint = c.in-Some.endpoint; asked = asked_of c.args.request.now; draws = c.args.draws.now }) c.answer_at.result c.in_default-answer_at.not-Ok c.answer_at.ensures.replies in
-    (true, None, tt, rw (there, method, ← moment.1) (bare_step g.H.HookHost (record { server = c.args.self.now; outset = outset; history = history; moment = c.greater-self-inside.result }) _ 503 _ (same.fits outset history _ now) c.bare-in_default-answer_at.ensures (same.unkept ∙ unkept_as _ _ c.self.view_is)))
+    (true, None, tt, rw (there, method, ← moment.1) (bare_step g.H.HookHost (record { server = c.args.self.now; outset = outset; history = history; moment = c.greater-self-inside.result }) _ 503 _ (same.fits outset history _ now) c.bare-in_default-answer_at.ensures (same.unkept ∙ unkept_as _ _ c.self.view_is) (same.host ∙ host_as _ _ c.self.view_is)))
 
 pub returns-clause-replies : goal.returns-clause-replies
 returns-clause-replies g c = λ outset history m fits0.

@@ -25,4 +25,4 @@ returns-clause-replies g c = λ first history fits.
     let value : c.in_ok-reply.reply ≡ in_writing (reply_of c.args.self.now.rules (g.H.HookHost.names c.args.self.now.host) c.in-Ok-decide.ruling.decision.answer) =
     rw (← c.self.view_is) c.in_ok-reply.ensures.value in
     rw (← c.in-Ok.ensures.endpoint) (answered g.H.HookHost c.args.self.now c.reserve.new.self _ first history _ c.in-Ok-decide.ruling c.in_ok-reply.reply
-    (c.in-Ok-decide.ensures.rules c.in-Ok.ensures.read first history fits) c.in_ok-reserve.ensures.same c.apply.ensures.makes c.apply.ensures.notes value fits)
+    (c.in-Ok-decide.ensures.rules c.in-Ok.ensures.read first history fits) c.in_ok-reserve.ensures.same c.apply.ensures.makes c.apply.ensures.host c.apply.ensures.notes value fits)

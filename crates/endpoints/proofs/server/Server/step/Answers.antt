@@ -1,7 +1,7 @@
 use Rattle.std.proofs.Common.{◌∙◌, subst, sym}
 use Rattle.messages.specs.Asked.{asked_of}
 use Rattle.endpoints.specs.Steps.{Arrival, Steps, Sweeps}
-use Rattle.endpoints.proofs.Sweeping.{bounded, swept_steps, sweeps}
+use Rattle.endpoints.proofs.Sweeping.{swept_steps, sweeps}
 use Rattle.endpoints.proofs.server.Server.step.Goals as goal
 
 pub returns-clause-replies : goal.returns-clause-replies
@@ -9,9 +9,6 @@ returns-clause-replies g c =
     let arrival : Arrival = record { asked = asked_of c.args.request.now; moment = c.args.moment; draws = c.args.draws.now } in
     subst (λ server. Steps g.H.HookHost c.args.self.now arrival c.answer-reply.result server) (sym (c.self.view_is ∙ c.sweep.ensures.same))
     (swept_steps g.H.HookHost c.args.self.now c.answer-reply.new.self c.sweep.new.self.store arrival c.answer-reply.result c.sweep.ensures.fits c.answer-reply.ensures.replies)
-
-pub returns-clause-bounded : goal.returns-clause-bounded
-returns-clause-bounded g c = bounded g.H.HookHost _
 
 pub returns-clause-kept : goal.returns-clause-kept
 returns-clause-kept g c =
