@@ -8,3 +8,11 @@ pub mod Exchanged
 pub mod Bounding
 pub mod Telling
 pub mod Narrowing
+pub mod Ways
+pub mod Active
+pub mod Binding
+pub mod Bearing
+pub mod Redirecting
+pub mod Replaying
+pub mod Deciding
+pub mod Drawing

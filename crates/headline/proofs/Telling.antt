@@ -1,8 +1,7 @@
 -- What all replies to requests have in common.
-use Rattle.std.proofs.Common.{◌≡◌, ◌≤◌, ℕ, List, [], ◌∷◌, Bool, true, false, Option, Some, None, cond, refl, ap, arith, length}
+use Rattle.std.proofs.Common.{◌≡◌, ℕ, List, [], ◌∷◌, Bool, true, false, Option, Some, None, cond, refl, length}
 use Rattle.std.specs.Prelude.{◌==◌, codes, not, bytes_eq, if◌then◌else◌, option_and_then}
 use Rattle.std.specs.Result.{result_ok}
-use Rattle.std.specs.Option.{option_map_or}
 use Rattle.std.proofs.lemmas.Bool.{false≢true}
 use Rattle.sha2.specs.Sha256.{sha256}
 use Rattle.pkce.specs.Proof.{proves}
@@ -10,7 +9,6 @@ use Rattle.pkce.specs.Token.{token_text}
 use Rattle.params.specs.Form.{read_params, value_sent}
 use Rattle.clients.specs.RegistryRecord.{RegistryRecord}
 use Rattle.clients.specs.ClientRecord.{ClientRecord}
-use Rattle.clients.specs.Clients.{client_at}
 use Rattle.clients.specs.Grants.{has_grant, grant_named}
 use Rattle.clients.specs.declared.grant.GrantType.{GrantType}
 use Rattle.clients.specs.declared.grant.GrantType.TheVariants.{AuthorizationCode, RefreshToken, ClientCredentials}
@@ -18,7 +16,6 @@ use Rattle.consent.specs.History.{Event, Change, Grant, is_code, live_grant, is_
 use Rattle.consent.specs.History.Change.{CodeGiven, Issued, Spent}
 use Rattle.consent.specs.declared.grant.Kind.{Kind}
 use Rattle.consent.specs.declared.grant.Kind.TheVariants.{Code, Token}
-use Rattle.consent.specs.declared.grant.TokenKind.{TokenKind}
 use Rattle.consent.specs.declared.grant.TokenKind.TheVariants.{Access}
 use Rattle.hook_host.specs.declared.fault.HookFault.{HookFault}
 use Rattle.hook_host.specs.declared.fault.HookFault.TheVariants as hook
@@ -29,7 +26,7 @@ use Rattle.messages.specs.declared.error.ErrorName.TheVariants.{InvalidRequest, 
 use Rattle.messages.specs.Asked.{Asked}
 use Rattle.messages.specs.Target.{path_of, query_of}
 use Rattle.messages.specs.Reply.{Reply, Body, plain, sent_back}
-use Rattle.messages.specs.Reply.Body.{Empty, Failure, Tokens, Consent, Active, Inactive, Hook, HookRefused, Hooks}
+use Rattle.messages.specs.Reply.Body.{Empty, Failure, Active, Inactive, HookRefused, Hooks}
 use Rattle.messages.specs.Written.{error_text}
 use Rattle.answers.specs.Outcomes.{Extent, Outcome, point, need, only, refuse, bare, unavailable, unless_taken, chosen, status_of}
 use Rattle.answers.specs.Requesters.{Parameters, KnownClient, form_of, scope_within, scope_asked, client_named, owner_of_key}
@@ -47,10 +44,7 @@ use Rattle.endpoints.specs.ConsentPath.{give_consent}
 use Rattle.endpoints.specs.Revoke.{revoke_token}
 use Rattle.endpoints.specs.HookPaths.{install_hook, remove_hook, list_hooks, change_hooks, by_fault, installation, removal, is_operator}
 use Rattle.endpoints.specs.Introspect.{introspect, told_of}
-use Rattle.endpoints.specs.Bounded.{IsBounded, token_life_limit}
 use Rattle.headline.specs.Occasions.{Occasion, outcome_of, reply_on, setting_on}
-use Rattle.headline.specs.Grants.{KeepsScope, TellsBounded}
-use Rattle.headline.proofs.Bounding.{live_keeps, there}
 use Rattle.headline.proofs.Walking.{at_point, at_need, at_left, at_untaken, at_chosen, at_authenticated, other}
 
 -- the body tells of no active token
@@ -286,32 +280,3 @@ pub nothing_of_503 : (rules : RegistryRecord) (history : List Event) (occasion :
 nothing_of_503 rules history occasion =
     at_occasion (λ o. o.reply.status ≡ 503 → o.changes ≡ []) (λ reply _ _. refl) (λ reply changes apart _ is. absurd (apart is)) rules history
     (λ o. at_introspect (λ o. o.reply.status ≡ 503 → o.changes ≡ []) (setting_on rules history o) (λ reply _ _. refl) (λ digest g live token _. refl) o.arrival.asked) occasion
-
-pub active_bounded : (rules : RegistryRecord) (history : List Event) → IsBounded rules history → (occasion : Occasion) → TellsBounded rules history (reply_on rules history occasion).body
-active_bounded rules history bounded occasion =
-    at_occasion Tells (λ reply quiet. quiet_tells reply.body quiet) (λ reply changes _ quiet. quiet_tells reply.body quiet) rules history
-    (λ o. at_introspect Tells (setting_on rules history o) (λ reply quiet. quiet_tells reply.body quiet) (λ digest g live token.
-    let keeps = live_keeps rules history digest o.arrival.moment g bounded live token in
-    let client = there rules g.client keeps.0.allowed.is_client in
-    told_tells g client.0 client.1 keeps.0 g.kind (keeps.1)) o.arrival.asked) occasion
-  where
-    Tells : Outcome → Type 0
-    Tells o = TellsBounded rules history o.reply.body
-
-    quiet_tells : (body : Body) → IsQuiet body → TellsBounded rules history body
-    quiet_tells Empty quiet = tt
-    quiet_tells (Failure error) quiet = tt
-    quiet_tells (Tokens access life refresh scope) quiet = tt
-    quiet_tells (Consent scope) quiet = tt
-    quiet_tells (Active client expires issued scope sub kind) quiet = absurd quiet
-    quiet_tells Inactive quiet = tt
-    quiet_tells (Hook name) quiet = tt
-    quiet_tells (HookRefused detail) quiet = tt
-    quiet_tells (Hooks names) quiet = tt
-
-    told_tells : (g : Grant) (client : ClientRecord) → client_at g.client rules.clients ≡ Some client → KeepsScope rules history g →
-        (k : Kind) → ((kind : TokenKind) → k ≡ Token kind → g.life ≤ token_life_limit rules kind) → TellsBounded rules history (told_of rules g k)
-    told_tells g client at keeps Code short = tt
-    told_tells g client at keeps (Token kind) short =
-        let few = short kind refl in
-        (g, keeps, refl, client, at, ap (λ (o : Option ClientRecord). option_map_or (λ c. c.id) o []) at, refl, omega (arith, few))
