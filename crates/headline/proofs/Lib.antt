@@ -12,6 +12,7 @@ pub mod Ways
 pub mod Active
 pub mod Binding
 pub mod Bearing
+pub mod Ending
 pub mod Redirecting
 pub mod Replaying
 pub mod Deciding

@@ -1,10 +1,10 @@
 -- Whose credentials and keys bring about what happens.
-use Rattle.std.specs.Prelude.{◌≡◌, ◌≢◌, ℕ, List, Some, All, Contains, length}
+use Rattle.std.specs.Prelude.{◌≡◌, ◌≢◌, ◌⊎◌, ℕ, List, true, false, Some, All, Contains, length}
 use Rattle.clients.specs.RegistryRecord.{RegistryRecord}
-use Rattle.consent.specs.History.{Event, Change, Grant, grant_at, grants}
+use Rattle.consent.specs.History.{Event, Change, Grant, Terms, code_terms, grant_at, grants, has_ended}
 use Rattle.consent.specs.History.Change.{Consented, CodeGiven, Issued, Spent, FamilyEnded, HookSet, HookGone}
 use Rattle.headline.specs.Bearers.{BearsCredentials, BearsOwnerKey, BearsOperatorKey}
-use Rattle.headline.specs.Occasions.{Occasion, outcome_of}
+use Rattle.headline.specs.Occasions.{Occasion, history_after, outcome_of}
 
 -- each code and token of the family is the client's
 abbrev pub IsFamilyOf : List Event → ℕ → ℕ → Type 0
@@ -27,6 +27,14 @@ IsAuthorized rules history occasion (FamilyEnded family) =
 -- so it is of each change that happens
 abbrev pub IsAllAuthorized : RegistryRecord → List Event → Occasion → Type 0
 IsAllAuthorized rules history occasion = All (IsAuthorized rules history occasion) (outcome_of rules history occasion).changes
+
+-- Where a family ends that had not ended, the request bears the credentials of a client of one of its codes and tokens, or the
+-- key of the owner of its code.
+abbrev pub EndsWithAuthority : RegistryRecord → List Event → Occasion → Type 0
+EndsWithAuthority rules history occasion =
+    (family : ℕ) → has_ended history family ≡ false → has_ended (history_after rules history occasion) family ≡ true →
+    IsAuthorized rules history occasion (FamilyEnded family)
+    ⊎ ((terms : Terms) × (code_terms history family ≡ Some terms) × BearsOwnerKey rules occasion.arrival.asked terms.owner)
 
 -- the change adds nothing to the family of the code or token, which it neither uses nor ends
 abbrev pub LeavesAlone : List Event → ℕ → Grant → Change → Type 0

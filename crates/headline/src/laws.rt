@@ -1,7 +1,7 @@
 //! Laws of every history that a server comes to, of requests and of their replies.
 
 ghost use Rattle.headline.specs.Activity.{IsActiveWhereLive, TellsWithin};
-ghost use Rattle.headline.specs.Authority.{IsAllAuthorized, IsIsolated};
+ghost use Rattle.headline.specs.Authority.{EndsWithAuthority, IsAllAuthorized, IsIsolated};
 ghost use Rattle.headline.specs.Codes.{BindsCodes};
 ghost use Rattle.headline.specs.Decided.{IsAllDecided};
 ghost use Rattle.headline.specs.Drawn.{AreDrawn};
@@ -72,10 +72,15 @@ pub fn codes_are_bound()
 
 /// Nothing happens without authority: hooks are set and removed with the operator's key, consents and codes are given with the
 /// key of their owner, and tokens are given, codes and tokens used and families ended with the credentials of the family's
-/// client. Two ends are no change of a request by their client: a code or token expires by the clock, and a family ends with a
-/// consent that falls below its code's scope, which its owner's key gives.
+/// client.
 pub fn nothing_happens_without_authority<H: HookHost>()
     ensures { AtEachServer H.HookHost IsAllAuthorized }
+{}
+
+/// No family ends without authority: it ends with the credentials of its client, or with the key of its code's owner, whose
+/// consent falls below the code's scope. Without any request a code or token is only ever lost to the clock.
+pub fn no_family_ends_without_authority<H: HookHost>()
+    ensures { AtEachServer H.HookHost EndsWithAuthority }
 {}
 
 /// There is no open redirector: a user agent is sent only to a redirect URI that the registry has for the client that the
