@@ -148,10 +148,10 @@ module _ (rules : RegistryRecord) (history : List Event) (m : ℕ) (is : IsHisto
       code_again = λ x _ active. absurd active;
       refresh_again = λ x _ active. absurd active;
       in_vain = λ x error active. absurd active;
-      code_once = λ x left _ active. absurd active;
-      code_twice = λ x left _ active. absurd active;
-      refreshed = λ x left _ active. absurd active;
-      own = λ sender _ scope left _ active. absurd active;
+      code_once = λ x left _ _ active. absurd active;
+      code_twice = λ x left _ _ active. absurd active;
+      refreshed = λ x left _ _ active. absurd active;
+      own = λ sender _ scope left _ _ active. absurd active;
     };
     turned = λ x error active. absurd active;
     coded = λ x owner scope challenge _ active. absurd active;

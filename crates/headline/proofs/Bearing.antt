@@ -148,10 +148,10 @@ module _ (history : List Event) (m : ℕ) (is : IsHistory history m) where
         code_again = λ x _. one _ (ended x.sender x.digest x.grant x.named x.own);
         refresh_again = λ x _. one _ (ended x.sender x.digest x.grant x.named x.own);
         in_vain = λ x error. one _ (spent x.code.sender x.code.digest x.code.grant x.code.named x.code.own);
-        code_once = λ x left _. once x.code.sender x.code.digest x.code.grant x.code.named x.code.own left;
-        code_twice = λ x left _. twice x.code.sender x.code.digest x.code.grant x.code.named x.code.own left left.scope;
-        refreshed = λ x left _. twice x.token.sender x.token.digest x.token.grant x.token.named x.token.own left x.token.grant.scope;
-        own = λ sender _ scope left _. one _ (credentials sender, λ g at same. absurd (none_new g at (sym same)));
+        code_once = λ x left _ _. once x.code.sender x.code.digest x.code.grant x.code.named x.code.own left;
+        code_twice = λ x left _ _. twice x.code.sender x.code.digest x.code.grant x.code.named x.code.own left left.scope;
+        refreshed = λ x left _ _. twice x.token.sender x.token.digest x.token.grant x.token.named x.token.own left x.token.grant.scope;
+        own = λ sender _ scope left _ _. one _ (credentials sender, λ g at same. absurd (none_new g at (sym same)));
       };
       turned = λ x error. nothing;
       coded = λ x owner scope challenge key. one _ (owner_key owner key, refl);

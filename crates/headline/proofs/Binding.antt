@@ -56,10 +56,10 @@ module _ (rules : RegistryRecord) (history : List Event) (occasion : Occasion) (
     code_again = λ x _ e. absurd (other 400 200 refl e);
     refresh_again = λ x _ e. absurd (other 400 200 refl e);
     in_vain = λ x error e. absurd (other 400 200 refl e);
-    code_once = λ x left _ e. bound x (same_params form x.code.sender);
-    code_twice = λ x left _ e. bound x (same_params form x.code.sender);
-    refreshed = λ x left _ e. absurd (refreshes (same_some _ _ _ (ap (value_sent (codes "grant_type")) (sym (same_params form x.token.sender)) ∙ x.token.typed) typed));
-    own = λ sender own scope left _ e. absurd (owns (same_some _ _ _ (ap (value_sent (codes "grant_type")) (sym (same_params form sender)) ∙ own) typed));
+    code_once = λ x left _ _ e. bound x (same_params form x.code.sender);
+    code_twice = λ x left _ _ e. bound x (same_params form x.code.sender);
+    refreshed = λ x left _ _ e. absurd (refreshes (same_some _ _ _ (ap (value_sent (codes "grant_type")) (sym (same_params form x.token.sender)) ∙ x.token.typed) typed));
+    own = λ sender own scope left _ _ e. absurd (owns (same_some _ _ _ (ap (value_sent (codes "grant_type")) (sym (same_params form sender)) ∙ own) typed));
   }
     where
       refreshes : codes "refresh_token" ≡ codes "authorization_code" → ⊥

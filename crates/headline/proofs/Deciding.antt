@@ -145,10 +145,10 @@ module _ (rules : RegistryRecord) (history : List Event) (occasion : Occasion) (
       code_again = λ x _. one _ tt;
       refresh_again = λ x _. one _ tt;
       in_vain = λ x error. one _ tt;
-      code_once = λ x left is. one_given (ask_for s x.code.sender.known kind.Code x.code.grant.owner x.code.grant.scope) left is refl x.code.grant (sym x.code.own) refl;
-      code_twice = λ x left is. both_given (ask_for s x.code.sender.known kind.Code x.code.grant.owner x.code.grant.scope) left is refl x.code.grant (sym x.code.own) refl left.scope (inl refl);
-      refreshed = λ x left is. both_given (ask_for s x.token.sender.known kind.Refresh x.token.grant.owner x.scope) left is refl x.token.grant (sym x.token.own) refl x.token.grant.scope (replaced x left);
-      own = λ sender _ scope left is. one _ (access (own_ask s sender.known scope) left is refl (length history) sender.known.number 0 (sha256 s.draws.first) refl refl);
+      code_once = λ x left is _. one_given (ask_for s x.code.sender.known kind.Code x.code.grant.owner x.code.grant.scope) left is refl x.code.grant (sym x.code.own) refl;
+      code_twice = λ x left is _. both_given (ask_for s x.code.sender.known kind.Code x.code.grant.owner x.code.grant.scope) left is refl x.code.grant (sym x.code.own) refl left.scope (inl refl);
+      refreshed = λ x left is _. both_given (ask_for s x.token.sender.known kind.Refresh x.token.grant.owner x.scope) left is refl x.token.grant (sym x.token.own) refl x.token.grant.scope (replaced x left);
+      own = λ sender _ scope left is _. one _ (access (own_ask s sender.known scope) left is refl (length history) sender.known.number 0 (sha256 s.draws.first) refl refl);
     };
     turned = λ x error. nothing;
     coded = λ x owner scope challenge key. one _ tt;

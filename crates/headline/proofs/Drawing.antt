@@ -67,10 +67,10 @@ module _ (rules : RegistryRecord) (history : List Event) (occasion : Occasion) (
       code_again = λ x _. tt;
       refresh_again = λ x _. tt;
       in_vain = λ x error. tt;
-      code_once = λ x left _. inl (refl, tt);
-      code_twice = λ x left _. inl (refl, inl (refl, tt));
-      refreshed = λ x left _. inl (refl, inl (refl, tt));
-      own = λ sender _ scope left _. inl (refl, tt);
+      code_once = λ x left _ _. inl (refl, tt);
+      code_twice = λ x left _ _. inl (refl, inl (refl, tt));
+      refreshed = λ x left _ _. inl (refl, inl (refl, tt));
+      own = λ sender _ scope left _ _. inl (refl, tt);
     };
     turned = λ x error. tt;
     coded = λ x owner scope challenge key. inl (refl, tt);

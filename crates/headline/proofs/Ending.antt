@@ -32,10 +32,10 @@ are_short rules history occasion = at_each (λ o. IsShort o.changes) rules histo
     code_again = λ x _. inr (_, refl);
     refresh_again = λ x _. inr (_, refl);
     in_vain = λ x error. inr (_, refl);
-    code_once = λ x left _. inl refl;
-    code_twice = λ x left _. inl refl;
-    refreshed = λ x left _. inl refl;
-    own = λ sender _ scope left _. inr (_, refl);
+    code_once = λ x left _ _. inl refl;
+    code_twice = λ x left _ _. inl refl;
+    refreshed = λ x left _ _. inl refl;
+    own = λ sender _ scope left _ _. inr (_, refl);
   };
   turned = λ x error. inl refl;
   coded = λ x owner scope challenge key. inr (_, refl);

@@ -38,10 +38,10 @@ module _ (rules : RegistryRecord) (history : List Event) (occasion : Occasion) w
       code_again = λ x _. stays _ (other 400 302 refl) refl;
       refresh_again = λ x _. stays _ (other 400 302 refl) refl;
       in_vain = λ x error. stays _ (other 400 302 refl) refl;
-      code_once = λ x left _. stays _ (other 200 302 refl) refl;
-      code_twice = λ x left _. stays _ (other 200 302 refl) refl;
-      refreshed = λ x left _. stays _ (other 200 302 refl) refl;
-      own = λ sender _ scope left _. stays _ (other 200 302 refl) refl;
+      code_once = λ x left _ _. stays _ (other 200 302 refl) refl;
+      code_twice = λ x left _ _. stays _ (other 200 302 refl) refl;
+      refreshed = λ x left _ _. stays _ (other 200 302 refl) refl;
+      own = λ sender _ scope left _ _. stays _ (other 200 302 refl) refl;
     };
     turned = λ x error _. (
       refl,

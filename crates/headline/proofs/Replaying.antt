@@ -1,5 +1,5 @@
 -- A replayed code or refresh token ends its family.
-use Rattle.std.proofs.Common.{◌≡◌, ◌⊎◌, inl, inr, ℕ, List, [], ◌∷◌, ◌++◌, Bool, true, Option, Some, None, map, refl, sym, ap, ◌∙◌, subst}
+use Rattle.std.proofs.Common.{◌≡◌, ◌⊎◌, inl, inr, ℕ, List, [], ◌∷◌, ◌++◌, Bool, true, Some, None, map, refl, sym, ap, ◌∙◌, subst}
 use Rattle.std.specs.Prelude.{◌==◌, codes, not, bytes_eq, if◌then◌else◌}
 use Rattle.std.proofs.lemmas.Bool.{and_from, eq-eqb, false≢true}
 use Rattle.params.specs.Form.{value_sent}
@@ -25,16 +25,8 @@ use Rattle.headline.specs.Occasions.{Occasion, outcome_of, history_after, settin
 use Rattle.headline.specs.Uses.{PresentsCode, PresentsRefresh, Replays}
 use Rattle.headline.proofs.Exchanged.{at_path}
 use Rattle.headline.proofs.Spending.{ended_by, ended_stays, live_is}
-use Rattle.headline.proofs.Walking.{at_point, at_need, at_chosen, same_some}
+use Rattle.headline.proofs.Walking.{at_chosen, at_need, at_point, at_some, at_true, same_some}
 use Rattle.headline.proofs.Ways.{Sender, at_sender, number_in}
-
-module _ (P : Outcome → Type 0) where
-  -- what is there leads on
-  at_some : {A : Type 0} (o : Option A) (x : A) (without : Outcome) (later : A → Outcome) → o ≡ Some x → P (later x) → P (need o without later)
-  at_some {A = A} o x without later is p = subst (λ (y : Option A). P (need y without later)) (sym is) p
-
-  at_true : (b : Bool) (here later : Outcome) → b ≡ true → P here → P (point b here later)
-  at_true b here later is p = subst (λ x. P (point x here later)) (sym is) p
 
 module _ (rules : RegistryRecord) (history : List Event) (occasion : Occasion) (g : Grant) (it : Replays rules history occasion g) where
   abbrev s : Setting

@@ -18,7 +18,7 @@ use Rattle.clients.specs.declared.grant.GrantType.TheVariants.{AuthorizationCode
 use Rattle.authentication.specs.Authentication.{authenticated}
 use Rattle.authentication.specs.declared.authentication.AuthFault.{AuthFault}
 use Rattle.authentication.specs.declared.authentication.AuthFault.TheVariants as auth
-use Rattle.consent.specs.History.{Event, Change, Grant, grant_at, live_grant, is_code, is_spent, has_ended, consented_scope, is_within, has_consent_room}
+use Rattle.consent.specs.History.{Event, Change, Grant, grant_at, live_grant, is_code, is_spent, is_taken, has_ended, consented_scope, is_within, has_consent_room}
 use Rattle.consent.specs.History.Change.{Consented, CodeGiven, Issued, Spent, HookSet, HookGone}
 use Rattle.consent.specs.declared.grant.Kind.{Kind}
 use Rattle.consent.specs.declared.grant.TokenKind.TheVariants.{Access}
@@ -204,14 +204,14 @@ pub record TokenWays (P : Outcome → Type 0) (s : Setting) (asked : Asked) : Ty
   pub refresh_again : (x : RefreshUse s asked) → is_spent s.history x.digest s.moment ≡ true → P (ends_family x.grant)
   pub in_vain : (x : Proven s asked) (error : ErrorName) → P (spent_in_vain x.code.grant error)
   pub code_once : (x : Proven s asked) (left : Extent) → IsLeft s (ask_for s x.code.sender.known kind.Code x.code.grant.owner x.code.grant.scope) left →
-      P (one_issued s x.code.grant left)
+      is_taken s.history s.moment (sha256 s.draws.first ∷ []) ≡ false → P (one_issued s x.code.grant left)
   pub code_twice : (x : Proven s asked) (left : Extent) → IsLeft s (ask_for s x.code.sender.known kind.Code x.code.grant.owner x.code.grant.scope) left →
-      P (both_issued s x.code.grant left left.scope)
+      is_taken s.history s.moment (both_digests s.draws) ≡ false → P (both_issued s x.code.grant left left.scope)
   pub refreshed : (x : Refreshing s asked) (left : Extent) → IsLeft s (ask_for s x.token.sender.known kind.Refresh x.token.grant.owner x.scope) left →
-      P (both_issued s x.token.grant left x.token.grant.scope)
+      is_taken s.history s.moment (both_digests s.draws) ≡ false → P (both_issued s x.token.grant left x.token.grant.scope)
   pub own : (sender : Sender s.rules asked) → value_sent (codes "grant_type") sender.params ≡ Some (codes "client_credentials") →
       (scope : ℕ) (left : Extent) → IsLeft s (own_ask s sender.known scope) left →
-      P (own_issued s sender.known.number left)
+      is_taken s.history s.moment (sha256 s.draws.first ∷ []) ≡ false → P (own_issued s sender.known.number left)
 
 module _ (P : Outcome → Type 0) where
   pub at_left : (s : Setting) (ask : Ask) (denied empty : Outcome) (later : Extent → Outcome) →
@@ -256,8 +256,8 @@ module _ (P : Outcome → Type 0) (s : Setting) (asked : Asked) (ways : TokenWay
     for_code x left is client = by_grant (has_grant RefreshToken client.grants)
       where
         by_grant : (b : Bool) → P (if b then both_for s x.code.grant left left.scope else access_for s x.code.grant left)
-        by_grant true = at_untaken P s (both_digests s.draws) (both_issued s x.code.grant left left.scope) ways.wanting (λ _. ways.code_twice x left is)
-        by_grant false = at_untaken P s (sha256 s.draws.first ∷ []) (one_issued s x.code.grant left) ways.wanting (λ _. ways.code_once x left is)
+        by_grant true = at_untaken P s (both_digests s.draws) (both_issued s x.code.grant left left.scope) ways.wanting (ways.code_twice x left is)
+        by_grant false = at_untaken P s (sha256 s.draws.first ∷ []) (one_issued s x.code.grant left) ways.wanting (ways.code_once x left is)
 
     in_exchange : value_sent (codes "grant_type") sender.params ≡ Some (codes "authorization_code") → P (exchange s sender.params sender.known)
     in_exchange typed =
@@ -322,15 +322,15 @@ module _ (P : Outcome → Type 0) (s : Setting) (asked : Asked) (ways : TokenWay
         at_need P {A = ℕ} (scope_within s.rules g.scope sender.params) (refuse InvalidScope) _ (ways.refused InvalidScope) (λ scope asks.
         at_left P s (ask_for s sender.known kind.Refresh g.owner scope) (refuse InvalidGrant) (refuse InvalidScope) _
         (ways.refused InvalidGrant) (ways.refused InvalidScope) (λ left is.
-        at_untaken P s (both_digests s.draws) (both_issued s g left g.scope) ways.wanting (λ _.
-        ways.refreshed (record { token = token; unspent = unspent; alive = alive; scope = scope; asks = asks }) left is))))))))
+        at_untaken P s (both_digests s.draws) (both_issued s g left g.scope) ways.wanting
+        (ways.refreshed (record { token = token; unspent = unspent; alive = alive; scope = scope; asks = asks }) left is))))))))
 
     in_own : value_sent (codes "grant_type") sender.params ≡ Some (codes "client_credentials") → P (client_credentials s sender.params sender.known)
     in_own typed =
         at_need P {A = ℕ} (scope_within s.rules sender.known.client.allowed sender.params) (refuse InvalidScope) _ (ways.refused InvalidScope) (λ scope _.
         at_left P s (own_ask s sender.known scope) (refuse UnauthorizedClient) (refuse InvalidScope) _
         (ways.refused UnauthorizedClient) (ways.refused InvalidScope) (λ left is.
-        at_untaken P s (sha256 s.draws.first ∷ []) (own_issued s sender.known.number left) ways.wanting (λ _. ways.own sender typed scope left is)))
+        at_untaken P s (sha256 s.draws.first ∷ []) (own_issued s sender.known.number left) ways.wanting (ways.own sender typed scope left is)))
 
     by_type : (grant : GrantType) → value_sent (codes "grant_type") sender.params ≡ Some (type_name grant) → P (grant_points grant s sender.params sender.known)
     by_type AuthorizationCode typed = in_exchange typed
