@@ -8,7 +8,7 @@ use Rattle.clients.specs.RegistryRecord.{RegistryRecord}
 use Rattle.consent.specs.History.{Event, event_at, Grant, grants, grant_at, live_grant, is_spent, spends, has_ended}
 use Rattle.consent.specs.History.Change.{FamilyEnded}
 use Rattle.consent.specs.GrowthLaws.{grants-append}
-use Rattle.messages.specs.declared.error.ErrorName.TheVariants.{InvalidRequest, InvalidGrant}
+use Rattle.messages.specs.declared.error.ErrorName.TheVariants.{InvalidRequest, InvalidClient, InvalidGrant}
 use Rattle.params.specs.Form.{value_sent}
 use Rattle.answers.specs.Outcomes.{Outcome, point, need, bare, chosen, refuse}
 use Rattle.answers.specs.Requesters.{form_of}
@@ -20,9 +20,10 @@ use Rattle.endpoints.specs.Replies.{outcome_at}
 use Rattle.endpoints.specs.Revoke.{revoke_token, revoked}
 use Rattle.headline.specs.Occasions.{Occasion, outcome_of, history_after, setting_on}
 use Rattle.headline.specs.Uses.{Exchanges, IsGivenAmong, Revokes}
-use Rattle.headline.proofs.Walking.{at_point, at_need, at_authenticated, no_error_200, other, same_some, granted_at}
+use Rattle.headline.proofs.Walking.{at_point, at_some, no_error_200, other, same_some, granted_at}
 use Rattle.headline.proofs.Spending.{has_digest, grant_at-still, is_spent-by, ended_by, ended_stays, live_is}
 use Rattle.headline.proofs.Exchanging.{IsUse, IsUsed, issue_used}
+use Rattle.headline.proofs.Ways.{at_sender}
 
 module _ (rules : RegistryRecord) (history : List Event) (occasion : Occasion) where
   -- the outcome at the path
@@ -94,11 +95,11 @@ module _ (rules : RegistryRecord) (history : List Event) (occasion : Occasion) (
       let same : outcome_of rules history occasion ≡ o =
       there ∙ granted_at (not (bytes_eq occasion.arrival.asked.method (codes "POST"))) occasion.refused o (ap (λ (x : Outcome). x.reply.status) (sym there) ∙ it.done) in
       subst Ended (sym same)
-      (at_authenticated Ended rules occasion.arrival.asked _ refused (λ e. absurd (other 503 200 refl e)) (λ params known is.
-      at_need Ended {A = List ℕ} (value_sent (codes "token") params) (refuse InvalidRequest) (λ text. by_live known.number (live_token history occasion.arrival.moment text)) (refused InvalidRequest) (λ text sent.
-      let same_text : text ≡ it.text = same_some text it.text (value_sent (codes "token") params) sent (ap (value_sent (codes "token")) (same_some params it.params (form_of occasion.arrival.asked) is it.form) ∙ it.presents) in
-      subst (λ t. Ended (by_live known.number t)) (sym (ap (live_token history occasion.arrival.moment) same_text ∙ it.live))
-      (at_point Ended (not (token.client == known.number)) (refuse InvalidGrant) _ (λ _. refused InvalidGrant) (λ _ _. refl))))) it.done
+      (at_sender Ended rules occasion.arrival.asked _ (refused InvalidRequest) (refused InvalidClient) (λ e. absurd (other 503 200 refl e)) (λ sender.
+      at_some Ended {A = List ℕ} (value_sent (codes "token") sender.params) it.text (refuse InvalidRequest) (λ text. by_live sender.known.number (live_token history occasion.arrival.moment text))
+      (ap (value_sent (codes "token")) (same_some sender.params it.params (form_of occasion.arrival.asked) sender.form it.form) ∙ it.presents)
+      (at_some Ended {A = Grant} (live_token history occasion.arrival.moment it.text) token (bare 200) _ it.live
+      (at_point Ended (not (token.client == sender.known.number)) (refuse InvalidGrant) _ (λ _. refused InvalidGrant) (λ _ _. refl))))) it.done
 
   pub revoked_stays : (later : List Event) (found : Grant) (digest : List ℕ) (moment : ℕ) →
       live_grant (history_after rules history occasion ++ later) digest moment ≡ Some found → found.family ≡ token.family → ⊥

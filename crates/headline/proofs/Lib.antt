@@ -6,5 +6,14 @@ pub mod Spending
 pub mod Exchanging
 pub mod Exchanged
 pub mod Bounding
-pub mod Telling
 pub mod Narrowing
+pub mod Ways
+pub mod Idle
+pub mod Active
+pub mod Binding
+pub mod Bearing
+pub mod Ending
+pub mod Redirecting
+pub mod Replaying
+pub mod Deciding
+pub mod Drawing

@@ -45,24 +45,25 @@ use Rattle.headline.specs.Hooked.{allows_all, without_hooks, IsNarrowed}
 use Rattle.headline.proofs.Walking.{no_error_200, other}
 use Rattle.headline.proofs.Exchanged.{at_path}
 
--- where the one is granted
-abbrev pub Narrows : Outcome → Outcome → Type 0
-Narrows o p = o.reply.status ≡ 200 → IsNarrowed o p
+module _ (rules : RegistryRecord) where
+  -- where the one is granted
+  abbrev pub Narrows : Outcome → Outcome → Type 0
+  Narrows o p = o.reply.status ≡ 200 → IsNarrowed rules o p
 
-both_point : (b : Bool) (here later here' later' : Outcome) → Narrows here here' → Narrows later later' → Narrows (point b here later) (point b here' later')
-both_point true here later here' later' a z = a
-both_point false here later here' later' a z = z
+  both_point : (b : Bool) (here later here' later' : Outcome) → Narrows here here' → Narrows later later' → Narrows (point b here later) (point b here' later')
+  both_point true here later here' later' a z = a
+  both_point false here later here' later' a z = z
 
-both_need : {A : Type 0} (o : Option A) (without without' : Outcome) (later later' : A → Outcome) → Narrows without without' →
-    ((x : A) → Narrows (later x) (later' x)) → Narrows (need o without later) (need o without' later')
-both_need None without without' later later' a z = a
-both_need (Some x) without without' later later' a z = z x
+  both_need : {A : Type 0} (o : Option A) (without without' : Outcome) (later later' : A → Outcome) → Narrows without without' →
+      ((x : A) → Narrows (later x) (later' x)) → Narrows (need o without later) (need o without' later')
+  both_need None without without' later later' a z = a
+  both_need (Some x) without without' later later' a z = z x
 
-refused : (error : ErrorName) (p : Outcome) → Narrows (refuse error) p
-refused error p e = absurd (no_error_200 error e)
+  refused : (error : ErrorName) (p : Outcome) → Narrows (refuse error) p
+  refused error p e = absurd (no_error_200 error e)
 
-wanting : (p : Outcome) → Narrows unavailable p
-wanting p e = absurd (other 503 200 refl e)
+  wanting : (p : Outcome) → Narrows unavailable p
+  wanting p e = absurd (other 503 200 refl e)
 
 -- what an ask holds some of is left of it by a host that allows all
 all_left : (ask : Ask) (scope life : ℕ) → IsNarrowing ask scope life → met_with ask (allows_all ask) ≡ Allowed ask.scope ask.life
@@ -88,30 +89,30 @@ open_to_all s = record { rules = s.rules; history = s.history; host = open_host 
 
 module _ (s : Setting) where
   -- tokens under the same digests
-  free : (digests : List (List ℕ)) (o p : Outcome) → Narrows o p → Narrows (unless_taken s digests o) (unless_taken (open_to_all s) digests p)
+  free : (digests : List (List ℕ)) (o p : Outcome) → Narrows s.rules o p → Narrows s.rules (unless_taken s digests o) (unless_taken (open_to_all s) digests p)
   free digests o p n =
-      both_point (not (has_room s.history s.moment digests)) unavailable (point (is_taken s.history s.moment digests) unavailable o) unavailable (point (is_taken s.history s.moment digests) unavailable p) (wanting unavailable)
-      (both_point (is_taken s.history s.moment digests) unavailable o unavailable p (wanting unavailable) n)
+      both_point s.rules (not (has_room s.history s.moment digests)) unavailable (point (is_taken s.history s.moment digests) unavailable o) unavailable (point (is_taken s.history s.moment digests) unavailable p) (wanting s.rules unavailable)
+      (both_point s.rules (is_taken s.history s.moment digests) unavailable o unavailable p (wanting s.rules unavailable) n)
 
   -- by what a host leaves of an ask, and what one leaves that allows all
   by_left : (ask : Ask) (denied empty denied' empty' : Outcome) (later later' : Extent → Outcome) →
-      ((p : Outcome) → Narrows denied p) → ((p : Outcome) → Narrows empty p) →
-      ((left whole : Extent) → is_within left.scope whole.scope ≡ true → left.life ≤ whole.life → Narrows (later left) (later' whole)) →
-      Narrows (unless_denied (left_by_host s ask) denied empty later) (unless_denied (left_by_host (open_to_all s) ask) denied' empty' later')
+      ((p : Outcome) → Narrows s.rules denied p) → ((p : Outcome) → Narrows s.rules empty p) →
+      ((left whole : Extent) → is_within left.scope whole.scope ≡ true → left.life ≤ whole.life → Narrows s.rules (later left) (later' whole)) →
+      Narrows s.rules (unless_denied (left_by_host s ask) denied empty later) (unless_denied (left_by_host (open_to_all s) ask) denied' empty' later')
   by_left ask denied empty denied' empty' later later' none nothing each = by_host (left_by_host s ask) refl
     where
       by_host : (left : Narrowed) → left_by_host s ask ≡ left →
-          Narrows (unless_denied left denied empty later) (unless_denied (left_by_host (open_to_all s) ask) denied' empty' later')
+          Narrows s.rules (unless_denied left denied empty later) (unless_denied (left_by_host (open_to_all s) ask) denied' empty' later')
       by_host Denied is = none _
       by_host EmptyScope is = nothing _
       by_host (Allowed scope life) is =
           let some = met_with_narrows ask (s.host.answer ask) scope life is in
-          subst (λ left. Narrows (later (record { scope = scope; life = life })) (unless_denied left denied' empty' later'))
+          subst (λ left. Narrows s.rules (later (record { scope = scope; life = life })) (unless_denied left denied' empty' later'))
           (sym (all_left ask scope life some))
           (each (record { scope = scope; life = life }) (record { scope = ask.scope; life = ask.life }) (within ask scope life some) some.no_longer)
 
   module _ (g : Grant) (left whole : Extent) (some : is_within left.scope whole.scope ≡ true) (short : left.life ≤ whole.life) where
-    one_token : Narrows (access_for s g left) (access_for (open_to_all s) g whole)
+    one_token : Narrows s.rules (access_for s g left) (access_for (open_to_all s) g whole)
     one_token =
         free (sha256 s.draws.first ∷ [])
         (record {
@@ -122,9 +123,9 @@ module _ (s : Setting) where
           reply = access_reply s.rules s.draws.first whole.scope whole.life;
           changes = access_issued g s.draws.first whole ∷ Spent g.digest ∷ [];
         })
-        (λ _. record { granted = refl; parts = ((refl, some, short), (refl, tt)) })
+        (λ _. record { granted = refl; told = (refl, refl, short, left.scope, whole.scope, refl, refl, some); given = (refl, refl, refl); parts = ((refl, some, short), (refl, tt)) })
 
-    both_tokens : (kept most : ℕ) → is_within kept most ≡ true → Narrows (both_for s g left kept) (both_for (open_to_all s) g whole most)
+    both_tokens : (kept most : ℕ) → is_within kept most ≡ true → Narrows s.rules (both_for s g left kept) (both_for (open_to_all s) g whole most)
     both_tokens kept most more =
         free (both_digests s.draws)
         (record {
@@ -141,19 +142,19 @@ module _ (s : Setting) where
               ∷ Spent g.digest
               ∷ [];
         })
-        (λ _. record { granted = refl; parts = ((refl, some, short), ((refl, more, omega arith), (refl, tt))) })
+        (λ _. record { granted = refl; told = (refl, refl, short, left.scope, whole.scope, refl, refl, some); given = (refl, refl, refl); parts = ((refl, some, short), ((refl, more, omega arith), (refl, tt))) })
 
-    for_code : (client : ClientRecord) → Narrows (exchanged s client g left) (exchanged (open_to_all s) client g whole)
+    for_code : (client : ClientRecord) → Narrows s.rules (exchanged s client g left) (exchanged (open_to_all s) client g whole)
     for_code client = by_grant (has_grant RefreshToken client.grants)
       where
         by_grant : (b : Bool) →
-            Narrows (if b then both_for s g left left.scope else access_for s g left)
+            Narrows s.rules (if b then both_for s g left left.scope else access_for s g left)
             (if b then both_for (open_to_all s) g whole whole.scope else access_for (open_to_all s) g whole)
         by_grant true = both_tokens left.scope whole.scope some
         by_grant false = one_token
 
   own_token : (number : ℕ) (left whole : Extent) → is_within left.scope whole.scope ≡ true → left.life ≤ whole.life →
-      Narrows (granted s number left) (granted (open_to_all s) number whole)
+      Narrows s.rules (granted s number left) (granted (open_to_all s) number whole)
   own_token number left whole some short =
       free (sha256 s.draws.first ∷ [])
       (record {
@@ -164,74 +165,74 @@ module _ (s : Setting) where
         reply = access_reply s.rules s.draws.first whole.scope whole.life;
         changes = Issued (length s.history) number 0 Access (sha256 s.draws.first) whole.scope whole.life ∷ [];
       })
-      (λ _. record { granted = refl; parts = ((refl, some, short), tt) })
+      (λ _. record { granted = refl; told = (refl, refl, short, left.scope, whole.scope, refl, refl, some); given = (refl, refl, refl); parts = ((refl, some, short), tt) })
 
   module _ (params : Parameters) (known : KnownClient) where
-    in_exchange : Narrows (exchange s params known) (exchange (open_to_all s) params known)
+    in_exchange : Narrows s.rules (exchange s params known) (exchange (open_to_all s) params known)
     in_exchange =
-        both_need {A = List ℕ} (value_sent (codes "code") params) (refuse InvalidRequest) (refuse InvalidRequest) _ _ (refused InvalidRequest _) (λ sent.
-        both_need {A = List ℕ} (value_sent (codes "redirect_uri") params) (refuse InvalidRequest) (refuse InvalidRequest) _ _ (refused InvalidRequest _) (λ uri.
-        both_need {A = List ℕ} (value_sent (codes "code_verifier") params) (refuse InvalidRequest) (refuse InvalidRequest) _ _ (refused InvalidRequest _) (λ verifier.
-        both_need {A = List ℕ} (digest_told sent) (refuse InvalidGrant) (refuse InvalidGrant) _ _ (refused InvalidGrant _) (λ digest.
-        both_need {A = Grant} (code_of_client s.history s.moment known.number digest) (refuse InvalidGrant) (refuse InvalidGrant) _ _ (refused InvalidGrant _) (λ g.
-        both_point (is_spent s.history digest s.moment) (ends_family g) _ (ends_family g) _ (λ e. absurd (other 400 200 refl e))
-        (both_point (has_ended s.history g.family) (refuse InvalidGrant) _ (refuse InvalidGrant) _ (refused InvalidGrant _)
-        (both_point (not (bytes_eq uri g.redirect)) (refuse InvalidGrant) _ (refuse InvalidGrant) _ (refused InvalidGrant _)
-        (both_point (not (proves verifier g.challenge)) (refuse InvalidGrant) _ (refuse InvalidGrant) _ (refused InvalidGrant _)
+        both_need s.rules {A = List ℕ} (value_sent (codes "code") params) (refuse InvalidRequest) (refuse InvalidRequest) _ _ (refused s.rules InvalidRequest _) (λ sent.
+        both_need s.rules {A = List ℕ} (value_sent (codes "redirect_uri") params) (refuse InvalidRequest) (refuse InvalidRequest) _ _ (refused s.rules InvalidRequest _) (λ uri.
+        both_need s.rules {A = List ℕ} (value_sent (codes "code_verifier") params) (refuse InvalidRequest) (refuse InvalidRequest) _ _ (refused s.rules InvalidRequest _) (λ verifier.
+        both_need s.rules {A = List ℕ} (digest_told sent) (refuse InvalidGrant) (refuse InvalidGrant) _ _ (refused s.rules InvalidGrant _) (λ digest.
+        both_need s.rules {A = Grant} (code_of_client s.history s.moment known.number digest) (refuse InvalidGrant) (refuse InvalidGrant) _ _ (refused s.rules InvalidGrant _) (λ g.
+        both_point s.rules (is_spent s.history digest s.moment) (ends_family g) _ (ends_family g) _ (λ e. absurd (other 400 200 refl e))
+        (both_point s.rules (has_ended s.history g.family) (refuse InvalidGrant) _ (refuse InvalidGrant) _ (refused s.rules InvalidGrant _)
+        (both_point s.rules (not (bytes_eq uri g.redirect)) (refuse InvalidGrant) _ (refuse InvalidGrant) _ (refused s.rules InvalidGrant _)
+        (both_point s.rules (not (proves verifier g.challenge)) (refuse InvalidGrant) _ (refuse InvalidGrant) _ (refused s.rules InvalidGrant _)
         (by_left (ask_for s known kind.Code g.owner g.scope) (spent_in_vain g InvalidGrant) (spent_in_vain g InvalidScope) _ _ _ _
         (λ _ e. absurd (other 400 200 refl e)) (λ _ e. absurd (other 400 200 refl e)) (λ left whole some short. for_code g left whole some short known.client))))))))))
 
-    in_refresh : Narrows (refresh s params known) (refresh (open_to_all s) params known)
+    in_refresh : Narrows s.rules (refresh s params known) (refresh (open_to_all s) params known)
     in_refresh =
-        both_need {A = List ℕ} (value_sent (codes "refresh_token") params) (refuse InvalidRequest) (refuse InvalidRequest) _ _ (refused InvalidRequest _) (λ sent.
-        both_need {A = List ℕ} (digest_told sent) (refuse InvalidGrant) (refuse InvalidGrant) _ _ (refused InvalidGrant _) (λ digest.
-        both_need {A = Grant} (refresh_of_client s.history s.moment known.number digest) (refuse InvalidGrant) (refuse InvalidGrant) _ _ (refused InvalidGrant _) (λ g.
-        both_point (is_spent s.history digest s.moment) (ends_family g) _ (ends_family g) _ (λ e. absurd (other 400 200 refl e))
-        (both_point (has_ended s.history g.family) (refuse InvalidGrant) _ (refuse InvalidGrant) _ (refused InvalidGrant _)
-        (both_need {A = ℕ} (scope_within s.rules g.scope params) (refuse InvalidScope) (refuse InvalidScope) _ _ (refused InvalidScope _) (λ scope.
+        both_need s.rules {A = List ℕ} (value_sent (codes "refresh_token") params) (refuse InvalidRequest) (refuse InvalidRequest) _ _ (refused s.rules InvalidRequest _) (λ sent.
+        both_need s.rules {A = List ℕ} (digest_told sent) (refuse InvalidGrant) (refuse InvalidGrant) _ _ (refused s.rules InvalidGrant _) (λ digest.
+        both_need s.rules {A = Grant} (refresh_of_client s.history s.moment known.number digest) (refuse InvalidGrant) (refuse InvalidGrant) _ _ (refused s.rules InvalidGrant _) (λ g.
+        both_point s.rules (is_spent s.history digest s.moment) (ends_family g) _ (ends_family g) _ (λ e. absurd (other 400 200 refl e))
+        (both_point s.rules (has_ended s.history g.family) (refuse InvalidGrant) _ (refuse InvalidGrant) _ (refused s.rules InvalidGrant _)
+        (both_need s.rules {A = ℕ} (scope_within s.rules g.scope params) (refuse InvalidScope) (refuse InvalidScope) _ _ (refused s.rules InvalidScope _) (λ scope.
         by_left (ask_for s known kind.Refresh g.owner scope) (refuse InvalidGrant) (refuse InvalidScope) _ _ _ _
-        (refused InvalidGrant) (refused InvalidScope) (λ left whole some short. both_tokens g left whole some short g.scope g.scope (is_within-self g.scope))))))))
+        (refused s.rules InvalidGrant) (refused s.rules InvalidScope) (λ left whole some short. both_tokens g left whole some short g.scope g.scope (is_within-self g.scope))))))))
 
-    in_own : Narrows (client_credentials s params known) (client_credentials (open_to_all s) params known)
+    in_own : Narrows s.rules (client_credentials s params known) (client_credentials (open_to_all s) params known)
     in_own =
-        both_need {A = ℕ} (scope_within s.rules known.client.allowed params) (refuse InvalidScope) (refuse InvalidScope) _ _ (refused InvalidScope _) (λ scope.
+        both_need s.rules {A = ℕ} (scope_within s.rules known.client.allowed params) (refuse InvalidScope) (refuse InvalidScope) _ _ (refused s.rules InvalidScope _) (λ scope.
         by_left (own_ask s known scope) (refuse UnauthorizedClient) (refuse InvalidScope) _ _ _ _
-        (refused UnauthorizedClient) (refused InvalidScope) (own_token known.number))
+        (refused s.rules UnauthorizedClient) (refused s.rules InvalidScope) (own_token known.number))
 
-    by_type : (grant : GrantType) → Narrows (grant_points grant s params known) (grant_points grant (open_to_all s) params known)
+    by_type : (grant : GrantType) → Narrows s.rules (grant_points grant s params known) (grant_points grant (open_to_all s) params known)
     by_type AuthorizationCode = in_exchange
     by_type RefreshToken = in_refresh
     by_type ClientCredentials = in_own
 
-  by_client : (result : Result ℕ AuthFault) (next next' : KnownClient → Outcome) → ((known : KnownClient) → Narrows (next known) (next' known)) →
-      Narrows (with_client s.rules result next) (with_client s.rules result next')
-  by_client (Ok number) next next' each = both_need {A = KnownClient} (known_client s.rules number) unavailable unavailable next next' (wanting unavailable) each
-  by_client (Err auth.TwoMethods) next next' each = refused InvalidRequest _
-  by_client (Err auth.NoClient) next next' each = refused InvalidClient _
-  by_client (Err auth.BadSecret) next next' each = refused InvalidClient _
-  by_client (Err auth.BadHeader) next next' each = refused InvalidClient _
-  by_client (Err auth.Memory) next next' each = wanting unavailable
+  by_client : (result : Result ℕ AuthFault) (next next' : KnownClient → Outcome) → ((known : KnownClient) → Narrows s.rules (next known) (next' known)) →
+      Narrows s.rules (with_client s.rules result next) (with_client s.rules result next')
+  by_client (Ok number) next next' each = both_need s.rules {A = KnownClient} (known_client s.rules number) unavailable unavailable next next' (wanting s.rules unavailable) each
+  by_client (Err auth.TwoMethods) next next' each = refused s.rules InvalidRequest _
+  by_client (Err auth.NoClient) next next' each = refused s.rules InvalidClient _
+  by_client (Err auth.BadSecret) next next' each = refused s.rules InvalidClient _
+  by_client (Err auth.BadHeader) next next' each = refused s.rules InvalidClient _
+  by_client (Err auth.Memory) next next' each = wanting s.rules unavailable
 
-  issue_narrows : (asked : Asked) → Narrows (issue_token s asked) (issue_token (open_to_all s) asked)
+  issue_narrows : (asked : Asked) → Narrows s.rules (issue_token s asked) (issue_token (open_to_all s) asked)
   issue_narrows asked =
-      both_need {A = Parameters} (form_of asked) (refuse InvalidRequest) (refuse InvalidRequest) _ _ (refused InvalidRequest _) (λ params.
+      both_need s.rules {A = Parameters} (form_of asked) (refuse InvalidRequest) (refuse InvalidRequest) _ _ (refused s.rules InvalidRequest _) (λ params.
       by_client (authenticated s.rules.clients asked.authorization params) _ _ (λ known.
-      both_need {A = List ℕ} (value_sent (codes "grant_type") params) (refuse InvalidRequest) (refuse InvalidRequest) _ _ (refused InvalidRequest _) (λ name.
-      both_need {A = GrantType} (grant_named name) (refuse UnsupportedGrantType) (refuse UnsupportedGrantType) _ _ (refused UnsupportedGrantType _) (λ grant.
-      both_point (not (has_grant grant known.client.grants)) (refuse UnauthorizedClient) _ (refuse UnauthorizedClient) _ (refused UnauthorizedClient _)
+      both_need s.rules {A = List ℕ} (value_sent (codes "grant_type") params) (refuse InvalidRequest) (refuse InvalidRequest) _ _ (refused s.rules InvalidRequest _) (λ name.
+      both_need s.rules {A = GrantType} (grant_named name) (refuse UnsupportedGrantType) (refuse UnsupportedGrantType) _ _ (refused s.rules UnsupportedGrantType _) (λ grant.
+      both_point s.rules (not (has_grant grant known.client.grants)) (refuse UnauthorizedClient) _ (refuse UnauthorizedClient) _ (refused s.rules UnauthorizedClient _)
       (by_type params known grant)))))
 
 pub hooks_narrow : (rules : RegistryRecord) (history : List Event) (occasion : Occasion) → GoesTo occasion (codes "/token") → (reply_on rules history occasion).status ≡ 200 →
-    IsNarrowed (outcome_of rules history occasion) (outcome_of rules history (without_hooks occasion))
+    IsNarrowed rules (outcome_of rules history occasion) (outcome_of rules history (without_hooks occasion))
 hooks_narrow rules history occasion goes granted =
     let there : outcome_of rules history occasion ≡ at_path rules history occasion (codes "/token") = ap (at_path rules history occasion) goes in
     let there' : outcome_of rules history (without_hooks occasion) ≡ at_path rules history (without_hooks occasion) (codes "/token") = ap (at_path rules history (without_hooks occasion)) goes in
-    subst (λ (o : Outcome). IsNarrowed o (outcome_of rules history (without_hooks occasion))) (sym there)
-    (subst (λ (p : Outcome). IsNarrowed (at_path rules history occasion (codes "/token")) p) (sym there')
+    subst (λ (o : Outcome). IsNarrowed rules o (outcome_of rules history (without_hooks occasion))) (sym there)
+    (subst (λ (p : Outcome). IsNarrowed rules (at_path rules history occasion (codes "/token")) p) (sym there')
     (narrows (not (bytes_eq occasion.arrival.asked.method (codes "POST"))) occasion.refused (ap (λ (o : Outcome). o.reply.status) (sym there) ∙ granted)))
   where
     narrows : (b refused : Bool) →
-        Narrows
+        Narrows rules
         (point b (bare 405) (chosen refused (issue_token (setting_on rules history occasion) occasion.arrival.asked)))
         (point b (bare 405) (chosen refused (issue_token (setting_on rules history (without_hooks occasion)) occasion.arrival.asked)))
     narrows true refused e = absurd (other 405 200 refl e)

@@ -1,33 +1,18 @@
 -- What codes and tokens keep to.
-use Rattle.std.specs.Prelude.{◌≡◌, ◌≢◌, ◌≤◌, ◌⊎◌, ◌+◌, ℕ, List, ◌∷◌, ◌++◌, true, false, Some, None}
-use Rattle.params.specs.Scope.{scope_text}
+use Rattle.std.specs.Prelude.{◌≡◌, ◌≢◌, ◌⊎◌, ℕ, List, ◌∷◌, ◌++◌, true, false, Some, None}
 use Rattle.clients.specs.RegistryRecord.{RegistryRecord}
 use Rattle.clients.specs.ClientRecord.{ClientRecord}
 use Rattle.clients.specs.Clients.{client_at}
-use Rattle.clients.specs.Owners.{sub_of}
 use Rattle.consent.specs.History.{Event, Grant, event_at, grant_at, live_grant, code_terms, is_code, is_within, consented_scope, last_consent, Terms}
 use Rattle.consent.specs.History.Change.{Consented}
 use Rattle.hook_host.specs.declared.host.HookHost.{Ghosts as Hosting}
-use Rattle.messages.specs.Reply.{Body}
-use Rattle.messages.specs.Reply.Body.{Active}
-use Rattle.endpoints.specs.Bounded.{IsOwn, MayHave, token_life_limit}
+use Rattle.endpoints.specs.Bounded.{IsOwn, MayHave}
 use Rattle.endpoints.specs.Server.{SeenServer, Outset, FitsServer}
-use Rattle.headline.specs.Occasions.{Occasion, reply_on}
 
 -- the scope is within what the client may have and, unless the token is the client's own, within what the owner consents to now
 pub record KeepsScope (rules : RegistryRecord) (history : List Event) (token : Grant) : Type 0 where
   pub allowed : MayHave rules token.client token.scope
   pub consented : IsOwn history token.family token.owner ⊎ (is_within token.scope (consented_scope history token.owner token.client) ≡ true)
-
--- Where a body tells of an active token, it tells the identifier of the token's client, its scope, which keeps to what it
--- may be, what its owner is called, and a life within the limit of its kind.
-abbrev pub TellsBounded : RegistryRecord → List Event → Body → Type 0
-TellsBounded rules history (Active id expires issued scope sub kind) =
-    (token : Grant) × KeepsScope rules history token × (scope ≡ scope_text rules.scopes token.scope)
-    × (client : ClientRecord) × (client_at token.client rules.clients ≡ Some client) × (id ≡ client.id)
-    × (sub ≡ sub_of token.owner rules.owners)
-    × (expires ≤ issued + token_life_limit rules kind)
-TellsBounded rules history body = Unit {0}
 
 -- The owner of the code or token that the digest names at the moment consented to this mask: after it was given, or without
 -- another consent to its client since.
@@ -37,10 +22,6 @@ pub record IsSince (history : List Event) (digest : List ℕ) (moment : ℕ) (to
   pub later : List Event
   pub whole : history ≡ before ++ event_at when (Consented token.owner token.client mask) ∷ later
   pub counts : (grant_at before digest moment ≡ Some token) ⊎ (last_consent later token.owner token.client ≡ None)
-
--- where a reply tells of an active token, it tells one that keeps to its bounds
-abbrev pub TellsWithin : RegistryRecord → List Event → Type 0
-TellsWithin rules history = (occasion : Occasion) → TellsBounded rules history (reply_on rules history occasion).body
 
 -- the scope of a live token of an owner is within each consent that counts for it
 abbrev pub KeepsToConsents : List Event → Type 0

@@ -1,11 +1,15 @@
 -- What hooks leave of tokens.
-use Rattle.std.specs.Prelude.{◌≡◌, ◌≤◌, ⊤, List, [], ◌∷◌, true, codes}
+use Rattle.std.specs.Prelude.{◌≡◌, ◌≤◌, ⊤, ℕ, List, [], ◌∷◌, true, codes}
+use Rattle.params.specs.Scope.{scope_text}
 use Rattle.clients.specs.RegistryRecord.{RegistryRecord}
 use Rattle.consent.specs.History.{Change, Event, is_within}
 use Rattle.consent.specs.History.Change.{Issued}
+use Rattle.consent.specs.declared.grant.TokenKind.TheVariants.{Access}
 use Rattle.hook_record.specs.declared.Ask.{Ask}
 use Rattle.hook_record.specs.declared.Narrowed.{Narrowed}
 use Rattle.hook_record.specs.declared.Narrowed.TheVariants.{Allowed}
+use Rattle.messages.specs.Reply.{Body}
+use Rattle.messages.specs.Reply.Body.{Tokens}
 use Rattle.answers.specs.Outcomes.{Outcome}
 use Rattle.headline.specs.Occasions.{GoesTo, Occasion, outcome_of, reply_on}
 
@@ -33,13 +37,28 @@ AreParts [] [] = ⊤
 AreParts (change ∷ changes) (other ∷ others) = IsPart change other × AreParts changes others
 AreParts changes others = ⊥
 
--- both outcomes are granted, and the one's tokens are parts of the other's
-pub record IsNarrowed (outcome other : Outcome) : Type 0 where
+-- the body tells of the same tokens as the other, of some of the scope and some of the life
+abbrev pub IsPartOfBody : RegistryRecord → Body → Body → Type 0
+IsPartOfBody rules (Tokens access life refresh scope) (Tokens a most r whole) =
+    (access ≡ a) × (refresh ≡ r) × (life ≤ most)
+    × (some all : ℕ) × (scope ≡ scope_text rules.scopes some) × (whole ≡ scope_text rules.scopes all) × (is_within some all ≡ true)
+IsPartOfBody rules body other = ⊥
+
+-- the body tells the life and the scope of the access token that is given
+abbrev pub TellsGiven : RegistryRecord → Body → List Change → Type 0
+TellsGiven rules (Tokens access life refresh scope) (Issued family client owner kind digest mask span ∷ changes) =
+    (kind ≡ Access) × (life ≡ span) × (scope ≡ scope_text rules.scopes mask)
+TellsGiven rules body changes = ⊥
+
+-- both outcomes are granted, and what the one tells of and its tokens are parts of the other's
+pub record IsNarrowed (rules : RegistryRecord) (outcome other : Outcome) : Type 0 where
   pub granted : other.reply.status ≡ 200
+  pub told : IsPartOfBody rules outcome.reply.body other.reply.body
+  pub given : TellsGiven rules outcome.reply.body outcome.changes
   pub parts : AreParts outcome.changes other.changes
 
 -- tokens that are answered would be answered without hooks too, and are parts of what they would be then
 abbrev pub WidensNothing : RegistryRecord → List Event → Occasion → Type 0
 WidensNothing rules history occasion =
     GoesTo occasion (codes "/token") → (reply_on rules history occasion).status ≡ 200 →
-    IsNarrowed (outcome_of rules history occasion) (outcome_of rules history (without_hooks occasion))
+    IsNarrowed rules (outcome_of rules history occasion) (outcome_of rules history (without_hooks occasion))

@@ -2,8 +2,15 @@
 pub mod Calls
 pub mod Headline
 pub mod Occasions
-pub mod Uses
+pub mod Bearers
 pub mod Grants
+pub mod Activity
+pub mod Codes
+pub mod Uses
+pub mod Authority
+pub mod Redirects
 pub mod Hooked
+pub mod Decided
+pub mod Drawn
 -- What only the contracts of this crate's own parts and their proofs cite.
 pub mod Making

@@ -1,5 +1,6 @@
 -- A request at a server, what it comes to, and what it leaves.
-use Rattle.std.specs.Prelude.{◌≡◌, ℕ, List, [], Bool}
+use Rattle.std.specs.Prelude.{◌≡◌, ◌≤◌, ℕ, List, [], Bool}
+use Rattle.hook_host.specs.declared.host.HookHost.{Ghosts as Hosting}
 use Rattle.clients.specs.RegistryRecord.{RegistryRecord}
 use Rattle.consent.specs.History.{Event, with_changes}
 use Rattle.messages.specs.Target.{path_of}
@@ -7,6 +8,7 @@ use Rattle.messages.specs.Reply.{Reply}
 use Rattle.answers.specs.Outcomes.{Outcome}
 use Rattle.answers.specs.Setting.{HostSays, Setting}
 use Rattle.endpoints.specs.Replies.{request_outcome}
+use Rattle.endpoints.specs.Server.{SeenServer, Outset, FitsServer}
 use Rattle.endpoints.specs.Steps.{Arrival}
 
 -- a request as it comes, what the host of hooks says then, and whether memory is refused for it
@@ -43,6 +45,12 @@ GoesTo occasion path = path_of occasion.arrival.asked.target ≡ path
 -- so it is on each occasion, under all rules and after every history
 abbrev pub OnEachOccasion : (RegistryRecord → List Event → Occasion → Type 0) → Type 0
 OnEachOccasion fact = (rules : RegistryRecord) (history : List Event) (occasion : Occasion) → fact rules history occasion
+
+-- so it is on each occasion at each server, under its rules, after the history that it fits, and not before its moment
+abbrev pub AtEachServer : {H : Type 0} → Hosting H → (RegistryRecord → List Event → Occasion → Type 0) → Type 0
+AtEachServer {H = H} hosting fact =
+    (server : SeenServer H) (outset : Outset H) (history : List Event) (m : ℕ) (occasion : Occasion) →
+    FitsServer hosting server outset history m → m ≤ occasion.arrival.moment → fact outset.rules history occasion
 
 -- with a 503 nothing happens
 abbrev pub IsIdleWhere503 : RegistryRecord → List Event → Occasion → Type 0

@@ -4,17 +4,27 @@ use Rattle.std.specs.List.{list_any}
 use Rattle.std.specs.Str.{bytes_eq}
 use Rattle.params.specs.Form.{value_sent}
 use Rattle.clients.specs.RegistryRecord.{RegistryRecord}
-use Rattle.consent.specs.History.{Event, Grant, grants, live_grant}
+use Rattle.consent.specs.History.{Event, Grant, grant_at, grants, is_code, is_spent, live_grant}
+use Rattle.messages.specs.Reply.Body.{Failure}
+use Rattle.messages.specs.declared.error.ErrorName.TheVariants.{InvalidGrant}
 use Rattle.answers.specs.Requesters.{Parameters, form_of}
 use Rattle.answers.specs.Texts.{digest_told}
-use Rattle.answers.specs.Tokens.{live_token}
+use Rattle.answers.specs.Tokens.{is_refresh, live_token}
+use Rattle.headline.specs.Bearers.{BearsWith}
 use Rattle.headline.specs.Occasions.{Occasion, GoesTo, history_after, reply_on}
 
--- the parameters present the text as a code or as a refresh token
+-- the parameters present the text as a code
+abbrev pub PresentsCode : Parameters → List ℕ → Type 0
+PresentsCode params text =
+    (value_sent (codes "grant_type") params ≡ Some (codes "authorization_code")) × (value_sent (codes "code") params ≡ Some text)
+
+-- or as a refresh token
+abbrev pub PresentsRefresh : Parameters → List ℕ → Type 0
+PresentsRefresh params text =
+    (value_sent (codes "grant_type") params ≡ Some (codes "refresh_token")) × (value_sent (codes "refresh_token") params ≡ Some text)
+
 abbrev pub Presents : Parameters → List ℕ → Type 0
-Presents params text =
-    ((value_sent (codes "grant_type") params ≡ Some (codes "authorization_code")) × (value_sent (codes "code") params ≡ Some text))
-    ⊎ ((value_sent (codes "grant_type") params ≡ Some (codes "refresh_token")) × (value_sent (codes "refresh_token") params ≡ Some text))
+Presents params text = PresentsCode params text ⊎ PresentsRefresh params text
 
 -- the code or refresh token of the text is exchanged for tokens
 pub record Exchanges (rules : RegistryRecord) (history : List Event) (occasion : Occasion) (text : List ℕ) : Type 0 where
@@ -40,6 +50,19 @@ pub record Revokes (rules : RegistryRecord) (history : List Event) (occasion : O
   pub live : live_token history occasion.arrival.moment text ≡ Some token
   pub done : (reply_on rules history occasion).status ≡ 200
 
+-- a used, unexpired code or refresh token is presented again by its client, as what it is, and answered invalid_grant
+pub record Replays (rules : RegistryRecord) (history : List Event) (occasion : Occasion) (grant : Grant) : Type 0 where
+  pub goes_to : GoesTo occasion (codes "/token")
+  pub params : Parameters
+  pub bears : BearsWith rules occasion.arrival.asked params grant.client
+  pub text : List ℕ
+  pub digest : List ℕ
+  pub presents : (PresentsCode params text × (is_code grant.kind ≡ true)) ⊎ (PresentsRefresh params text × (is_refresh grant.kind ≡ true))
+  pub told : digest_told text ≡ Some digest
+  pub unexpired : grant_at history digest occasion.arrival.moment ≡ Some grant
+  pub used : is_spent history digest occasion.arrival.moment ≡ true
+  pub denied : (reply_on rules history occasion).body ≡ Failure InvalidGrant
+
 -- after this history the text is exchanged only where a code or token of it was given since
 abbrev pub IsUsedUp : RegistryRecord → List Event → List ℕ → Type 0
 IsUsedUp rules history text =
@@ -59,3 +82,9 @@ abbrev pub RevokesForGood : RegistryRecord → List Event → Occasion → Type 
 RevokesForGood rules history occasion =
     (token : Grant) (later : List Event) → Revokes rules history occasion token →
     IsDead (history_after rules history occasion ++ later) token.family
+
+-- the family of each code and refresh token that is replayed is dead, whatever comes
+abbrev pub ReplaysKill : RegistryRecord → List Event → Occasion → Type 0
+ReplaysKill rules history occasion =
+    (grant : Grant) (later : List Event) → Replays rules history occasion grant →
+    IsDead (history_after rules history occasion ++ later) grant.family

@@ -1,16 +1,29 @@
 //! Laws of every history that a server comes to, of requests and of their replies.
 
-ghost use Rattle.headline.specs.Grants.{AreOfClients, AreOfTheirCodes, InEachHistory, KeepsToConsents, TellsWithin};
+ghost use Rattle.headline.specs.Activity.{IsActiveWhereLive, TellsWithin};
+ghost use Rattle.headline.specs.Authority.{EndsWithAuthority, IsAllAuthorized, IsIsolated};
+ghost use Rattle.headline.specs.Codes.{BindsCodes};
+ghost use Rattle.headline.specs.Decided.{IsAllDecided};
+ghost use Rattle.headline.specs.Drawn.{AreDrawn};
+ghost use Rattle.headline.specs.Grants.{AreOfClients, AreOfTheirCodes, InEachHistory, KeepsToConsents};
 ghost use Rattle.headline.specs.Hooked.{WidensNothing};
-ghost use Rattle.headline.specs.Occasions.{IsIdleWhere503, OnEachOccasion};
-ghost use Rattle.headline.specs.Uses.{RevokesForGood, UsesUp};
+ghost use Rattle.headline.specs.Occasions.{AtEachServer, IsIdleWhere503, OnEachOccasion};
+ghost use Rattle.headline.specs.Redirects.{IsNoOpenRedirector};
+ghost use Rattle.headline.specs.Uses.{ReplaysKill, RevokesForGood, UsesUp};
 
 use hook_host::HookHost;
 
-/// Where a reply tells of an active token, its scope is within its client's allowance and its owner's present consent, and
-/// its life within the limit of its kind.
+/// Where a reply tells of an active token, it is the live one that a client presented; the reply's client, times, scope and
+/// owner are that token's (RFC 7662, section 2.2), its scope is within its client's allowance and its owner's present consent,
+/// and its life within the limit of its kind.
 pub fn active_tokens_keep_their_bounds<H: HookHost>()
-    ensures { InEachHistory H.HookHost TellsWithin }
+    ensures { AtEachServer H.HookHost TellsWithin }
+{}
+
+/// Active means live: no other token is told of as active, and each live one is that a client presents at `POST /introspect`,
+/// unless memory is refused.
+pub fn active_means_live<H: HookHost>()
+    ensures { AtEachServer H.HookHost IsActiveWhereLive }
 {}
 
 /// No live token is beyond a consent that its owner gave to its client since, or gave last.
@@ -48,4 +61,56 @@ pub fn a_revoked_family_stays_dead()
 /// and have some of the scope and some of the life that they would have then.
 pub fn no_hook_widens()
     ensures { OnEachOccasion WidensNothing }
+{}
+
+/// A code is bound: where it is exchanged, the request has the credentials of the client that it was given to, the redirect
+/// URI that it was given for, and the verifier of the challenge that it was given under (RFC 6749, section 4.1.3; RFC 7636,
+/// section 4.6).
+pub fn codes_are_bound()
+    ensures { OnEachOccasion BindsCodes }
+{}
+
+/// Nothing happens without authority: hooks are set and removed with the operator's key, consents and codes are given with the
+/// key of their owner, and tokens are given, codes and tokens used and families ended with the credentials of the family's
+/// client.
+pub fn nothing_happens_without_authority<H: HookHost>()
+    ensures { AtEachServer H.HookHost IsAllAuthorized }
+{}
+
+/// No family ends without authority: it ends with the credentials of its client, or with the key of its code's owner, whose
+/// consent falls below the code's scope. Without any request a code or token is only ever lost to the clock.
+pub fn no_family_ends_without_authority<H: HookHost>()
+    ensures { AtEachServer H.HookHost EndsWithAuthority }
+{}
+
+/// There is no open redirector: a user agent is sent only to a redirect URI that the registry has for the client that the
+/// request names, with the request's own state or none, and with an error or with the code that is given for just this client
+/// and this URI (RFC 6749, sections 3.1.2.4 and 4.1.2; RFC 9700, section 4.11).
+pub fn no_request_opens_a_redirector()
+    ensures { OnEachOccasion IsNoOpenRedirector }
+{}
+
+/// A replay kills: where a used code or refresh token is presented again at `POST /token` by its client before it expires, and
+/// answered `invalid_grant`, no code and no token of its family is live from then on, whatever comes (RFC 6749, sections 4.1.2
+/// and 10.4; RFC 9700, section 4.14.2).
+pub fn a_replay_kills_its_family()
+    ensures { OnEachOccasion ReplaysKill }
+{}
+
+/// Clients are isolated: what comes of a request with one client's credentials adds nothing to another client's families, uses
+/// none of its codes and tokens, and ends none of its families.
+pub fn clients_are_isolated<H: HookHost>()
+    ensures { AtEachServer H.HookHost IsIsolated }
+{}
+
+/// No two codes or tokens come from one draw: in each history that a schedule leads to, each has the digest of a draw of its
+/// own, which was handed in for a request that was answered, or was there when the server went on from what was kept.
+pub fn tokens_come_from_draws_of_their_own<H: HookHost>()
+    ensures { AreDrawn H.HookHost }
+{}
+
+/// No grant goes around the hooks: each token that is given is what a chain's hooks left, each asked in its turn, of an ask
+/// that says its client and its owner, and none of them denied it.
+pub fn no_grant_goes_around_the_hooks()
+    ensures { OnEachOccasion IsAllDecided }
 {}

@@ -1,0 +1,78 @@
+-- An exchanged code is bound to what it was given with.
+use Rattle.std.proofs.Common.{◌≡◌, ◌+◌, List, Some, refl, sym, ap, ◌∙◌, subst}
+use Rattle.std.specs.Prelude.{codes, not, bytes_eq}
+use Rattle.std.proofs.lemmas.Bool.{and_parts, ltb-true, false≢true}
+use Rattle.std.proofs.lemmas.Slice.Eq.{bytes_eq-Decides}
+use Rattle.pkce.specs.Proof.{challenge_of, is_verifier}
+use Rattle.params.specs.Form.{value_sent}
+use Rattle.clients.specs.RegistryRecord.{RegistryRecord}
+use Rattle.consent.specs.History.{Event, grants, is_named, is_unexpired}
+use Rattle.consent.specs.ListLaws.{find-passes}
+use Rattle.answers.specs.FoundLaws.{under_digest}
+use Rattle.answers.specs.Outcomes.{Outcome}
+use Rattle.answers.specs.Requesters.{Parameters, form_of}
+use Rattle.token_endpoint.specs.TokenPath.{issue_token}
+use Rattle.headline.specs.Bearers.{BearsWith}
+use Rattle.headline.specs.Codes.{IsBound, BindsCodes}
+use Rattle.headline.specs.Occasions.{Occasion, outcome_of, setting_on}
+use Rattle.headline.proofs.Bearing.{find_contains}
+use Rattle.headline.proofs.Exchanged.{at_path}
+use Rattle.headline.proofs.Walking.{granted_at, no_error_200, other, same_some}
+use Rattle.headline.proofs.Ways.{Sender, Proven, TokenWays, at_token}
+
+module _ (rules : RegistryRecord) (history : List Event) (occasion : Occasion) (params : Parameters) where
+  bound : (x : Proven (setting_on rules history occasion) occasion.arrival.asked) → x.code.sender.params ≡ params → IsBound rules history occasion params
+  bound x same =
+      let g = x.code.grant in
+      let digest = under_digest history x.code.digest occasion.arrival.moment g x.code.named in
+      let named = and_parts (bytes_eq x.code.digest g.digest) (is_unexpired occasion.arrival.moment g) (find-passes (is_named x.code.digest occasion.arrival.moment) (grants history) g x.code.named) in
+      let proof = and_parts (is_verifier x.verifier) (bytes_eq (challenge_of x.verifier) g.challenge) x.proven in
+      subst (λ p. IsBound rules history occasion p) same (record {
+        text = x.code.text;
+        sent = x.code.sent;
+        code = g;
+        told = x.code.told ∙ ap (λ d. Some d) digest;
+        is_code = x.code.kind_is;
+        given = find_contains (is_named x.code.digest occasion.arrival.moment) (grants history) g x.code.named;
+        unexpired = ltb-true occasion.arrival.moment (g.moment + g.life) named.1;
+        bears = subst (λ n. BearsWith rules occasion.arrival.asked x.code.sender.params n) (sym x.code.own) (record { form = x.code.sender.form; authentic = x.code.sender.authenticates });
+        led = x.redirected;
+        verifier = x.verifier;
+        verified = x.verified;
+        proven = sym ((bytes_eq-Decides (challenge_of x.verifier) g.challenge).0 proof.1);
+      })
+
+  abbrev P : Outcome → Type 0
+  P o = o.reply.status ≡ 200 → IsBound rules history occasion params
+
+  same_params : form_of occasion.arrival.asked ≡ Some params → (sender : Sender rules occasion.arrival.asked) → sender.params ≡ params
+  same_params form sender = same_some sender.params params (form_of occasion.arrival.asked) sender.form form
+
+  ways : form_of occasion.arrival.asked ≡ Some params → value_sent (codes "grant_type") params ≡ Some (codes "authorization_code") →
+      TokenWays P (setting_on rules history occasion) occasion.arrival.asked
+  ways form typed = record {
+    refused = λ error e. absurd (no_error_200 error e);
+    wanting = λ e. absurd (other 503 200 refl e);
+    code_again = λ x _ e. absurd (other 400 200 refl e);
+    refresh_again = λ x _ e. absurd (other 400 200 refl e);
+    in_vain = λ x error e. absurd (other 400 200 refl e);
+    code_once = λ x left _ _ e. bound x (same_params form x.code.sender);
+    code_twice = λ x left _ _ e. bound x (same_params form x.code.sender);
+    refreshed = λ x left _ _ e. absurd (refreshes (same_some _ _ _ (ap (value_sent (codes "grant_type")) (sym (same_params form x.token.sender)) ∙ x.token.typed) typed));
+    own = λ sender own scope left _ _ e. absurd (owns (same_some _ _ _ (ap (value_sent (codes "grant_type")) (sym (same_params form sender)) ∙ own) typed));
+  }
+    where
+      refreshes : codes "refresh_token" ≡ codes "authorization_code" → ⊥
+      refreshes e = false≢true (ap (λ t. bytes_eq (codes "refresh_token") t) (sym e))
+
+      owns : codes "client_credentials" ≡ codes "authorization_code" → ⊥
+      owns e = false≢true (ap (λ t. bytes_eq (codes "client_credentials") t) (sym e))
+
+pub binds_codes : (rules : RegistryRecord) (history : List Event) (occasion : Occasion) → BindsCodes rules history occasion
+binds_codes rules history occasion params it =
+    let o = issue_token (setting_on rules history occasion) occasion.arrival.asked in
+    let there : outcome_of rules history occasion ≡ at_path rules history occasion (codes "/token") = ap (at_path rules history occasion) it.goes_to in
+    let same : outcome_of rules history occasion ≡ o =
+    there ∙ granted_at (not (bytes_eq occasion.arrival.asked.method (codes "POST"))) occasion.refused o (ap (λ (x : Outcome). x.reply.status) (sym there) ∙ it.granted) in
+    at_token (P rules history occasion params) (setting_on rules history occasion) occasion.arrival.asked (ways rules history occasion params it.form it.by_code)
+    (ap (λ (x : Outcome). x.reply.status) (sym same) ∙ it.granted)

@@ -1,0 +1,156 @@
+-- The digests of codes and tokens are those of draws.
+use Rattle.std.proofs.Common.{◌≡◌, ◌⊎◌, inl, inr, ℕ, List, [], ◌∷◌, ◌++◌, length, map, take, append_assoc, refl, sym, ap, ◌∙◌, subst}
+use Rattle.std.specs.List.{flat_map}
+use Rattle.std.proofs.lemmas.List.{map-append}
+use Rattle.clients.specs.RegistryRecord.{RegistryRecord}
+use Rattle.consent.specs.History.{Event, Change, event_at, grants, with_changes}
+use Rattle.consent.specs.History.Change.{Consented, CodeGiven, Issued, Spent, FamilyEnded, HookSet, HookGone}
+use Rattle.consent.specs.GrowthLaws.{grants-append}
+use Rattle.hook_host.specs.declared.host.HookHost.{Ghosts as Hosting}
+use Rattle.messages.specs.declared.request.Draws.{Draws}
+use Rattle.answers.specs.Outcomes.{Outcome}
+use Rattle.endpoints.specs.Hosts.{says_with}
+use Rattle.endpoints.specs.Server.{Outset}
+use Rattle.http_edge.specs.Answers.{AnsweredRequest, AreAnswered, IsOutcomeOfRequest, changes_made, draws_in, marks_in}
+use Rattle.http_edge.specs.Schedule.{AnsweredPiece, Happening, Opened, Came, HasEnded, Taken, Forgotten, Kept, Resumed, Happens, PieceComes, PiecePasses, Run, World, first_world}
+use Rattle.headline.specs.Drawn.{AreAmong, AreDrawn, digests_by, digests_given, digests_of}
+use Rattle.headline.specs.Occasions.{Occasion, outcome_of}
+use Rattle.headline.proofs.Ways.{IsOfHooks, at_each}
+
+-- AMONG OTHERS
+
+among_more : (xs ys zs : List (List ℕ)) → AreAmong xs ys → AreAmong xs (ys ++ zs)
+among_more [] ys zs a = tt
+among_more (x ∷ xs) [] zs a = absurd a
+among_more (x ∷ xs) (y ∷ ys) zs (inl here) = inl (here.0, among_more xs ys zs here.1)
+among_more (x ∷ xs) (y ∷ ys) zs (inr there) = inr (among_more (x ∷ xs) ys zs there)
+
+among_later : (xs ys zs : List (List ℕ)) → AreAmong xs zs → AreAmong xs (ys ++ zs)
+among_later [] ys zs a = tt
+among_later (x ∷ xs) [] zs a = a
+among_later (x ∷ xs) (y ∷ ys) zs a = inr (among_later (x ∷ xs) ys zs a)
+
+among_both : (xs ys zs us : List (List ℕ)) → AreAmong xs zs → AreAmong ys us → AreAmong (xs ++ ys) (zs ++ us)
+among_both [] ys zs us a b = among_later ys zs us b
+among_both (x ∷ xs) ys [] us a b = absurd a
+among_both (x ∷ xs) ys (z ∷ zs) us (inl here) b = inl (here.0, among_both xs ys zs us here.1 b)
+among_both (x ∷ xs) ys (z ∷ zs) us (inr there) b = inr (among_both (x ∷ xs) ys zs us there b)
+
+among_self : (xs : List (List ℕ)) → AreAmong xs xs
+among_self [] = tt
+among_self (x ∷ xs) = inl (refl, among_self xs)
+
+-- ONE REQUEST
+
+given_append : (history more : List Event) → digests_given (history ++ more) ≡ digests_given history ++ digests_given more
+given_append history more = ap (map (λ g. g.digest)) (grants-append history more) ∙ map-append (λ g. g.digest) (grants history) (grants more)
+
+module _ (rules : RegistryRecord) (history : List Event) (occasion : Occasion) (m : ℕ) where
+  abbrev P : Outcome → Type 0
+  P o = AreAmong (digests_given (map (event_at m) o.changes)) (digests_of occasion.arrival.draws)
+
+  of_hooks : (change : Change) → IsOfHooks change → AreAmong (digests_given (map (event_at m) (change ∷ []))) (digests_of occasion.arrival.draws)
+  of_hooks (HookSet name version code) of = tt
+  of_hooks (HookGone name) of = tt
+  of_hooks (Consented owner client mask) of = absurd of
+  of_hooks (CodeGiven family client owner scope redirect challenge digest) of = absurd of
+  of_hooks (Issued family client owner kind digest scope life) of = absurd of
+  of_hooks (Spent digest) of = absurd of
+  of_hooks (FamilyEnded family) of = absurd of
+
+  drawn_once : P (outcome_of rules history occasion)
+  drawn_once = at_each P rules history occasion (record {
+    quiet = λ status body _ _. tt;
+    token = record {
+      refused = λ error. tt;
+      wanting = tt;
+      code_again = λ x _. tt;
+      refresh_again = λ x _. tt;
+      in_vain = λ x error. tt;
+      code_once = λ x left _ _. inl (refl, tt);
+      code_twice = λ x left _ _. inl (refl, inl (refl, tt));
+      refreshed = λ x left _ _. inl (refl, inl (refl, tt));
+      own = λ sender _ scope left _ _. inl (refl, tt);
+    };
+    turned = λ x error. tt;
+    coded = λ x owner scope challenge key. inl (refl, tt);
+    consented = λ owner client mask key. tt;
+    revokes = λ x own. tt;
+    tells = λ x. tt;
+    hooks = λ change of operator. of_hooks change of;
+  })
+
+-- SCHEDULES
+
+module _ {H : Type 0} (hosting : Hosting H) (outset : Outset H) where
+  of_request : (m : ℕ) (history : List Event) (request : AnsweredRequest) → IsOutcomeOfRequest hosting outset m history request →
+      AreAmong (digests_given (map (event_at m) request.outcome.changes)) (digests_of request.draws)
+  of_request m history request is =
+      let occasion : Occasion = record {
+        arrival = record { asked = request.asked; moment = m; draws = request.draws };
+        host = says_with hosting is.host request.mark.fault;
+        refused = request.mark.refused;
+      } in
+      subst (λ (o : Outcome). AreAmong (digests_given (map (event_at m) o.changes)) (digests_of request.draws)) (sym is.outcome_is)
+      (drawn_once outset.rules history occasion m)
+
+  of_requests : (m : ℕ) (history : List Event) (requests : List AnsweredRequest) → AreAnswered hosting outset m history requests →
+      AreAmong (digests_given (map (event_at m) (changes_made requests))) (flat_map digests_of (draws_in requests))
+  of_requests m history [] answered = tt
+  of_requests m history (r ∷ requests) answered =
+      subst (λ ds. AreAmong ds (digests_of r.draws ++ flat_map digests_of (draws_in requests)))
+      (sym (ap digests_given (map-append (event_at m) r.outcome.changes (changes_made requests))
+      ∙ given_append (map (event_at m) r.outcome.changes) (map (event_at m) (changes_made requests))))
+      (among_both (digests_given (map (event_at m) r.outcome.changes)) (digests_given (map (event_at m) (changes_made requests)))
+      (digests_of r.draws) (flat_map digests_of (draws_in requests))
+      (of_request m history r answered.0) (of_requests m (with_changes history m r.outcome.changes) requests answered.1))
+
+  -- the draws of the requests come first
+  their_draws : (requests : List AnsweredRequest) (left : List Draws) → take (length (marks_in requests)) (draws_in requests ++ left) ≡ draws_in requests
+  their_draws [] left = refl
+  their_draws (r ∷ requests) left = ap (λ ds. r.draws ∷ ds) (their_draws requests left)
+
+  of_piece : (old new : World) (came : AnsweredPiece) → PieceComes hosting outset old came new → (before : List (List ℕ)) →
+      AreAmong (digests_given old.history) before → AreAmong (digests_given new.history) (before ++ digests_by (Came came))
+  of_piece old new came comes before a =
+      let own : take (length came.marks) came.draws ≡ draws_in comes.requests =
+      ap (λ marks. take (length marks) came.draws) comes.marks
+      ∙ ap (take (length (marks_in comes.requests))) comes.draws ∙ their_draws comes.requests comes.left in
+      let more = map (event_at new.greatest) (changes_made comes.requests) in
+      subst (λ ds. AreAmong ds (before ++ digests_by (Came came))) (sym (ap digests_given comes.history ∙ given_append old.history more))
+      (among_both (digests_given old.history) (digests_given more) before (digests_by (Came came)) a
+      (subst (λ ds. AreAmong (digests_given more) (flat_map digests_of ds)) (sym own)
+      (of_requests new.greatest old.history comes.requests comes.answered)))
+
+  -- what happens without requests
+  still : (old new : World) (before more : List (List ℕ)) → new.history ≡ old.history → AreAmong (digests_given old.history) before →
+      AreAmong (digests_given new.history) (before ++ more)
+  still old new before more same a =
+      among_more (digests_given new.history) before more (subst (λ h. AreAmong (digests_given h) before) (sym same) a)
+
+  one_more : (old new : World) (e : Happening) → Happens hosting outset old e new → (before : List (List ℕ)) →
+      AreAmong (digests_given old.history) before → AreAmong (digests_given new.history) (before ++ digests_by e)
+  one_more old new (Opened c) happens before a = still old new before [] happens.still.history a
+  one_more old new (Came came) happens before a = by_case happens.1
+    where
+      by_case : (PieceComes hosting outset old came new ⊎ PiecePasses old came new) → AreAmong (digests_given new.history) (before ++ digests_by (Came came))
+      by_case (inl comes) = of_piece old new came comes before a
+      by_case (inr passes) = still old new before (digests_by (Came came)) (ap (λ (w : World). w.history) passes.same) a
+  one_more old new (HasEnded c) happens before a = still old new before [] happens.still.history a
+  one_more old new (Taken c n) (inl takes) before a = still old new before [] takes.still.history a
+  one_more old new (Taken c n) (inr nothing) before a = still old new before [] (ap (λ (w : World). w.history) nothing.same) a
+  one_more old new (Forgotten c) happens before a = still old new before [] happens.still.history a
+  one_more old new Kept happens before a = still old new before [] (ap (λ (w : World). w.history) happens.kept) a
+  one_more old new (Resumed history greatest) happens before a =
+      among_later (digests_given new.history) before (digests_given history)
+      (subst (λ h. AreAmong (digests_given h) (digests_given history)) (sym (ap (λ (w : World). w.history) happens.resumed)) (among_self (digests_given history)))
+
+  drawn_from : (old new : World) (schedule : List Happening) → Run hosting outset old schedule new → (before : List (List ℕ)) →
+      AreAmong (digests_given old.history) before → AreAmong (digests_given new.history) (before ++ flat_map digests_by schedule)
+  drawn_from old new [] run before a = still old new before [] (ap (λ (w : World). w.history) run) a
+  drawn_from old new (e ∷ later) run before a =
+      subst (λ ds. AreAmong (digests_given new.history) ds) (append_assoc before (digests_by e) (flat_map digests_by later))
+      (drawn_from run.0 new later run.2 (before ++ digests_by e) (one_more old run.0 e run.1 before a))
+
+pub are_drawn : {H : Type 0} (hosting : Hosting H) → AreDrawn hosting
+are_drawn hosting outset schedule last run = drawn_from hosting outset first_world last schedule run [] tt

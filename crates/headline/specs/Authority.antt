@@ -1,0 +1,51 @@
+-- Whose credentials and keys bring about what happens.
+use Rattle.std.specs.Prelude.{◌≡◌, ◌≢◌, ◌⊎◌, ℕ, List, true, false, Some, All, Contains, length}
+use Rattle.clients.specs.RegistryRecord.{RegistryRecord}
+use Rattle.consent.specs.History.{Event, Change, Grant, Terms, code_terms, grant_at, grants, has_ended}
+use Rattle.consent.specs.History.Change.{Consented, CodeGiven, Issued, Spent, FamilyEnded, HookSet, HookGone}
+use Rattle.headline.specs.Bearers.{BearsCredentials, BearsOwnerKey, BearsOperatorKey}
+use Rattle.headline.specs.Occasions.{Occasion, history_after, outcome_of}
+
+-- each code and token of the family is the client's
+abbrev pub IsFamilyOf : List Event → ℕ → ℕ → Type 0
+IsFamilyOf history family client = (g : Grant) → Contains (grants history) g → g.family ≡ family → g.client ≡ client
+
+-- the request bears what the change wants: the operator's key, the owner's key, or the credentials of the family's client
+abbrev pub IsAuthorized : RegistryRecord → List Event → Occasion → Change → Type 0
+IsAuthorized rules history occasion (HookSet name version code) = BearsOperatorKey rules occasion.arrival.asked
+IsAuthorized rules history occasion (HookGone name) = BearsOperatorKey rules occasion.arrival.asked
+IsAuthorized rules history occasion (Consented owner client mask) = BearsOwnerKey rules occasion.arrival.asked owner
+IsAuthorized rules history occasion (CodeGiven family client owner scope redirect challenge digest) =
+    BearsOwnerKey rules occasion.arrival.asked owner × (family ≡ length history)
+IsAuthorized rules history occasion (Issued family client owner kind digest scope life) =
+    BearsCredentials rules occasion.arrival.asked client × IsFamilyOf history family client
+IsAuthorized rules history occasion (Spent digest) =
+    (g : Grant) × (grant_at history digest occasion.arrival.moment ≡ Some g) × BearsCredentials rules occasion.arrival.asked g.client
+IsAuthorized rules history occasion (FamilyEnded family) =
+    (g : Grant) × Contains (grants history) g × (g.family ≡ family) × BearsCredentials rules occasion.arrival.asked g.client
+
+-- so it is of each change that happens
+abbrev pub IsAllAuthorized : RegistryRecord → List Event → Occasion → Type 0
+IsAllAuthorized rules history occasion = All (IsAuthorized rules history occasion) (outcome_of rules history occasion).changes
+
+-- Where a family ends that had not ended, the request bears the credentials of a client of one of its codes and tokens, or the
+-- key of the owner of its code.
+abbrev pub EndsWithAuthority : RegistryRecord → List Event → Occasion → Type 0
+EndsWithAuthority rules history occasion =
+    (family : ℕ) → has_ended history family ≡ false → has_ended (history_after rules history occasion) family ≡ true →
+    IsAuthorized rules history occasion (FamilyEnded family)
+    ⊎ ((terms : Terms) × (code_terms history family ≡ Some terms) × BearsOwnerKey rules occasion.arrival.asked terms.owner)
+
+-- the change adds nothing to the family of the code or token, which it neither uses nor ends
+abbrev pub LeavesAlone : List Event → ℕ → Grant → Change → Type 0
+LeavesAlone history moment g (CodeGiven family client owner scope redirect challenge digest) = family ≢ g.family
+LeavesAlone history moment g (Issued family client owner kind digest scope life) = family ≢ g.family
+LeavesAlone history moment g (Spent digest) = grant_at history digest moment ≢ Some g
+LeavesAlone history moment g (FamilyEnded family) = family ≢ g.family
+LeavesAlone history moment g change = Unit {0}
+
+-- what comes of a request with a client's credentials leaves each other client's codes and tokens alone
+abbrev pub IsIsolated : RegistryRecord → List Event → Occasion → Type 0
+IsIsolated rules history occasion =
+    (client : ℕ) (g : Grant) → BearsCredentials rules occasion.arrival.asked client → Contains (grants history) g → g.client ≢ client →
+    All (LeavesAlone history occasion.arrival.moment g) (outcome_of rules history occasion).changes

@@ -1,0 +1,24 @@
+-- Whose credentials and keys a request bears.
+use Rattle.std.specs.Prelude.{◌≡◌, ℕ, List, Some, Ok}
+use Rattle.sha2.specs.Sha256.{sha256}
+use Rattle.clients.specs.RegistryRecord.{RegistryRecord}
+use Rattle.clients.specs.Owners.{owner_with}
+use Rattle.authentication.specs.Authentication.{authenticated}
+use Rattle.messages.specs.Asked.{Asked}
+use Rattle.answers.specs.Requesters.{Parameters, form_of}
+
+-- the credentials of the client of this number (RFC 6749, section 2.3.1), beside these parameters of its form
+pub record BearsWith (rules : RegistryRecord) (asked : Asked) (params : Parameters) (client : ℕ) : Type 0 where
+  pub form : form_of asked ≡ Some params
+  pub authentic : authenticated rules.clients asked.authorization params ≡ Ok client
+
+abbrev pub BearsCredentials : RegistryRecord → Asked → ℕ → Type 0
+BearsCredentials rules asked client = (params : Parameters) × BearsWith rules asked params client
+
+-- the key of the owner of this number
+abbrev pub BearsOwnerKey : RegistryRecord → Asked → ℕ → Type 0
+BearsOwnerKey rules asked owner = (key : List ℕ) × (asked.owner_key ≡ Some key) × (owner_with key rules.owners ≡ Some owner)
+
+-- the operator's key
+abbrev pub BearsOperatorKey : RegistryRecord → Asked → Type 0
+BearsOperatorKey rules asked = (key : List ℕ) × (asked.operator_key ≡ Some key) × (sha256 key ≡ rules.operator)

@@ -1,0 +1,40 @@
+-- What hooks decided before tokens are given.
+use Rattle.std.specs.Prelude.{◌≡◌, ◌⊎◌, ℕ, List, [], ◌∷◌, All, Contains}
+use Rattle.clients.specs.RegistryRecord.{RegistryRecord}
+use Rattle.consent.specs.History.{Event, Change, Grant, grants}
+use Rattle.consent.specs.History.Change.{Issued}
+use Rattle.consent.specs.declared.grant.Kind.TheVariants.{Token}
+use Rattle.consent.specs.declared.grant.TokenKind.{TokenKind}
+use Rattle.consent.specs.declared.grant.TokenKind.TheVariants.{Access, Refresh}
+use Rattle.hook_record.specs.declared.Ask.{Ask}
+use Rattle.hook_record.specs.declared.Narrowed.TheVariants.{Allowed}
+use Rattle.hook_record.specs.Narrowing.{met}
+use Rattle.verifier.specs.Verdicts.{Checked}
+use Rattle.hook_chain.specs.Exits.{narrowed_by, narrowed_by_hook}
+use Rattle.headline.specs.Occasions.{Occasion, outcome_of}
+
+-- each hook, in its turn, was asked for what the one before left, and none denied it: this scope and this life are left
+abbrev pub AllowInTurn : List Checked → Ask → ℕ → ℕ → Type 0
+AllowInTurn [] ask scope life = (scope ≡ ask.scope) × (life ≡ ask.life)
+AllowInTurn (hook ∷ hooks) ask scope life =
+    (some most : ℕ) × (narrowed_by_hook ask hook ≡ Allowed some most) × AllowInTurn hooks (record ask { scope = some; life = most }) scope life
+
+-- an access token has what is left; a refresh token has that scope, or the scope of one of its family, which it replaces
+abbrev pub IsOfLeft : List Event → ℕ → TokenKind → ℕ → ℕ → ℕ → ℕ → Type 0
+IsOfLeft history family Access scope life left most = (scope ≡ left) × (life ≡ most)
+IsOfLeft history family Refresh scope life left most =
+    (scope ≡ left) ⊎ ((g : Grant) × Contains (grants history) g × (g.kind ≡ Token Refresh) × (g.family ≡ family) × (g.scope ≡ scope))
+
+-- the token is given by what the hooks left of an ask that says its client and its owner
+abbrev pub IsDecided : List Checked → List Event → ℕ → Change → Type 0
+IsDecided hooks history moment (Issued family client owner kind digest scope life) =
+    (ask : Ask) × (ask.now ≡ moment) × (ask.client ≡ client) × (ask.owner ≡ owner)
+    × (some most : ℕ) × AllowInTurn hooks ask some most
+    × (left span : ℕ) × (met ask some most ≡ Allowed left span) × IsOfLeft history family kind scope life left span
+IsDecided hooks history moment change = Unit {0}
+
+-- so it is of each token that is given where the host is these hooks
+abbrev pub IsAllDecided : RegistryRecord → List Event → Occasion → Type 0
+IsAllDecided rules history occasion =
+    (hooks : List Checked) → ((ask : Ask) → occasion.host.answer ask ≡ narrowed_by hooks ask) →
+    All (IsDecided hooks history occasion.arrival.moment) (outcome_of rules history occasion).changes
