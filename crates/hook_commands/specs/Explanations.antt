@@ -27,7 +27,7 @@ use Rattle.hook_commands.specs.declared.answer.HookAnswer.TheVariants as answers
 use Rattle.hook_commands.specs.BytesText.{TellsBytes}
 use Rattle.hook_commands.specs.KnownText.{reg_text}
 use Rattle.hook_commands.specs.Reading.{left_read, right_read}
-use Rattle.hook_commands.specs.Ways.{TellsWay}
+use Rattle.hook_commands.specs.Ways.{Roads, roads_of, TellsWay}
 
 -- ---- what the manual says of a fault
 
@@ -125,6 +125,10 @@ acceptance_text count slots = accepted_text count (slots_text slots)
 abbrev pub IsLookTold : VerifyFault → List ℕ → Type 0
 IsLookTold fault text = (help : List ℕ) × IsHelp fault help × (text ≡ look_text fault help)
 
+-- what a way to a refusal goes by
+abbrev pub roads_to : List Insn → Refusal → Roads
+roads_to program r = roads_of program r.onward.items (unset_read r.known.value r.insn)
+
 -- a text tells a refusal by the walk: the bytes that its instruction reads, a way that leads there, on which the register
 -- stays unwritten that it finds unset, and the mending
 pub record IsRefusalTold (layout : Layout) (program : List Insn) (r : Refusal) (text : List ℕ) : Type 0 where
@@ -132,7 +136,7 @@ pub record IsRefusalTold (layout : Layout) (program : List Insn) (r : Refusal) (
   pub way : List ℕ
   pub help : List ℕ
   pub reads : TellsBytes layout r.known.value r.insn bytes
-  pub leads : TellsWay program (unset_read r.known.value r.insn) r.slot way
+  pub leads : TellsWay (roads_to program r) r.slot way
   pub mends : IsHelp r.fault help
   pub told : text ≡ refusal_text r bytes way help
 

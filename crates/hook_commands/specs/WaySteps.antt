@@ -7,7 +7,8 @@ use Rattle.insn.specs.Program.{slot_count}
 use Rattle.hook_commands.specs.declared.way.Hop.{Hop}
 use Rattle.hook_commands.specs.declared.way.Step.{Step}
 use Rattle.hook_commands.specs.declared.way.Step.TheVariants.{Past, Jumping}
-use Rattle.hook_commands.specs.Ways.{goes_past, jump_target, slot_behind, GoesBehind, IsJump, Leads}
+use Rattle.verifier.specs.declared.walk.Onward.{Onward}
+use Rattle.hook_commands.specs.Ways.{goes_past, jump_target, slot_behind, GoesBehind, IsJump, Leads, Roads}
 
 -- a way leads to the goal from a slot of which the table has the step, and from the goal itself
 abbrev pub is_led : List (Option Step) → ℕ → ℕ → Bool
@@ -19,39 +20,40 @@ where_led steps goal None = None
 where_led steps goal (Some to) = if is_led steps goal to then Some to else None
 
 -- where one goes on behind an instruction at a slot
-abbrev pub target_past : Option RegNo → ℕ → Insn → Option ℕ
-target_past unwritten slot i = if goes_past unwritten i then Some (slot_behind slot i) else None
+abbrev pub target_past : Option RegNo → Onward → ℕ → Insn → Option ℕ
+target_past unwritten onward slot i = if goes_past unwritten onward i then Some (slot_behind slot i) else None
 
--- the step from a slot, of what begins there: past it, if a way leads on there, or else by its jump
-abbrev pub step_of : List (Option Step) → Option RegNo → ℕ → ℕ → Option Insn → Option Step
-step_of steps unwritten goal slot None = None
-step_of steps unwritten goal slot (Some i) =
-    option_or
-    (option_map Past (where_led steps goal (target_past unwritten slot i)))
-    (option_map Jumping (where_led steps goal (jump_target slot i)))
+-- where one goes on from a slot, of what begins there: behind it, and by its jump
+abbrev pub targets_of : Option RegNo → Onward → ℕ → Option Insn → Option ℕ × Option ℕ
+targets_of unwritten onward slot None = (None, None)
+targets_of unwritten onward slot (Some i) = (target_past unwritten onward slot i, jump_target onward slot i)
+
+-- the step to one of two slots: past what begins here, if a way leads on there, or else by its jump
+abbrev pub step_of : List (Option Step) → ℕ → Option ℕ × Option ℕ → Option Step
+step_of steps goal to = option_or (option_map Past (where_led steps goal to.0)) (option_map Jumping (where_led steps goal to.1))
 
 abbrev pub step_slot : Step → ℕ
 step_slot (Past to) = to
 step_slot (Jumping to) = to
 
 -- one takes a step from a slot
-abbrev pub Moves : List Insn → Option RegNo → ℕ → Step → Type 0
-Moves program unwritten from (Past to) = GoesBehind program unwritten from to
-Moves program unwritten from (Jumping to) = IsJump program from to
+abbrev pub Moves : Roads → ℕ → Step → Type 0
+Moves roads from (Past to) = GoesBehind roads from to
+Moves roads from (Jumping to) = IsJump roads from to
 
 -- a step goes further, and a way leads on from there
-pub record WayLeadsOn (program : List Insn) (unwritten : Option RegNo) (goal slot : ℕ) (step : Step) : Type 0 where
-  pub moves : Moves program unwritten slot step
+pub record WayLeadsOn (roads : Roads) (goal slot : ℕ) (step : Step) : Type 0 where
+  pub moves : Moves roads slot step
   pub rest : List Hop
-  pub leads : Leads program unwritten (step_slot step) rest goal
+  pub leads : Leads roads (step_slot step) rest goal
   pub further : slot < step_slot step
 
 -- a step leads on from a slot; or no way leads from it to the goal
-abbrev pub IsStepFrom : List Insn → Option RegNo → ℕ → ℕ → Option Step → Type 0
-IsStepFrom program unwritten goal slot None = (hops : List Hop) → Leads program unwritten slot hops goal → ⊥
-IsStepFrom program unwritten goal slot (Some step) = WayLeadsOn program unwritten goal slot step
+abbrev pub IsStepFrom : Roads → ℕ → ℕ → Option Step → Type 0
+IsStepFrom roads goal slot None = (hops : List Hop) → Leads roads slot hops goal → ⊥
+IsStepFrom roads goal slot (Some step) = WayLeadsOn roads goal slot step
 
 -- a table has the steps from a slot on, but of the goal, where one steps no more
-pub record AreWaySteps (program : List Insn) (unwritten : Option RegNo) (goal from : ℕ) (steps : List (Option Step)) : Type 0 where
-  pub long : length steps ≡ slot_count program
-  pub each : (k : ℕ) → from ≤ k → k ≢ goal → IsStepFrom program unwritten goal k (slice_index_or steps k None)
+pub record AreWaySteps (roads : Roads) (goal from : ℕ) (steps : List (Option Step)) : Type 0 where
+  pub long : length steps ≡ slot_count roads.program
+  pub each : (k : ℕ) → from ≤ k → k ≢ goal → IsStepFrom roads goal k (slice_index_or steps k None)

@@ -1,26 +1,33 @@
--- The way to a slot of a program: the jumps by which control comes there from slot 0, in the program's text, whatever the
--- values are.
-use Rattle.std.specs.Prelude.{◌≡◌, ◌==◌, ◌&&◌, not, ℕ, ◌+◌, Bool, true, false, ℤ, pos, negsuc, List, [], ◌∷◌, ◌++◌, codes, Option, Some, None, option_and_then, Vec}
+-- The way to a slot of a program: the jumps by which control comes there from slot 0, where it goes on from each slot as the
+-- verifier's walk did.
+use Rattle.std.specs.Prelude.{◌≡◌, ◌==◌, ◌&&◌, not, if◌then◌else◌, ℕ, ◌+◌, Bool, true, ℤ, pos, negsuc, List, [], ◌∷◌, ◌++◌, codes, Option, Some, None, option_and_then, slice_index_or, Vec}
 use Rattle.std.specs.Fmt.{decimal}
 use Rattle.std.specs.List.{flat_map}
 use Rattle.std.specs.Option.{option_map}
 use Rattle.std.specs.declared.alloc.Global.{Global}
 use Rattle.insn.specs.declared.instruction.Insn.{Insn}
-use Rattle.insn.specs.declared.instruction.Insn.TheVariants.{Jump, JumpLong, Exit}
 use Rattle.insn.specs.declared.register.RegNo.{RegNo}
 use Rattle.insn.specs.FirstLook.{distance_of, written_by}
 use Rattle.insn.specs.Instruction.{reg_number, slots_of}
 use Rattle.insn.specs.Program.{begins_at}
+use Rattle.verifier.specs.declared.walk.Onward.{Onward}
+use Rattle.verifier.specs.Waits.{nowhere}
 use Rattle.hook_commands.specs.declared.way.Hop.{Hop}
 
 -- ---- where control goes
 
--- control may go on behind an instruction
-abbrev pub goes_on : Insn → Bool
-goes_on Exit = false
-goes_on (Jump offset) = false
-goes_on (JumpLong offset) = false
-goes_on i = true
+-- what ways go by: a program, where the walk went on from its slots, and the register that is to stay unwritten, if one is
+pub record Roads : Type 0 where
+  pub program : List Insn
+  pub onward : List Onward
+  pub unwritten : Option RegNo
+
+abbrev pub roads_of : List Insn → List Onward → Option RegNo → Roads
+roads_of program onward unwritten = record { program = program; onward = onward; unwritten = unwritten }
+
+-- where the walk went on from a slot
+abbrev pub onward_at : List Onward → ℕ → Onward
+onward_at onward slot = slice_index_or onward slot nowhere
 
 -- a register that is written is not the one that is to stay unwritten, if one is
 abbrev pub leaves : Option RegNo → Option RegNo → Bool
@@ -28,9 +35,9 @@ leaves None written = true
 leaves (Some r) None = true
 leaves (Some r) (Some w) = not (reg_number w == reg_number r)
 
--- a way goes on behind an instruction, and leaves a register unwritten, if one is to stay so
-abbrev pub goes_past : Option RegNo → Insn → Bool
-goes_past unwritten i = goes_on i && leaves unwritten (written_by i)
+-- the walk went on behind an instruction, which leaves a register unwritten, if one is to stay so
+abbrev pub goes_past : Option RegNo → Onward → Insn → Bool
+goes_past unwritten onward i = onward.behind && leaves unwritten (written_by i)
 
 -- the slot behind an instruction at a slot
 abbrev pub slot_behind : ℕ → Insn → ℕ
@@ -41,39 +48,37 @@ abbrev pub slot_ahead : ℕ → ℤ → Option ℕ
 slot_ahead slot (pos d) = Some (slot + d)
 slot_ahead slot (negsuc n) = None
 
--- where the jump of an instruction at a slot leads
-abbrev pub jump_target : ℕ → Insn → Option ℕ
-jump_target slot i = option_and_then (slot_ahead (slot_behind slot i)) (distance_of i)
+-- where the jump of an instruction at a slot leads, if the walk went there
+abbrev pub jump_target : Onward → ℕ → Insn → Option ℕ
+jump_target onward slot i = if onward.ahead then option_and_then (slot_ahead (slot_behind slot i)) (distance_of i) else None
 
--- from a slot one goes on behind the instruction there, which leaves a register unwritten, if one is to stay so
-pub record GoesBehind (program : List Insn) (unwritten : Option RegNo) (from to : ℕ) : Type 0 where
+-- from a slot one goes on behind the instruction there, as the walk did, and leaves a register unwritten, if one is to stay so
+pub record GoesBehind (roads : Roads) (from to : ℕ) : Type 0 where
   pub insn : Insn
-  pub begins : begins_at program from ≡ Some insn
-  pub goes : goes_past unwritten insn ≡ true
+  pub begins : begins_at roads.program from ≡ Some insn
+  pub goes : goes_past roads.unwritten (onward_at roads.onward from) insn ≡ true
   pub behind : to ≡ slot_behind from insn
 
 -- from a slot one comes to another by going on alone, jumping nowhere
-pub data IsStraightWay (program : List Insn) (unwritten : Option RegNo) : ℕ → ℕ → Type 0 where
-  Here : {slot : ℕ} → IsStraightWay program unwritten slot slot
-  Further : {from next to : ℕ} → GoesBehind program unwritten from next → IsStraightWay program unwritten next to
-      → IsStraightWay program unwritten from to
+pub data IsStraightWay (roads : Roads) : ℕ → ℕ → Type 0 where
+  Here : {slot : ℕ} → IsStraightWay roads slot slot
+  Further : {from next to : ℕ} → GoesBehind roads from next → IsStraightWay roads next to → IsStraightWay roads from to
 
--- the jump of the instruction at a slot leads to another
-pub record IsJump (program : List Insn) (from to : ℕ) : Type 0 where
+-- the jump of the instruction at a slot leads to another, and the walk went there
+pub record IsJump (roads : Roads) (from to : ℕ) : Type 0 where
   pub insn : Insn
-  pub begins : begins_at program from ≡ Some insn
-  pub leads : jump_target from insn ≡ Some to
+  pub begins : begins_at roads.program from ≡ Some insn
+  pub leads : jump_target (onward_at roads.onward from) from insn ≡ Some to
 
 -- from a slot one comes to another by these jumps in order, going straight between them
-abbrev pub Leads : List Insn → Option RegNo → ℕ → List Hop → ℕ → Type 0
-Leads program unwritten from [] to = IsStraightWay program unwritten from to
-Leads program unwritten from (hop ∷ hops) to =
-    IsStraightWay program unwritten from hop.from × IsJump program hop.from hop.to × Leads program unwritten hop.to hops to
+abbrev pub Leads : Roads → ℕ → List Hop → ℕ → Type 0
+Leads roads from [] to = IsStraightWay roads from to
+Leads roads from (hop ∷ hops) to = IsStraightWay roads from hop.from × IsJump roads hop.from hop.to × Leads roads hop.to hops to
 
 -- jumps by which one comes from slot 0 to a slot; or there are none
-abbrev pub IsWayFound : List Insn → Option RegNo → ℕ → Option (List Hop) → Type 0
-IsWayFound program unwritten slot None = (hops : List Hop) → Leads program unwritten 0 hops slot → ⊥
-IsWayFound program unwritten slot (Some way) = Leads program unwritten 0 way slot
+abbrev pub IsWayFound : Roads → ℕ → Option (List Hop) → Type 0
+IsWayFound roads slot None = (hops : List Hop) → Leads roads 0 hops slot → ⊥
+IsWayFound roads slot (Some way) = Leads roads 0 way slot
 
 -- the jumps of a way that is found
 abbrev pub hops_of : Option (Vec Hop Global) → Option (List Hop)
@@ -98,12 +103,11 @@ found_text None = []
 found_text (Some way) = way_text None way
 
 -- a text tells the way that is found, or else any way to a slot
-abbrev pub TellsFound : List Insn → Option RegNo → ℕ → Option (List Hop) → List ℕ → Type 0
-TellsFound program unwritten slot (Some way) text = text ≡ way_text unwritten way
-TellsFound program unwritten slot None text =
-    (any : Option (List Hop)) × IsWayFound program None slot any × (text ≡ found_text any)
+abbrev pub TellsFound : Roads → ℕ → Option (List Hop) → List ℕ → Type 0
+TellsFound roads slot (Some way) text = text ≡ way_text roads.unwritten way
+TellsFound roads slot None text =
+    (any : Option (List Hop)) × IsWayFound (record roads { unwritten = None }) slot any × (text ≡ found_text any)
 
 -- a text tells a way to a slot, one that leaves a register unwritten where there is such a way
-abbrev pub TellsWay : List Insn → Option RegNo → ℕ → List ℕ → Type 0
-TellsWay program unwritten slot text =
-    (found : Option (List Hop)) × IsWayFound program unwritten slot found × TellsFound program unwritten slot found text
+abbrev pub TellsWay : Roads → ℕ → List ℕ → Type 0
+TellsWay roads slot text = (found : Option (List Hop)) × IsWayFound roads slot found × TellsFound roads slot found text

@@ -1,11 +1,11 @@
-//! The way to a slot: by which jumps control can come there from slot 0, in program text, whatever the values.
+//! The way to a slot: by which jumps control can come there from slot 0, going on from each slot as the walk did.
 
 ghost use Rattle.std.specs.Prelude.{◌≡◌, ◌<◌, ◌≤◌, ◌^◌, Some, None, IfOk, length, slice_index_or};
 ghost use Rattle.std.specs.Option.{option_copied};
 ghost use Rattle.std.specs.String.{string_bytes};
 ghost use Rattle.insn.specs.Program.{places, slot_count, SLOT_LIMIT};
-ghost use Rattle.hook_commands.specs.Ways.{goes_on, goes_past, hop_text, hops_of, jump_target, unwritten_text, way_text, IsWayFound, TellsWay};
-ghost use Rattle.hook_commands.specs.WaySteps.{step_of, target_past, where_led, AreWaySteps};
+ghost use Rattle.hook_commands.specs.Ways.{goes_past, hop_text, hops_of, jump_target, onward_at, roads_of, unwritten_text, way_text, IsWayFound, TellsWay};
+ghost use Rattle.hook_commands.specs.WaySteps.{step_of, target_past, targets_of, where_led, AreWaySteps};
 
 use insn::instruction::Insn;
 use insn::program::Program;
@@ -13,6 +13,7 @@ use insn::register::RegNo;
 use machine::trace::written_by;
 use std::alloc::{AllocError, Global};
 use std::fmt::{self, Display, Formatter, Write};
+use verifier::Onward;
 
 /// A jump that is taken.
 #[derive(Clone, Copy)]
@@ -32,41 +33,50 @@ enum Step {
     Jumping(usize),
 }
 
-/// Whether control may go on behind an instruction.
-fn goes_on(insn: Insn) -> bool
-    ensures { result ≡ goes_on insn }
+/// Where the walk went on from a slot.
+fn onward_at(onward: &[Onward], slot: usize) -> Onward
+    ensures { result ≡ onward_at onward.now slot }
 {
-    !matches!(insn, Insn::Exit | Insn::Jump { .. } | Insn::JumpLong { .. })
+    match onward.get(slot) {
+        Some(here) => *here,
+        None => Onward {
+            behind: false,
+            ahead: false,
+        },
+    }
 }
 
-/// Whether a way goes on behind an instruction, leaving a register unwritten, if one is to be.
-fn goes_past(unwritten: Option<RegNo>, insn: Insn) -> bool
-    ensures { result ≡ goes_past unwritten insn }
+/// Whether the walk went on behind an instruction, which leaves a register unwritten, if one is to stay so.
+fn goes_past(unwritten: Option<RegNo>, onward: Onward, insn: Insn) -> bool
+    ensures { result ≡ goes_past unwritten onward insn }
 {
     let leaves = match (unwritten, written_by(insn)) {
         (Some(register), Some(written)) => written.number() != register.number(),
         _ => true,
     };
-    goes_on(insn) && leaves
+    onward.behind && leaves
 }
 
 /// Where one goes on behind an instruction at a slot.
-fn target_past(unwritten: Option<RegNo>, slot: usize, insn: Insn) -> Option<usize>
+fn target_past(unwritten: Option<RegNo>, onward: Onward, slot: usize, insn: Insn) -> Option<usize>
     requires { slot ≤ SLOT_LIMIT }
-    ensures { result ≡ target_past unwritten slot insn }
+    ensures { result ≡ target_past unwritten onward slot insn }
 {
-    if goes_past(unwritten, insn) {
+    if goes_past(unwritten, onward, insn) {
         Some(slot + insn.slots())
     } else {
         None
     }
 }
 
-/// Where the jump of an instruction at a slot leads.
-fn jump_target(slot: usize, insn: Insn) -> Option<usize>
+/// Where the jump of an instruction at a slot leads, if the walk went there.
+fn jump_target(onward: Onward, slot: usize, insn: Insn) -> Option<usize>
     requires { slot ≤ SLOT_LIMIT }
-    ensures { result ≡ jump_target slot insn }
+    ensures { result ≡ jump_target onward slot insn }
 {
+    if !onward.ahead {
+        return None;
+    }
     let distance = insn.distance()?;
     if distance < 0 {
         return None;
@@ -93,23 +103,34 @@ fn where_led(steps: &[Option<Step>], goal: usize, slot: Option<usize>) -> Option
     }
 }
 
-/// The step from a slot, of what begins there: past it, if a way leads on there, or else by its jump.
-fn step_of(
-    steps: &[Option<Step>],
+/// Where one goes on from a slot, of what begins there: behind it, and by its jump.
+fn targets_of(
     unwritten: Option<RegNo>,
-    goal: usize,
+    onward: Onward,
     slot: usize,
     begins: Option<Insn>,
-) -> Option<Step>
+) -> (Option<usize>, Option<usize>)
     requires { slot ≤ SLOT_LIMIT }
-    ensures { result ≡ step_of steps.now unwritten goal slot begins }
+    ensures { result ≡ targets_of unwritten onward slot begins }
 {
-    let insn = begins?;
-    if let Some(to) = where_led(steps, goal, target_past(unwritten, slot, insn)) {
-        return Some(Step::Past(to));
+    match begins {
+        Some(insn) => (
+            target_past(unwritten, onward, slot, insn),
+            jump_target(onward, slot, insn),
+        ),
+        None => (None, None),
     }
-    let to = where_led(steps, goal, jump_target(slot, insn))?;
-    Some(Step::Jumping(to))
+}
+
+/// The step to one of two slots: past what begins here, if a way leads on there, or else by its jump.
+fn step_of(steps: &[Option<Step>], goal: usize, to: (Option<usize>, Option<usize>)) -> Option<Step>
+    ensures { result ≡ step_of steps.now goal to }
+{
+    if let Some(behind) = where_led(steps, goal, to.0) {
+        return Some(Step::Past(behind));
+    }
+    let ahead = where_led(steps, goal, to.1)?;
+    Some(Step::Jumping(ahead))
 }
 
 /// What begins at each slot of some instructions.
@@ -130,33 +151,36 @@ fn places_of(alloc: Global, insns: &[Insn]) -> Result<Vec<Option<Insn>>, AllocEr
 fn steps_to(
     alloc: Global,
     program: &Program,
+    onward: &[Onward],
     unwritten: Option<RegNo>,
     goal: usize,
 ) -> Result<Vec<Option<Step>>, AllocError>
-    ensures { IfOk result (λ steps. AreWaySteps program.now unwritten goal 0 steps.items) }
+    ensures { IfOk result (λ steps. AreWaySteps (roads_of program.now onward.now unwritten) goal 0 steps.items) }
 {
     let begins = places_of(alloc, program.insns())?;
     let mut slot = begins.len();
     let mut steps: Vec<Option<Step>> = vec![in alloc; None; slot]?;
     while slot > 0 {
         slot -= 1;
-        let step = step_of(&steps, unwritten, goal, slot, begins[slot]);
+        let to = targets_of(unwritten, onward_at(onward, slot), slot, begins[slot]);
+        let step = step_of(&steps, goal, to);
         steps[slot] = step;
     }
     Ok(steps)
 }
 
-/// A way to a slot on which nothing writes a register, if one is named; none where no such way leads there. It fails only
-/// where memory is refused.
+/// A way to a slot that the walk went, and on which nothing writes a register, if one is named; none where no such way
+/// leads there. It fails only where memory is refused.
 pub fn way_to(
     alloc: Global,
     program: &Program,
+    onward: &[Onward],
     unwritten: Option<RegNo>,
     slot: usize,
 ) -> Result<Option<Vec<Hop>>, AllocError>
-    ensures { IfOk result (λ way. IsWayFound program.now unwritten slot (hops_of way)) }
+    ensures { IfOk result (λ way. IsWayFound (roads_of program.now onward.now unwritten) slot (hops_of way)) }
 {
-    let steps = steps_to(alloc, program, unwritten, slot)?;
+    let steps = steps_to(alloc, program, onward, unwritten, slot)?;
     let mut hops = Vec::new(alloc);
     let mut at = 0;
     while at != slot {
@@ -218,20 +242,21 @@ fn way_told(alloc: Global, unwritten: Option<RegNo>, hops: &[Hop]) -> Result<Str
     Ok(text)
 }
 
-/// The line of a way to a slot: of one on which nothing writes a register, where one is named and there is such a way, and
-/// else of any; nothing where no way leads there. It fails only where memory is refused.
+/// The line of a way to a slot that the walk went: of one on which nothing writes a register, where one is named and there
+/// is such a way, and else of any; nothing where no way leads there. It fails only where memory is refused.
 pub fn way_to_told(
     alloc: Global,
     program: &Program,
+    onward: &[Onward],
     unwritten: Option<RegNo>,
     slot: usize,
 ) -> Result<String, AllocError>
-    ensures { IfOk result (λ text. TellsWay program.now unwritten slot (string_bytes text)) }
+    ensures { IfOk result (λ text. TellsWay (roads_of program.now onward.now unwritten) slot (string_bytes text)) }
 {
-    if let Some(hops) = way_to(alloc, program, unwritten, slot)? {
+    if let Some(hops) = way_to(alloc, program, onward, unwritten, slot)? {
         return way_told(alloc, unwritten, &hops);
     }
-    match way_to(alloc, program, None, slot)? {
+    match way_to(alloc, program, onward, None, slot)? {
         Some(hops) => way_told(alloc, None, &hops),
         None => Ok(String::new(alloc)),
     }

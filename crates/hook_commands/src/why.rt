@@ -185,7 +185,8 @@ fn refusal_told(
 {
     let (fault, slot, insn) = (refusal.fault, refusal.slot, refusal.insn);
     let bytes = bytes_told(alloc, layout, &refusal.known, insn)?;
-    let way = way_to_told(alloc, program, unset_read(&refusal.known, insn), slot)?;
+    let unset = unset_read(&refusal.known, insn);
+    let way = way_to_told(alloc, program, &refusal.onward, unset, slot)?;
     let left = ReadLine {
         known: &refusal.known,
         register: left_read(insn),

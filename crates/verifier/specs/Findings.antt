@@ -31,8 +31,8 @@ abbrev pub AreToldOnward : Layout → List Insn → ℕ → List Onward → Type
 AreToldOnward layout program slot onward =
     (k : ℕ) (i : Insn) → k < slot → begins_at program k ≡ Some i → HasGoneOn layout program k (slice_index_or onward k nowhere)
 
--- A program is refused with this fault, at this instruction, by what waits there, of which nothing else is told. It is known
--- of each run that comes there, and it is told where walks went before.
+-- A program is refused with this fault, at this instruction. What is told to be known is what waits there, and it is known of
+-- each run that comes there; it is told where walks went on before.
 pub record IsExplained (layout : Layout) (program : List Insn) (refusal : Refusal) : Type 0 where
   pub refused : IsRefusal layout program refusal.fault
   pub slot : refusal.slot ≡ refused.slot

@@ -2,8 +2,9 @@ use Rattle.std.proofs.Common.{◌≡◌, ◌∙◌, Option, Some, None, refl, ap
 use Rattle.insn.specs.Program.{begins_at, places, slot_count}
 use Rattle.insn.specs.SlotLaws.{length-places}
 use Rattle.hook_commands.specs.declared.way.Step.{Step}
-use Rattle.hook_commands.specs.WaySteps.{step_of, AreWaySteps}
-use Rattle.hook_commands.proofs.Ways.{begins_as, no_steps, none_behind, step_set}
+use Rattle.hook_commands.specs.Ways.{Roads, roads_of}
+use Rattle.hook_commands.specs.WaySteps.{AreWaySteps}
+use Rattle.hook_commands.proofs.Ways.{begins_as, no_steps, none_behind, step_from, step_set}
 use Rattle.hook_commands.proofs.way.steps_to.Goals as goal
 
 none_alone : (P : Option Step → Type 0) → ((x : Step) → P (Some x) → ⊥) → (y : Option Step) → P y → y ≡ None
@@ -21,9 +22,9 @@ loop-slot-init c =
     h.items_if_clones_equal (none_alone _ (λ x e. e)) ∙ ap no_steps long in
     record {
       inside = omega arith;
-      table = subst (λ k. AreWaySteps c.args.program.now c.args.unwritten c.args.goal k c.in_ok-steps.steps.items) (sym long)
-          (subst (AreWaySteps c.args.program.now c.args.unwritten c.args.goal (slot_count c.args.program.now)) (sym steps)
-          (none_behind c.args.program.now c.args.unwritten c.args.goal));
+      table = subst (λ k. AreWaySteps (roads_of c.args.program.now c.args.onward.now c.args.unwritten) c.args.goal k c.in_ok-steps.steps.items) (sym long)
+          (subst (AreWaySteps (roads_of c.args.program.now c.args.onward.now c.args.unwritten) c.args.goal (slot_count c.args.program.now)) (sym steps)
+          (none_behind (roads_of c.args.program.now c.args.onward.now c.args.unwritten) c.args.goal));
     }
 
 pub index-requires : goal.index-requires
@@ -36,6 +37,7 @@ index-requires c =
 
 pub loop-slot-preserved : goal.loop-slot-preserved
 loop-slot-preserved c =
+    let here_roads : Roads = roads_of c.args.program.now c.args.onward.now c.args.unwritten in
     let test = c.loop-slot-test.true in
     let inside = c.loop-slot.invariant.inside in
     let slot : ℕ = c.loop-slot.slot - 1 in
@@ -44,13 +46,12 @@ loop-slot-preserved c =
     let here : begins_at c.args.program.now slot ≡ c.index.result.now =
     begins_as (places c.args.program.now) slot c.index.result.now (omega arith)
     ∙ ap (λ xs. slice_index_or xs slot c.index.result.now) (sym begins) ∙ sym c.index.ensures in
-    let step : c.step_of-step.result ≡ step_of c.loop-slot.steps.items c.args.unwritten c.args.goal slot (begins_at c.args.program.now slot) =
-    c.step_of-step.ensures ∙ ap (λ xs. step_of xs c.args.unwritten c.args.goal slot c.index.result.now) c.deref.ensures.value
-    ∙ ap (step_of c.loop-slot.steps.items c.args.unwritten c.args.goal slot) (sym here) in
+    let step : c.step_of-step.result ≡ step_from here_roads c.loop-slot.steps.items c.args.goal slot (begins_at c.args.program.now slot) =
+    rw (c.step_of-step.ensures, c.deref.ensures.value, c.targets_of-to.ensures, c.onward_at.ensures, here) refl in
     let one : c.loop-slot.slot ≡ slot + 1 = omega arith in
-    let table = subst (λ k. AreWaySteps c.args.program.now c.args.unwritten c.args.goal k c.loop-slot.steps.items) one c.loop-slot.invariant.table in
-    let set = step_set c.args.program.now c.args.unwritten c.args.goal slot c.loop-slot.steps.items (omega arith) table in
+    let table = subst (λ k. AreWaySteps here_roads c.args.goal k c.loop-slot.steps.items) one c.loop-slot.invariant.table in
+    let set = step_set here_roads c.args.goal slot c.loop-slot.steps.items (omega arith) table in
     record {
       inside = omega arith;
-      table = subst (λ x. AreWaySteps c.args.program.now c.args.unwritten c.args.goal slot (slice_set c.loop-slot.steps.items slot x)) (sym step) set;
+      table = subst (λ x. AreWaySteps here_roads c.args.goal slot (slice_set c.loop-slot.steps.items slot x)) (sym step) set;
     }

@@ -13,7 +13,7 @@ returns c =
     let head = head_text r.fault r.slot r.insn in
     let seen = seen_text (registers_text r.known.value r.insn) (string_bytes c.in_ok-bytes.bytes) (string_bytes c.in_ok-way.way) in
     let plain : string_bytes c.write.new.self ≡ head ++ (seen ++ (codes "\n" ++ c.help_on-help.result.now)) =
-    rw (c.new-text.ensures.bytes, c.as_str.ensures.value, c.as_str-2.ensures.value, c.left_read.ensures, c.right_read.ensures, c.deref-3.ensures, c.deref-4.ensures) at c.in_ok-write.ensures.bytes in
+    rw (c.new-text.ensures.bytes, c.as_str.ensures.value, c.as_str-2.ensures.value, c.left_read.ensures, c.right_read.ensures, c.deref-4.ensures, c.deref-5.ensures) at c.in_ok-write.ensures.bytes in
     record {
       bytes = string_bytes c.in_ok-bytes.bytes;
       way = string_bytes c.in_ok-way.way;
