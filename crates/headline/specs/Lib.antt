@@ -1,6 +1,8 @@
 -- What public clauses cite. docs/DEFINITIONS.md says what to read in which order.
 pub mod Calls
 pub mod Headline
+pub mod Conversations
+pub mod SafeHooks
 pub mod Occasions
 pub mod Bearers
 pub mod Grants

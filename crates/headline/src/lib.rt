@@ -2,8 +2,10 @@
 #![tactic(auto)]
 
 mod call;
+mod following;
 pub mod laws;
 mod making;
 
 pub use call::{EdgeCall, Upshot};
+pub use following::{chains_are_safe, connections_are_conversations};
 pub use making::{Made, make_calls};

@@ -1,6 +1,7 @@
 //! Calls that are made on a new edge.
 
 ghost use Rattle.std.specs.Prelude.{◌≡◌, IfOk, IfErr, OnOk, OnErr, length, take};
+ghost use Rattle.endpoints.specs.Server.{outset_of};
 ghost use Rattle.http_edge.specs.Edges.{output_of};
 ghost use Rattle.http_edge.specs.Events.{EventLeads};
 ghost use Rattle.http_edge.specs.Reached.{HappeningLeads};
@@ -12,15 +13,14 @@ ghost use Rattle.headline.specs.Making.{CallLeads};
 use crate::call::{EdgeCall, Upshot};
 use clients::Registry;
 use endpoints::Server;
-use hook_chain::Chain;
 use hook_host::HookHost;
 use http_edge::{ConnectionNo, Edge, EdgeFault, Event};
 use std::alloc::{AllocError, Global};
 
 /// An edge on which calls were made, and what came of each of them.
 #[derive(Drop)]
-pub struct Made {
-    pub edge: Edge<Chain>,
+pub struct Made<H> {
+    pub edge: Edge<H>,
     pub upshots: Vec<Upshot>,
 }
 
@@ -86,16 +86,17 @@ fn make_call<H: HookHost>(alloc: Global, edge: &mut Edge<H>, call: &EdgeCall<'_>
     }
 }
 
-/// Makes calls, in their order, on a new edge over a server of the registry, whose hooks are a chain, at first without any:
-/// the edge, and what came of each call; or memory was refused.
-pub fn make_calls(
+/// Makes calls, in their order, on a new edge over a server of the registry and the host: the edge, and what came of each
+/// call; or memory was refused.
+pub fn make_calls<H: HookHost>(
     alloc: Global,
     rules: Registry,
+    host: H,
     calls: &[EdgeCall<'_>],
-) -> Result<Made, AllocError>
-    ensures { IfOk result (λ made. IsMade ⟦<Chain as HookHost>⟧ rules calls.now made.upshots.items made.edge) }
+) -> Result<Made<H>, AllocError>
+    ensures { IfOk result (λ made. IsMade H.HookHost (outset_of rules host) calls.now made.upshots.items made.edge) }
 {
-    let mut edge = Edge::new(alloc, Server::new(alloc, rules, Chain::new(alloc)));
+    let mut edge = Edge::new(alloc, Server::new(alloc, rules, host));
     let mut upshots = Vec::new(alloc);
     for call in calls {
         let upshot = make_call(alloc, &mut edge, call);
