@@ -169,6 +169,11 @@ def ask(connection, request=None, reply=INACTIVE_REPLY):
     return time.monotonic() - began
 
 
+def segments(connection):
+    """How many segments with bytes came on a connection, as Linux counts them (`tcpi_data_segs_in`)."""
+    return struct.unpack_from("I", connection.getsockopt(socket.IPPROTO_TCP, socket.TCP_INFO, 160), 152)[0]
+
+
 def to_the_end(connection):
     """What comes until the connection ends, and whether it ended in peace."""
     parts = b""
@@ -431,6 +436,16 @@ def half_closed():
         return f"200 clients got all their replies and then the end; {active.seen()}"
 
 
+def whole_replies():
+    with Server() as server:
+        connection = server.connect()
+        for _ in range(100):
+            ask(connection)
+        count = segments(connection)
+        want(count == 100, f"100 replies came in {count} segments")
+        return "each of 100 replies came in one segment"
+
+
 def many_at_once():
     with Server() as server, Active(server) as active:
         for request, reply in [(introspection(), INACTIVE_REPLY), (NO_PATH, NO_PATH_REPLY)]:
@@ -502,6 +517,7 @@ CHECKS = {
     "20-descriptors": twenty_descriptors,
     "faulty-head-and-90-KB": faulty_heads,
     "half-closed": half_closed,
+    "whole-replies": whole_replies,
     "reports": reports,
 }
 
