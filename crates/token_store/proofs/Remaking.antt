@@ -231,14 +231,12 @@ count_past p (x ∷ rs) r later is =
     let more = count_past p rs r later is in
     omega (arith, before, after, more)
 
-pub full_from : (ren : ℕ → ℕ) (whole rs : List KeptRecord) (r : KeptRecord) (later : List KeptRecord) (kept : List Kept) (m limit : ℕ) → whole ≡ rs ++ r ∷ later →
-    TellsSame (map (renumbered ren) (as_kept rs)) kept m → is_unexpired_record m r ≡ true → limit < kept_unexpired kept m + 1 → limit < kept_unexpired (as_kept whole) m
-full_from ren whole rs r later kept m limit is tells live full =
-    let same = tells.counts m (omega arith) in
-    let count = count_renumbered ren (as_kept rs) m in
-    let more = count_past (λ k. is_unexpired m k.grant) rs r later live in
-    let all : kept_unexpired (as_kept whole) m ≡ kept_unexpired (as_kept (rs ++ r ∷ later)) m = ap (λ xs. kept_unexpired (as_kept xs) m) is in
-    omega (arith, same, count, more, all, full)
+-- as many are unexpired of what the records say is kept
+pub unexpired_kept : (m : ℕ) (rs : List KeptRecord) → count_by (is_unexpired_record m) rs ≡ kept_unexpired (as_kept rs) m
+unexpired_kept m [] = refl
+unexpired_kept m (r ∷ rs) =
+    count_by-cons (is_unexpired_record m) r rs ∙ ap (λ n. cond {A = ℕ} (is_unexpired_record m r) 1 0 + n) (unexpired_kept m rs)
+    ∙ sym (count_by-cons (λ (k : Kept). is_unexpired m k.grant) (kept_record r) (as_kept rs))
 
 some_counted : (p : Kept → Bool) (ks : List Kept) → is_some (find p ks) ≡ true → 0 < count_by p ks
 some_counted p [] h = absurd (false≢true h)

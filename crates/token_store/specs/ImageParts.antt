@@ -1,13 +1,12 @@
 -- Beside Image: only the contracts of this crate's own parts and their proofs cite this, no public clause.
-use Rattle.std.specs.Prelude.{◌≡◌, ◌+◌, ◌<◌, ◌⊎◌, ℕ, List, Bool, true, Some, map, nat_lt, is_some}
+use Rattle.std.specs.Prelude.{◌≡◌, ◌+◌, ◌⊎◌, ℕ, List, Bool, true, Some, map, nat_lt, is_some}
 use Rattle.std.specs.Str.{bytes_eq}
 use Rattle.std.specs.Map.{lookup}
-use Rattle.consent.specs.Limits.{record_limit}
 use Rattle.consent.specs.History.{is_named}
 use Rattle.token_store.specs.declared.image.KeptRecord.{KeptRecord}
 use Rattle.token_store.specs.declared.record.Record.{Record}
 use Rattle.token_store.specs.declared.record.Shared.{Shared}
-use Rattle.token_store.specs.Kept.{Kept, kept_at, kept_unexpired}
+use Rattle.token_store.specs.Kept.{Kept, kept_at}
 use Rattle.token_store.specs.Image.{kept_record}
 use Rattle.token_store.specs.Records.{kept_under}
 use Rattle.token_store.specs.RecordsParts.{TellsSame}
@@ -41,10 +40,6 @@ IsRecordOf kept n r = (s : Shared) → AgreesWithRecord s kept → kept_under s 
 abbrev pub FindsAtMost : (old new : List (List ℕ × Record)) → ℕ → KeptRecord → Type 0
 FindsAtMost old new moment kept = (digest : List ℕ) → is_some (lookup (bytes_eq digest) new) ≡ true →
     (is_some (lookup (bytes_eq digest) old) ≡ true) ⊎ (is_named digest moment (kept_record kept).grant ≡ true)
-
--- the record is unexpired, and one too many
-abbrev pub IsOneTooMany : List Kept → ℕ → KeptRecord → Type 0
-IsOneTooMany kept moment r = (is_unexpired_record moment r ≡ true) × (record_limit < kept_unexpired kept moment + 1)
 
 -- the record is unexpired, and something has its digest
 abbrev pub IsSecond : List (List ℕ × Record) → ℕ → KeptRecord → Type 0

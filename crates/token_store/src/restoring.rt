@@ -1,5 +1,5 @@
 //! A store's records as a list, and tables made of such a list.
-ghost use Rattle.std.specs.Prelude.{◌≡◌, filter, ◌<◌, ℕ, [], ◌∷◌, ◌++◌, None, true, is_some, IfOk, OnOk, IsErrOf};
+ghost use Rattle.std.specs.Prelude.{◌≡◌, filter, count_by, ◌<◌, ◌↔◌, ℕ, [], ◌∷◌, ◌++◌, None, true, is_some, IfOk, OnOk, IsErrOf};
 ghost use Rattle.std.specs.Str.{bytes_eq};
 ghost use Rattle.std.specs.Map.{lookup};
 ghost use Rattle.consent.specs.Limits.{record_limit};
@@ -9,13 +9,13 @@ ghost use Rattle.token_store.specs.Kept.{kept_unexpired};
 ghost use Rattle.token_store.specs.Records.{family_numbered, kept_of, IsTied};
 ghost use Rattle.token_store.specs.RecordsParts.{deadline_of, kept_with, HasEntered, HasPut, TellsSame};
 ghost use Rattle.token_store.specs.Image.{as_kept, HasDigestTwice};
-ghost use Rattle.token_store.specs.ImageParts.{FindsAtMost, IsOneTooMany, IsRestored, IsSecond, is_unexpired_record};
+ghost use Rattle.token_store.specs.ImageParts.{FindsAtMost, IsRestored, IsSecond, is_unexpired_record};
 ghost use Rattle.token_store.specs.Homes.{AreHomes, HasHome, AllHome, HasGrown, HomesStay, as_numbered};
 
 use crate::image::KeptRecord;
 use crate::record::Record;
 use crate::tables::{Tables, enter};
-use consent::{Digest, Moment};
+use consent::{Digest, Moment, RECORD_LIMIT};
 use std::alloc::{AllocError, Global};
 use std::collections::HashMap;
 
@@ -30,6 +30,16 @@ pub enum RestoreFault {
     FamilyDiffers,
     /// Memory was refused.
     Memory,
+}
+
+// How many of the records are unexpired.
+fn unexpired_count(records: &[KeptRecord<'_>], moment: Moment) -> usize
+    ensures { result ≡ count_by (is_unexpired_record moment) records.now }
+{
+    records
+        .iter()
+        .filter(|record| record.is_unexpired(moment))
+        .count()
 }
 
 impl Tables {
@@ -132,14 +142,11 @@ impl Tables {
         ensures tells { OnOk result (TellsSame (kept_of self.old ++ as_numbered numbers.now.entries (kept.now ∷ [])) (kept_of self.new) moment) }
         ensures homes { OnOk result (HomesStay numbers.now.entries self.old.families.slots self.new.families.slots) }
         ensures found { OnOk result (FindsAtMost self.old.records.entries self.new.records.entries moment kept.now) }
-        ensures full { IsErrOf result RestoreFault.Full → IsOneTooMany (kept_of self.old) moment kept.now }
+        ensures full { IsErrOf result RestoreFault.Full → ⊥ }
         ensures twice { IsErrOf result RestoreFault.DigestTwice → IsSecond self.old.records.entries moment kept.now }
     {
         if !kept.is_unexpired(moment) {
             return Ok(());
-        }
-        if self.is_full(1, moment) {
-            return Err(RestoreFault::Full);
         }
         if self.records.contains_key(&kept.digest) {
             return Err(RestoreFault::DigestTwice);
@@ -169,7 +176,7 @@ impl Tables {
         requires all { AllHome numbers.now.entries self.old.families.slots moment records.now }
         ensures tied { OnOk result (IsTied self.new []) }
         ensures tells { OnOk result (TellsSame (as_numbered numbers.now.entries records.now) (kept_of self.new) moment) }
-        ensures full { IsErrOf result RestoreFault.Full → record_limit < kept_unexpired (as_kept records.now) moment }
+        ensures full { IsErrOf result RestoreFault.Full → ⊥ }
         ensures twice { IsErrOf result RestoreFault.DigestTwice → HasDigestTwice (as_kept records.now) moment }
     {
         for kept in records {
@@ -204,7 +211,7 @@ impl Tables {
         Ok(kept)
     }
 
-    /// The tables that keep what is unexpired of the records.
+    /// The tables that keep what is unexpired of the records. Full comes before the other faults.
     pub(crate) fn restored(
         alloc: Global,
         records: &[KeptRecord<'_>],
@@ -212,9 +219,12 @@ impl Tables {
     ) -> Result<Tables, RestoreFault>
         ensures tied { IfOk result (λ t. IsTied t []) }
         ensures restored { IfOk result (λ t. (renumber : ℕ → ℕ) × IsRestored (as_kept records.now) (kept_of t) moment renumber) }
-        ensures full { IsErrOf result RestoreFault.Full → record_limit < kept_unexpired (as_kept records.now) moment }
+        ensures full { IsErrOf result RestoreFault.Full ↔ record_limit < kept_unexpired (as_kept records.now) moment }
         ensures twice { IsErrOf result RestoreFault.DigestTwice → HasDigestTwice (as_kept records.now) moment }
     {
+        if unexpired_count(records, moment) > RECORD_LIMIT {
+            return Err(RestoreFault::Full);
+        }
         let mut tables = Tables::new(alloc);
         let mut numbers = HashMap::new(alloc);
         if let Err(fault) = tables.open_all(&mut numbers, records, moment) {

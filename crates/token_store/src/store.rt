@@ -1,5 +1,5 @@
 //! The store of codes and tokens.
-ghost use Rattle.std.specs.Prelude.{◌≡◌, ◌<◌, ℕ, List, [], length, option_map, OnOk, IfOk, IsErrOf};
+ghost use Rattle.std.specs.Prelude.{◌≡◌, ◌<◌, ◌≤◌, ◌↔◌, ℕ, List, [], length, option_map, OnOk, IfOk, IsErrOf};
 ghost use Rattle.consent.specs.Limits.{record_limit};
 ghost use Rattle.consent.specs.History.{Event, unexpired_count};
 ghost use Rattle.consent.specs.Changes.{as_list};
@@ -10,7 +10,7 @@ use crate::found::Found;
 use crate::image::KeptRecord;
 use crate::restoring::RestoreFault;
 use crate::tables::Tables;
-use consent::{Changes, Digest, Moment};
+use consent::{Changes, Digest, Moment, ScopeSet};
 use std::alloc::{AllocError, Global};
 use std::marker::Model;
 
@@ -38,7 +38,7 @@ impl Store {
     ghost use Rattle.token_store.specs.Fits.{FitsHistory, FitsStore, ForEachHistory, MakesChanges, refusal};
     ghost use Rattle.token_store.specs.Image.{as_kept, HasDigestTwice};
     ghost use Rattle.token_store.specs.Kept.{kept_unexpired};
-    ghost use Rattle.token_store.specs.Found.{found_seen};
+    ghost use Rattle.token_store.specs.Found.{code_scope_at, found_seen};
     ghost use Rattle.token_store.specs.Room.{HasRoom};
 
     /// No codes and tokens, which later ones take memory from `alloc` for.
@@ -59,14 +59,16 @@ impl Store {
     }
 
     /// A store of these codes and tokens, without those that are expired at the moment. It answers
-    /// as one does that the records are of.
+    /// as one does that the records are of, and has no more unexpired ones than may be.
     pub fn restored(
         alloc: Global,
         records: &[KeptRecord<'_>],
         moment: Moment,
     ) -> Result<Self, RestoreFault>
         ensures fits { IfOk result (λ store. ForEachHistory (as_kept records.now) moment (λ history. FitsStore store history moment)) }
-        ensures full { IsErrOf result RestoreFault.Full → record_limit < kept_unexpired (as_kept records.now) moment }
+        ensures few { IfOk result (λ store. kept_unexpired store.kept moment ≤ record_limit) }
+        // Full comes before the others.
+        ensures full { IsErrOf result RestoreFault.Full ↔ record_limit < kept_unexpired (as_kept records.now) moment }
         ensures twice { IsErrOf result RestoreFault.DigestTwice → HasDigestTwice (as_kept records.now) moment }
     {
         let tables = match Tables::restored(alloc, records, moment) {
@@ -82,6 +84,16 @@ impl Store {
     {
         let (record, shared) = self.tables.at(digest, moment)?;
         Some(record.found(shared))
+    }
+
+    /// The scope of the code that opened the family of what the digest names, if a code did.
+    pub fn code_scope(&self, digest: &Digest, moment: Moment) -> Option<ScopeSet>
+        ensures { ForEachHistory self.now.kept moment (λ history. result ≡ code_scope_at history digest.now moment) }
+    {
+        match self.tables.at(digest, moment) {
+            Some((_, shared)) => shared.code_scope,
+            None => None,
+        }
     }
 
     /// Why codes or tokens of these digests may not be given. Full comes before DrawTaken.

@@ -1,10 +1,9 @@
 use Rattle.std.proofs.Common.{◌≡◌, ◌+◌, ◌∷◌, ◌++◌, [], take, drop, ap, ◌∙◌, sym}
 use Rattle.std.proofs.lemmas.List.{take_more}
-use Rattle.consent.specs.Limits.{record_limit}
 use Rattle.token_store.specs.Records.{kept_of}
 use Rattle.token_store.specs.ImageParts.{renumbered}
 use Rattle.token_store.specs.Homes.{renumber_by}
-use Rattle.token_store.proofs.Remaking.{parts_at, all_at, all_mapped, full_from, two_from, tells_push, known_push, known_from}
+use Rattle.token_store.proofs.Remaking.{parts_at, all_at, all_mapped, two_from, tells_push, known_push, known_from}
 use Rattle.token_store.proofs.tables.Tables.put_all.Goals as goal
 
 pub put_home-requires-clause-home : goal.put_home-requires-clause-home
@@ -14,15 +13,6 @@ put_home-requires-clause-home c =
     let r = c.kept-item.result in
     let whole : rs ≡ take i rs ++ r ∷ drop (i + 1) rs = parts_at rs i r c.loop-kept-test.true ∙ ap (λ x. take i rs ++ x ∷ drop (i + 1) rs) (sym c.kept-item.is) in
     all_at c.args.numbers.now.entries c.loop-kept.self.families.slots c.args.moment rs (take i rs) r (drop (i + 1) rs) whole c.loop-kept.invariant.all
-
-pub returns-in-Err-clause-full : goal.returns-in-Err-clause-full
-returns-in-Err-clause-full c = λ is.
-    let rs = c.args.records.now in
-    let i = c.loop-kept.kept-index in
-    let r = c.kept-item.result in
-    let whole : rs ≡ take i rs ++ r ∷ drop (i + 1) rs = parts_at rs i r c.loop-kept-test.true ∙ ap (λ x. take i rs ++ x ∷ drop (i + 1) rs) (sym c.kept-item.is) in
-    let full = c.in-Err.ensures.full is in
-    full_from (renumber_by c.args.numbers.now.entries) rs (take i rs) r (drop (i + 1) rs) (kept_of c.loop-kept.self) c.args.moment record_limit whole c.loop-kept.invariant.tells full.0 full.1
 
 pub returns-in-Err-clause-twice : goal.returns-in-Err-clause-twice
 returns-in-Err-clause-twice c = λ is.
