@@ -1,6 +1,6 @@
 //! Codes and tokens that are left under other rules, and how many end.
 
-ghost use Rattle.std.specs.Prelude.{◌≡◌, List, IfOk, option_map};
+ghost use Rattle.std.specs.Prelude.{◌≡◌, List, option_map};
 ghost use Rattle.std.specs.List.{filter_map};
 ghost use Rattle.consent.specs.History.{Event, is_unexpired};
 ghost use Rattle.endpoints.specs.Bounded.{allowed_to, token_life_limit};
@@ -12,7 +12,6 @@ ghost use Rattle.token_store.specs.Image.{as_kept, kept_record};
 
 use clients::Registry;
 use consent::{ClientNo, Moment, ScopeSet, TokenKind};
-use std::alloc::{AllocError, Global};
 use token_store::{KeptKind, KeptRecord};
 
 // What the client may be allowed.
@@ -140,23 +139,25 @@ fn left_of<'a>(rules: &Registry, moment: Moment, of: &KeptRecord<'a>) -> Option<
 }
 
 /// The codes and tokens that are left of these at the moment, under the rules: those of each history that these are of, when
-/// what goes beyond the rules has ended.
+/// what goes beyond the rules has ended. They take the place of these, so it takes no memory.
 pub fn records_left<'a>(
-    alloc: Global,
     rules: &Registry,
     moment: Moment,
-    records: &[KeptRecord<'a>],
-) -> Result<Vec<KeptRecord<'a>>, AllocError>
-    ensures exact { IfOk result (λ left. as_kept left.items ≡ filter_map (kept_left rules.now moment) (as_kept records.now)) }
-    ensures fits { IfOk result (λ left. FitsLeft rules.now moment (as_kept records.now) (as_kept left.items)) }
+    records: Vec<KeptRecord<'a>>,
+) -> Vec<KeptRecord<'a>>
+    ensures exact { as_kept result.items ≡ filter_map (kept_left rules.now moment) (as_kept records.entry.items) }
+    ensures fits { FitsLeft rules.now moment (as_kept records.entry.items) (as_kept result.items) }
 {
-    let mut left = Vec::new(alloc);
-    for of in records {
-        if let Some(kept) = left_of(rules, moment, of) {
-            left.extend_from_slice(&[kept])?;
+    let mut left = records;
+    let mut count = 0;
+    for place in 0..left.len() {
+        if let Some(kept) = left_of(rules, moment, &left[place]) {
+            left[count] = kept;
+            count += 1;
         }
     }
-    Ok(left)
+    left.truncate(count);
+    left
 }
 
 // Whether its family has not ended and, if it is for one use, it is not spent.

@@ -2,6 +2,8 @@
 
 ghost use Rattle.std.specs.Prelude.{◌≡◌, ◌<◌, ◌^◌, IfOk, IfErr, length, map};
 ghost use Rattle.image_codec.specs.Facts.{image_fact, record_fact};
+ghost use Rattle.narrowing.specs.Left.{FitsLeft};
+ghost use Rattle.token_store.specs.Image.{as_kept};
 ghost use Rattle.state_narrowing.specs.Narrowing.{IsNarrower, RefusesNarrowing};
 ghost use Rattle.state_file.specs.Telling.{rules_of};
 ghost use Rattle.state_narrowing.specs.NarrowingParts.{SpellLeft};
@@ -12,7 +14,6 @@ use image_codec::{Image, encode};
 use narrowing::{ended_count, records_left};
 use state_file::{AccountFault, StateFault, account_of, registry_rules};
 use std::alloc::Global;
-use token_store::KeptRecord;
 
 /// The image of what is left of a state file.
 #[derive(Drop)]
@@ -48,28 +49,29 @@ fn fault_of(fault: AccountFault) -> StateFault
     }
 }
 
-// An image with these records, under the registry's rules.
-fn image_with<'a>(
+// What is left of an image under the registry's rules.
+fn image_under<'a>(
     alloc: Global,
     registry: &'a Registry,
     image: Image<'a>,
-    records: Vec<KeptRecord<'a>>,
 ) -> Result<Image<'a>, StateFault>
     ensures with { IfOk result (λ left. image_fact left ≡
-        record (image_fact image.entry) { rules = rules_of registry.now; records = map record_fact records.entry.items }) }
+        record (image_fact image.entry) { rules = rules_of registry.now; records = map record_fact left.records.items }) }
+    ensures fits { IfOk result (λ left.
+        FitsLeft registry.now image.entry.greatest (as_kept image.entry.records.items) (as_kept left.records.items)) }
     ensures refused { IfErr result RefusesNarrowing }
 {
     let Image {
         rules: _told,
         greatest,
-        records: _records,
+        records,
         consents,
         hooks,
     } = image;
     Ok(Image {
         rules: registry_rules(alloc, registry)?,
         greatest,
-        records,
+        records: records_left(registry, greatest, records),
         consents,
         hooks,
     })
@@ -93,8 +95,7 @@ pub(crate) fn image_left<H: HookHost>(
     };
     let told = account.image(alloc)?;
     let ended = ended_count(registry, told.greatest, told.records.as_slice());
-    let records = records_left(alloc, registry, told.greatest, told.records.as_slice())?;
-    let image = image_with(alloc, registry, told, records)?;
+    let image = image_under(alloc, registry, told)?;
     let bytes = encode(alloc, &image)?;
     if bytes.len() > u32::MAX as usize {
         return Err(StateFault::TooLong);

@@ -84,7 +84,7 @@ serve ADDR CONFIG SEEDHEX COUNT: listens at ADDR, prints listening ADDR, serves 
     Topic {
         name: "registry",
         text: "\
-registry FILE: reads the registry in FILE as start does, and serves nothing. Where it is refused, the fault is told with where it stands: Config BadRedirect at clients[17].redirects[0] is the first redirect URI of the 18th client, since items are counted from 0. Else it prints the lives of tokens in seconds, how many owners and clients there are, the names of all scopes, and, behind warning:, what may be a mistake: a member whose name means nothing there, one that stands twice in its object, an owner with the operator's key, access tokens that live longer than refresh tokens, and a file that everybody on the machine may read.
+registry FILE: reads the registry in FILE as start does, and serves nothing. Where it is refused, the fault is told with where it stands: Config BadRedirect at clients[17].redirects[0] is the first redirect URI of the 18th client, since items are counted from 0. Else it prints the lives of tokens in seconds, how many owners and clients there are, the names of all scopes, and, behind warning:, what may be a mistake: a member whose name means nothing there, one that stands twice in its object, a key that is the SHA-256 of the empty text, an owner with the operator's key, access tokens that live longer than refresh tokens, and a file that everybody on the machine may read.
 
   oauthd registry registry.json
 ",

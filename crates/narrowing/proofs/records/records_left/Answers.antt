@@ -1,26 +1,50 @@
-use Rattle.std.proofs.Common.{◌∙◌, ap, sym, subst, List, Vec, Global}
-use Rattle.std.specs.List.{filter_map}
-use Rattle.std.proofs.lemmas.List.{take_all}
+use Rattle.std.proofs.Common.{◌<◌, ◌≤◌, ◌+◌, ◌∙◌, ℕ, List, Vec, Global, set, length, arith, ap, sym, subst}
+use Rattle.std.proofs.lemmas.List.{length-set}
+use Rattle.narrowing.proofs.Listing.{with_rest, all_left, none_more, one_left}
+use Rattle.narrowing.specs.Left.{left_under}
+use Rattle.narrowing.specs.KeptLaws.{fits_history-left}
 use Rattle.token_store.specs.Fits.{FitsHistory}
 use Rattle.token_store.specs.Image.{as_kept}
 use Rattle.token_store.specs.Kept.{Kept}
 use Rattle.token_store.specs.declared.image.KeptRecord.{KeptRecord}
-use Rattle.narrowing.specs.Left.{left_under}
-use Rattle.narrowing.specs.LeftKept.{kept_left}
-use Rattle.narrowing.specs.KeptLaws.{fits_history-left}
-use Rattle.narrowing.proofs.Listing.{none_more, one_left}
+use Rattle.narrowing.proofs.records.records_left.Goals.{in-Some, in_default}
 use Rattle.narrowing.proofs.records.records_left.Goals as goal
-use Rattle.narrowing.proofs.records.records_left.Goals.{in-Some+in_ok-extend_from_slice, in_default}
 
-pub loop-of-preserved : goal.loop-of-preserved
-loop-of-preserved c =
+pub loop-place-preserved : goal.loop-place-preserved
+loop-place-preserved c =
+    let rules = c.args.rules.now in
+    let items = c.loop-place.left.items in
+    let count = c.loop-place.count in
+    let place = c.loop-place.place in
+    let before = c.loop-place.invariant.before in
+    let within : place < length items = omega (arith, c.loop-place-test.true, c.loop-place.invariant.length) in
     elim c.match-left_of.branch [
-      | in-Some+in_ok-extend_from_slice w ↦ ap (λ (v : Vec KeptRecord Global). as_kept v.items) w.left-is ∙ one_left c.args.rules.now c.args.moment c.args.records.now c.loop-of.of-index c.of-item.result c.loop-of-test.true c.of-item.is c.loop-of.left.items w.extend_from_slice.new.self.items w.in-Some.kept w.in-Some.ensures w.in_ok-extend_from_slice.ensures.items c.loop-of.invariant
-      | in_default w ↦ ap (λ (v : Vec KeptRecord Global). as_kept v.items) w.left-is ∙ none_more c.args.rules.now c.args.moment c.args.records.now c.loop-of.of-index c.of-item.result c.loop-of-test.true c.of-item.is c.loop-of.left.items w.in_default.ensures c.loop-of.invariant
+      | in-Some w ↦ record {
+        left = ap (λ (v : Vec KeptRecord Global). with_rest rules c.args.moment v.items c.match-left_of.count (place + 1)) w.left-is
+            ∙ ap (λ (n : ℕ). with_rest rules c.args.moment (set items count w.in-Some.kept) n (place + 1)) w.count-is
+            ∙ one_left rules c.args.moment items count place c.index.result.now within c.index.ensures w.in-Some.kept before w.in-Some.ensures ∙ c.loop-place.invariant.left;
+        before = omega (arith, w.count-is, before);
+        length = ap (λ (v : Vec KeptRecord Global). length v.items) w.left-is ∙ length-set items count w.in-Some.kept ∙ c.loop-place.invariant.length;
+      }
+      | in_default w ↦ record {
+        left = ap (λ (v : Vec KeptRecord Global). with_rest rules c.args.moment v.items c.match-left_of.count (place + 1)) w.left-is
+            ∙ ap (λ (n : ℕ). with_rest rules c.args.moment items n (place + 1)) w.count-is
+            ∙ none_more rules c.args.moment items count place c.index.result.now within c.index.ensures w.in_default.ensures ∙ c.loop-place.invariant.left;
+        before = omega (arith, w.count-is, before);
+        length = ap (λ (v : Vec KeptRecord Global). length v.items) w.left-is ∙ c.loop-place.invariant.length;
+      }
     ]
+
+pub returns-clause-exact : goal.returns-clause-exact
+returns-clause-exact c =
+    let items = c.loop-place.left.items in
+    let past : length items ≤ c.loop-place.place = omega (arith, c.loop-place-test.false, c.loop-place.invariant.length) in
+    ap as_kept c.truncate.ensures.items ∙ sym (all_left c.args.rules.now c.args.moment items c.loop-place.count c.loop-place.place past) ∙ c.loop-place.invariant.left
 
 pub returns-clause-fits : goal.returns-clause-fits
 returns-clause-fits c = λ history fits.
+    let items = c.loop-place.left.items in
+    let past : length items ≤ c.loop-place.place = omega (arith, c.loop-place-test.false, c.loop-place.invariant.length) in
     subst (λ (ks : List Kept). FitsHistory ks (left_under c.args.rules.now history) c.args.moment)
-    (sym (c.loop-of.invariant ∙ ap (λ (xs : List KeptRecord). filter_map (kept_left c.args.rules.now c.args.moment) (as_kept xs)) (take_all c.loop-of.of-index c.args.records.now c.loop-of-test.false)))
-    (fits_history-left c.args.rules.now (as_kept c.args.records.now) history c.args.moment fits)
+    (sym (ap as_kept c.truncate.ensures.items ∙ sym (all_left c.args.rules.now c.args.moment items c.loop-place.count c.loop-place.place past) ∙ c.loop-place.invariant.left))
+    (fits_history-left c.args.rules.now (as_kept c.args.records.items) history c.args.moment fits)
