@@ -8,7 +8,9 @@ use Rattle.http_edge.specs.Edges.{SeenEdge, output_of}
 use Rattle.http_edge.specs.Refusals.{IsOpeningRefusal, IsEndingRefusal}
 use Rattle.http_edge.specs.Reached.{Journey, Reached, HappeningLeads, is_closing, led_on}
 use Rattle.http_edge.specs.Pieces.{WhereReached, PieceGiven, RefusesPiece, supplied}
-use Rattle.http_edge.specs.contracts.chance.ChaCha20RngDrawSource.TheImpl as generators
+use Rattle.serving.specs.contracts.piece_draws.PieceDrawsDrawSource.TheImpl as piece_sources
+use Rattle.serving.specs.declared.piece_draws.PieceDraws.{PieceDraws}
+use Rattle.serving.specs.PieceDraws.{piece_draws, draws_in_piece, behind_piece}
 use Rattle.serving.specs.Streams.{Doing, Received, ReadFailed, Sent, WriteFailed}
 use Rattle.http_edge.specs.declared.fault.EdgeFault.{EdgeFault}
 use Rattle.serving.specs.declared.fault.ServeFault.{ServeFault}
@@ -94,27 +96,28 @@ pub record WriteFails {H S : Type 0} (t : StreamService H S) (old new : EdgeStre
   pub some_left : 0 < length (output_of new.edge t.connection)
   pub fails : t.does before WriteFailed new.stream ⊎ t.does before (Sent []) new.stream
 
--- What may be done at a stage, and the stage that comes of it. Only a piece that was given takes draws of the generator.
+-- What may be done at a stage, and the stage that comes of it. A piece that is read has its own draws: the generator stands
+-- behind all of them from then on, also where the piece is refused, or the clock tells no moment for it. Nothing else moves it.
 pub data ServingStep {H S C : Type 0} (t : StreamService H S) (tells : C → Option ℕ → C → Type 0) : ServingScene H S C → ServingScene H S C → Type 0 where
   opens : {e e' : SeenEdge H} {s : S} {k : C} {g : ChaCha} → HappeningLeads t.hosting e e' (Opened t.connection) →
       ServingStep t tells (serving_scene Coming e s k g) (serving_scene (Reading 0) e' s k g)
   denies : {e : SeenEdge H} {s : S} {k : C} {g : ChaCha} (fault : EdgeFault) →
       WhereReached t.hosting e (λ connections. IsOpeningRefusal fault connections t.connection) →
       ServingStep t tells (serving_scene Coming e s k g) (serving_scene (Left (Some (Fault.Refused fault))) e s k g)
-  -- a piece was read, and given at the moment that the clock told
-  hears : {e e' : SeenEdge H} {s s' : S} {k k' : C} {g g' : ChaCha} (n : ℕ) (piece : List ℕ) (moment : ℕ) → n < pieces_limit →
+  -- a piece was read, and given with its draws at the moment that the clock told
+  hears : {e e' : SeenEdge H} {s s' : S} {k k' : C} {g : ChaCha} {left : PieceDraws} (n : ℕ) (piece : List ℕ) (moment : ℕ) → n < pieces_limit →
       IsAttentive t.hosting e t.connection →
       0 < length piece → length piece ≤ stream_piece_limit → t.does s (Received piece) s' → tells k (Some moment) k' →
-      PieceGiven t.hosting generators.ghosts (supplied e g) (piece_of t.connection piece moment) (supplied e' g') →
-      ServingStep t tells (serving_scene (Reading n) e s k g) (serving_scene (Reading (n + 1)) e' s' k' g')
+      PieceGiven t.hosting piece_sources.ghosts (supplied e (piece_draws g)) (piece_of t.connection piece moment) (supplied e' left) →
+      ServingStep t tells (serving_scene (Reading n) e s k g) (serving_scene (Reading (n + 1)) e' s' k' (behind_piece g))
   refuses : {e : SeenEdge H} {s s' : S} {k k' : C} {g : ChaCha} (n : ℕ) (piece : List ℕ) (moment : ℕ) (fault : EdgeFault) → n < pieces_limit →
       IsAttentive t.hosting e t.connection →
       0 < length piece → length piece ≤ stream_piece_limit → t.does s (Received piece) s' → tells k (Some moment) k' →
-      RefusesPiece t.hosting e (piece_of t.connection piece moment) None fault →
-      ServingStep t tells (serving_scene (Reading n) e s k g) (serving_scene (Served (Some (Fault.Refused fault))) e s' k' g)
+      RefusesPiece t.hosting e (piece_of t.connection piece moment) (Some draws_in_piece) fault →
+      ServingStep t tells (serving_scene (Reading n) e s k g) (serving_scene (Served (Some (Fault.Refused fault))) e s' k' (behind_piece g))
   loses_time : {e : SeenEdge H} {s s' : S} {k k' : C} {g : ChaCha} (n : ℕ) (piece : List ℕ) → n < pieces_limit → IsAttentive t.hosting e t.connection →
       0 < length piece → length piece ≤ stream_piece_limit → t.does s (Received piece) s' → tells k None k' →
-      ServingStep t tells (serving_scene (Reading n) e s k g) (serving_scene (Served (Some Fault.Clock)) e s' k' g)
+      ServingStep t tells (serving_scene (Reading n) e s k g) (serving_scene (Served (Some Fault.Clock)) e s' k' (behind_piece g))
   breaks : {e : SeenEdge H} {s s' : S} {k : C} {g : ChaCha} (n : ℕ) → n < pieces_limit → IsAttentive t.hosting e t.connection → t.does s ReadFailed s' →
       ServingStep t tells (serving_scene (Reading n) e s k g) (serving_scene (Served (Some Fault.Read)) e s' k g)
   -- the stream has no more, or so many pieces were read

@@ -5,6 +5,7 @@
 
 mod clock;
 mod fault;
+mod piece_draws;
 mod serve;
 mod stream;
 

@@ -8,6 +8,7 @@ ghost use Rattle.serving.specs.declared.fault.ServeFault.TheVariants.{Write};
 
 use crate::clock::Clock;
 use crate::fault::ServeFault;
+use crate::piece_draws::PieceDraws;
 use crate::stream::Stream;
 use hook_host::HookHost;
 use http_edge::{ConnectionNo, Edge, Event};
@@ -26,7 +27,7 @@ enum Heard {
     End,
 }
 
-// Reads a piece, and gives it to the edge.
+// Reads a piece, and gives it to the edge with the draws that are its own.
 fn hear<H: HookHost, S: Stream, C: Clock>(
     edge: &mut Edge<H>,
     c: ConnectionNo,
@@ -45,10 +46,11 @@ fn hear<H: HookHost, S: Stream, C: Clock>(
     if count == 0 {
         return Ok(Heard::End);
     }
+    let mut draws = PieceDraws::of_next(rng);
     let Some(moment) = clock.now() else {
         return Err(ServeFault::Clock);
     };
-    if let Err(fault) = edge.hear(c, &buffer[..count], moment, rng) {
+    if let Err(fault) = edge.hear(c, &buffer[..count], moment, &mut draws) {
         return Err(ServeFault::Refused(fault));
     }
     Ok(Heard::Piece)
@@ -141,6 +143,10 @@ fn attend<H: HookHost, S: Stream, C: Clock>(
 /// the edge, and all output is written before the next. It is over where the stream has no more, where 1,048,576 pieces
 /// were read, or where the 400 of a faulty head was written. Whatever ends it, the connection is forgotten; where it
 /// could not be opened, nothing else is done.
+///
+/// Each piece that is read has 64 draws of its own, by the next 1,024 words of the generator, and its k-th request has the
+/// k-th: neither depends on what the pieces before it held. They are used up also where the piece is refused, or the clock
+/// tells no moment for it.
 pub fn serve_one<H: HookHost, S: Stream, C: Clock>(
     edge: &mut Edge<H>,
     c: ConnectionNo,

@@ -14,9 +14,9 @@ use std::io::{self, ErrorKind, Read, Write};
 use std::process::Abort;
 use std::test::Fail;
 
-/// A client that may ask for tokens.
+/// A client that may ask for tokens, and one that may ask for codes.
 const REGISTRY: &[u8] =
-    br#"{"access_life":300,"refresh_life":86400,"operator":"op-key","owners":["ann-key"],"scopes":["read"],"clients":[{"id":"bot","secret":"b0t","redirects":[],"scope":"read","grants":["client_credentials"]}]}"#;
+    br#"{"access_life":300,"refresh_life":86400,"operator":"op-key","owners":["ann-key"],"scopes":["read"],"clients":[{"id":"app","secret":"s3cret","redirects":["https://app.example/cb"],"scope":"read","grants":["authorization_code"]},{"id":"bot","secret":"b0t","redirects":[],"scope":"read","grants":["client_credentials"]}]}"#;
 
 /// A client asks for a token.
 const REQUEST: &[u8] =
@@ -25,16 +25,16 @@ const REQUEST: &[u8] =
 /// It does so three times.
 const REQUESTS: &[&[u8]] = &[REQUEST, REQUEST, REQUEST];
 
-/// The replies with the tokens of the first three draws: 32 bytes each of ChaCha20's blocks 0, 1 and 2, for a key and a nonce of
-/// zeros.
+/// The replies with the tokens of the first draws of three pieces: 32 bytes each of ChaCha20's blocks 0, 64 and 128, for a key
+/// and a nonce of zeros.
 const REPLIES: &[u8] =
-    b"HTTP/1.1 200 OK\r\nContent-Type: application/json\r\nCache-Control: no-store\r\nPragma: no-cache\r\nContent-Length: 116\r\n\r\n{\"access_token\":\"drjgraDxPZBAXWrlU4a9KL3SGbigje0aqDbvzIt3Dcc\",\"expires_in\":300,\"scope\":\"read\",\"token_type\":\"Bearer\"}HTTP/1.1 200 OK\r\nContent-Type: application/json\r\nCache-Control: no-store\r\nPragma: no-cache\r\nContent-Length: 116\r\n\r\n{\"access_token\":\"nwfnvlVROHqYupd8cy0IDcsPKaBI42VpEsZTPjLueu0\",\"expires_in\":300,\"scope\":\"read\",\"token_type\":\"Bearer\"}HTTP/1.1 200 OK\r\nContent-Type: application/json\r\nCache-Control: no-store\r\nPragma: no-cache\r\nContent-Length: 116\r\n\r\n{\"access_token\":\"LQmg5mMmbOGuftEIGWigdY5xjpl702LGsMNGNKmgs10\",\"expires_in\":300,\"scope\":\"read\",\"token_type\":\"Bearer\"}";
+    b"HTTP/1.1 200 OK\r\nContent-Type: application/json\r\nCache-Control: no-store\r\nPragma: no-cache\r\nContent-Length: 116\r\n\r\n{\"access_token\":\"drjgraDxPZBAXWrlU4a9KL3SGbigje0aqDbvzIt3Dcc\",\"expires_in\":300,\"scope\":\"read\",\"token_type\":\"Bearer\"}HTTP/1.1 200 OK\r\nContent-Type: application/json\r\nCache-Control: no-store\r\nPragma: no-cache\r\nContent-Length: 116\r\n\r\n{\"access_token\":\"HG9bKKN6Ha05n4xPLSzt0PcaaTfBCqeOKfgrT10S504\",\"expires_in\":300,\"scope\":\"read\",\"token_type\":\"Bearer\"}HTTP/1.1 200 OK\r\nContent-Type: application/json\r\nCache-Control: no-store\r\nPragma: no-cache\r\nContent-Length: 116\r\n\r\n{\"access_token\":\"ZK1dTf2Xr-o5IlLACZZNCmpXt_Q0KQlDMp2zYiDGB3U\",\"expires_in\":300,\"scope\":\"read\",\"token_type\":\"Bearer\"}";
 
 /// It asks whether the tokens are active.
 const QUESTIONS: &[&[u8]] = &[
     b"POST /introspect HTTP/1.1\r\nAuthorization: Basic Ym90OmIwdA==\r\nContent-Length: 49\r\n\r\ntoken=drjgraDxPZBAXWrlU4a9KL3SGbigje0aqDbvzIt3Dcc",
-    b"POST /introspect HTTP/1.1\r\nAuthorization: Basic Ym90OmIwdA==\r\nContent-Length: 49\r\n\r\ntoken=nwfnvlVROHqYupd8cy0IDcsPKaBI42VpEsZTPjLueu0",
-    b"POST /introspect HTTP/1.1\r\nAuthorization: Basic Ym90OmIwdA==\r\nContent-Length: 49\r\n\r\ntoken=LQmg5mMmbOGuftEIGWigdY5xjpl702LGsMNGNKmgs10",
+    b"POST /introspect HTTP/1.1\r\nAuthorization: Basic Ym90OmIwdA==\r\nContent-Length: 49\r\n\r\ntoken=HG9bKKN6Ha05n4xPLSzt0PcaaTfBCqeOKfgrT10S504",
+    b"POST /introspect HTTP/1.1\r\nAuthorization: Basic Ym90OmIwdA==\r\nContent-Length: 49\r\n\r\ntoken=ZK1dTf2Xr-o5IlLACZZNCmpXt_Q0KQlDMp2zYiDGB3U",
 ];
 
 const ACTIVE: &[u8] =
@@ -269,4 +269,36 @@ fn draws_are_in_order(rt: HostRuntime) {
         assert!(rt; draws.first.as_slice() == first.as_slice());
         assert!(rt; draws.second.as_slice() == second.as_slice());
     }
+}
+
+/// An owner consents and a client asks for a token, in one piece, and another asks for a code, in two.
+const PIECES: &[&[u8]] = &[
+    b"POST /consent HTTP/1.1\r\nX-Owner-Key: ann-key\r\nContent-Length: 24\r\n\r\nclient_id=app&scope=readPOST /token HTTP/1.1\r\nContent-Length: 61\r\n\r\ngrant_type=client_credentials&client_id=bot&client_secret=b0t",
+    b"GET /authorize?response_type=code&client_id=app&redirect_uri=https%3A%2F%2Fapp.example%2Fcb&scope=read",
+    b"&state=xyz&code_challenge=E9Melhoa2OwvFrEMTJguCHaoeK1t8URWbuGJSstw-cM&code_challenge_method=S256 HTTP/1.1\r\nX-Owner-Key: ann-key\r\n\r\n",
+];
+
+/// The replies for the key 00 01 .. 1f and a nonce of zeros: the token is of the second draws of the first piece, the code of the
+/// first ones of the third. They are 32 bytes each of ChaCha20's blocks 1 and 128.
+const PIECE_REPLIES: &[u8] =
+    b"HTTP/1.1 200 OK\r\nContent-Type: application/json\r\nCache-Control: no-store\r\nPragma: no-cache\r\nContent-Length: 16\r\n\r\n{\"scope\":\"read\"}HTTP/1.1 200 OK\r\nContent-Type: application/json\r\nCache-Control: no-store\r\nPragma: no-cache\r\nContent-Length: 116\r\n\r\n{\"access_token\":\"GLhCMa3mptETYVxhr0NOJ_ix8_XhrVtc7Pj8Eio1dVw\",\"expires_in\":300,\"scope\":\"read\",\"token_type\":\"Bearer\"}HTTP/1.1 302 Found\r\nCache-Control: no-store\r\nPragma: no-cache\r\nLocation: https://app.example/cb?code=ocTaNWMKlIRXApX2elKytLwJ3PTGefwtZ2KIRdXH3to&state=xyz\r\nContent-Length: 0\r\n\r\n";
+
+/// Whether the pieces are answered so.
+fn has_own_draws(alloc: Global) -> Result<bool, ConfigFault> {
+    let registry = Registry::read(alloc, REGISTRY)?;
+    let mut edge = Edge::new(alloc, Server::new(alloc, registry, Chain::new(alloc)));
+    let mut rng = ChaCha20Rng::from_seed(
+        *b"\x00\x01\x02\x03\x04\x05\x06\x07\x08\x09\x0a\x0b\x0c\x0d\x0e\x0f\x10\x11\x12\x13\x14\x15\x16\x17\x18\x19\x1a\x1b\x1c\x1d\x1e\x1f",
+    );
+    let (ended, written) = served(alloc, &mut edge, &mut rng, PIECES, SMOOTH);
+    Ok(ended.is_ok() && written.as_slice() == PIECE_REPLIES)
+}
+
+#[test]
+fn each_piece_has_its_own_draws(rt: HostRuntime) -> Result<(), Fail> {
+    if let Ok(true) = has_own_draws(rt.alloc()) {
+        return Ok(());
+    }
+    assert!(rt; has_own_draws(rt.alloc())?);
+    Ok(())
 }

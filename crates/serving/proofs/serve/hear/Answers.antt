@@ -11,13 +11,16 @@ returns-then-count-eq0 g c = λ n few first run. goes run (finishes n few c.requ
 
 pub returns-in_default-now : goal.returns-in_default-now
 returns-in_default-now g c = λ n few first run.
-    goes run (loses_time n _ few c.requires.attentive (piece_comes _ _ (search rules) c.in-Ok.ensures.within.0) (piece_fits _ _ (search rules)) c.in-Ok.ensures.done c.in_default-now.ensures)
+    rw c.of_next-draws.ensures.behind
+    (goes run (loses_time n _ few c.requires.attentive (piece_comes _ _ (search rules) c.in-Ok.ensures.within.0) (piece_fits _ _ (search rules)) c.in-Ok.ensures.done c.in_default-now.ensures))
 
 pub returns-in-Err : goal.returns-in-Err
 returns-in-Err g c = λ n few first run.
-    rw (c.in-Err.ensures.err, c.in-Err.ensures.undrawn)
-    (goes run (refuses n _ _ c.in-Err.fault few c.requires.attentive (piece_comes _ _ (search rules) c.in-Ok.ensures.within.0) (piece_fits _ _ (search rules)) c.in-Ok.ensures.done c.in-Some.ensures c.in-Err.ensures.refused))
+    let refused = rw c.of_next-draws.ensures.next at c.in-Err.ensures.refused in
+    rw (c.in-Err.ensures.err, c.of_next-draws.ensures.behind)
+    (goes run (refuses n _ _ c.in-Err.fault few c.requires.attentive (piece_comes _ _ (search rules) c.in-Ok.ensures.within.0) (piece_fits _ _ (search rules)) c.in-Ok.ensures.done c.in-Some.ensures refused))
 
 pub returns : goal.returns
 returns g c = λ n few first run.
-    goes run (hears n _ _ few c.requires.attentive (piece_comes _ _ (search rules) c.in-Ok.ensures.within.0) (piece_fits _ _ (search rules)) c.in-Ok.ensures.done c.in-Some.ensures c.in_default-hear.ensures.given)
+    rw c.of_next-draws.ensures.behind
+    (goes run (hears n _ _ few c.requires.attentive (piece_comes _ _ (search rules) c.in-Ok.ensures.within.0) (piece_fits _ _ (search rules)) c.in-Ok.ensures.done c.in-Some.ensures (rw c.of_next-draws.ensures.next at c.in_default-hear.ensures.given)))
