@@ -5,8 +5,6 @@ use Rattle.std.specs.Option.{option_map_or}
 use Rattle.std.proofs.lemmas.Bool.{and_parts, eqb-true, false≢true}
 use Rattle.std.proofs.lemmas.List.Elements.{All-nil, All-cons, All-contains, All-weaker}
 use Rattle.std.proofs.lemmas.List.Sums.{AllPass-from_list_all}
-use Rattle.std.proofs.lemmas.Slice.Eq.{bytes_eq-Decides}
-use Rattle.sha2.specs.Sha256.{sha256}
 use Rattle.clients.specs.RegistryRecord.{RegistryRecord}
 use Rattle.clients.specs.Registry.{is_operator_key}
 use Rattle.clients.specs.Owners.{owner_with}
@@ -101,7 +99,7 @@ module _ (history : List Event) (m : ℕ) (is : IsHistory history m) where
       where
         by_key : (o : Option (List ℕ)) → asked.operator_key ≡ o → option_map_or (λ key. is_operator_key key rules) o false ≡ true → BearsOperatorKey rules asked
         by_key None is h = absurd (false≢true h)
-        by_key (Some key) is h = (key, is, (bytes_eq-Decides (sha256 key) rules.operator).0 h)
+        by_key (Some key) is h = (key, is, h)
 
     -- a token in the family of what is used, and its use
     issued : (sender : Sender rules asked) (digest : List ℕ) (g : Grant) → grant_at history digest occasion.arrival.moment ≡ Some g → g.client ≡ sender.known.number →

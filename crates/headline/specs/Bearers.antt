@@ -1,8 +1,8 @@
 -- Whose credentials and keys a request bears.
-use Rattle.std.specs.Prelude.{◌≡◌, ℕ, List, Some, Ok}
-use Rattle.sha2.specs.Sha256.{sha256}
+use Rattle.std.specs.Prelude.{◌≡◌, ℕ, List, true, Some, Ok}
 use Rattle.clients.specs.RegistryRecord.{RegistryRecord}
 use Rattle.clients.specs.Owners.{owner_with}
+use Rattle.clients.specs.Registry.{is_operator_key}
 use Rattle.authentication.specs.Authentication.{authenticated}
 use Rattle.messages.specs.Asked.{Asked}
 use Rattle.answers.specs.Requesters.{Parameters, form_of}
@@ -21,4 +21,4 @@ BearsOwnerKey rules asked owner = (key : List ℕ) × (asked.owner_key ≡ Some 
 
 -- the operator's key
 abbrev pub BearsOperatorKey : RegistryRecord → Asked → Type 0
-BearsOperatorKey rules asked = (key : List ℕ) × (asked.operator_key ≡ Some key) × (sha256 key ≡ rules.operator)
+BearsOperatorKey rules asked = (key : List ℕ) × (asked.operator_key ≡ Some key) × (is_operator_key key rules ≡ true)

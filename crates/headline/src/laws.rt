@@ -20,7 +20,7 @@ pub fn active_tokens_keep_their_bounds<H: HookHost>()
     ensures { AtEachServer H.HookHost TellsWithin }
 {}
 
-/// Active means live: no other token is told of as active, and each live one is that a client presents at `POST /introspect`,
+/// Active means live: no other token is told of as active, and each live one that a client presents at `POST /introspect` is,
 /// unless memory is refused.
 pub fn active_means_live<H: HookHost>()
     ensures { AtEachServer H.HookHost IsActiveWhereLive }
@@ -58,7 +58,8 @@ pub fn a_revoked_family_stays_dead()
 {}
 
 /// No hooks' answers widen a grant, whatever their programs do: tokens that are answered would be answered without hooks too,
-/// and have some of the scope and some of the life that they would have then.
+/// and have some of the scope and some of the life that they would have then; so do the reply's `scope` and `expires_in`, which
+/// are those of its access token.
 pub fn no_hook_widens()
     ensures { OnEachOccasion WidensNothing }
 {}
@@ -77,8 +78,8 @@ pub fn nothing_happens_without_authority<H: HookHost>()
     ensures { AtEachServer H.HookHost IsAllAuthorized }
 {}
 
-/// No family ends without authority: it ends with the credentials of its client, or with the key of its code's owner, whose
-/// consent falls below the code's scope. Without any request a code or token is only ever lost to the clock.
+/// No family ends without authority: it ends with the credentials of its client or, where a consent falls below the scope of
+/// its code, with the key of that code's owner. Without any request codes and tokens only expire.
 pub fn no_family_ends_without_authority<H: HookHost>()
     ensures { AtEachServer H.HookHost EndsWithAuthority }
 {}
