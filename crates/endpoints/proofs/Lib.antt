@@ -13,3 +13,4 @@ pub mod Answering
 pub mod Sweeping
 pub mod Besides
 pub mod Redoing
+pub mod Restored

@@ -1,28 +1,35 @@
 -- What is made again.
-use Rattle.std.proofs.Common.{◌≡◌, ◌≤◌, ◌∙◌, ap, sym, refl, inl, inr, ℕ, List, [], ◌∷◌, Bool, true, false, Option, Some, None, arith, subst}
-use Rattle.std.specs.Prelude.{◌<◌, ◌↔◌, is_some, option_map, Result, Ok, Err, OnOk}
-use Rattle.std.specs.Option.{option_and_then}
+use Rattle.std.proofs.Common.{◌≡◌, ◌≤◌, ◌⊎◌, ◌∙◌, ap, sym, refl, inl, inr, cond, not, ℕ, List, [], ◌∷◌, Bool, true, false, Option, Some, None, arith, subst}
+use Rattle.std.specs.Prelude.{◌&&◌, ◌==◌, ◌<◌, ◌↔◌, find, nat_le, is_some, option_map, Result, Ok, Err, OnOk}
+use Rattle.std.specs.Option.{option_and_then, option_map_or}
+use Rattle.std.proofs.lemmas.Bool.{and_parts, eqb-true, leb-true}
+use Rattle.clients.specs.ClientRecord.{ClientRecord}
+use Rattle.clients.specs.Clients.{client_at}
+use Rattle.clients.specs.RegistryRecord.{RegistryRecord}
 use Rattle.consent.specs.Changes.{change_of, changes_of, issued_with, family_ended}
 use Rattle.consent.specs.Consents.{FitsConsents}
 use Rattle.consent.specs.GrowthLaws.{is_taken-parts}
-use Rattle.consent.specs.History.{Event, Change as Happening, Grant, IsHistory, grant_at, is_taken, has_room, with_change, CanFollow}
-use Rattle.consent.specs.HistoryLaws.{grant_at-kin, grant_at-placed}
+use Rattle.consent.specs.History.{Event, Change as Happening, Grant, Terms, IsHistory, code_terms, consented_scope, grant_at, grants, has_ended, is_code, is_code_of, is_taken, is_within, has_room, terms_of, with_change, CanFollow}
+use Rattle.consent.specs.HistoryLaws.{code_terms-kin, grant_at-kin, grant_at-placed, opener-fresh}
 use Rattle.consent.specs.Seen.{seen_at, seen_in}
+use Rattle.consent.specs.declared.change.NewToken.{NewToken}
 use Rattle.consent.specs.declared.change.Change.{Change}
 use Rattle.consent.specs.declared.change.Change.TheVariants.{Consented, CodeGiven, IssuedAlone, Issued, Spent, FamilyEnded, HookSet, HookGone}
 use Rattle.hook_host.specs.declared.host.HookHost.{Ghosts as Hosting}
 use Rattle.token_store.specs.Fits.{FitsStore, refusal, refusal_by}
 use Rattle.token_store.specs.FitsLaws.{fits_later, store_history}
-use Rattle.token_store.specs.Found.{found_seen}
+use Rattle.token_store.specs.Found.{code_scope_of, found_seen}
 use Rattle.token_store.specs.Kept.{Held}
 use Rattle.token_store.specs.declared.found.Found.{Found}
+use Rattle.endpoints.specs.Bounded.{IsOfCode, IsOwn, IsRightChange, MayHave, is_of_code, token_life_limit}
 use Rattle.endpoints.specs.Making.{IsSame, Makes}
-use Rattle.endpoints.specs.Redo.{RedoesChange, RefusesRedo, history_refusal, unless_known}
+use Rattle.endpoints.specs.Redo.{RedoesChange, RefusesRedo, history_refusal, or_not_right, unless_known, wanting}
+use Rattle.endpoints.specs.Right.{comes_of, is_right, is_right_of, may_have, may_have_token}
 use Rattle.endpoints.specs.RedoParts.{FollowsEach, IsOfHistory}
 use Rattle.endpoints.specs.Ruling.{CanMake}
-use Rattle.endpoints.specs.Server.{SeenServer}
+use Rattle.endpoints.specs.Server.{FitsServer, Outset, SeenServer}
 use Rattle.endpoints.specs.declared.redo.RedoFault.{RedoFault}
-use Rattle.endpoints.specs.declared.redo.RedoFault.TheVariants.{MomentBack, Unknown, Store, ConsentsFull, Hook, Memory}
+use Rattle.endpoints.specs.declared.redo.RedoFault.TheVariants.{MomentBack, Unknown, Store, ConsentsFull, NotRight, Hook, Memory}
 use Rattle.endpoints.specs.declared.ruling.Checked.{Checked}
 use Rattle.endpoints.proofs.Answering.{swept}
 
@@ -45,40 +52,123 @@ free : (history : List Event) (m : ℕ) (digest : List ℕ) → option_map Store
 free history m digest is =
     (is_taken-parts history m digest [] (not_taken (has_room history m (digest ∷ [])) (is_taken history m (digest ∷ [])) is)).0
 
--- what a change means that may come next
-pub record IsNext (history : List Event) (m : ℕ) (change : Change) : Type 0 where
+-- RIGHTNESS
+
+may : (rules : RegistryRecord) (client scope : ℕ) → may_have rules client scope ≡ true → MayHave rules client scope
+may rules client scope is = by (client_at client rules.clients) refl is
+  where
+    by : (o : Option ClientRecord) → client_at client rules.clients ≡ o → option_map_or (λ c. is_within scope c.allowed) o false ≡ true → MayHave rules client scope
+    by None at h = absurd (cc)
+    by (Some c) at h = record { is_client = ap is_some at; within = ap (λ o. is_within scope (option_map_or (λ c. c.allowed) o 0)) at ∙ h }
+
+may_token : (rules : RegistryRecord) (client : ℕ) (token : NewToken) → may_have_token rules client token ≡ true →
+    MayHave rules client token.scope × (token.life ≤ token_life_limit rules token.kind)
+may_token rules client token is =
+    let parts = and_parts (may_have rules client token.scope) (nat_le token.life (token_life_limit rules token.kind)) is in
+    (may rules client token.scope parts.0, leb-true token.life (token_life_limit rules token.kind) parts.1)
+
+-- a family without a code was opened by none
+uncoded : (family : ℕ) (gs : List Grant) → option_map terms_of (find (is_code_of family) gs) ≡ None → is_of_code (find (λ g. g.family == family) gs) ≡ false
+uncoded family [] none = refl
+uncoded family (g ∷ gs) none = by (is_code g.kind) refl (g.family == family) none (uncoded family gs)
+  where
+    by : (code : Bool) → is_code g.kind ≡ code → (same : Bool) → option_map terms_of (cond (code && same) (Some g) (find (is_code_of family) gs)) ≡ None →
+        (option_map terms_of (find (is_code_of family) gs) ≡ None → is_of_code (find (λ g. g.family == family) gs) ≡ false) →
+        is_of_code (cond same (Some g) (find (λ g. g.family == family) gs)) ≡ false
+    by true is true h more = absurd (cc)
+    by true is false h more = more h
+    by false is true h more = is
+    by false is false h more = more h
+
+not_true : (b : Bool) → not b ≡ true → b ≡ false
+not_true false h = refl
+not_true true h = absurd (cc)
+
+terms_are : (c o : ℕ) (t : Terms) → t.client ≡ c → t.owner ≡ o → t ≡ record { client = c; owner = o; scope = t.scope }
+terms_are c o t client owner =
+    ap (λ n. record { client = n; owner = t.owner; scope = t.scope }) client ∙ ap (λ n. record { client = c; owner = n; scope = t.scope }) owner
+
+-- what may come of a family is its own client's, or comes of its code
+comes : (history : List Event) (of : List ℕ) (m : ℕ) (g : Grant) (scope : ℕ) → IsHistory history m → grant_at history of m ≡ Some g →
+    comes_of (has_ended history g.family) g.owner (code_scope_of history g) scope ≡ true →
+    IsOwn history g.family g.owner ⊎ IsOfCode history g.family g.client g.owner scope
+comes history of m g scope is at may_come = by (code_terms history g.family) refl may_come
+  where
+    by : (o : Option Terms) → code_terms history g.family ≡ o → comes_of (has_ended history g.family) g.owner (option_map (λ (t : Terms). t.scope) o) scope ≡ true →
+        IsOwn history g.family g.owner ⊎ IsOfCode history g.family g.client g.owner scope
+    by None none h = inl (record { no_owner = eqb-true g.owner 0 h; no_code = uncoded g.family (grants history) none })
+    by (Some t) terms h =
+        let parts = and_parts (is_within scope t.scope) (not (has_ended history g.family)) h in
+        let kin = code_terms-kin history of m g t is.kin at terms in
+        inr (t.scope, terms ∙ ap (λ (x : Terms). Some x) (terms_are g.client g.owner t kin.0 kin.1), parts.0, not_true (has_ended history g.family) parts.1)
+
+-- WHAT COMES NEXT
+
+-- what a change means that may come next, and is right
+pub record IsNext (rules : RegistryRecord) (history : List Event) (m : ℕ) (change : Change) : Type 0 where
   pub next : Happening
   pub meant : change_of history m change ≡ Some next
   pub can : CanFollow history m next
+  pub right : IsRightChange rules history next
 
-issued_next : (history : List Event) (m : ℕ) (of : List ℕ) (change : Change) → IsHistory history m → (o : Option Grant) → grant_at history of m ≡ o →
-    ((g : Grant) → o ≡ Some g → IsNext history m change) → is_some o ≡ true → IsNext history m change
-issued_next history m of change is None at go known = absurd (cc)
-issued_next history m of change is (Some g) at go known = go g refl
+issued_next : (rules : RegistryRecord) (history : List Event) (m : ℕ) (of : List ℕ) (change : Change) → (o : Option Grant) → grant_at history of m ≡ o →
+    ((g : Grant) → grant_at history of m ≡ Some g → IsNext rules history m change) → is_some o ≡ true → IsNext rules history m change
+issued_next rules history m of change None at go known = absurd (cc)
+issued_next rules history m of change (Some g) at go known = go g at
 
 known_some : (known : Bool) (fault : Option RedoFault) → unless_known known fault ≡ None → (known ≡ true) × (fault ≡ None)
 known_some true fault is = (refl, is)
 known_some false fault is = absurd (cc)
 
-pub next_of : (history : List Event) (m : ℕ) (change : Change) → IsHistory history m → history_refusal history m change ≡ None → IsNext history m change
-next_of history m (Consented owner client mask) is free_of = record { next = _; meant = refl; can = tt }
-next_of history m (CodeGiven facts digest) is free_of = record { next = _; meant = refl; can = (refl, free history m digest free_of) }
-next_of history m (IssuedAlone client token) is free_of = record { next = _; meant = refl; can = (inl refl, free history m token.digest free_of) }
-next_of history m (Issued of token) is free_of =
+refusal_parts : (right : Bool) (fault : Option RedoFault) → or_not_right right fault ≡ None → (right ≡ true) × (fault ≡ None)
+refusal_parts right (Some fault) h = absurd (cc)
+refusal_parts true None h = (refl, refl)
+refusal_parts false None h = absurd (cc)
+
+wanted_next : (rules : RegistryRecord) (history : List Event) (m : ℕ) (change : Change) → IsHistory history m → is_right rules history m change ≡ true →
+    wanting history m change ≡ None → IsNext rules history m change
+wanted_next rules history m (Consented owner client mask) is right free_of = record { next = _; meant = refl; can = tt; right = tt }
+wanted_next rules history m (CodeGiven facts digest) is right free_of =
+    let parts = and_parts (may_have rules facts.client facts.scope) (is_within facts.scope (consented_scope history facts.owner facts.client)) right in
+    record { next = _; meant = refl; can = (refl, free history m digest free_of); right = (may rules facts.client facts.scope parts.0, parts.1) }
+wanted_next rules history m (IssuedAlone client token) is right free_of =
+    let held = may_token rules client token right in
+    record {
+      next = _;
+      meant = refl;
+      can = (inl refl, free history m token.digest free_of);
+      right = (held.0, held.1, inl (record { no_owner = refl; no_code = ap is_of_code (opener-fresh history is.placed) }));
+    }
+wanted_next rules history m (Issued of token) is right free_of =
     let parts = known_some (is_some (grant_at history of m)) _ free_of in
-    issued_next history m of (Issued of token) is (grant_at history of m) refl
-    (λ g at. record {
+    issued_next rules history m of (Issued of token) (grant_at history of m) refl
+    (λ g at.
+    let both = and_parts (may_have_token rules g.client token) (comes_of (has_ended history g.family) g.owner (code_scope_of history g) token.scope)
+    (ap (is_right_of rules history token) (sym at) ∙ right) in
+    let held = may_token rules g.client token both.0 in
+    record {
       next = issued_with token g;
       meant = ap (option_map (issued_with token)) at;
       can = (inr (grant_at-kin history of m g is.kin at), free history m token.digest parts.1);
+      right = (held.0, held.1, comes history of m g token.scope is at both.1);
     }) parts.0
-next_of history m (Spent digest) is free_of = record { next = _; meant = refl; can = tt }
-next_of history m (FamilyEnded of) is free_of =
+wanted_next rules history m (Spent digest) is right free_of = record { next = _; meant = refl; can = tt; right = tt }
+wanted_next rules history m (FamilyEnded of) is right free_of =
     let parts = known_some (is_some (grant_at history of m)) _ free_of in
-    issued_next history m of (FamilyEnded of) is (grant_at history of m) refl
-    (λ g at. record { next = family_ended g; meant = ap (option_map family_ended) at; can = grant_at-placed history of m g is.placed at }) parts.0
-next_of history m (HookSet name version code) is free_of = record { next = _; meant = refl; can = tt }
-next_of history m (HookGone name) is free_of = record { next = _; meant = refl; can = tt }
+    issued_next rules history m of (FamilyEnded of) (grant_at history of m) refl
+    (λ g at. record {
+      next = family_ended g;
+      meant = ap (option_map family_ended) at;
+      can = grant_at-placed history of m g is.placed at;
+      right = tt;
+    }) parts.0
+wanted_next rules history m (HookSet name version code) is right free_of = record { next = _; meant = refl; can = tt; right = tt }
+wanted_next rules history m (HookGone name) is right free_of = record { next = _; meant = refl; can = tt; right = tt }
+
+pub next_of : (rules : RegistryRecord) (history : List Event) (m : ℕ) (change : Change) → IsHistory history m → history_refusal rules history m change ≡ None →
+    IsNext rules history m change
+next_of rules history m change is none =
+    let parts = refusal_parts (is_right rules history m change) (wanting history m change) none in wanted_next rules history m change is parts.0 parts.1
 
 pub on_ok : {A E P : Type 0} (r : Result A E) → P → OnOk r P
 on_ok (Ok x) p = p
@@ -94,26 +184,39 @@ none_left None never = refl
 none_left (Some x) never = absurd (never x refl)
 
 module _ {H : Type 0} (hosting : Hosting H) where
+  -- the rules are those of the outset
+  of_rules : (server : SeenServer H) (outset : Outset H) (history : List Event) (m : ℕ) → FitsServer hosting server outset history m →
+      (moment : ℕ) (change : Change) (fault : Option RedoFault) → history_refusal server.rules history moment change ≡ fault →
+      history_refusal outset.rules history moment change ≡ fault
+  of_rules server outset history m fits moment change fault is = subst (λ r. history_refusal r history moment change ≡ fault) fits.rules_are is
+
   -- the fault is that of each history
   pub refused : (server : SeenServer H) (moment : ℕ) (change : Change) (fault : RedoFault) → server.greatest ≤ moment → IsOfHistory fault →
-      ((history : List Event) → FitsStore server.store history moment → FitsConsents server.consents history → Some fault ≡ history_refusal history moment change) →
+      ((history : List Event) → FitsStore server.store history moment → FitsConsents server.consents history → Some fault ≡ history_refusal server.rules history moment change) →
       RefusesRedo hosting server moment change fault
   refused server moment change MomentBack le own is = absurd own
   refused server moment change Unknown le own is = λ outset history m fits.
-      sym (is history (fits_later server.store history m moment (omega (arith, le, fits.greatest_is)) fits.store) fits.consents)
+      of_rules server outset history m fits moment change (Some Unknown)
+      (sym (is history (fits_later server.store history m moment (omega (arith, le, fits.greatest_is)) fits.store) fits.consents))
   refused server moment change (Store fault) le own is = λ outset history m fits.
-      sym (is history (fits_later server.store history m moment (omega (arith, le, fits.greatest_is)) fits.store) fits.consents)
+      of_rules server outset history m fits moment change (Some (Store fault))
+      (sym (is history (fits_later server.store history m moment (omega (arith, le, fits.greatest_is)) fits.store) fits.consents))
   refused server moment change ConsentsFull le own is = λ outset history m fits.
-      sym (is history (fits_later server.store history m moment (omega (arith, le, fits.greatest_is)) fits.store) fits.consents)
+      of_rules server outset history m fits moment change (Some ConsentsFull)
+      (sym (is history (fits_later server.store history m moment (omega (arith, le, fits.greatest_is)) fits.store) fits.consents))
+  refused server moment change NotRight le own is = λ outset history m fits.
+      of_rules server outset history m fits moment change (Some NotRight)
+      (sym (is history (fits_later server.store history m moment (omega (arith, le, fits.greatest_is)) fits.store) fits.consents))
   refused server moment change (Hook fault) le own is = absurd own
   refused server moment change Memory le own is = absurd own
 
   -- no history has a fault
   pub followed : (server : SeenServer H) (moment : ℕ) (change : Change) (found : Option RedoFault) → server.greatest ≤ moment → ((fault : RedoFault) → found ≡ Some fault → ⊥) →
-      ((history : List Event) → FitsStore server.store history moment → FitsConsents server.consents history → found ≡ history_refusal history moment change) →
+      ((history : List Event) → FitsStore server.store history moment → FitsConsents server.consents history → found ≡ history_refusal server.rules history moment change) →
       FollowsEach hosting server moment change
   followed server moment change found le none is outset history m fits =
-      sym (is history (fits_later server.store history m moment (omega (arith, le, fits.greatest_is)) fits.store) fits.consents) ∙ none_left found none
+      of_rules server outset history m fits moment change None
+      (sym (is history (fits_later server.store history m moment (omega (arith, le, fits.greatest_is)) fits.store) fits.consents) ∙ none_left found none)
 
   -- nothing has changed
   pub same_self : (server : SeenServer H) → IsSame hosting server server
@@ -128,19 +231,19 @@ module _ {H : Type 0} (hosting : Hosting H) where
   redone old mid applied store moment change changes checked only le follows can same wide dropped outset history m fits =
       let makes = subst (λ cs. Makes hosting (record mid { greatest = moment }) cs checked applied) only wide in
       let now = swept hosting mid outset history m moment mid.store (omega (arith, le, fits.greatest_is)) (same.fits outset history m fits) (λ f. f) in
-      let n = next_of history moment change (store_history mid.store history moment now.store) (follows outset history m fits) in
+      let n = next_of outset.rules history moment change (store_history mid.store history moment now.store) (follows outset history m fits) in
       let meant : changes_of history moment (change ∷ []) ≡ Some (n.next ∷ []) =
-      ap (λ o. option_and_then (λ (c : Happening). option_map (λ later. c ∷ later) (changes_of (with_change history moment c) moment [])) o) n.meant in (
+      ap (λ o. option_and_then (λ (c : Happening). option_map (λ later. c ∷ later) (changes_of (with_change history moment c) moment [])) o) n.meant in
+      let done = makes outset history (n.next ∷ []) now meant (n.can, tt) (n.right, tt) tt (rw same.host can) in (
         n.next,
         n.meant,
         n.can,
-        λ right.
-            let done = makes outset history (n.next ∷ []) now meant (n.can, tt) (right, tt) tt (rw same.host can) in record {
-              rules_are = done.rules_are;
-              greatest_is = done.greatest_is;
-              store = dropped (with_change history moment n.next) done.store;
-              consents = done.consents;
-              hosts = done.hosts;
-              right = done.right;
-            },
+        record {
+          rules_are = done.rules_are;
+          greatest_is = done.greatest_is;
+          store = dropped (with_change history moment n.next) done.store;
+          consents = done.consents;
+          hosts = done.hosts;
+          right = done.right;
+        },
       )

@@ -16,6 +16,7 @@ pub mod Noting
 pub mod Making
 pub mod Rulings
 pub mod Widening
+pub mod Right
 pub mod Redo
 pub mod FaultTexts
 pub mod Steps

@@ -1,5 +1,5 @@
 -- What is noted of what happens.
-use Rattle.std.specs.Prelude.{◌≡◌, ◌++◌, ℕ, List, Option, Some, None, option_map}
+use Rattle.std.specs.Prelude.{◌≡◌, ◌++◌, ℕ, List, [], Option, Some, None, option_map}
 use Rattle.consent.specs.declared.change.Changes.{Changes}
 use Rattle.change_codec.specs.Spelling.{DatedFact}
 use Rattle.change_codec.specs.Happened.{all_dated}
@@ -16,6 +16,11 @@ prepared_in batch = option_map (λ b. b.prepared) batch
 abbrev pub ArePrepared : Option (List DatedFact) → ℕ → Changes → Type 0
 ArePrepared None moment changes = Unit {0}
 ArePrepared (Some prepared) moment changes = prepared ≡ all_dated moment changes
+
+-- nothing is ready to be noted
+abbrev pub IsNothingPrepared : Option (List DatedFact) → Type 0
+IsNothingPrepared None = Unit {0}
+IsNothingPrepared (Some prepared) = prepared ≡ []
 
 -- the changes are noted at the moment, behind all that was noted
 abbrev pub with_notes : Option (List DatedFact) → ℕ → Changes → Option (List DatedFact)

@@ -7,18 +7,19 @@ use Rattle.consent.specs.declared.change.Change.TheVariants.{Consented, CodeGive
 use Rattle.endpoints.specs.Layouts.{layout_of}
 use Rattle.hook_host.specs.declared.host.HookHost.{Ghosts as Hosting}
 use Rattle.token_store.specs.Fits.{refusal}
-use Rattle.endpoints.specs.Bounded.{IsRightChange}
+use Rattle.clients.specs.RegistryRecord.{RegistryRecord}
+use Rattle.endpoints.specs.Right.{is_right}
 use Rattle.endpoints.specs.Server.{SeenServer, Outset, FitsServer}
 use Rattle.endpoints.specs.declared.redo.RedoFault.{RedoFault}
-use Rattle.endpoints.specs.declared.redo.RedoFault.TheVariants.{MomentBack, Unknown, Store, ConsentsFull, Hook, Memory}
+use Rattle.endpoints.specs.declared.redo.RedoFault.TheVariants.{MomentBack, Unknown, Store, ConsentsFull, NotRight, Hook, Memory}
 
--- Whatever history the server fitted, the change means what may come next, and where that is right, the server then fits the
--- history with it, at its moment.
+-- Whatever history the server fitted, the change means what may come next, and the server then fits the history with it, which
+-- is right, at its moment.
 abbrev pub RedoesChange : {H : Type 0} → Hosting H → SeenServer H → ℕ → Change → SeenServer H → Type 0
 RedoesChange {H = H} hosting old moment change new =
     (outset : Outset H) (history : List Event) (m : ℕ) → FitsServer hosting old outset history m →
     (next : Happening) × (change_of history moment change ≡ Some next) × CanFollow history moment next
-    × (IsRightChange outset.rules history next → FitsServer hosting new outset (with_change history moment next) moment)
+    × FitsServer hosting new outset (with_change history moment next) moment
 
 -- WHY IT IS NOT MADE
 
@@ -26,15 +27,24 @@ RedoesChange {H = H} hosting old moment change new =
 abbrev pub unless_known : Bool → Option RedoFault → Option RedoFault
 unless_known known fault = if known then fault else Some Unknown
 
--- why the history does not go on with the change at the moment
-abbrev pub history_refusal : List Event → ℕ → Change → Option RedoFault
-history_refusal history moment (Consented owner client mask) = if has_consent_room history owner client mask then None else Some ConsentsFull
-history_refusal history moment (CodeGiven facts digest) = option_map Store (refusal history moment (digest ∷ []))
-history_refusal history moment (IssuedAlone client token) = option_map Store (refusal history moment (token.digest ∷ []))
-history_refusal history moment (Issued of token) =
+-- what is wanting for the change at the moment
+abbrev pub wanting : List Event → ℕ → Change → Option RedoFault
+wanting history moment (Consented owner client mask) = if has_consent_room history owner client mask then None else Some ConsentsFull
+wanting history moment (CodeGiven facts digest) = option_map Store (refusal history moment (digest ∷ []))
+wanting history moment (IssuedAlone client token) = option_map Store (refusal history moment (token.digest ∷ []))
+wanting history moment (Issued of token) =
     unless_known (is_some (grant_at history of moment)) (option_map Store (refusal history moment (token.digest ∷ [])))
-history_refusal history moment (FamilyEnded of) = unless_known (is_some (grant_at history of moment)) None
-history_refusal history moment _ = None
+wanting history moment (FamilyEnded of) = unless_known (is_some (grant_at history of moment)) None
+wanting history moment _ = None
+
+-- it is not right, unless something is wanting
+abbrev pub or_not_right : Bool → Option RedoFault → Option RedoFault
+or_not_right right (Some fault) = Some fault
+or_not_right right None = if right then None else Some NotRight
+
+-- why the history does not go on with the change at the moment, under the rules
+abbrev pub history_refusal : RegistryRecord → List Event → ℕ → Change → Option RedoFault
+history_refusal rules history moment change = or_not_right (is_right rules history moment change) (wanting history moment change)
 
 -- why the host does not make its change
 abbrev pub RefusesHookChange : {H : Type 0} → Hosting H → H → Change → RedoFault → Type 0
@@ -51,4 +61,4 @@ RefusesRedo hosting server moment change Memory = Unit {0}
 RefusesRedo hosting server moment change (Hook fault) = RefusesHookChange hosting server.host change (Hook fault)
 RefusesRedo {H = H} hosting server moment change fault =
     (outset : Outset H) (history : List Event) (m : ℕ) → FitsServer hosting server outset history m →
-    history_refusal history moment change ≡ Some fault
+    history_refusal outset.rules history moment change ≡ Some fault

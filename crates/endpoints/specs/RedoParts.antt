@@ -5,18 +5,19 @@ use Rattle.consent.specs.declared.change.Change.{Change}
 use Rattle.hook_host.specs.declared.host.HookHost.{Ghosts as Hosting}
 use Rattle.endpoints.specs.Server.{SeenServer, Outset, FitsServer}
 use Rattle.endpoints.specs.declared.redo.RedoFault.{RedoFault}
-use Rattle.endpoints.specs.declared.redo.RedoFault.TheVariants.{Unknown, Store, ConsentsFull}
+use Rattle.endpoints.specs.declared.redo.RedoFault.TheVariants.{Unknown, Store, ConsentsFull, NotRight}
 use Rattle.endpoints.specs.Redo.{history_refusal}
 
 -- each history that the server fits goes on with it
 abbrev pub FollowsEach : {H : Type 0} → Hosting H → SeenServer H → ℕ → Change → Type 0
 FollowsEach {H = H} hosting server moment change =
     (outset : Outset H) (history : List Event) (m : ℕ) → FitsServer hosting server outset history m →
-    history_refusal history moment change ≡ None
+    history_refusal outset.rules history moment change ≡ None
 
 -- the fault is one that a history has
 abbrev pub IsOfHistory : RedoFault → Type 0
 IsOfHistory Unknown = Unit {0}
 IsOfHistory (Store fault) = Unit {0}
 IsOfHistory ConsentsFull = Unit {0}
+IsOfHistory NotRight = Unit {0}
 IsOfHistory _ = ⊥

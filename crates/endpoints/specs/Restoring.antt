@@ -1,25 +1,30 @@
 -- When a server is made of codes, tokens and consents, and why none is.
-use Rattle.std.specs.Prelude.{◌<◌, ℕ, List, [], codes}
+use Rattle.std.specs.Prelude.{◌<◌, ℕ, List, [], Bool, false, ◌&&◌, ◌||◌, ◌==◌, not, nat_le, codes, length}
+use Rattle.std.specs.List.{list_all}
+use Rattle.std.specs.Option.{option_map_or}
 use Rattle.hook_host.specs.declared.host.HookHost.{Ghosts as Hosting}
 use Rattle.clients.specs.RegistryRecord.{RegistryRecord}
 use Rattle.consent.specs.Consents as consents
 use Rattle.consent.specs.Consents.{FitsConsents, kept_consents}
-use Rattle.consent.specs.History.{Event}
-use Rattle.consent.specs.Limits.{record_limit}
+use Rattle.consent.specs.History.{Event, is_unexpired, is_within}
+use Rattle.consent.specs.Limits.{code_life, consent_limit, record_limit}
+use Rattle.consent.specs.declared.grant.Kind.{Kind}
+use Rattle.consent.specs.declared.grant.Kind.TheVariants.{Code, Token}
 use Rattle.consent.specs.declared.kept_consent.KeptConsent.{KeptConsent}
 use Rattle.consent.specs.declared.kept_consent.ListFault.{ListFault}
 use Rattle.consent.specs.declared.kept_consent.ListFault.TheVariants as list
 use Rattle.token_store.specs.Fits.{FitsHistory, FitsStore}
-use Rattle.token_store.specs.Image.{HasDigestTwice, as_kept}
-use Rattle.token_store.specs.Kept.{kept_unexpired}
+use Rattle.token_store.specs.Image.{HasDigestTwice, as_kept, kept_record}
+use Rattle.token_store.specs.Kept.{Kept, kept_unexpired}
 use Rattle.token_store.specs.declared.image.KeptRecord.{KeptRecord}
 use Rattle.token_store.specs.declared.restoring.RestoreFault.{RestoreFault as StoreFault}
 use Rattle.token_store.specs.declared.restoring.RestoreFault.TheVariants as store
-use Rattle.endpoints.specs.Bounded.{AllRight}
+use Rattle.endpoints.specs.Bounded.{AllRight, token_life_limit}
 use Rattle.endpoints.specs.Hosts.{HostRun}
+use Rattle.endpoints.specs.Right.{may_have}
 use Rattle.endpoints.specs.Server.{FitsServer, SeenServer, outset_of}
 use Rattle.endpoints.specs.declared.restoring.RestoreFault.{RestoreFault}
-use Rattle.endpoints.specs.declared.restoring.RestoreFault.TheVariants.{Full, DigestTwice, FamilyDiffers, ConsentTwice, Memory}
+use Rattle.endpoints.specs.declared.restoring.RestoreFault.TheVariants.{Full, DigestTwice, FamilyDiffers, ConsentsFull, ConsentTwice, NotRight, Memory}
 
 -- the codes, tokens and consents are those of the history, from the moment on
 pub record AreOf (records : List KeptRecord) (consents : List KeptConsent) (history : List Event) (moment : ℕ) : Type 0 where
@@ -50,13 +55,35 @@ AreRecordsOf server records =
 abbrev pub AreConsentsOf : {H : Type 0} → SeenServer H → List KeptConsent → Type 0
 AreConsentsOf server consents = (history : List Event) → FitsConsents server.consents history → FitsConsents (kept_consents consents) history
 
--- why no server is made of them
-abbrev pub RefusesRestore : List KeptRecord → List KeptConsent → ℕ → RestoreFault → Type 0
-RefusesRestore records given moment Full = record_limit < kept_unexpired (as_kept records) moment
-RefusesRestore records given moment DigestTwice = HasDigestTwice (as_kept records) moment
-RefusesRestore records given moment FamilyDiffers = Unit {0}
-RefusesRestore records given moment ConsentTwice = consents.HasTwo given
-RefusesRestore records given moment Memory = Unit {0}
+-- a code or token lives no longer than its kind may
+abbrev pub lives_within : RegistryRecord → Kind → ℕ → Bool
+lives_within rules Code life = life == code_life
+lives_within rules (Token kind) life = nat_le life (token_life_limit rules kind)
+
+-- it is a client's own, or within the scope of its family's code
+abbrev pub has_home : Kept → Bool
+has_home k = (k.grant.owner == 0) || option_map_or (λ terms. is_within k.grant.scope terms.scope) k.terms false
+
+-- it has expired, or keeps to the rules and to its code
+abbrev pub is_allowed : RegistryRecord → ℕ → Kept → Bool
+is_allowed rules moment k =
+    not (is_unexpired moment k.grant)
+    || may_have rules k.grant.client k.grant.scope && lives_within rules k.grant.kind k.grant.life && has_home k
+
+-- all of them do
+abbrev pub are_allowed : RegistryRecord → ℕ → List KeptRecord → Bool
+are_allowed rules moment records = list_all (λ r. is_allowed rules moment (kept_record r)) records
+
+-- why no server is made of what is left: for NotRight, since no history that is right under the rules leaves it
+abbrev pub RefusesRestore : RegistryRecord → Remains → RestoreFault → Type 0
+RefusesRestore rules left Full = record_limit < kept_unexpired (as_kept left.records) left.moment
+RefusesRestore rules left DigestTwice = HasDigestTwice (as_kept left.records) left.moment
+RefusesRestore rules left FamilyDiffers = Unit {0}
+RefusesRestore rules left ConsentsFull = consent_limit < length left.consents
+RefusesRestore rules left ConsentTwice = consents.HasTwo left.consents
+RefusesRestore rules left NotRight =
+    (history : List Event) → AreOf left.records left.consents history left.moment → AllRight rules [] history → ⊥
+RefusesRestore rules left Memory = Unit {0}
 
 abbrev pub of_store_fault : StoreFault → RestoreFault
 of_store_fault store.Full = Full
@@ -65,6 +92,7 @@ of_store_fault store.FamilyDiffers = FamilyDiffers
 of_store_fault store.Memory = Memory
 
 abbrev pub of_list_fault : ListFault → RestoreFault
+of_list_fault list.Full = ConsentsFull
 of_list_fault list.PartiesTwice = ConsentTwice
 of_list_fault list.Memory = Memory
 
@@ -72,5 +100,7 @@ abbrev pub restore_fault_text : RestoreFault → List ℕ
 restore_fault_text Full = codes "Full"
 restore_fault_text DigestTwice = codes "DigestTwice"
 restore_fault_text FamilyDiffers = codes "FamilyDiffers"
+restore_fault_text ConsentsFull = codes "ConsentsFull"
 restore_fault_text ConsentTwice = codes "ConsentTwice"
+restore_fault_text NotRight = codes "NotRight"
 restore_fault_text Memory = codes "Memory"

@@ -2,7 +2,6 @@
 use Rattle.std.specs.Prelude.{◌≡◌, ◌≢◌, Option, Some, None, Result, Ok, Err}
 use Rattle.consent.specs.Changes.{as_list}
 use Rattle.consent.specs.History as history
-use Rattle.consent.specs.declared.change.Change.{Change}
 use Rattle.consent.specs.declared.change.Changes.TheVariants.{Nothing}
 use Rattle.hook_host.specs.declared.fault.HookFault.{HookFault}
 use Rattle.hook_host.specs.declared.fault.HookFault.TheVariants.{Memory}

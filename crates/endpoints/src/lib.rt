@@ -15,6 +15,7 @@ mod reading;
 mod redo;
 mod restoring;
 mod revoke;
+mod right;
 mod ruling;
 mod server;
 mod tally;

@@ -1,13 +1,13 @@
 //! What happens is noted, for whoever keeps it.
-ghost use Rattle.std.specs.Prelude.{◌≡◌, OnOk};
+ghost use Rattle.std.specs.Prelude.{◌≡◌, OnErr, OnOk};
 ghost use Rattle.consent.specs.declared.change.Changes.{Changes};
-ghost use Rattle.endpoints.specs.Noting.{NotesPrepared, ArePrepared, noted_in, prepared_in};
+ghost use Rattle.endpoints.specs.Noting.{NotesPrepared, ArePrepared, IsNothingPrepared, noted_in, prepared_in};
 
 use change_codec::Batch;
 use consent::{Changes, Moment};
 use std::alloc::AllocError;
 
-/// Makes the changes ready to be noted at the moment, where anything is noted.
+/// Makes the changes ready to be noted at the moment, where anything is noted. Where that fails, nothing is ready.
 pub(crate) fn prepare(
     unkept: &mut Option<Batch>,
     moment: Moment,
@@ -15,6 +15,7 @@ pub(crate) fn prepare(
 ) -> Result<(), AllocError>
     ensures same { noted_in unkept.new ≡ noted_in unkept.old }
     ensures prepared { OnOk result (ArePrepared (prepared_in unkept.new) moment changes.now) }
+    ensures err { OnErr result (IsNothingPrepared (prepared_in unkept.new)) }
 {
     match unkept {
         Some(batch) => batch.prepare(moment, changes),

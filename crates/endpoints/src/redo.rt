@@ -7,11 +7,13 @@ ghost use Rattle.endpoints.specs.Parts.{WhereverFits};
 ghost use Rattle.endpoints.specs.Layouts.{layout_of};
 ghost use Rattle.token_store.specs.Fits.{refusal};
 ghost use Rattle.endpoints.specs.FaultTexts.{redo_fault_text, of_hook_fault};
-ghost use Rattle.endpoints.specs.Redo.{RefusesHookChange, history_refusal};
+ghost use Rattle.endpoints.specs.Redo.{RefusesHookChange, history_refusal, wanting};
 ghost use Rattle.endpoints.specs.RedoParts.{IsOfHistory};
 ghost use Rattle.endpoints.specs.Ruling.{CanMake};
 
+use crate::right::is_right;
 use crate::ruling::Checked;
+use clients::Registry;
 use consent::{Change, Changes, CodeFacts, Consents, Digest, Moment, RecordVersion};
 use hook_host::{HookFault, HookHost};
 use insn::layout::Layout;
@@ -29,6 +31,8 @@ pub enum RedoFault {
     Store(StoreFault),
     /// As many consents to something are kept as may be.
     ConsentsFull,
+    /// It goes beyond the rules, its owner's consent or its code.
+    NotRight,
     /// The host refuses the change of its hooks.
     Hook(HookFault),
     /// Memory was refused.
@@ -44,6 +48,7 @@ impl Display for RedoFault {
             RedoFault::Unknown => write!(f, "Unknown"),
             RedoFault::Store(fault) => write!(f, "Store {fault}"),
             RedoFault::ConsentsFull => write!(f, "ConsentsFull"),
+            RedoFault::NotRight => write!(f, "NotRight"),
             RedoFault::Hook(fault) => write!(f, "Hook {fault}"),
             RedoFault::Memory => write!(f, "Memory"),
         }
@@ -133,14 +138,14 @@ fn digest_refusal(store: &Store, digest: &Digest, moment: Moment) -> Option<Redo
     }
 }
 
-/// Why the history does not go on with the change at the moment.
-pub(crate) fn history_refusal(
+// What is wanting for the change at the moment.
+fn wanting(
     store: &Store,
     consents: &Consents,
     moment: Moment,
     change: &Change<'_>,
 ) -> Option<RedoFault>
-    ensures refusal { WhereverFits store.now moment (λ h. FitsConsents consents.now h → result ≡ history_refusal h moment change.now) }
+    ensures refusal { WhereverFits store.now moment (λ h. FitsConsents consents.now h → result ≡ wanting h moment change.now) }
     ensures own { IfSome result IsOfHistory }
 {
     match change {
@@ -170,6 +175,27 @@ pub(crate) fn history_refusal(
         }
         Change::Spent { .. } | Change::HookSet { .. } | Change::HookGone { .. } => None,
     }
+}
+
+/// Why the history does not go on with the change at the moment. NotRight comes last.
+pub(crate) fn history_refusal(
+    rules: &Registry,
+    store: &Store,
+    consents: &Consents,
+    moment: Moment,
+    change: &Change<'_>,
+) -> Option<RedoFault>
+    ensures refusal { WhereverFits store.now moment
+        (λ h. FitsConsents consents.now h → result ≡ history_refusal rules.now h moment change.now) }
+    ensures own { IfSome result IsOfHistory }
+{
+    if let Some(fault) = wanting(store, consents, moment, change) {
+        return Some(fault);
+    }
+    if is_right(rules, store, consents, moment, change) {
+        return None;
+    }
+    Some(RedoFault::NotRight)
 }
 
 /// The layout of a version of the record.

@@ -1,5 +1,5 @@
 //! The server.
-ghost use Rattle.std.specs.Prelude.{◌≡◌, ◌<◌, ◌≤◌, ◌↔◌, [], Err, None, Some, IfErr, IfOk, OnErr, OnOk, max, length, option_map};
+ghost use Rattle.std.specs.Prelude.{◌≡◌, ◌<◌, ◌≤◌, ◌↔◌, [], true, Err, None, Some, IfErr, IfOk, OnErr, OnOk, max, length, option_map, unwrap_or, ◌⊎◌};
 ghost use Rattle.consent.specs.Changes.{as_list};
 ghost use Rattle.consent.specs.declared.change.Changes.TheVariants.{One};
 ghost use Rattle.messages.specs.Asked.{asked_of};
@@ -10,12 +10,12 @@ ghost use Rattle.endpoints.specs.Making.{HasRooms, IsReadyToMake, IsSame, Makes,
 ghost use Rattle.consent.specs.History.{unexpired_count};
 ghost use Rattle.endpoints.specs.Redo.{RedoesChange, RefusesRedo};
 ghost use Rattle.endpoints.specs.RedoParts.{FollowsEach};
-ghost use Rattle.endpoints.specs.Noting.{with_notes};
+ghost use Rattle.endpoints.specs.Noting.{IsNothingPrepared, with_notes};
 ghost use Rattle.endpoints.specs.Reading.{EndsAt, IsRequestRead, IsShortReading, endpoint_of};
 ghost use Rattle.endpoints.specs.Ruling.{CanMake, CanTake};
 ghost use Rattle.endpoints.specs.Rulings.{RulesRead, asking_at, read_request};
 ghost use Rattle.endpoints.specs.RulingsParts.{AnswersRequest, IsHalted, RulesReadAlone};
-ghost use Rattle.endpoints.specs.Restoring.{AreConsentsOf, AreRecordsOf, GoesOnFrom, RefusesRestore, remains};
+ghost use Rattle.endpoints.specs.Restoring.{AreConsentsOf, AreRecordsOf, GoesOnFrom, RefusesRestore, are_allowed, remains};
 ghost use Rattle.endpoints.specs.Server.{FitsServer, Notes, NowNotes, outset_of};
 ghost use Rattle.endpoints.specs.Steps.{Steps, Sweeps};
 ghost use Rattle.token_store.specs.Fits.{FitsStore};
@@ -29,7 +29,7 @@ use crate::introspect::introspect;
 use crate::noting::{note_prepared, prepare};
 use crate::reading::{Reading, read};
 use crate::redo::{RedoFault, alone, check_hook, history_refusal};
-use crate::restoring::RestoreFault;
+use crate::restoring::{RestoreFault, are_allowed};
 use crate::revoke::revoke;
 use crate::ruling::{Checked, Ruling};
 use crate::tally::{Cause, Tally};
@@ -129,10 +129,15 @@ impl<H: HookHost> Server<H> {
     ) -> Result<Self, RestoreFault>
         ensures fits { IfOk result (GoesOnFrom H.HookHost rules host (remains records.now consents.now moment)) }
         ensures notes { IfOk result (λ server. Notes server None []) }
-        ensures refused { IfErr result (RefusesRestore records.now consents.now moment) }
+        ensures right { OnOk result (are_allowed rules moment records.now ≡ true) }
+        // NotRight comes behind the others, but for Memory.
+        ensures refused { IfErr result (RefusesRestore rules (remains records.now consents.now moment)) }
     {
         let store = Store::restored(alloc, records, moment)?;
         let consents = Consents::restored(alloc, consents)?;
+        if !are_allowed(&rules, moment, records) {
+            return Err(RestoreFault::NotRight);
+        }
         Ok(Server {
             rules,
             host,
@@ -159,11 +164,14 @@ impl<H: HookHost> Server<H> {
         self.consents.listed(alloc)
     }
 
-    /// From now on what happens is noted, unless memory is refused for that.
+    /// From now on what happens is noted, unless memory is refused for that. What is noted already stays.
     pub fn begin_noting(&mut self) -> Result<(), AllocError>
-        ensures noting { OnOk result (NowNotes self.old self.new (Some [])) }
+        ensures noting { OnOk result (NowNotes self.old self.new (Some (unwrap_or self.old.unkept []))) }
         ensures err { OnErr result (self.new ≡ self.old) }
     {
+        if let Some(_) = &self.unkept {
+            return Ok(());
+        }
         let batch = Batch::new(self.alloc)?;
         self.unkept = Some(batch);
         Ok(())
@@ -258,20 +266,25 @@ impl<H: HookHost> Server<H> {
     }
 
     /// Makes room for the changes, and makes them ready to be noted at the moment, which changes no answer, also where memory
-    /// is refused.
-    pub fn reserve(&mut self, moment: Moment, changes: &Changes<'_>) -> Result<(), AllocError>
+    /// is refused. Then what was ready is so still, or nothing is.
+    pub(crate) fn reserve(
+        &mut self,
+        moment: Moment,
+        changes: &Changes<'_>,
+    ) -> Result<(), AllocError>
         ensures same { IsSame H.HookHost self.old self.new }
         ensures room { OnOk result (HasRooms self.new moment changes.now) }
+        ensures err { OnErr result ((self.new.prepared ≡ self.old.prepared) ⊎ IsNothingPrepared self.new.prepared) }
     {
-        prepare(&mut self.unkept, moment, changes)?;
         if let Changes::One(Change::Consented { .. }) = changes {
             self.consents.reserve(1)?;
         }
-        self.store.reserve(changes)
+        self.store.reserve(changes)?;
+        prepare(&mut self.unkept, moment, changes)
     }
 
     /// Makes the changes of a ruling, which room was made for, and notes them at the greatest moment, where that is done.
-    pub fn apply(&mut self, changes: &Changes<'_>, checked: Checked<H>)
+    pub(crate) fn apply(&mut self, changes: &Changes<'_>, checked: Checked<H>)
         requires { IsReadyToMake H.HookHost self.old changes.now checked }
         ensures makes { Makes H.HookHost self.old (as_list changes.now) checked self.new }
         ensures host { MakesHost H.HookHost self.old.host (as_list changes.now) checked self.new.host }
@@ -417,14 +430,21 @@ impl<H: HookHost> Server<H> {
         if moment.get() < self.greatest.get() {
             return Err(RedoFault::MomentBack);
         }
-        if let Some(fault) = history_refusal(&self.store, &self.consents, moment, change) {
+        if let Some(fault) = history_refusal(
+            &self.rules,
+            &self.store,
+            &self.consents,
+            moment,
+            change,
+        ) {
             return Err(fault);
         }
         check_hook(&self.host, change)
     }
 
     /// Makes a change again that happened at the moment, which is then the greatest. What the change means is said by the
-    /// changes that were made before it. A refused one changes nothing.
+    /// changes that were made before it. One that is not right under the rules is refused. A refused one changes nothing.
+    /// `RedoFault` has the faults in the order in which they come.
     pub fn redo(&mut self, moment: Moment, change: &Change<'_>) -> Result<(), RedoFault>
         ensures redone { OnOk result (RedoesChange H.HookHost self.old moment change.now self.new) }
         ensures noted { OnOk result (self.new.unkept ≡ with_notes self.old.unkept moment (One change.now)) }

@@ -84,7 +84,7 @@ module _ {H : Type 0} (hosting : Hosting H) where
   answers_for outset batches later begun restored begins redone left are history stands right run =
       let from = begun_fits hosting outset left batches later begun history stands are begins right run in
       let told : AreTold later stands.facts = subst (λ (bs : List (List ℕ)). AreTold bs stands.facts) from.0 stands.told in
-      (redone stands.facts told).1 outset stands.base history from.1 stands.happened right
+      (redone.1 stands.facts told).1 outset stands.base history from.1 stands.happened
 
   -- a server that fits a history has an image that is one of it
   pub imaged : (restored : Restored H) (image : ImageFact) (records : List KeptRecord) (consents : List KeptConsent) →
@@ -108,7 +108,7 @@ module _ {H : Type 0} (hosting : Hosting H) where
   pub image_in : (account : Account H) (image : ImageFact) → ((outset : Outset H) (history : List Event) → FitsRestored hosting account.restored outset history → IsImageOf image history) →
       (left : List ℕ) (first : H) → (of : IsAccountOf hosting left first account) → rules_of of.registry ≡ image.rules → IsImageIn hosting left first image
   image_in account image is left first of rules = record {
-    each = λ history stands was run. is (outset_of of.registry first) history (of.answers history stands (right_now left history of.registry of.wider stands was) run);
+    each = λ history stands was run. is (outset_of of.registry first) history (of.answers history stands (right_now left history of.registry of.wider was) run);
     told = subst (λ (r : RulesFact). TellIfAny left r) rules of.told;
   }
 

@@ -1,16 +1,16 @@
 -- From where the changes of a file lead on.
-use Rattle.std.proofs.Common.{◌≡◌, inl, inr, ℕ, zero, suc, List, [], ◌∷◌, ◌++◌, true, false, refl, sym, ap, ◌∙◌, subst}
+use Rattle.std.proofs.Common.{◌≡◌, inl, inr, ℕ, zero, suc, List, [], ◌∷◌, ◌++◌, true, false, Option, Some, None, refl, sym, ap, ◌∙◌, subst}
 use Rattle.batch_file.specs.Frames.{recovered}
 use Rattle.consent.specs.History.{Event}
 use Rattle.change_codec.specs.HappenedLaws.{Happened-front}
 use Rattle.change_codec.specs.Spelling.{DatedFact}
 use Rattle.endpoints.specs.Bounded.{AllRight}
-use Rattle.endpoints.specs.Server.{Outset}
+use Rattle.endpoints.specs.Server.{AreUnkept, Outset}
 use Rattle.hook_host.specs.declared.host.HookHost.{Ghosts as Hosting}
 use Rattle.image_codec.specs.Facts.{ImageFact}
 use Rattle.image_codec.specs.Spelling.{ImageFits, image_spelling}
 use Rattle.state_file.specs.Hooks.{hooks_set_in}
-use Rattle.state_file.specs.Resuming.{BeginsByBatches, FitsRestored, HaveNoImage, IsMadeOf, Replays, WasRun}
+use Rattle.state_file.specs.Resuming.{BeginsByBatches, FitsRestored, HaveNoImage, IsMadeOf, IsRight, Replays, WasRun}
 use Rattle.state_file.specs.Standing.{AreTold, Begin, BeginWithImage, StandsFor}
 use Rattle.state_file.specs.declared.restored.Restored.{Restored}
 use Rattle.state_file.proofs.Redone.{right_before}
@@ -31,13 +31,17 @@ has_image batches behind image none is = let e : true ≡ false = subst (λ (bs 
 module _ {H : Type 0} (hosting : Hosting H) (outset : Outset H) where
   -- the server that is begun with fits what the changes lead on from
   pub begun_fits : (left : List ℕ) (batches later : List (List ℕ)) (restored : Restored H) (history : List Event) → (stands : StandsFor left history) →
-      recovered left ≡ batches → BeginsByBatches hosting outset batches later restored → AllRight outset.rules [] history → WasRun hosting outset.first left history →
+      recovered left ≡ batches → BeginsByBatches hosting outset batches later restored → IsRight outset.rules left history → WasRun hosting outset.first left history →
       (stands.later ≡ later) × FitsRestored hosting restored outset stands.base
   begun_fits left batches later restored history stands are begins right run = by stands.begins
     where
       ran : WasRun hosting outset.first left history → (image : ImageFact) → recovered left ≡ image_spelling image ∷ stands.later → (more : List Event) → history ≡ stands.base ++ more → Replays hosting outset.first stands.base
       ran (inl none) image is more front = absurd (has_image (recovered left) stands.later image none is)
       ran (inr replays) image is more front = replays stands.base (more, front)
+
+      was_right : IsRight outset.rules left history → (image : ImageFact) → recovered left ≡ image_spelling image ∷ stands.later → (more : List Event) → history ≡ stands.base ++ more → AllRight outset.rules [] stands.base
+      was_right (inl none) image is more front = absurd (has_image (recovered left) stands.later image none is)
+      was_right (inr all) image is more front = right_before outset.rules [] stands.base more (subst (λ (h : List Event). AllRight outset.rules [] h) front all)
 
       by : Begin (recovered left) stands.base stands.later → (stands.later ≡ later) × FitsRestored hosting restored outset stands.base
       by (inl none) =
@@ -47,8 +51,7 @@ module _ {H : Type 0} (hosting : Hosting H) (outset : Outset H) where
       by (inr of) =
           let made = begins.of_image of.0 stands.later (of.2.0, sym are ∙ of.2.1) in
           let front = Happened-front stands.base history stands.facts stands.happened in
-          let right_there : AllRight outset.rules [] stands.base = right_before outset.rules [] stands.base front.0 (subst (λ (h : List Event). AllRight outset.rules [] h) front.1 right) in
-          (sym made.0, made.1.1 stands.base of.1 right_there (ran run of.0 of.2.1 front.0 front.1))
+          (sym made.0, made.1.1 stands.base of.1 (was_right right of.0 of.2.1 front.0 front.1) (ran run of.0 of.2.1 front.0 front.1))
 
 -- so are the hooks
 module _ {H : Type 0} (hosting : Hosting H) (outset : Outset H) where
@@ -74,6 +77,11 @@ same_image batches later behind batch read image are begin one =
     let rest : later ≡ behind = cc in
     (rest, one begin.0 front)
 
+-- what has noted nothing notes nothing
+noted_none : (unkept : Option (List DatedFact)) → AreUnkept unkept None [] → unkept ≡ None
+noted_none None notes = refl
+noted_none (Some facts) notes = absurd notes
+
 -- what does not begin with a byte 2 is no image
 pub begins_2 : (batches behind : List (List ℕ)) (image : ImageFact) → HaveNoImage batches → BeginWithImage batches image behind → ⊥
 begins_2 batches behind image none begin = has_image batches behind image none begin.1
@@ -81,18 +89,21 @@ begins_2 batches behind image none begin = has_image batches behind image none b
 module _ {H : Type 0} (hosting : Hosting H) (outset : Outset H) where
   -- a server that is made of the first batch
   pub begins_made : (batches later : List (List ℕ)) (batch : List ℕ) (read : ImageFact) (restored : Restored H) → batches ≡ batch ∷ later → ImageFits read → batch ≡ image_spelling read →
-      ((i : ImageFact) → ImageFits i → batch ≡ image_spelling i → read ≡ i) → IsMadeOf hosting read outset restored → BeginsByBatches hosting outset batches later restored
-  begins_made batches later batch read restored are fits spelled one made = record {
+      ((i : ImageFact) → ImageFits i → batch ≡ image_spelling i → read ≡ i) → IsMadeOf hosting read outset restored →
+      AreUnkept restored.server.unkept None [] → BeginsByBatches hosting outset batches later restored
+  begins_made batches later batch read restored are fits spelled one made notes = record {
     anew = λ none. absurd (has_image batches later read none (are ∙ ap (λ (b : List ℕ). b ∷ later) spelled));
     of_image = λ image behind begin. of image behind (same_image batches later behind batch read image are begin (one image));
+    unnoted = noted_none restored.server.unkept notes;
   }
     where
       of : (image : ImageFact) (behind : List (List ℕ)) → (later ≡ behind) × (read ≡ image) → (later ≡ behind) × IsMadeOf hosting image outset restored
       of image behind same = (same.0, subst (λ (i : ImageFact). IsMadeOf hosting i outset restored) same.1 made)
 
   -- a new server, where none is an image
-  pub begins_anew : (batches : List (List ℕ)) (restored : Restored H) → HaveNoImage batches → FitsRestored hosting restored outset [] → BeginsByBatches hosting outset batches batches restored
-  begins_anew batches restored none fits = record {
+  pub begins_anew : (batches : List (List ℕ)) (restored : Restored H) → HaveNoImage batches → FitsRestored hosting restored outset [] → AreUnkept restored.server.unkept None [] → BeginsByBatches hosting outset batches batches restored
+  begins_anew batches restored none fits notes = record {
     anew = λ _. (refl, fits);
     of_image = λ image behind begin. absurd (begins_2 batches behind image none begin);
+    unnoted = noted_none restored.server.unkept notes;
   }

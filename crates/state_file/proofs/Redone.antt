@@ -2,20 +2,19 @@
 use Rattle.std.proofs.Common.{◌≡◌, ℕ, zero, suc, List, [], ◌∷◌, ◌++◌, Some, refl, sym, ap, ◌∙◌, subst, append_assoc}
 use Rattle.std.proofs.lemmas.List.{append-nil}
 use Rattle.clients.specs.RegistryRecord.{RegistryRecord}
-use Rattle.consent.specs.History.{Event, event_at, with_change}
+use Rattle.consent.specs.History.{Event, with_change}
 use Rattle.consent.specs.declared.change.Change.{Change}
 use Rattle.hook_host.specs.declared.host.HookHost.{Ghosts as Hosting}
-use Rattle.endpoints.specs.Bounded.{AllRight, IsRightChange}
-use Rattle.endpoints.specs.BoundedLaws.{all_right-at}
+use Rattle.endpoints.specs.Bounded.{AllRight}
 use Rattle.endpoints.specs.Server.{FitsServer}
 use Rattle.endpoints.specs.Redo as again
 use Rattle.change_codec.specs.Spelling.{DatedFact, HaveSpelling, batch_spelling, fact_of}
 use Rattle.change_codec.specs.Happened.{dated}
-use Rattle.change_codec.specs.HappenedLaws.{Happened-split, Happened-front, meaning_of-told}
+use Rattle.change_codec.specs.HappenedLaws.{Happened-split, meaning_of-told}
 use Rattle.state_file.specs.Standing.{AreTold}
 use Rattle.image_codec.specs.Facts.{HookFact}
 use Rattle.state_file.specs.Hooks.{hooks_behind, hooks_by, hooks_set_in}
-use Rattle.state_file.specs.Resuming.{FitsRestored, FitsOn, RedoesDated, RedoesBatches}
+use Rattle.state_file.specs.Resuming.{FitsRestored, FitsOn, RedoesDated, RedoesBatches, StaysUnnoted}
 use Rattle.state_file.specs.declared.restored.Restored.{Restored}
 use Rattle.state_file.proofs.Hooked.{hooks_behind-append, hooks_told, hooks_of-with}
 
@@ -49,60 +48,61 @@ told_split ((suc n ∷ bytes) ∷ batches) more facts told =
 module _ {H : Type 0} (hosting : Hosting H) where
   -- none
   pub redoes_none : (restored : Restored H) → RedoesDated hosting restored [] restored
-  redoes_none restored = (refl, λ outset before after fits happened right. subst (λ (h : List Event). FitsRestored hosting restored outset h) (sym happened) fits)
+  redoes_none restored = (refl, λ outset before after fits happened. subst (λ (h : List Event). FitsRestored hosting restored outset h) (sym happened) fits, λ none. none)
 
   -- some, and then others
   fits_then : (old mid new : Restored H) (facts more : List DatedFact) → FitsOn hosting old facts mid → FitsOn hosting mid more new → FitsOn hosting old (facts ++ more) new
-  fits_then old mid new facts more one then outset before after fits happened right =
+  fits_then old mid new facts more one then outset before after fits happened =
       let parts = Happened-split before after facts more happened in
-      let front = Happened-front parts.0 after more parts.2 in
-      let right_there : AllRight outset.rules [] parts.0 = right_before outset.rules [] parts.0 front.0 (subst (λ (h : List Event). AllRight outset.rules [] h) front.1 right) in
-      then outset parts.0 after (one outset before parts.0 fits parts.1 right_there) parts.2 right
+      then outset parts.0 after (one outset before parts.0 fits parts.1) parts.2
 
   pub redoes_then : (old mid new : Restored H) (facts more : List DatedFact) → RedoesDated hosting old facts mid → RedoesDated hosting mid more new → RedoesDated hosting old (facts ++ more) new
   redoes_then old mid new facts more one then = (
     then.0 ∙ ap (λ (hs : List HookFact). hooks_behind hs more) one.0 ∙ sym (hooks_behind-append old.hooks facts more),
     fits_then old mid new facts more one.1 then.1,
+    λ none. then.2 (one.2 none),
   )
 
   -- one
   fits_one : (old new : Restored H) (moment : ℕ) (change : Change) → again.RedoesChange hosting old.server moment change new.server →
       new.hooks ≡ hooks_by old.hooks (fact_of change) → new.moment ≡ moment → FitsOn hosting old (dated moment change ∷ []) new
-  fits_one old new moment change redone hooks moment_is outset before after fits happened right =
+  fits_one old new moment change redone hooks moment_is outset before after fits happened =
       let made = redone outset before old.moment fits.0 in
       let some : Some made.0 ≡ Some happened.0 = sym made.1 ∙ sym (meaning_of-told before moment change) ∙ happened.1 in
       let same : made.0 ≡ happened.0 = cc in
       let ends : after ≡ with_change before moment made.0 = happened.3 ∙ ap (with_change before moment) (sym same) in
-      let here : IsRightChange outset.rules before made.0 = all_right-at outset.rules [] before [] (event_at moment made.0) (subst (λ (h : List Event). AllRight outset.rules [] h) ends right) in
       let server : FitsServer hosting new.server outset after moment =
-      subst (λ (h : List Event). FitsServer hosting new.server outset h moment) (sym ends) (made.3 here) in
+      subst (λ (h : List Event). FitsServer hosting new.server outset h moment) (sym ends) made.3 in
       let set : new.hooks ≡ hooks_set_in after =
       hooks ∙ ap (λ (hs : List HookFact). hooks_by hs (fact_of change)) fits.1 ∙ hooks_told before moment (fact_of change) happened.0 (hooks_set_in before) happened.1
       ∙ sym (hooks_of-with before moment happened.0) ∙ ap hooks_set_in (sym happened.3) in
       (subst (λ (m : ℕ). FitsServer hosting new.server outset after m) (sym moment_is) server, set)
 
   pub redoes_one : (old new : Restored H) (moment : ℕ) (change : Change) → again.RedoesChange hosting old.server moment change new.server →
-      new.hooks ≡ hooks_by old.hooks (fact_of change) → new.moment ≡ moment → RedoesDated hosting old (dated moment change ∷ []) new
-  redoes_one old new moment change redone hooks moment_is = (hooks, fits_one old new moment change redone hooks moment_is)
+      new.hooks ≡ hooks_by old.hooks (fact_of change) → new.moment ≡ moment → StaysUnnoted old new → RedoesDated hosting old (dated moment change ∷ []) new
+  redoes_one old new moment change redone hooks moment_is unnoted = (hooks, fits_one old new moment change redone hooks moment_is, unnoted)
 
   -- no batch, or one of rules
   pub redoes_no_batch : (restored : Restored H) → RedoesBatches hosting restored [] restored
-  redoes_no_batch restored facts told = subst (λ (ds : List DatedFact). RedoesDated hosting restored ds restored) (sym told) (redoes_none restored)
+  redoes_no_batch restored = (λ none. none, λ facts told. subst (λ (ds : List DatedFact). RedoesDated hosting restored ds restored) (sym told) (redoes_none restored))
 
   pub redoes_rules : (restored : Restored H) (batch rules : List ℕ) → batch ≡ 0 ∷ rules → RedoesBatches hosting restored (batch ∷ []) restored
-  redoes_rules restored batch rules is facts told =
-      redoes_no_batch restored facts (subst (λ (b : List ℕ). AreTold (b ∷ []) facts) is told)
+  redoes_rules restored batch rules is =
+      (λ none. none, λ facts told. (redoes_no_batch restored).1 facts (subst (λ (b : List ℕ). AreTold (b ∷ []) facts) is told))
 
   -- a batch of dated changes
   pub redoes_batch : (old new : Restored H) (batch : List ℕ) (ds : List DatedFact) → batch ≡ batch_spelling ds →
       ((others : List DatedFact) → HaveSpelling others → batch ≡ batch_spelling others → others ≡ ds) →
       RedoesDated hosting old ds new → RedoesBatches hosting old (batch ∷ []) new
-  redoes_batch old new batch ds is one redone facts told =
-      subst (λ (x : List DatedFact). RedoesDated hosting old x new) (sym (told_as batch ds facts is one told)) redone
+  redoes_batch old new batch ds is one redone =
+      (redone.2, λ facts told. subst (λ (x : List DatedFact). RedoesDated hosting old x new) (sym (told_as batch ds facts is one told)) redone)
 
   -- some batches, and then others
   pub redoes_batches : (old mid new : Restored H) (batches more : List (List ℕ)) → RedoesBatches hosting old batches mid →
       RedoesBatches hosting mid more new → RedoesBatches hosting old (batches ++ more) new
-  redoes_batches old mid new batches more one then facts told =
-      let parts = told_split batches more facts told in
-      subst (λ (x : List DatedFact). RedoesDated hosting old x new) (sym parts.4) (redoes_then old mid new parts.0 parts.1 (one parts.0 parts.2) (then parts.1 parts.3))
+  redoes_batches old mid new batches more one then = (
+    λ none. then.0 (one.0 none),
+    λ facts told.
+        let parts = told_split batches more facts told in
+        subst (λ (x : List DatedFact). RedoesDated hosting old x new) (sym parts.4) (redoes_then old mid new parts.0 parts.1 (one.1 parts.0 parts.2) (then.1 parts.1 parts.3)),
+  )

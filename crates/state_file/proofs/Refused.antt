@@ -64,7 +64,7 @@ module _ {H : Type 0} (hosting : Hosting H) (restored : Restored H) (name : Bor 
   -- every history goes on with a hook
   follows_each : (fault : RedoFault) →
       ((outset : Outset H) (history : List Event) (m : ℕ) → FitsServer hosting restored.server outset history m →
-      history_refusal history restored.moment (HookSet name version code) ≡ Some fault) →
+      history_refusal outset.rules history restored.moment (HookSet name version code) ≡ Some fault) →
       FitsNone hosting restored
   follows_each fault is = λ outset history fits. let no : None ≡ Some fault = is outset history restored.moment fits.0 in absurd (cc)
 
@@ -76,6 +76,7 @@ module _ {H : Type 0} (hosting : Hosting H) (restored : Restored H) (name : Bor 
   not_made hook redoing.Unknown is other = follows_each redoing.Unknown is
   not_made hook (redoing.Store fault) is other = follows_each (redoing.Store fault) is
   not_made hook redoing.ConsentsFull is other = follows_each redoing.ConsentsFull is
+  not_made hook redoing.NotRight is other = follows_each redoing.NotRight is
   not_made hook (redoing.Hook fault) is other = absurd (other fault refl)
   not_made hook redoing.Memory is other = tt
 

@@ -1,18 +1,16 @@
 -- Hooks that are set, and keeping that they are.
-use Rattle.std.proofs.Common.{◌≡◌, inl, ℕ, List, [], ◌∷◌, ◌++◌, Bool, true, false, Option, None, Some, refl, sym, ap, ◌∙◌, subst, append_assoc, append-nil, arith}
+use Rattle.std.proofs.Common.{◌≡◌, inl, ℕ, List, [], ◌∷◌, ◌++◌, Bool, true, false, Option, None, Some, refl, sym, ap, ◌∙◌, subst, arith}
 use Rattle.std.specs.Prelude.{if◌then◌else◌, option_map}
 use Rattle.std.specs.Str.{bytes_eq}
 use Rattle.std.proofs.lemmas.List.Elements.{All-append, All-cons, All-nil, All-weaker}
 use Rattle.std.proofs.lemmas.Slice.Eq.{bytes_eq-Decides}
-use Rattle.clients.specs.RegistryRecord.{RegistryRecord}
-use Rattle.consent.specs.History.{Event, event_at, with_change}
+use Rattle.consent.specs.History.{Event, with_change}
 use Rattle.consent.specs.History.{Change as happens}
 use Rattle.consent.specs.declared.change.Changes.{Changes}
 use Rattle.change_codec.specs.Happened.{Happened, all_dated}
 use Rattle.change_codec.specs.HappenedLaws.{Happened-joined}
 use Rattle.change_codec.specs.Keeping.{Crashes, Holds, KeepsEach}
 use Rattle.change_codec.specs.Spelling.{DatedFact, HookSet}
-use Rattle.endpoints.specs.Bounded.{AllRight, IsRightChange}
 use Rattle.endpoints.specs.Noting.{with_notes}
 use Rattle.endpoints.specs.Server.{SeenServer, FitsServer, Notes, NowNotes, AreUnkept, AreNoted, Outset}
 use Rattle.hook_host.specs.declared.host.HookHost.{Ghosts as Hosting}
@@ -77,13 +75,7 @@ stays_set moment history hook other is = by (hook_named hook.name (hooks_set_in 
     by None none = ap (hook_named other.name) (hooks_of-set moment history hook none) ∙ named_stays other.name (hooks_set_in history) hook other is
     by (Some found) there = ap (λ (h : List Event). hook_named other.name (hooks_set_in h)) (with_hook-old moment history hook found there) ∙ is
 
--- WHAT IS RIGHT, AND WHAT IS NOTED
-
-all_right-push : (rules : RegistryRecord) (before history : List Event) (e : Event) → AllRight rules before history →
-    IsRightChange rules (before ++ history) e.change → AllRight rules before (history ++ e ∷ [])
-all_right-push rules before [] e all right = (subst (λ (h : List Event). IsRightChange rules h e.change) (append-nil before) right, tt)
-all_right-push rules before (x ∷ later) e all right =
-    (all.0, all_right-push rules (before ++ x ∷ []) later e all.1 (subst (λ (h : List Event). IsRightChange rules h e.change) (sym (append_assoc before (x ∷ []) later)) right))
+-- WHAT IS NOTED
 
 noted_more : (unkept : Option (List DatedFact)) (kept : Option (List Event)) (before after : List Event) (moment : ℕ) (changes : Changes) →
     AreUnkept unkept kept before → Happened before (all_dated moment changes) after → AreUnkept (with_notes unkept moment changes) kept after
@@ -118,10 +110,8 @@ module _ {H : Type 0} (hosting : Hosting H) where
       let after : List Event = with_hook old.moment history hook in
       let happened : Happened history (all_dated old.moment changes) after =
       subst (λ (ds : List DatedFact). Happened history ds after) (sym are) (happens.HookSet hook.name hook.version hook.code, refl, tt, goes_on) in
-      let right : AllRight outset.rules [] after =
-      subst (λ (h : List Event). AllRight outset.rules [] h) (sym goes_on) (all_right-push outset.rules [] history (event_at old.moment (happens.HookSet hook.name hook.version hook.code)) fits.0.right tt) in
       let set : hook_named hook.name (hooks_set_in after) ≡ Some hook = ap (hook_named hook.name) (hooks_of-set old.moment history hook free) ∙ named_new (hooks_set_in history) hook free in (
-        redone.1 outset history after fits happened right,
+        redone.1 outset history after fits happened,
         All-cons (λ (h : HookFact). hook_named h.name (hooks_set_in after) ≡ Some h) hook [] set (All-nil (λ (h : HookFact). hook_named h.name (hooks_set_in after) ≡ Some h)),
         λ kept notes. subst (λ (unkept : Option (List DatedFact)). AreUnkept unkept kept after) (sym noted) (noted_more old.server.unkept kept history after old.moment changes notes happened),
       )

@@ -15,7 +15,7 @@ use Rattle.state_file.specs.Comparing.{IsUnwritten}
 use Rattle.state_file.specs.FaultTexts.{of_batch}
 use Rattle.state_file.specs.Standing.{StandsFor, StandsOn}
 use Rattle.state_file.specs.StandingLaws.{StandsFor-rules, StandsFor-same}
-use Rattle.state_file.specs.Telling.{IsOfRules, LeavesRules, Tell, TellsIn, TellsRules, last_rules, rules_in}
+use Rattle.state_file.specs.Telling.{IsOfRules, LeavesRules, TellsIn, TellsRules, last_rules, rules_in}
 use Rattle.state_file.specs.TellingLaws.{last_rules-push}
 
 -- the file stands for what it stood for, with the rules or without them

@@ -30,19 +30,24 @@ FitsRestored hosting restored outset history =
     FitsServer hosting restored.server outset history restored.moment
     × (restored.hooks ≡ hooks_set_in history)
 
--- Whatever history the old one fits: where the dated changes lead on to one that is right, the new one fits that.
+-- Whatever history the old one fits: where the dated changes lead on to another one, the new one fits that, which is right.
 abbrev pub FitsOn : {H : Type 0} → Hosting H → Restored H → List DatedFact → Restored H → Type 0
 FitsOn {H = H} hosting old facts new =
     (outset : Outset H) (history after : List Event) → FitsRestored hosting old outset history →
-    Happened history facts after → AllRight outset.rules [] after → FitsRestored hosting new outset after
+    Happened history facts after → FitsRestored hosting new outset after
+
+-- a server that noted nothing notes nothing
+abbrev pub StaysUnnoted : {H : Type 0} → Restored H → Restored H → Type 0
+StaysUnnoted old new = old.server.unkept ≡ None → new.server.unkept ≡ None
 
 -- and its hooks are those that the changes leave
 abbrev pub RedoesDated : {H : Type 0} → Hosting H → Restored H → List DatedFact → Restored H → Type 0
-RedoesDated hosting old facts new = (new.hooks ≡ hooks_behind old.hooks facts) × FitsOn hosting old facts new
+RedoesDated hosting old facts new = (new.hooks ≡ hooks_behind old.hooks facts) × FitsOn hosting old facts new × StaysUnnoted old new
 
 -- so it is of the dated changes that the batches have
 abbrev pub RedoesBatches : {H : Type 0} → Hosting H → Restored H → List (List ℕ) → Restored H → Type 0
-RedoesBatches hosting old batches new = (facts : List DatedFact) → AreTold batches facts → RedoesDated hosting old facts new
+RedoesBatches hosting old batches new =
+    StaysUnnoted old new × ((facts : List DatedFact) → AreTold batches facts → RedoesDated hosting old facts new)
 
 -- A HOST MADE AGAIN
 
@@ -76,16 +81,23 @@ IsMadeOf hosting image outset restored =
     × ((history : List Event) → IsImageOf image history → AllRight outset.rules [] history → Replays hosting outset.first history →
     FitsRestored hosting restored outset history)
 
--- the server is made of the first batch, where that is an image, and else anew; the later batches are the others
+-- The server is made of the first batch, where that is an image, and else anew; the later batches are the others. It notes
+-- nothing.
 pub record BeginsByBatches {H : Type 0} (hosting : Hosting H) (outset : Outset H) (batches later : List (List ℕ)) (restored : Restored H) : Type 0 where
   pub anew : HaveNoImage batches → (later ≡ batches) × FitsRestored hosting restored outset []
   pub of_image : (image : ImageFact) (behind : List (List ℕ)) → BeginWithImage batches image behind →
       (later ≡ behind) × IsMadeOf hosting image outset restored
+  pub unnoted : restored.server.unkept ≡ None
+
+-- The history is right under the rules. It is asked for where the bytes begin with an image alone: of changes that are made
+-- again the server sees to it.
+abbrev pub IsRight : RegistryRecord → List ℕ → List Event → Type 0
+IsRight rules left history = HaveNoImage (recovered left) ⊎ AllRight rules [] history
 
 -- so it is of each history that the bytes stand for, that is right under the rules and that was run
 abbrev pub OfRight : {H : Type 0} → Hosting H → List ℕ → Outset H → (List Event → Type 0) → Type 0
 OfRight hosting left outset claim =
-    (history : List Event) → StandsFor left history → AllRight outset.rules [] history → WasRun hosting outset.first left history → claim history
+    (history : List Event) → StandsFor left history → IsRight outset.rules left history → WasRun hosting outset.first left history → claim history
 
 -- it fits each of them
 abbrev pub AnswersFor : {H : Type 0} → Hosting H → List ℕ → Outset H → Restored H → Type 0
@@ -186,9 +198,10 @@ HasBatchesOf seen file left = recovered (seen file.device) ≡ recovered left
 
 -- A START
 
--- The history is right under rules that the bytes tell. Bytes without a batch tell none, and stand for no event.
+-- The history is right under rules that the bytes tell. It is asked for where they begin with an image alone.
 abbrev pub WasRight : List ℕ → List Event → Type 0
-WasRight left history = (recovered left ≡ []) ⊎ ((old : RegistryRecord) × TellsRules left (rules_of old) × AllRight old [] history)
+WasRight left history =
+    HaveNoImage (recovered left) ⊎ ((old : RegistryRecord) × TellsRules left (rules_of old) × AllRight old [] history)
 
 -- so it is of each history that the bytes stand for, that was right and that was run
 abbrev pub OfEachHistory : {H : Type 0} → Hosting H → H → List ℕ → (List Event → Type 0) → Type 0

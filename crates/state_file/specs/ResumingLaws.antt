@@ -1,17 +1,14 @@
 -- What was right under the rules that a file tells. For proofs alone.
-use Rattle.std.proofs.Common.{inl, inr, ℕ, List, [], sym, subst}
+use Rattle.std.proofs.Common.{inl, inr, ℕ, List, []}
 use Rattle.clients.specs.RegistryRecord.{RegistryRecord}
 use Rattle.consent.specs.History.{Event}
-use Rattle.endpoints.specs.Bounded.{AllRight}
 use Rattle.endpoints.specs.Widening.{IsWider}
 use Rattle.endpoints.specs.WideningLaws.{all_right-wider}
-use Rattle.state_file.specs.Resuming.{WasRight}
-use Rattle.state_file.specs.Standing.{StandsFor}
-use Rattle.state_file.specs.StandingLaws.{StandsFor-none}
+use Rattle.state_file.specs.Resuming.{IsRight, WasRight}
 use Rattle.state_file.specs.Telling.{TellsRules, rules_of}
 
 -- what was right under rules that were told is right under these
 pub right_now : (left : List ℕ) (history : List Event) (registry : RegistryRecord) → ((old : RegistryRecord) → TellsRules left (rules_of old) → IsWider old registry) →
-    StandsFor left history → WasRight left history → AllRight registry [] history
-right_now left history registry wider stands (inl none) = subst (λ (h : List Event). AllRight registry [] h) (sym (StandsFor-none left history none stands)) tt
-right_now left history registry wider stands (inr told) = all_right-wider told.0 registry (wider told.0 told.1) [] history told.2
+    WasRight left history → IsRight registry left history
+right_now left history registry wider (inl none) = inl none
+right_now left history registry wider (inr told) = inr (all_right-wider told.0 registry (wider told.0 told.1) [] history told.2)

@@ -1,6 +1,6 @@
 -- What rules a state file tells once it has one batch more, and that it tells one. For proofs alone.
 use Rattle.std.proofs.Common.{◌≡◌, inl, inr, ℕ, List, [], ◌∷◌, ◌++◌, Option, None, Some, refl, sym, ap, ◌∙◌, subst}
-use Rattle.std.specs.Prelude.{Result, Ok, Err}
+use Rattle.std.specs.Prelude.{Ok, Err}
 use Rattle.std.specs.Option.{option_or}
 use Rattle.batch_file.specs.Frames.{recovered}
 use Rattle.change_codec.specs.Spelling.{DatedFact, batch_spelling}

@@ -1,8 +1,8 @@
 //! The image of a server, and a server made of one.
 
-ghost use Rattle.std.specs.Prelude.{◌≡◌, IfOk, IfErr, OnOk, map};
+ghost use Rattle.std.specs.Prelude.{◌≡◌, [], None, IfOk, IfErr, OnOk, map};
 ghost use Rattle.endpoints.specs.Layouts.{layout_of};
-ghost use Rattle.endpoints.specs.Server.{outset_of};
+ghost use Rattle.endpoints.specs.Server.{Notes, outset_of};
 ghost use Rattle.image_codec.specs.Facts.{hook_fact, image_fact, rules_fact};
 ghost use Rattle.state_file.specs.Renewing.{IsImageFor};
 ghost use Rattle.state_file.specs.Resuming.{Installs, IsMadeOf, IsOfImage};
@@ -52,6 +52,7 @@ impl<H: HookHost> Restored<H> {
         image: &Image<'_>,
     ) -> Result<Restored<H>, StateFault>
         ensures made { IfOk result (λ restored. IsMadeOf H.HookHost (image_fact image.now) (outset_of registry host) restored) }
+        ensures notes { IfOk result (λ restored. Notes restored.server None []) }
         ensures refused { IfErr result IsOfImage }
     {
         install_all(alloc, &mut host, image.hooks.as_slice())?;

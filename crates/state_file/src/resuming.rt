@@ -1,6 +1,6 @@
 //! Starting a server on a state file.
 
-ghost use Rattle.std.specs.Prelude.{◌≡◌, IfOk, IfErr};
+ghost use Rattle.std.specs.Prelude.{◌≡◌, None, IfOk, IfErr};
 ghost use Rattle.batch_file.specs.Crashes.{LeavesOnly, Only};
 ghost use Rattle.clients.specs.RegistryRecord.{RegistryRecord};
 ghost use Rattle.endpoints.specs.Server.{outset_of};
@@ -43,6 +43,7 @@ pub fn resume<D: Device + Drop, H: HookHost>(
     // After a restart, what is read is what is on the disk.
     requires durable { Only (D.seen device) (D.may_leave device) }
     ensures answers { IfOk result (λ resumed. AnswersFor H.HookHost bytes.now (outset_of registry host) resumed.restored) }
+    ensures unnoted { IfOk result (λ resumed. resumed.restored.server.unkept ≡ None) }
     // All that a crash may leave from then on stands for what the bytes stood for.
     ensures held { IfOk result (λ resumed. HoldsEach (file_crashes D.Device) resumed.keeper bytes.now) }
     // So does what a crash meanwhile left.

@@ -24,11 +24,11 @@ use Rattle.token_store.specs.Fits.{FitsHistory}
 use Rattle.token_store.specs.Image.{as_kept}
 use Rattle.token_store.specs.Kept.{Kept}
 use Rattle.token_store.specs.declared.image.KeptRecord.{KeptRecord}
-use Rattle.state_file.specs.Accounts.{IsAccountOf, IsImageIn}
+use Rattle.state_file.specs.Accounts.{IsAccountOf, IsImageIn, TellIfAny}
 use Rattle.state_file.specs.Comparing.{KeepClients, client_names, first_moved}
 use Rattle.state_file.specs.FaultTexts.{of_encoding}
 use Rattle.state_file.specs.Hooks.{hooks_after, hooks_with}
-use Rattle.state_file.specs.Resuming.{OfEachHistory, WasRight}
+use Rattle.state_file.specs.Resuming.{OfEachHistory}
 use Rattle.state_file.specs.Standing.{IsImageOf, StandsFor}
 use Rattle.state_file.specs.StandingLaws.{StandsFor-image, StandsFor-none}
 use Rattle.state_file.specs.Telling.{TellsRules, client_told, rules_of}
@@ -109,14 +109,14 @@ keeps_clients old new keep client = by (client == 0)
         ∙ there_at (client_names (map client_told old.clients)) (client_names (map client_told new.clients)) (client - 1) keep.1 (named old.clients (client - 1) ∙ is)
 
 -- what was right is right when it is narrowed
-right_left : (left : List ℕ) (history : List Event) (rules : RegistryRecord) (m : ℕ) → IsNarrower left (rules_of rules) → IsHistory history m →
-    StandsFor left history → WasRight left history → AllRight rules [] (left_under rules history)
-right_left left history rules m narrower is stands (inl none) =
+right_left : (left : List ℕ) (history : List Event) (old rules : RegistryRecord) (m : ℕ) → IsNarrower left (rules_of rules) → IsHistory history m →
+    StandsFor left history → AllRight old [] history → TellIfAny left (rules_of old) → AllRight rules [] (left_under rules history)
+right_left left history old rules m narrower is stands all (inl none) =
     subst (λ (h : List Event). AllRight rules [] (left_under rules h)) (sym (StandsFor-none left history none stands)) tt
-right_left left history rules m narrower is stands (inr told) =
-    let same : narrower.told ≡ rules_of told.0 = tell_one (recovered left) narrower.told (rules_of told.0) narrower.tells told.1 in
-    let keep : KeepClients (rules_of told.0) (rules_of rules) = subst (λ (r : RulesFact). KeepClients r (rules_of rules)) same narrower.less.0 in
-    all_right-left told.0 rules history m (keeps_clients told.0 rules keep) is told.2
+right_left left history old rules m narrower is stands all (inr told) =
+    let same : narrower.told ≡ rules_of old = tell_one (recovered left) narrower.told (rules_of old) narrower.tells told in
+    let keep : KeepClients (rules_of old) (rules_of rules) = subst (λ (r : RulesFact). KeepClients r (rules_of rules)) same narrower.less.0 in
+    all_right-left old rules history m (keeps_clients old rules keep) is all
 
 -- IMAGES
 
@@ -147,10 +147,10 @@ module _ {H : Type 0} (hosting : Hosting H) where
       OfEachHistory hosting first left (λ history. IsRightImage hosting first image rules (left_under rules history))
   right_image account left first rules told image records kept were are greatest consents hooks lets narrower of is_in history stands was run =
       let one = is_in.each history stands was run in
-      let server = (of.answers history stands (right_now left history of.registry of.wider stands was) run).0 in
+      let server = (of.answers history stands (right_now left history of.registry of.wider was) run).0 in
       record {
         is = image_left rules told image records kept history were are greatest consents hooks (lets history) one;
-        right = right_left left history rules told.greatest narrower one.records.fits.is_history stands was;
+        right = right_left left history of.registry rules told.greatest narrower one.records.fits.is_history stands server.right of.told;
         host = account.restored.server.host;
         ran = host_run-left hosting rules (is_beyond_rules rules history) history first account.restored.server.host server.hosts;
       }

@@ -13,7 +13,7 @@ pub returns-clause-begins : goal.returns-clause-begins
 returns-clause-begins g c =
     let read = image_fact c.in_ok-image.image in
     begins_made g.H.HookHost (outset_of c.args.registry c.args.host) (lists c.args.batches.now) (lists c.in-Some.later.now) c.in-Some.first.now read c.in_ok-restored.restored c.in-Some.ensures.there
-    c.in_ok-image.ensures.fits c.in_ok-image.ensures.spelled (λ i fits is. sym (ok_is i read (c.in_ok-image.ensures.again i fits is))) c.in_ok-restored.ensures.made
+    c.in_ok-image.ensures.fits c.in_ok-image.ensures.spelled (λ i fits is. sym (ok_is i read (c.in_ok-image.ensures.again i fits is))) c.in_ok-restored.ensures.made c.in_ok-restored.ensures.notes
 
 pub returns-in_err-restored-clause-refused : goal.returns-in_err-restored-clause-refused
 returns-in_err-restored-clause-refused g c =

@@ -56,7 +56,7 @@ returns-clause-answers g c history stands right run =
     let are : recovered c.args.bytes.now ≡ lists c.deref-2.result.now = ap recovered c.requires.same ∙ sym c.in_ok-found.ensures.batches ∙ ap lists (sym c.deref-2.ensures.value) in
     let begun = begun_fits hosting (outset_of registry host) c.args.bytes.now (lists c.deref-2.result.now) (lists c.in_ok-restored.field-0.later.now) c.in_ok-restored.field-0.restored history stands are c.in_ok-restored.ensures.begins right run in
     let told : AreTold (lists c.in_ok-restored.field-0.later.now) stands.facts = subst (λ (bs : List (List ℕ)). AreTold bs stands.facts) begun.0 stands.told in
-    (c.in_ok-redo_all.ensures.redone stands.facts told).1 (outset_of registry host) stands.base history begun.1 stands.happened right
+    (c.in_ok-redo_all.ensures.redone.1 stands.facts told).1 (outset_of registry host) stands.base history begun.1 stands.happened
 
 pub returns-clause-held : goal.returns-clause-held
 returns-clause-held g c =
@@ -131,7 +131,7 @@ new-requires-clause-known g c =
     let set : (history : List Event) → StandsFor (seen mid) history → c.in_ok-hooks.hooks ≡ hooks_set_in history = λ history stands.
     (let begun = begun_hooks g.H.HookHost (outset_of c.args.registry c.args.host) (seen mid) (lists c.deref-2.result.now) (lists c.in_ok-restored.field-0.later.now) c.in_ok-restored.field-0.restored history stands are_too c.in_ok-restored.ensures.begins in
     let later : AreTold (lists c.in_ok-restored.field-0.later.now) stands.facts = subst (λ (bs : List (List ℕ)). AreTold bs stands.facts) begun.0 stands.told in
-    c.in_ok-hooks.ensures ∙ (c.in_ok-redo_all.ensures.redone stands.facts later).0 ∙ ap (λ (hs : List HookFact). hooks_behind hs stands.facts) begun.1
+    c.in_ok-hooks.ensures ∙ (c.in_ok-redo_all.ensures.redone.1 stands.facts later).0 ∙ ap (λ (hs : List HookFact). hooks_behind hs stands.facts) begun.1
     ∙ sym (hooks_of-happened stands.base history stands.facts stands.happened)) in
     known_begun (seen mid) (seen c.tell.new.file.device) c.in_ok-rules.rules.bytes.items now c.in_ok-hooks.hooks c.in_ok-restored.field-0.image c.in_ok-rules.rules.told
     (c.in_ok-rules.ensures.fit, c.in_ok-rules.ensures.spelled) told (λ told. ap (λ (f : BatchFile g.row.D.Denot). recovered (seen f.device)) (c.in_ok-tell.ensures.unwritten told))
@@ -141,3 +141,6 @@ pub returns-clause-begun : goal.returns-clause-begun
 returns-clause-begun g c =
     let are : lists c.deref.result.now ≡ recovered c.args.bytes.now = ap lists c.deref.ensures.value ∙ c.in_ok-found.ensures.batches ∙ ap recovered (sym c.requires.same) in
     subst BeginWithRules are c.in_ok-rules.ensures.taken.0
+
+pub returns-clause-unnoted : goal.returns-clause-unnoted
+returns-clause-unnoted g c = c.in_ok-redo_all.ensures.redone.0 c.in_ok-restored.ensures.begins.unnoted

@@ -11,7 +11,7 @@ use Rattle.state_file.specs.Telling.{LeavesRules}
 use Rattle.state_file.proofs.Kept.{of_file}
 use Rattle.state_file.proofs.Known.{known_image}
 use Rattle.state_file.specs.Knowing.{IsLong, IsLongFile}
-use Rattle.state_file.proofs.Renewed.{image_tells, keeps_image, keeps_no_image, not_long, too_much}
+use Rattle.state_file.proofs.Renewed.{image_tells, keeps_image, keeps_no_image, too_much}
 use Rattle.state_file.proofs.keeper.StateKeeper.shorten.Goals as goal
 
 pub returns-in_err-bytes-clause-too_much : goal.returns-in_err-bytes-clause-too_much
