@@ -10,6 +10,8 @@ pub mod Replies
 pub mod Views
 pub mod Short
 pub mod Told
+pub mod Paths
+pub mod Tallies
 pub mod Found
 -- What only the contracts of this crate's own parts and their proofs cite.
 pub mod ToldParts

@@ -1,9 +1,9 @@
 -- The line of a report, as tokens of JSON.
 use Rattle.std.specs.Prelude.{ℕ, List, [], ◌∷◌, ◌++◌, codes, decimal, Option, Some, None}
 use Rattle.json.specs.Token.{Token, begin_object, end_object, key, number}
-use Rattle.endpoints.specs.declared.tally.Asked.{Asked}
-use Rattle.endpoints.specs.declared.tally.Replied.{Replied}
-use Rattle.endpoints.specs.declared.tally.Wanted.{Wanted}
+use Rattle.answers.specs.declared.tally.Asked.{Asked}
+use Rattle.answers.specs.declared.tally.Replied.{Replied}
+use Rattle.answers.specs.declared.tally.Wanted.{Wanted}
 use Rattle.event_loop.specs.declared.report.Report.{Report}
 
 -- a member that is a number

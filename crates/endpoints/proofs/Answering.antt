@@ -19,7 +19,7 @@ use Rattle.token_store.specs.Fits.{FitsStore}
 use Rattle.token_store.specs.FitsLaws.{fits_later}
 use Rattle.answers.specs.Outcomes.{Outcome, bare}
 use Rattle.answers.specs.Replies.{reply_of}
-use Rattle.endpoints.specs.declared.endpoint.Endpoint.{Endpoint}
+use Rattle.answers.specs.declared.endpoint.Endpoint.{Endpoint}
 use Rattle.endpoints.specs.declared.ruling.Ruling.{Ruling}
 use Rattle.endpoints.specs.HookPaths.{hook_change_at}
 use Rattle.endpoints.specs.Hosts.{HostRun, IsHostFault, says_with}
@@ -27,7 +27,7 @@ use Rattle.endpoints.specs.Making.{IsSame, Makes, MakesHost, StandsAlone}
 use Rattle.endpoints.specs.Noting.{with_notes}
 use Rattle.endpoints.specs.Bounded.{AllRightAfter}
 use Rattle.endpoints.specs.Ruling.{CanMakeAll}
-use Rattle.endpoints.specs.Paths.{endpoint_at, method_at}
+use Rattle.answers.specs.Paths.{endpoint_at, method_at}
 use Rattle.endpoints.specs.Replies.{request_outcome, hook_change}
 use Rattle.endpoints.specs.Rulings.{Asking, FitsNow, IsRuling, comes_to, setting_now}
 use Rattle.endpoints.specs.RulingsParts.{AnswersRequest, before_now}

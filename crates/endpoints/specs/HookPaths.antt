@@ -20,8 +20,8 @@ use Rattle.messages.specs.Reply.Body.{Hook, HookRefused, Hooks}
 use Rattle.answers.specs.Outcomes.{Outcome, point, need, only, refuse, unavailable}
 use Rattle.answers.specs.Requesters.{Parameters, form_of}
 use Rattle.answers.specs.Setting.{Setting}
-use Rattle.endpoints.specs.declared.endpoint.Endpoint.{Endpoint}
-use Rattle.endpoints.specs.declared.endpoint.Endpoint.TheVariants as endpoint
+use Rattle.answers.specs.declared.endpoint.Endpoint.{Endpoint}
+use Rattle.answers.specs.declared.endpoint.Endpoint.TheVariants as endpoint
 
 -- the operator's key was sent
 abbrev pub is_operator : RegistryRecord → Asked → Bool

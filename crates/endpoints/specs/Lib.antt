@@ -7,7 +7,6 @@ pub mod Revoke
 pub mod Introspect
 pub mod HookPaths
 pub mod Ruling
-pub mod Paths
 pub mod Replies
 pub mod Bounded
 pub mod Reading
@@ -27,7 +26,6 @@ pub mod Keeping
 pub mod Parts
 pub mod HookAsking
 pub mod RulingParts
-pub mod Tallies
 pub mod MakingParts
 pub mod RulingsParts
 pub mod RedoParts

@@ -9,8 +9,8 @@ use Rattle.answers.specs.Outcomes.{Outcome}
 use Rattle.answers.specs.Requesters.{Parameters, with_form}
 use Rattle.answers.specs.Setting.{HostSays}
 use Rattle.answers.specs.declared.halt.Halt.{Halt}
-use Rattle.endpoints.specs.declared.endpoint.Endpoint.{Endpoint}
-use Rattle.endpoints.specs.declared.endpoint.Endpoint.TheVariants as endpoint
+use Rattle.answers.specs.declared.endpoint.Endpoint.{Endpoint}
+use Rattle.answers.specs.declared.endpoint.Endpoint.TheVariants as endpoint
 use Rattle.endpoints.specs.declared.reading.Reading.{Reading}
 use Rattle.endpoints.specs.declared.reading.Reading.TheVariants.{Authorize, GiveConsent, IssueToken, RevokeToken, Introspect, InstallHook, RemoveHook, ListHooks}
 use Rattle.endpoints.specs.Authorize.{HasShortState, with_query}

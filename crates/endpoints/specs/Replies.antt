@@ -5,9 +5,9 @@ use Rattle.messages.specs.Asked.{Asked}
 use Rattle.messages.specs.Target.{path_of}
 use Rattle.answers.specs.Outcomes.{Outcome, point, need, bare, chosen}
 use Rattle.answers.specs.Setting.{Setting}
-use Rattle.endpoints.specs.declared.endpoint.Endpoint.{Endpoint}
-use Rattle.endpoints.specs.declared.endpoint.Endpoint.TheVariants.{Authorize, GiveConsent, IssueToken, RevokeToken, Introspect, InstallHook, RemoveHook, ListHooks}
-use Rattle.endpoints.specs.Paths.{endpoint_at, method_at}
+use Rattle.answers.specs.declared.endpoint.Endpoint.{Endpoint}
+use Rattle.answers.specs.declared.endpoint.Endpoint.TheVariants.{Authorize, GiveConsent, IssueToken, RevokeToken, Introspect, InstallHook, RemoveHook, ListHooks}
+use Rattle.answers.specs.Paths.{endpoint_at, method_at}
 use Rattle.endpoints.specs.Authorize.{authorize}
 use Rattle.endpoints.specs.ConsentPath.{give_consent}
 use Rattle.token_endpoint.specs.TokenPath.{issue_token}

@@ -11,7 +11,7 @@ use Rattle.answers.specs.Outcomes.{Outcome}
 use Rattle.answers.specs.Setting.{Setting}
 use Rattle.answers.specs.Told.{outcome_told}
 use Rattle.answers.specs.declared.halt.Halt.{Halt}
-use Rattle.endpoints.specs.declared.endpoint.Endpoint.{Endpoint}
+use Rattle.answers.specs.declared.endpoint.Endpoint.{Endpoint}
 use Rattle.endpoints.specs.declared.reading.Reading.{Reading}
 use Rattle.endpoints.specs.declared.ruling.Ruling.{Ruling}
 use Rattle.endpoints.specs.Bounded.{AllRightAfter}

@@ -5,7 +5,6 @@
 mod authorize;
 mod beside;
 mod consenting;
-mod endpoint;
 mod hooks;
 mod image_keeper;
 mod introspect;
@@ -18,10 +17,9 @@ mod revoke;
 mod right;
 mod ruling;
 mod server;
-mod tally;
 
+pub use answers::{Asked, Endpoint, Replied, Tally, Wanted};
 pub use consent::Moment;
-pub use endpoint::Endpoint;
 pub use image_keeper::{ImageFault, ImageKeeper};
 pub use laws::{codes_and_tokens_keep_their_bounds, wider_rules_keep_what_is_right};
 pub use reading::Reading;
@@ -29,4 +27,3 @@ pub use redo::{RedoFault, layout_of};
 pub use restoring::RestoreFault;
 pub use ruling::{Checked, Ruling};
 pub use server::Server;
-pub use tally::{Asked, Replied, Tally, Wanted};

@@ -5,9 +5,8 @@ ghost use Rattle.answers.specs.Short.{state_limit};
 ghost use Rattle.endpoints.specs.Reading.{EndsAt, IsRequestRead, IsShortReading, endpoint_of};
 
 use crate::authorize::query;
-use crate::endpoint::Endpoint;
 use crate::hooks::operator;
-use answers::{Halt, form};
+use answers::{Endpoint, Halt, form};
 use clients::Registry;
 use messages::Request;
 use params::Params;

@@ -15,7 +15,7 @@ use Rattle.answers.specs.Requesters.{form_of}
 use Rattle.answers.specs.Texts.{digest_told}
 use Rattle.answers.specs.Tokens.{live_token}
 use Rattle.token_endpoint.specs.TokenPath.{issue_token}
-use Rattle.endpoints.specs.Paths.{endpoint_at, method_at}
+use Rattle.answers.specs.Paths.{endpoint_at, method_at}
 use Rattle.endpoints.specs.Replies.{outcome_at}
 use Rattle.endpoints.specs.Revoke.{revoke_token, revoked}
 use Rattle.headline.specs.Occasions.{Occasion, outcome_of, history_after, setting_on}

@@ -6,9 +6,9 @@ use Rattle.consent.specs.History.{Event}
 use Rattle.messages.specs.declared.request.Draws.{Draws}
 use Rattle.messages.specs.Target.{path_of}
 use Rattle.endpoints.specs.Server.{Outset}
-use Rattle.endpoints.specs.declared.endpoint.Endpoint.{Endpoint}
-use Rattle.endpoints.specs.declared.endpoint.Endpoint.TheVariants.{Authorize, GiveConsent, IssueToken, RevokeToken, Introspect, InstallHook, RemoveHook, ListHooks}
-use Rattle.endpoints.specs.Paths.{endpoint_at}
+use Rattle.answers.specs.declared.endpoint.Endpoint.{Endpoint}
+use Rattle.answers.specs.declared.endpoint.Endpoint.TheVariants.{Authorize, GiveConsent, IssueToken, RevokeToken, Introspect, InstallHook, RemoveHook, ListHooks}
+use Rattle.answers.specs.Paths.{endpoint_at}
 use Rattle.http_edge.specs.Answers.{AnsweredRequest, IsOutcomeOfRequest}
 use Rattle.http_edge.specs.Sources.{wants_draws}
 

@@ -3,7 +3,7 @@ use Rattle.std.specs.Prelude.{not, bytes_eq}
 use Rattle.messages.specs.Asked.{asked_of}
 use Rattle.messages.specs.Target.{path_of}
 use Rattle.endpoints.specs.Noting.{noted_in, prepared_in}
-use Rattle.endpoints.specs.Paths.{endpoint_at, method_at}
+use Rattle.answers.specs.Paths.{endpoint_at, method_at}
 use Rattle.endpoints.proofs.Sound.{not_false}
 use Rattle.endpoints.proofs.Answering.{at_moment, swept, bare_step, none_made, stepped, unkept_as, host_as}
 use Rattle.endpoints.proofs.Shorter.{written_short, not_found_small, not_allowed_small, unavailable_small}

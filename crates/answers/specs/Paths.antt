@@ -1,7 +1,7 @@
 -- The endpoints, their paths and their methods.
 use Rattle.std.specs.Prelude.{ℕ, List, Option, Some, None, bytes_eq, codes, if◌then◌else◌}
-use Rattle.endpoints.specs.declared.endpoint.Endpoint.{Endpoint}
-use Rattle.endpoints.specs.declared.endpoint.Endpoint.TheVariants.{Authorize, GiveConsent, IssueToken, RevokeToken, Introspect, InstallHook, RemoveHook, ListHooks}
+use Rattle.answers.specs.declared.endpoint.Endpoint.{Endpoint}
+use Rattle.answers.specs.declared.endpoint.Endpoint.TheVariants.{Authorize, GiveConsent, IssueToken, RevokeToken, Introspect, InstallHook, RemoveHook, ListHooks}
 
 -- the endpoint of a path, byte by byte
 abbrev pub endpoint_at : List ℕ → Option Endpoint

@@ -1,6 +1,6 @@
 //! The endpoints and their paths.
 ghost use Rattle.std.specs.Prelude.{◌≡◌, Some};
-ghost use Rattle.endpoints.specs.Paths.{endpoint_at, method_at};
+ghost use Rattle.answers.specs.Paths.{endpoint_at, method_at};
 
 /// What a path is for.
 #[derive(Clone, Copy, Debug, PartialEq, Eq)]

@@ -4,14 +4,14 @@ use Rattle.answers.specs.declared.answer.Answer.{Answer}
 use Rattle.answers.specs.declared.answer.Answer.TheVariants as answer
 use Rattle.answers.specs.declared.want.Want.{Want}
 use Rattle.answers.specs.declared.want.Want.TheVariants.{Memory, StoreRoom, FreshDraw, ConsentRoom}
-use Rattle.endpoints.specs.declared.endpoint.Endpoint.{Endpoint}
-use Rattle.endpoints.specs.declared.endpoint.Endpoint.TheVariants.{Authorize, GiveConsent, IssueToken, RevokeToken, Introspect, InstallHook, RemoveHook, ListHooks}
-use Rattle.endpoints.specs.declared.tally.Asked.{Asked}
-use Rattle.endpoints.specs.declared.tally.Replied.{Replied}
-use Rattle.endpoints.specs.declared.tally.Wanted.{Wanted}
-use Rattle.endpoints.specs.declared.tally.Tally.{Tally}
-use Rattle.endpoints.specs.declared.tally.Cause.{Cause}
-use Rattle.endpoints.specs.declared.tally.Cause.TheVariants.{Wants, Denied}
+use Rattle.answers.specs.declared.endpoint.Endpoint.{Endpoint}
+use Rattle.answers.specs.declared.endpoint.Endpoint.TheVariants.{Authorize, GiveConsent, IssueToken, RevokeToken, Introspect, InstallHook, RemoveHook, ListHooks}
+use Rattle.answers.specs.declared.tally.Asked.{Asked}
+use Rattle.answers.specs.declared.tally.Replied.{Replied}
+use Rattle.answers.specs.declared.tally.Wanted.{Wanted}
+use Rattle.answers.specs.declared.tally.Tally.{Tally}
+use Rattle.answers.specs.declared.tally.Cause.{Cause}
+use Rattle.answers.specs.declared.tally.Cause.TheVariants.{Wants, Denied}
 
 -- a count, which stops at the greatest number
 abbrev pub one_more : ℕ → ℕ

@@ -1,9 +1,10 @@
 //! How many requests were answered, and how.
 ghost use Rattle.std.specs.Prelude.{◌≡◌};
-ghost use Rattle.endpoints.specs.Tallies.{asked_at, cause_of, with_request, one_more, replied, wanted};
+ghost use Rattle.answers.specs.Tallies.{asked_at, cause_of, with_request, one_more, replied, wanted};
 
+use crate::answer::Answer;
 use crate::endpoint::Endpoint;
-use answers::{Answer, Want};
+use crate::want::Want;
 use http::StatusCode;
 
 /// How many requests there were at each endpoint.
@@ -55,7 +56,7 @@ pub struct Tally {
 
 /// Why a reply is what it is, where its status doesn't tell.
 #[derive(Clone, Copy)]
-pub(crate) enum Cause {
+pub enum Cause {
     /// That is wanting.
     Wants(Want),
     /// A hook denied the grant.
@@ -64,7 +65,7 @@ pub(crate) enum Cause {
 
 impl Cause {
     /// The cause that an answer tells of, if it does.
-    pub(crate) fn of(answer: &Answer<'_>) -> Option<Cause>
+    pub fn of(answer: &Answer<'_>) -> Option<Cause>
         ensures { result ≡ cause_of answer.now }
     {
         match answer {
@@ -143,12 +144,7 @@ impl Wanted {
 
 impl Tally {
     /// One more request was answered at the endpoint, or at none, with the status, for the cause.
-    pub(crate) fn count(
-        &mut self,
-        endpoint: Option<Endpoint>,
-        status: StatusCode,
-        cause: Option<Cause>,
-    )
+    pub fn count(&mut self, endpoint: Option<Endpoint>, status: StatusCode, cause: Option<Cause>)
         ensures { self.new ≡ with_request self.old endpoint status cause }
     {
         self.asked = self.asked.at(endpoint);
