@@ -1,7 +1,7 @@
 //! The instructions of RFC 9669 that token hooks are written in: their types, and what they mean.
 //!
-//! The meaning stands in `specs/`: `Step` (what a program does), `FirstLook` and `Faults` (what a verifier tests),
-//! `Shapes` (programs whose paths agree). Crate `encoding` has the bytes of programs, crate `assembly` their texts.
+//! The meaning stands in `specs/`: `Step` (what a program does), `FirstLook` and `Tests` (what a verifier tests). Crate
+//! `verifier` has programs whose paths agree, crate `encoding` the bytes of programs, crate `assembly` their texts.
 #![tactic(auto)]
 
 pub mod fault;
