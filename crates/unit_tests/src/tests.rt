@@ -1,5 +1,6 @@
 //! Tests over the layers of both halves, each by the public calls of its crate.
 
+mod calls;
 mod drawn_requests;
 mod drawn_store;
 mod draws;

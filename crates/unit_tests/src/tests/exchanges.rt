@@ -15,7 +15,8 @@ const REGISTRY: &[u8] =
     br#"{"access_life":300,"refresh_life":86400,"operator":"op-key","owners":["ann-key"],"scopes":["read","write","admin"],"clients":[{"id":"app","secret":"s3cret","redirects":["https://app.example/cb"],"scope":"read write","grants":["authorization_code","refresh_token"]},{"id":"bot","secret":"b0t","redirects":[],"scope":"read","grants":["client_credentials"]}]}"#;
 
 /// What a request is answered that memory is refused for.
-const UNAVAILABLE: &[u8] = b"HTTP/1.1 503 Service Unavailable\r\nContent-Length: 0\r\n\r\n";
+pub(super) const UNAVAILABLE: &[u8] =
+    b"HTTP/1.1 503 Service Unavailable\r\nContent-Length: 0\r\n\r\n";
 
 /// A request at a second, whose two draws repeat bytes, and the reply to it.
 #[derive(Clone, Copy)]
@@ -26,12 +27,17 @@ pub(super) struct Exchange {
     pub(super) reply: &'static [u8],
 }
 
+/// The registry, where memory was refused once more.
+pub(super) fn registry(alloc: Global) -> Result<Registry, ConfigFault> {
+    match Registry::read(alloc, REGISTRY) {
+        Err(ConfigFault::Memory) => Registry::read(alloc, REGISTRY),
+        rules => rules,
+    }
+}
+
 /// An edge over a server of the registry.
 pub(super) fn edge_of<H: HookHost>(alloc: Global, host: H) -> Result<Edge<H>, ConfigFault> {
-    let rules = match Registry::read(alloc, REGISTRY) {
-        Err(ConfigFault::Memory) => Registry::read(alloc, REGISTRY)?,
-        rules => rules?,
-    };
+    let rules = registry(alloc)?;
     Ok(Edge::new(alloc, Server::new(alloc, rules, host)))
 }
 
@@ -61,7 +67,7 @@ pub(super) fn end<H: HookHost>(edge: &mut Edge<H>, c: ConnectionNo) -> Result<()
 }
 
 /// A piece comes on connection 1.
-pub(super) fn piece<H: HookHost>(
+fn piece<H: HookHost>(
     edge: &mut Edge<H>,
     piece: &[u8],
     moment: u32,

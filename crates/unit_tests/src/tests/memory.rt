@@ -1,7 +1,6 @@
-//! Events that are refused for want of memory or of draws and given again, and what is counted of them.
+//! What is counted of requests, of those too that memory is refused for.
 
-use super::exchanges::{Exchange, assert_answered, opened, piece};
-use http_edge::EdgeFault;
+use super::exchanges::{Exchange, assert_answered, opened};
 use std::test::Fail;
 
 /// From a consent to a token that is told of, and a hook.
@@ -55,32 +54,6 @@ const GROWTHS: &[Exchange] = &[
         reply: b"HTTP/1.1 200 OK\r\nContent-Type: application/json\r\nCache-Control: no-store\r\nPragma: no-cache\r\nContent-Length: 178\r\n\r\n{\"access_token\":\"BAQEBAQEBAQEBAQEBAQEBAQEBAQEBAQEBAQEBAQEBAQ\",\"expires_in\":300,\"refresh_token\":\"BQUFBQUFBQUFBQUFBQUFBQUFBQUFBQUFBQUFBQUFBQU\",\"scope\":\"read\",\"token_type\":\"Bearer\"}",
     },
 ];
-
-/// With each allocation refused in turn.
-#[test]
-fn requests_under_refused_memory(rt: HostRuntime) -> Result<(), Fail> {
-    let mut edge = opened(rt.alloc())?;
-    assert_answered(&rt, &mut edge, GROWTHS);
-    Ok(())
-}
-
-/// There is no such path.
-const STRAY: &[Exchange] = &[Exchange {
-    moment: 1000,
-    draws: (0, 0),
-    request: b"GET /a HTTP/1.1\r\n\r\n",
-    reply: b"HTTP/1.1 404 Not Found\r\nContent-Length: 0\r\n\r\n",
-}];
-
-/// A piece without draws is refused, and changes nothing: with draws it is answered.
-#[test]
-fn a_piece_that_is_given_again(rt: HostRuntime) -> Result<(), Fail> {
-    let mut edge = opened(rt.alloc())?;
-    let undrawn = piece(&mut edge, b"GET /a HTTP/1.1\r\n\r\n", 1000, &[]);
-    assert_eq!(rt; undrawn, Err(EdgeFault::DrawsShort));
-    assert_answered(&rt, &mut edge, STRAY);
-    Ok(())
-}
 
 /// Grants that a hook denies, another method, and a path of no endpoint.
 const DENIALS: &[Exchange] = &[
