@@ -11,7 +11,7 @@ returns-in-Err-TooLong-clause-refused g c =
 pub returns-then-len-clause-refused : goal.returns-then-len-clause-refused
 returns-then-len-clause-refused g c =
     let image = image_fact c.in_ok-image.image in
-    let spelled = c.in-Ok.ensures.written in
+    let spelled = c.in-Ok-encode.ensures.written in
     (image, c.in_ok-image.ensures.is, inr (let all = ap length spelled in let n = c.len.ensures in let long = c.if-len.true in omega (arith, all, n, long)))
 
 pub returns-clause-is : goal.returns-clause-is

@@ -13,10 +13,10 @@ use Rattle.state_narrowing.proofs.imaging.image_left.Goals as goal
 pub returns-in-Err-clause-refused : goal.returns-in-Err-clause-refused
 returns-in-Err-clause-refused g c = c.fault_of.ensures
 
-pub returns-in_err-encode-clause-refused : goal.returns-in_err-encode-clause-refused
-returns-in_err-encode-clause-refused g c =
-    let cause = c.in_err-encode.field-0.0 in
-    let is : c.from_residual-in_err-encode.result ≡ Err (of_encoding cause) = search rules in
+pub returns-in_err-bytes-clause-refused : goal.returns-in_err-bytes-clause-refused
+returns-in_err-bytes-clause-refused g c =
+    let cause = c.in_err-bytes.field-0.0 in
+    let is : c.from_residual-in_err-bytes.result ≡ Err (of_encoding cause) = search rules in
     let refused : RefusesNarrowing (of_encoding cause) = of_encoding_refuses cause in
     rw is refused
 
