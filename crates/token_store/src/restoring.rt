@@ -36,10 +36,7 @@ pub enum RestoreFault {
 fn unexpired_count(records: &[KeptRecord<'_>], moment: Moment) -> usize
     ensures { result ≡ count_by (is_unexpired_record moment) records.now }
 {
-    records
-        .iter()
-        .filter(|record| record.is_unexpired(moment))
-        .count()
+    records.iter().filter(|it| it.is_unexpired(moment)).count()
 }
 
 impl Tables {
@@ -87,13 +84,10 @@ impl Tables {
             return Ok(());
         }
         if let Some(number) = numbers.get(&kept.family) {
-            let Some(shared) = self.families.get(*number) else {
-                return Err(RestoreFault::FamilyDiffers);
+            return match self.families.get(*number) {
+                Some(shared) if kept.is_of(shared) => Ok(()),
+                _ => Err(RestoreFault::FamilyDiffers),
             };
-            if !kept.is_of(shared) {
-                return Err(RestoreFault::FamilyDiffers);
-            }
-            return Ok(());
         }
         let Ok(number) = self.open_family(kept.shared()) else {
             return Err(RestoreFault::Memory);
@@ -121,9 +115,7 @@ impl Tables {
         ensures twice { IsErrOf result RestoreFault.DigestTwice → ⊥ }
     {
         for kept in records {
-            if let Err(fault) = self.open_home(numbers, kept, moment) {
-                return Err(fault);
-            }
+            self.open_home(numbers, kept, moment)?;
         }
         Ok(())
     }
@@ -227,12 +219,8 @@ impl Tables {
         }
         let mut tables = Tables::new(alloc);
         let mut numbers = HashMap::new(alloc);
-        if let Err(fault) = tables.open_all(&mut numbers, records, moment) {
-            return Err(fault);
-        }
-        if let Err(fault) = tables.put_all(alloc, &numbers, records, moment) {
-            return Err(fault);
-        }
+        tables.open_all(&mut numbers, records, moment)?;
+        tables.put_all(alloc, &numbers, records, moment)?;
         Ok(tables)
     }
 }

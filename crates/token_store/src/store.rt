@@ -90,10 +90,8 @@ impl Store {
     pub fn code_scope(&self, digest: &Digest, moment: Moment) -> Option<ScopeSet>
         ensures { ForEachHistory self.now.kept moment (λ history. result ≡ code_scope_at history digest.now moment) }
     {
-        match self.tables.at(digest, moment) {
-            Some((_, shared)) => shared.code_scope,
-            None => None,
-        }
+        let (_, shared) = self.tables.at(digest, moment)?;
+        shared.code_scope
     }
 
     /// Why codes or tokens of these digests may not be given. Full comes before DrawTaken.

@@ -16,8 +16,8 @@ loop-kept-preserved c =
     let n' = c.open_home.new.numbers.entries in
     let f' = c.open_home.new.self.families.slots in
     record {
-      tied = c.in_default.ensures.tied;
-      records_are = c.in_default.ensures.records ∙ c.loop-kept.invariant.records_are;
-      homes = c.in_default.ensures.homes;
-      all = rw more (all_push n' f' m (take i rs) r (all_mapped n n' f f' m (take i rs) (λ x. home_grown n n' f f' x c.in_default.ensures.grown) c.loop-kept.invariant.all) c.in_default.ensures.here);
+      tied = c.in_ok-open_home.ensures.tied;
+      records_are = c.in_ok-open_home.ensures.records ∙ c.loop-kept.invariant.records_are;
+      homes = c.in_ok-open_home.ensures.homes;
+      all = rw more (all_push n' f' m (take i rs) r (all_mapped n n' f f' m (take i rs) (λ x. home_grown n n' f f' x c.in_ok-open_home.ensures.grown) c.loop-kept.invariant.all) c.in_ok-open_home.ensures.here);
     }
