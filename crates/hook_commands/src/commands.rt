@@ -6,8 +6,5 @@ pub mod check;
 pub mod list;
 mod program_file;
 pub mod run;
-pub mod slots;
 pub mod text_file;
 mod told_file;
-pub mod trace;
-pub mod why;

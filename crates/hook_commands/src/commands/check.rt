@@ -1,11 +1,15 @@
-//! `check FILE` and `check2 FILE`: whether the program whose hex stands in a file is accepted.
+//! `check FILE` and `check2 FILE`: whether the program whose hex stands in a file is accepted; with `--why`, why it is
+//! refused.
 
 ghost use Rattle.std.specs.Option.{option_copied};
 ghost use Rattle.hook_commands.specs.File.{IsCheckedOn};
+ghost use Rattle.hook_commands.specs.Telling.{IsExplainedOn};
 
 use crate::answer::HookAnswer;
 use crate::commands::program_file::program_in;
+use crate::commands::told_file::told_program_in;
 use crate::fault::HookCommandFault;
+use crate::why::explanation;
 use insn::layout::Layout;
 use std::alloc::Global;
 use verifier::verified::verify;
@@ -24,4 +28,17 @@ pub fn check<'w>(
         Ok(verified) => Ok(HookAnswer::Accepted(verified.program().len())),
         Err((_, fault)) => Err(HookCommandFault::from(fault)),
     }
+}
+
+/// What is found of the program whose hex stands in a file, for records of one version, told at length.
+pub fn explained_check<'w>(
+    alloc: Global,
+    layout: Layout,
+    path: &'w str,
+    file: Option<&[u8]>,
+) -> Result<HookAnswer, HookCommandFault<'w>>
+    ensures { IsExplainedOn layout path.now (option_copied file.entry) result }
+{
+    let program = told_program_in(alloc, path, file)?;
+    Ok(explanation(alloc, &program, layout)?)
 }

@@ -1,12 +1,15 @@
-//! `list FILE`: the canonical text of the program whose hex stands in a file.
+//! `list FILE` and `list --slots FILE`: the canonical text of the program whose hex stands in a file; with the slot before
+//! each line.
 
 ghost use Rattle.std.specs.Option.{option_copied};
 ghost use Rattle.hook_commands.specs.File.{IsListedAs};
+ghost use Rattle.hook_commands.specs.Telling.{IsListedWithSlotsAs};
 
 use crate::answer::HookAnswer;
 use crate::commands::program_file::program_in;
+use crate::commands::told_file::told_program_in;
 use crate::fault::HookCommandFault;
-use lister::list;
+use lister::{list, list_slots};
 use std::alloc::Global;
 
 /// The canonical text of the program whose hex stands in a file.
@@ -19,5 +22,18 @@ pub fn listing<'w>(
 {
     let program = program_in(alloc, path, file)?;
     let text = list(alloc, &program)?;
+    Ok(HookAnswer::Listing(text))
+}
+
+/// The canonical text of the program whose hex stands in a file, with its slots.
+pub fn listing_with_slots<'w>(
+    alloc: Global,
+    path: &'w str,
+    file: Option<&[u8]>,
+) -> Result<HookAnswer, HookCommandFault<'w>>
+    ensures { IsListedWithSlotsAs path.now (option_copied file.entry) result }
+{
+    let program = told_program_in(alloc, path, file)?;
+    let text = list_slots(alloc, &program)?;
     Ok(HookAnswer::Listing(text))
 }

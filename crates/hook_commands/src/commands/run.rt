@@ -1,12 +1,16 @@
-//! `run HEX RECORDHEX`: what the hook of some code answers to a record.
+//! `run HEX RECORDHEX`: what the hook of some code answers to a record; with `--trace`, behind the steps of its run.
 
-ghost use Rattle.hook_commands.specs.Answers.{IsRunOn};
+ghost use Rattle.std.specs.Prelude.{Ok};
+ghost use Rattle.hook_commands.specs.Answers.{IsJudgedText, IsRunOn, IsTracedOn};
 
 use crate::answer::HookAnswer;
 use crate::fault::HookCommandFault;
 use crate::hex_text::bytes_of_hex;
-use crate::judge::{JudgeFault, judge};
+use crate::judge::{Asked, JudgeFault, Judged, judge};
+use crate::trace::trace_told;
+use encoding::decode;
 use std::alloc::Global;
+use std::fmt::Write;
 
 /// What the hook of some code answers to a record, both as hex text. The code's text is tested first.
 pub fn run(
@@ -28,5 +32,47 @@ pub fn run(
         Err(JudgeFault::Insn(fault)) => Err(HookCommandFault::from(fault)),
         Err(JudgeFault::Verify(fault)) => Err(HookCommandFault::from(fault)),
         Err(JudgeFault::Stuck(_)) => unreachable!(),
+    }
+}
+
+/// The steps of the run of the hook of some code on a record, both as hex text, and behind them how it is judged.
+fn with_steps(
+    alloc: Global,
+    code_hex: &str,
+    record_hex: &str,
+    judged: Judged,
+) -> Result<HookAnswer, HookCommandFault<'static>>
+    requires { IsJudgedText code_hex.now record_hex.now (Ok judged) }
+    ensures { IsTracedOn code_hex.now record_hex.now result }
+{
+    let Some(code) = bytes_of_hex(alloc, code_hex.as_bytes())? else {
+        return Err(HookCommandFault::BadArguments);
+    };
+    let Some(mut record) = bytes_of_hex(alloc, record_hex.as_bytes())? else {
+        return Err(HookCommandFault::BadRecord);
+    };
+    let Some(asked) = Asked::read(&record) else {
+        return Err(HookCommandFault::BadRecord);
+    };
+    let program = match decode(alloc, &code) {
+        Ok(program) => program,
+        Err(fault) => return Err(HookCommandFault::from(fault)),
+    };
+    let mut text = trace_told(alloc, &program, asked.layout, &mut record)?;
+    write!(text, "{judged}\n")?;
+    Ok(HookAnswer::Listing(text))
+}
+
+/// What the hook of some code answers to a record, as `run` has it, behind the steps of its run.
+pub fn traced(
+    alloc: Global,
+    code_hex: &str,
+    record_hex: &str,
+) -> Result<HookAnswer, HookCommandFault<'static>>
+    ensures { IsTracedOn code_hex.now record_hex.now result }
+{
+    match run(alloc, code_hex, record_hex)? {
+        HookAnswer::Judged(judged) => with_steps(alloc, code_hex, record_hex, judged),
+        _ => unreachable!(),
     }
 }

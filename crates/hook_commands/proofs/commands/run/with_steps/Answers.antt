@@ -7,7 +7,7 @@ use Rattle.hook_commands.specs.Judge.{asked_in}
 use Rattle.hook_commands.specs.Printed.{judged_text}
 use Rattle.hook_commands.specs.declared.judge.JudgeFault.TheVariants as judge
 use Rattle.hook_commands.proofs.Refusing.{told_insn}
-use Rattle.hook_commands.proofs.commands.trace.with_steps.Goals as goal
+use Rattle.hook_commands.proofs.commands.run.with_steps.Goals as goal
 
 pub returns-in-Err : goal.returns-in-Err
 returns-in-Err c =
