@@ -66,24 +66,23 @@ token_live history m t text digest g is later told live no_code =
     let parts = and_parts (not (has_ended history g.family)) (not (is_single_use g.kind && is_spent history digest t)) good.1 in
     let past = grant_at-past history digest m t g is good.0 in
     let named = and_parts (bytes_eq digest g.digest) (is_unexpired t g) (find-passes (is_named digest t) (grants history) g good.0) in
+    let same : digest ≡ g.digest = (bytes_eq-Decides digest g.digest).0 named.0 in
     record {
-      digest = digest;
-      told = told;
-      named = good.0;
+      told = told ∙ ap (λ d. Some d) same;
+      named = subst (λ d. grant_at history d t ≡ Some g) same good.0;
       no_code = no_code;
       alive = is_not (has_ended history g.family) parts.0;
-      unused = unused_of (is_single_use g.kind) (is_spent history digest t) parts.1;
-      given = omega (arith, past, later);
-      unexpired = ltb-true t (g.moment + g.life) named.1;
+      unused = subst (λ d. is_single_use g.kind ≡ true → is_spent history d t ≡ false) same (unused_of (is_single_use g.kind) (is_spent history digest t) parts.1);
+      lasts = (omega (arith, past, later), ltb-true t (g.moment + g.life) named.1);
     }
 
 live_token_is : (history : List Event) (text : List ℕ) (t : ℕ) (g : Grant) → IsLive history text t g → live_token history t text ≡ Some g
 live_token_is history text t g live =
     ap (λ o. where_passes (λ (x : Grant). not (is_code x.kind)) (option_and_then (λ digest. live_grant history digest t) o)) live.told
-    ∙ ap (λ o. where_passes (λ (x : Grant). not (is_code x.kind)) (where_good history live.digest t o)) live.named
+    ∙ ap (λ o. where_passes (λ (x : Grant). not (is_code x.kind)) (where_good history g.digest t o)) live.named
     ∙ ap (λ b. where_passes (λ (x : Grant). not (is_code x.kind)) (if b then Some g else None))
-    (and_from (not (has_ended history g.family)) (not (is_single_use g.kind && is_spent history live.digest t)) (ap not live.alive)
-    (used_not (is_single_use g.kind) (is_spent history live.digest t) live.unused))
+    (and_from (not (has_ended history g.family)) (not (is_single_use g.kind && is_spent history g.digest t)) (ap not live.alive)
+    (used_not (is_single_use g.kind) (is_spent history g.digest t) live.unused))
     ∙ ap (λ b. if not b then Some g else None) live.no_code
 
 -- what is told of a token is told of it
@@ -131,7 +130,7 @@ module _ (rules : RegistryRecord) (history : List Event) (m : ℕ) (is : IsHisto
       let client = of_client rules history x.digest occasion.arrival.moment x.token bounded (live_good history x.digest occasion.arrival.moment x.token x.live).0 in
       record {
         text = x.text;
-        shown = record { params = x.sender.params; client = x.sender.known.number; bears = record { form = x.sender.form; authentic = x.sender.authenticates }; sent = x.sent };
+        shown = (x.sender.params, x.sent, x.sender.known.number, record { form = x.sender.form; authentic = x.sender.authenticates });
         token = x.token;
         live = token_live history m occasion.arrival.moment x.text x.digest x.token is later x.told x.live x.no_code;
         tells = told_tells rules x.token client.0 client.1 x.token.kind refl x.no_code;
@@ -192,18 +191,18 @@ module _ (rules : RegistryRecord) (history : List Event) (m : ℕ) (is : IsHisto
   each_live text token goes posted unrefused shown live =
       let asked = occasion.arrival.asked in
       let o = introspect (setting_on rules history occasion) asked in
-      let sender = is_client shown.params shown.client shown.bears.authentic in
-      let known : KnownClient = record { number = shown.client; client = sender.0 } in
-      let client = of_client rules history live.digest occasion.arrival.moment token bounded live.named in
+      let sender = is_client shown.0 shown.2 shown.3.authentic in
+      let known : KnownClient = record { number = shown.2; client = sender.0 } in
+      let client = of_client rules history token.digest occasion.arrival.moment token bounded live.named in
       let there : outcome_of rules history occasion ≡ o =
       ap (at_path rules history occasion) goes
       ∙ ap (λ b. point (not b) (bare 405) (chosen occasion.refused o)) ((bytes_eq-Decides asked.method (codes "POST")).1 posted)
       ∙ ap (λ b. chosen b o) unrefused in
       let told : o ≡ only (plain 200 (told_of rules token token.kind)) =
-      ap (λ (p : Option Parameters). need p (refuse InvalidRequest) (λ params. with_client rules (authenticated rules.clients asked.authorization params) (ask params))) shown.bears.form
-      ∙ ap (λ r. with_client rules r (ask shown.params)) shown.bears.authentic
-      ∙ ap (λ (c : Option ClientRecord). need (option_map (λ client. let k : KnownClient = record { number = shown.client; client = client } in k) c) unavailable (ask shown.params)) sender.1
-      ∙ ap (λ t. need t (refuse InvalidRequest) (λ text. by_live (live_token history occasion.arrival.moment text))) shown.sent
+      ap (λ (p : Option Parameters). need p (refuse InvalidRequest) (λ params. with_client rules (authenticated rules.clients asked.authorization params) (ask params))) shown.3.form
+      ∙ ap (λ r. with_client rules r (ask shown.0)) shown.3.authentic
+      ∙ ap (λ (c : Option ClientRecord). need (option_map (λ client. let k : KnownClient = record { number = shown.2; client = client } in k) c) unavailable (ask shown.0)) sender.1
+      ∙ ap (λ t. need t (refuse InvalidRequest) (λ text. by_live (live_token history occasion.arrival.moment text))) shown.1
       ∙ ap by_live (live_token_is history text occasion.arrival.moment token live) in
       subst (λ (x : Outcome). TellsOf rules token x.reply.body) (sym (there ∙ told)) (told_tells rules token client.0 client.1 token.kind refl live.no_code)
 

@@ -18,7 +18,7 @@ use Rattle.answers.specs.Outcomes.{Extent, Outcome}
 use Rattle.answers.specs.Requesters.{form_of, owner_of_key}
 use Rattle.answers.specs.Setting.{Setting}
 use Rattle.endpoints.specs.HookPaths.{is_operator}
-use Rattle.headline.specs.Authority.{IsFamilyOf, IsAuthorized, IsAllAuthorized, LeavesAlone, IsIsolated}
+use Rattle.headline.specs.Authority.{IsAuthorized, IsAllAuthorized, LeavesAlone, IsIsolated}
 use Rattle.headline.specs.Bearers.{BearsCredentials, BearsOwnerKey, BearsOperatorKey}
 use Rattle.headline.specs.Occasions.{Occasion, outcome_of, setting_on}
 use Rattle.headline.proofs.Spending.{live_is}
@@ -36,6 +36,10 @@ find_contains {X = X} p (y ∷ ys) x e = by_test (p y) e (find_contains p ys x)
     by_test false h rest = let in_rest = rest h in let below = in_rest.1 in (suc in_rest.0, omega (arith, below), in_rest.2)
 
 -- the codes and tokens of a family are of one client
+-- each code and token of the family is the client's
+abbrev IsFamilyOf : List Event → ℕ → ℕ → Type 0
+IsFamilyOf history family client = (g : Grant) → Contains (grants history) g → g.family ≡ family → g.client ≡ client
+
 module _ (history : List Event) (m : ℕ) (is : IsHistory history m) where
   kin_of : (g : Grant) → Contains (grants history) g → is_of g.client g.owner (opener history g.family) ≡ true
   kin_of g at =

@@ -1,13 +1,12 @@
 -- An exchanged code is bound to what it was given with.
-use Rattle.std.proofs.Common.{◌≡◌, ◌+◌, List, Some, refl, sym, ap, ◌∙◌, subst}
+use Rattle.std.proofs.Common.{◌≡◌, List, Some, refl, sym, ap, ◌∙◌, subst}
 use Rattle.std.specs.Prelude.{codes, not, bytes_eq}
-use Rattle.std.proofs.lemmas.Bool.{and_parts, ltb-true, false≢true}
+use Rattle.std.proofs.lemmas.Bool.{and_parts, false≢true}
 use Rattle.std.proofs.lemmas.Slice.Eq.{bytes_eq-Decides}
 use Rattle.pkce.specs.Proof.{challenge_of, is_verifier}
 use Rattle.params.specs.Form.{value_sent}
 use Rattle.clients.specs.RegistryRecord.{RegistryRecord}
-use Rattle.consent.specs.History.{Event, grants, is_named, is_unexpired}
-use Rattle.consent.specs.ListLaws.{find-passes}
+use Rattle.consent.specs.History.{Event, grant_at}
 use Rattle.answers.specs.FoundLaws.{under_digest}
 use Rattle.answers.specs.Outcomes.{Outcome}
 use Rattle.answers.specs.Requesters.{Parameters, form_of}
@@ -15,7 +14,6 @@ use Rattle.token_endpoint.specs.TokenPath.{issue_token}
 use Rattle.headline.specs.Bearers.{BearsWith}
 use Rattle.headline.specs.Codes.{IsBound, BindsCodes}
 use Rattle.headline.specs.Occasions.{Occasion, outcome_of, setting_on}
-use Rattle.headline.proofs.Bearing.{find_contains}
 use Rattle.headline.proofs.Exchanged.{at_path}
 use Rattle.headline.proofs.Walking.{granted_at, no_error_200, other, same_some}
 use Rattle.headline.proofs.Ways.{Sender, Proven, TokenWays, at_token}
@@ -25,7 +23,6 @@ module _ (rules : RegistryRecord) (history : List Event) (occasion : Occasion) (
   bound x same =
       let g = x.code.grant in
       let digest = under_digest history x.code.digest occasion.arrival.moment g x.code.named in
-      let named = and_parts (bytes_eq x.code.digest g.digest) (is_unexpired occasion.arrival.moment g) (find-passes (is_named x.code.digest occasion.arrival.moment) (grants history) g x.code.named) in
       let proof = and_parts (is_verifier x.verifier) (bytes_eq (challenge_of x.verifier) g.challenge) x.proven in
       subst (λ p. IsBound rules history occasion p) same (record {
         text = x.code.text;
@@ -33,8 +30,7 @@ module _ (rules : RegistryRecord) (history : List Event) (occasion : Occasion) (
         code = g;
         told = x.code.told ∙ ap (λ d. Some d) digest;
         is_code = x.code.kind_is;
-        given = find_contains (is_named x.code.digest occasion.arrival.moment) (grants history) g x.code.named;
-        unexpired = ltb-true occasion.arrival.moment (g.moment + g.life) named.1;
+        given = subst (λ d. grant_at history d occasion.arrival.moment ≡ Some g) digest x.code.named;
         bears = subst (λ n. BearsWith rules occasion.arrival.asked x.code.sender.params n) (sym x.code.own) (record { form = x.code.sender.form; authentic = x.code.sender.authenticates });
         led = x.redirected;
         verifier = x.verifier;
@@ -69,10 +65,10 @@ module _ (rules : RegistryRecord) (history : List Event) (occasion : Occasion) (
       owns e = false≢true (ap (λ t. bytes_eq (codes "client_credentials") t) (sym e))
 
 pub binds_codes : (rules : RegistryRecord) (history : List Event) (occasion : Occasion) → BindsCodes rules history occasion
-binds_codes rules history occasion params it =
+binds_codes rules history occasion params goes form typed granted =
     let o = issue_token (setting_on rules history occasion) occasion.arrival.asked in
-    let there : outcome_of rules history occasion ≡ at_path rules history occasion (codes "/token") = ap (at_path rules history occasion) it.goes_to in
+    let there : outcome_of rules history occasion ≡ at_path rules history occasion (codes "/token") = ap (at_path rules history occasion) goes in
     let same : outcome_of rules history occasion ≡ o =
-    there ∙ granted_at (not (bytes_eq occasion.arrival.asked.method (codes "POST"))) occasion.refused o (ap (λ (x : Outcome). x.reply.status) (sym there) ∙ it.granted) in
-    at_token (P rules history occasion params) (setting_on rules history occasion) occasion.arrival.asked (ways rules history occasion params it.form it.by_code)
-    (ap (λ (x : Outcome). x.reply.status) (sym same) ∙ it.granted)
+    there ∙ granted_at (not (bytes_eq occasion.arrival.asked.method (codes "POST"))) occasion.refused o (ap (λ (x : Outcome). x.reply.status) (sym there) ∙ granted) in
+    at_token (P rules history occasion params) (setting_on rules history occasion) occasion.arrival.asked (ways rules history occasion params form typed)
+    (ap (λ (x : Outcome). x.reply.status) (sym same) ∙ granted)

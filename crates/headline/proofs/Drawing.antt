@@ -2,6 +2,7 @@
 use Rattle.std.proofs.Common.{◌≡◌, ◌⊎◌, inl, inr, ℕ, List, [], ◌∷◌, ◌++◌, length, map, take, append_assoc, refl, sym, ap, ◌∙◌, subst}
 use Rattle.std.specs.List.{flat_map}
 use Rattle.std.proofs.lemmas.List.{map-append}
+use Rattle.sha2.specs.Sha256.{sha256}
 use Rattle.clients.specs.RegistryRecord.{RegistryRecord}
 use Rattle.consent.specs.History.{Event, Change, event_at, grants, with_changes}
 use Rattle.consent.specs.History.Change.{Consented, CodeGiven, Issued, Spent, FamilyEnded, HookSet, HookGone}
@@ -13,9 +14,17 @@ use Rattle.endpoints.specs.Hosts.{says_with}
 use Rattle.endpoints.specs.Server.{Outset}
 use Rattle.http_edge.specs.Answers.{AnsweredRequest, AreAnswered, IsOutcomeOfRequest, changes_made, draws_in, marks_in}
 use Rattle.http_edge.specs.Schedule.{AnsweredPiece, Happening, Opened, Came, HasEnded, Taken, Forgotten, Kept, Resumed, Happens, PieceComes, PiecePasses, Run, World, first_world}
-use Rattle.headline.specs.Drawn.{AreAmong, AreDrawn, digests_by, digests_given, digests_of}
+use Rattle.headline.specs.Drawn.{AreAmong, AreDrawn, digests_by}
 use Rattle.headline.specs.Occasions.{Occasion, outcome_of}
 use Rattle.headline.proofs.Ways.{IsOfHooks, at_each}
+
+-- the digests of two draws
+abbrev digests_of : Draws → List (List ℕ)
+digests_of draws = sha256 draws.first ∷ sha256 draws.second ∷ []
+
+-- those of all codes and tokens that were given
+abbrev digests_given : List Event → List (List ℕ)
+digests_given history = map (λ g. g.digest) (grants history)
 
 -- AMONG OTHERS
 

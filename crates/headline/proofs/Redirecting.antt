@@ -54,10 +54,9 @@ module _ (rules : RegistryRecord) (history : List Event) (occasion : Occasion) w
         names = x.names;
         registered = x.registered;
         asked_for = x.sent;
-        name = codes "error";
-        value = _;
+        first = _;
         pairs = refl;
-        says = inl (refl, refl);
+        says = inl (_, refl, refl);
       },
     );
     coded = λ x owner scope challenge key _. (
@@ -71,10 +70,9 @@ module _ (rules : RegistryRecord) (history : List Event) (occasion : Occasion) w
         names = x.names;
         registered = x.registered;
         asked_for = x.sent;
-        name = codes "code";
-        value = _;
+        first = _;
         pairs = refl;
-        says = inr (refl, record { family = _; owner = owner; scope = scope; challenge = challenge; text = refl; given = refl });
+        says = inr (refl, _, owner, scope, challenge, refl);
       },
     );
     consented = λ owner client mask key. stays _ (other 200 302 refl) refl;

@@ -22,13 +22,13 @@ use Rattle.token_endpoint.specs.Exchange.{ends_family, exchange}
 use Rattle.token_endpoint.specs.Refresh.{refresh}
 use Rattle.token_endpoint.specs.TokenPath.{issue_token, grant_points}
 use Rattle.headline.specs.Occasions.{Occasion, outcome_of, history_after, setting_on}
-use Rattle.headline.specs.Uses.{PresentsCode, PresentsRefresh, Replays}
+use Rattle.headline.specs.Uses.{PresentsAs, Replays}
 use Rattle.headline.proofs.Exchanged.{at_path}
 use Rattle.headline.proofs.Spending.{ended_by, ended_stays, live_is}
 use Rattle.headline.proofs.Walking.{at_chosen, at_need, at_point, at_some, at_true, same_some}
 use Rattle.headline.proofs.Ways.{Sender, at_sender, number_in}
 
-module _ (rules : RegistryRecord) (history : List Event) (occasion : Occasion) (g : Grant) (it : Replays rules history occasion g) where
+module _ (rules : RegistryRecord) (history : List Event) (occasion : Occasion) (text : List ℕ) (g : Grant) (it : Replays rules history occasion text g) where
   abbrev s : Setting
   s = setting_on rules history occasion
 
@@ -42,7 +42,7 @@ module _ (rules : RegistryRecord) (history : List Event) (occasion : Occasion) (
   no_request e = absurd (cc)
 
   own : (test : Kind → Bool) → test g.kind ≡ true → (number : ℕ) → number ≡ g.client →
-      where_passes (is_own test number) (grant_at history it.digest occasion.arrival.moment) ≡ Some g
+      where_passes (is_own test number) (grant_at history g.digest occasion.arrival.moment) ≡ Some g
   own test kind number same =
       ap (where_passes (is_own test number)) it.unexpired
       ∙ ap (λ b. if b then Some g else None) (and_from (test g.kind) (g.client == number) kind (eq-eqb g.client number (sym same)))
@@ -56,23 +56,23 @@ module _ (rules : RegistryRecord) (history : List Event) (occasion : Occasion) (
         ap number_in
         (sym sender.authenticates ∙ ap (λ p. authenticated rules.clients occasion.arrival.asked.authorization p) (sym same_params) ∙ it.bears.authentic)
 
-    by_exchange : PresentsCode sender.params it.text → is_code g.kind ≡ true → Ended (exchange s sender.params sender.known)
+    by_exchange : PresentsAs (codes "authorization_code") (codes "code") sender.params text → is_code g.kind ≡ true → Ended (exchange s sender.params sender.known)
     by_exchange presents code =
-        at_some Ended {A = List ℕ} (value_sent (codes "code") sender.params) it.text (refuse InvalidRequest) _ presents.1
+        at_some Ended {A = List ℕ} (value_sent (codes "code") sender.params) text (refuse InvalidRequest) _ presents.1
         (at_need Ended {A = List ℕ} (value_sent (codes "redirect_uri") sender.params) (refuse InvalidRequest) _ (λ e. absurd (no_request e)) (λ uri _.
         at_need Ended {A = List ℕ} (value_sent (codes "code_verifier") sender.params) (refuse InvalidRequest) _ (λ e. absurd (no_request e)) (λ verifier _.
-        at_some Ended {A = List ℕ} (digest_told it.text) it.digest (refuse InvalidGrant) _ it.told
-        (at_some Ended {A = Grant} (code_of_client s.history s.moment sender.known.number it.digest) g (refuse InvalidGrant) _
+        at_some Ended {A = List ℕ} (digest_told text) g.digest (refuse InvalidGrant) _ it.told
+        (at_some Ended {A = Grant} (code_of_client s.history s.moment sender.known.number g.digest) g (refuse InvalidGrant) _
         (own is_code code sender.known.number number_is)
-        (at_true Ended (is_spent s.history it.digest s.moment) (ends_family g) _ it.used (λ _. refl))))))
+        (at_true Ended (is_spent s.history g.digest s.moment) (ends_family g) _ it.used (λ _. refl))))))
 
-    by_refresh : PresentsRefresh sender.params it.text → is_refresh g.kind ≡ true → Ended (refresh s sender.params sender.known)
+    by_refresh : PresentsAs (codes "refresh_token") (codes "refresh_token") sender.params text → is_refresh g.kind ≡ true → Ended (refresh s sender.params sender.known)
     by_refresh presents kind =
-        at_some Ended {A = List ℕ} (value_sent (codes "refresh_token") sender.params) it.text (refuse InvalidRequest) _ presents.1
-        (at_some Ended {A = List ℕ} (digest_told it.text) it.digest (refuse InvalidGrant) _ it.told
-        (at_some Ended {A = Grant} (refresh_of_client s.history s.moment sender.known.number it.digest) g (refuse InvalidGrant) _
+        at_some Ended {A = List ℕ} (value_sent (codes "refresh_token") sender.params) text (refuse InvalidRequest) _ presents.1
+        (at_some Ended {A = List ℕ} (digest_told text) g.digest (refuse InvalidGrant) _ it.told
+        (at_some Ended {A = Grant} (refresh_of_client s.history s.moment sender.known.number g.digest) g (refuse InvalidGrant) _
         (own is_refresh kind sender.known.number number_is)
-        (at_true Ended (is_spent s.history it.digest s.moment) (ends_family g) _ it.used (λ _. refl))))
+        (at_true Ended (is_spent s.history g.digest s.moment) (ends_family g) _ it.used (λ _. refl))))
 
     -- by the grant type that is named
     typed : (name : List ℕ) (grant : GrantType) → value_sent (codes "grant_type") sender.params ≡ Some name → grant_named name ≡ Some grant →
@@ -85,7 +85,7 @@ module _ (rules : RegistryRecord) (history : List Event) (occasion : Occasion) (
         (at_some Ended {A = GrantType} (grant_named name) grant (refuse UnsupportedGrantType) _ named
         (at_point Ended (not (has_grant grant sender.known.client.grants)) (refuse UnauthorizedClient) _ (λ _ e. absurd (cc)) (λ _. ended)))
 
-    presented : (PresentsCode sender.params it.text × (is_code g.kind ≡ true)) ⊎ (PresentsRefresh sender.params it.text × (is_refresh g.kind ≡ true)) →
+    presented : (PresentsAs (codes "authorization_code") (codes "code") sender.params text × (is_code g.kind ≡ true)) ⊎ (PresentsAs (codes "refresh_token") (codes "refresh_token") sender.params text × (is_refresh g.kind ≡ true)) →
         Ended (need (value_sent (codes "grant_type") sender.params) (refuse InvalidRequest) (λ n.
         need (grant_named n) (refuse UnsupportedGrantType) (λ x.
         point (not (has_grant x sender.known.client.grants)) (refuse UnauthorizedClient) (grant_points x s sender.params sender.known))))
@@ -100,7 +100,7 @@ module _ (rules : RegistryRecord) (history : List Event) (occasion : Occasion) (
       (at_point Ended (not (bytes_eq occasion.arrival.asked.method (codes "POST"))) (bare 405) (chosen occasion.refused o) (λ _ e. absurd (cc)) (λ _.
       at_chosen Ended occasion.refused o wanting
       (at_sender Ended rules occasion.arrival.asked _ (λ e. absurd (no_request e)) (λ e. absurd (cc)) wanting (λ sender.
-      presented sender (subst (λ p. (PresentsCode p it.text × (is_code g.kind ≡ true)) ⊎ (PresentsRefresh p it.text × (is_refresh g.kind ≡ true))) (same_params sender) it.presents))))) it.denied
+      presented sender (subst (λ p. (PresentsAs (codes "authorization_code") (codes "code") p text × (is_code g.kind ≡ true)) ⊎ (PresentsAs (codes "refresh_token") (codes "refresh_token") p text × (is_refresh g.kind ≡ true))) (same_params sender) it.presents))))) it.denied
 
   pub replay_kills : (later : List Event) (found : Grant) (digest : List ℕ) (moment : ℕ) →
       live_grant (history_after rules history occasion ++ later) digest moment ≡ Some found → found.family ≡ g.family → ⊥

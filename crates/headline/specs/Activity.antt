@@ -19,28 +19,22 @@ use Rattle.headline.specs.Occasions.{Occasion, GoesTo, reply_on}
 
 -- the text is that of this token of the history, which at the moment is neither ended nor used nor expired
 pub record IsLive (history : List Event) (text : List ℕ) (moment : ℕ) (token : Grant) : Type 0 where
-  pub digest : List ℕ
-  pub told : digest_told text ≡ Some digest
-  pub named : grant_at history digest moment ≡ Some token
+  pub told : digest_told text ≡ Some token.digest
+  pub named : grant_at history token.digest moment ≡ Some token
   pub no_code : is_code token.kind ≡ false
   pub alive : has_ended history token.family ≡ false
-  pub unused : is_single_use token.kind ≡ true → is_spent history digest moment ≡ false
-  pub given : token.moment ≤ moment
-  pub unexpired : moment < token.moment + token.life
+  pub unused : is_single_use token.kind ≡ true → is_spent history token.digest moment ≡ false
+  pub lasts : (token.moment ≤ moment) × (moment < token.moment + token.life)
 
 -- a client, by its credentials, presents the text as a token
-pub record Shows (rules : RegistryRecord) (occasion : Occasion) (text : List ℕ) : Type 0 where
-  pub params : Parameters
-  pub client : ℕ
-  pub bears : BearsWith rules occasion.arrival.asked params client
-  pub sent : value_sent (codes "token") params ≡ Some text
+abbrev pub Shows : RegistryRecord → Occasion → List ℕ → Type 0
+Shows rules occasion text = (params : Parameters) × (value_sent (codes "token") params ≡ Some text) × (client : ℕ) × BearsWith rules occasion.arrival.asked params client
 
 -- the body tells of this token: its client, its times, its scope and its owner
 abbrev pub TellsOf : RegistryRecord → Grant → Body → Type 0
 TellsOf rules token (Active id expires issued scope sub kind) =
     (token.kind ≡ Token kind) × (option_map (λ c. c.id) (client_at token.client rules.clients) ≡ Some id)
-    × (issued ≡ token.moment) × (expires ≡ token.moment + token.life)
-    × (scope ≡ scope_text rules.scopes token.scope) × (sub ≡ sub_of token.owner rules.owners)
+    × (issued ≡ token.moment) × (expires ≡ token.moment + token.life) × (scope ≡ scope_text rules.scopes token.scope) × (sub ≡ sub_of token.owner rules.owners)
 TellsOf rules token body = ⊥
 
 -- it tells of an active token

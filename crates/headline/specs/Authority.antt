@@ -2,27 +2,22 @@
 use Rattle.std.specs.Prelude.{◌≡◌, ◌≢◌, ◌⊎◌, ℕ, List, true, false, Some, All, Contains, length}
 use Rattle.clients.specs.RegistryRecord.{RegistryRecord}
 use Rattle.consent.specs.History.{Event, Change, Grant, Terms, code_terms, grant_at, grants, has_ended}
-use Rattle.consent.specs.History.Change.{Consented, CodeGiven, Issued, Spent, FamilyEnded, HookSet, HookGone}
+use Rattle.consent.specs.History.Change.{Consented, CodeGiven, Issued, Spent, FamilyEnded}
 use Rattle.headline.specs.Bearers.{BearsCredentials, BearsOwnerKey, BearsOperatorKey}
 use Rattle.headline.specs.Occasions.{Occasion, history_after, outcome_of}
 
--- each code and token of the family is the client's
-abbrev pub IsFamilyOf : List Event → ℕ → ℕ → Type 0
-IsFamilyOf history family client = (g : Grant) → Contains (grants history) g → g.family ≡ family → g.client ≡ client
-
 -- the request bears what the change wants: the operator's key, the owner's key, or the credentials of the family's client
 abbrev pub IsAuthorized : RegistryRecord → List Event → Occasion → Change → Type 0
-IsAuthorized rules history occasion (HookSet name version code) = BearsOperatorKey rules occasion.arrival.asked
-IsAuthorized rules history occasion (HookGone name) = BearsOperatorKey rules occasion.arrival.asked
 IsAuthorized rules history occasion (Consented owner client mask) = BearsOwnerKey rules occasion.arrival.asked owner
 IsAuthorized rules history occasion (CodeGiven family client owner scope redirect challenge digest) =
     BearsOwnerKey rules occasion.arrival.asked owner × (family ≡ length history)
 IsAuthorized rules history occasion (Issued family client owner kind digest scope life) =
-    BearsCredentials rules occasion.arrival.asked client × IsFamilyOf history family client
+    BearsCredentials rules occasion.arrival.asked client × ((g : Grant) → Contains (grants history) g → g.family ≡ family → g.client ≡ client)
 IsAuthorized rules history occasion (Spent digest) =
     (g : Grant) × (grant_at history digest occasion.arrival.moment ≡ Some g) × BearsCredentials rules occasion.arrival.asked g.client
 IsAuthorized rules history occasion (FamilyEnded family) =
     (g : Grant) × Contains (grants history) g × (g.family ≡ family) × BearsCredentials rules occasion.arrival.asked g.client
+IsAuthorized rules history occasion of_a_hook = BearsOperatorKey rules occasion.arrival.asked
 
 -- so it is of each change that happens
 abbrev pub IsAllAuthorized : RegistryRecord → List Event → Occasion → Type 0

@@ -29,8 +29,8 @@ IsOfLeft history family Refresh scope life left most =
 abbrev pub IsDecided : List Checked → List Event → ℕ → Change → Type 0
 IsDecided hooks history moment (Issued family client owner kind digest scope life) =
     (ask : Ask) × (ask.now ≡ moment) × (ask.client ≡ client) × (ask.owner ≡ owner)
-    × (some most : ℕ) × AllowInTurn hooks ask some most
-    × (left span : ℕ) × (met ask some most ≡ Allowed left span) × IsOfLeft history family kind scope life left span
+    × (some most left span : ℕ) × AllowInTurn hooks ask some most × (met ask some most ≡ Allowed left span)
+    × IsOfLeft history family kind scope life left span
 IsDecided hooks history moment change = Unit {0}
 
 -- so it is of each token that is given where the host is these hooks

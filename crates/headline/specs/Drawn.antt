@@ -2,25 +2,16 @@
 use Rattle.std.specs.Prelude.{◌≡◌, ◌⊎◌, ℕ, List, [], ◌∷◌, length, map, take}
 use Rattle.std.specs.List.{flat_map}
 use Rattle.sha2.specs.Sha256.{sha256}
-use Rattle.consent.specs.History.{Event, grants}
+use Rattle.consent.specs.History.{grants}
 use Rattle.hook_host.specs.declared.host.HookHost.{Ghosts as Hosting}
-use Rattle.messages.specs.declared.request.Draws.{Draws}
 use Rattle.endpoints.specs.Server.{Outset}
 use Rattle.http_edge.specs.Schedule.{Happening, Came, Resumed, Run, World, first_world}
 
--- the digests of two draws
-abbrev pub digests_of : Draws → List (List ℕ)
-digests_of draws = sha256 draws.first ∷ sha256 draws.second ∷ []
-
--- those of all codes and tokens that were given
-abbrev pub digests_given : List Event → List (List ℕ)
-digests_given history = map (λ g. g.digest) (grants history)
-
--- the digests of the draws that were handed in for the requests that a piece completed; and of the codes and tokens that
--- were there already, where the server goes on from what was kept
+-- the digests of the draws that were handed in for the requests that a piece completed, two each; and of the codes and tokens
+-- that were there already, where the server goes on from what was kept
 abbrev pub digests_by : Happening → List (List ℕ)
-digests_by (Came came) = flat_map digests_of (take (length came.marks) came.draws)
-digests_by (Resumed history greatest) = digests_given history
+digests_by (Came came) = flat_map (λ draws. sha256 draws.first ∷ sha256 draws.second ∷ []) (take (length came.marks) came.draws)
+digests_by (Resumed history greatest) = map (λ g. g.digest) (grants history)
 digests_by happening = []
 
 -- the ones stand among the others in their order, each at a place of its own
@@ -33,4 +24,4 @@ AreAmong (x ∷ xs) (y ∷ others) = ((x ≡ y) × AreAmong xs others) ⊎ AreAm
 abbrev pub AreDrawn : {H : Type 0} → Hosting H → Type 0
 AreDrawn {H = H} hosting =
     (outset : Outset H) (schedule : List Happening) (last : World) → Run hosting outset first_world schedule last →
-    AreAmong (digests_given last.history) (flat_map digests_by schedule)
+    AreAmong (map (λ g. g.digest) (grants last.history)) (flat_map digests_by schedule)

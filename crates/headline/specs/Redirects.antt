@@ -5,7 +5,7 @@ use Rattle.pkce.specs.Token.{token_text}
 use Rattle.params.specs.Form.{read_params, value_sent}
 use Rattle.clients.specs.RegistryRecord.{RegistryRecord}
 use Rattle.clients.specs.Clients.{has_redirect}
-use Rattle.consent.specs.History.{Event, Change}
+use Rattle.consent.specs.History.{Event}
 use Rattle.consent.specs.History.Change.{CodeGiven}
 use Rattle.messages.specs.Reply.{Redirection, state_pair}
 use Rattle.messages.specs.Target.{query_of}
@@ -13,17 +13,8 @@ use Rattle.answers.specs.Outcomes.{Outcome}
 use Rattle.answers.specs.Requesters.{Parameters, KnownClient, client_named}
 use Rattle.headline.specs.Occasions.{Occasion, outcome_of}
 
--- the value is that of a code, which is given with it to this client for this URI: its text and its digest are of one draw
-pub record IsCodeFor (changes : List Change) (client : ℕ) (uri draw value : List ℕ) : Type 0 where
-  pub family : ℕ
-  pub owner : ℕ
-  pub scope : ℕ
-  pub challenge : List ℕ
-  pub text : value ≡ token_text draw
-  pub given : changes ≡ CodeGiven family client owner scope uri challenge (sha256 draw) ∷ []
-
 -- the user agent is sent to a redirect URI that the request names and that its client has, with the request's own state, if it
--- has one, and with an error, or with a code that is given for just this
+-- has one, and with an error, or with a code that is given for just this: its text and its digest are of one draw
 pub record SendsHome (rules : RegistryRecord) (occasion : Occasion) (outcome : Outcome) (there : Redirection) : Type 0 where
   pub params : Parameters
   pub query : read_params (query_of occasion.arrival.asked.target) ≡ Ok params
@@ -31,11 +22,11 @@ pub record SendsHome (rules : RegistryRecord) (occasion : Occasion) (outcome : O
   pub names : client_named rules params ≡ Some known
   pub registered : has_redirect there.uri known.client ≡ true
   pub asked_for : value_sent (codes "redirect_uri") params ≡ Some there.uri
-  pub name : List ℕ
-  pub value : List ℕ
-  pub pairs : there.pairs ≡ (name, value) ∷ state_pair (value_sent (codes "state") params)
-  pub says : ((name ≡ codes "error") × (outcome.changes ≡ []))
-      ⊎ ((name ≡ codes "code") × IsCodeFor outcome.changes known.number there.uri occasion.arrival.draws.first value)
+  pub first : List ℕ × List ℕ
+  pub pairs : there.pairs ≡ first ∷ state_pair (value_sent (codes "state") params)
+  pub says : ((error : List ℕ) × (first ≡ (codes "error", error)) × (outcome.changes ≡ []))
+      ⊎ ((first ≡ (codes "code", token_text occasion.arrival.draws.first)) × (family owner scope : ℕ) × (challenge : List ℕ)
+      × (outcome.changes ≡ CodeGiven family known.number owner scope there.uri challenge (sha256 occasion.arrival.draws.first) ∷ []))
 
 -- a reply that has a 302 or says where to go has both, and sends home
 abbrev pub IsNoOpenRedirector : RegistryRecord → List Event → Occasion → Type 0

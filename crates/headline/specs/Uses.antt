@@ -13,18 +13,14 @@ use Rattle.answers.specs.Tokens.{is_refresh, live_token}
 use Rattle.headline.specs.Bearers.{BearsWith}
 use Rattle.headline.specs.Occasions.{Occasion, GoesTo, history_after, reply_on}
 
--- the parameters present the text as a code
-abbrev pub PresentsCode : Parameters → List ℕ → Type 0
-PresentsCode params text =
-    (value_sent (codes "grant_type") params ≡ Some (codes "authorization_code")) × (value_sent (codes "code") params ≡ Some text)
+-- the parameters present the text under this name, for tokens of this grant type
+abbrev pub PresentsAs : List ℕ → List ℕ → Parameters → List ℕ → Type 0
+PresentsAs grant_type name params text = (value_sent (codes "grant_type") params ≡ Some grant_type) × (value_sent name params ≡ Some text)
 
--- or as a refresh token
-abbrev pub PresentsRefresh : Parameters → List ℕ → Type 0
-PresentsRefresh params text =
-    (value_sent (codes "grant_type") params ≡ Some (codes "refresh_token")) × (value_sent (codes "refresh_token") params ≡ Some text)
-
+-- they present it as a code or as a refresh token
 abbrev pub Presents : Parameters → List ℕ → Type 0
-Presents params text = PresentsCode params text ⊎ PresentsRefresh params text
+Presents params text =
+    PresentsAs (codes "authorization_code") (codes "code") params text ⊎ PresentsAs (codes "refresh_token") (codes "refresh_token") params text
 
 -- the code or refresh token of the text is exchanged for tokens
 pub record Exchanges (rules : RegistryRecord) (history : List Event) (occasion : Occasion) (text : List ℕ) : Type 0 where
@@ -51,16 +47,15 @@ pub record Revokes (rules : RegistryRecord) (history : List Event) (occasion : O
   pub done : (reply_on rules history occasion).status ≡ 200
 
 -- a used, unexpired code or refresh token is presented again by its client, as what it is, and answered invalid_grant
-pub record Replays (rules : RegistryRecord) (history : List Event) (occasion : Occasion) (grant : Grant) : Type 0 where
+pub record Replays (rules : RegistryRecord) (history : List Event) (occasion : Occasion) (text : List ℕ) (grant : Grant) : Type 0 where
   pub goes_to : GoesTo occasion (codes "/token")
   pub params : Parameters
   pub bears : BearsWith rules occasion.arrival.asked params grant.client
-  pub text : List ℕ
-  pub digest : List ℕ
-  pub presents : (PresentsCode params text × (is_code grant.kind ≡ true)) ⊎ (PresentsRefresh params text × (is_refresh grant.kind ≡ true))
-  pub told : digest_told text ≡ Some digest
-  pub unexpired : grant_at history digest occasion.arrival.moment ≡ Some grant
-  pub used : is_spent history digest occasion.arrival.moment ≡ true
+  pub presents : (PresentsAs (codes "authorization_code") (codes "code") params text × (is_code grant.kind ≡ true))
+      ⊎ (PresentsAs (codes "refresh_token") (codes "refresh_token") params text × (is_refresh grant.kind ≡ true))
+  pub told : digest_told text ≡ Some grant.digest
+  pub unexpired : grant_at history grant.digest occasion.arrival.moment ≡ Some grant
+  pub used : is_spent history grant.digest occasion.arrival.moment ≡ true
   pub denied : (reply_on rules history occasion).body ≡ Failure InvalidGrant
 
 -- after this history the text is exchanged only where a code or token of it was given since
@@ -86,5 +81,5 @@ RevokesForGood rules history occasion =
 -- the family of each code and refresh token that is replayed is dead, whatever comes
 abbrev pub ReplaysKill : RegistryRecord → List Event → Occasion → Type 0
 ReplaysKill rules history occasion =
-    (grant : Grant) (later : List Event) → Replays rules history occasion grant →
+    (text : List ℕ) (grant : Grant) (later : List Event) → Replays rules history occasion text grant →
     IsDead (history_after rules history occasion ++ later) grant.family
