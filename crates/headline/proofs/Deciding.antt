@@ -97,7 +97,7 @@ module _ (rules : RegistryRecord) (history : List Event) (occasion : Occasion) (
       Right (Issued family client owner Access digest left.scope left.life)
   access ask left is now family client owner digest its_client its_owner =
       let by = left_by ask left is in
-      (ask, now, its_client, its_owner, by.some, by.most, by.in_turn, left.scope, left.life, by.met_is, (refl, refl))
+      (ask, now, its_client, its_owner, by.some, by.most, left.scope, left.life, by.in_turn, by.met_is, (refl, refl))
 
   one_given : (ask : Ask) (left : Extent) → IsLeft s ask left → ask.now ≡ occasion.arrival.moment → (g : Grant) → ask.client ≡ g.client → ask.owner ≡ g.owner → P (one_issued s g left)
   one_given ask left is now g its_client its_owner =
@@ -110,7 +110,7 @@ module _ (rules : RegistryRecord) (history : List Event) (occasion : Occasion) (
       let more : Change = refresh_issued g s.draws.second (record { scope = kept; life = s.rules.refresh_life }) in
       All-cons Right (access_issued g s.draws.first left) (more ∷ Spent g.digest ∷ []) (access ask left is now g.family g.client g.owner (sha256 s.draws.first) its_client its_owner)
       (All-cons Right more (Spent g.digest ∷ [])
-      (ask, now, its_client, its_owner, by.some, by.most, by.in_turn, left.scope, left.life, by.met_is, of) (one (Spent g.digest) tt))
+      (ask, now, its_client, its_owner, by.some, by.most, left.scope, left.life, by.in_turn, by.met_is, of) (one (Spent g.digest) tt))
 
   -- the refresh token that is used is there
   replaced : (x : Refreshing s occasion.arrival.asked) (left : Extent) → IsOfLeft history x.token.grant.family Refresh x.token.grant.scope rules.refresh_life left.scope left.life
