@@ -8,6 +8,7 @@ mod listening;
 mod machine_clock;
 mod machine_clocks;
 mod means;
+mod outlet;
 mod patience;
 mod report_line;
 mod sockets;

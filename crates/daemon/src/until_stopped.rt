@@ -11,6 +11,7 @@ use crate::line_journal::LineJournal;
 use crate::listening::announce;
 use crate::machine_clocks::MachineClocks;
 use crate::means::{Ended, Means, go_on_with, serve_with};
+use crate::outlet::Outlet;
 use crate::patience::Patience;
 use crate::sockets::MachineSockets;
 use change_codec::NoKeeper;
@@ -78,6 +79,8 @@ pub fn start<'r, 'e, R: Net + Clock + RandomSource + AllocGlobal, W: Write, E: W
         journal: LineJournal {
             alloc: rt.alloc(),
             lines: err,
+            outlet: Outlet::new(rt, rt.alloc()),
+            dropped: 0,
         },
         keeper: NoKeeper,
         generator,
@@ -121,6 +124,8 @@ pub fn go_on<
         journal: LineJournal {
             alloc: rt.alloc(),
             lines: err,
+            outlet: Outlet::new(rt, rt.alloc()),
+            dropped: 0,
         },
         keeper,
         generator,
