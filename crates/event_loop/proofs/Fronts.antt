@@ -12,7 +12,7 @@ use Rattle.change_codec.specs.Keeping.{IsFrontOf, Holds, Keeps, KeepsMoments}
 use Rattle.event_loop.specs.Courses.{Course}
 use Rattle.event_loop.specs.Deeds.{waits as waits_done}
 use Rattle.event_loop.specs.Giving.{GivesPieces, nothing, gives}
-use Rattle.event_loop.specs.Scenes.{Promises, Scene, IsAllKept, IsUnkept}
+use Rattle.event_loop.specs.Scenes.{Promises, Scene, IsUnkept}
 use Rattle.event_loop.specs.Coming.{AcceptsOne, opens, denies, finds_nobody, fails, asks}
 use Rattle.event_loop.specs.Reading as reading
 use Rattle.event_loop.specs.Reading.{ReadsPlace}
