@@ -1,6 +1,6 @@
 //! Faults and reports, in lines.
 
-ghost use Rattle.std.specs.Prelude.{◌≡◌, ◌<◌};
+ghost use Rattle.std.specs.Prelude.{◌≡◌, ◌<◌, ◌⊎◌, ◌+◌, ◌-◌, ◌^◌, min};
 
 use crate::outlet::Outlet;
 use crate::report_line::report_text;
@@ -33,7 +33,7 @@ impl<'e, E: Write> LineJournal<'e, E> {
     fn tell(&mut self, line: &[u8])
         // Nothing is written where a line is dropped, and that is counted.
         ensures dropped { 0 < self.new.dropped → self.new.lines ≡ self.old.lines }
-        ensures counted { self.new.dropped ≡ 0 ⊎ (self.new.dropped ≡ saturating_add w64 self.old.dropped 1) }
+        ensures counted { self.new.dropped ≡ 0 ⊎ (self.new.dropped ≡ min (self.old.dropped + 1) (2 ^ 64 - 1)) }
     {
         let more = self.dropped.saturating_add(1);
         if !self.outlet.is_free() {
