@@ -1,3 +1,4 @@
+mod Kept
 mod Reading
 mod Version1
 mod Walking
