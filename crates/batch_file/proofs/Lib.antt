@@ -1,6 +1,7 @@
 mod Kept
 mod Moments
 mod Reading
+mod Steps
 mod Tearing
 mod Version1
 mod Walking
