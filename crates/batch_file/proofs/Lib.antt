@@ -1,6 +1,9 @@
 mod Kept
 mod Moments
 mod Reading
-mod Repair
 mod Steps
 mod Tearing
+mod Version1
+mod Walking
+mod Wholes
+mod Writing

@@ -1,21 +1,26 @@
-use Rattle.std.proofs.Common.{◌≡◌, List, ℕ, ◌-◌, ◌≤◌, ◌++◌, ◌∷◌, [], ◌+◌, ◌∙◌, length, take, drop, sym, ap, subst, arith, rules, Vec, length-drop}
-use Rattle.std.proofs.lemmas.List.{map_push, take_all}
-use Rattle.std.specs.declared.alloc.Global.{Global}
-use Rattle.batch_file.specs.Frames.{lists, AreFrames}
-use Rattle.batch_file.proofs.Steps.{reads_on}
+use Rattle.std.proofs.Common.{◌≡◌, ℕ, List, ◌+◌, ◌-◌, length, drop, take, arith, rules, sym, ◌∙◌, ap, length-drop}
+use Rattle.std.proofs.lemmas.List.{take_all}
+use Rattle.batch_file.specs.Frames.{file_size, recovered}
+use Rattle.batch_file.proofs.Walking.{found_batches, found_readable, found_size, found_whole}
 use Rattle.batch_file.proofs.framing.read_batches.Goals as goal
 
-pub loop-batch-preserved : goal.loop-batch-preserved
-loop-batch-preserved c =
+pub of-requires : goal.of-requires
+of-requires c = (found_whole _ _ _ c.args.bytes.now c.in_ok-whole.whole.items c.in_ok-found.ensures.found c.in_ok-whole.ensures).0
+
+pub returns-clause-batches : goal.returns-clause-batches
+returns-clause-batches c = found_batches _ _ _ c.args.bytes.now c.in_ok-found.ensures.found
+
+pub returns-clause-frames : goal.returns-clause-frames
+returns-clause-frames c =
+    c.of.ensures ∙ (found_whole _ _ _ c.args.bytes.now c.in_ok-whole.whole.items c.in_ok-found.ensures.found c.in_ok-whole.ensures).1
+
+pub returns-clause-torn : goal.returns-clause-torn
+returns-clause-torn c =
     let bytes = c.args.bytes.now in
-    let end = c.loop-batch.end in
-    let batch = c.in-Some.batch.now in
-    let all : take (length bytes - end) (drop end bytes) ≡ drop end bytes = take_all _ _ (omega (arith, length-drop end bytes)) in
-    let fits : 5 + length batch ≤ length (drop end bytes) = subst (λ (l : List ℕ). 5 + length batch ≤ length l) all c.in-Some.ensures.within in
-    let one : AreFrames (take (5 + length batch) (drop end bytes)) (batch ∷ []) = subst (λ (l : List ℕ). AreFrames (take (5 + length batch) l) (batch ∷ [])) all c.in-Some.ensures.some in
-    let same : c.in_ok-to_vec.field-0.items ≡ batch = search rules in
-    let pushed : lists c.push.new.self.items ≡ lists c.loop-batch.batches.items ++ batch ∷ [] = ap (λ (l : List (Vec ℕ Global)). lists l) c.in_ok-push.ensures.items ∙ map_push _ c.loop-batch.batches.items c.in_ok-to_vec.field-0 ∙ ap (λ (l : List ℕ). lists c.loop-batch.batches.items ++ l ∷ []) same in
-    record {
-      within = omega (arith, fits, c.loop-batch.invariant.within, length-drop end bytes);
-      frames = subst (λ (x : List (List ℕ)). AreFrames (take (end + (5 + length batch)) bytes) x) (sym pushed) (reads_on bytes batch (lists c.loop-batch.batches.items) end c.loop-batch.invariant.within c.loop-batch.invariant.frames fits one);
-    }
+    let end = c.in_ok-found.found.end in
+    let all : take (length bytes - (end + 1)) (drop (end + 1) bytes) ≡ drop (end + 1) bytes = take_all _ _ (omega (arith, length-drop (end + 1) bytes)) in
+    let same : c.in_ok-to_vec.field-0.items ≡ take (length bytes - (end + 1)) (drop (end + 1) bytes) = search rules in
+    same ∙ all ∙ ap (λ (k : ℕ). drop k bytes) (found_size _ _ end bytes c.in_ok-found.ensures.found)
+
+pub returns-clause-readable : goal.returns-clause-readable
+returns-clause-readable c = found_readable _ _ _ c.args.bytes.now c.in_ok-found.ensures.found
