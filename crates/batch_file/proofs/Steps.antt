@@ -1,9 +1,9 @@
 -- The steps of the calls of a file of batches, from one content of the file to the next.
-use Rattle.std.proofs.Common.{◌≡◌, ◌⊎◌, inl, inr, ⊎_elim, ℕ, ◌+◌, ◌-◌, ◌^◌, ◌<◌, ◌≤◌, List, [], ◌∷◌, ◌++◌, length, get_or, drop, refl, sym, ◌∙◌, ap, subst, arith, append_assoc, length-append}
+use Rattle.std.proofs.Common.{◌≡◌, ◌⊎◌, inl, inr, ⊎_elim, ℕ, ◌+◌, ◌<◌, ◌≤◌, List, [], ◌∷◌, ◌++◌, length, get_or, drop, refl, sym, ◌∙◌, ap, subst, arith, append_assoc, length-append}
 use Rattle.std.specs.Int.{w32, to_be_bytes}
 use Rattle.std.proofs.lemmas.Bool.{cases_eq}
-use Rattle.batch_file.specs.Crashes.{ComesOfStep, Elapses, IsWrittenAt, LeavesOnly, Only, Swapped, Torn}
-use Rattle.batch_file.specs.Frames.{header, body, digest, sealed, limit, recovered, AreFrames, HidesFrame, IsTorn, IsFileOf, IsReadable, IsAtRest, IsWhole, IsAsBefore, IsBeforeOrAfter, IsOldOrNew, IsReadableOrChance}
+use Rattle.batch_file.specs.Crashes.{ComesOfStep, Elapses, IsWrittenAt, LeavesOnly, Swapped, Torn}
+use Rattle.batch_file.specs.Frames.{header, body, digest, sealed, limit, recovered, IsTorn, IsFileOf, IsReadable, IsAtRest, IsWhole, IsAsBefore, IsBeforeOrAfter, IsOldOrNew, IsReadableOrChance}
 use Rattle.batch_file.specs.FramesLaws.{length-seal, length-sealed, file_is, framed_is, readable_is, hides_or_not, two_sealed}
 use Rattle.batch_file.proofs.Moments.{started, goes_on}
 use Rattle.batch_file.proofs.Tearing.{torn_behind, length-torn, written_behind, torn_latch, written_latch}
