@@ -5,6 +5,7 @@ server of its own, prints one line, `ok NAME: what was seen` or `NOT NAME: what 
 """
 
 import base64
+import fcntl
 import json
 import os
 import resource
@@ -62,8 +63,8 @@ def want(truth, text):
 class Server:
     """A server that runs for one check."""
 
-    def __init__(self, silence=60, full=5, descriptors=None, options=()):
-        self.errors = tempfile.TemporaryFile()
+    def __init__(self, silence=60, full=5, descriptors=None, options=(), errors=None):
+        self.errors = errors or tempfile.TemporaryFile()
         words = [program, "start", "127.0.0.1:0", registry, str(silence), str(full), *options]
         limit = None
         if descriptors is not None:
@@ -505,6 +506,28 @@ def reports():
         return f"{len(lines)} lines, the last of which counts 4 requests of 2 connections"
 
 
+def stalled_pipe():
+    """Nobody reads its standard error, which is a pipe of 4,096 bytes. Each request is answered all the same; once somebody
+    reads, it is told how many lines were dropped."""
+    reader, writer = os.pipe()
+    fcntl.fcntl(writer, fcntl.F_SETPIPE_SZ, 4096)
+    with tempfile.TemporaryFile() as read, Server(options=["--report", "1"], errors=os.fdopen(writer, "wb")) as server:
+        server.errors = read
+        connection, longest, end = server.connect(), 0, time.monotonic() + 12
+        while time.monotonic() < end:
+            began = time.monotonic()
+            ask(connection)
+            longest = max(longest, time.monotonic() - began)
+            time.sleep(0.05)
+        want(longest < PATIENCE, f"a request took {longest:.2f} seconds")
+        lines = os.read(reader, 65536)
+        want(b"dropped" not in lines and lines.endswith(b"\n"), f"no whole lines: {lines[-200:]!r}")
+        time.sleep(1.5)
+        after = os.read(reader, 65536).split(b"\n")
+        want(after[0].startswith(b"oauthd: ") and after[0].endswith(b" lines were dropped"), f"{after[0]!r}")
+        return f"{after[0].decode()}; no request took longer than {1000 * longest:.0f} ms"
+
+
 CHECKS = {
     "63-idle-and-one-active": sixty_three_idle,
     "64-idle-and-a-65th": a_sixty_fifth,
@@ -519,6 +542,7 @@ CHECKS = {
     "half-closed": half_closed,
     "whole-replies": whole_replies,
     "reports": reports,
+    "stalled-pipe": stalled_pipe,
 }
 
 
