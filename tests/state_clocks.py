@@ -6,7 +6,7 @@ import subprocess
 
 from crashes import consents
 from state_format import MARK, batches_of
-from state_trials import bytes_of
+from state_trials import LIFE, bytes_of
 
 DAY = 86400
 
@@ -34,17 +34,17 @@ def tries_told_by_the_clock(trials):
     if len(marks) != 1:
         trials.wrong("marks", f"{len(marks)} within a second")
 
-    begun, client = trials.served("a clock that is ahead", path, env=clock(trials, 310))
+    begun, client = trials.served("a clock that is ahead", path, env=clock(trials, LIFE + 10))
     if client.is_active(token):
         trials.wrong("a clock that is ahead", "an expired token is active")
     begun.end()
-    for ahead, what in [(0, "back"), (-5000, "far back"), (320, "ahead again")]:
+    for ahead, what in [(0, "back"), (-5000, "far back"), (LIFE + 20, "ahead again")]:
         begun, client = trials.served(f"a clock set {what}", path, env=clock(trials, ahead))
         if client.is_active(token):
             trials.wrong(f"a clock set {what}", "a token is active again that was told inactive")
         begun.end()
     file = trials.listed("a file that is ahead", path)[-1]
-    if not -400 < file["age"] < -200:
+    if not 0 < -file["age"] - LIFE < 100:
         trials.wrong("a file that is ahead", f"{file}")
     told = trials.served("a start behind its state", path)[0].end()
     if told.count("\n") != 1 or "ahead" not in told:

@@ -16,10 +16,11 @@ import state_disks
 import state_paths
 from crashes import consents
 from state_format import HEADER, MARK, batches_of, changes_of, consented, file_of, first_kind_of, mark_of, next_body, rules_of
-from state_trials import NotServed, Trials, bytes_of, is_named
+from state_trials import LIFE, NotServed, Trials, bytes_of, is_named
 
 # The line that tells how much ended beyond the registry, behind how many that were.
 ENDED = " codes and tokens ended, beyond the registry"
+WOULD_END = " codes and tokens would end, beyond the registry"
 
 # What may follow `oauthd: State` where the bytes of a file are wrong.
 OF_BYTES = ["NotState", "Version", "Damaged"]
@@ -182,6 +183,12 @@ def good(things):
     return sum(1 for thing in grants(things) if not thing["spent"] and thing["family"] not in ended)
 
 
+def given_to(client, things):
+    """What is listed of a client's families."""
+    own = {thing["family"] for thing in things if thing["kind"] == "family" and thing["client"] == client}
+    return [thing for thing in things if thing.get("family") in own]
+
+
 def under(trials, what, registry, path):
     """The file is taken under this registry: what the start told."""
     config = f"{trials.room}/another.json"
@@ -193,8 +200,8 @@ def under(trials, what, registry, path):
         trials.wrong(what, f"what it would end: status {would.returncode}, {would.stderr!r}, or the file was changed")
     told = trials.served(what, path, registry=config)[0].end()
     count = told.removeprefix("oauthd: state: ").removesuffix(f"{ENDED}\n") or "0"
-    if count.isdigit() and int(count) and f"{count}{ENDED}" not in would.stdout:
-        trials.wrong(what, f"it ended {count}, and said before {would.stdout!r}")
+    if would.stdout != f"{count}{WOULD_END}\n":
+        trials.wrong(what, f"it said {told!r}, and before {would.stdout!r}")
     return told
 
 
@@ -219,12 +226,12 @@ def tries_narrower_registries(trials, content, registry):
         trials.wrong("shorter lives", f"{told!r}, {len(grants(before))} and {len(grants(after))} codes and tokens, lives {lives}")
 
     less = dict(registry, access_life=200, clients=[dict(app, scope="write"), *others])
-    gone = good([thing for thing in before if thing.get("client") != others[0]["id"]])
+    gone = good(given_to(app["id"], before))
     told = under(trials, "fewer scopes", less, path)
     after = trials.listed("fewer scopes", path)
-    left = [thing for thing in grants(after) if thing["scope"] != ["read"]]
+    left = grants(given_to(app["id"], after))
     consents_then = [[thing for thing in things if thing["kind"] == "consent"] for things in (before, after)]
-    if not told.endswith(f"{ENDED}\n") or left or consents_then[0] != consents_then[1]:
+    if told != f"oauthd: state: {gone}{ENDED}\n" or left or consents_then[0] != consents_then[1]:
         trials.wrong("fewer scopes", f"{told!r}, {gone} were good, now {after}")
 
     for what, rules in [("the same once more", less), ("the first registry again", registry)]:
@@ -247,7 +254,7 @@ def main():
     seed = int(os.environ.get("SEED", secrets.randbits(32)))
     print(f"seed {seed}", flush=True)
     with open(given) as text:
-        registry = dict(json.load(text), access_life=300, refresh_life=3600)
+        registry = dict(json.load(text), access_life=LIFE, refresh_life=LIFE)
     with tempfile.TemporaryDirectory() as room:
         with open(f"{room}/registry.json", "w") as own:
             json.dump(registry, own)
@@ -255,8 +262,8 @@ def main():
         trials = Trials(program, f"{room}/registry.json", room)
         content = worked_on(trials)
         for trial, *given in [
+            (tries_narrower_registries, content, registry), (tries_the_first_kind, content), (tries_moments, content, registry),
             (tries_every_byte, content), (tries_every_front, content), (tries_draws, content, random.Random(seed), draws),
-            (tries_the_first_kind, content), (tries_moments, content, registry), (tries_narrower_registries, content, registry),
             (state_paths.tries_new_files,), (state_paths.tries_other_files,), (state_paths.tries_what_is_no_file, content),
             (state_paths.tries_two_names,), (state_paths.tries_owners, content), (state_paths.tries_order,),
             *((it,) for it in state_clocks.all_trials()), *((it, content) for it in state_disks.all_trials()),

@@ -12,6 +12,9 @@ from dataclasses import dataclass
 from crashes import Client, Server
 from state_format import MARK, batches_of
 
+# Tokens live for so many seconds, so that none expires while a trial runs.
+LIFE = 3000
+
 # A server that neither listens nor ends within so many seconds hangs.
 PATIENCE = 20
 
@@ -125,7 +128,7 @@ class Trials:
         begun = self.start(path, **others)
         if begun.line:
             begun.end()
-        if begun.status != 2 or not is_named(begun.told.splitlines(), wanted):
+        if begun.status != 2 or not is_named(begun.told.splitlines(), wanted, path):
             self.wrong(what, f"wanted {wanted!r}: status {begun.status}, {begun.told!r}")
 
     def listed(self, what, path):
@@ -147,10 +150,10 @@ class Trials:
                 done.result()
 
 
-def is_named(lines, wanted):
-    """Whether this is one line that says `oauthd: State` and the name; more may stand behind it."""
-    return len(lines) == 1 and f"{lines[0]} ".startswith(f"oauthd: State {wanted} ") or \
-        len(lines) == 1 and lines[0].startswith(f"oauthd: State {wanted}:")
+def is_named(lines, wanted, path=""):
+    """Whether this is one line that says `oauthd: State`, the name and then the path."""
+    said = f"oauthd: State {wanted}"
+    return len(lines) == 1 and lines[0].startswith(said) and lines[0][len(said):][:1] in (":", " ") and path in lines[0]
 
 
 def bytes_of(path):
