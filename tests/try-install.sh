@@ -35,7 +35,7 @@ process=$(systemctl show -p MainPID --value oauthd)
 check user oauthd "$(stat -c %U /proc/"$process")"
 check privileges '0000000000000000 1' "$(awk '/^CapEff|^NoNewPrivs/{print $2}' /proc/"$process"/status | xargs)"
 check files-it-may-write '/run/oauthd/open /var/lib/oauthd/state /var/lib/oauthd/state.lock' "$(nsenter -t "$process" -m -- setpriv --reuid oauthd --regid oauthd --clear-groups \
-    find /etc /run /srv /usr/local /var -maxdepth 3 -writable -type f 2>/dev/null | head -n 3 | xargs)"
+    find /etc /run /srv /usr/local /var -maxdepth 3 -writable -type f 2>/dev/null | sort | head -n 3 | xargs)"
 check others-read-no-registry 'cat: *Permission denied' "$(setpriv --reuid nobody --regid nogroup --clear-groups \
     cat /etc/oauthd/registry.json 2>&1)"
 check login-reads-no-registry 'cat: *Permission denied' "$(setpriv --reuid oauthd-login --regid oauthd-login --clear-groups \
