@@ -1,16 +1,17 @@
-"""Trials of state files on disks that refuse something: no room to append, no room for an image, a file that is mounted by itself.
-They want root, and mount what they need."""
+"""Trials of state files in use: a long round, copies that are taken meanwhile, and disks that refuse something: no room to append, no
+room for an image, a file that is mounted by itself. Those want root, and mount what they need."""
 
 import contextlib
 import os
 import signal
 import socket
 import subprocess
+import threading
 import time
 
-from crashes import Gone, consents
+from crashes import Client, Gone, consents
 from state_format import batches_of
-from state_trials import bytes_of
+from state_trials import bytes_of, is_named
 
 # It is told once that the file cannot be shortened.
 LONG = "oauthd: state: the file cannot be shortened; it grows until that works"
@@ -84,6 +85,36 @@ def tries_a_long_round(trials, _):
     print(f"a long round: {heads.count(b'HTTP/1.1 200 OK')} replies with 200, a batch of {longest} bytes", flush=True)
     if told or b"" in heads:
         trials.wrong("a long round", f"{told!r}, {heads}")
+
+
+def tries_copies(trials, _):
+    """A copy that is taken while clients work has all that the file had when the copying began, or it met a write and is refused as
+    damaged: then the next one is good."""
+    path, copy = trials.make(f"{trials.room}/copied"), f"{trials.room}/copy"
+    begun, client = trials.served("a file that is copied", path)
+    consents(client, "read")
+    workers = [threading.Thread(target=Client(client.server, number).work) for number in range(8)]
+    for worker in workers:
+        worker.start()
+    copies, refused = [], 0
+    while os.path.getsize(path) < 900000:
+        before = len(batches_of(bytes_of(path)))
+        subprocess.run(["cp", path, copy], check=True)
+        done = trials.run("state", copy)
+        if done.returncode == 0:
+            copies.append((before, batches_of(bytes_of(copy))))
+        elif is_named(done.stderr.splitlines(), "Damaged"):
+            refused += 1
+        else:
+            trials.wrong("a copy", done.stderr)
+    begun.end()
+    for worker in workers:
+        worker.join()
+    whole = batches_of(bytes_of(path))
+    for before, batches in copies:
+        if len(batches) < before or batches != whole[:len(batches)]:
+            trials.wrong("a copy", f"of {before} batches or more {len(batches)} are there, or they are others")
+    print(f"{len(copies)} copies of a file in use were good, {refused} met a write", flush=True)
 
 
 def installs(client, name):
@@ -169,5 +200,5 @@ def tries_a_file_mounted_by_itself(trials, content):
 def all_trials():
     if os.geteuid() != 0:
         print("full disks and mounts were not tried: that wants root")
-        return [tries_a_long_round]
-    return [tries_a_long_round, tries_a_full_disk, tries_no_room_for_an_image, tries_a_file_mounted_by_itself]
+        return [tries_a_long_round, tries_copies]
+    return [tries_a_long_round, tries_copies, tries_a_full_disk, tries_no_room_for_an_image, tries_a_file_mounted_by_itself]
