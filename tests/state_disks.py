@@ -168,7 +168,7 @@ def tries_no_room_for_an_image(trials, _):
             trials.wrong("no room for an image", f"{begun_at} bytes, then {os.path.getsize(path)}; {os.listdir(disk)}")
         resize(disk, "4m")
         asks_again(trials, "no room for an image, and then room", path, client)
-        if os.path.getsize(path) > 400000:
+        if os.path.getsize(path) > 500000:
             trials.wrong("room for an image", f"still {os.path.getsize(path)} bytes")
 
 

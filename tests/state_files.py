@@ -8,6 +8,7 @@ import json
 import os
 import random
 import secrets
+import shutil
 import sys
 import tempfile
 
@@ -151,8 +152,7 @@ def tries_the_first_kind(trials, content):
         trials.wrong("what was upgraded and started", "it stands for something else")
 
     made = bytes_of(new)
-    for what, file, to in [("a file of today's kind", trials.file_of(content), f"{room}/another"), ("where something is", old, new),
-                           ("a damaged one", trials.file_of(before[:-1] + b"\1\0"), f"{room}/another")]:
+    for what, file, to in [("a file of today's kind", trials.file_of(content), f"{room}/another"), ("where something is", old, new)]:
         done = trials.run("state", "--upgrade", file, to)
         if done.returncode != 2 or done.stderr.count("\n") != 1 or os.path.exists(f"{room}/another") or bytes_of(new) != made:
             trials.wrong(f"an upgrade, {what}", f"status {done.returncode}, {done.stderr!r}")
@@ -258,7 +258,9 @@ def main():
     with tempfile.TemporaryDirectory() as room:
         with open(f"{room}/registry.json", "w") as own:
             json.dump(registry, own)
-        os.chmod(f"{room}/registry.json", 0o644)
+        program = shutil.copy(program, f"{room}/oauthd")
+        for path, mode in [(room, 0o755), (program, 0o755), (f"{room}/registry.json", 0o644)]:
+            os.chmod(path, mode)
         trials = Trials(program, f"{room}/registry.json", room)
         content = worked_on(trials)
         for trial, *given in [

@@ -112,7 +112,6 @@ def tries_owners(trials, content):
         now = os.stat(state)
         if now.st_ino == inode or (now.st_uid, now.st_gid, now.st_mode & 0o7777) != (owner, group, mode):
             trials.wrong(f"owner {owner}, group {group}, mode {mode:o}", f"another file: {now.st_ino != inode}, {now}")
-    os.chmod(trials.room, 0o755)
     os.mkdir(f"{room}/closed", 0o755)
     state = trials.file_of(content, f"{room}/closed/state")
     os.chown(state, 65534, 65534)
