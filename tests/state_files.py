@@ -2,7 +2,8 @@
 version, on disks that are full, and registries that allow less. It starts on each with all that was acknowledged, or it says in
 one line why not and writes nothing.
 
-Words: PROGRAM REGISTRY [DRAWS]. Ends by itself, with 0 where all is as wanted. SEED=n draws as before."""
+Words: PROGRAM REGISTRY [DRAWS [TRIAL ..]]; a trial is named by a part of its function's name. Ends by itself, with 0 where all is
+as wanted. SEED=n draws as before."""
 
 import json
 import os
@@ -250,7 +251,7 @@ def tries_narrower_registries(trials, content, registry):
 
 def main():
     program, given = sys.argv[1:3]
-    draws = int((sys.argv[3:] + ["400"])[0])
+    draws, names = int((sys.argv[3:] + ["400"])[0]), sys.argv[4:]
     seed = int(os.environ.get("SEED", secrets.randbits(32)))
     print(f"seed {seed}", flush=True)
     with open(given) as text:
@@ -263,13 +264,16 @@ def main():
             os.chmod(path, mode)
         trials = Trials(program, f"{room}/registry.json", room)
         content = worked_on(trials)
-        for trial, *given in [
+        all_trials = [
             (tries_narrower_registries, content, registry), (tries_the_first_kind, content), (tries_moments, content, registry),
-            (tries_every_byte, content), (tries_every_front, content), (tries_draws, content, random.Random(seed), draws),
             (state_paths.tries_new_files,), (state_paths.tries_other_files,), (state_paths.tries_what_is_no_file, content),
             (state_paths.tries_two_names,), (state_paths.tries_owners, content), (state_paths.tries_order,),
             *((it,) for it in state_clocks.all_trials()), *((it, content) for it in state_disks.all_trials()),
-        ]:
+            (tries_every_byte, content), (tries_every_front, content), (tries_draws, content, random.Random(seed), draws),
+        ]
+        for trial, *given in all_trials:
+            if names and not any(name in trial.__name__ for name in names):
+                continue
             try:
                 trial(trials, *given)
             except NotServed as fault:

@@ -2,6 +2,7 @@
 
 import os
 import shutil
+import signal
 import sqlite3
 
 from state_format import CLOSED, HEADER
@@ -10,7 +11,7 @@ from state_trials import bytes_of, is_named
 
 def tries_new_files(trials):
     """`--new` makes a file where nothing is, and nothing else; a server starts on it, and on nothing that `--new` has not made."""
-    path = trials.make(f"{trials.room}/new")
+    path = trials.make(f"{trials.room}/made")
     if bytes_of(path) != HEADER + CLOSED or os.stat(path).st_mode & 0o7777 != 0o600:
         trials.wrong("a new file", f"{bytes_of(path)!r}, mode {os.stat(path).st_mode:o}")
     trials.served("a new file", path)[0].end()
@@ -132,9 +133,10 @@ def tries_order(trials):
     traced = ["strace", "-f", "-y", "-o", log, "-e", "trace=pwrite64,write,fdatasync,fsync,rename,renameat,renameat2,unlink,sendto"]
     begun, client = trials.served("under strace", path, run_as=traced)
     client.own_token()
-    begun.process.terminate()       # strace ends the server that it follows
-    begun.end()
-    calls = [deed for deed in map(deed_of, open(log, errors="replace")) if deed]
+    lines = open(log, errors="replace").read().splitlines()
+    os.kill(int(lines[0].split()[0]), signal.SIGKILL)       # the server: strace ends with it
+    begun.process.wait()
+    calls = [deed for deed in map(deed_of, lines) if deed]
     wanted = {"a start": ["write next", "fsync next", "rename", "fsync folder", "listening"],
               "an append": ["pwrite state", "pwrite state", "pwrite state", "fdatasync state", "pwrite latch", "fdatasync state", "reply"]}
     for what, order in wanted.items():

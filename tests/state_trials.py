@@ -63,7 +63,7 @@ class Trials:
         """Makes an empty state file."""
         done = self.run("state", "--new", path)
         if done.returncode:
-            raise SystemExit(f"no state file is made: {done.stderr}")
+            raise NotServed(f"no state file is made: {done.stderr}")
         return path
 
     def start(self, path, *options, run_as=(), registry=None, **others):
