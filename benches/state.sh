@@ -19,6 +19,9 @@ disk=$(mktemp -d "$folder/state.XXXXXX") || exit 2
 trap '[ ${#started[@]} = 0 ] || kill "${started[@]}" 2>/dev/null; wait; rm -rf "$room" "$disk"' EXIT
 gcc -O2 -o "$room/rows" benches/rows.c -lsqlite3 || exit 2
 
+for name in state asked; do
+    "$program" state --new "$disk/$name" >"$room/made" || exit 2
+done
 start kept 1 --state "$disk/state"
 kept_at=$at kept_pid=$pid
 start tokens 1

@@ -21,6 +21,7 @@ import urllib.parse
 from server import address_of
 
 APP = {"client_id": "app", "client_secret": "s3cret"}
+BOT = {"client_id": "bot", "client_secret": "b0t"}
 # Tokens live for so many seconds, so that the store is not full of those that nobody asks for again.
 LIFE = 120
 REDIRECT = "https://app.example/cb"
@@ -44,11 +45,15 @@ class Server:
         self.address = None
 
     def start(self):
-        self.process = subprocess.Popen(self.words, stdout=subprocess.PIPE, text=True)
-        line = self.process.stdout.readline()
+        process = subprocess.Popen(self.words, stdout=subprocess.PIPE, text=True)
+        line = process.stdout.readline()
         if not line:
-            raise SystemExit(f"the server did not start: status {self.process.wait()}")
-        self.address = address_of(line)
+            raise SystemExit(f"the server did not start: status {process.wait()}")
+        self.take(process, line)
+
+    def take(self, process, line):
+        """The server is this process, which has said that it listens."""
+        self.process, self.address = process, address_of(line)
 
     def kill(self):
         self.process.send_signal(signal.SIGKILL)
@@ -69,9 +74,8 @@ class Client:
         self.used = []
         self.acknowledged = 0
 
-    def ask(self, method, path, form=None, headers=None):
+    def ask(self, method, path, form=None, headers=None, body=None):
         headers = dict(headers or {})
-        body = None
         if form is not None:
             body = urllib.parse.urlencode(form)
             headers["Content-Type"] = "application/x-www-form-urlencoded"
@@ -97,6 +101,14 @@ class Client:
             raise Refused()
         told = self.tokens(grant_type="authorization_code", code=answer["code"][0], redirect_uri=REDIRECT, code_verifier=verifier)
         self.grants.append({"refresh": told["refresh_token"], "access": [told["access_token"]], "since": time.monotonic()})
+
+    def own_token(self):
+        """A token of a client's own."""
+        status, _, body = self.ask("POST", "/token", dict(BOT, grant_type="client_credentials"))
+        if status == 503:
+            raise Refused()
+        assert status == 200, (status, body)
+        return json.loads(body)["access_token"]
 
     def tokens(self, **form):
         status, _, body = self.ask("POST", "/token", dict(APP, **form))
@@ -170,6 +182,7 @@ def main():
     with tempfile.TemporaryDirectory() as room:
         with open(registry) as given, open(f"{room}/registry.json", "w") as own:
             json.dump(dict(json.load(given), access_life=LIFE, refresh_life=LIFE), own)
+        subprocess.run([program, "state", "--new", f"{room}/state"], check=True, stdout=subprocess.DEVNULL)
         server = Server(program, f"{room}/registry.json", f"{room}/state")
         server.start()
         consents(Client(server, 0), "read")

@@ -34,7 +34,7 @@ inside() {
     mount -t overlay overlay -o "lowerdir=/,upperdir=$room/over,workdir=$room/work" "$room/root"
     cd "$room/root"
     mount -t tmpfs tmpfs root
-    rm -rf etc/systemd/system/*.wants etc/systemd/system/oauthd* etc/oauthd* etc/nginx/conf.d/oauthd* usr/local/lib/oauthd
+    rm -rf etc/systemd/system/*.wants etc/systemd/system/oauthd* etc/oauthd* etc/nginx/conf.d/oauthd* usr/local/lib/oauthd var/lib/oauthd*
     mkdir -p root/oauthd/crates/oauthd/out given old
     cp -r "$repository"/{docs,examples,deploy,tests} root/oauthd
     cp "$program" root/oauthd/crates/oauthd/out/oauthd

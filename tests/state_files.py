@@ -1,139 +1,96 @@
-"""Hands a server state files of all kinds: cut at every byte, changed in places, drawn at random, on a full disk, in a
-folder that may not be written, paths that are no files, and registries that allow less. It is started on each, or says in one line why not.
-Those that are taken are listed first.
+"""Hands a server state files of all kinds: each byte changed, cut at each, changed at random, of other programs, of the first
+version, on disks that are full, and registries that allow less. It starts on each with all that was acknowledged, or it says in
+one line why not and writes nothing.
 
-Words: PROGRAM REGISTRY [DRAWS]. Ends by itself, with 0 where all is as wanted. SEED=n draws as before."""
+Words: PROGRAM REGISTRY [DRAWS [TRIAL ..]]; a trial is named by a part of its function's name. Ends by itself, with 0 where all is
+as wanted. SEED=n draws as before."""
 
 import json
 import os
 import random
 import secrets
 import shutil
-import signal
-import subprocess
 import sys
 import tempfile
 
-from crashes import Client, Gone, Server, consents
-from server import address_of
-
-# The line that tells what a start cuts off.
-CUT = "oauthd: state: cut "
+import state_clocks
+import state_disks
+import state_paths
+from crashes import consents
+from state_format import HEADER, MARK, batches_of, changes_of, consented, file_of, first_kind_of, mark_of, next_body, rules_of
+from state_trials import LIFE, NotServed, Trials, bytes_of, is_named
 
 # The line that tells how much ended beyond the registry, behind how many that were.
-ENDED = " codes and tokens ended, beyond the registry\n"
+ENDED = " codes and tokens ended, beyond the registry"
+WOULD_END = " codes and tokens would end, beyond the registry"
 
 # What may follow `oauthd: State` where the bytes of a file are wrong.
-OF_BYTES = {"NoRules", "Spelling", "ScopeMoved", "OwnerMoved", "ClientMoved", "ClientNarrowed", "LifeNarrowed", "Follows", "Image", "Hook"}
+OF_BYTES = ["NotState", "Version", "Damaged"]
 
 
-class Trials:
-    """What is tried, and what came out otherwise than wanted."""
-
-    def __init__(self, program, registry, room):
-        self.program, self.registry, self.room = program, registry, room
-        self.faults = []
-
-    def start(self, path, run_as=(), registry=None):
-        """Starts a server on the path: the process, its first line on standard output and, where it ended, its status and
-        what it said on standard error."""
-        words = [*run_as, self.program, "start", "127.0.0.1:0", registry or self.registry, "--state", path]
-        process = subprocess.Popen(words, stdout=subprocess.PIPE, stderr=subprocess.PIPE, text=True)
-        line = process.stdout.readline()
-        if line:
-            return process, line, None, ""
-        try:
-            status = process.wait(timeout=20)
-        except subprocess.TimeoutExpired:
-            process.kill()
-            status = process.wait()
-        lines = process.stderr.read().splitlines(keepends=True)
-        return process, "", status, "".join(line for line in lines if not line.startswith(CUT))
-
-    def listed(self, what, path, content):
-        """A file of these bytes is listed, a line of JSON for each thing, and the last one for the file; nothing is written."""
-        done = subprocess.run([self.program, "state", path], capture_output=True, text=True)
-        lines = [json.loads(line) for line in done.stdout.splitlines()]
-        if done.returncode or done.stderr or not lines or lines[-1]["kind"] != "file" or lines[-1]["bytes"] != len(content):
-            self.wrong(what, f"not listed: status {done.returncode}, {done.stderr!r}, {done.stdout[-200:]!r}")
-        with open(path, "rb") as now:
-            if now.read() != content:
-                self.wrong(what, "changed by being listed")
-        return lines
-
-    def ends(self, process):
-        process.send_signal(signal.SIGKILL)
-        process.wait()
-
-    def wrong(self, what, told):
-        self.faults.append(f"{what}: {told}")
-
-    def taken(self, what, content):
-        """A file of these bytes is taken."""
-        path = self.file_of(content)
-        self.listed(what, path, content)
-        process, line, status, told = self.start(path)
-        if not line:
-            self.wrong(what, f"not taken: status {status}, {told!r}")
-        else:
-            self.ends(process)
-
-    def taken_or_refused(self, what, content):
-        """A file of these bytes is taken, or it is refused by a name, in one line, and keeps its bytes. Whether it was taken."""
-        path = self.file_of(content)
-        process, line, status, told = self.start(path)
-        if line:
-            self.ends(process)
-            return True
-        names = told.split()
-        if status != 2 or told.count("\n") != 1 or names[:2] != ["oauthd:", "State"] or names[2] not in OF_BYTES:
-            self.wrong(what, f"status {status}, {told!r}")
-        return False
-
-    def under(self, what, registry, path):
-        """The file is taken under this registry: what the start told."""
-        with open(f"{self.room}/another.json", "w") as own:
-            json.dump(registry, own)
-        process, line, status, told = self.start(path, registry=f"{self.room}/another.json")
-        if not line:
-            self.wrong(what, f"not taken: status {status}, {told!r}")
-            return told
-        self.ends(process)
-        return process.stderr.read()
-
-    def refused(self, what, path, wanted, run_as=()):
-        """The path is refused with this line."""
-        process, line, status, told = self.start(path, run_as)
-        if line:
-            self.ends(process)
-        if line or status != 2 or told != f"oauthd: State {wanted}\n":
-            self.wrong(what, f"wanted {wanted!r}: {line!r}, status {status}, {told!r}")
-
-    def file_of(self, content):
-        path = f"{self.room}/tried"
-        with open(path, "wb") as to:
-            to.write(content)
-        return path
-
-
-def worked_on(trials, program, registry, room):
-    """The bytes of a state file after some grants, refreshes, revocations and consents. It is listed while it is in use."""
-    server = Server(program, registry, f"{room}/state")
-    server.start()
-    client = Client(server, 1)
+def worked_on(trials):
+    """The bytes of a state file after some grants, refreshes, revocations, consents and tokens of a client's own: 50 batches."""
+    path = trials.make(f"{trials.room}/state")
+    begun, client = trials.served("a new file", path)
     consents(client, "read")
     for _ in range(6):
         client.begin()
     for _ in range(3):
         client.refresh()
     client.revoke()
-    with open(f"{room}/state", "rb") as written:
-        content = written.read()
-    kinds = [thing["kind"] for thing in trials.listed("a file in use", f"{room}/state", content)]
+    kinds = [thing["kind"] for thing in trials.listed("a file in use", path)]
     if any(kinds.count(kind) == 0 for kind in ["consent", "family", "code", "access", "refresh"]):
         trials.wrong("a file in use", f"lines of {kinds}")
-    server.kill()
-    return content
+    while len(batches_of(bytes_of(path))) < 50:
+        client.own_token()
+    begun.end()
+    return bytes_of(path)
+
+
+def places(content):
+    """Where the frames of a file begin, and at last its closed latch."""
+    at = [len(HEADER)]
+    for batch in batches_of(content):
+        at.append(at[-1] + 21 + len(batch))
+    return at
+
+
+def tries_every_byte(trials, content):
+    """Every byte of a file is changed once, one bit and all eight. Where that is told from what a crash leaves, the file is
+    refused and stays as it is; else what it says is right, and what is cut off is put aside."""
+    batches, begins = batches_of(content), places(content)
+    frame_of = {at: number for number, at in enumerate(begins[:-1])}
+    for_one, for_all = [], []
+    for at in range(len(content)):
+        for change in (1 << at % 8, 255):
+            changed = content[:at] + bytes([content[at] ^ change]) + content[at + 1:]
+            what = f"byte {at} of {len(content)} changed by {change}"
+            if at < len(HEADER):
+                digit = at == len(HEADER) - 2 and chr(changed[at]).isascii() and chr(changed[at]).isdigit()
+                for_one.append((what, changed, f"Version {chr(changed[at])}" if digit else "NotState"))
+            elif at not in frame_of or (changed[at] == 0 and at != begins[-2]):
+                for_one.append((what, changed, f"Damaged {sum(1 for end in begins[1:] if end <= at)}"))
+            elif changed[at]:
+                for_all.append((what, changed, batches))
+            else:
+                for_all.append((what, changed, batches[:-1], changed[at + 1:]))
+    trials.all(trials.refused, for_one)
+    trials.all(trials.taken, for_all)
+    print(f"{len(content)} bytes changed: {len(for_one)} files were to be refused, {len(for_all)} to be read rightly", flush=True)
+
+
+def tries_every_front(trials, content):
+    """No front of a file is taken for the file: only an append may be cut off anywhere, as a crash does it."""
+    batches, begins = batches_of(content), places(content)
+    damaged = ((f"the first {length} bytes of {len(content)}", content[:length], f"Damaged {sum(1 for end in begins[1:] if end <= length)}")
+               for length in range(len(HEADER), len(content)))
+    trials.all(trials.refused, damaged)
+    trials.all(trials.refused, ((f"the first {length} bytes", content[:length], "NotState") for length in range(len(HEADER))))
+    torn = next_body(content, changes_of([(1, consented(1, 1, 1))]))
+    trials.all(trials.taken, ((f"an append cut off after {length} bytes", content + torn[:length], batches, torn[:length])
+                              for length in range(len(torn) + 1)))
+    trials.all(trials.taken, ((f"byte {at} of an append changed", content + torn[:at] + bytes([torn[at] ^ 255]) + torn[at + 1:], batches,
+                               torn[:at] + bytes([torn[at] ^ 255]) + torn[at + 1:]) for at in range(len(torn) - 1)))
 
 
 def drawn_change(chance, content):
@@ -156,16 +113,64 @@ def drawn_change(chance, content):
     return bytes(changed)
 
 
-def tries_bytes(trials, chance, content, draws):
-    """Every front of a file is taken, whatever stands behind it in its last batch; what was changed is taken or refused."""
-    for length in range(0, len(content) + 1, max(1, len(content) // 400)):
-        trials.taken(f"the first {length} bytes of {len(content)}", content[:length])
-    count = 0
-    for number in range(draws):
-        count += trials.taken_or_refused(f"change {number}", drawn_change(chance, content))
-    for number in range(draws // 4):
-        count += trials.taken_or_refused(f"drawn bytes {number}", chance.randbytes(chance.randrange(200)))
-    print(f"of {draws + draws // 4} files of other bytes {count} were taken, all others refused by name", flush=True)
+def tries_draws(trials, content, chance, draws):
+    """What was changed at random is refused by name, or taken with some first batches of the file, and then nothing is gone:
+    the rest stands beside it."""
+    def tried(what, changed):
+        came = trials.outcome(changed)
+        if came.status is not None:
+            if came.status != 2 or not any(is_named(came.lines, name) for name in OF_BYTES) or came.files != {"state": changed}:
+                trials.wrong(what, f"status {came.status}, {came.lines}, {sorted(came.files)}")
+            return
+        taken.append(what)
+        found = [it for it in batches_of(came.files["state"]) if it[0] != MARK]
+        kept = [it for it in batches_of(content) if it[0] != MARK]
+        front = next((n for n, pair in enumerate(zip(found, kept)) if pair[0] != pair[1]), min(len(found), len(kept)))
+        if front < len(kept) and not changed.endswith(came.files.get("state.torn") or b"none"):
+            trials.wrong(what, f"{front} of {len(kept)} batches, and the rest is nowhere")
+
+    taken = []
+    trials.all(tried, [(f"change {number}", drawn_change(chance, content)) for number in range(draws)])
+    trials.all(tried, [(f"drawn bytes {number}", chance.randbytes(chance.randrange(200))) for number in range(draws // 4)])
+    print(f"of {draws + draws // 4} files of other bytes {len(taken)} were taken, all others refused by name", flush=True)
+
+
+def tries_the_first_kind(trials, content):
+    """A file of the first version is told as that and left; what is made of it stands for the same."""
+    room = trials.room
+    old, new = trials.file_of(first_kind_of(batches_of(content)), f"{room}/old"), f"{room}/new"
+    trials.refused("a file of the first version", bytes_of(old), "Version 1")
+    trials.refused("one that is cut off in its first batch", bytes_of(old)[:40], "NotState")
+    before = bytes_of(old)
+    done = trials.run("state", "--upgrade", old, new)
+    if done.returncode or bytes_of(old) != before or os.stat(new).st_mode & 0o777 != 0o600:
+        return trials.wrong("an upgrade", f"status {done.returncode}, {done.stderr!r}, or the file was changed, or the new one's mode is wrong")
+    same = trials.listed("the file", trials.file_of(content))
+    if trials.listed("what was upgraded", new)[:-1] != same[:-1]:
+        trials.wrong("what was upgraded", "it stands for something else")
+    trials.served("what was upgraded", new)[0].end()
+    if trials.listed("what was upgraded and started", new)[:-1] != same[:-1]:
+        trials.wrong("what was upgraded and started", "it stands for something else")
+
+    made = bytes_of(new)
+    for what, file, to in [("a file of today's kind", trials.file_of(content), f"{room}/another"), ("where something is", old, new)]:
+        done = trials.run("state", "--upgrade", file, to)
+        if done.returncode != 2 or done.stderr.count("\n") != 1 or os.path.exists(f"{room}/another") or bytes_of(new) != made:
+            trials.wrong(f"an upgrade, {what}", f"status {done.returncode}, {done.stderr!r}")
+
+
+def tries_moments(trials, content, registry):
+    """A mark is no change, and an empty file has no moment. What is not of this program's batches is refused."""
+    last = max(thing["last"] for thing in trials.listed("a file", trials.file_of(content)) if thing["kind"] == "file")
+    marked = trials.file_of(file_of([*batches_of(content), mark_of(last + 500)]))
+    told = trials.listed("a marked file", marked)
+    if told[-1]["last"] < last + 500 or told[-1]["batches"] != len(batches_of(content)) + 1:
+        trials.wrong("a marked file", f"{told[-1]}")
+    rules = rules_of(registry)
+    trials.taken("a file of rules", file_of([rules]), [rules])
+    trials.refused("a mark that is too long", file_of([rules, mark_of(last) + b"\0"]), "Spelling")
+    trials.refused("a batch of another version", file_of([rules, b"\7"]), "Spelling")
+    trials.refused("changes without rules", file_of([changes_of([(last, consented(1, 1, 1))])]), "NoRules")
 
 
 def grants(things):
@@ -179,135 +184,100 @@ def good(things):
     return sum(1 for thing in grants(things) if not thing["spent"] and thing["family"] not in ended)
 
 
-def listed_now(trials, what, path):
-    with open(path, "rb") as written:
-        return trials.listed(what, path, written.read())
+def given_to(client, things):
+    """What is listed of a client's families."""
+    own = {thing["family"] for thing in things if thing["kind"] == "family" and thing["client"] == client}
+    return [thing for thing in things if thing.get("family") in own]
 
 
-def tries_narrower_registries(trials, content):
+def under(trials, what, registry, path):
+    """The file is taken under this registry: what the start told."""
+    config = f"{trials.room}/another.json"
+    with open(config, "w") as own:
+        json.dump(registry, own)
+    before = bytes_of(path)
+    would = trials.run("registry", config, "--state", path)
+    if would.returncode or bytes_of(path) != before:
+        trials.wrong(what, f"what it would end: status {would.returncode}, {would.stderr!r}, or the file was changed")
+    told = trials.served(what, path, registry=config)[0].end()
+    count = told.removeprefix("oauthd: state: ").removesuffix(f"{ENDED}\n") or "0"
+    if would.stdout != f"{count}{WOULD_END}\n":
+        trials.wrong(what, f"it said {told!r}, and before {would.stdout!r}")
+    return told
+
+
+def tries_narrower_registries(trials, content, registry):
     """Under a registry that allows less, what goes beyond it has ended, and nothing else; under any other, nothing. Another name is refused."""
-    with open(trials.registry) as text:
-        registry = json.load(text)
     app, others = registry["clients"][0], registry["clients"][1:]
     path = trials.file_of(content)
-    before = listed_now(trials, "before", path)
+    before = trials.listed("before", path)
 
-    told = trials.under("as it was", registry, path)
-    with open(path, "rb") as file:
-        if told or file.read() != content:
-            trials.wrong("as it was", f"{told!r}, or the file is another one")
-    told = trials.under("longer lives", dict(registry, refresh_life=registry["refresh_life"] + 1), path)
-    if told or len(listed_now(trials, "longer lives", path)) != len(before):
+    told = under(trials, "as it was", registry, path)
+    if told or trials.listed("as it was", path)[:-1] != before[:-1]:
+        trials.wrong("as it was", f"{told!r}, or something has ended")
+    told = under(trials, "longer lives", dict(registry, refresh_life=registry["refresh_life"] + 1), path)
+    if told or len(trials.listed("longer lives", path)) != len(before):
         trials.wrong("longer lives", f"{told!r}, or something has ended")
 
     path = trials.file_of(content)
-    told = trials.under("shorter lives", dict(registry, access_life=200), path)
-    after = listed_now(trials, "shorter lives", path)
+    told = under(trials, "shorter lives", dict(registry, access_life=200), path)
+    after = trials.listed("shorter lives", path)
     lives = [thing["life"] for thing in after if thing["kind"] == "access"]
-    if told != f"oauthd: state: 0{ENDED}" or len(grants(after)) != len(grants(before)) or set(lives) != {200}:
+    if told != f"oauthd: state: 0{ENDED}\n" or len(grants(after)) != len(grants(before)) or set(lives) != {200}:
         trials.wrong("shorter lives", f"{told!r}, {len(grants(before))} and {len(grants(after))} codes and tokens, lives {lives}")
 
     less = dict(registry, access_life=200, clients=[dict(app, scope="write"), *others])
-    told = trials.under("fewer scopes", less, path)
-    after = listed_now(trials, "fewer scopes", path)
-    consents = [[thing for thing in things if thing["kind"] == "consent"] for things in (before, after)]
-    if told != f"oauthd: state: {good(before)}{ENDED}" or grants(after) or consents[0] != consents[1]:
-        trials.wrong("fewer scopes", f"{told!r}, {good(before)} were good, now {after}")
+    gone = good(given_to(app["id"], before))
+    told = under(trials, "fewer scopes", less, path)
+    after = trials.listed("fewer scopes", path)
+    left = grants(given_to(app["id"], after))
+    consents_then = [[thing for thing in things if thing["kind"] == "consent"] for things in (before, after)]
+    if told != f"oauthd: state: {gone}{ENDED}\n" or left or consents_then[0] != consents_then[1]:
+        trials.wrong("fewer scopes", f"{told!r}, {gone} were good, now {after}")
 
     for what, rules in [("the same once more", less), ("the first registry again", registry)]:
-        told = trials.under(what, rules, path)
-        if told or grants(listed_now(trials, what, path)):
+        told = under(trials, what, rules, path)
+        if told or len(grants(trials.listed(what, path))) != len(grants(after)):
             trials.wrong(what, f"{told!r}, or something was revived")
 
-    path = trials.file_of(content)
     moved = dict(less, clients=[dict(app, id="other", scope="write"), *others])
     with open(f"{trials.room}/another.json", "w") as own:
         json.dump(moved, own)
-    process, line, status, told = trials.start(path, registry=f"{trials.room}/another.json")
-    if line:
-        trials.ends(process)
-    if told != f"oauthd: State ClientMoved {app['id']}\n" or len(grants(listed_now(trials, "another name", path))) != len(grants(before)):
-        trials.wrong("another name", f"{told!r}")
-
-
-def tries_paths(trials):
-    """Paths on which no state can stand."""
-    room = trials.room
-    trials.refused("a missing folder", f"{room}/missing/state", "Open: not found")
-    trials.refused("a folder", room, "Open: is a directory")
-    trials.refused("a file as a folder", f"{trials.registry}/state", "Open: not a directory")
-    process, line, _, told = trials.start(f"{room}/held")
-    trials.refused("a file that is held", f"{room}/held", "InUse")
-    trials.ends(process)
-    process, line, status, told = trials.start("/dev/full")
-    if line or status != 2 or not told.startswith("oauthd: State "):
-        trials.wrong("/dev/full", f"{line!r}, status {status}, {told!r}")
-    if line:
-        trials.ends(process)
-    if os.geteuid() == 0 and shutil.which("setpriv"):
-        own = f"{room}/closed"
-        os.mkdir(own, 0o755)
-        os.chmod(room, 0o755)
-        nobody = ["setpriv", "--reuid=65534", "--regid=65534", "--clear-groups"]
-        trials.refused("a folder of somebody else", f"{own}/state", "Open: permission denied", nobody)
-
-
-def tries_a_full_disk(trials):
-    """On a full disk the server stops, and what it acknowledged is there once there is room."""
-    if os.geteuid() != 0:
-        print("the full disk was not tried: that wants root")
-        return
-    disk = f"{trials.room}/disk"
-    os.mkdir(disk)
-    if subprocess.run(["mount", "-t", "tmpfs", "-o", "size=64k", "tmpfs", disk], capture_output=True).returncode:
-        print("the full disk was not tried: nothing can be mounted here")
-        return
-    try:
-        process, line, status, told = trials.start(f"{disk}/state")
-        if not line:
-            return trials.wrong("a small disk", f"status {status}, {told!r}")
-        server = Server(trials.program, trials.registry, f"{disk}/state")
-        server.address, server.process = address_of(line), process
-        client = Client(server, 2)
-        try:
-            consents(client, "read")
-            for _ in range(2000):
-                client.begin()
-        except Gone:
-            pass
-        status, told = process.wait(timeout=20), process.stderr.read()
-        if status != 2 or told != "oauthd: stopped: State\n":
-            trials.wrong("a full disk", f"status {status}, {told!r}")
-        subprocess.run(["mount", "-o", "remount,size=1m", disk], check=True)
-        process, line, status, told = trials.start(f"{disk}/state")
-        if not line:
-            return trials.wrong("a disk with room again", f"status {status}, {told!r}")
-        server.address, server.process, client.connection = address_of(line), process, None
-        asked, lost = client.faults()
-        for it in lost:
-            trials.wrong("a disk that was full", it)
-        print(f"a full disk stopped the server; then {asked} tokens were asked for again", flush=True)
-        trials.ends(process)
-    finally:
-        subprocess.run(["umount", "-l", disk])
+    path, kept = trials.file_of(content), content
+    trials.path_refused("another name", path, f"ClientMoved {app['id']}", registry=f"{trials.room}/another.json")
+    if bytes_of(path) != kept:
+        trials.wrong("another name", "refused, and the file was written")
 
 
 def main():
     program, given = sys.argv[1:3]
-    draws = int((sys.argv[3:] + ["400"])[0])
+    draws, names = int((sys.argv[3:] + ["400"])[0]), sys.argv[4:]
     seed = int(os.environ.get("SEED", secrets.randbits(32)))
     print(f"seed {seed}", flush=True)
+    with open(given) as text:
+        registry = dict(json.load(text), access_life=LIFE, refresh_life=LIFE)
     with tempfile.TemporaryDirectory() as room:
-        registry = f"{room}/registry.json"
-        with open(given) as text, open(registry, "w") as own:
-            json.dump(dict(json.load(text), access_life=300, refresh_life=3600), own)
-        os.chmod(registry, 0o644)
-        trials = Trials(program, registry, room)
-        content = worked_on(trials, program, registry, room)
-        tries_bytes(trials, random.Random(seed), content, draws)
-        tries_narrower_registries(trials, content)
-        tries_paths(trials)
-        tries_a_full_disk(trials)
+        with open(f"{room}/registry.json", "w") as own:
+            json.dump(registry, own)
+        program = shutil.copy(program, f"{room}/oauthd")
+        for path, mode in [(room, 0o755), (program, 0o755), (f"{room}/registry.json", 0o644)]:
+            os.chmod(path, mode)
+        trials = Trials(program, f"{room}/registry.json", room)
+        content = worked_on(trials)
+        all_trials = [
+            (tries_narrower_registries, content, registry), (tries_the_first_kind, content), (tries_moments, content, registry),
+            (state_paths.tries_new_files,), (state_paths.tries_other_files,), (state_paths.tries_what_is_no_file, content),
+            (state_paths.tries_two_names,), (state_paths.tries_owners, content), (state_paths.tries_order,),
+            *((it,) for it in state_clocks.all_trials()), *((it, content) for it in state_disks.all_trials()),
+            (tries_every_byte, content), (tries_every_front, content), (tries_draws, content, random.Random(seed), draws),
+        ]
+        for trial, *given in all_trials:
+            if names and not any(name in trial.__name__ for name in names):
+                continue
+            try:
+                trial(trials, *given)
+            except NotServed as fault:
+                trials.faults.append(str(fault))
         for it in trials.faults[:20]:
             print(it)
         print(f"{len(trials.faults)} not as wanted")

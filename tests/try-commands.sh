@@ -108,16 +108,24 @@ said='access_life 300\nrefresh_life 86400\nowners 2\nclients 2\nscopes read writ
 ends 'a registry' 0 "$said" '' registry own.json
 chmod 644 own.json
 ends 'a registry that everybody may read' 0 "${said}warning: everybody may read the file\n" '' registry own.json
-# state files: none, one of nobody's, and bytes of an unfinished write; the age is that of a moment that is told
+# state files: none, a new one, one of nobody's, one of the first kind, and bytes of an unfinished write; the age is that of a
+# moment that is told
+lists() {
+    tried=$((tried + 1))
+    "$program" state "$2" >given.out 2>given.err
+    grep -qE "^\{\"kind\":\"file\",\"bytes\":$3,\"batches\":0,\"torn\":$4,\"last\":0,\"age\":[0-9]+\}$" given.out || { differs "$1"; cat given.*; }
+}
 ends 'a state file that is not there' 2 '' 'oauthd: cannot read nowhere\n' state nowhere
-printf '\1\0\0\0\1\7' >other.state
-ends 'a state file of another program' 2 '' 'oauthd: State NoRules in batch 1\n' state other.state
-printf '\0abc' >torn.state
-tried=$((tried + 1))
-if ! "$program" state torn.state | grep -qE '^\{"kind":"file","bytes":4,"batches":0,"torn":3,"last":0,"age":[0-9]+\}$'; then
-    differs 'a torn state file'
-    "$program" state torn.state
-fi
+ends 'a start on none' 2 '' 'oauthd: State Missing: nowhere; oauthd state --new FILE makes one\n' start 127.0.0.1:0 "$registry" --state nowhere
+ends 'a new state file' 0 '' '' state --new own.state
+ends 'the same once more' 2 '' 'oauthd: State Exists: own.state\n' state --new own.state
+lists 'a new state file, listed' own.state 17 0
+printf abc >>own.state
+lists 'a torn state file' own.state 20 3
+printf '{}' >other.state
+ends 'a state file of another program' 2 '' 'oauthd: State NotState: other.state; oauthd state --new FILE makes one\n' state other.state
+printf '\1\0\0\0\1\7' >old.state
+ends 'one of the first kind' 2 '' 'oauthd: State Version 1: old.state; oauthd state --upgrade FILE NEW makes one of this version\n' state old.state
 if [ -w /dev/full ]; then
     "$program" list hook.hex >/dev/full 2>given.err
     given=$?

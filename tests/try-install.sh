@@ -35,7 +35,7 @@ process=$(systemctl show -p MainPID --value oauthd)
 check user oauthd "$(stat -c %U /proc/"$process")"
 check privileges '0000000000000000 1' "$(awk '/^CapEff|^NoNewPrivs/{print $2}' /proc/"$process"/status | xargs)"
 check files-it-may-write '/run/oauthd/open /var/lib/oauthd/state /var/lib/oauthd/state.lock' "$(nsenter -t "$process" -m -- setpriv --reuid oauthd --regid oauthd --clear-groups \
-    find /etc /run /srv /usr/local /var -maxdepth 3 -writable -type f 2>/dev/null | head -n 3 | xargs)"
+    find /etc /run /srv /usr/local /var -maxdepth 3 -writable -type f 2>/dev/null | sort | head -n 3 | xargs)"
 check others-read-no-registry 'cat: *Permission denied' "$(setpriv --reuid nobody --regid nogroup --clear-groups \
     cat /etc/oauthd/registry.json 2>&1)"
 check login-reads-no-registry 'cat: *Permission denied' "$(setpriv --reuid oauthd-login --regid oauthd-login --clear-groups \
@@ -153,6 +153,27 @@ systemctl start oauthd
 check started-again '{"hooks":\["capped"\]}' "$(hooks)"
 systemctl stop oauthd
 
+# The state file: one that is gone is not made anew, one of another group is refused, and each is named
+state=/var/lib/oauthd/state
+not_started() {
+    systemctl reset-failed oauthd
+    systemctl start oauthd 2>/dev/null
+    awaits 40 systemctl is-failed -q oauthd || differs 'never failed'
+}
+mv $state /run/state
+not_started
+check no-state-file '[1-9]* 0' "$(said "State Missing: $state") $(find $state 2>/dev/null | wc -l)"
+mv /run/state $state
+chgrp root $state
+not_started
+check state-file-of-another-group '[1-9]* root' "$(said "State Device: permission denied: $state") $(stat -c %G $state)"
+chgrp oauthd $state
+systemctl reset-failed oauthd
+systemctl start oauthd
+check started-on-its-own '{"hooks":\["capped"\]}' "$(hooks)"
+check state-file-s-owner '600 oauthd oauthd' "$(stat -c '%a %U %G' $state)"
+systemctl stop oauthd
+
 # Signals, and line feeds within a header's value: to the server itself, and through nginx
 cat >/run/signals.py <<'PY'
 import signal, socket, ssl, subprocess, sys
@@ -200,5 +221,5 @@ print("\n".join([registry["operator"], *registry["owners"], *(client["secret"] f
 PY
 cut -d ' ' -f 2 /root/oauthd-passwords)
 check secrets-in-logs 0 "$( (journalctl --no-pager; cat /var/log/nginx/*) | grep -cF "$secrets")"
-[ "$tried" = 57 ] || differs 'wanted 57 checks'
+[ "$tried" = 61 ] || differs 'wanted 61 checks'
 end_with checks

@@ -1,0 +1,75 @@
+"""Trials of state files under clocks that go back and ahead, by a library that is preloaded (clock.c)."""
+
+import os
+import shutil
+import subprocess
+
+from crashes import consents
+from state_format import MARK, batches_of
+from state_trials import LIFE, bytes_of
+
+DAY = 86400
+
+
+def clock(trials, seconds):
+    """The surroundings of a program whose clock is so many seconds ahead of the machine's."""
+    library = f"{trials.room}/clock.so"
+    if not os.path.exists(library):
+        source = os.path.join(os.path.dirname(os.path.realpath(__file__)), "clock.c")
+        subprocess.run(["gcc", "-shared", "-fPIC", "-O", "-o", library, source], check=True)
+    return dict(os.environ, LD_PRELOAD=library, AHEAD=str(seconds))
+
+
+def tries_told_by_the_clock(trials):
+    """What was told inactive since its time was over is inactive under every later clock."""
+    path = trials.make(f"{trials.room}/clock")
+    begun, client = trials.served("a new file", path)
+    token = client.own_token()
+    consents(client, "read")
+    client.begin()
+    if not client.is_active(token):
+        trials.wrong("a clock", "a token is inactive at once")
+    begun.end()
+    marks = [it for it in batches_of(bytes_of(path)) if it[0] == MARK]
+    if len(marks) != 1:
+        trials.wrong("marks", f"{len(marks)} within a second")
+
+    begun, client = trials.served("a clock that is ahead", path, env=clock(trials, LIFE + 10))
+    if client.is_active(token):
+        trials.wrong("a clock that is ahead", "an expired token is active")
+    begun.end()
+    for ahead, what in [(0, "back"), (-5000, "far back"), (LIFE + 20, "ahead again")]:
+        begun, client = trials.served(f"a clock set {what}", path, env=clock(trials, ahead))
+        if client.is_active(token):
+            trials.wrong(f"a clock set {what}", "a token is active again that was told inactive")
+        begun.end()
+    file = trials.listed("a file that is ahead", path)[-1]
+    if not 0 < -file["age"] - LIFE < 100:
+        trials.wrong("a file that is ahead", f"{file}")
+    told = trials.served("a start behind its state", path)[0].end()
+    if told.count("\n") != 1 or "ahead" not in told:
+        trials.wrong("a start behind its state", f"{told!r}")
+
+
+def tries_far_ahead(trials):
+    """A clock that is more than a year ahead of the state is refused, unless it is accepted, and nothing is written."""
+    path = trials.make(f"{trials.room}/far")
+    begun, client = trials.served("a new file", path)
+    client.own_token()
+    begun.end()
+    kept = bytes_of(path)
+    trials.path_refused("a clock 400 days ahead", path, "ClockAhead", env=clock(trials, 400 * DAY))
+    if bytes_of(path) != kept or os.path.exists(f"{path}.next"):
+        trials.wrong("a clock 400 days ahead", "refused, and the file was written")
+    for ahead, options in [(360 * DAY, []), (800 * DAY, ["--accept-clock"]), (810 * DAY, [])]:
+        begun, client = trials.served(f"a clock {ahead // DAY} days ahead", path, *options, env=clock(trials, ahead))
+        client.own_token()
+        begun.end()
+    trials.served("a new file, far ahead", trials.make(f"{trials.room}/farther"), env=clock(trials, 400 * DAY))[0].end()
+
+
+def all_trials():
+    if not shutil.which("gcc"):
+        print("clocks were not tried: there is no gcc")
+        return []
+    return [tries_told_by_the_clock, tries_far_ahead]

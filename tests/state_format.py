@@ -1,0 +1,114 @@
+"""The bytes of a state file, read and written by a second hand: the trials of state files spell and take apart files by it.
+
+A file is a header, a frame for each batch, and a closed latch. A frame is a latch, the batch's length in four bytes, the first
+16 bytes of the SHA-256 of what vouches for all before it, of the length and of the batch, and the batch itself."""
+
+import hashlib
+
+HEADER = b"oauthd state v2\n"
+CLOSED, OPEN = b"\0", b"\xff"
+
+# The first byte of a batch tells what it is.
+RULES, CHANGES, IMAGE, MARK = range(4)
+
+
+def body(before, batch):
+    """What stands behind the latch of a batch, and the digest that vouches for it."""
+    length = len(batch).to_bytes(4, "big")
+    digest = hashlib.sha256(before + length + batch).digest()[:16]
+    return length + digest + batch, digest
+
+
+def file_of(batches):
+    """The file of these batches."""
+    parts, before = [HEADER], HEADER
+    for batch in batches:
+        text, before = body(before, batch)
+        parts += [OPEN, text]
+    return b"".join([*parts, CLOSED])
+
+
+def batches_of(content):
+    """The batches of a file, up to the first closed latch."""
+    at, batches = len(HEADER), []
+    while content[at]:
+        length = int.from_bytes(content[at + 1:at + 5], "big")
+        batches.append(content[at + 21:at + 21 + length])
+        at += 21 + length
+    return batches
+
+
+def next_body(content, batch):
+    """What an append of this batch writes behind the closed latch of a file: the batch's length, digest and bytes, and the next
+    closed latch."""
+    before = HEADER
+    for known in batches_of(content):
+        before = body(before, known)[1]
+    return body(before, batch)[0] + CLOSED
+
+
+def first_kind_of(batches):
+    """The file of these batches as the first version of the program wrote it: a latch of 1, a length and the batch for each."""
+    frames = (b"\1" + len(batch).to_bytes(4, "big") + batch for batch in batches if batch[0] != MARK)
+    return b"".join(frames) + CLOSED
+
+
+def mark_of(moment):
+    """A batch that says until when what is told by the clock is kept."""
+    return bytes([MARK]) + moment.to_bytes(8, "big")
+
+
+def rules_of(registry):
+    """The batch of a registry's rules. `registry` is its JSON, as a dictionary."""
+    places = {name: place for place, name in enumerate(registry["scopes"])}
+
+    def text(it):
+        return len(it).to_bytes(4, "big") + it.encode()
+
+    def short(number):
+        return number.to_bytes(4, "big")
+
+    parts = [bytes([RULES]), short(len(registry["scopes"])), *map(text, registry["scopes"]), short(len(registry["owners"])),
+             short(len(registry["clients"]))]
+    for client in registry["clients"]:
+        mask = sum(1 << places[name] for name in client["scope"].split())
+        parts += [text(client["id"]), mask.to_bytes(8, "big")]
+    return b"".join([*parts, short(registry["access_life"]), short(registry["refresh_life"])])
+
+
+def changes_of(dated):
+    """The batch of changes, each a moment and the change's bytes."""
+    parts = [bytes([CHANGES]), len(dated).to_bytes(4, "big")]
+    for moment, change in dated:
+        parts += [moment.to_bytes(8, "big"), change]
+    return b"".join(parts)
+
+
+def token_issued(client, digest, scope, life):
+    """A change: a client's own access token is issued."""
+    return b"\3" + client.to_bytes(4, "big") + token("access", digest, scope, life)
+
+
+def token_of_code(code, kind, digest, scope, life):
+    """A change: a token is issued of a code, or of a refresh token."""
+    return b"\4" + code + token(kind, digest, scope, life)
+
+
+def token(kind, digest, scope, life):
+    return bytes([kind == "refresh"]) + digest + scope.to_bytes(8, "big") + life.to_bytes(4, "big")
+
+
+def code_given(client, owner, scope, redirect, challenge, digest):
+    """A change: a code is given."""
+    texts = b"".join(len(text).to_bytes(4, "big") + text.encode() for text in (redirect, challenge))
+    return b"\2" + client.to_bytes(4, "big") + owner.to_bytes(4, "big") + scope.to_bytes(8, "big") + texts + digest
+
+
+def spent(digest):
+    """A change: a code or a refresh token is used up."""
+    return b"\5" + digest
+
+
+def consented(owner, client, mask):
+    """A change: an owner consents to scopes for a client."""
+    return b"\1" + owner.to_bytes(4, "big") + client.to_bytes(4, "big") + mask.to_bytes(8, "big")
