@@ -43,6 +43,10 @@ mark_in (suc (suc (suc zero)) ∷ bytes) =
     if (length bytes == 8) && nat_lt (from_be_bytes w64 bytes) (2 ^ 63) then Some (from_be_bytes w64 bytes) else None
 mark_in _ = None
 
+-- the mark of a moment, if that is any
+abbrev pub marks : ℕ → List (List ℕ)
+marks until = if until == 0 then [] else mark until ∷ []
+
 -- the greatest moment of the marks, 0 where there is none
 abbrev pub until_of : List (List ℕ) → ℕ
 until_of [] = 0
