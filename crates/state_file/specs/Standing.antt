@@ -52,24 +52,26 @@ abbrev pub until_of : List (List ℕ) → ℕ
 until_of [] = 0
 until_of (batch ∷ batches) = max (unwrap_or (mark_in batch) 0) (until_of batches)
 
--- The batches have these dated changes between them: each batch is rules, which begin with a byte 0, or a mark, which begins
--- with a byte 3, or spells its part.
+-- the batch has these dated changes: rules, which begin with a byte 0, and a mark have none
+abbrev pub IsTold : List ℕ → List DatedFact → Type 0
+IsTold (zero ∷ rules) facts = facts ≡ []
+IsTold (suc (suc (suc zero)) ∷ bytes) facts = IsSome (mark_in (3 ∷ bytes)) × (facts ≡ [])
+IsTold batch facts = HaveSpelling facts × (batch ≡ batch_spelling facts)
+
+-- the batches have these dated changes, one after the other
 abbrev pub AreTold : List (List ℕ) → List DatedFact → Type 0
 AreTold [] facts = facts ≡ []
-AreTold ((zero ∷ rules) ∷ batches) facts = AreTold batches facts
-AreTold ((suc (suc (suc zero)) ∷ bytes) ∷ batches) facts = IsSome (mark_in (3 ∷ bytes)) × AreTold batches facts
-AreTold (batch ∷ batches) facts =
-    (first later : List DatedFact) × HaveSpelling first × (batch ≡ batch_spelling first) × AreTold batches later × (facts ≡ first ++ later)
+AreTold (batch ∷ batches) facts = (first later : List DatedFact) × IsTold batch first × AreTold batches later × (facts ≡ first ++ later)
 
--- the bytes stand for the history: from where their whole batches begin, the dated changes of the others lead to it
-pub record StandsFor (left : List ℕ) (history : List Event) : Type 0 where
+-- the batches stand for the history: from where they begin, the dated changes of the later ones lead to it
+pub record StandFor (batches : List (List ℕ)) (history : List Event) : Type 0 where
   pub base : List Event
   pub later : List (List ℕ)
   pub facts : List DatedFact
-  pub begins : Begin (recovered left) base later
+  pub begins : Begin batches base later
   pub told : AreTold later facts
   pub happened : Happened base facts history
 
--- what the one stands for, the other does
-abbrev pub StandsOn : List ℕ → List ℕ → Type 0
-StandsOn left now = (history : List Event) → StandsFor left history → StandsFor now history
+-- so do the bytes of a file, by their batches
+abbrev pub StandsFor : List ℕ → List Event → Type 0
+StandsFor left history = StandFor (recovered left) history
