@@ -8,8 +8,8 @@ use Rattle.consent.specs.History.{Event}
 use Rattle.image_codec.specs.Facts.{RulesFact}
 use Rattle.image_codec.specs.Spelling.{rules_spelling}
 use Rattle.state_file.specs.Hooks.{hooks_set_in}
-use Rattle.state_file.specs.Standing.{StandsFor, begins_image, until_of}
-use Rattle.state_file.specs.Telling.{TellsRules}
+use Rattle.state_file.specs.Standing.{StandFor, StandsFor, begins_image, until_of}
+use Rattle.state_file.specs.Telling.{Tell}
 use Rattle.state_file.specs.declared.keeper.Known.{Known}
 
 -- what crashes leave of a file of batches on the device
@@ -30,10 +30,10 @@ IsLong end image = (2 ^ 20 < end) × (image < end / 4)
 abbrev pub IsLongFile : {D : Type 0} → (D → List ℕ) → BatchFile D → Type 0
 IsLongFile seen file = IsLong file.end (image_size (recovered (seen file.device)))
 
--- What is known of the bytes: how the rules that are told last are spelled, which hooks are set, how many bytes the image has,
--- and the greatest moment of the marks.
-pub record IsKnown (left : List ℕ) (known : Known) : Type 0 where
-  pub rules_are : (told : RulesFact) → TellsRules left told → known.rules.items ≡ rules_spelling told
-  pub hooks_are : IfSome known.hooks (λ hooks. (history : List Event) → StandsFor left history → hooks ≡ hooks_set_in history)
-  pub image_is : known.image ≡ image_size (recovered left)
-  pub until_is : known.until ≡ until_of (recovered left)
+-- What is known of a file's batches: how the rules that are told last are spelled, which hooks are set, how many bytes the image
+-- has, and the greatest moment of the marks.
+pub record IsKnown (batches : List (List ℕ)) (known : Known) : Type 0 where
+  pub rules_are : (told : RulesFact) → Tell batches told → known.rules.items ≡ rules_spelling told
+  pub hooks_are : IfSome known.hooks (λ hooks. (history : List Event) → StandFor batches history → hooks ≡ hooks_set_in history)
+  pub image_is : known.image ≡ image_size batches
+  pub until_is : known.until ≡ until_of batches

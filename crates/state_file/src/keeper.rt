@@ -45,7 +45,7 @@ pub struct StateKeeper<D: Device> {
 
 impl<D: Device> Model for StateKeeper<D> {
     ghost use Rattle.std.specs.Prelude.{IsNone};
-    ghost use Rattle.batch_file.specs.Frames.{IsOnDisk};
+    ghost use Rattle.batch_file.specs.Frames.{IsOnDisk, recovered};
     ghost use Rattle.batch_file.specs.declared.appending.BatchFile.{BatchFile};
     ghost use Rattle.state_file.specs.Knowing.{IsKnown};
 
@@ -54,7 +54,7 @@ impl<D: Device> Model for StateKeeper<D> {
     ghost view = { λ keeper. keeper.file };
 
     ghost invariant = { λ keeper. IsNone keeper.fault →
-        IsOnDisk D.seen D.may_leave D.faults keeper.file × IsKnown (D.seen keeper.file.device) keeper.known };
+        IsOnDisk D.seen D.may_leave D.faults keeper.file × IsKnown (recovered (D.seen keeper.file.device)) keeper.known };
 }
 
 /// The moment of a mark that is written at a moment.
@@ -66,7 +66,7 @@ fn marked(now: Moment) -> Moment
 
 impl<D: Device> StateKeeper<D> {
     ghost use Rattle.std.specs.Prelude.{◌≡◌, OnOk, OnErr};
-    ghost use Rattle.batch_file.specs.Frames.{IsOnDisk};
+    ghost use Rattle.batch_file.specs.Frames.{IsOnDisk, recovered};
     ghost use Rattle.change_codec.specs.Keeping.{HeldMeanwhile, HoldsMoment, HoldsStill, KeepsEach, KeepsMoments, KeepsNone, TellsMoments};
     ghost use Rattle.state_file.specs.Knowing.{IsKnown, file_crashes};
     ghost use Rattle.state_file.specs.Telling.{KeepRules};
@@ -74,7 +74,7 @@ impl<D: Device> StateKeeper<D> {
     /// One over a file of which all is on the disk, and of which this is known.
     pub(crate) fn new(alloc: Global, file: BatchFile<D>, known: Known) -> StateKeeper<D>
         requires settled { IsOnDisk D.seen D.may_leave D.faults file }
-        requires known { IsKnown (D.seen file.device) known }
+        requires known { IsKnown (recovered (D.seen file.device)) known }
         ensures { result ≡ file }
     {
         StateKeeper {
