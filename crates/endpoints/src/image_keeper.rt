@@ -35,7 +35,7 @@ pub trait ImageKeeper: Keeper {
     ghost use Rattle.std.specs.Prelude.{◌≡◌, ◌≢◌, OnOk, IfErr, IsErrOf};
     ghost use Rattle.change_codec.specs.Keeping.{crashes, KeepsMoments, TellsMoments};
     ghost use Rattle.endpoints.specs.Imaging.{KeepsImage, KeepsNoImage};
-    ghost use Rattle.endpoints.specs.declared.image_keeper.ImageFault.TheVariants.{Memory, TooLong, Unwritten, Failed};
+    ghost use Rattle.endpoints.specs.declared.image_keeper.ImageFault.TheVariants.{Failed};
 
     // It keeps more than it may, beside an image.
     ghost is_long: { Self → Type 0 };
@@ -46,11 +46,9 @@ pub trait ImageKeeper: Keeper {
         ensures kept { OnOk result (KeepsImage H.HookHost (crashes Self.stands_for Self.until Self.may_leave Self.moment Self.left_since) server.now self.old self.new) }
         ensures short { OnOk result (¬ (is_long self.new)) }
         ensures left { OnOk result (¬ (is_long self.old) → self.new ≡ self.old) }
-        // An image is refused only where what is kept is long.
+        // An image is refused only where what is kept is long, and that is as it was.
         ensures refused { IfErr result (λ fault. fault ≢ Failed → is_long self.old) }
-        ensures no_memory { IsErrOf result Memory → self.new ≡ self.old }
-        ensures too_long { IsErrOf result TooLong → self.new ≡ self.old }
-        ensures unwritten { IsErrOf result Unwritten → self.new ≡ self.old }
+        ensures same { IfErr result (λ fault. fault ≢ Failed → self.new ≡ self.old) }
         ensures failed { IsErrOf result Failed → KeepsNoImage H.HookHost (crashes Self.stands_for Self.until Self.may_leave Self.moment Self.left_since) server.now self.old self.new }
         ensures moments { OnOk result (KeepsMoments (crashes Self.stands_for Self.until Self.may_leave Self.moment Self.left_since) self.old self.new) }
         ensures meanwhile { TellsMoments (crashes Self.stands_for Self.until Self.may_leave Self.moment Self.left_since) self.old self.new };
