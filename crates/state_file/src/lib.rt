@@ -31,6 +31,7 @@ pub use fault::StateFault;
 pub use hooks::{SetHook, SetHooks};
 pub use keeper::StateKeeper;
 pub use laws::chains_are_made_again;
+pub use marks::{image_frames, until_of};
 pub use preparing::{Prepared, prepare};
 pub use restored::Restored;
 pub use rules::registry_rules;
