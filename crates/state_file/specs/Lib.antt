@@ -9,7 +9,6 @@ pub mod Starting
 pub mod FaultTexts
 pub mod Knowing
 pub mod Renewing
-pub mod Accounts
 -- What only the contracts of this crate's own parts and their proofs cite.
 pub mod MakingParts
 -- Laws, each proved: a reader may skip them.

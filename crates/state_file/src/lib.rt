@@ -6,11 +6,9 @@
 //! image, tells under which the changes are right.
 #![tactic(auto)]
 
-mod account;
 mod beginning;
 mod comparing;
 mod fault;
-mod file_rules;
 mod hooks;
 mod imaging;
 mod keeper;
@@ -25,7 +23,7 @@ mod rules;
 mod starting;
 mod telling;
 
-pub use account::{Account, AccountFault, account_of};
+pub use beginning::{Beginning, begin};
 pub use comparing::compare;
 pub use fault::StateFault;
 pub use hooks::{SetHook, SetHooks};
@@ -33,7 +31,8 @@ pub use keeper::StateKeeper;
 pub use laws::chains_are_made_again;
 pub use marks::{image_frames, until_of};
 pub use preparing::{Prepared, prepare};
+pub use redoing::redo_all;
 pub use restored::Restored;
 pub use rules::registry_rules;
 pub use starting::{NotStarted, Started, start_on};
-pub use telling::{last_rules, told_rules};
+pub use telling::{Spelled, last_rules, rules_behind, tells_rules, told_rules};

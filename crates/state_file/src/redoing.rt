@@ -48,7 +48,7 @@ fn redo_batch<H: HookHost>(
 
 /// Makes the changes of the batches again.
 #[tactic(auto, using(crate::proofs::Redone::redoes_no_batch))]
-pub(crate) fn redo_all<H: HookHost>(
+pub fn redo_all<H: HookHost>(
     alloc: Global,
     restored: &mut Restored<H>,
     batches: &[Vec<u8>],

@@ -61,7 +61,7 @@ impl<H: HookHost> Restored<H> {
     }
 
     /// Goes on from a moment, or from its own, if that is later.
-    pub(crate) fn reach(&mut self, moment: Moment)
+    pub fn reach(&mut self, moment: Moment)
         ensures reached { FitsOn H.HookHost self.old [] self.new }
         ensures unkept { self.new.server.unkept ≡ self.old.server.unkept }
         ensures hooks { self.new.hooks ≡ self.old.hooks }

@@ -18,15 +18,15 @@ use std::alloc::Global;
 
 /// Rules as they are told.
 #[derive(Drop)]
-pub(crate) struct Spelled {
+pub struct Spelled {
     /// Their spelling.
-    pub(crate) bytes: Vec<u8>,
+    pub bytes: Vec<u8>,
     /// Whether the batches told just these last.
-    pub(crate) told: bool,
+    pub told: bool,
 }
 
 /// Whether a batch tells rules.
-pub(crate) fn tells_rules(batch: &[u8]) -> bool
+pub fn tells_rules(batch: &[u8]) -> bool
     ensures { IsTrue result ↔ rules_in batch.now ≡ Some batch.now }
 {
     match batch {
@@ -132,7 +132,7 @@ fn compare_behind(
 }
 
 /// The spelling of the registry's rules, which are as wide as those that the batches told last.
-pub(crate) fn rules_behind(
+pub fn rules_behind(
     alloc: Global,
     batches: &[Vec<u8>],
     registry: &Registry,

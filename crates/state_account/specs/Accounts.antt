@@ -9,9 +9,9 @@ use Rattle.image_codec.specs.Facts.{ImageFact, RulesFact}
 use Rattle.state_file.specs.Resuming.{AnswersFor, OfEachHistory}
 use Rattle.state_file.specs.Standing.{IsImageOf, until_of}
 use Rattle.state_file.specs.Telling.{IsOfRules, TellsRules, rules_of}
-use Rattle.state_file.specs.declared.account.Account.{Account}
-use Rattle.state_file.specs.declared.account.AccountFault.{AccountFault}
-use Rattle.state_file.specs.declared.account.AccountFault.TheVariants as accounts
+use Rattle.state_account.specs.declared.account.Account.{Account}
+use Rattle.state_account.specs.declared.account.AccountFault.{AccountFault}
+use Rattle.state_account.specs.declared.account.AccountFault.TheVariants as accounts
 use Rattle.state_file.specs.declared.fault.StateFault.{StateFault}
 use Rattle.state_file.specs.declared.fault.StateFault.TheVariants as state
 

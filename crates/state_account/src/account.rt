@@ -4,21 +4,16 @@ ghost use Rattle.std.specs.Prelude.{◌≡◌, IfOk, IfErr, OnOk};
 ghost use Rattle.batch_file.specs.Frames.{lists, recovered, torn_of};
 ghost use Rattle.endpoints.specs.Server.{outset_of};
 ghost use Rattle.image_codec.specs.Facts.{RulesFact, image_fact};
-ghost use Rattle.state_file.specs.Accounts.{IsAccountOf, IsImageOfAccount, IsOfBatches, RefusesAccount, fault_in};
+ghost use Rattle.state_account.specs.Accounts.{IsAccountOf, IsImageOfAccount, IsOfBatches, RefusesAccount, fault_in};
 ghost use Rattle.state_file.specs.Resuming.{AnswersForBatches, RedoesBatches};
-ghost use Rattle.state_file.specs.declared.account.AccountFault.TheVariants.{Memory};
+ghost use Rattle.state_account.specs.declared.account.AccountFault.TheVariants.{Memory};
 
-use crate::beginning::{Beginning, begin};
-use crate::fault::StateFault;
 use crate::file_rules::file_rules;
-use crate::marks::until_of;
-use crate::redoing::redo_all;
-use crate::restored::Restored;
-use crate::telling::tells_rules;
 use batch_file::framing::{Batches, ReadFault, read_batches};
 use clients::Registry;
 use hook_host::HookHost;
 use image_codec::{Image, decode_rules};
+use state_file::{Beginning, Restored, StateFault, begin, redo_all, tells_rules, until_of};
 use std::alloc::{AllocError, Global};
 
 /// Why it is not told what a file stands for.
