@@ -1,6 +1,6 @@
 //! Marks: until which moment what was told by the clock is kept.
 
-ghost use Rattle.std.specs.Prelude.{◌≡◌, ◌∷◌, ◌<◌, ◌^◌, IfOk, length, max};
+ghost use Rattle.std.specs.Prelude.{◌≡◌, ◌++◌, [], ◌∷◌, ◌<◌, ◌^◌, OnOk, IfOk, length, max};
 ghost use Rattle.batch_file.specs.Frames.{lists};
 ghost use Rattle.state_file.specs.Standing.{mark, mark_in, marks, until_of};
 

@@ -3,7 +3,7 @@
 ghost use Rattle.std.specs.Prelude.{◌≡◌, ◌≢◌, ◌<◌, ◌^◌, true, false, length, OnOk, IfOk, IfErr, IsErrOf};
 ghost use Rattle.batch_file.specs.Frames.{recovered};
 ghost use Rattle.endpoints.specs.Imaging.{KeepsImage, KeepsNoImage};
-ghost use Rattle.endpoints.specs.declared.image_keeper.ImageFault.TheVariants.{Memory, TooLong, Unwritten, Failed};
+ghost use Rattle.endpoints.specs.declared.image_keeper.ImageFault.TheVariants.{TooLong, Failed};
 ghost use Rattle.change_codec.specs.Keeping.{KeepsMoments, TellsMoments};
 ghost use Rattle.state_file.specs.Knowing.{IsLong, IsLongFile, file_crashes};
 ghost use Rattle.state_file.specs.Renewing.{HasTooMuch, IsUnspelled, SpellImage};
