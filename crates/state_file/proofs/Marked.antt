@@ -28,19 +28,21 @@ value_of : (o : Option ℕ) (n : ℕ) → o ≡ Some n → unwrap_or o 0 ≡ n
 value_of o n is = ap (λ (p : Option ℕ). unwrap_or p 0) is
 
 -- the batches tell it, or a later moment
-pub until_of-mark : (batches : List (List ℕ)) (until : ℕ) → until < 2 ^ 63 → until_of (batches ++ mark until ∷ []) ≡ max (until_of batches) until
-until_of-mark batches until less =
+pub mark_until : (batches : List (List ℕ)) (batch : List ℕ) (until : ℕ) → batch ≡ mark until → until < 2 ^ 63 → until_of (batches ++ batch ∷ []) ≡ max (until_of batches) until
+mark_until batches batch until is less =
     let all = until_of-append batches (mark until ∷ []) in
     let one = value_of (mark_in (mark until)) until (mark_in-mark until less) in
-    omega (arith, all, one)
+    ap (λ (b : List ℕ). until_of (batches ++ b ∷ [])) is ∙ omega (arith, all, one)
 
 -- they stand for the same
-pub StandFor-mark : (batches : List (List ℕ)) (until : ℕ) (history : List Event) → until < 2 ^ 63 → StandFor batches history → StandFor (batches ++ mark until ∷ []) history
-StandFor-mark batches until history less stands = StandFor-beside batches (mark until ∷ []) history (AreTold-mark until (is_mark until less)) stands
+pub mark_stands : (batches : List (List ℕ)) (batch : List ℕ) (until : ℕ) (history : List Event) → batch ≡ mark until → until < 2 ^ 63 → StandFor batches history → StandFor (batches ++ batch ∷ []) history
+mark_stands batches batch until history is less stands =
+    subst (λ (b : List ℕ). StandFor (batches ++ b ∷ []) history) (sym is) (StandFor-beside batches (mark until ∷ []) history (AreTold-mark until (is_mark until less)) stands)
 
 -- and tell the same rules
-pub Tell-mark : (batches : List (List ℕ)) (until : ℕ) (rules : RulesFact) → Tell batches rules → Tell (batches ++ mark until ∷ []) rules
-Tell-mark batches until rules tell = (tell.0, last_rules-push batches (mark until) ∙ tell.1, tell.2)
+pub mark_tells : (batches : List (List ℕ)) (batch : List ℕ) (until : ℕ) → batch ≡ mark until → (rules : RulesFact) → Tell batches rules → Tell (batches ++ batch ∷ []) rules
+mark_tells batches batch until is rules tell =
+    (tell.0, ap (λ (b : List ℕ). last_rules (batches ++ b ∷ [])) is ∙ last_rules-push batches (mark until) ∙ tell.1, tell.2)
 
 -- AN IMAGE, AND THE MARK OF A MOMENT
 
