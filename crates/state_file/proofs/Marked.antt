@@ -1,7 +1,7 @@
 -- What marks tell, and a file's batches once one is behind them.
-use Rattle.std.proofs.Common.{◌≡◌, inr, ◌+◌, ◌<◌, ◌≤◌, ◌^◌, ℕ, List, [], ◌∷◌, ◌++◌, Option, None, Some, Bool, true, false, refl, sym, ap, ◌∙◌, subst, arith}
+use Rattle.std.proofs.Common.{◌≡◌, inr, ◌+◌, ◌<◌, ◌≤◌, ◌^◌, ℕ, zero, suc, List, [], ◌∷◌, ◌++◌, Option, None, Some, Bool, true, false, refl, sym, ap, ◌∙◌, subst, arith}
 use Rattle.std.specs.Prelude.{IsSome, max, unwrap_or, nat_lt, length, ◌==◌, ◌&&◌, if◌then◌else◌}
-use Rattle.std.proofs.lemmas.Bool.{eqb-true, lt-ltb}
+use Rattle.std.proofs.lemmas.Bool.{eqb-true, lt-ltb, ltb-true}
 use Rattle.std.proofs.lemmas.Nat.{from_be_bytes-to_be_bytes_8}
 use Rattle.std.specs.Int.{w64, from_be_bytes, to_be_bytes}
 use Rattle.consent.specs.History.{Event}
@@ -21,6 +21,27 @@ mark_in-mark until less = by_value (to_be_bytes w64 until) until refl (from_be_b
 
 is_mark : (until : ℕ) → until < 2 ^ 63 → IsSome (mark_in (mark until))
 is_mark until less = subst (λ (o : Option ℕ). IsSome o) (sym (mark_in-mark until less)) refl
+
+-- every moment of a mark is so
+in_range : (bytes : List ℕ) → unwrap_or (mark_in (3 ∷ bytes)) 0 < 2 ^ 63
+in_range bytes = by (length bytes == 8) (nat_lt (from_be_bytes w64 bytes) (2 ^ 63)) refl
+  where
+    by : (long less : Bool) → nat_lt (from_be_bytes w64 bytes) (2 ^ 63) ≡ less → unwrap_or (if (long && less) then Some (from_be_bytes w64 bytes) else None) 0 < 2 ^ 63
+    by true true is = ltb-true (from_be_bytes w64 bytes) (2 ^ 63) is
+    by true false is = omega arith
+    by false less is = omega arith
+
+mark_in-less : (batch : List ℕ) → unwrap_or (mark_in batch) 0 < 2 ^ 63
+mark_in-less [] = omega arith
+mark_in-less (zero ∷ bytes) = omega arith
+mark_in-less (suc zero ∷ bytes) = omega arith
+mark_in-less (suc (suc zero) ∷ bytes) = omega arith
+mark_in-less (suc (suc (suc zero)) ∷ bytes) = in_range bytes
+mark_in-less (suc (suc (suc (suc n))) ∷ bytes) = omega arith
+
+pub until_of-less : (batches : List (List ℕ)) → until_of batches < 2 ^ 63
+until_of-less [] = omega arith
+until_of-less (batch ∷ batches) = let here = mark_in-less batch in let rest = until_of-less batches in omega (arith, here, rest)
 
 -- A MARK MORE
 

@@ -135,8 +135,8 @@ impl<D: Device> StateKeeper<D> {
                 self.known.until = until;
                 Ok(())
             }
-            Err(fault) => {
-                self.fault = Some(fault);
+            Err(refused) => {
+                self.fault = Some(refused);
                 Err(KeepFault::Failed)
             }
         }
