@@ -35,7 +35,7 @@ pub record AreOfImage {H : Type 0} (hosting : Hosting H) (server : SeenServer H)
   pub are : batches ≡ bytes ∷ marks known.until
   pub less : known.until < 2 ^ 63
 
-pub of_image : {H : Type 0} (hosting : Hosting H) (server : SeenServer H) (hooks : List HookFact) (known : Known) (old : List (List ℕ)) (rules bytes slice : List ℕ) (new : List (List ℕ)) →
+abbrev pub of_image : {H : Type 0} (hosting : Hosting H) (server : SeenServer H) (hooks : List HookFact) (known : Known) (old : List (List ℕ)) (rules bytes slice : List ℕ) (new : List (List ℕ)) →
     rules ≡ known.rules.items → SpellImage hosting server hooks rules bytes → slice ≡ bytes → new ≡ slice ∷ marks known.until → IsKnown old known → AreOfImage hosting server hooks known new
 of_image hosting server hooks known old rules bytes slice new told spell same are is_known = record {
   bytes = bytes;

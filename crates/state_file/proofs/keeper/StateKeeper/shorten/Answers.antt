@@ -1,4 +1,4 @@
-use Rattle.std.proofs.Common.{rules, ◌≡◌, ◌≤◌, ◌∙◌, ℕ, List, ◌∷◌, Option, Some, Err, refl, sym, ap, subst, arith}
+use Rattle.std.proofs.Common.{rules, ◌≡◌, ◌≤◌, ◌∙◌, ℕ, List, ◌∷◌, length, Option, Some, Err, refl, sym, ap, subst, arith}
 use Rattle.std.specs.Prelude.{IfSome, IsNone}
 use Rattle.batch_file.specs.Crashes.{IsUnplaced}
 use Rattle.batch_file.specs.Frames.{IsOnDisk, recovered}
@@ -41,11 +41,12 @@ invariant_of-self g c = λ none.
     let new = c.in_ok-frames.frames in
     let of = of_image g.H.HookHost c.args.server.now hooks known was c.as_slice.result.now c.in_ok-image.image.items c.as_slice-2.result.now new
         c.as_slice.ensures.value c.in_ok-image.ensures.is c.as_slice-2.ensures.value c.in_ok-frames.ensures is_known in
+    let size : c.len-self-inside.result ≡ length c.in_ok-image.image.items = (let n = c.len-self-inside.ensures in omega (arith, n)) in
     let now : Known = record { rules = known.rules; hooks = known.hooks; image = c.len-self-inside.result; until = known.until } in
     (
       c.in-Ok.ensures.settled,
       subst (λ (bs : List (List ℕ)). IsKnown bs now) (sym c.in-Ok.ensures.replaced)
-          (image_known g.H.HookHost c.args.server.now hooks known was new of c.in-Some.is now refl refl refl c.len-self-inside.ensures),
+          (image_known g.H.HookHost c.args.server.now hooks known was new of c.in-Some.is now refl refl refl size),
     )
 
 pub returns-in-Ok-clause-kept : goal.returns-in-Ok-clause-kept
