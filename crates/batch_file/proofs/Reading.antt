@@ -109,7 +109,7 @@ pub hides : (last part torn : List ℕ) → IsSealed last part (drop (20 + lengt
 hides last part torn s within = (
   λ more. record { batch = part; rest = drop (20 + length part) torn; is = s; more = omega (arith, length-drop (20 + length part) torn) },
   λ h.
-      let two = two_sealed last h.batch part (drop (20 + length part) torn) h.rest torn s h.is in
+      let two = two_sealed last part h.batch (drop (20 + length part) torn) h.rest torn s h.is in
       let more = h.more in
       omega (arith, length-drop (20 + length part) torn, ap length two.0, ap length two.1),
 )

@@ -123,8 +123,8 @@ sealed_parts before batch rest bytes s =
       sym (ap (λ (l : List ℕ). drop (size_at l) (drop 20 l)) s.1 ∙ two.1),
     )
 
-pub two_sealed : (before other batch rest more bytes : List ℕ) → IsSealed before batch rest bytes → IsSealed before other more bytes → (batch ≡ other) × (rest ≡ more)
-two_sealed before other batch rest more bytes s t =
+pub two_sealed : (before batch other rest more bytes : List ℕ) → IsSealed before batch rest bytes → IsSealed before other more bytes → (batch ≡ other) × (rest ≡ more)
+two_sealed before batch other rest more bytes s t =
     let a = sealed_parts before batch rest bytes s in
     let b = sealed_parts before other more bytes t in
     (a.0 ∙ sym b.0, a.1 ∙ sym b.1)
@@ -135,7 +135,7 @@ behind_latch before batch rest bytes f = (f.short, ap (λ (l : List ℕ). drop 1
 
 two_frames : (before batch other rest more bytes : List ℕ) → IsFrame before batch rest bytes → IsFrame before other more bytes → (batch ≡ other) × (rest ≡ more)
 two_frames before batch other rest more bytes f g =
-    two_sealed before other batch rest more (drop 1 bytes) (behind_latch before batch rest bytes f) (behind_latch before other more bytes g)
+    two_sealed before batch other rest more (drop 1 bytes) (behind_latch before batch rest bytes f) (behind_latch before other more bytes g)
 
 -- behind right frames there is one more, or an end, or they are none of a file
 no_way : (xs ys : List (List ℕ)) (before last other frames found rest torn : List ℕ)
