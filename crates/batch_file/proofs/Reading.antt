@@ -91,8 +91,8 @@ framed before batch bytes rest some counts is s =
       counts = omega arith;
       short = s.0;
       is =
-        drop_more bytes 0 0 (omega arith)
-        ∙ ap (λ (l : List ℕ). latch ∷ l) (sym is ∙ s.1 ∙ ap (λ (l : List ℕ). sealed before batch ++ l) (ap (λ (l : List ℕ). drop (20 + length batch) l) is ∙ drop-drop (20 + length batch) 1 bytes ∙ ap (λ (n : ℕ). drop n bytes) (omega arith)));
+          drop_more bytes 0 0 (omega arith)
+          ∙ ap (λ (l : List ℕ). latch ∷ l) (sym is ∙ s.1 ∙ ap (λ (l : List ℕ). sealed before batch ++ l) (ap (λ (l : List ℕ). drop (20 + length batch) l) is ∙ drop-drop (20 + length batch) 1 bytes ∙ ap (λ (n : ℕ). drop n bytes) (omega arith)));
     }
 
 pub no_latch : (before batch more bytes : List ℕ) → get_or bytes 0 0 ≡ 0 → IsFrame before batch more bytes → ⊥

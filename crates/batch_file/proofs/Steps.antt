@@ -118,17 +118,6 @@ module _ (end : ℕ) (last file batch head : List ℕ) (r : IsAtRest end last fi
 pub whole_file : (last next : List ℕ) (batches : List (List ℕ)) → IsWhole last next → recovered next ≡ batches → IsFileOf batches next
 whole_file last next batches w is = subst (λ (bs : List (List ℕ)). IsFileOf bs next) is (at_rest_file w.0 last next w.1)
 
-pub swaps : (end : ℕ) (last other file next c : List ℕ) (batches : List (List ℕ)) → IsAtRest end last file → IsWhole other next → recovered next ≡ batches → Swapped next file c → Either (recovered file) batches c
-swaps end last other file next c batches r w is swapped =
-    ⊎_elim (λ old. inl (subst (λ (f : List ℕ). IsFileOf (recovered file) f) (sym old) (at_rest_file end last file r)))
-    (λ new. inr (subst (λ (f : List ℕ). IsFileOf batches f) (sym new) (whole_file other next batches w is)))
-    swapped
-
--- what the file is then
-pub replaced_rests : (end : ℕ) (last next seen : List ℕ) → IsWhole last next → seen ≡ next → end ≡ length next - 1 → IsAtRest end last seen
-replaced_rests end last next seen w is end_is =
-    subst (λ (l : List ℕ). IsAtRest end last l) (sym is) (subst (λ (k : ℕ). IsAtRest k last next) (omega (arith, w.1.size, end_is)) w.1)
-
 module _ {D : Type 0} (moment : D → ℕ) (left_since : D → ℕ → List ℕ → Type 0) (may_leave : D → List ℕ → Type 0) (last file next : List ℕ) (batches : List (List ℕ)) (w : IsWhole last file) (stands : recovered file ≡ batches) (is : next ≡ file) where
   -- another file is being put in the place of what a device has
   pub placing : (old new : D) → ((c : List ℕ) → left_since old (moment old) c → may_leave old c) → ComesOfStep (Swapped next) (may_leave old) (may_leave new)

@@ -73,8 +73,8 @@ module _ {D : Type 0} (moment : D → ℕ) (left_since : D → ℕ → List ℕ 
       → Elapses (moment mid) (moment new) (left_since mid) (left_since new) (may_leave new) → Writes old new k
   more old mid new n m k here w is here_is within crash time =
       let leaves : (c : List ℕ) → may_leave new c → Torn at k file c = λ c left.
-          let from = crash c left in
-          torn_then at n m k file from.0 c is (w.now from.0 from.1) (subst (λ (i : ℕ). Torn i m from.0 c) here_is from.2) in
+      let from = crash c left in
+      torn_then at n m k file from.0 c is (w.now from.0 from.1) (subst (λ (i : ℕ). Torn i m from.0 c) here_is from.2) in
       record {
         so_far = goes_on moment left_since old mid new (Torn at whole file) (may_leave new) w.so_far time (λ c left. torn_more at k whole file c within (leaves c left));
         now = leaves;

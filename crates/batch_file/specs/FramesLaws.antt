@@ -265,7 +265,7 @@ hides_or_not last torn =
                 elim (same_list torn (sealed last batch ++ rest)) [
                   | inl is ↦ inl (record { batch = batch; rest = rest; is = (short, is); more = more })
                   | inr differ ↦ inr (λ h.
-                    differ (h.is.1 ∙ ap (λ (l : List ℕ). sealed last l ++ h.rest) (told h).0 ∙ ap (λ (l : List ℕ). sealed last batch ++ l) (told h).1))
+                      differ (h.is.1 ∙ ap (λ (l : List ℕ). sealed last l ++ h.rest) (told h).0 ∙ ap (λ (l : List ℕ). sealed last batch ++ l) (told h).1))
                 ]
           ]
     ]
