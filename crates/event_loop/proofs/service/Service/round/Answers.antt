@@ -5,7 +5,7 @@ use Rattle.event_loop.specs.Closing.{AreWithin}
 use Rattle.event_loop.specs.Deeds as deed
 use Rattle.event_loop.specs.Deeds.{Accepting, IsDone}
 use Rattle.event_loop.specs.Served.{goes, waits}
-use Rattle.event_loop.specs.Ends.{no_wait, no_time}
+use Rattle.event_loop.specs.Ends.{no_wait, no_time, no_moment}
 use Rattle.event_loop.specs.Goes.{Past, running, scene_of}
 use Rattle.event_loop.specs.Scenes.{promises}
 use Rattle.endpoints.specs.Keeping.{keeping}
@@ -48,6 +48,24 @@ returns-in_default-read-clause-wrong g c = λ first past begun was_ready.
       fails = no_time c.wait_limit-limit.result (length c.wait.new.found) heard c.wait.new.self c.read.new.self may c.in-Some.ensures.done c.in_default-read.ensures;
     }
 
+pub returns-in_default-keep_moment-clause-wrong : goal.returns-in_default-keep_moment-clause-wrong
+returns-in_default-keep_moment-clause-wrong g c = λ first past begun was_ready.
+    let put = c.in_default.ensures.put first [] past begun in
+    let h = put.0 in
+    let ready = ready_still c.args.self.now past c.put_image.new.self c.in_default.ensures.same was_ready in
+    let heard = take c.in-Some.count c.wait.new.found in
+    let before : length c.args.self.now.places ≡ 64 = search rules in
+    let size : length c.put_image.new.self.places ≡ 64 = ap (λ (s : Service). length s.places) c.in_default.ensures.same ∙ before in
+    let room : 65 ≤ length c.wait.new.found = search (rules, arith, c.requires.room) in
+    let may = may_wait (promises g.N.Sockets g.C.Clocks g.J.Journal (keeping g.K.Keeper g.K.ImageKeeper) g.H.HookHost) c.put_image.new.self c.put_image.new.tools past c.wait_limit-limit.result (length c.wait.new.found) size ready c.wait_limit-limit.ensures room put.1 in
+    record {
+      last = scene_of (running c.put_image.new.self c.put_image.new.tools) [] past;
+      served = h;
+      found = heard;
+      next = record past { deeds = deed.Waited c.wait_limit-limit.result (length c.wait.new.found) heard ∷ past.deeds };
+      fails = no_moment c.wait_limit-limit.result (length c.wait.new.found) heard c.wait.new.self c.in-Some-read.times c.read.new.self c.keep_moment.new.self may c.in-Some.ensures.done c.in-Some-read.ensures c.in_default-keep_moment.ensures.lost c.keep_moment.ensures.meanwhile;
+    }
+
 pub returns-in-Err-keep_all-clause-wrong : goal.returns-in-Err-keep_all-clause-wrong
 returns-in-Err-keep_all-clause-wrong g c = λ first past begun was_ready.
     let put = c.in_default.ensures.put first [] past begun in
@@ -58,7 +76,7 @@ returns-in-Err-keep_all-clause-wrong g c = λ first past begun was_ready.
     let size : length c.put_image.new.self.places ≡ 64 = ap (λ (s : Service). length s.places) c.in_default.ensures.same ∙ before in
     let room : 65 ≤ length c.wait.new.found = search (rules, arith, c.requires.room) in
     let may = may_wait (promises g.N.Sockets g.C.Clocks g.J.Journal (keeping g.K.Keeper g.K.ImageKeeper) g.H.HookHost) c.put_image.new.self c.put_image.new.tools past c.wait_limit-limit.result (length c.wait.new.found) size ready c.wait_limit-limit.ensures room put.1 in
-    let waited = goes h (waits c.wait_limit-limit.result (length c.wait.new.found) heard c.wait.new.self c.in-Some-read.times c.read.new.self may c.in-Some.ensures.done c.in-Some-read.ensures) in
+    let waited = goes h (waits c.wait_limit-limit.result (length c.wait.new.found) heard c.wait.new.self c.in-Some-read.times c.read.new.self c.keep_moment.new.self may c.in-Some.ensures.done c.in-Some-read.ensures (record { holds = c.in-Ok.ensures.kept; moments = c.in-Ok.ensures.moments; told = c.in-Ok.ensures.told })) in
     let since : Past g.row.H.Denot = record past { deeds = deed.Waited c.wait_limit-limit.result (length c.wait.new.found) heard ∷ past.deeds } in
     let told = c.hear_all.ensures.hears first since waited (λ k less. (ready.settled k less).rested) in
     let read = c.read_all.ensures.reads first [] since (λ task is. is) told.1 told.0 in
@@ -81,7 +99,7 @@ returns-clause-goes g c = λ first past begun was_ready.
     let size : length c.put_image.new.self.places ≡ 64 = ap (λ (s : Service). length s.places) c.in_default.ensures.same ∙ before in
     let room : 65 ≤ length c.wait.new.found = search (rules, arith, c.requires.room) in
     let may = may_wait (promises g.N.Sockets g.C.Clocks g.J.Journal (keeping g.K.Keeper g.K.ImageKeeper) g.H.HookHost) c.put_image.new.self c.put_image.new.tools past c.wait_limit-limit.result (length c.wait.new.found) size ready c.wait_limit-limit.ensures room put.1 in
-    let waited = goes h (waits c.wait_limit-limit.result (length c.wait.new.found) heard c.wait.new.self c.in-Some-read.times c.read.new.self may c.in-Some.ensures.done c.in-Some-read.ensures) in
+    let waited = goes h (waits c.wait_limit-limit.result (length c.wait.new.found) heard c.wait.new.self c.in-Some-read.times c.read.new.self c.keep_moment.new.self may c.in-Some.ensures.done c.in-Some-read.ensures (record { holds = c.in-Ok.ensures.kept; moments = c.in-Ok.ensures.moments; told = c.in-Ok.ensures.told })) in
     let since : Past g.row.H.Denot = record past { deeds = deed.Waited c.wait_limit-limit.result (length c.wait.new.found) heard ∷ past.deeds } in
     let told = c.hear_all.ensures.hears first since waited (λ k less. (ready.settled k less).rested) in
     let read = c.read_all.ensures.reads first [] since (λ task is. is) told.1 told.0 in
