@@ -12,7 +12,7 @@ returns-in_err-left-clause-refused g c =
     let cause = c.in_err-left.field-0.0 in
     let now = rules_of c.args.registry.now in
     let narrower : IsNarrower c.args.bytes.now now = search rules in
-    let is : c.from_residual-in_err-left.result ≡ Err cause = search rules in
+    let is : c.from_residual-in_err-left.result ≡ Err cause = search (rules, c.from_residual-in_err-left.ensures) in
     let refused : IsUnnarrowed c.args.bytes.now now cause = unnarrowed c.args.bytes.now now cause narrower c.in_err-left.ensures.refused in
     rw is refused
 
