@@ -1,6 +1,6 @@
 use Rattle.batch_file.specs.Frames.{lists}
 use Rattle.endpoints.specs.Server.{outset_of}
-use Rattle.state_account.proofs.Accounted.{answers_for}
+use Rattle.state_file.proofs.Begun.{answers_for}
 use Rattle.state_account.proofs.account.restored_of.Goals as goal
 
 pub returns-clause-answers : goal.returns-clause-answers
