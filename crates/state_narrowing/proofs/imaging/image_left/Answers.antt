@@ -1,7 +1,5 @@
-use Rattle.std.proofs.Common.{rules, inr, ◌≡◌, ◌⊎◌, ◌∙◌, List, Err, refl, sym, ap, subst}
-use Rattle.std.specs.Prelude.{ℕ, ◌++◌}
+use Rattle.std.proofs.Common.{rules, inr, ◌≡◌, ◌⊎◌, List, Err, refl, sym, ap, subst}
 use Rattle.image_codec.specs.Facts.{ImageFact, image_fact}
-use Rattle.image_codec.specs.Spelling.{image_spelling}
 use Rattle.token_store.specs.Fits.{FitsHistory}
 use Rattle.token_store.specs.Image.{as_kept}
 use Rattle.token_store.specs.declared.image.KeptRecord.{KeptRecord}

@@ -1,5 +1,5 @@
 use Rattle.std.proofs.Common.{rules, ◌≡◌, ◌<◌, ◌^◌, ◌∙◌, ℕ, List, ◌∷◌, Err, refl, sym, ap, subst}
-use Rattle.batch_file.specs.Frames.{lists, recovered}
+use Rattle.batch_file.specs.Frames.{lists}
 use Rattle.state_file.specs.Standing.{marks}
 use Rattle.state_file.specs.Telling.{rules_of}
 use Rattle.state_file.proofs.Marked.{until_of-less}
