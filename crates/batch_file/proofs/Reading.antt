@@ -3,7 +3,7 @@ use Rattle.std.proofs.Common.{◌≡◌, ◌≢◌, ◌↔◌, ℕ, zero, suc, �
 use Rattle.std.specs.Int.{w32, from_be_bytes, to_be_bytes}
 use Rattle.std.proofs.lemmas.List.{take_at, drop_at, drop_more, drop-drop}
 use Rattle.std.proofs.lemmas.Nat.{from_be_bytes-to_be_bytes_4, be_bytes_4}
-use Rattle.batch_file.specs.Frames.{body, digest, seal, sealed, HidesFrame, IsFrame, IsSealed}
+use Rattle.batch_file.specs.Frames.{digest, seal, sealed, HidesFrame, IsFrame, IsSealed}
 use Rattle.batch_file.specs.FramesLaws.{length-seal, length-sealed, behind_latch, two_sealed}
 
 -- the first four bytes, as a number

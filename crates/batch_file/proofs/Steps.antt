@@ -1,9 +1,9 @@
 -- The steps of the calls of a file of batches, from one content of the file to the next.
-use Rattle.std.proofs.Common.{◌≡◌, ◌⊎◌, inl, inr, ⊎_elim, ℕ, ◌+◌, ◌-◌, ◌^◌, ◌<◌, ◌≤◌, List, [], ◌∷◌, ◌++◌, length, get_or, drop, refl, sym, ◌∙◌, ap, subst, arith, append_assoc, length-append}
+use Rattle.std.proofs.Common.{◌≡◌, ◌⊎◌, inl, inr, ⊎_elim, ℕ, ◌+◌, ◌<◌, ◌≤◌, List, [], ◌∷◌, ◌++◌, length, get_or, drop, refl, sym, ◌∙◌, ap, subst, arith, append_assoc, length-append}
 use Rattle.std.specs.Int.{w32, to_be_bytes}
 use Rattle.std.proofs.lemmas.Bool.{cases_eq}
-use Rattle.batch_file.specs.Crashes.{ComesOfStep, Elapses, IsWrittenAt, LeavesOnly, Only, Swapped, Torn}
-use Rattle.batch_file.specs.Frames.{header, body, digest, sealed, limit, recovered, AreFrames, HidesFrame, IsTorn, IsFileOf, IsReadable, IsAtRest, IsWhole, IsAsBefore, IsBeforeOrAfter, IsOldOrNew, IsReadableOrChance}
+use Rattle.batch_file.specs.Crashes.{ComesOfStep, Elapses, IsWrittenAt, LeavesOnly, Swapped, Torn}
+use Rattle.batch_file.specs.Frames.{header, body, digest, sealed, limit, recovered, IsTorn, IsFileOf, IsReadable, IsAtRest, IsWhole, IsAsBefore, IsBeforeOrAfter, IsOldOrNew, IsReadableOrChance}
 use Rattle.batch_file.specs.FramesLaws.{length-seal, length-sealed, file_is, framed_is, readable_is, hides_or_not, two_sealed}
 use Rattle.batch_file.proofs.Moments.{started, goes_on}
 use Rattle.batch_file.proofs.Tearing.{torn_behind, length-torn, written_behind, torn_latch, written_latch}
@@ -53,16 +53,15 @@ module _ (end : ℕ) (last file batch head : List ℕ) (r : IsAtRest end last fi
   pub staged_stands : (c : List ℕ) → Torn (end + 1) (length head + length batch + 1) file c → IsBeforeOrAfter (recovered file) batch c
   staged_stands c torn = inl (framed_is (recovered file) last r.frames (drop (end + 1) c) c r.are (spelled (drop (end + 1) c) c (behind c torn)))
 
-  pub staged_readable : (c : List ℕ) → Torn (end + 1) (length head + length batch + 1) file c → IsReadableOrChance last batch c
+  pub staged_readable : (c : List ℕ) → Torn (end + 1) (length head + length batch + 1) file c → IsReadableOrChance file last batch c
   staged_readable c torn =
       let rest = drop (end + 1) c in
       let brief = short c torn in
       elim (hides_or_not last rest) [
         | inl h ↦ inr (record {
-          front = front_of r;
-          other = h.batch;
-          rest = h.rest;
-          is = behind c torn ∙ ap (λ (l : List ℕ). front_of r ++ 0 ∷ l) h.is.1;
+          torn = rest;
+          is = behind c torn ∙ sym (append_assoc (front_of r) (0 ∷ []) rest) ∙ ap (λ (l : List ℕ). l ++ rest) (sym (front_is end last file r));
+          hides = h;
           shorter = omega (arith, brief, ap length h.is.1, length-append (sealed last h.batch) h.rest, length-sealed last h.batch, h.more);
         })
         | inr plain ↦ inl (readable_is (recovered file) c (last, record { frames = r.frames; torn = rest; is = spelled rest c (behind c torn); are = r.are; ends = record { brief = omega (arith, brief); plain = plain } }))
@@ -104,7 +103,7 @@ module _ (end : ℕ) (last file batch head : List ℕ) (r : IsAtRest end last fi
   pub opens_stands : (staged c : List ℕ) → IsWrittenAt file (end + 1) (head ++ batch ++ 0 ∷ []) staged → Torn end 1 staged c → IsBeforeOrAfter (recovered file) batch c
   opens_stands staged c holds torn = stands_for (recovered file) (recovered file ++ batch ∷ []) c (opens staged c holds torn)
 
-  pub opens_readable : (staged c : List ℕ) → IsWrittenAt file (end + 1) (head ++ batch ++ 0 ∷ []) staged → Torn end 1 staged c → IsReadableOrChance last batch c
+  pub opens_readable : (staged c : List ℕ) → IsWrittenAt file (end + 1) (head ++ batch ++ 0 ∷ []) staged → Torn end 1 staged c → IsReadableOrChance file last batch c
   opens_readable staged c holds torn = inl (is_readable (recovered file) (recovered file ++ batch ∷ []) c (opens staged c holds torn))
 
   -- and is open

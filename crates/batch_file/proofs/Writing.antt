@@ -1,5 +1,5 @@
 -- One write behind the other.
-use Rattle.std.proofs.Common.{◌≡◌, ℕ, ◌+◌, ◌-◌, ◌≤◌, List, [], ◌∷◌, ◌++◌, length, take, drop, refl, sym, ◌∙◌, ap, subst, arith, append_assoc, length-append, length-take, length-drop}
+use Rattle.std.proofs.Common.{◌≡◌, ℕ, ◌+◌, ◌-◌, ◌≤◌, List, ◌++◌, length, take, drop, refl, sym, ◌∙◌, ap, subst, arith, append_assoc, length-append, length-take}
 use Rattle.std.proofs.lemmas.List.{take_at, drop_at, drop-drop, take-take}
 use Rattle.batch_file.specs.Crashes.{IsWrittenAt, Torn, Only, ComesOfStep, Elapses, LeavesOnly}
 use Rattle.batch_file.proofs.Moments.{started, goes_on}

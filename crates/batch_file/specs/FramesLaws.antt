@@ -7,7 +7,7 @@ use Rattle.sha2.specs.Sha256.{sha256}
 use Rattle.sha2.proofs.Facts256.{length-sha256}
 use Rattle.batch_file.specs.declared.framing.ReadFault.{ReadFault}
 use Rattle.batch_file.specs.declared.framing.ReadFault.TheVariants.{Memory, NotState, Version, Damaged}
-use Rattle.batch_file.specs.Frames.{header, header_of, body, seal, digest, sealed, size_at, batches_in, recovered, frames_size, IsSealed, IsFrame, AreFrames, HidesFrame, IsTorn, Spells, IsFileOf, IsReadable, IsVersion, IsNoEnd, IsDamaged, RefusesFile, IsChance}
+use Rattle.batch_file.specs.Frames.{header, body, seal, digest, sealed, size_at, batches_in, recovered, frames_size, IsSealed, IsFrame, AreFrames, HidesFrame, IsTorn, Spells, IsFileOf, IsReadable, IsVersion, IsNoEnd, IsDamaged, RefusesFile, IsChance}
 
 pub length-seal : (bytes : List ℕ) → length (seal bytes) ≡ 16
 unfolding seal
@@ -270,28 +270,26 @@ hides_or_not last torn =
           ]
     ]
 
--- the digest that stands in a file behind a closed latch
-stands : (last other rest : List ℕ) (front file : List ℕ) → file ≡ front ++ 0 ∷ (sealed last other ++ rest) → take 16 (drop (length front + 5) file) ≡ digest last other
-stands last other rest front file is =
-    ap (λ (l : List ℕ). take 16 l) (sym (drop-drop 5 (length front) file) ∙ ap (λ (l : List ℕ). drop 5 l) (ap (λ (l : List ℕ). drop (length front) l) is ∙ drop_at front (0 ∷ (sealed last other ++ rest)) (length front) refl))
-    ∙ ap (λ (l : List ℕ). take 16 l) (append_assoc (digest last other) other rest)
-    ∙ take_at (digest last other) (other ++ rest) 16 (length-seal _)
-
--- Where it is a coincidence, the digest that stands there is that of bytes that nobody wrote, and is not the one that was
--- written, or two inputs of SHA-256 with one digest prefix are known.
-pub chance_is_coincidence : (last batch file : List ℕ) (chance : IsChance last batch file)
-    → (take 16 (drop (length chance.front + 5) file) ≡ digest last chance.other) × ((digest last chance.other ≢ digest last batch) ⊎ Collision)
-chance_is_coincidence last batch file chance = (
-  stands last chance.other chance.rest chance.front file chance.is,
-  elim (same_list (digest last chance.other) (digest last batch)) [
-    | inr differ ↦ inl differ
-    | inl same ↦ inr (record {
-      one = last ++ body chance.other;
-      other = last ++ body batch;
-      differ = λ is.
-          let shorter = chance.shorter in
-          absurd (omega (arith, ap length is, length-append last (body chance.other), length-append last (body batch)));
-      meet = same;
-    })
-  ],
-)
+-- Where it is a coincidence, the digest that stands behind the old file and a length is that of bytes that nobody wrote, and
+-- is not the one that was written, or two inputs of SHA-256 with one digest prefix are known.
+pub chance_is_coincidence : (old last batch file : List ℕ) (chance : IsChance old last batch file)
+    → (take 16 (drop (length old + 4) file) ≡ digest last chance.hides.batch) × ((digest last chance.hides.batch ≢ digest last batch) ⊎ Collision)
+chance_is_coincidence old last batch file chance =
+    let other = chance.hides.batch in
+    let rest = chance.hides.rest in
+    let behind : drop (length old + 4) file ≡ drop 4 chance.torn =
+    sym (drop-drop 4 (length old) file) ∙ ap (λ (l : List ℕ). drop 4 l) (ap (λ (l : List ℕ). drop (length old) l) chance.is ∙ drop_at old chance.torn (length old) refl) in
+    let digests : drop 4 chance.torn ≡ digest last other ++ (other ++ rest) = ap (λ (l : List ℕ). drop 4 l) chance.hides.is.1 ∙ append_assoc (digest last other) other rest in (
+      ap (λ (l : List ℕ). take 16 l) (behind ∙ digests) ∙ take_at (digest last other) (other ++ rest) 16 (length-seal _),
+      elim (same_list (digest last other) (digest last batch)) [
+        | inr differ ↦ inl differ
+        | inl same ↦ inr (record {
+          one = last ++ body other;
+          other = last ++ body batch;
+          differ = λ is.
+              let shorter = chance.shorter in
+              absurd (omega (arith, ap length is, length-append last (body other), length-append last (body batch)));
+          meet = same;
+        })
+      ],
+    )

@@ -2,9 +2,7 @@
 use Rattle.std.proofs.Common.{◌≡◌, ◌⊎◌, ◌<◌, ◌^◌, inl, inr, ℕ, ◌-◌, zero, suc, List, [], ◌∷◌, Bool, true, false, cond, None, Some, refl, ap, sym, subst, ◌∙◌}
 use Rattle.std.specs.Prelude.{◌==◌, if◌then◌else◌, is_some, slice_get, map, Result, Ok, Err, IfOk, IfErr}
 use Rattle.std.specs.Str.{bytes_eq}
-use Rattle.batch_file.specs.Frames.{RefusesFile, recovered}
-use Rattle.batch_file.specs.declared.framing.ReadFault.{ReadFault}
-use Rattle.batch_file.specs.declared.framing.ReadFault.TheVariants as reading
+use Rattle.batch_file.specs.Frames.{recovered}
 use Rattle.change_codec.specs.declared.fault.EncodeFault.{EncodeFault}
 use Rattle.change_codec.specs.declared.fault.EncodeFault.TheVariants as encoding
 use Rattle.clients.specs.ClientRecord.{ClientRecord}
@@ -28,7 +26,7 @@ use Rattle.token_store.specs.Kept.{Kept}
 use Rattle.token_store.specs.declared.image.KeptRecord.{KeptRecord}
 use Rattle.state_account.specs.Accounts.{IsAccountOf, IsImageIn, TellIfAny}
 use Rattle.state_file.specs.Comparing.{KeepClients, client_names, first_moved}
-use Rattle.state_file.specs.FaultTexts.{of_encoding, of_reading}
+use Rattle.state_file.specs.FaultTexts.{of_encoding}
 use Rattle.state_file.specs.Hooks.{hooks_after, hooks_with}
 use Rattle.state_file.specs.Resuming.{OfEachHistory}
 use Rattle.state_file.specs.Standing.{IsImageOf, StandFor, StandsFor, marks, until_of}
@@ -38,6 +36,7 @@ use Rattle.state_file.proofs.Marked.{StandFor-image_marked, Tell-image, until_of
 use Rattle.state_file.specs.ResumingLaws.{right_now}
 use Rattle.state_file.specs.TellingLaws.{tell_one}
 use Rattle.state_account.specs.declared.account.Account.{Account}
+use Rattle.state_file.specs.declared.fault.StateFault.{StateFault}
 use Rattle.state_narrowing.specs.Narrowing.{GoesOn, HasLeftOfEach, IsNarrower, IsUnnarrowed, IsUnreadable, RefusesNarrowing}
 use Rattle.state_narrowing.specs.NarrowingParts.{IsRightImage, SpellLeft}
 use Rattle.state_narrowing.specs.declared.imaging.LeftImage.{LeftImage}
@@ -61,22 +60,10 @@ pub of_encoding_refuses : (fault : EncodeFault) → RefusesNarrowing (of_encodin
 of_encoding_refuses encoding.Memory = tt
 of_encoding_refuses encoding.TooLong = tt
 
--- WHY A FILE IS NOT READ
-
-pub unread_file : (left : List ℕ) (now : RulesFact) (cause : ReadFault) → (cause ≡ reading.Memory) ⊎ RefusesFile left cause → IsUnnarrowed left now (of_reading cause)
-unread_file left now reading.Memory is = inr (inl tt)
-unread_file left now reading.NotState (inl is) = absurd cc
-unread_file left now reading.NotState (inr is) = inl is
-unread_file left now (reading.Version version) (inl is) = absurd cc
-unread_file left now (reading.Version version) (inr is) = inl is
-unread_file left now (reading.Damaged number) (inl is) = absurd cc
-unread_file left now (reading.Damaged number) (inr is) = inl is
-
-pub unread_account : (left : List ℕ) (cause : ReadFault) → RefusesFile left cause → IsUnreadable left (of_reading cause) ⊎ RefusesNarrowing (of_reading cause)
-unread_account left reading.Memory is = inr tt
-unread_account left reading.NotState is = inl is
-unread_account left (reading.Version version) is = inl is
-unread_account left (reading.Damaged number) is = inl is
+-- why what is left is not told, where the registry is narrower
+pub unnarrowed : (left : List ℕ) (now : RulesFact) (fault : StateFault) → IsNarrower left now → IsUnreadable left fault ⊎ RefusesNarrowing fault → IsUnnarrowed left now fault
+unnarrowed left now fault narrower (inl unread) = inl unread
+unnarrowed left now fault narrower (inr refused) = inr (inr (narrower, refused))
 
 -- HOOKS
 

@@ -1,6 +1,5 @@
-use Rattle.std.proofs.Common.{◌≡◌, ℕ, ◌+◌, ◌≤◌, List, [], ◌∷◌, ◌++◌, length, refl, ◌∙◌, arith, length-append}
-use Rattle.batch_file.specs.Crashes.{IsWrittenAt}
-use Rattle.batch_file.proofs.Writing.{none_yet, more, synced, written_then, length-written}
+use Rattle.std.proofs.Common.{◌+◌, [], ◌∷◌, ◌++◌, length, refl, ◌∙◌, arith, length-append}
+use Rattle.batch_file.proofs.Writing.{none_yet, more, synced, written_then}
 use Rattle.batch_file.proofs.appending.write_behind.Goals as goal
 
 pub returns-in_err-write_at-clause-any_moment : goal.returns-in_err-write_at-clause-any_moment

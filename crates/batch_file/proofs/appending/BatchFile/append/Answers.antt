@@ -1,4 +1,4 @@
-use Rattle.std.proofs.Common.{◌≡◌, ◌<◌, ◌+◌, ℕ, List, arith, ◌∙◌, subst, sym, length}
+use Rattle.std.proofs.Common.{◌<◌, ◌+◌, ℕ, List, arith, ◌∙◌, subst, sym, length}
 use Rattle.batch_file.specs.Frames.{limit, IsAtRest}
 use Rattle.batch_file.proofs.Moments.{then, weaker}
 use Rattle.batch_file.proofs.Steps.{staged_stands, staged_readable, opens_stands, opens_readable, opened}
