@@ -1,11 +1,9 @@
-use Rattle.std.proofs.Common.{◌≡◌, ◌∙◌, ℕ, List, ap, length, sym, subst, arith}
+use Rattle.std.proofs.Common.{◌≡◌, ◌≤◌, ◌∙◌, ℕ, List, ap, length, sym, subst}
 use Rattle.std.proofs.lemmas.List.{length-map}
 use Rattle.batch_file.specs.Frames.{lists, recovered}
-use Rattle.endpoints.specs.Server.{outset_of}
-use Rattle.state_file.specs.Standing.{until_of}
+use Rattle.state_file.specs.Standing.{IsMomentTold, until_of}
 use Rattle.state_file.specs.Telling.{Tell, rules_of}
 use Rattle.state_account.proofs.Accounted.{tells_any}
-use Rattle.state_file.proofs.Begun.{answers_reached}
 use Rattle.state_file.proofs.Compared.{wider}
 use Rattle.state_account.proofs.account.account_of.Goals as goal
 
@@ -20,8 +18,9 @@ returns-clause-told g c =
       told = tells_any bytes (lists batches) (rules_of registry) are c.in-Ok.ensures.told;
       wider = λ old tells. wider old registry (c.in-Ok.ensures.taken.1 (rules_of old) (subst (λ (bs : List (List ℕ)). Tell bs (rules_of old)) (sym are) tells));
       rules = c.in-Ok.ensures.spelled;
-      answers = answers_reached g.H.HookHost (outset_of registry c.args.host) bytes c.in_ok-restored.restored c.reach.new.self c.reach.ensures.reached (c.in_ok-restored.ensures.answers bytes (sym are));
+      answers = c.in_ok-restored.ensures.answers bytes (sym are);
       batches = sym (length-map batches (λ v. v.items)) ∙ ap (λ (bs : List (List ℕ)). length bs) are;
       torn = c.len-2.ensures ∙ ap length c.in_ok-found.ensures.torn;
-      later = (let until = c.until_of.ensures ∙ ap until_of are in let moment = c.reach.ensures.moment in omega (arith, until, moment));
+      moment_is = subst (λ (bs : List (List ℕ)). IsMomentTold bs c.in_ok-restored.restored.moment) are c.in_ok-restored.ensures.moment;
+      later = subst (λ (bs : List (List ℕ)). until_of bs ≤ c.in_ok-restored.restored.moment) are c.in_ok-restored.ensures.later;
     }

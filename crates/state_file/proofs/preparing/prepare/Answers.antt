@@ -6,6 +6,7 @@ use Rattle.image_codec.specs.Facts.{hook_fact}
 use Rattle.state_file.specs.Making.{RefusesMaking, on_bytes}
 use Rattle.state_file.specs.Resuming.{AnswersFor}
 use Rattle.state_file.specs.ResumingLaws.{right_now}
+use Rattle.state_file.specs.Standing.{IsMomentTold}
 use Rattle.state_file.specs.Telling.{rules_of}
 use Rattle.state_file.specs.declared.fault.StateFault.{StateFault}
 use Rattle.state_file.proofs.LedOn.{LeadOn, lead_tell, lead_until, makes_from, noting_fits}
@@ -45,6 +46,7 @@ returns-clause-makes g c =
       tell = lead_tell hosting set.server server told (recovered bytes) new leads;
       kept = lead_until hosting set.server server told (recovered bytes) new leads;
       later = (let le = c.in_ok-restored.ensures.later in let same = c.in_ok-set_hooks.ensures.moment in omega (arith, le, same));
+      moment_is = subst (λ (m : ℕ). IsMomentTold (recovered bytes) m) (sym c.in_ok-set_hooks.ensures.moment) c.in_ok-restored.ensures.moment;
       short = c.in_ok-frames.ensures.short;
       torn_is = c.in_ok-restored.ensures.torn;
     }
