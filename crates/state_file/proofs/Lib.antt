@@ -1,14 +1,14 @@
-pub mod Accounted
 pub mod Begun
 pub mod Compared
 pub mod Imaged
 pub mod Renewed
-pub mod FromFile
 pub mod Hooked
 pub mod Kept
 pub mod Known
-pub mod Left
 pub mod Listed
+pub mod Marked
+pub mod LedOn
+pub mod Put
 pub mod Redone
 pub mod Refused
 pub mod Setting

@@ -1,6 +1,7 @@
 -- Changes that are made again one after the other.
-use Rattle.std.proofs.Common.{◌≡◌, ℕ, zero, suc, List, [], ◌∷◌, ◌++◌, Some, refl, sym, ap, ◌∙◌, subst, append_assoc}
+use Rattle.std.proofs.Common.{◌≡◌, ℕ, List, [], ◌∷◌, ◌++◌, Some, refl, sym, ap, ◌∙◌, subst}
 use Rattle.std.proofs.lemmas.List.{append-nil}
+use Rattle.std.specs.Prelude.{max}
 use Rattle.clients.specs.RegistryRecord.{RegistryRecord}
 use Rattle.consent.specs.History.{Event, with_change}
 use Rattle.consent.specs.declared.change.Change.{Change}
@@ -8,10 +9,12 @@ use Rattle.hook_host.specs.declared.host.HookHost.{Ghosts as Hosting}
 use Rattle.endpoints.specs.Bounded.{AllRight}
 use Rattle.endpoints.specs.Server.{FitsServer}
 use Rattle.endpoints.specs.Redo as again
+use Rattle.endpoints.specs.Steps.{Reaches}
 use Rattle.change_codec.specs.Spelling.{DatedFact, HaveSpelling, batch_spelling, fact_of}
 use Rattle.change_codec.specs.Happened.{dated}
 use Rattle.change_codec.specs.HappenedLaws.{Happened-split, meaning_of-told}
-use Rattle.state_file.specs.Standing.{AreTold}
+use Rattle.state_file.specs.Standing.{AreTold, IsTold, last_moment}
+use Rattle.state_file.specs.StandingLaws.{AreTold-split}
 use Rattle.image_codec.specs.Facts.{HookFact}
 use Rattle.state_file.specs.Hooks.{hooks_behind, hooks_by, hooks_set_in}
 use Rattle.state_file.specs.Resuming.{FitsRestored, FitsOn, RedoesDated, RedoesBatches, StaysUnnoted}
@@ -30,25 +33,22 @@ told_as batch ds facts is one told = by (subst (λ (b : List ℕ). AreTold (b �
   where
     by : AreTold (batch_spelling ds ∷ []) facts → facts ≡ ds
     by t =
-        let same : t.0 ≡ ds = one t.0 t.2 (is ∙ t.3) in
-        t.5 ∙ ap (λ (x : List DatedFact). t.0 ++ x) t.4 ∙ append-nil t.0 ∙ same
+        let same : t.0 ≡ ds = one t.0 t.2.0 (is ∙ t.2.1) in
+        t.4 ∙ ap (λ (x : List DatedFact). t.0 ++ x) t.3 ∙ append-nil t.0 ∙ same
 
--- the dated changes of some batches, and of those behind them
-pub told_split : (batches more : List (List ℕ)) (facts : List DatedFact) → AreTold (batches ++ more) facts →
-    (front back : List DatedFact) × AreTold batches front × AreTold more back × (facts ≡ front ++ back)
-told_split [] more facts told = ([], facts, refl, told, refl)
-told_split ([] ∷ batches) more facts told =
-    let rest = told_split batches more told.1 told.4 in
-    (told.0 ++ rest.0, rest.1, (told.0, rest.0, told.2, told.3, rest.2, refl), rest.3, told.5 ∙ ap (λ (x : List DatedFact). told.0 ++ x) rest.4 ∙ sym (append_assoc told.0 rest.0 rest.1))
-told_split ((zero ∷ rules) ∷ batches) more facts told = told_split batches more facts told
-told_split ((suc n ∷ bytes) ∷ batches) more facts told =
-    let rest = told_split batches more told.1 told.4 in
-    (told.0 ++ rest.0, rest.1, (told.0, rest.0, told.2, told.3, rest.2, refl), rest.3, told.5 ∙ ap (λ (x : List DatedFact). told.0 ++ x) rest.4 ∙ sym (append_assoc told.0 rest.0 rest.1))
+-- rules and marks have none
+pub nothing_told : (batch : List ℕ) (facts : List DatedFact) → ((some : List DatedFact) → IsTold batch some → some ≡ []) → AreTold (batch ∷ []) facts → facts ≡ []
+nothing_told batch facts none told =
+    told.4 ∙ ap (λ (ds : List DatedFact). told.0 ++ ds) told.3 ∙ append-nil told.0 ∙ none told.0 told.2
+
+last_moment-append : (before : ℕ) (facts more : List DatedFact) → last_moment before (facts ++ more) ≡ last_moment (last_moment before facts) more
+last_moment-append before [] more = refl
+last_moment-append before (d ∷ facts) more = last_moment-append d.moment facts more
 
 module _ {H : Type 0} (hosting : Hosting H) where
   -- none
   pub redoes_none : (restored : Restored H) → RedoesDated hosting restored [] restored
-  redoes_none restored = (refl, λ outset before after fits happened. subst (λ (h : List Event). FitsRestored hosting restored outset h) (sym happened) fits, λ none. none)
+  redoes_none restored = (refl, λ outset before after fits happened. subst (λ (h : List Event). FitsRestored hosting restored outset h) (sym happened) fits, λ none. none, refl)
 
   -- some, and then others
   fits_then : (old mid new : Restored H) (facts more : List DatedFact) → FitsOn hosting old facts mid → FitsOn hosting mid more new → FitsOn hosting old (facts ++ more) new
@@ -61,6 +61,7 @@ module _ {H : Type 0} (hosting : Hosting H) where
     then.0 ∙ ap (λ (hs : List HookFact). hooks_behind hs more) one.0 ∙ sym (hooks_behind-append old.hooks facts more),
     fits_then old mid new facts more one.1 then.1,
     λ none. then.2 (one.2 none),
+    then.3 ∙ ap (λ (m : ℕ). last_moment m more) one.3 ∙ sym (last_moment-append old.moment facts more),
   )
 
   -- one
@@ -80,15 +81,23 @@ module _ {H : Type 0} (hosting : Hosting H) where
 
   pub redoes_one : (old new : Restored H) (moment : ℕ) (change : Change) → again.RedoesChange hosting old.server moment change new.server →
       new.hooks ≡ hooks_by old.hooks (fact_of change) → new.moment ≡ moment → StaysUnnoted old new → RedoesDated hosting old (dated moment change ∷ []) new
-  redoes_one old new moment change redone hooks moment_is unnoted = (hooks, fits_one old new moment change redone hooks moment_is, unnoted)
+  redoes_one old new moment change redone hooks moment_is unnoted = (hooks, fits_one old new moment change redone hooks moment_is, unnoted, moment_is)
 
-  -- no batch, or one of rules
+  -- no batch, or one of rules, or a mark
   pub redoes_no_batch : (restored : Restored H) → RedoesBatches hosting restored [] restored
   redoes_no_batch restored = (λ none. none, λ facts told. subst (λ (ds : List DatedFact). RedoesDated hosting restored ds restored) (sym told) (redoes_none restored))
 
+  redoes_beside : (restored : Restored H) (batch : List ℕ) → ((facts : List DatedFact) → IsTold batch facts → facts ≡ []) → RedoesBatches hosting restored (batch ∷ []) restored
+  redoes_beside restored batch none =
+      (λ unnoted. unnoted, λ facts told. (redoes_no_batch restored).1 facts (nothing_told batch facts none told))
+
   pub redoes_rules : (restored : Restored H) (batch rules : List ℕ) → batch ≡ 0 ∷ rules → RedoesBatches hosting restored (batch ∷ []) restored
   redoes_rules restored batch rules is =
-      (λ none. none, λ facts told. (redoes_no_batch restored).1 facts (subst (λ (b : List ℕ). AreTold (b ∷ []) facts) is told))
+      redoes_beside restored batch (λ facts told. let none : facts ≡ [] = subst (λ (b : List ℕ). IsTold b facts) is told in none)
+
+  pub redoes_mark : (restored : Restored H) (batch bytes : List ℕ) → batch ≡ 3 ∷ bytes → RedoesBatches hosting restored (batch ∷ []) restored
+  redoes_mark restored batch bytes is =
+      redoes_beside restored batch (λ facts told. let parts : IsTold (3 ∷ bytes) facts = subst (λ (b : List ℕ). IsTold b facts) is told in parts.1)
 
   -- a batch of dated changes
   pub redoes_batch : (old new : Restored H) (batch : List ℕ) (ds : List DatedFact) → batch ≡ batch_spelling ds →
@@ -103,6 +112,14 @@ module _ {H : Type 0} (hosting : Hosting H) where
   redoes_batches old mid new batches more one then = (
     λ none. then.0 (one.0 none),
     λ facts told.
-        let parts = told_split batches more facts told in
+        let parts = AreTold-split batches more facts told in
         subst (λ (x : List DatedFact). RedoesDated hosting old x new) (sym parts.4) (redoes_then old mid new parts.0 parts.1 (one.1 parts.0 parts.2) (then.1 parts.1 parts.3)),
+  )
+
+  -- from a later moment on
+  pub reaches_on : (old new : Restored H) (moment : ℕ) → Reaches hosting old.server moment new.server → new.hooks ≡ old.hooks → new.moment ≡ max old.moment moment → FitsOn hosting old [] new
+  reaches_on old new moment reaches hooks at outset before after fits happened = (
+    subst (λ (h : List Event). FitsServer hosting new.server outset h new.moment) (sym happened)
+        (subst (λ (m : ℕ). FitsServer hosting new.server outset before m) (sym at) (reaches outset before old.moment fits.0)),
+    hooks ∙ fits.1 ∙ ap hooks_set_in (sym happened),
   )

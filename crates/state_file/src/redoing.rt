@@ -6,8 +6,9 @@ ghost use Rattle.change_codec.specs.Spelling.{dated_facts};
 ghost use Rattle.state_file.specs.Resuming.{IsOfChanges, RedoesDated, RedoesBatches};
 
 use crate::fault::StateFault;
+use crate::marks::mark_in;
 use crate::restored::Restored;
-use change_codec::{DatedChange, decode};
+use change_codec::{ChangeFault, DatedChange, decode};
 use endpoints::RedoFault;
 use hook_host::HookHost;
 use std::alloc::Global;
@@ -22,7 +23,17 @@ fn redo<H: HookHost>(restored: &mut Restored<H>, changes: &[DatedChange]) -> Res
     Ok(())
 }
 
-#[tactic(auto, using(crate::proofs::Redone::redoes_rules))]
+/// Tests whether what begins as a mark is one.
+fn check_mark(batch: &[u8]) -> Result<(), StateFault>
+    ensures refused { IfErr result IsOfChanges }
+{
+    match mark_in(batch) {
+        Some(_) => Ok(()),
+        None => Err(StateFault::Spelling(ChangeFault::Moment)),
+    }
+}
+
+#[tactic(auto, using(crate::proofs::Redone::redoes_rules, crate::proofs::Redone::redoes_mark))]
 fn redo_batch<H: HookHost>(
     alloc: Global,
     restored: &mut Restored<H>,
@@ -34,6 +45,10 @@ fn redo_batch<H: HookHost>(
     if let [0, ..] = batch {
         return Ok(());
     }
+    if let [3, ..] = batch {
+        check_mark(batch)?;
+        return Ok(());
+    }
     let changes = decode(alloc, batch)?;
     redo(restored, &changes)?;
     Ok(())
@@ -41,7 +56,7 @@ fn redo_batch<H: HookHost>(
 
 /// Makes the changes of the batches again.
 #[tactic(auto, using(crate::proofs::Redone::redoes_no_batch))]
-pub(crate) fn redo_all<H: HookHost>(
+pub fn redo_all<H: HookHost>(
     alloc: Global,
     restored: &mut Restored<H>,
     batches: &[Vec<u8>],

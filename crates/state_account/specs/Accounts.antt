@@ -1,0 +1,75 @@
+-- What is told of a state file, where no server is started on it.
+use Rattle.std.specs.Prelude.{◌≡◌, ◌≤◌, ◌⊎◌, ℕ, List, [], length}
+use Rattle.batch_file.specs.Frames.{RefusesFile, recovered, torn_of}
+use Rattle.clients.specs.RegistryRecord.{RegistryRecord}
+use Rattle.endpoints.specs.Widening.{IsWider}
+use Rattle.endpoints.specs.Server.{outset_of}
+use Rattle.hook_host.specs.declared.host.HookHost.{Ghosts as Hosting}
+use Rattle.image_codec.specs.Facts.{ImageFact, RulesFact}
+use Rattle.state_file.specs.Resuming.{AnswersFor, OfEachHistory}
+use Rattle.state_file.specs.Standing.{IsImageOf, IsMomentTold, until_of}
+use Rattle.state_file.specs.Telling.{IsOfRules, TellsRules, rules_of}
+use Rattle.state_account.specs.declared.account.Account.{Account}
+use Rattle.state_account.specs.declared.account.AccountFault.{AccountFault}
+use Rattle.state_account.specs.declared.account.AccountFault.TheVariants as accounts
+use Rattle.state_file.specs.declared.fault.StateFault.{StateFault}
+use Rattle.state_file.specs.declared.fault.StateFault.TheVariants as state
+
+-- the bytes tell just these rules last, if they have a batch
+abbrev pub TellIfAny : List ℕ → RulesFact → Type 0
+TellIfAny left rules = (recovered left ≡ []) ⊎ TellsRules left rules
+
+-- the account is one of the bytes: its server fits what they stand for, under the rules that they tell
+pub record IsAccountOf {H : Type 0} (hosting : Hosting H) (left : List ℕ) (first : H) (account : Account H) : Type 0 where
+  pub registry : RegistryRecord
+  pub told : TellIfAny left (rules_of registry)
+  pub wider : (old : RegistryRecord) → TellsRules left (rules_of old) → IsWider old registry
+  pub rules : IsOfRules account.rules.items (rules_of registry)
+  pub answers : AnswersFor hosting left (outset_of registry first) account.restored
+  pub batches : account.batches ≡ length (recovered left)
+  pub torn : account.torn ≡ length (torn_of left)
+  pub moment_is : IsMomentTold (recovered left) account.restored.moment
+  pub later : until_of (recovered left) ≤ account.restored.moment
+
+-- the image is one of each history that the bytes stand for, under the rules that they tell
+pub record IsImageIn {H : Type 0} (hosting : Hosting H) (left : List ℕ) (first : H) (image : ImageFact) : Type 0 where
+  pub each : OfEachHistory hosting first left (λ history. IsImageOf image history)
+  pub told : TellIfAny left image.rules
+
+-- it is one of all bytes that the account is one of
+abbrev pub IsImageOfAccount : {H : Type 0} → Hosting H → Account H → ImageFact → Type 0
+IsImageOfAccount {H = H} hosting account image =
+    (left : List ℕ) (first : H) → IsAccountOf hosting left first account → IsImageIn hosting left first image
+
+-- FAULTS
+
+abbrev pub fault_in : ℕ → StateFault → AccountFault
+fault_in number state.Memory = accounts.Memory
+fault_in number fault = accounts.Batch number fault
+
+-- it is a fault of the rules that a file tells
+abbrev pub IsOfTelling : StateFault → Type 0
+IsOfTelling state.Memory = Unit {0}
+IsOfTelling state.NoRules = Unit {0}
+IsOfTelling (state.Spelling fault) = Unit {0}
+IsOfTelling _ = ⊥
+
+-- it is a fault of a batch
+abbrev pub IsOfBatch : StateFault → Type 0
+IsOfBatch state.NoRules = Unit {0}
+IsOfBatch (state.Spelling fault) = Unit {0}
+IsOfBatch (state.Follows fault) = Unit {0}
+IsOfBatch (state.Image fault) = Unit {0}
+IsOfBatch (state.Hook name fault) = Unit {0}
+IsOfBatch _ = ⊥
+
+-- memory was refused, or a batch is at fault
+abbrev pub IsOfBatches : AccountFault → Type 0
+IsOfBatches accounts.Memory = Unit {0}
+IsOfBatches (accounts.Batch number fault) = IsOfBatch fault
+IsOfBatches (accounts.File fault) = ⊥
+
+-- why it is not told what a file stands for: memory was refused, or it is no file of batches, or a batch is at fault
+abbrev pub RefusesAccount : List ℕ → AccountFault → Type 0
+RefusesAccount left (accounts.File fault) = RefusesFile left fault
+RefusesAccount left fault = IsOfBatches fault
