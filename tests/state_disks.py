@@ -97,7 +97,7 @@ def tries_copies(trials, _):
     for worker in workers:
         worker.start()
     copies, refused = [], 0
-    while os.path.getsize(path) < 900000:
+    while os.path.getsize(path) < 400000:
         before = len(batches_of(bytes_of(path)))
         subprocess.run(["cp", path, copy], check=True)
         done = trials.run("state", copy)

@@ -152,6 +152,10 @@ def tries_the_first_kind(trials, content):
     if trials.listed("what was upgraded and started", new)[:-1] != same[:-1]:
         trials.wrong("what was upgraded and started", "it stands for something else")
 
+    done = trials.run("state", "--upgrade", trials.file_of(before + b"abcde"), f"{room}/whole")
+    if done.stderr != "oauthd: state: 5 bytes of an unfinished write are left out\n" or trials.listed("one that was torn", f"{room}/whole")[:-1] != same[:-1]:
+        trials.wrong("an upgrade of a torn file", f"status {done.returncode}, {done.stderr!r}")
+
     made = bytes_of(new)
     for what, file, to in [("a file of today's kind", trials.file_of(content), f"{room}/another"), ("where something is", old, new)]:
         done = trials.run("state", "--upgrade", file, to)

@@ -16,7 +16,7 @@ from state_format import MARK, batches_of
 LIFE = 3000
 
 # A server that neither listens nor ends within so many seconds hangs.
-PATIENCE = 20
+PATIENCE = 100
 
 
 class NotServed(Exception):
