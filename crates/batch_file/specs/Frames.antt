@@ -8,7 +8,7 @@ use Rattle.batch_file.specs.declared.appending.BatchFile.{BatchFile}
 use Rattle.batch_file.specs.declared.appending.BatchFault.{BatchFault}
 use Rattle.batch_file.specs.declared.appending.BatchFault.TheVariants as appending
 use Rattle.batch_file.specs.declared.framing.ReadFault.{ReadFault}
-use Rattle.batch_file.specs.declared.framing.ReadFault.TheVariants.{Memory, NotState, Version, Damaged}
+use Rattle.batch_file.specs.declared.framing.ReadFault.TheVariants.{NotState, Version, Damaged}
 
 -- WHICH BYTES ARE A FILE OF BATCHES
 

@@ -7,7 +7,7 @@ use Rattle.sha2.specs.Sha256.{sha256}
 use Rattle.sha2.proofs.Facts256.{length-sha256}
 use Rattle.batch_file.specs.declared.framing.ReadFault.{ReadFault}
 use Rattle.batch_file.specs.declared.framing.ReadFault.TheVariants.{Memory, NotState, Version, Damaged}
-use Rattle.batch_file.specs.Frames.{header, body, seal, digest, sealed, size_at, batches_in, recovered, frames_size, IsSealed, IsFrame, AreFrames, HidesFrame, IsTorn, Spells, IsFileOf, IsReadable, IsVersion, IsNoEnd, IsNoFrame, IsRightFront, IsDamaged, RefusesFile, IsChance}
+use Rattle.batch_file.specs.Frames.{header, body, seal, digest, sealed, size_at, batches_in, recovered, frames_size, IsSealed, IsFrame, AreFrames, HidesFrame, IsTorn, Spells, IsFileOf, IsReadable, IsVersion, IsNoFrame, IsRightFront, IsDamaged, RefusesFile, IsChance}
 
 pub length-seal : (bytes : List ℕ) → length (seal bytes) ≡ 16
 unfolding seal

@@ -2,7 +2,6 @@ use Rattle.std.proofs.Common.{◌≡◌, inr, List, ℕ, ◌-◌, ◌∙◌, len
 use Rattle.std.proofs.lemmas.List.{take_all, length-map}
 use Rattle.std.specs.declared.alloc.Global.{Global}
 use Rattle.batch_file.specs.Frames.{lists, IsNoEnd}
-use Rattle.batch_file.specs.Reads.{IsOpenEnd}
 use Rattle.batch_file.proofs.Walking.{front_is_right}
 use Rattle.batch_file.proofs.framing.find_batches.Goals as goal
 

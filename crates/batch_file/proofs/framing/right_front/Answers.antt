@@ -1,4 +1,4 @@
-use Rattle.std.proofs.Common.{◌≡◌, List, ℕ, length, ◌∙◌, sym, ap, subst}
+use Rattle.std.proofs.Common.{List, ℕ, length, ◌∙◌, sym, ap, subst}
 use Rattle.batch_file.specs.Frames.{recovered, IsRightFront}
 use Rattle.batch_file.specs.FramesLaws.{one_front, front_of_file}
 use Rattle.batch_file.proofs.Walking.{front_is_right, front_whole}
