@@ -8,7 +8,7 @@ use Rattle.state_file.specs.Renewing.{IsKeptShort}
 use Rattle.state_file.specs.Standing.{until_of}
 use Rattle.state_file.specs.Starting.{LosesNothing}
 use Rattle.state_file.specs.Telling.{rules_of}
-use Rattle.state_file.proofs.Put.{holds_until, kept_short, leaves_told, loses_nothing, nothing_lost, starts_from}
+use Rattle.state_file.proofs.Put.{holds_until, kept_short, leaves_told, loses_nothing, starts_from}
 use Rattle.state_file.proofs.starting.start_on.Goals as goal
 
 pub returns-clause-starts : goal.returns-clause-starts
