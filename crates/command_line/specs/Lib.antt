@@ -7,4 +7,5 @@ pub mod Listening
 pub mod Printed
 pub mod Services
 pub mod Startings
+pub mod StateCommands
 pub mod Statuses

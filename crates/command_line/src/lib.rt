@@ -13,6 +13,7 @@ mod hook_files;
 mod performing;
 mod service;
 mod state;
+mod state_command;
 
 pub use call::Call;
 pub use call_files::{CallFiles, read_files};
@@ -20,3 +21,4 @@ pub use fault::PerformFault;
 pub use hook_files::HookRead;
 pub use performing::{perform, perform_service, told};
 pub use service::{ServeWords, Service};
+pub use state_command::StateCommand;
