@@ -1,6 +1,0 @@
-mod Kept
-mod Moments
-mod Reading
-mod Repair
-mod Steps
-mod Tearing

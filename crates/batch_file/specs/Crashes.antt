@@ -1,7 +1,9 @@
 -- What the calls of a device do to its file, and what a crash may do between two syncs.
-use Rattle.std.specs.Prelude.{◌<◌, ◌≡◌, ◌⊎◌, ℕ, ◌+◌, ◌≤◌, max, List, ◌++◌, length, take, drop, Result, IsErrOf}
+use Rattle.std.specs.Prelude.{◌<◌, ◌≡◌, ◌⊎◌, ℕ, ◌+◌, ◌≤◌, max, List, ◌++◌, length, take, drop, Result, OnOk, IfErr}
 use Rattle.batch_file.specs.declared.device.DeviceFault.{DeviceFault}
-use Rattle.batch_file.specs.declared.device.DeviceFault.TheVariants.{Failed}
+use Rattle.batch_file.specs.declared.device.DeviceFault.TheVariants as device
+use Rattle.batch_file.specs.declared.device.ReplaceFault.{ReplaceFault}
+use Rattle.batch_file.specs.declared.device.ReplaceFault.TheVariants as replacing
 
 -- new is old with these bytes at this offset
 abbrev pub IsWrittenAt : List ℕ → ℕ → List ℕ → List ℕ → Type 0
@@ -13,11 +15,6 @@ pub record Torn (at n : ℕ) (old new : List ℕ) : Type 0 where
   pub after : drop (at + n) new ≡ drop (at + n) old
   pub no_shorter : length old ≤ length new
   pub no_longer : length new ≤ max (length old) (at + n)
-
--- after a cut: some length between
-pub record Cut (n : ℕ) (old new : List ℕ) : Type 0 where
-  pub no_shorter : n ≤ length new
-  pub front : take (length new) old ≡ new
 
 -- after a replacement: the old file or the next one, never a part
 abbrev pub Swapped : List ℕ → List ℕ → List ℕ → Type 0
@@ -44,7 +41,22 @@ pub record LeavesOnly {D : Type 0} (moment : D → ℕ) (left_since : D → ℕ 
   -- for a run that began earlier
   pub before : (t : ℕ) (c : List ℕ) → t ≤ moment old → left_since new t c → left_since old t c ⊎ P c
 
--- `Failed` is told only where the disk has failed since
-pub record HasCause {T : Type 0} (before now : ℕ) (result : Result T DeviceFault) : Type 0 where
+-- the disk failed
+abbrev pub IsFailure : DeviceFault → Type 0
+IsFailure (device.Failed reason) = Unit {0}
+IsFailure device.Memory = ⊥
+
+abbrev pub IsReplaceFailure : ReplaceFault → Type 0
+IsReplaceFailure (replacing.Failed reason) = Unit {0}
+IsReplaceFailure fault = ⊥
+
+-- nothing was put in the place of the old file
+abbrev pub IsUnplaced : ReplaceFault → Type 0
+IsUnplaced (replacing.Failed reason) = ⊥
+IsUnplaced fault = Unit {0}
+
+-- a failure of the disk is told only where it has failed since, and it has not where the call succeeded
+pub record HasCause {T F : Type 0} (is_failure : F → Type 0) (before now : ℕ) (result : Result T F) : Type 0 where
   pub later : before ≤ now
-  pub failed : IsErrOf result Failed → before < now
+  pub failed : IfErr result (λ fault. is_failure fault → before < now)
+  pub faultless : OnOk result (now ≡ before)

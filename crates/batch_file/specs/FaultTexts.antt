@@ -1,66 +1,137 @@
 -- The faults of devices and of files of batches, and how they are printed.
-use Rattle.std.specs.Prelude.{ℕ, List, ◌++◌, codes}
-use Rattle.std.specs.IoError.{error_kind}
+use Rattle.std.specs.Prelude.{ℕ, ℤ, pos, List, ◌++◌, codes, decimal, Option, Some, None, if◌then◌else◌}
+use Rattle.std.specs.Ordering.{int_eq}
+use Rattle.std.specs.IoError.{error_kind, raw_os_error}
+use Rattle.std.specs.declared.io.Error.{Error}
 use Rattle.std.specs.declared.io.ErrorKind.{ErrorKind}
 use Rattle.std.specs.declared.io.ErrorKind.TheVariants as kinds
 use Rattle.std.specs.declared.fs.locks.TryLockError.{TryLockError}
 use Rattle.std.specs.declared.fs.locks.TryLockError.TheVariants as lock
+use Rattle.batch_file.specs.declared.system.SystemFault.{SystemFault}
+use Rattle.batch_file.specs.declared.system.SystemFault.TheVariants as system
 use Rattle.batch_file.specs.declared.device.DeviceFault.{DeviceFault}
 use Rattle.batch_file.specs.declared.device.DeviceFault.TheVariants as device
+use Rattle.batch_file.specs.declared.device.ReplaceFault.{ReplaceFault}
+use Rattle.batch_file.specs.declared.device.ReplaceFault.TheVariants as replacing
 use Rattle.batch_file.specs.declared.appending.BatchFault.{BatchFault}
 use Rattle.batch_file.specs.declared.appending.BatchFault.TheVariants as batch
 use Rattle.batch_file.specs.declared.disk_file.OpenFault.{OpenFault}
 use Rattle.batch_file.specs.declared.disk_file.OpenFault.TheVariants as opening
-use Rattle.batch_file.specs.declared.disk_file.SystemFault.{SystemFault}
-use Rattle.batch_file.specs.declared.disk_file.SystemFault.TheVariants as system
+use Rattle.batch_file.specs.declared.disk_file.MakeFault.{MakeFault}
+use Rattle.batch_file.specs.declared.disk_file.MakeFault.TheVariants as making
+use Rattle.batch_file.specs.declared.framing.ReadFault.{ReadFault}
+use Rattle.batch_file.specs.declared.framing.ReadFault.TheVariants as reading
 
--- a device's fault as that of the file of batches on it
-abbrev pub of_device : DeviceFault → BatchFault
-of_device device.Memory = batch.Memory
-of_device device.Failed = batch.Failed
+-- WHICH FAULT IT IS
 
 -- the fault of a kind of error
-abbrev pub system_fault : ErrorKind → SystemFault
-system_fault kinds.NotFound = system.NotFound
-system_fault kinds.PermissionDenied = system.PermissionDenied
-system_fault kinds.NotADirectory = system.NotADirectory
-system_fault kinds.IsADirectory = system.IsADirectory
-system_fault kinds.ReadOnlyFilesystem = system.ReadOnlyFilesystem
-system_fault kinds.StorageFull = system.StorageFull
-system_fault kinds.QuotaExceeded = system.QuotaExceeded
-system_fault kind = system.Other
+abbrev pub fault_of_kind : ErrorKind → SystemFault
+fault_of_kind kinds.NotFound = system.NotFound
+fault_of_kind kinds.PermissionDenied = system.PermissionDenied
+fault_of_kind kinds.AlreadyExists = system.AlreadyExists
+fault_of_kind kinds.NotADirectory = system.NotADirectory
+fault_of_kind kinds.IsADirectory = system.IsADirectory
+fault_of_kind kinds.ReadOnlyFilesystem = system.ReadOnlyFilesystem
+fault_of_kind kinds.FilesystemLoop = system.FilesystemLoop
+fault_of_kind kinds.StorageFull = system.StorageFull
+fault_of_kind kinds.QuotaExceeded = system.QuotaExceeded
+fault_of_kind kinds.FileTooLarge = system.FileTooLarge
+fault_of_kind kinds.ResourceBusy = system.ResourceBusy
+fault_of_kind kinds.CrossesDevices = system.CrossesDevices
+fault_of_kind kinds.InvalidFilename = system.InvalidFilename
+fault_of_kind kind = system.Other
 
--- why a file is not opened, by the kind of error that the system gave
-abbrev pub of_error : ErrorKind → OpenFault
-of_error kinds.OutOfMemory = opening.Memory
-of_error kind = opening.Open (system_fault kind)
+-- with Linux's number of the error, if it has one: 5 has no kind
+abbrev pub fault_of_number : Option ℤ → ErrorKind → SystemFault
+fault_of_number (Some number) kind = if int_eq number (pos 5) then system.InputOutput else fault_of_kind kind
+fault_of_number None kind = fault_of_kind kind
+
+abbrev pub system_fault : Error → SystemFault
+system_fault error = fault_of_number (raw_os_error error) (error_kind error)
+
+-- a device's fault as that of the file of batches on it, and as that of a replacement
+abbrev pub of_device : DeviceFault → BatchFault
+of_device device.Memory = batch.Memory
+of_device (device.Failed reason) = batch.Failed reason
+
+abbrev pub of_replacing : DeviceFault → ReplaceFault
+of_replacing device.Memory = replacing.Memory
+of_replacing (device.Failed reason) = replacing.Failed reason
+
+-- why a file is not opened, by the error that the system gave; one that is not there has a name of its own
+abbrev pub of_kind : ErrorKind → SystemFault → OpenFault
+of_kind kinds.OutOfMemory reason = opening.Memory
+of_kind kinds.NotFound reason = opening.Missing
+of_kind kind reason = opening.Open reason
+
+abbrev pub of_error : Error → OpenFault
+of_error error = of_kind (error_kind error) (system_fault error)
 
 -- a lock that another holds is InUse
 abbrev pub of_lock : TryLockError → OpenFault
 of_lock lock.WouldBlock = opening.InUse
-of_lock (lock.Error error) = of_error (error_kind error)
+of_lock (lock.Error error) = of_error error
 
-abbrev pub device_fault_text : DeviceFault → List ℕ
-device_fault_text device.Memory = codes "Memory"
-device_fault_text device.Failed = codes "Failed"
+-- why a file is not made; where something is there, that has a name of its own
+abbrev pub of_making_kind : ErrorKind → SystemFault → MakeFault
+of_making_kind kinds.OutOfMemory reason = making.Memory
+of_making_kind kinds.AlreadyExists reason = making.Exists
+of_making_kind kind reason = making.Make reason
 
-abbrev pub batch_fault_text : BatchFault → List ℕ
-batch_fault_text batch.Memory = codes "Memory"
-batch_fault_text batch.Failed = codes "Failed"
-batch_fault_text batch.Full = codes "Full"
-batch_fault_text batch.TooLong = codes "TooLong"
+abbrev pub of_making : Error → MakeFault
+of_making error = of_making_kind (error_kind error) (system_fault error)
+
+-- HOW IT IS PRINTED
 
 abbrev pub system_fault_text : SystemFault → List ℕ
 system_fault_text system.NotFound = codes "not found"
 system_fault_text system.PermissionDenied = codes "permission denied"
+system_fault_text system.AlreadyExists = codes "already exists"
 system_fault_text system.NotADirectory = codes "not a directory"
 system_fault_text system.IsADirectory = codes "is a directory"
 system_fault_text system.ReadOnlyFilesystem = codes "read-only filesystem"
+system_fault_text system.FilesystemLoop = codes "filesystem loop"
 system_fault_text system.StorageFull = codes "no storage space"
 system_fault_text system.QuotaExceeded = codes "quota exceeded"
+system_fault_text system.FileTooLarge = codes "file too large"
+system_fault_text system.ResourceBusy = codes "resource busy"
+system_fault_text system.CrossesDevices = codes "cross-device rename"
+system_fault_text system.InvalidFilename = codes "invalid filename"
+system_fault_text system.InputOutput = codes "input/output error"
 system_fault_text system.Other = codes "other error"
+
+abbrev pub device_fault_text : DeviceFault → List ℕ
+device_fault_text device.Memory = codes "Memory"
+device_fault_text (device.Failed reason) = codes "Failed: " ++ system_fault_text reason
+
+abbrev pub replace_fault_text : ReplaceFault → List ℕ
+replace_fault_text replacing.Memory = codes "Memory"
+replace_fault_text (replacing.Unplaced reason) = codes "Unplaced: " ++ system_fault_text reason
+replace_fault_text (replacing.Failed reason) = codes "Failed: " ++ system_fault_text reason
+
+abbrev pub batch_fault_text : BatchFault → List ℕ
+batch_fault_text batch.Memory = codes "Memory"
+batch_fault_text (batch.Failed reason) = codes "Failed: " ++ system_fault_text reason
+batch_fault_text batch.Full = codes "Full"
+batch_fault_text batch.TooLong = codes "TooLong"
 
 abbrev pub open_fault_text : OpenFault → List ℕ
 open_fault_text opening.Memory = codes "Memory"
+open_fault_text opening.Missing = codes "Missing"
+open_fault_text opening.Link = codes "Link"
+open_fault_text opening.NotAFile = codes "NotAFile"
+open_fault_text opening.SecondLink = codes "SecondLink"
+open_fault_text opening.WritableByOthers = codes "WritableByOthers"
 open_fault_text opening.InUse = codes "InUse"
-open_fault_text (opening.Open fault) = codes "Open: " ++ system_fault_text fault
+open_fault_text (opening.Open reason) = codes "Open: " ++ system_fault_text reason
+
+abbrev pub make_fault_text : MakeFault → List ℕ
+make_fault_text making.Memory = codes "Memory"
+make_fault_text making.Exists = codes "Exists"
+make_fault_text (making.Make reason) = codes "Make: " ++ system_fault_text reason
+
+abbrev pub read_fault_text : ReadFault → List ℕ
+read_fault_text reading.Memory = codes "Memory"
+read_fault_text reading.NotState = codes "NotState"
+read_fault_text (reading.Version version) = codes "Version " ++ decimal version
+read_fault_text (reading.Damaged batches) = codes "Damaged " ++ decimal batches

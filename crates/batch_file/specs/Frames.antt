@@ -1,66 +1,199 @@
--- What a file of frames stands for.
-use Rattle.std.specs.Prelude.{◌≡◌, ◌⊎◌, ◌+◌, ℕ, zero, suc, List, [], ◌∷◌, ◌++◌, length, take, drop, map, Bool, ◌&&◌, ◌==◌, nat_le, if◌then◌else◌}
+-- What a file of frames stands for, and which files are refused.
+use Rattle.std.specs.Prelude.{◌≡◌, ◌≢◌, ◌⊎◌, ◌+◌, ◌^◌, ◌<◌, ◌≤◌, ℕ, zero, suc, List, [], ◌∷◌, ◌++◌, length, take, drop, map, codes}
 use Rattle.std.specs.Global.{Vec}
 use Rattle.std.specs.Int.{w32, to_be_bytes, from_be_bytes}
+use Rattle.sha2.specs.Sha256.{sha256}
 use Rattle.batch_file.specs.Crashes.{Only}
 use Rattle.batch_file.specs.declared.appending.BatchFile.{BatchFile}
+use Rattle.batch_file.specs.declared.appending.BatchFault.{BatchFault}
+use Rattle.batch_file.specs.declared.appending.BatchFault.TheVariants as appending
+use Rattle.batch_file.specs.declared.framing.ReadFault.{ReadFault}
+use Rattle.batch_file.specs.declared.framing.ReadFault.TheVariants.{Memory, NotState, Version, Damaged}
 
--- a batch behind its latch: its length in four bytes, the high one first, and its bytes
+-- WHICH BYTES ARE A FILE OF BATCHES
+
+-- the 16 bytes that a file of this version begins with: the version is one digit
+abbrev pub header_of : ℕ → List ℕ
+header_of version = codes "oauthd state v" ++ (48 + version) ∷ 10 ∷ []
+
+abbrev pub header : List ℕ
+header = header_of 2
+
+-- a batch's length in four bytes, the high one first, and its bytes
 abbrev pub body : List ℕ → List ℕ
 body batch = to_be_bytes w32 (length batch) ++ batch
 
--- an open latch, and a batch behind it
-abbrev pub frame : List ℕ → List ℕ
-frame batch = 1 ∷ body batch
+-- the first 16 bytes of what SHA-256 makes of these
+unfoldable pub seal : List ℕ → List ℕ
+seal bytes = take 16 (sha256 bytes)
+
+-- the digest of a batch vouches for it and for all before it: `before` is the digest of the one before it, or the header
+abbrev pub digest : List ℕ → List ℕ → List ℕ
+digest before batch = seal (before ++ body batch)
+
+-- what stands behind the latch of a batch: its length, its digest, and the batch
+abbrev pub sealed : List ℕ → List ℕ → List ℕ
+sealed before batch = to_be_bytes w32 (length batch) ++ (digest before batch ++ batch)
+
+-- behind a latch the bytes begin with this batch, with its digest
+abbrev pub IsSealed : List ℕ → List ℕ → List ℕ → List ℕ → Type 0
+IsSealed before batch rest bytes = (length batch < 2 ^ 32) × (bytes ≡ sealed before batch ++ rest)
+
+-- The bytes begin with the frame of this batch: a latch that counts, and the batch with its digest.
+pub record IsFrame (before batch rest bytes : List ℕ) : Type 0 where
+  pub latch : ℕ
+  pub counts : 0 < latch
+  pub short : length batch < 2 ^ 32
+  pub is : bytes ≡ latch ∷ sealed before batch ++ rest
+
+-- the bytes are the frames of these batches, the last of which has this digest
+abbrev pub AreFrames : List ℕ → List (List ℕ) → List ℕ → List ℕ → Type 0
+AreFrames before [] last bytes = (last ≡ before) × (bytes ≡ [])
+AreFrames before (batch ∷ later) last bytes =
+    (rest : List ℕ) × IsFrame before batch rest bytes × AreFrames (digest before batch) later last rest
+
+-- a batch that is added has fewer bytes
+abbrev pub limit : ℕ
+limit = 2 ^ 20
+
+-- Behind a closed latch stands a batch with its right digest, and more than the latch behind it: no append leaves that, so
+-- the latch was open once.
+abbrev pub HidesFrame : List ℕ → List ℕ → Type 0
+HidesFrame last torn = (batch : List ℕ) × (rest : List ℕ) × IsSealed last batch rest torn × (1 < length rest)
+
+-- Behind the closed latch stands no more than an append that was not finished may have left.
+pub record IsTorn (last torn : List ℕ) : Type 0 where
+  pub brief : length torn ≤ limit + 20
+  pub plain : HidesFrame last torn → ⊥
+
+-- The file is the header, the frames of these batches, and a closed latch, behind which an append was perhaps not finished.
+pub record Spells (batches : List (List ℕ)) (last file : List ℕ) : Type 0 where
+  pub frames : List ℕ
+  pub torn : List ℕ
+  pub is : file ≡ header ++ (frames ++ 0 ∷ torn)
+  pub are : AreFrames header batches last frames
+  pub ends : IsTorn last torn
+
+-- a file that is read as these batches
+abbrev pub IsFileOf : List (List ℕ) → List ℕ → Type 0
+IsFileOf batches file = (last : List ℕ) × Spells batches last file
+
+-- WHICH BATCHES THESE ARE
 
 -- what the four bytes behind a latch say
 abbrev pub size_at : List ℕ → ℕ
 size_at bytes = from_be_bytes w32 (take 4 bytes)
 
--- all of the batch behind a latch is there
-abbrev pub is_whole : List ℕ → Bool
-is_whole bytes = nat_le (4 + size_at bytes) (length bytes)
-
--- the batches of at most n frames from here on, up to the first whose latch is closed or that is cut short
+-- the batches of at most n frames from here on, up to the first whose latch is closed
 unfoldable pub batches_in : ℕ → List ℕ → List (List ℕ)
 batches_in zero file = []
 batches_in (suc n) [] = []
-batches_in (suc n) (latch ∷ bytes) =
-    if (latch == 1) && is_whole bytes
-    then take (size_at bytes) (drop 4 bytes) ∷ batches_in n (drop (size_at bytes) (drop 4 bytes))
-    else []
+batches_in (suc n) (zero ∷ bytes) = []
+batches_in (suc n) (suc latch ∷ bytes) =
+    take (size_at bytes) (drop 20 bytes) ∷ batches_in n (drop (size_at bytes) (drop 20 bytes))
 
 -- the batches that a file stands for, whatever a crash made of it
 unfoldable pub recovered : List ℕ → List (List ℕ)
-recovered file = batches_in (length file) file
+recovered file = batches_in (length file) (drop 16 file)
 
--- how many bytes of a write that was not finished these are, which stand behind the last frame: a closed latch is none of them
-abbrev pub torn_size : List ℕ → ℕ
-torn_size (zero ∷ bytes) = length bytes
-torn_size bytes = length bytes
+-- the file is not refused: what it stands for is spelled, each batch with its digest
+abbrev pub IsReadable : List ℕ → Type 0
+IsReadable file = IsFileOf (recovered file) file
 
--- the bytes are whole frames of these batches, whatever follows them
-abbrev pub AreFrames : List ℕ → List (List ℕ) → Type 0
-AreFrames bytes batches = (rest : List ℕ) → recovered (bytes ++ rest) ≡ batches ++ recovered rest
+-- how many bytes the frames of these batches have
+abbrev pub frames_size : List (List ℕ) → ℕ
+frames_size [] = 0
+frames_size (batch ∷ later) = 21 + length batch + frames_size later
 
--- the file is whole frames up to the end, and a closed latch
-pub record IsAtRest (end : ℕ) (file : List ℕ) : Type 0 where
-  pub closed : file ≡ take end file ++ 0 ∷ []
+-- with the header before them and a closed latch behind
+abbrev pub file_size : List (List ℕ) → ℕ
+file_size batches = 17 + frames_size batches
+
+-- what stands behind the closed latch
+abbrev pub torn_of : List ℕ → List ℕ
+torn_of file = drop (file_size (recovered file)) file
+
+-- WHY A FILE IS REFUSED
+
+-- one of the first kind, which has no header: a latch of 1, a length in four bytes, and as many bytes
+abbrev pub IsFirstKind : List ℕ → Type 0
+IsFirstKind file = (rest : List ℕ) × (file ≡ 1 ∷ rest) × (4 + size_at rest ≤ length rest)
+
+-- the file is of this version, whatever follows
+abbrev pub IsVersion : ℕ → List ℕ → Type 0
+IsVersion version file = ((version < 10) × (take 16 file ≡ header_of version)) ⊎ ((version ≡ 1) × IsFirstKind file)
+
+-- no end of a file of which the last frame has this digest: the latch is open, or more stands behind it than may
+abbrev pub IsNoEnd : List ℕ → List ℕ → Type 0
+IsNoEnd last rest = (torn : List ℕ) → rest ≡ 0 ∷ torn → IsTorn last torn → ⊥
+
+-- So many frames are right, and what stands behind them is no frame and no end.
+pub record IsDamaged (number : ℕ) (file : List ℕ) : Type 0 where
+  pub batches : List (List ℕ)
+  pub last : List ℕ
+  pub frames : List ℕ
+  pub rest : List ℕ
+  pub is : file ≡ header ++ (frames ++ rest)
+  pub are : AreFrames header batches last frames
+  pub count : length batches ≡ number
+  pub no_frame : (batch more : List ℕ) → IsFrame last batch more rest → ⊥
+  pub no_end : IsNoEnd last rest
+
+-- the file does not begin as a state file does, or as one of another version, or is damaged
+abbrev pub RefusesFile : List ℕ → ReadFault → Type 0
+RefusesFile file NotState = (version : ℕ) → IsVersion version file → ⊥
+RefusesFile file (Version version) = IsVersion version file × (version ≢ 2)
+RefusesFile file (Damaged number) = IsDamaged number file
+RefusesFile file Memory = ⊥
+
+-- FILES THAT ARE WRITTEN
+
+-- the file is whole frames up to the end, the last of them with this digest, and a closed latch
+pub record IsAtRest (end : ℕ) (last file : List ℕ) : Type 0 where
+  pub frames : List ℕ
+  pub is : file ≡ header ++ (frames ++ 0 ∷ [])
+  pub are : AreFrames header (recovered file) last frames
   pub size : length file ≡ end + 1
-  pub frames : AreFrames (take end file) (recovered file)
 
--- and all of it is on the disk
-pub record IsOnDisk {D : Type 0} (seen : D → List ℕ) (may_leave : D → List ℕ → Type 0) (file : BatchFile D) : Type 0 where
-  pub at_rest : IsAtRest file.end (seen file.device)
+-- whatever its length
+abbrev pub IsWhole : List ℕ → List ℕ → Type 0
+IsWhole last file = (end : ℕ) × IsAtRest end last file
+
+-- and all of it is on the disk, which has not failed
+pub record IsOnDisk {D : Type 0} (seen : D → List ℕ) (may_leave : D → List ℕ → Type 0) (faults : D → ℕ) (file : BatchFile D) : Type 0 where
+  pub at_rest : IsAtRest file.end file.last (seen file.device)
   pub durable : Only (seen file.device) (may_leave file.device)
+  pub faultless : faults file.device ≡ 0
 
 -- the file stands for the batches, with one more or without it
 abbrev pub IsBeforeOrAfter : List (List ℕ) → List ℕ → List ℕ → Type 0
 IsBeforeOrAfter batches batch file = (recovered file ≡ batches) ⊎ (recovered file ≡ batches ++ batch ∷ [])
 
--- the file stands for the batches, or for one in the place of them all
-abbrev pub IsOldOrNew : List (List ℕ) → List ℕ → List ℕ → Type 0
-IsOldOrNew batches batch file = (recovered file ≡ batches) ⊎ (recovered file ≡ batch ∷ [])
+-- the file stands for the old batches, or for the new ones in the place of them all
+abbrev pub IsOldOrNew : List (List ℕ) → List (List ℕ) → List ℕ → Type 0
+IsOldOrNew old new file = (recovered file ≡ old) ⊎ (recovered file ≡ new)
+
+-- what might have been left before, or a file that is read as these batches
+abbrev pub IsAsBefore : (List ℕ → Type 0) → List (List ℕ) → List ℕ → Type 0
+IsAsBefore before batches file = before file ⊎ IsFileOf batches file
+
+-- Of an append that a crash cut short the disk has made, by chance, a shorter batch with its right digest: bytes that nobody
+-- wrote. `chance_is_coincidence` says what that would take.
+pub record IsChance (last batch file : List ℕ) : Type 0 where
+  pub front : List ℕ
+  pub other : List ℕ
+  pub rest : List ℕ
+  pub is : file ≡ front ++ 0 ∷ (sealed last other ++ rest)
+  pub shorter : length other < length batch
+
+-- the file is read, but for such a chance
+abbrev pub IsReadableOrChance : List ℕ → List ℕ → List ℕ → Type 0
+IsReadableOrChance last batch file = IsReadable file ⊎ IsChance last batch file
+
+-- the disk failed
+abbrev pub IsBatchFailure : BatchFault → Type 0
+IsBatchFailure (appending.Failed reason) = Unit {0}
+IsBatchFailure fault = ⊥
 
 -- the batches, without where they lie in memory
 abbrev pub lists : List (Vec ℕ) → List (List ℕ)

@@ -6,8 +6,10 @@ pub mod Frames
 pub mod InMemory
 pub mod Moments
 pub mod Past
+pub mod Version1
 -- What only the contracts of this crate's own parts and their proofs cite.
 pub mod CallsParts
 pub mod Folders
+pub mod Reads
 -- Laws, each proved: a reader may skip them.
 pub mod FramesLaws

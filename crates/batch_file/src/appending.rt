@@ -1,32 +1,32 @@
-//! A file of batches: they are added one by one, or all of them are replaced by one.
+//! A file of batches: they are added one by one, or another file is put in the place of all.
 
-ghost use Rattle.std.specs.Prelude.{◌≡◌, ◌<◌, ◌≤◌, ◌^◌, ◌+◌, ◌++◌, [], ◌∷◌, List, ℕ, length, take, IfOk, OnOk, IsErrOf, Some};
-ghost use Rattle.batch_file.specs.declared.appending.BatchFault.TheVariants.{Memory};
-ghost use Rattle.batch_file.specs.Crashes.{Cut, HasCause, IsWrittenAt, LeavesOnly, Only, Torn};
+ghost use Rattle.std.specs.Prelude.{◌≡◌, ◌<◌, ◌≤◌, ◌^◌, ◌+◌, ◌++◌, [], ◌∷◌, List, ℕ, length, IfOk, IfErr, OnOk, IsErrOf, Some};
+ghost use Rattle.batch_file.specs.Crashes.{HasCause, IsFailure, IsReplaceFailure, IsUnplaced, IsWrittenAt, LeavesOnly, Only, Torn};
 ghost use Rattle.batch_file.specs.FaultTexts.{batch_fault_text, of_device};
-ghost use Rattle.batch_file.specs.Frames.{frame, lists, recovered, IsAtRest, IsBeforeOrAfter, IsOldOrNew, IsOnDisk};
+ghost use Rattle.batch_file.specs.Frames.{file_size, limit, recovered, IsAsBefore, IsBeforeOrAfter, IsOldOrNew, IsBatchFailure, IsOnDisk, IsReadable, IsReadableOrChance};
 
-use crate::device::{Device, DeviceFault};
-use crate::framing::{Batches, body_of, read_batches};
-use std::alloc::{AllocError, Global};
+use crate::device::{Device, DeviceFault, ReplaceFault};
+use crate::frames::Frames;
+use crate::framing::head_of;
+use crate::system::SystemFault;
 use std::fmt::{self, Display, Formatter, Write};
 
 /// Behind this many bytes nothing is added.
 const MAX_END: usize = 1 << 60;
 
-/// The bytes of the longest batch.
-const MAX_BATCH: usize = u32::MAX as usize;
+/// An append of as many bytes or more is refused.
+const LIMIT: usize = 1 << 20;
 
-/// Why a file of batches did not do what it was asked for.
+/// Why a batch was not added to a file.
 #[derive(Clone, Copy, Debug, PartialEq, Eq)]
 pub enum BatchFault {
     /// Memory was refused.
     Memory,
     /// The disk failed: open the file again.
-    Failed,
+    Failed(SystemFault),
     /// The file has no room: it has `2^60` bytes or more.
     Full,
-    /// The batch has `2^32` bytes or more.
+    /// The batch has `2^20` bytes or more.
     TooLong,
 }
 
@@ -36,18 +36,10 @@ impl Display for BatchFault {
     fn fmt<W: Write>(&self, f: &mut Formatter<W>) -> fmt::Result {
         match self {
             BatchFault::Memory => write!(f, "Memory"),
-            BatchFault::Failed => write!(f, "Failed"),
+            BatchFault::Failed(reason) => write!(f, "Failed: {reason}"),
             BatchFault::Full => write!(f, "Full"),
             BatchFault::TooLong => write!(f, "TooLong"),
         }
-    }
-}
-
-impl From<AllocError> for BatchFault {
-    ghost from_gives = { λ _ fault. fault ≡ Memory };
-
-    fn from(_: AllocError) -> BatchFault {
-        BatchFault::Memory
     }
 }
 
@@ -57,7 +49,7 @@ impl From<DeviceFault> for BatchFault {
     fn from(device: DeviceFault) -> BatchFault {
         match device {
             DeviceFault::Memory => BatchFault::Memory,
-            DeviceFault::Failed => BatchFault::Failed,
+            DeviceFault::Failed(reason) => BatchFault::Failed(reason),
         }
     }
 }
@@ -69,107 +61,135 @@ pub struct BatchFile<D: Device> {
     pub device: D,
     /// Where the closed latch stands.
     pub end: usize,
+    /// The digest of the last frame.
+    pub last: [u8; 16],
+}
+
+/// Why a file is not put in the place of what a device has, and the device.
+#[derive(Drop)]
+pub struct NotPlaced<D> {
+    /// Why.
+    pub fault: ReplaceFault,
+    /// The device: where the old file stands, as it was.
+    pub device: D,
 }
 
 impl<D: Device> BatchFile<D> {
+    /// Puts a file in the place of all that a device has: what was read may stand in the system's memory alone, where an
+    /// earlier sync has failed. It may crash too.
+    pub fn place(mut device: D, frames: Frames) -> Result<BatchFile<D>, NotPlaced<D>>
+        requires faultless { D.faults device ≡ 0 }
+        ensures settled { IfOk result (λ file. IsOnDisk D.seen D.may_leave D.faults file) }
+        ensures placed { IfOk result (λ file. recovered (D.seen file.device) ≡ frames) }
+        ensures end { IfOk result (λ file. file.end + 1 ≡ file_size frames) }
+        // A crash at any moment leaves what one before would have left, or the new file.
+        ensures any_moment { IfOk result (λ file. LeavesOnly D.moment D.left_since device file.device
+            (IsAsBefore (D.may_leave device) frames)) }
+        ensures any_moment_lost { IfErr result (λ lost. LeavesOnly D.moment D.left_since device lost.device
+            (IsAsBefore (D.may_leave device) frames)) }
+        ensures untouched { IfErr result (λ lost. IsUnplaced lost.fault → lost.device ≡ device) }
+        ensures failed { IfErr result (λ lost. IsReplaceFailure lost.fault → D.faults device < D.faults lost.device) }
+    {
+        let (bytes, last) = frames.into_parts();
+        match device.replace(&bytes) {
+            Ok(()) => Ok(BatchFile {
+                device,
+                end: bytes.len() - 1,
+                last,
+            }),
+            Err(fault) => Err(NotPlaced { fault, device }),
+        }
+    }
+
     /// Adds a batch. At `Ok` it is acknowledged: from then on each crash leaves a file that has it.
     /// At `Failed` and `Memory`, open the file again.
-    pub fn append(&mut self, alloc: Global, batch: &[u8]) -> Result<(), BatchFault>
-        requires { IsOnDisk D.seen D.may_leave self.old }
-        ensures settled { OnOk result (IsOnDisk D.seen D.may_leave self.new) }
+    pub fn append(&mut self, batch: &[u8]) -> Result<(), BatchFault>
+        requires { IsOnDisk D.seen D.may_leave D.faults self.old }
+        ensures settled { OnOk result (IsOnDisk D.seen D.may_leave D.faults self.new) }
         ensures added { OnOk result (recovered (D.seen self.new.device) ≡ recovered (D.seen self.old.device) ++ batch.now ∷ []) }
         // A crash at any moment of the call leaves the batches from before it, with the new one or without.
         ensures any_moment { LeavesOnly D.moment D.left_since self.old.device self.new.device
             (IsBeforeOrAfter (recovered (D.seen self.old.device)) batch.now) }
-        ensures failed { IsErrOf result BatchFault.Failed → D.faults self.old.device < D.faults self.new.device }
+        // Each of these is a file that is not refused, but for a coincidence of SHA-256.
+        ensures readable { LeavesOnly D.moment D.left_since self.old.device self.new.device
+            (IsReadableOrChance self.old.last batch.now) }
+        ensures failed { IfErr result (λ fault. IsBatchFailure fault → D.faults self.old.device < D.faults self.new.device) }
         ensures full { IsErrOf result BatchFault.Full → 2 ^ 60 ≤ self.old.end }
-        ensures too_long { IsErrOf result BatchFault.TooLong → 2 ^ 32 ≤ length batch.now }
+        ensures too_long { IsErrOf result BatchFault.TooLong → limit ≤ length batch.now }
     {
-        if batch.len() > MAX_BATCH {
+        if batch.len() >= LIMIT {
             return Err(BatchFault::TooLong);
         }
         if self.end >= MAX_END {
             return Err(BatchFault::Full);
         }
-        let text = body_of(alloc, batch)?;
-        write_down(&mut self.device, self.end + 1, &text)?;
-        write_down(&mut self.device, self.end, &[1])?;
-        self.end += 5 + batch.len();
+        let head = head_of(&self.last, batch);
+        write_behind(&mut self.device, self.end + 1, &head.bytes, batch)?;
+        write_down(&mut self.device, self.end, &[255])?;
+        self.end += 21 + batch.len();
+        self.last = head.digest;
         Ok(())
     }
 
-    /// Puts one batch in the place of all, by the file that `file_of` makes of it. At `Ok` each crash leaves it and nothing
-    /// else. Where it fails, open the file again.
-    pub fn replace(&mut self, batch: &[u8], file: &[u8]) -> Result<(), DeviceFault>
-        requires settled { IsOnDisk D.seen D.may_leave self.old }
-        requires short { length batch.now < 2 ^ 32 }
-        requires file { file.now ≡ frame batch.now ++ 0 ∷ [] }
-        ensures settled { OnOk result (IsOnDisk D.seen D.may_leave self.new) }
-        ensures alone { OnOk result (recovered (D.seen self.new.device) ≡ batch.now ∷ []) }
-        ensures end { OnOk result (self.new.end ≡ 5 + length batch.now) }
-        // A crash at any moment of the call leaves the batches from before it, or the new one alone.
+    /// Puts another file in the place of all that there is. At `Ok` each crash leaves it and nothing else. At `Memory` and
+    /// `Unplaced` it goes on as it was; at `Failed`, open the file again.
+    pub fn replace(&mut self, frames: Frames) -> Result<(), ReplaceFault>
+        requires { IsOnDisk D.seen D.may_leave D.faults self.old }
+        ensures settled { OnOk result (IsOnDisk D.seen D.may_leave D.faults self.new) }
+        ensures replaced { OnOk result (recovered (D.seen self.new.device) ≡ frames) }
+        ensures end { OnOk result (self.new.end + 1 ≡ file_size frames) }
+        // A crash at any moment of the call leaves the batches from before it, or the new ones in their place.
         ensures any_moment { LeavesOnly D.moment D.left_since self.old.device self.new.device
-            (IsOldOrNew (recovered (D.seen self.old.device)) batch.now) }
-        ensures failed { IsErrOf result DeviceFault.Failed → D.faults self.old.device < D.faults self.new.device }
+            (IsOldOrNew (recovered (D.seen self.old.device)) frames) }
+        ensures readable { LeavesOnly D.moment D.left_since self.old.device self.new.device IsReadable }
+        ensures untouched { IfErr result (λ fault. IsUnplaced fault → self.new ≡ self.old) }
+        ensures failed { IfErr result (λ fault. IsReplaceFailure fault → D.faults self.old.device < D.faults self.new.device) }
     {
-        self.device.replace(file)?;
-        self.end = 5 + batch.len();
+        let (bytes, last) = frames.into_parts();
+        self.device.replace(&bytes)?;
+        self.end = bytes.len() - 1;
+        self.last = last;
         Ok(())
     }
 }
 
-/// Reads the batches of a file that a crash may have left, and repairs its end: what stands behind them is cut off, and
-/// a closed latch put there. It may crash too.
-pub fn recover<D: Device>(
-    alloc: Global,
+/// Writes a batch, what stands before it and a closed latch behind it, and waits until they are on the disk.
+fn write_behind<D: Device>(
     device: &mut D,
-    bytes: &[u8],
-) -> Result<Batches, DeviceFault>
-    requires same { bytes.now ≡ D.seen device.old }
-    // After a restart, what is read is what is on the disk.
+    at: usize,
+    head: &[u8],
+    batch: &[u8],
+) -> Result<(), DeviceFault>
+    requires within { at ≤ length (D.seen device.old) }
+    requires short { at + length head.now + length batch.now < 2 ^ 63 }
     requires durable { Only (D.seen device.old) (D.may_leave device.old) }
-    ensures batches { IfOk result (λ found. lists found.batches.items ≡ recovered (D.seen device.old)) }
-    ensures at_rest { IfOk result (λ found. IsAtRest found.end (D.seen device.new)) }
-    ensures same { OnOk result (recovered (D.seen device.new) ≡ recovered (D.seen device.old)) }
+    requires faultless { D.faults device.old ≡ 0 }
+    ensures written { OnOk result (IsWrittenAt (D.seen device.old) at (head.now ++ batch.now ++ 0 ∷ []) (D.seen device.new)) }
     ensures durable { OnOk result (Only (D.seen device.new) (D.may_leave device.new)) }
-    // A crash at any moment leaves the same batches.
     ensures any_moment { LeavesOnly D.moment D.left_since device.old device.new
-        (λ left. recovered left ≡ recovered (D.seen device.old)) }
-    ensures failed { IsErrOf result DeviceFault.Failed → D.faults device.old < D.faults device.new }
+        (Torn at (length head.now + length batch.now + 1) (D.seen device.old)) }
+    ensures cause { HasCause IsFailure (D.faults device.old) (D.faults device.new) result }
 {
-    let found = read_batches(alloc, bytes)?;
-    // The cut has to be on the disk first: behind a latch that is torn open, what was there would count.
-    cut_down(device, found.end)?;
-    write_down(device, found.end, &[0])?;
-    Ok(found)
+    device.write_at(at, head)?;
+    let at = at + head.len();
+    device.write_at(at, batch)?;
+    device.write_at(at + batch.len(), &[0])?;
+    device.sync()?;
+    Ok(())
 }
 
 /// Writes, and waits until it is on the disk.
 fn write_down<D: Device>(device: &mut D, at: usize, bytes: &[u8]) -> Result<(), DeviceFault>
     requires within { at ≤ length (D.seen device.old) }
     requires durable { Only (D.seen device.old) (D.may_leave device.old) }
+    requires faultless { D.faults device.old ≡ 0 }
     ensures written { OnOk result (IsWrittenAt (D.seen device.old) at bytes.now (D.seen device.new)) }
     ensures durable { OnOk result (Only (D.seen device.new) (D.may_leave device.new)) }
     ensures any_moment { LeavesOnly D.moment D.left_since device.old device.new
         (Torn at (length bytes.now) (D.seen device.old)) }
-    ensures cause { HasCause (D.faults device.old) (D.faults device.new) result }
+    ensures cause { HasCause IsFailure (D.faults device.old) (D.faults device.new) result }
 {
     device.write_at(at, bytes)?;
-    device.sync()?;
-    Ok(())
-}
-
-/// Cuts, and waits until it is on the disk.
-fn cut_down<D: Device>(device: &mut D, len: usize) -> Result<(), DeviceFault>
-    requires within { len ≤ length (D.seen device.old) }
-    requires durable { Only (D.seen device.old) (D.may_leave device.old) }
-    ensures cut { OnOk result (D.seen device.new ≡ take len (D.seen device.old)) }
-    ensures durable { OnOk result (Only (D.seen device.new) (D.may_leave device.new)) }
-    ensures any_moment { LeavesOnly D.moment D.left_since device.old device.new
-        (Cut len (D.seen device.old)) }
-    ensures cause { HasCause (D.faults device.old) (D.faults device.new) result }
-{
-    device.cut(len)?;
     device.sync()?;
     Ok(())
 }

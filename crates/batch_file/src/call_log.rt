@@ -7,6 +7,7 @@ ghost use Rattle.batch_file.specs.Calls.{Logged};
 ghost use Rattle.batch_file.specs.CallsParts.{logged, noted};
 
 use crate::device::DeviceFault;
+use crate::system::SystemFault;
 use std::io;
 use std::marker::{Model, PhantomData};
 
@@ -17,8 +18,6 @@ pub enum DiskCall<'b> {
     Opened(&'b [u8]),
     /// These bytes were written at this place.
     Wrote { at: u64, bytes: &'b [u8] },
-    /// The file was cut to this length.
-    CutTo(u64),
     /// What was done is on the disk (`fdatasync`).
     Synced,
     /// Another file with these bytes was renamed over it, and the folder synced.
@@ -65,13 +64,12 @@ impl CallLog {
         match call {
             DiskCall::Opened(bytes) => self.note(&[0, 0, succeeded], bytes),
             DiskCall::Wrote { at, bytes } => self.note(&[1, at, succeeded], bytes),
-            DiskCall::CutTo(len) => self.note(&[2, len, succeeded], &[]),
-            DiskCall::Synced => self.note(&[3, 0, succeeded], &[]),
-            DiskCall::Replaced(bytes) => self.note(&[4, 0, succeeded], bytes),
+            DiskCall::Synced => self.note(&[2, 0, succeeded], &[]),
+            DiskCall::Replaced(bytes) => self.note(&[3, 0, succeeded], bytes),
         }
         match answer {
             Ok(()) => Ok(()),
-            Err(_) => Err(DeviceFault::Failed),
+            Err(error) => Err(DeviceFault::Failed(SystemFault::of(&error))),
         }
     }
 }

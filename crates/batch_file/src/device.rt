@@ -1,10 +1,12 @@
 //! A file as a `BatchFile` sees it: what a read would return, and what a crash may leave.
 
-ghost use Rattle.std.specs.Prelude.{◌≡◌, ◌≤◌, List, ℕ, length, take, OnOk, Some};
+ghost use Rattle.std.specs.Prelude.{◌≡◌, ◌≤◌, List, ℕ, length, OnOk, IfErr, Some};
 ghost use Rattle.batch_file.specs.declared.device.DeviceFault.TheVariants.{Memory};
-ghost use Rattle.batch_file.specs.Crashes.{Cut, Elapses, ComesOfStep, HasCause, IsWrittenAt, Only, Swapped, Torn};
-ghost use Rattle.batch_file.specs.FaultTexts.{device_fault_text};
+ghost use Rattle.batch_file.specs.declared.device.ReplaceFault.TheVariants as replacing;
+ghost use Rattle.batch_file.specs.Crashes.{Elapses, ComesOfStep, HasCause, IsFailure, IsUnplaced, IsReplaceFailure, IsWrittenAt, Only, Swapped, Torn};
+ghost use Rattle.batch_file.specs.FaultTexts.{device_fault_text, of_replacing, replace_fault_text};
 
+use crate::system::SystemFault;
 use std::alloc::{AllocError, AllocFailed};
 use std::fmt::{self, Display, Formatter, Write};
 
@@ -14,7 +16,7 @@ pub enum DeviceFault {
     /// Memory was refused.
     Memory,
     /// The disk failed.
-    Failed,
+    Failed(SystemFault),
 }
 
 impl Display for DeviceFault {
@@ -23,7 +25,7 @@ impl Display for DeviceFault {
     fn fmt<W: Write>(&self, f: &mut Formatter<W>) -> fmt::Result {
         match self {
             DeviceFault::Memory => write!(f, "Memory"),
-            DeviceFault::Failed => write!(f, "Failed"),
+            DeviceFault::Failed(reason) => write!(f, "Failed: {reason}"),
         }
     }
 }
@@ -41,6 +43,48 @@ impl<T: Drop> From<AllocFailed<T>> for DeviceFault {
 
     fn from(_: AllocFailed<T>) -> DeviceFault {
         DeviceFault::Memory
+    }
+}
+
+/// Why no other file was put in the place of one.
+#[derive(Clone, Copy, Debug, PartialEq, Eq)]
+pub enum ReplaceFault {
+    /// Memory was refused: the old file stands.
+    Memory,
+    /// The other file could not be written, or not be put there: the old file stands.
+    Unplaced(SystemFault),
+    /// The disk failed: which of the two stands is not known.
+    Failed(SystemFault),
+}
+
+impl Display for ReplaceFault {
+    ghost output = { λ fault. Some (replace_fault_text fault) };
+
+    fn fmt<W: Write>(&self, f: &mut Formatter<W>) -> fmt::Result {
+        match self {
+            ReplaceFault::Memory => write!(f, "Memory"),
+            ReplaceFault::Unplaced(reason) => write!(f, "Unplaced: {reason}"),
+            ReplaceFault::Failed(reason) => write!(f, "Failed: {reason}"),
+        }
+    }
+}
+
+impl From<AllocError> for ReplaceFault {
+    ghost from_gives = { λ _ fault. fault ≡ replacing.Memory };
+
+    fn from(_: AllocError) -> ReplaceFault {
+        ReplaceFault::Memory
+    }
+}
+
+impl From<DeviceFault> for ReplaceFault {
+    ghost from_gives = { λ device fault. fault ≡ of_replacing device };
+
+    fn from(device: DeviceFault) -> ReplaceFault {
+        match device {
+            DeviceFault::Memory => ReplaceFault::Memory,
+            DeviceFault::Failed(reason) => ReplaceFault::Failed(reason),
+        }
     }
 }
 
@@ -67,31 +111,24 @@ pub trait Device {
         ensures written { OnOk result (IsWrittenAt (seen self.old) at bytes.now (seen self.new)) }
         ensures crash { ComesOfStep (Torn at (length bytes.now)) (may_leave self.old) (may_leave self.new) }
         ensures time { Elapses (moment self.old) (moment self.new) (left_since self.old) (left_since self.new) (may_leave self.new) }
-        ensures cause { HasCause (faults self.old) (faults self.new) result };
+        ensures cause { HasCause IsFailure (faults self.old) (faults self.new) result };
 
-    /// Cuts the file to a length.
-    fn cut(&mut self, len: usize) -> Result<(), DeviceFault>
-        requires { len ≤ length (seen self.old) }
-        ensures cut { OnOk result (seen self.new ≡ take len (seen self.old)) }
-        ensures crash { ComesOfStep (Cut len) (may_leave self.old) (may_leave self.new) }
-        ensures time { Elapses (moment self.old) (moment self.new) (left_since self.old) (left_since self.new) (may_leave self.new) }
-        ensures cause { HasCause (faults self.old) (faults self.new) result };
-
-    /// Waits until the file is on the disk: after it a crash leaves what a read would return.
+    /// Waits until the file is on the disk: after it a crash leaves what a read would return, unless the disk has failed before.
     fn sync(&mut self) -> Result<(), DeviceFault>
-        ensures durable { OnOk result (Only (seen self.old) (may_leave self.new)) }
+        ensures durable { OnOk result (faults self.old ≡ 0 → Only (seen self.old) (may_leave self.new)) }
         ensures seen { seen self.new ≡ seen self.old }
         ensures crash { (left : List ℕ) → may_leave self.new left → may_leave self.old left }
         ensures time { Elapses (moment self.old) (moment self.new) (left_since self.old) (left_since self.new) (may_leave self.new) }
-        ensures cause { HasCause (faults self.old) (faults self.new) result };
+        ensures cause { HasCause IsFailure (faults self.old) (faults self.new) result };
 
     /// Puts another file in the place of this one. A crash leaves the one or the other.
-    fn replace(&mut self, bytes: &[u8]) -> Result<(), DeviceFault>
+    fn replace(&mut self, bytes: &[u8]) -> Result<(), ReplaceFault>
         ensures replaced { OnOk result (seen self.new ≡ bytes.now) }
         ensures durable { OnOk result (Only bytes.now (may_leave self.new)) }
+        ensures untouched { IfErr result (λ fault. IsUnplaced fault → self.new ≡ self.old) }
         ensures crash { ComesOfStep (Swapped bytes.now) (may_leave self.old) (may_leave self.new) }
         ensures time { Elapses (moment self.old) (moment self.new) (left_since self.old) (left_since self.new) (may_leave self.new) }
-        ensures cause { HasCause (faults self.old) (faults self.new) result };
+        ensures cause { HasCause IsReplaceFailure (faults self.old) (faults self.new) result };
 
     /// This moment is one of those since an earlier one.
     ghost counts_now: { (file : Self) (t : ℕ) (left : List ℕ) → t ≤ moment file → may_leave file left → left_since file t left };

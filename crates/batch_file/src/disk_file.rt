@@ -1,94 +1,54 @@
 //! A file of the system as a device. Each method makes the calls that it notes: this has to be read, since a body that
 //! notes a sync and makes none would be proved as well.
 //!
-//! The lock is held on a file of its own beside it, since the file itself is another one after a replacement.
+//! The lock is held on a file of its own beside it, since the file itself is another one after a replacement, and on the
+//! file, which may be mounted in two places.
 
-ghost use Rattle.std.specs.Prelude.{◌≡◌, length, IfOk, OnOk, IfSome, Some};
+ghost use Rattle.std.specs.Prelude.{◌≡◌, length, IfOk, IfErr, OnOk, IfSome, IfNone, IsErrOf, IsTrue, ◌↔◌, Some};
 ghost use Rattle.std.specs.Io.KnownBytes.{IsAtEnd};
 ghost use Rattle.std.specs.IoError.{error_kind};
 ghost use Rattle.std.specs.Path.{path_bytes};
-ghost use Rattle.batch_file.specs.declared.disk_file.OpenFault.TheVariants.{Memory};
+ghost use Rattle.batch_file.specs.declared.disk_file.OpenFault.TheVariants as opening;
+ghost use Rattle.batch_file.specs.declared.disk_file.MakeFault.TheVariants as making;
 ghost use Rattle.batch_file.specs.Calls.{content, failures, LeftSince, MayLeave};
-ghost use Rattle.batch_file.specs.Crashes.{Only};
-ghost use Rattle.batch_file.specs.FaultTexts.{of_error, of_lock, open_fault_text, system_fault, system_fault_text};
+ghost use Rattle.batch_file.specs.Crashes.{IsUnplaced};
+ghost use Rattle.batch_file.specs.FaultTexts.{make_fault_text, of_error, of_making, of_lock, open_fault_text};
 ghost use Rattle.batch_file.specs.Folders.{folder_of};
 ghost use Rattle.batch_file.specs.Moments.{counts_now_of, only_now_of};
 
 use crate::call_log::{CallLog, DiskCall};
-use crate::device::{Device, DeviceFault};
+use crate::device::{Device, DeviceFault, ReplaceFault};
+use crate::system::SystemFault;
 use std::alloc::{AllocError, Global};
 use std::fmt::{self, Display, Formatter, Write as _};
-use std::fs::{self, File, OpenOptions, TryLockError};
+use std::fs::{self, File, Metadata, OpenOptions, TryLockError};
 use std::io::{self, ErrorKind, Read, Write};
-use std::os::unix::fs::{FileExt, OpenOptionsExt};
+use std::os::unix::fs::{FileExt, MetadataExt, OpenOptionsExt, lchown};
 use std::path::Path;
 use std::rt::Files;
 
 /// A new file may be read and written by its owner alone.
 const OWNER_ONLY: u32 = 0o600;
 
-/// Why the system refused a call on a file.
-#[derive(Clone, Copy, Debug, PartialEq, Eq)]
-pub enum SystemFault {
-    /// A folder of the path is not there.
-    NotFound,
-    /// The program may not do it.
-    PermissionDenied,
-    /// What should be a folder is none.
-    NotADirectory,
-    /// The path is that of a folder.
-    IsADirectory,
-    /// Nothing can be written on the disk.
-    ReadOnlyFilesystem,
-    /// The disk is full.
-    StorageFull,
-    /// The program's owner has no more room on the disk.
-    QuotaExceeded,
-    /// Some other fault.
-    Other,
-}
-
-impl SystemFault {
-    /// The fault of a kind of error.
-    fn of_kind(kind: ErrorKind) -> SystemFault
-        ensures { result ≡ system_fault kind }
-    {
-        match kind {
-            ErrorKind::NotFound => SystemFault::NotFound,
-            ErrorKind::PermissionDenied => SystemFault::PermissionDenied,
-            ErrorKind::NotADirectory => SystemFault::NotADirectory,
-            ErrorKind::IsADirectory => SystemFault::IsADirectory,
-            ErrorKind::ReadOnlyFilesystem => SystemFault::ReadOnlyFilesystem,
-            ErrorKind::StorageFull => SystemFault::StorageFull,
-            ErrorKind::QuotaExceeded => SystemFault::QuotaExceeded,
-            _ => SystemFault::Other,
-        }
-    }
-}
-
-impl Display for SystemFault {
-    ghost output = { λ fault. Some (system_fault_text fault) };
-
-    fn fmt<W: std::fmt::Write>(&self, f: &mut Formatter<W>) -> fmt::Result {
-        match self {
-            SystemFault::NotFound => write!(f, "not found"),
-            SystemFault::PermissionDenied => write!(f, "permission denied"),
-            SystemFault::NotADirectory => write!(f, "not a directory"),
-            SystemFault::IsADirectory => write!(f, "is a directory"),
-            SystemFault::ReadOnlyFilesystem => write!(f, "read-only filesystem"),
-            SystemFault::StorageFull => write!(f, "no storage space"),
-            SystemFault::QuotaExceeded => write!(f, "quota exceeded"),
-            SystemFault::Other => write!(f, "other error"),
-        }
-    }
-}
+/// The bits by which a file's group and others may write it.
+const OTHERS_WRITE: u32 = 0o022;
 
 /// Why a file is not opened.
 #[derive(Clone, Copy, Debug, PartialEq, Eq)]
 pub enum OpenFault {
     /// Memory was refused.
     Memory,
-    /// Another program holds its lock.
+    /// It is not there.
+    Missing,
+    /// It is a symbolic link.
+    Link,
+    /// It is a folder, a pipe or another thing that is no file.
+    NotAFile,
+    /// It has another name, by a hard link.
+    SecondLink,
+    /// Its group or others may write it.
+    WritableByOthers,
+    /// Another program has it: it holds its lock, or has put another file there just now.
     InUse,
     /// The system refused a call.
     Open(SystemFault),
@@ -100,14 +60,19 @@ impl Display for OpenFault {
     fn fmt<W: std::fmt::Write>(&self, f: &mut Formatter<W>) -> fmt::Result {
         match self {
             OpenFault::Memory => write!(f, "Memory"),
+            OpenFault::Missing => write!(f, "Missing"),
+            OpenFault::Link => write!(f, "Link"),
+            OpenFault::NotAFile => write!(f, "NotAFile"),
+            OpenFault::SecondLink => write!(f, "SecondLink"),
+            OpenFault::WritableByOthers => write!(f, "WritableByOthers"),
             OpenFault::InUse => write!(f, "InUse"),
-            OpenFault::Open(fault) => write!(f, "Open: {fault}"),
+            OpenFault::Open(reason) => write!(f, "Open: {reason}"),
         }
     }
 }
 
 impl From<AllocError> for OpenFault {
-    ghost from_gives = { λ _ fault. fault ≡ Memory };
+    ghost from_gives = { λ _ fault. fault ≡ opening.Memory };
 
     fn from(_: AllocError) -> OpenFault {
         OpenFault::Memory
@@ -115,12 +80,13 @@ impl From<AllocError> for OpenFault {
 }
 
 impl From<io::Error> for OpenFault {
-    ghost from_gives = { λ error fault. fault ≡ of_error (error_kind error) };
+    ghost from_gives = { λ error fault. fault ≡ of_error error };
 
     fn from(error: io::Error) -> OpenFault {
         match error.kind() {
             ErrorKind::OutOfMemory => OpenFault::Memory,
-            kind => OpenFault::Open(SystemFault::of_kind(kind)),
+            ErrorKind::NotFound => OpenFault::Missing,
+            _ => OpenFault::Open(SystemFault::of(&error)),
         }
     }
 }
@@ -136,7 +102,50 @@ impl From<TryLockError> for OpenFault {
     }
 }
 
-/// A file of the system, open for reading and writing and locked, and the path of the one that is to take its place.
+/// Why a file is not made.
+#[derive(Clone, Copy, Debug, PartialEq, Eq)]
+pub enum MakeFault {
+    /// Memory was refused.
+    Memory,
+    /// Something is there.
+    Exists,
+    /// The system refused a call.
+    Make(SystemFault),
+}
+
+impl Display for MakeFault {
+    ghost output = { λ fault. Some (make_fault_text fault) };
+
+    fn fmt<W: std::fmt::Write>(&self, f: &mut Formatter<W>) -> fmt::Result {
+        match self {
+            MakeFault::Memory => write!(f, "Memory"),
+            MakeFault::Exists => write!(f, "Exists"),
+            MakeFault::Make(reason) => write!(f, "Make: {reason}"),
+        }
+    }
+}
+
+impl From<AllocError> for MakeFault {
+    ghost from_gives = { λ _ fault. fault ≡ making.Memory };
+
+    fn from(_: AllocError) -> MakeFault {
+        MakeFault::Memory
+    }
+}
+
+impl From<io::Error> for MakeFault {
+    ghost from_gives = { λ error fault. fault ≡ of_making error };
+
+    fn from(error: io::Error) -> MakeFault {
+        match error.kind() {
+            ErrorKind::OutOfMemory => MakeFault::Memory,
+            ErrorKind::AlreadyExists => MakeFault::Exists,
+            _ => MakeFault::Make(SystemFault::of(&error)),
+        }
+    }
+}
+
+/// A file of the system, open for reading and writing and locked, and the paths of those beside it.
 #[derive(Drop)]
 pub struct DiskFile<'r, R> {
     rt: &'r R,
@@ -145,6 +154,7 @@ pub struct DiskFile<'r, R> {
     lock: File,
     path: String,
     next_path: String,
+    torn_path: String,
     log: CallLog,
 }
 
@@ -155,10 +165,10 @@ pub struct Opened<'r, R> {
     pub bytes: Vec<u8>,
 }
 
-/// How a file is opened that is made where there is none.
+/// How a file is opened that is there, or is made.
 fn options() -> OpenOptions {
     let mut options = OpenOptions::new();
-    options.read(true).write(true).create(true).mode(OWNER_ONLY);
+    options.read(true).write(true).mode(OWNER_ONLY);
     options
 }
 
@@ -183,24 +193,105 @@ fn folder_of(path: &str) -> Path<'_>
     }
 }
 
+/// Why a file of which the system tells this is not opened.
+fn fault_of(found: &Metadata) -> Option<OpenFault> {
+    if found.is_symlink() {
+        Some(OpenFault::Link)
+    } else if !found.is_file() {
+        Some(OpenFault::NotAFile)
+    } else if found.nlink() != 1 {
+        Some(OpenFault::SecondLink)
+    } else if found.mode() & OTHERS_WRITE != 0 {
+        Some(OpenFault::WritableByOthers)
+    } else {
+        None
+    }
+}
+
+/// Whether a rename that the system refused for this reason has renamed nothing.
+fn leaves_old(reason: SystemFault) -> bool {
+    match reason {
+        SystemFault::ResourceBusy
+        | SystemFault::CrossesDevices
+        | SystemFault::PermissionDenied
+        | SystemFault::ReadOnlyFilesystem
+        | SystemFault::StorageFull
+        | SystemFault::QuotaExceeded
+        | SystemFault::NotFound
+        | SystemFault::IsADirectory
+        | SystemFault::NotADirectory => true,
+        _ => false,
+    }
+}
+
+/// Opens the file of a path, where it is one file that no other may write. What the system tells of the path is asked first,
+/// since to open a pipe would wait for another program.
+fn open_checked<R: Files<File = File>>(rt: &R, path: &str) -> Result<File, OpenFault> {
+    let found = fs::symlink_metadata(rt, path)?;
+    if let Some(fault) = fault_of(&found) {
+        return Err(fault);
+    }
+    let file = options().open(rt, path)?;
+    let opened = file.metadata()?;
+    if (opened.dev(), opened.ino()) != (found.dev(), found.ino()) {
+        return Err(OpenFault::InUse);
+    }
+    Ok(file)
+}
+
+/// Makes a new file with these bytes in a folder, on the disk, or none.
+fn make_file<R: Files<File = File>>(
+    rt: &R,
+    folder: &File,
+    path: &str,
+    bytes: &[u8],
+) -> io::Result<()> {
+    let mut file = options().create_new(true).open(rt, path)?;
+    let written = write_whole(&mut file, folder, bytes);
+    if written.is_err() {
+        let _ = fs::remove_file(rt, path);
+    }
+    written
+}
+
+/// Writes a new file of a folder, and waits until both are on the disk.
+fn write_whole(file: &mut File, folder: &File, bytes: &[u8]) -> io::Result<()> {
+    file.write_all(bytes)?;
+    file.sync_all()?;
+    folder.sync_all()
+}
+
+/// Makes a new file with these bytes, and waits until it is on the disk. Where something is there, it stays as it is.
+pub fn make<R: Files<File = File> + AllocGlobal>(
+    rt: &R,
+    path: &str,
+    bytes: &[u8],
+) -> Result<(), MakeFault> {
+    let folder = File::open(rt, folder_of(path))?;
+    make_file(rt, &folder, path, bytes)?;
+    Ok(())
+}
+
 impl<'r, R: Files<File = File> + AllocGlobal> DiskFile<'r, R> {
-    /// Opens the file of a path, or makes it, and locks it. What is read of it is on the disk.
+    /// Opens the file of a path and locks it: nothing is made but the file beside it that holds the lock. What is read of it
+    /// may not be on the disk, where an earlier program could not write it.
     pub fn open(rt: &'r R, path: &str) -> Result<Opened<'r, R>, OpenFault>
         ensures same { IfOk result (λ opened. opened.bytes.items ≡ content opened.device.log.calls) }
-        ensures durable { IfOk result (λ opened. Only (content opened.device.log.calls) (MayLeave opened.device.log.calls)) }
         ensures faultless { IfOk result (λ opened. failures opened.device.log.calls ≡ 0) }
     {
         let alloc = rt.alloc();
         let next_path = format!(in alloc; "{path}.next")?;
+        let torn_path = format!(in alloc; "{path}.torn")?;
         let lock_path = format!(in alloc; "{path}.lock")?;
         let path = String::from_str(alloc, path)?;
+        if let Some(fault) = fault_of(&fs::symlink_metadata(rt, path.as_str())?) {
+            return Err(fault);
+        }
         let folder = File::open(rt, folder_of(path.as_str()))?;
-        let lock = options().open(rt, lock_path.as_str())?;
+        let lock = options().create(true).open(rt, lock_path.as_str())?;
         lock.try_lock()?;
-        let _ = fs::remove_file(rt, next_path.as_str());
-        let mut file = options().open(rt, path.as_str())?;
-        file.sync_all()?;
-        folder.sync_all()?;
+        let mut file = open_checked(rt, path.as_str())?;
+        file.try_lock()?;
         let bytes = read_whole(alloc, &mut file)?;
         let mut log = CallLog::new();
         let _ = log.told(DiskCall::Opened(&bytes), Ok(()));
@@ -211,22 +302,52 @@ impl<'r, R: Files<File = File> + AllocGlobal> DiskFile<'r, R> {
             lock,
             path,
             next_path,
+            torn_path,
             log,
         };
         Ok(Opened { device, bytes })
     }
 
-    /// Writes another file with these bytes, and puts it in the place of this one.
-    fn swap(&mut self, bytes: &[u8]) -> io::Result<()>
-        ensures { self.new.log ≡ self.old.log }
-    {
+    /// Puts aside what an append that was not finished left, in a file of its own beside this one.
+    pub fn set_aside(&self, torn: &[u8]) -> Result<(), DeviceFault> {
+        let torn_path = self.torn_path.as_str();
+        let _ = fs::remove_file(self.rt, torn_path);
+        match make_file(self.rt, &self.folder, torn_path, torn) {
+            Ok(()) => Ok(()),
+            Err(error) => Err(DeviceFault::Failed(SystemFault::of(&error))),
+        }
+    }
+
+    /// Writes another file with these bytes beside this one, with its owner, group and mode.
+    fn write_next(&self, bytes: &[u8]) -> io::Result<File> {
         let next_path = self.next_path.as_str();
-        let mut file = options().truncate(true).open(self.rt, next_path)?;
-        file.write_all(bytes)?;
-        file.sync_all()?;
-        fs::rename(self.rt, next_path, self.path.as_str())?;
-        self.file = file;
-        self.folder.sync_all()
+        let _ = fs::remove_file(self.rt, next_path);
+        let mut next = options().create_new(true).open(self.rt, next_path)?;
+        let there = self.file.metadata()?;
+        let made = next.metadata()?;
+        if (made.uid(), made.gid()) != (there.uid(), there.gid()) {
+            lchown(self.rt, next_path, Some(there.uid()), Some(there.gid()))?;
+        }
+        next.set_permissions(there.permissions())?;
+        next.write_all(bytes)?;
+        next.sync_all()?;
+        Ok(next)
+    }
+
+    /// Puts the file that was written beside this one in its place. The inner result tells whether it is there on the disk.
+    fn put_next(&mut self, next: File) -> Result<io::Result<()>, SystemFault>
+        ensures log { self.new.log ≡ self.old.log }
+        ensures untouched { IfErr result (λ _. self.new ≡ self.old) }
+    {
+        if let Err(error) = fs::rename(self.rt, self.next_path.as_str(), self.path.as_str()) {
+            let reason = SystemFault::of(&error);
+            if leaves_old(reason) {
+                return Err(reason);
+            }
+            return Ok(Err(error));
+        }
+        self.file = next;
+        Ok(self.folder.sync_all())
     }
 }
 
@@ -251,19 +372,22 @@ impl<'r, R: Files<File = File> + AllocGlobal> Device for DiskFile<'r, R> {
         self.log.told(DiskCall::Wrote { at, bytes }, answer)
     }
 
-    fn cut(&mut self, len: usize) -> Result<(), DeviceFault> {
-        let len = len as u64;
-        let answer = self.file.set_len(len);
-        self.log.told(DiskCall::CutTo(len), answer)
-    }
-
     fn sync(&mut self) -> Result<(), DeviceFault> {
         let answer = self.file.sync_data();
         self.log.told(DiskCall::Synced, answer)
     }
 
-    fn replace(&mut self, bytes: &[u8]) -> Result<(), DeviceFault> {
-        let answer = self.swap(bytes);
-        self.log.told(DiskCall::Replaced(bytes), answer)
+    fn replace(&mut self, bytes: &[u8]) -> Result<(), ReplaceFault> {
+        let put = match self.write_next(bytes) {
+            Ok(next) => self.put_next(next),
+            Err(error) => Err(SystemFault::of(&error)),
+        };
+        match put {
+            Ok(answer) => Ok(self.log.told(DiskCall::Replaced(bytes), answer)?),
+            Err(reason) => {
+                let _ = fs::remove_file(self.rt, self.next_path.as_str());
+                Err(ReplaceFault::Unplaced(reason))
+            }
+        }
     }
 }

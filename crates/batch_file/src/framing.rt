@@ -1,88 +1,275 @@
-//! Frames: a latch of one byte, the length of a batch in four, and the batch.
+//! A header, and frames: a latch of one byte, the length of a batch in four, its digest in 16, and the batch.
 //!
-//! A frame counts if its latch is open (1) and all of it is there. A closed latch (0) stands behind the last one, on the
-//! disk before anything is written behind it.
+//! A latch of 0 is closed, and stands behind the last frame, on the disk before anything is written behind it. Any other
+//! counts: then the frame has to be there, whole, with its digest. The digest is made of the one before it too, so a frame
+//! that is dropped, doubled or moved has not its own.
 
-ghost use Rattle.std.specs.Prelude.{◌≡◌, ◌<◌, ◌≤◌, ◌^◌, ◌+◌, ◌++◌, [], ◌∷◌, ℕ, length, take, drop, IfOk, IfSome, IfNone};
-ghost use Rattle.batch_file.specs.Frames.{body, frame, recovered, torn_size, AreFrames, lists};
+ghost use Rattle.std.specs.Prelude.{◌≡◌, ◌<◌, ◌≤◌, ◌^◌, ◌⊎◌, ◌+◌, ◌++◌, [], ◌∷◌, ℕ, List, length, take, drop, IfOk, IfErr, IfSome, IfNone, IsTrue, IsFalse, ◌↔◌, Some};
+ghost use Rattle.std.specs.Int.{w32, to_be_bytes};
+ghost use Rattle.batch_file.specs.declared.framing.ReadFault.TheVariants.{Memory};
+ghost use Rattle.batch_file.specs.FaultTexts.{read_fault_text};
+ghost use Rattle.batch_file.specs.Frames.{digest, lists, recovered, seal, torn_of, HidesFrame, IsFrame, IsNoEnd, IsReadable, IsSealed, IsVersion, RefusesFile};
+ghost use Rattle.batch_file.specs.Reads.{IsFound, IsOpenEnd};
 
-use std::alloc::{AllocError, Global};
+use crate::frames::Frames;
+use crate::version_1::is_first_kind;
+use sha2::{Digest, Sha256};
+use std::alloc::{AllocError, AllocFailed, Global};
+use std::fmt::{self, Display, Formatter, Write};
 
-/// The batches of a file, and where the last of them ends.
+/// What a file of each version begins with, up to its digit.
+const TITLE: [u8; 14] = *b"oauthd state v";
+
+/// What each file begins with.
+pub const HEADER: [u8; 16] = *b"oauthd state v2\n";
+
+/// Behind a closed latch an append that was not finished leaves no more than this.
+const LONGEST_TORN: usize = (1 << 20) + 20;
+
+/// Why a file is not read.
+#[derive(Clone, Copy, Debug, PartialEq, Eq)]
+pub enum ReadFault {
+    /// Memory was refused.
+    Memory,
+    /// It is no state file.
+    NotState,
+    /// It is a state file of this other version.
+    Version(u8),
+    /// So many batches are right, and what is behind them is damaged.
+    Damaged(usize),
+}
+
+impl Display for ReadFault {
+    ghost output = { λ fault. Some (read_fault_text fault) };
+
+    fn fmt<W: Write>(&self, f: &mut Formatter<W>) -> fmt::Result {
+        match self {
+            ReadFault::Memory => write!(f, "Memory"),
+            ReadFault::NotState => write!(f, "NotState"),
+            ReadFault::Version(version) => write!(f, "Version {version}"),
+            ReadFault::Damaged(batches) => write!(f, "Damaged {batches}"),
+        }
+    }
+}
+
+impl From<AllocError> for ReadFault {
+    ghost from_gives = { λ _ fault. fault ≡ Memory };
+
+    fn from(_: AllocError) -> ReadFault {
+        ReadFault::Memory
+    }
+}
+
+impl<T: Drop> From<AllocFailed<T>> for ReadFault {
+    ghost from_gives = { λ _ fault. fault ≡ Memory };
+
+    fn from(_: AllocFailed<T>) -> ReadFault {
+        ReadFault::Memory
+    }
+}
+
+/// What a file was read as.
 #[derive(Drop)]
 pub struct Batches {
     /// The batches, the first one first.
     pub batches: Vec<Vec<u8>>,
-    /// Where the frame of the last one ends.
-    pub end: usize,
+    /// A file of these batches.
+    pub frames: Frames,
+    /// What an append that was not finished left behind the closed latch.
+    pub torn: Vec<u8>,
 }
 
-/// The batches that a file's bytes stand for, and where the last of them ends.
-pub fn read_batches(alloc: Global, bytes: &[u8]) -> Result<Batches, AllocError>
-    ensures batches { IfOk result (λ found. lists found.batches.items ≡ recovered bytes.now) }
-    ensures within { IfOk result (λ found. found.end ≤ length bytes.now) }
-    ensures frames { IfOk result (λ found. AreFrames (take found.end bytes.now) (recovered bytes.now)) }
-    ensures nothing { IfOk result (λ found. (n : ℕ) → recovered (take n (drop found.end bytes.now)) ≡ []) }
+/// The batches that a file's bytes stand for, where they are not refused.
+pub fn read_batches(alloc: Global, bytes: &[u8]) -> Result<Batches, ReadFault>
+    ensures batches { IfOk result (λ read. lists read.batches.items ≡ recovered bytes.now) }
+    ensures frames { IfOk result (λ read. read.frames ≡ recovered bytes.now) }
+    ensures torn { IfOk result (λ read. read.torn.items ≡ torn_of bytes.now) }
+    ensures readable { IfOk result (λ _. IsReadable bytes.now) }
+    ensures refused { IfErr result (λ fault. (fault ≡ Memory) ⊎ RefusesFile bytes.now fault) }
 {
+    let found = find_batches(alloc, bytes)?;
+    let whole = without_torn(alloc, bytes, found.end)?;
+    Ok(Batches {
+        batches: found.batches,
+        frames: Frames::of(whole, found.last),
+        torn: bytes[found.end + 1..].to_vec(alloc)?,
+    })
+}
+
+/// The batches of a file, and where the last of them ends.
+#[derive(Drop)]
+struct Found {
+    batches: Vec<Vec<u8>>,
+    /// Where the closed latch stands.
+    end: usize,
+    /// The digest of the last frame.
+    last: [u8; 16],
+}
+
+/// Walks over the frames of a file, up to the closed latch.
+fn find_batches(alloc: Global, bytes: &[u8]) -> Result<Found, ReadFault>
+    ensures found { IfOk result (λ found. IsFound (lists found.batches.items) found.last found.end bytes.now) }
+    ensures refused { IfErr result (λ fault. (fault ≡ Memory) ⊎ RefusesFile bytes.now fault) }
+{
+    match version_of(bytes) {
+        Some(2) => {}
+        Some(version) => return Err(ReadFault::Version(version)),
+        None => return Err(ReadFault::NotState),
+    }
     let mut batches = Vec::new(alloc);
-    let mut end = 0;
-    while let Some(batch) = first_batch(&bytes[end..]) {
+    let mut end = HEADER.len();
+    let mut last = HEADER;
+    while let Some(batch) = first_batch(&bytes[end..], &last) {
+        last = digest_at(bytes, end + 5);
         batches.push(batch.to_vec(alloc)?)?;
-        end += 5 + batch.len();
+        end += 21 + batch.len();
     }
-    Ok(Batches { batches, end })
+    if !is_open_end(&bytes[end..], &last) {
+        return Err(ReadFault::Damaged(batches.len()));
+    }
+    Ok(Found { batches, end, last })
 }
 
-/// How many bytes of a write that was not finished stand behind the last frame, which ends there. A closed latch is none of
-/// them.
-pub fn torn_behind(bytes: &[u8], end: usize) -> usize
-    requires within { end ≤ length bytes.now }
-    ensures { result ≡ torn_size (drop end bytes.now) }
+/// Of which version a state file is, if the bytes are of one.
+fn version_of(bytes: &[u8]) -> Option<u8>
+    ensures some { IfSome result (λ version. IsVersion version bytes.now) }
+    ensures none { IfNone result ((version : ℕ) → IsVersion version bytes.now → ⊥) }
 {
-    match &bytes[end..] {
-        [0, torn @ ..] => torn.len(),
-        torn => torn.len(),
+    if bytes.starts_with(&TITLE) {
+        return told_digit(&bytes[TITLE.len()..]);
+    }
+    if is_first_kind(bytes) {
+        return Some(1);
+    }
+    None
+}
+
+/// The digit that a line ends with.
+fn told_digit(bytes: &[u8]) -> Option<u8>
+    ensures some { IfSome result (λ digit. (digit < 10) × (take 2 bytes.now ≡ (48 + digit) ∷ 10 ∷ [])) }
+    ensures none { IfNone result ((digit : ℕ) → digit < 10 → take 2 bytes.now ≡ (48 + digit) ∷ 10 ∷ [] → ⊥) }
+{
+    match bytes {
+        [digit @ b'0'..=b'9', b'\n', ..] => Some(*digit - b'0'),
+        _ => None,
     }
 }
 
-/// The batch of the frame at the front, if its latch is open and all of it is there.
-fn first_batch(bytes: &[u8]) -> Option<&[u8]>
-    ensures within { IfSome result (λ batch. 5 + length batch.now ≤ length bytes.now) }
-    ensures some { IfSome result (λ batch. AreFrames (take (5 + length batch.now) bytes.now) (batch.now ∷ [])) }
-    ensures none { IfNone result ((n : ℕ) → recovered (take n bytes.now) ≡ []) }
+/// Whether a closed latch stands here, and no more behind it than an append that was not finished may have left.
+fn is_open_end(bytes: &[u8], last: &[u8; 16]) -> bool
+    ensures yes { IsTrue result → IsOpenEnd last.now bytes.now }
+    ensures no { IsFalse result → IsNoEnd last.now bytes.now }
 {
-    if bytes.len() < 5 || bytes[0] != 1 {
+    match bytes {
+        [0, torn @ ..] => torn.len() <= LONGEST_TORN && !hides_frame(torn, last),
+        _ => false,
+    }
+}
+
+/// Whether the latch before these bytes was open once: they are a batch with its digest, and more than a latch.
+fn hides_frame(torn: &[u8], last: &[u8; 16]) -> bool
+    ensures { IsTrue result ↔ HidesFrame last.now torn.now }
+{
+    match sealed_batch(torn, last) {
+        Some(batch) => torn.len() - batch.len() > 21,
+        None => false,
+    }
+}
+
+/// The batch of the frame at the front, if there is one behind that digest.
+fn first_batch<'b>(bytes: &'b [u8], before: &[u8; 16]) -> Option<&'b [u8]>
+    ensures some { IfSome result (λ batch. IsFrame before.now batch.now (drop (21 + length batch.now) bytes.now) bytes.now) }
+    ensures within { IfSome result (λ batch. 21 + length batch.now ≤ length bytes.now) }
+    ensures none { IfNone result ((batch more : List ℕ) → IsFrame before.now batch more bytes.now → ⊥) }
+{
+    match bytes {
+        [] | [0, ..] => None,
+        [_, sealed @ ..] => sealed_batch(sealed, before),
+    }
+}
+
+/// The batch behind a latch, if all of it is there with its digest.
+fn sealed_batch<'b>(bytes: &'b [u8], before: &[u8; 16]) -> Option<&'b [u8]>
+    ensures some { IfSome result (λ batch. IsSealed before.now batch.now (drop (20 + length batch.now) bytes.now) bytes.now) }
+    ensures within { IfSome result (λ batch. 20 + length batch.now ≤ length bytes.now) }
+    ensures none { IfNone result ((batch rest : List ℕ) → IsSealed before.now batch rest bytes.now → ⊥) }
+{
+    if bytes.len() < 20 {
         return None;
     }
-    let size = u32::from_be_bytes([bytes[1], bytes[2], bytes[3], bytes[4]]) as usize;
-    if bytes.len() - 5 < size {
+    let size = u32::from_be_bytes([bytes[0], bytes[1], bytes[2], bytes[3]]) as usize;
+    if bytes.len() - 20 < size {
         return None;
     }
-    let rest = &bytes[5..];
-    Some(&rest[..size])
+    let batch = &bytes[20..20 + size];
+    if !is_sealed(before, &bytes[..4], batch, &bytes[4..20]) {
+        return None;
+    }
+    Some(batch)
 }
 
-/// What stands behind the latch of a batch, and the closed latch behind it.
-pub(crate) fn body_of(alloc: Global, batch: &[u8]) -> Result<Vec<u8>, AllocError>
-    requires { length batch.now < 2 ^ 32 }
-    ensures { IfOk result (λ out. out.items ≡ body batch.now ++ 0 ∷ []) }
+/// Whether this is the digest of all three.
+fn is_sealed(before: &[u8; 16], size: &[u8], batch: &[u8], digest: &[u8]) -> bool
+    ensures { IsTrue result ↔ (seal (before.now ++ (size.now ++ batch.now)) ≡ digest.now) }
 {
-    let mut out = Vec::new(alloc);
-    out.extend_from_slice(&(batch.len() as u32).to_be_bytes())?;
-    out.extend_from_slice(batch)?;
-    out.push(0)?;
-    Ok(out)
+    let made = seal(before, size, batch);
+    made.as_slice() == digest
 }
 
-/// A file of one batch.
-pub fn file_of(alloc: Global, batch: &[u8]) -> Result<Vec<u8>, AllocError>
-    requires { length batch.now < 2 ^ 32 }
-    ensures { IfOk result (λ out. out.items ≡ frame batch.now ++ 0 ∷ []) }
+/// The first 16 bytes of the digest of all three.
+fn seal(before: &[u8; 16], size: &[u8], batch: &[u8]) -> [u8; 16]
+    ensures { result ≡ seal (before.now ++ (size.now ++ batch.now)) }
 {
-    let mut out = Vec::new(alloc);
-    out.push(1)?;
-    out.extend_from_slice(&(batch.len() as u32).to_be_bytes())?;
-    out.extend_from_slice(batch)?;
+    let mut hasher = Sha256::new();
+    hasher.update(before.as_slice());
+    hasher.update(size);
+    hasher.update(batch);
+    let whole = hasher.finalize();
+    let mut out = [0; 16];
+    out.copy_from_slice(&whole[..16]);
+    out
+}
+
+/// What stands between a latch and its batch.
+#[derive(Clone, Copy)]
+pub(crate) struct Head {
+    /// The length of the batch, and its digest.
+    pub(crate) bytes: [u8; 20],
+    /// Its digest.
+    pub(crate) digest: [u8; 16],
+}
+
+/// The head of a batch behind that digest.
+pub(crate) fn head_of(before: &[u8; 16], batch: &[u8]) -> Head
+    requires { length batch.now < 2 ^ 32 }
+    ensures bytes { result.bytes ≡ to_be_bytes w32 (length batch.now) ++ digest before.now batch.now }
+    ensures digest { result.digest ≡ digest before.now batch.now }
+{
+    let size = (batch.len() as u32).to_be_bytes();
+    let digest = seal(before, &size, batch);
+    let mut bytes = [0; 20];
+    bytes[..4].copy_from_slice(&size);
+    bytes[4..].copy_from_slice(&digest);
+    Head { bytes, digest }
+}
+
+/// The 16 bytes at that place.
+fn digest_at(bytes: &[u8], at: usize) -> [u8; 16]
+    requires { at + 16 ≤ length bytes.now }
+    ensures { result ≡ take 16 (drop at bytes.now) }
+{
+    let mut last = [0; 16];
+    last.copy_from_slice(&bytes[at..at + 16]);
+    last
+}
+
+/// A file that was read, without what an append left that was not finished.
+fn without_torn(alloc: Global, bytes: &[u8], end: usize) -> Result<Vec<u8>, AllocError>
+    requires { end < length bytes.now }
+    ensures { IfOk result (λ out. out.items ≡ take end bytes.now ++ 0 ∷ []) }
+{
+    let mut out = Vec::with_capacity(alloc, end + 1)?;
+    out.extend_from_slice(&bytes[..end])?;
     out.push(0)?;
     Ok(out)
 }

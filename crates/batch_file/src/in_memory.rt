@@ -2,11 +2,12 @@
 
 ghost use Rattle.std.specs.Prelude.{◌≡◌, ◌⊎◌, [], ◌∷◌, ◌++◌, length, drop, OnOk, OnErr};
 ghost use Rattle.std.proofs.Common.{inl};
-ghost use Rattle.batch_file.specs.InMemory.{file_bytes};
+ghost use Rattle.batch_file.specs.Frames.{lists};
 ghost use Rattle.batch_file.specs.Past.{HadBeen, only_bytes};
 
-use crate::device::{Device, DeviceFault};
+use crate::device::{Device, DeviceFault, ReplaceFault};
 use std::alloc::{AllocError, Global};
+use std::marker::Model;
 
 /// A file in memory.
 #[derive(Drop)]
@@ -16,10 +17,19 @@ pub struct MemoryFile {
     past: Vec<Vec<u8>>,
 }
 
+impl Model for MemoryFile {
+    ghost use Rattle.batch_file.specs.InMemory.{Contents};
+    ghost use Rattle.batch_file.specs.Frames.{lists};
+
+    ghost Value = { Contents };
+
+    ghost view = { λ file. record { bytes = file.bytes.items; past = lists file.past.items } };
+}
+
 impl MemoryFile {
     /// A file with these bytes, all of them on the disk.
     pub fn new(alloc: Global, bytes: Vec<u8>) -> MemoryFile
-        ensures { file_bytes result ≡ bytes.items }
+        ensures { result.bytes ≡ bytes.items }
     {
         MemoryFile {
             alloc,
@@ -30,7 +40,7 @@ impl MemoryFile {
 
     /// What is in it.
     pub fn bytes(&self) -> &[u8]
-        ensures { result.now ≡ file_bytes self.now }
+        ensures { result.now ≡ self.now.bytes }
     {
         &self.bytes
     }
@@ -45,7 +55,7 @@ fn take_over(
 ) -> Result<(), AllocError>
     ensures ok { OnOk result (bytes.new.items ≡ next.items) }
     ensures err { OnErr result (bytes.new.items ≡ bytes.old.items) }
-    ensures past { OnOk result ((v : _) × (v.items ≡ bytes.old.items) × (past.new.items ≡ past.old.items ++ v ∷ [])) }
+    ensures past { OnOk result (lists past.new.items ≡ lists past.old.items ++ bytes.old.items ∷ []) }
     ensures past_err { OnErr result (past.new.items ≡ past.old.items) }
 {
     past.push(bytes.to_vec(alloc)?)?;
@@ -54,19 +64,19 @@ fn take_over(
 }
 
 impl Device for MemoryFile {
-    ghost seen = { λ file. file.bytes.items };
+    ghost seen = { λ file. file.bytes };
 
-    ghost may_leave = { λ file left. left ≡ file.bytes.items };
+    ghost may_leave = { λ file left. left ≡ file.bytes };
 
-    ghost moment = { λ file. length file.past.items };
+    ghost moment = { λ file. length file.past };
 
-    ghost left_since = { λ file t left. (left ≡ file.bytes.items) ⊎ HadBeen (drop t file.past.items) left };
+    ghost left_since = { λ file t left. (left ≡ file.bytes) ⊎ HadBeen (drop t file.past) left };
 
     ghost faults = { λ file. 0 };
 
     ghost counts_now = { λ file t left le now. inl now };
 
-    ghost only_now = { λ file left since. only_bytes file.past.items file.bytes.items left since };
+    ghost only_now = { λ file left since. only_bytes file.past file.bytes left since };
 
     fn write_at(&mut self, at: usize, bytes: &[u8]) -> Result<(), DeviceFault> {
         let mut next = self.bytes[..at].to_vec(self.alloc)?;
@@ -77,16 +87,11 @@ impl Device for MemoryFile {
         Ok(take_over(self.alloc, &mut self.bytes, &mut self.past, next)?)
     }
 
-    fn cut(&mut self, len: usize) -> Result<(), DeviceFault> {
-        let next = self.bytes[..len].to_vec(self.alloc)?;
-        Ok(take_over(self.alloc, &mut self.bytes, &mut self.past, next)?)
-    }
-
     fn sync(&mut self) -> Result<(), DeviceFault> {
         Ok(())
     }
 
-    fn replace(&mut self, bytes: &[u8]) -> Result<(), DeviceFault> {
+    fn replace(&mut self, bytes: &[u8]) -> Result<(), ReplaceFault> {
         let next = bytes.to_vec(self.alloc)?;
         Ok(take_over(self.alloc, &mut self.bytes, &mut self.past, next)?)
     }

@@ -1,15 +1,17 @@
 //! A file of batches of bytes, each on the disk, whole, before it is acknowledged.
 //!
-//! Read `device` first: what a file does, and what a crash may leave of it. `appending` has `BatchFile`, which adds a
-//! batch or puts one in the place of all, and `recover`, which reads a file that a crash left. `framing` has the bytes.
-//! Two devices are here: `in_memory`, and `disk_file` over a file of the system.
+//! Read `device` first: what a file does, and what a crash may leave of it. `framing` reads a file's bytes, `frames` makes
+//! those of a new one, and `appending` has `BatchFile`, which adds a batch or puts another file in the place of all.
+//! Two devices are here: `in_memory`, and `disk_file` over a file of the system. `version_1` reads files of the first kind.
 #![tactic(auto)]
 
 pub mod appending;
 pub mod call_log;
 pub mod device;
 pub mod disk_file;
+pub mod frames;
 pub mod framing;
 pub mod in_memory;
-
-pub use framing::file_of;
+pub mod laws;
+pub mod system;
+pub mod version_1;

@@ -52,6 +52,18 @@ still_noted : {H : Type 0} (old new : SeenServer H) (history : List Event) → n
 still_noted old new history same kept noted = rw (append-nil history) (subst (λ u. AreUnkept u kept history) (sym same) noted)
 
 module _ {H : Type 0} (hosting : Hosting H) where
+  -- time goes on
+  pub gone_on : (old : SeenServer H) (outset : Outset H) (history : List Event) (n m : ℕ) → n ≤ m →
+      FitsServer hosting old outset history n → FitsServer hosting (record old { greatest = m }) outset history m
+  gone_on old outset history n m le fits = record {
+    rules_are = fits.rules_are;
+    greatest_is = refl;
+    store = fits_later old.store history n m le fits.store;
+    consents = fits.consents;
+    hosts = fits.hosts;
+    right = fits.right;
+  }
+
   -- time goes on, and what has expired is let go of
   pub swept : (old : SeenServer H) (outset : Outset H) (history : List Event) (n m : ℕ) (kept : Held) → n ≤ m →
       FitsServer hosting old outset history n → (FitsStore old.store history m → FitsStore kept history m) →

@@ -10,6 +10,6 @@ pub record Keeping (K : Type 0) : Type 1 where
 
 abbrev pub keeping : {K : Type 0} → Keeper K → ImageKeeper K → Keeping K
 keeping keeper imaging = record {
-  crashes = crashes keeper.stands_for keeper.may_leave keeper.moment keeper.left_since;
+  crashes = crashes keeper.stands_for keeper.until keeper.may_leave keeper.moment keeper.left_since;
   is_long = imaging.is_long;
 }

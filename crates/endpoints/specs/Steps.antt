@@ -35,6 +35,12 @@ Steps {H = H} hosting server arrival reply server' =
     }) arrival.asked)
     reply server'
 
+-- Whatever history the server fitted, it fits from the moment on, or from its own where that is greater.
+abbrev pub Reaches : {H : Type 0} → Hosting H → SeenServer H → ℕ → SeenServer H → Type 0
+Reaches {H = H} hosting old moment new =
+    (outset : Outset H) (history : List Event) (m : ℕ) → FitsServer hosting old outset history m →
+    FitsServer hosting new outset history (max m moment)
+
 -- so it is of each history that the server fits, and of the moment from which it fits it
 abbrev pub OfEach : {H : Type 0} → Hosting H → SeenServer H → (RegistryRecord → List Event → ℕ → Type 0) → Type 0
 OfEach {H = H} hosting server fact =

@@ -13,7 +13,9 @@ pub enum ImageFault {
     Memory,
     /// The image is too long to be kept. What is kept is as it was.
     TooLong,
-    /// It could not be written, and nothing is kept any more.
+    /// It could not be written, and nothing was put in its place. What is kept is as it was.
+    Unwritten,
+    /// It is not known whether it stands in the place of what was kept, and nothing is kept any more.
     Failed,
 }
 
@@ -30,10 +32,10 @@ impl From<AllocError> for ImageFault {
 
 /// A keeper that may put an image of a server in the place of all that it keeps, so that this does not grow without end.
 pub trait ImageKeeper: Keeper {
-    ghost use Rattle.std.specs.Prelude.{◌≡◌, OnOk, IsErrOf};
-    ghost use Rattle.change_codec.specs.Keeping.{crashes};
+    ghost use Rattle.std.specs.Prelude.{◌≡◌, ◌≢◌, OnOk, IfErr, IsErrOf};
+    ghost use Rattle.change_codec.specs.Keeping.{crashes, KeepsMoments, TellsMoments};
     ghost use Rattle.endpoints.specs.Imaging.{KeepsImage, KeepsNoImage};
-    ghost use Rattle.endpoints.specs.declared.image_keeper.ImageFault.TheVariants.{Memory, TooLong, Failed};
+    ghost use Rattle.endpoints.specs.declared.image_keeper.ImageFault.TheVariants.{Failed};
 
     // It keeps more than it may, beside an image.
     ghost is_long: { Self → Type 0 };
@@ -41,12 +43,15 @@ pub trait ImageKeeper: Keeper {
     /// Where it keeps more than it may, an image of the server is put in the place of that, and else nothing is done. The
     /// server has to be one of which all is kept.
     fn put_image<H: HookHost>(&mut self, server: &Server<H>) -> Result<(), ImageFault>
-        ensures kept { OnOk result (KeepsImage H.HookHost (crashes Self.stands_for Self.may_leave Self.moment Self.left_since) server.now self.old self.new) }
+        ensures kept { OnOk result (KeepsImage H.HookHost (crashes Self.stands_for Self.until Self.may_leave Self.moment Self.left_since) server.now self.old self.new) }
         ensures short { OnOk result (¬ (is_long self.new)) }
         ensures left { OnOk result (¬ (is_long self.old) → self.new ≡ self.old) }
-        ensures no_memory { IsErrOf result Memory → self.new ≡ self.old }
-        ensures too_long { IsErrOf result TooLong → self.new ≡ self.old }
-        ensures failed { IsErrOf result Failed → KeepsNoImage H.HookHost (crashes Self.stands_for Self.may_leave Self.moment Self.left_since) server.now self.old self.new };
+        // An image is refused only where what is kept is long, and that is as it was.
+        ensures refused { IfErr result (λ fault. fault ≢ Failed → is_long self.old) }
+        ensures same { IfErr result (λ fault. fault ≢ Failed → self.new ≡ self.old) }
+        ensures failed { IsErrOf result Failed → KeepsNoImage H.HookHost (crashes Self.stands_for Self.until Self.may_leave Self.moment Self.left_since) server.now self.old self.new }
+        ensures moments { OnOk result (KeepsMoments (crashes Self.stands_for Self.until Self.may_leave Self.moment Self.left_since) self.old self.new) }
+        ensures meanwhile { TellsMoments (crashes Self.stands_for Self.until Self.may_leave Self.moment Self.left_since) self.old self.new };
 }
 
 impl ImageKeeper for NoKeeper {

@@ -17,7 +17,7 @@ ghost use Rattle.endpoints.specs.Rulings.{RulesRead, asking_at, read_request};
 ghost use Rattle.endpoints.specs.RulingsParts.{AnswersRequest, IsHalted, RulesReadAlone};
 ghost use Rattle.endpoints.specs.Restoring.{AreConsentsOf, AreRecordsOf, GoesOnFrom, RefusesRestore, are_allowed, remains};
 ghost use Rattle.endpoints.specs.Server.{FitsServer, Notes, NowNotes, outset_of};
-ghost use Rattle.endpoints.specs.Steps.{Steps, Sweeps};
+ghost use Rattle.endpoints.specs.Steps.{Reaches, Steps, Sweeps};
 ghost use Rattle.token_store.specs.Fits.{FitsStore};
 
 use crate::authorize::authorize;
@@ -347,6 +347,14 @@ impl<H: HookHost> Server<H> {
             return Response::bare(StatusCode::SERVICE_UNAVAILABLE);
         };
         reply
+    }
+
+    /// From now on nothing is answered by an earlier moment.
+    pub fn reach(&mut self, moment: Moment)
+        ensures reached { Reaches H.HookHost self.old moment self.new }
+        ensures same { self.new ≡ record self.old { greatest = max self.old.greatest moment } }
+    {
+        self.greatest = greater(self.greatest, moment);
     }
 
     // Lets go of what has expired, which changes no answer.

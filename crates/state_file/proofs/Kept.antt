@@ -1,95 +1,112 @@
--- What a state file keeps when a batch is added to it.
-use Rattle.std.proofs.Common.{◌≡◌, ◌⊎◌, inl, inr, ℕ, List, [], ◌∷◌, ◌++◌, refl, sym, ap, ◌∙◌, subst, arith}
+-- What a state file keeps when other batches are put in the place of its own, or one is added to them.
+use Rattle.std.proofs.Common.{◌≡◌, ◌⊎◌, ◌≤◌, inl, inr, ℕ, List, [], ◌∷◌, ◌++◌, refl, sym, ap, ◌∙◌, subst, arith}
 use Rattle.batch_file.specs.Crashes.{LeavesOnly}
-use Rattle.batch_file.specs.Frames.{recovered, IsBeforeOrAfter, IsOnDisk}
+use Rattle.batch_file.specs.Frames.{recovered, IsOldOrNew, IsOnDisk}
 use Rattle.batch_file.specs.declared.appending.BatchFile.{BatchFile}
+use Rattle.batch_file.specs.declared.device.Device.{Ghosts as Device}
 use Rattle.consent.specs.History.{Event}
-use Rattle.change_codec.specs.Spelling.{DatedFact, HaveSpelling, batch_spelling}
-use Rattle.change_codec.specs.Happened.{Happened}
-use Rattle.change_codec.specs.Keeping.{Crashes, crashes, Holds, StandsForEither, LeavesEither, KeepsEach, KeepsNone}
+use Rattle.change_codec.specs.Keeping.{HeldMeanwhile, Holds, HoldsMoment, HoldsStill, Keeps, KeepsMoments, KeepsNot, LeavesEither, StandsForEither, TellsMoments}
 use Rattle.image_codec.specs.Facts.{RulesFact}
-use Rattle.state_file.specs.Standing.{StandsFor}
-use Rattle.state_file.specs.StandingLaws.{StandsFor-more, StandsFor-same}
-use Rattle.state_file.specs.Telling.{TellsRules, LeavesRules}
-use Rattle.state_file.specs.TellingLaws.{TellsRules-more}
+use Rattle.state_file.specs.Knowing.{file_crashes}
+use Rattle.state_file.specs.Standing.{StandFor, StandsFor, until_of}
+use Rattle.state_file.specs.Telling.{KeepRules, LeavesRules, Tell}
 
-module _ {D : Type 0} (seen : D → List ℕ) (may_leave : D → List ℕ → Type 0) (moment : D → ℕ) (left_since : D → ℕ → List ℕ → Type 0) where
-  abbrev pub of_file : Crashes (BatchFile D)
-  of_file = crashes StandsFor (λ f c. may_leave f.device c ⊎ (c ≡ seen f.device)) (λ f. moment f.device) (λ f. left_since f.device)
+module _ {D : Type 0} (device : Device D) where
+  -- NOTHING WAS DONE
 
-  each_stands : (file : BatchFile D) (before after : List Event) (facts : List DatedFact) (bytes : List ℕ) → bytes ≡ batch_spelling facts → HaveSpelling facts →
-      Happened before facts after → Holds of_file file before → (c : List ℕ) → IsBeforeOrAfter (recovered (seen file.device)) bytes c →
-      StandsForEither of_file before after c
-  each_stands file before after facts bytes is fits happened holds c (inl same) =
-      inl (StandsFor-same (seen file.device) c before same (holds (seen file.device) (inr refl)))
-  each_stands file before after facts bytes is fits happened holds c (inr more) =
-      let spelled : recovered c ≡ recovered (seen file.device) ++ batch_spelling facts ∷ [] =
-      more ∙ ap (λ (b : List ℕ). recovered (seen file.device) ++ b ∷ []) is in
-      inr (StandsFor-more (seen file.device) c before after facts (holds (seen file.device) (inr refl)) fits spelled happened)
+  still : (file : BatchFile D) (before after : List Event) → Holds (file_crashes device) file before → LeavesEither (file_crashes device) before after file file
+  still file before after holds = record {
+    later = omega arith;
+    each = λ c left. inl (holds c (inl (device.only_now file.device c left)));
+    earlier = λ t c le left. inl left;
+  }
 
-  leaves_either : (old new : BatchFile D) (before after : List Event) (facts : List DatedFact) (bytes : List ℕ) → bytes ≡ batch_spelling facts → HaveSpelling facts →
-      LeavesOnly moment left_since old.device new.device (IsBeforeOrAfter (recovered (seen old.device)) bytes) →
-      Happened before facts after → Holds of_file old before → LeavesEither of_file before after old new
-  leaves_either old new before after facts bytes is fits leaves happened holds = record {
+  pub keeps_same : (file : BatchFile D) → HoldsStill (file_crashes device) file file
+  keeps_same file history = record { holds = λ holds. holds; meanwhile = still file history history }
+
+  pub keeps_not_same : (file : BatchFile D) (before after : List Event) → KeepsNot (file_crashes device) before after file file
+  keeps_not_same file before after = record { meanwhile = still file before after }
+
+  pub tells_same : (file : BatchFile D) → TellsMoments (file_crashes device) file file
+  tells_same file = record { later = omega arith; earlier = λ m t c holds le left. inl left }
+
+  pub moments_same : (file : BatchFile D) → KeepsMoments (file_crashes device) file file
+  moments_same file = record { holds = λ m holds. holds; meanwhile = tells_same file }
+
+  -- OTHER BATCHES
+
+  -- what was left meanwhile stands for the one history or for the other
+  leaves_either : (old new : BatchFile D) (batches : List (List ℕ)) (before after : List Event) →
+      LeavesOnly device.moment device.left_since old.device new.device (IsOldOrNew (recovered (device.seen old.device)) batches) →
+      StandFor batches after → Holds (file_crashes device) old before → LeavesEither (file_crashes device) before after old new
+  leaves_either old new batches before after leaves then holds = record {
     later = leaves.later;
-    each = λ c left. each_stands old before after facts bytes is fits happened holds c (leaves.each c left);
+    each = λ c left. each c (leaves.each c left);
     earlier = λ t c le left. by t c (leaves.before t c le left);
   }
     where
-      by : (t : ℕ) (c : List ℕ) → left_since old.device t c ⊎ IsBeforeOrAfter (recovered (seen old.device)) bytes c → left_since old.device t c ⊎ StandsForEither of_file before after c
+      each : (c : List ℕ) → IsOldOrNew (recovered (device.seen old.device)) batches c → StandsForEither (file_crashes device) before after c
+      each c (inl same) = inl (subst (λ (bs : List (List ℕ)). StandFor bs before) (sym same) (holds (device.seen old.device) (inr refl)))
+      each c (inr now) = inr (subst (λ (bs : List (List ℕ)). StandFor bs after) (sym now) then)
+
+      by : (t : ℕ) (c : List ℕ) → device.left_since old.device t c ⊎ IsOldOrNew (recovered (device.seen old.device)) batches c →
+          device.left_since old.device t c ⊎ StandsForEither (file_crashes device) before after c
       by t c (inl was) = inl was
-      by t c (inr is_left) = inr (each_stands old before after facts bytes is fits happened holds c is_left)
+      by t c (inr is) = inr (each c is)
 
-  -- the batch was added, and all is on the disk
-  pub keeps : (old new : BatchFile D) (facts : List DatedFact) (bytes : List ℕ) → bytes ≡ batch_spelling facts → HaveSpelling facts →
-      LeavesOnly moment left_since old.device new.device (IsBeforeOrAfter (recovered (seen old.device)) bytes) →
-      IsOnDisk seen may_leave new → recovered (seen new.device) ≡ recovered (seen old.device) ++ bytes ∷ [] →
-      KeepsEach of_file facts old new
-  keeps old new facts bytes is fits leaves settled added before after happened = record {
-    holds = λ holds c left. there holds c left;
-    meanwhile = λ holds. leaves_either old new before after facts bytes is fits leaves happened holds;
-  }
-    where
-      stands : Holds of_file old before → StandsFor (seen new.device) after
-      stands holds =
-          let spelled : recovered (seen new.device) ≡ recovered (seen old.device) ++ batch_spelling facts ∷ [] =
-          added ∙ ap (λ (b : List ℕ). recovered (seen old.device) ++ b ∷ []) is in
-          StandsFor-more (seen old.device) (seen new.device) before after facts (holds (seen old.device) (inr refl)) fits spelled happened
+  pub keeps_not : (old new : BatchFile D) (batches : List (List ℕ)) (before after : List Event) →
+      LeavesOnly device.moment device.left_since old.device new.device (IsOldOrNew (recovered (device.seen old.device)) batches) →
+      (StandFor (recovered (device.seen old.device)) before → StandFor batches after) → KeepsNot (file_crashes device) before after old new
+  keeps_not old new batches before after leaves leads =
+      record { meanwhile = λ holds. leaves_either old new batches before after leaves (leads (holds (device.seen old.device) (inr refl))) holds }
 
-      there : Holds of_file old before → (c : List ℕ) → may_leave new.device c ⊎ (c ≡ seen new.device) → StandsFor c after
-      there holds c (inl left) = subst (λ (x : List ℕ). StandsFor x after) (sym (settled.durable c left)) (stands holds)
-      there holds c (inr same) = subst (λ (x : List ℕ). StandsFor x after) (sym same) (stands holds)
+  -- what is true of all that a crash may leave
+  of_all : (new : BatchFile D) (batches : List (List ℕ)) (P : List (List ℕ) → Type 0) → IsOnDisk device.seen device.may_leave device.faults new →
+      recovered (device.seen new.device) ≡ batches → P batches → (c : List ℕ) → device.may_leave new.device c ⊎ (c ≡ device.seen new.device) → P (recovered c)
+  of_all new batches P settled are is c (inl left) = subst P (sym (ap recovered (settled.durable c left) ∙ are)) is
+  of_all new batches P settled are is c (inr same) = subst P (sym (ap recovered same ∙ are)) is
 
-  -- adding failed
-  pub keeps_not : (old new : BatchFile D) (facts : List DatedFact) (bytes : List ℕ) → bytes ≡ batch_spelling facts → HaveSpelling facts →
-      LeavesOnly moment left_since old.device new.device (IsBeforeOrAfter (recovered (seen old.device)) bytes) →
-      KeepsNone of_file facts old new
-  keeps_not old new facts bytes is fits leaves before after happened =
-      record { meanwhile = λ holds. leaves_either old new before after facts bytes is fits leaves happened holds }
-
-  -- nothing was done
-  pub keeps_nothing : ((device : D) (c : List ℕ) → left_since device (moment device) c → may_leave device c) →
-      (old : BatchFile D) (facts : List DatedFact) → KeepsNone of_file facts old old
-  keeps_nothing only_now old facts before after happened = record {
-    meanwhile = λ holds. record {
-      later = omega arith;
-      each = λ c left. inl (holds c (inl (only_now old.device c left)));
-      earlier = λ t c le left. inl left;
-    };
+  pub keeps : (old new : BatchFile D) (batches : List (List ℕ)) (before after : List Event) →
+      LeavesOnly device.moment device.left_since old.device new.device (IsOldOrNew (recovered (device.seen old.device)) batches) →
+      IsOnDisk device.seen device.may_leave device.faults new → recovered (device.seen new.device) ≡ batches →
+      (StandFor (recovered (device.seen old.device)) before → StandFor batches after) → Keeps (file_crashes device) before after old new
+  keeps old new batches before after leaves settled are leads = record {
+    holds = λ holds. of_all new batches (λ bs. StandFor bs after) settled are (leads (holds (device.seen old.device) (inr refl)));
+    meanwhile = (keeps_not old new batches before after leaves leads).meanwhile;
   }
 
-  -- the batch of changes was added, and what rules are told stays
-  pub keeps_rules : (old new : BatchFile D) (facts : List DatedFact) (bytes : List ℕ) → bytes ≡ batch_spelling facts →
-      IsOnDisk seen may_leave new → recovered (seen new.device) ≡ recovered (seen old.device) ++ bytes ∷ [] →
-      (rules : RulesFact) → LeavesRules seen may_leave old rules → LeavesRules seen may_leave new rules
-  keeps_rules old new facts bytes is settled added rules leaves = told
+  -- and it tells the rules that were told
+  pub keeps_rules : (old new : BatchFile D) (batches : List (List ℕ)) → IsOnDisk device.seen device.may_leave device.faults new → recovered (device.seen new.device) ≡ batches →
+      ((rules : RulesFact) → Tell (recovered (device.seen old.device)) rules → Tell batches rules) → KeepRules device.seen device.may_leave old new
+  keeps_rules old new batches settled are leads rules leaves =
+      of_all new batches (λ bs. Tell bs rules) settled are (leads rules (leaves (device.seen old.device) (inr refl)))
+
+  -- MOMENTS
+
+  pub tells_moments : (old new : BatchFile D) (batches : List (List ℕ)) →
+      LeavesOnly device.moment device.left_since old.device new.device (IsOldOrNew (recovered (device.seen old.device)) batches) →
+      until_of (recovered (device.seen old.device)) ≤ until_of batches → TellsMoments (file_crashes device) old new
+  tells_moments old new batches leaves le = record {
+    later = leaves.later;
+    earlier = λ m t c holds early left. by m t c (holds (device.seen old.device) (inr refl)) (leaves.before t c early left);
+  }
     where
-      spelled : recovered (seen new.device) ≡ recovered (seen old.device) ++ batch_spelling facts ∷ []
-      spelled = added ∙ ap (λ (b : List ℕ). recovered (seen old.device) ++ b ∷ []) is
+      by : (m t : ℕ) (c : List ℕ) → m ≤ until_of (recovered (device.seen old.device)) →
+          device.left_since old.device t c ⊎ IsOldOrNew (recovered (device.seen old.device)) batches c → device.left_since old.device t c ⊎ (m ≤ until_of (recovered c))
+      by m t c told (inl was) = inl was
+      by m t c told (inr (inl same)) = inr (subst (λ (bs : List (List ℕ)). m ≤ until_of bs) (sym same) told)
+      by m t c told (inr (inr now)) = inr (subst (λ (bs : List (List ℕ)). m ≤ until_of bs) (sym now) (omega arith))
 
-      here : TellsRules (seen new.device) rules
-      here = TellsRules-more (seen old.device) (seen new.device) facts rules spelled (leaves (seen old.device) (inr refl))
+  -- all that a crash may leave tells a moment that the batches tell
+  pub holds_moment : (new : BatchFile D) (batches : List (List ℕ)) (m : ℕ) → IsOnDisk device.seen device.may_leave device.faults new →
+      recovered (device.seen new.device) ≡ batches → m ≤ until_of batches → HoldsMoment (file_crashes device) new m
+  holds_moment new batches m settled are le = of_all new batches (λ bs. m ≤ until_of bs) settled are le
 
-      told : (c : List ℕ) → may_leave new.device c ⊎ (c ≡ seen new.device) → TellsRules c rules
-      told c (inl left) = subst (λ (x : List ℕ). TellsRules x rules) (sym (settled.durable c left)) here
-      told c (inr same) = subst (λ (x : List ℕ). TellsRules x rules) (sym same) here
+  pub keeps_moments : (old new : BatchFile D) (batches : List (List ℕ)) →
+      LeavesOnly device.moment device.left_since old.device new.device (IsOldOrNew (recovered (device.seen old.device)) batches) →
+      IsOnDisk device.seen device.may_leave device.faults new → recovered (device.seen new.device) ≡ batches →
+      until_of (recovered (device.seen old.device)) ≤ until_of batches → KeepsMoments (file_crashes device) old new
+  keeps_moments old new batches leaves settled are le = record {
+    holds = λ m holds. (let told = holds (device.seen old.device) (inr refl) in holds_moment new batches m settled are (omega (arith, told, le)));
+    meanwhile = tells_moments old new batches leaves le;
+  }

@@ -1,6 +1,6 @@
--- What a keeper knows of its file once a batch was added to it, or an image stands alone there.
-use Rattle.std.proofs.Common.{◌≡◌, inl, inr, ℕ, List, [], ◌∷◌, ◌++◌, length, Bool, true, false, refl, sym, ap, ◌∙◌, subst}
-use Rattle.batch_file.specs.Frames.{recovered}
+-- What is known of a file's batches once there is one more, or once an image stands there.
+use Rattle.std.proofs.Common.{◌≡◌, ◌<◌, ◌≤◌, ◌^◌, inl, inr, ℕ, List, [], ◌∷◌, ◌++◌, length, Bool, true, false, Option, Some, None, refl, sym, ap, ◌∙◌, subst, append-nil, arith}
+use Rattle.std.specs.Prelude.{IfSome, max, ◌==◌, if◌then◌else◌}
 use Rattle.change_codec.proofs.Batches.{one_list}
 use Rattle.change_codec.specs.Happened.{Happened}
 use Rattle.change_codec.specs.HappenedLaws.{Happened-split}
@@ -9,33 +9,34 @@ use Rattle.consent.specs.History.{Event}
 use Rattle.image_codec.proofs.Images.{one_image}
 use Rattle.image_codec.specs.Facts.{HookFact, ImageFact, RulesFact}
 use Rattle.image_codec.specs.Spelling.{ImageFits, image_spelling, rules_spelling}
-use Rattle.state_file.specs.Hooks.{hooks_behind, hooks_set_in}
+use Rattle.state_file.specs.Hooks.{AreBehind, hooks_behind, hooks_set_in}
 use Rattle.state_file.specs.Knowing.{IsKnown, image_size}
-use Rattle.state_file.specs.Standing.{AreTold, Begin, IsImageOf, StandsFor, begins_image}
-use Rattle.state_file.specs.StandingLaws.{StandsFor-same}
-use Rattle.state_file.specs.Telling.{IsOfRules, TellsRules, last_rules}
+use Rattle.state_file.specs.Standing.{AreTold, Begin, IsImageOf, StandFor, begins_image, mark, marks, until_of}
+use Rattle.state_file.specs.StandingLaws.{AreTold-split, until_of-append}
+use Rattle.state_file.specs.Telling.{IsOfRules, Tell, last_rules}
 use Rattle.state_file.specs.TellingLaws.{last_rules-push, tell_in, tell_one, tells_one}
+use Rattle.state_file.specs.declared.keeper.Known.{Known}
 use Rattle.state_file.proofs.Hooked.{hooks_of-happened}
-use Rattle.state_file.proofs.Redone.{told_as, told_split}
+use Rattle.state_file.proofs.Marked.{AreTold-marks, last_rules-image, until_of-image, until_of-mark}
 
 -- WHAT STOOD BEFORE A BATCH
 
--- the bytes stood for a history before the batch, whose changes lead on from there
-pub record StoodBefore (left batch : List ℕ) (history : List Event) : Type 0 where
+-- the batches stood for a history before this one, whose changes lead on from there
+pub record StoodBefore (batches : List (List ℕ)) (batch : List ℕ) (history : List Event) : Type 0 where
   pub before : List Event
-  pub stands : StandsFor left before
+  pub stands : StandFor batches before
   pub facts : List DatedFact
   pub told : AreTold (batch ∷ []) facts
   pub happened : Happened before facts history
 
-pub stood_before : (left now batch : List ℕ) (history : List Event) → recovered now ≡ recovered left ++ batch ∷ [] → begins_image batch ≡ false →
-    StandsFor now history → StoodBefore left batch history
-stood_before left now batch history are none stands = by stands.begins
+pub stood_before : (batches : List (List ℕ)) (batch : List ℕ) (history : List Event) → begins_image batch ≡ false →
+    StandFor (batches ++ batch ∷ []) history → StoodBefore batches batch history
+stood_before batches batch history none stands = by stands.begins
   where
-    split : (later : List (List ℕ)) → Begin (recovered left) stands.base later → stands.later ≡ later ++ batch ∷ [] → StoodBefore left batch history
+    split : (later : List (List ℕ)) → Begin batches stands.base later → stands.later ≡ later ++ batch ∷ [] → StoodBefore batches batch history
     split later begun same =
         let told : AreTold (later ++ batch ∷ []) stands.facts = subst (λ (bs : List (List ℕ)). AreTold bs stands.facts) same stands.told in
-        let parts = told_split later (batch ∷ []) stands.facts told in
+        let parts = AreTold-split later (batch ∷ []) stands.facts told in
         let ways = Happened-split stands.base history parts.0 parts.1 (subst (λ (ds : List DatedFact). Happened stands.base ds history) parts.4 stands.happened) in
         record {
           before = ways.0;
@@ -45,101 +46,173 @@ stood_before left now batch history are none stands = by stands.begins
           happened = ways.2;
         }
 
-    imaged : (batches : List (List ℕ)) → recovered left ≡ batches → (image : ImageFact) → IsImageOf image stands.base → ImageFits image →
-        recovered now ≡ image_spelling image ∷ stands.later → StoodBefore left batch history
+    imaged : (bs : List (List ℕ)) → batches ≡ bs → (image : ImageFact) → IsImageOf image stands.base → ImageFits image →
+        batches ++ batch ∷ [] ≡ image_spelling image ∷ stands.later → StoodBefore batches batch history
     imaged [] is image of fits front =
-        let e : batch ∷ [] ≡ image_spelling image ∷ stands.later = sym (are ∙ ap (λ (bs : List (List ℕ)). bs ++ batch ∷ []) is) ∙ front in
+        let e : batch ∷ [] ≡ image_spelling image ∷ stands.later = sym (ap (λ (bs : List (List ℕ)). bs ++ batch ∷ []) is) ∙ front in
         let first : batch ≡ image_spelling image = cc in
         let not : true ≡ false = subst (λ (b : List ℕ). begins_image b ≡ false) first none in
         absurd cc
     imaged (b ∷ bs) is image of fits front =
-        let e : b ∷ (bs ++ batch ∷ []) ≡ image_spelling image ∷ stands.later = sym (are ∙ ap (λ (xs : List (List ℕ)). xs ++ batch ∷ []) is) ∙ front in
+        let e : b ∷ (bs ++ batch ∷ []) ≡ image_spelling image ∷ stands.later = sym (ap (λ (xs : List (List ℕ)). xs ++ batch ∷ []) is) ∙ front in
         let first : b ≡ image_spelling image = cc in
         let rest : stands.later ≡ bs ++ batch ∷ [] = cc in
         split bs (inr (image, of, (fits, is ∙ ap (λ (x : List ℕ). x ∷ bs) first))) rest
 
-    by : Begin (recovered now) stands.base stands.later → StoodBefore left batch history
-    by (inl anew) = split (recovered left) (inl (anew.0, refl)) (anew.1 ∙ are)
-    by (inr of) = imaged (recovered left) refl of.0 of.1 of.2.0 of.2.1
+    by : Begin (batches ++ batch ∷ []) stands.base stands.later → StoodBefore batches batch history
+    by (inl anew) = split batches (inl (anew.0, refl)) anew.1
+    by (inr of) = imaged batches refl of.0 of.1 of.2.0 of.2.1
 
 -- a batch that is none leaves the image as it was
-image_size-more : (batches : List (List ℕ)) (batch : List ℕ) → begins_image batch ≡ false → image_size (batches ++ batch ∷ []) ≡ image_size batches
+pub image_size-more : (batches : List (List ℕ)) (batch : List ℕ) → begins_image batch ≡ false → image_size (batches ++ batch ∷ []) ≡ image_size batches
 image_size-more [] batch none = rw none refl
 image_size-more (b ∷ batches) batch none = refl
 
+-- rules that are told before a batch that tells none
+told_before : (batches : List (List ℕ)) (bytes : List ℕ) (told : RulesFact) (batch : List ℕ) → last_rules (batches ++ batch ∷ []) ≡ last_rules batches →
+    ((others : RulesFact) → Tell batches others → bytes ≡ rules_spelling others) → Tell (batches ++ batch ∷ []) told → bytes ≡ rules_spelling told
+told_before batches bytes told batch same known tell = known told (tell.0, sym same ∙ tell.1, tell.2)
+
+no_more : (facts front back : List DatedFact) → facts ≡ front ++ back → back ≡ [] → facts ≡ front
+no_more facts front back are none = are ∙ ap (λ (ds : List DatedFact). front ++ ds) none ∙ append-nil front
+
 -- A BATCH OF CHANGES
 
-pub known_more : (left now batch rules : List ℕ) (old new : List HookFact) (image : ℕ) (facts : List DatedFact) → recovered now ≡ recovered left ++ batch ∷ [] →
-    batch ≡ batch_spelling facts → HaveSpelling facts → new ≡ hooks_behind old facts → IsKnown left rules old image → IsKnown now rules new image
-known_more left now batch rules old new image facts are is fits follows known = record {
-  rules_are = λ told tells. known.rules_are told (tells.0, sym (ap last_rules spelled ∙ last_rules-push (recovered left) (batch_spelling facts)) ∙ tells.1, tells.2);
-  hooks_are = λ history stands. hooks history (stood_before left now batch history are none stands);
-  image_is = known.image_is ∙ sym (ap image_size are ∙ image_size-more (recovered left) batch none);
-}
-  where
-    spelled : recovered now ≡ recovered left ++ batch_spelling facts ∷ []
-    spelled = are ∙ ap (λ (b : List ℕ). recovered left ++ b ∷ []) is
+changes_are : (batch : List ℕ) (facts given : List DatedFact) → batch ≡ batch_spelling facts → HaveSpelling facts → AreTold (batch ∷ []) given → given ≡ facts
+changes_are batch facts given is fits told =
+    let of : AreTold (batch_spelling facts ∷ []) given = subst (λ (b : List ℕ). AreTold (b ∷ []) given) is told in
+    no_more given of.0 of.1 of.4 of.3 ∙ one_list of.0 facts of.2.0 fits (sym of.2.1)
 
+hooks_now : (batches : List (List ℕ)) (batch : List ℕ) (facts : List DatedFact) (old new : Option (List HookFact)) → batch ≡ batch_spelling facts → HaveSpelling facts →
+    IfSome new (λ hooks. (set : List HookFact) × (old ≡ Some set) × AreBehind set batch hooks) →
+    IfSome old (λ hooks. (history : List Event) → StandFor batches history → hooks ≡ hooks_set_in history) →
+    IfSome new (λ hooks. (history : List Event) → StandFor (batches ++ batch ∷ []) history → hooks ≡ hooks_set_in history)
+hooks_now batches batch facts old None is fits behind known = tt
+hooks_now batches batch facts old (Some hooks) is fits behind known = λ history stands. by history (stood_before batches batch history none stands)
+  where
     none : begins_image batch ≡ false
     none = ap begins_image is
 
-    hooks : (history : List Event) → StoodBefore left batch history → new ≡ hooks_set_in history
-    hooks history stood =
-        let same : stood.facts ≡ facts = told_as batch facts stood.facts is (λ others fit spells. one_list others facts fit fits (sym spells ∙ is)) stood.told in
+    were : (history : List Event) → StandFor batches history → behind.0 ≡ hooks_set_in history
+    were = subst (λ (o : Option (List HookFact)). IfSome o (λ hooks. (history : List Event) → StandFor batches history → hooks ≡ hooks_set_in history)) behind.1 known
+
+    by : (history : List Event) → StoodBefore batches batch history → hooks ≡ hooks_set_in history
+    by history stood =
+        let same : stood.facts ≡ facts = changes_are batch facts stood.facts is fits stood.told in
         let on : hooks_set_in history ≡ hooks_behind (hooks_set_in stood.before) facts =
         hooks_of-happened stood.before history facts (subst (λ (ds : List DatedFact). Happened stood.before ds history) same stood.happened) in
-        follows ∙ ap (λ (hs : List HookFact). hooks_behind hs facts) (known.hooks_are stood.before stood.stands) ∙ sym on
+        behind.2 facts fits is ∙ ap (λ (hs : List HookFact). hooks_behind hs facts) (were stood.before stood.stands) ∙ sym on
 
--- RULES
+-- what is known then, of the rules, the image and the marks that were known
+pub known_changes : (batches : List (List ℕ)) (batch : List ℕ) (facts : List DatedFact) (old new : Known) → batch ≡ batch_spelling facts → HaveSpelling facts →
+    new.rules ≡ old.rules → new.image ≡ old.image → new.until ≡ old.until → IfSome new.hooks (λ hooks. (set : List HookFact) × (old.hooks ≡ Some set) × AreBehind set batch hooks) →
+    IsKnown batches old → IsKnown (batches ++ batch ∷ []) new
+known_changes batches batch facts old new is fits rules image until behind known = record {
+  rules_are = λ told tell. ap (λ r. r.items) rules ∙ told_before batches old.rules.items told batch (ap (λ (b : List ℕ). last_rules (batches ++ b ∷ [])) is ∙ last_rules-push batches (batch_spelling facts)) known.rules_are tell;
+  hooks_are = hooks_now batches batch facts old.hooks new.hooks is fits behind known.hooks_are;
+  image_is = image ∙ known.image_is ∙ sym (image_size-more batches batch (ap begins_image is));
+  until_is = until ∙ known.until_is ∙ sym (ap (λ (b : List ℕ). until_of (batches ++ b ∷ [])) is ∙ until_of-append batches (batch_spelling facts ∷ []) ∙ max_0 (until_of batches));
+}
+  where
+    max_0 : (n : ℕ) → max n (max 0 0) ≡ n
+    max_0 n = omega arith
 
--- rules were told in the file, or it told them before
-pub known_begun : (old new bytes : List ℕ) (now : RulesFact) (hooks : List HookFact) (image : ℕ) (told : Bool) → IsOfRules bytes now → TellsRules new now →
-    (told ≡ true → recovered new ≡ recovered old) → (told ≡ false → recovered new ≡ recovered old ++ bytes ∷ []) →
-    ((history : List Event) → StandsFor old history → hooks ≡ hooks_set_in history) → image ≡ image_size (recovered old) → IsKnown new bytes hooks image
-known_begun old new bytes now hooks image told of tells same added set sized = record {
-  rules_are = λ others told_too. of.1 ∙ ap rules_spelling (tell_one (recovered new) now others tells told_too);
-  hooks_are = hooks_of_all told same added;
+-- BATCHES WITHOUT CHANGES
+
+-- whoever stands for a history then stood for it before
+stood_same : (batches : List (List ℕ)) (batch : List ℕ) (history : List Event) → begins_image batch ≡ false → ((facts : List DatedFact) → AreTold (batch ∷ []) facts → facts ≡ []) →
+    StandFor (batches ++ batch ∷ []) history → StandFor batches history
+stood_same batches batch history none nothing stands =
+    let stood = stood_before batches batch history none stands in
+    let same : history ≡ stood.before = subst (λ (ds : List DatedFact). Happened stood.before ds history) (nothing stood.facts stood.told) stood.happened in
+    subst (λ (h : List Event). StandFor batches h) (sym same) stood.stands
+
+hooks_stay : (old new : List (List ℕ)) (hooks : Option (List HookFact)) → ((history : List Event) → StandFor new history → StandFor old history) →
+    IfSome hooks (λ set. (history : List Event) → StandFor old history → set ≡ hooks_set_in history) →
+    IfSome hooks (λ set. (history : List Event) → StandFor new history → set ≡ hooks_set_in history)
+hooks_stay old new None back known = tt
+hooks_stay old new (Some hooks) back known = λ history stands. known history (back history stands)
+
+mark_nothing : (until : ℕ) (facts : List DatedFact) → AreTold (mark until ∷ []) facts → facts ≡ []
+mark_nothing until facts told = no_more facts told.0 told.1 told.4 told.3 ∙ told.2.1
+
+marks_nothing : (until : ℕ) (facts : List DatedFact) → AreTold (marks until) facts → facts ≡ []
+marks_nothing until facts told = by (until == 0) told
+  where
+    by : (b : Bool) → AreTold (if b then [] else mark until ∷ []) facts → facts ≡ []
+    by true told = told
+    by false told = mark_nothing until facts told
+
+rules_nothing : (rules : RulesFact) (facts : List DatedFact) → AreTold (rules_spelling rules ∷ []) facts → facts ≡ []
+rules_nothing rules facts told = no_more facts told.0 told.1 told.4 told.3 ∙ told.2
+
+-- a mark beyond those before
+pub known_mark : (batches : List (List ℕ)) (until : ℕ) (old new : Known) → until < 2 ^ 63 → old.until ≤ until →
+    new.rules ≡ old.rules → new.hooks ≡ old.hooks → new.image ≡ old.image → new.until ≡ until → IsKnown batches old → IsKnown (batches ++ mark until ∷ []) new
+known_mark batches until old new less le rules hooks image now known = record {
+  rules_are = λ told tell. ap (λ r. r.items) rules ∙ told_before batches old.rules.items told (mark until) (last_rules-push batches (mark until)) known.rules_are tell;
+  hooks_are = subst (λ (o : Option (List HookFact)). IfSome o (λ set. (history : List Event) → StandFor (batches ++ mark until ∷ []) history → set ≡ hooks_set_in history)) (sym hooks)
+      (hooks_stay batches (batches ++ mark until ∷ []) old.hooks (λ history stands. stood_same batches (mark until) history refl (mark_nothing until) stands) known.hooks_are);
+  image_is = image ∙ known.image_is ∙ sym (image_size-more batches (mark until) refl);
+  until_is = now ∙ sym (until_of-mark batches until less ∙ greater (until_of batches) (subst (λ (n : ℕ). n ≤ until) known.until_is le));
+}
+  where
+    greater : (n : ℕ) → n ≤ until → max n until ≡ until
+    greater n le = omega arith
+
+-- rules were told, or they were told before
+pub known_begun : (old new : List (List ℕ)) (known : Known) (now : RulesFact) (told : Bool) → IsOfRules known.rules.items now → Tell new now →
+    (told ≡ true → new ≡ old) → (told ≡ false → new ≡ old ++ known.rules.items ∷ []) →
+    IfSome known.hooks (λ hooks. (history : List Event) → StandFor old history → hooks ≡ hooks_set_in history) →
+    known.image ≡ image_size old → known.until ≡ until_of old → IsKnown new known
+known_begun old new known now told of tells same added set sized until = record {
+  rules_are = λ others told_too. of.1 ∙ ap rules_spelling (tell_one new now others tells told_too);
+  hooks_are = hooks_stay old new known.hooks (back told same added) set;
   image_is = sized ∙ sizes told same added;
+  until_is = until ∙ untils told same added;
 }
   where
-    none : begins_image bytes ≡ false
-    none = ap begins_image of.1
+    back : (t : Bool) → (t ≡ true → new ≡ old) → (t ≡ false → new ≡ old ++ known.rules.items ∷ []) → (history : List Event) → StandFor new history → StandFor old history
+    back true is more history stands = subst (λ (bs : List (List ℕ)). StandFor bs history) (is refl) stands
+    back false is more history stands =
+        stood_same old (rules_spelling now) history refl (rules_nothing now)
+        (subst (λ (bs : List (List ℕ)). StandFor bs history) (more refl ∙ ap (λ (b : List ℕ). old ++ b ∷ []) of.1) stands)
 
-    before : (history : List Event) → StoodBefore old bytes history → hooks ≡ hooks_set_in history
-    before history stood =
-        let alone : AreTold (rules_spelling now ∷ []) stood.facts = subst (λ (b : List ℕ). AreTold (b ∷ []) stood.facts) of.1 stood.told in
-        let nothing : stood.facts ≡ [] = alone in
-        let same_history : history ≡ stood.before = subst (λ (ds : List DatedFact). Happened stood.before ds history) nothing stood.happened in
-        set stood.before stood.stands ∙ ap hooks_set_in (sym same_history)
-
-    hooks_of_all : (t : Bool) → (t ≡ true → recovered new ≡ recovered old) → (t ≡ false → recovered new ≡ recovered old ++ bytes ∷ []) → (history : List Event) → StandsFor new history → hooks ≡ hooks_set_in history
-    hooks_of_all true is more history stands = set history (StandsFor-same new old history (sym (is refl)) stands)
-    hooks_of_all false is more history stands = before history (stood_before old new bytes history (more refl) none stands)
-
-    sizes : (t : Bool) → (t ≡ true → recovered new ≡ recovered old) → (t ≡ false → recovered new ≡ recovered old ++ bytes ∷ []) → image_size (recovered old) ≡ image_size (recovered new)
+    sizes : (t : Bool) → (t ≡ true → new ≡ old) → (t ≡ false → new ≡ old ++ known.rules.items ∷ []) → image_size old ≡ image_size new
     sizes true is more = ap image_size (sym (is refl))
-    sizes false is more = sym (ap image_size (more refl) ∙ image_size-more (recovered old) bytes none)
+    sizes false is more = sym (ap image_size (more refl) ∙ image_size-more old known.rules.items (ap begins_image of.1))
 
--- AN IMAGE ALONE
+    zero_more : (n : ℕ) → max n (max 0 0) ≡ n
+    zero_more n = omega arith
 
-pub known_image : (now rules : List ℕ) (image : ImageFact) (hooks : List HookFact) (size : ℕ) → recovered now ≡ image_spelling image ∷ [] → ImageFits image →
-    rules ≡ rules_spelling image.rules → image.hooks ≡ hooks → size ≡ length (image_spelling image) → IsKnown now rules hooks size
-known_image now rules image hooks size are fits rules_are hooks_are sized = record {
-  rules_are = λ told tells. rules_are ∙ ap rules_spelling (tells_one (image_spelling image) image.rules told (inr (image, fits, refl, refl)) (tell_in (recovered now) (image_spelling image) told (ap last_rules are) tells));
-  hooks_are = λ history stands. by history stands stands.begins;
-  image_is = sized ∙ sym (ap image_size are);
+    untils : (t : Bool) → (t ≡ true → new ≡ old) → (t ≡ false → new ≡ old ++ known.rules.items ∷ []) → until_of old ≡ until_of new
+    untils true is more = ap until_of (sym (is refl))
+    untils false is more =
+        sym (ap until_of (more refl ∙ ap (λ (b : List ℕ). old ++ b ∷ []) of.1) ∙ until_of-append old (rules_spelling now ∷ []) ∙ zero_more (until_of old))
+
+-- AN IMAGE
+
+pub known_image : (image : ImageFact) (known : Known) (hooks : List HookFact) → ImageFits image → known.until < 2 ^ 63 → known.rules.items ≡ rules_spelling image.rules →
+    known.hooks ≡ Some hooks → image.hooks ≡ hooks → known.image ≡ length (image_spelling image) → IsKnown (image_spelling image ∷ marks known.until) known
+known_image image known hooks fits less rules_are there hooks_are sized = record {
+  rules_are = λ told tell. rules_are ∙ ap rules_spelling
+      (tells_one (image_spelling image) image.rules told (inr (image, fits, refl, refl)) (tell_in (image_spelling image ∷ marks known.until) (image_spelling image) told (last_rules-image image known.until) tell));
+  hooks_are = subst (λ (o : Option (List HookFact)). IfSome o (λ set. (history : List Event) → StandFor (image_spelling image ∷ marks known.until) history → set ≡ hooks_set_in history)) (sym there)
+      (λ history stands. by history stands stands.begins);
+  image_is = sized;
+  until_is = sym (until_of-image image known.until less);
 }
   where
-    by : (history : List Event) → (stands : StandsFor now history) → Begin (recovered now) stands.base stands.later → hooks ≡ hooks_set_in history
+    by : (history : List Event) → (stands : StandFor (image_spelling image ∷ marks known.until) history) → Begin (image_spelling image ∷ marks known.until) stands.base stands.later → hooks ≡ hooks_set_in history
     by history stands (inl anew) =
-        let told : AreTold (image_spelling image ∷ []) stands.facts = subst (λ (bs : List (List ℕ)). AreTold bs stands.facts) (anew.1 ∙ are) stands.told in
-        let e = told.3 in
+        let told : AreTold (image_spelling image ∷ marks known.until) stands.facts = subst (λ (bs : List (List ℕ)). AreTold bs stands.facts) anew.1 stands.told in
+        let e = told.2.1 in
         absurd cc
     by history stands (inr of) =
-        let e : image_spelling image ∷ [] ≡ image_spelling of.0 ∷ stands.later = sym are ∙ of.2.1 in
+        let e : image_spelling image ∷ marks known.until ≡ image_spelling of.0 ∷ stands.later = of.2.1 in
         let first : image_spelling image ≡ image_spelling of.0 = cc in
-        let rest : stands.later ≡ [] = cc in
+        let rest : stands.later ≡ marks known.until = cc in
         let same : image ≡ of.0 = one_image image of.0 fits of.2.0 first in
-        let nothing : stands.facts ≡ [] = subst (λ (bs : List (List ℕ)). AreTold bs stands.facts) rest stands.told in
-        let stays : history ≡ stands.base = subst (λ (ds : List DatedFact). Happened stands.base ds history) nothing stands.happened in
+        let none : stands.facts ≡ [] = marks_nothing known.until stands.facts (subst (λ (bs : List (List ℕ)). AreTold bs stands.facts) rest stands.told) in
+        let stays : history ≡ stands.base = subst (λ (ds : List DatedFact). Happened stands.base ds history) none stands.happened in
         sym hooks_are ∙ ap (λ (i : ImageFact). i.hooks) same ∙ of.1.hooks ∙ ap hooks_set_in (sym stays)

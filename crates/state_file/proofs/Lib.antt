@@ -9,6 +9,7 @@ pub mod Kept
 pub mod Known
 pub mod Left
 pub mod Listed
+pub mod Marked
 pub mod Redone
 pub mod Refused
 pub mod Setting

@@ -3,7 +3,7 @@ use Rattle.std.specs.Prelude.{◌≡◌, ◌++◌, ℕ, List, [], ◌∷◌, Opt
 use Rattle.std.specs.Str.{bytes_eq}
 use Rattle.consent.specs.History.{Event, Change, with_change}
 use Rattle.consent.specs.History.{Change as happens}
-use Rattle.change_codec.specs.Spelling.{DatedFact, Fact, HookSet, HookGone}
+use Rattle.change_codec.specs.Spelling.{DatedFact, Fact, HaveSpelling, HookSet, HookGone, batch_spelling}
 use Rattle.image_codec.specs.Facts.{HookFact}
 
 -- the hook of the name
@@ -29,6 +29,11 @@ hooks_by hooks _ = hooks
 abbrev pub hooks_behind : List HookFact → List DatedFact → List HookFact
 hooks_behind hooks [] = hooks
 hooks_behind hooks (d ∷ later) = hooks_behind (hooks_by hooks d.fact) later
+
+-- so it is of those that the batch spells
+abbrev pub AreBehind : List HookFact → List ℕ → List HookFact → Type 0
+AreBehind before batch hooks =
+    (facts : List DatedFact) → HaveSpelling facts → batch ≡ batch_spelling facts → hooks ≡ hooks_behind before facts
 
 -- the hooks that are set after the events, in the order in which they were set
 abbrev pub hooks_after : List HookFact → List Event → List HookFact

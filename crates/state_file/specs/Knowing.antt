@@ -1,20 +1,21 @@
 -- What a keeper knows of its file.
-use Rattle.std.specs.Prelude.{◌≡◌, ◌⊎◌, ◌<◌, ◌^◌, ◌/◌, ℕ, List, [], ◌∷◌, length, if◌then◌else◌}
+use Rattle.std.specs.Prelude.{◌≡◌, ◌⊎◌, ◌<◌, ◌^◌, ◌/◌, ℕ, List, [], ◌∷◌, length, IfSome, if◌then◌else◌}
 use Rattle.batch_file.specs.Frames.{recovered}
 use Rattle.batch_file.specs.declared.appending.BatchFile.{BatchFile}
 use Rattle.batch_file.specs.declared.device.Device.{Ghosts as Device}
 use Rattle.change_codec.specs.Keeping.{Crashes, crashes}
 use Rattle.consent.specs.History.{Event}
-use Rattle.image_codec.specs.Facts.{HookFact, RulesFact}
+use Rattle.image_codec.specs.Facts.{RulesFact}
 use Rattle.image_codec.specs.Spelling.{rules_spelling}
 use Rattle.state_file.specs.Hooks.{hooks_set_in}
-use Rattle.state_file.specs.Standing.{StandsFor, begins_image}
-use Rattle.state_file.specs.Telling.{TellsRules}
+use Rattle.state_file.specs.Standing.{StandFor, StandsFor, begins_image, until_of}
+use Rattle.state_file.specs.Telling.{Tell}
+use Rattle.state_file.specs.declared.keeper.Known.{Known}
 
 -- what crashes leave of a file of batches on the device
 abbrev pub file_crashes : {D : Type 0} → Device D → Crashes (BatchFile D)
 file_crashes device =
-    crashes StandsFor (λ f c. device.may_leave f.device c ⊎ (c ≡ device.seen f.device)) (λ f. device.moment f.device) (λ f. device.left_since f.device)
+    crashes StandsFor (λ left. until_of (recovered left)) (λ f c. device.may_leave f.device c ⊎ (c ≡ device.seen f.device)) (λ f. device.moment f.device) (λ f. device.left_since f.device)
 
 -- how many bytes the image has that the batches begin with, if they do
 abbrev pub image_size : List (List ℕ) → ℕ
@@ -29,8 +30,10 @@ IsLong end image = (2 ^ 20 < end) × (image < end / 4)
 abbrev pub IsLongFile : {D : Type 0} → (D → List ℕ) → BatchFile D → Type 0
 IsLongFile seen file = IsLong file.end (image_size (recovered (seen file.device)))
 
--- These bytes spell the rules that are told last, these hooks are set, and the image has so many bytes.
-pub record IsKnown (left rules : List ℕ) (hooks : List HookFact) (image : ℕ) : Type 0 where
-  pub rules_are : (told : RulesFact) → TellsRules left told → rules ≡ rules_spelling told
-  pub hooks_are : (history : List Event) → StandsFor left history → hooks ≡ hooks_set_in history
-  pub image_is : image ≡ image_size (recovered left)
+-- What is known of a file's batches: how the rules that are told last are spelled, which hooks are set, how many bytes the image
+-- has, and the greatest moment of the marks.
+pub record IsKnown (batches : List (List ℕ)) (known : Known) : Type 0 where
+  pub rules_are : (told : RulesFact) → Tell batches told → known.rules.items ≡ rules_spelling told
+  pub hooks_are : IfSome known.hooks (λ hooks. (history : List Event) → StandFor batches history → hooks ≡ hooks_set_in history)
+  pub image_is : known.image ≡ image_size batches
+  pub until_is : known.until ≡ until_of batches

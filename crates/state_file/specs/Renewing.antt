@@ -7,7 +7,7 @@ use Rattle.image_codec.specs.Facts.{HookFact, ImageFact}
 use Rattle.image_codec.specs.Spelling.{ImageCounts, ImageFits, image_spelling, rules_spelling}
 use Rattle.endpoints.specs.Imaging.{OfFitted}
 use Rattle.endpoints.specs.declared.image_keeper.ImageFault.{ImageFault}
-use Rattle.endpoints.specs.declared.image_keeper.ImageFault.TheVariants.{Memory, TooLong, Failed}
+use Rattle.endpoints.specs.declared.image_keeper.ImageFault.TheVariants.{Memory, TooLong, Unwritten, Failed}
 use Rattle.state_file.specs.declared.fault.StateFault.{StateFault}
 use Rattle.state_file.specs.declared.fault.StateFault.TheVariants as state
 use Rattle.state_file.specs.Hooks.{hooks_set_in}
@@ -41,6 +41,7 @@ IsTooLarge image = (¬ ImageCounts image) ⊎ (2 ^ 32 ≤ length (image_spelling
 abbrev pub IsUnspelled : {H : Type 0} → Hosting H → SeenServer H → List HookFact → ImageFault → Type 0
 IsUnspelled hosting server hooks Memory = Unit {0}
 IsUnspelled hosting server hooks TooLong = (image : ImageFact) × IsImageFor hosting server hooks image × IsTooLarge image
+IsUnspelled hosting server hooks Unwritten = ⊥
 IsUnspelled hosting server hooks Failed = ⊥
 
 -- an image is too large that is one of each history that the server fits and for which the bytes stand

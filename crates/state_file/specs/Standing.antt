@@ -1,5 +1,6 @@
 -- What a state file stands for.
-use Rattle.std.specs.Prelude.{◌≡◌, ◌⊎◌, ◌++◌, ℕ, zero, suc, List, [], ◌∷◌, Bool, true, false, map}
+use Rattle.std.specs.Prelude.{◌≡◌, ◌⊎◌, ◌++◌, ◌^◌, ◌==◌, ◌&&◌, ℕ, zero, suc, max, nat_lt, length, List, [], ◌∷◌, Bool, true, false, Option, None, Some, IsSome, if◌then◌else◌, map, unwrap_or}
+use Rattle.std.specs.Int.{w64, from_be_bytes, to_be_bytes}
 use Rattle.batch_file.specs.Frames.{recovered}
 use Rattle.consent.specs.Consents.{FitsConsents, kept_consents}
 use Rattle.consent.specs.History.{Event}
@@ -32,22 +33,45 @@ abbrev pub Begin : List (List ℕ) → List Event → List (List ℕ) → Type 0
 Begin batches history later =
     ((history ≡ []) × (later ≡ batches)) ⊎ ((image : ImageFact) × IsImageOf image history × BeginWithImage batches image later)
 
--- The batches have these dated changes between them: each batch is rules, which begin with a byte 0, or spells its part.
+-- A mark tells until which moment what was told is kept: a byte 3, and the moment in eight bytes, the high one first.
+abbrev pub mark : ℕ → List ℕ
+mark until = 3 ∷ to_be_bytes w64 until
+
+-- the moment of a mark, which is below 2^63
+abbrev pub mark_in : List ℕ → Option ℕ
+mark_in (suc (suc (suc zero)) ∷ bytes) =
+    if (length bytes == 8) && nat_lt (from_be_bytes w64 bytes) (2 ^ 63) then Some (from_be_bytes w64 bytes) else None
+mark_in _ = None
+
+-- the mark of a moment, if that is any
+abbrev pub marks : ℕ → List (List ℕ)
+marks until = if until == 0 then [] else mark until ∷ []
+
+-- the greatest moment of the marks, 0 where there is none
+abbrev pub until_of : List (List ℕ) → ℕ
+until_of [] = 0
+until_of (batch ∷ batches) = max (unwrap_or (mark_in batch) 0) (until_of batches)
+
+-- the batch has these dated changes: rules, which begin with a byte 0, and a mark have none
+abbrev pub IsTold : List ℕ → List DatedFact → Type 0
+IsTold (zero ∷ rules) facts = facts ≡ []
+IsTold (suc (suc (suc zero)) ∷ bytes) facts = IsSome (mark_in (3 ∷ bytes)) × (facts ≡ [])
+IsTold batch facts = HaveSpelling facts × (batch ≡ batch_spelling facts)
+
+-- the batches have these dated changes, one after the other
 abbrev pub AreTold : List (List ℕ) → List DatedFact → Type 0
 AreTold [] facts = facts ≡ []
-AreTold ((zero ∷ rules) ∷ batches) facts = AreTold batches facts
-AreTold (batch ∷ batches) facts =
-    (first later : List DatedFact) × HaveSpelling first × (batch ≡ batch_spelling first) × AreTold batches later × (facts ≡ first ++ later)
+AreTold (batch ∷ batches) facts = (first later : List DatedFact) × IsTold batch first × AreTold batches later × (facts ≡ first ++ later)
 
--- the bytes stand for the history: from where their whole batches begin, the dated changes of the others lead to it
-pub record StandsFor (left : List ℕ) (history : List Event) : Type 0 where
+-- the batches stand for the history: from where they begin, the dated changes of the later ones lead to it
+pub record StandFor (batches : List (List ℕ)) (history : List Event) : Type 0 where
   pub base : List Event
   pub later : List (List ℕ)
   pub facts : List DatedFact
-  pub begins : Begin (recovered left) base later
+  pub begins : Begin batches base later
   pub told : AreTold later facts
   pub happened : Happened base facts history
 
--- what the one stands for, the other does
-abbrev pub StandsOn : List ℕ → List ℕ → Type 0
-StandsOn left now = (history : List Event) → StandsFor left history → StandsFor now history
+-- so do the bytes of a file, by their batches
+abbrev pub StandsFor : List ℕ → List Event → Type 0
+StandsFor left history = StandFor (recovered left) history

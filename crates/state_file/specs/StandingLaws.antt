@@ -1,6 +1,7 @@
--- What a state file stands for once it has one batch more. For proofs alone.
-use Rattle.std.proofs.Common.{◌≡◌, inl, inr, ℕ, zero, suc, List, [], ◌∷◌, ◌++◌, refl, sym, ap, ◌∙◌, subst, append_assoc}
+-- What batches stand for once there are more of them. For proofs alone.
+use Rattle.std.proofs.Common.{◌≡◌, ◌≤◌, ◌∙◌, inl, inr, ℕ, zero, suc, max, List, [], ◌∷◌, ◌++◌, refl, sym, ap, subst, append_assoc, arith}
 use Rattle.std.proofs.lemmas.List.{append-nil}
+use Rattle.std.specs.Prelude.{IsSome, unwrap_or}
 use Rattle.batch_file.specs.Frames.{recovered}
 use Rattle.consent.specs.History.{Event}
 use Rattle.change_codec.specs.Spelling.{DatedFact, HaveSpelling, batch_spelling}
@@ -8,68 +9,69 @@ use Rattle.change_codec.specs.Happened.{Happened}
 use Rattle.change_codec.specs.HappenedLaws.{Happened-joined}
 use Rattle.image_codec.specs.Facts.{ImageFact}
 use Rattle.image_codec.specs.Spelling.{ImageFits, image_spelling}
-use Rattle.state_file.specs.Standing.{AreTold, Begin, IsImageOf, StandsFor}
+use Rattle.state_file.specs.Standing.{AreTold, Begin, IsImageOf, StandFor, StandsFor, mark, mark_in, until_of}
 
--- a batch of dated changes more
-pub AreTold-more : (batches : List (List ℕ)) (facts more : List DatedFact) → AreTold batches facts → HaveSpelling more →
-    AreTold (batches ++ batch_spelling more ∷ []) (facts ++ more)
-AreTold-more [] facts more told fits =
-    (more, [], fits, refl, refl, ap (λ (ds : List DatedFact). ds ++ more) told ∙ sym (append-nil more))
-AreTold-more ([] ∷ batches) facts more told fits =
-    (told.0, told.1 ++ more, told.2, told.3, AreTold-more batches told.1 more told.4 fits, ap (λ (ds : List DatedFact). ds ++ more) told.5 ∙ append_assoc told.0 told.1 more)
-AreTold-more ((zero ∷ rules) ∷ batches) facts more told fits = AreTold-more batches facts more told fits
-AreTold-more ((suc n ∷ bytes) ∷ batches) facts more told fits =
-    (told.0, told.1 ++ more, told.2, told.3, AreTold-more batches told.1 more told.4 fits, ap (λ (ds : List DatedFact). ds ++ more) told.5 ∙ append_assoc told.0 told.1 more)
+-- the changes of some batches, and of those behind them
+pub AreTold-joined : (batches more : List (List ℕ)) (facts others : List DatedFact) → AreTold batches facts → AreTold more others →
+    AreTold (batches ++ more) (facts ++ others)
+AreTold-joined [] more facts others told then = subst (λ (ds : List DatedFact). AreTold more ds) (sym (ap (λ (ds : List DatedFact). ds ++ others) told)) then
+AreTold-joined (batch ∷ batches) more facts others told then = (
+  told.0,
+  told.1 ++ others,
+  told.2,
+  AreTold-joined batches more told.1 others told.3 then,
+  ap (λ (ds : List DatedFact). ds ++ others) told.4 ∙ append_assoc told.0 told.1 others,
+)
 
--- what begins so does with one batch more
-begin-more : (batches : List (List ℕ)) (history : List Event) (later : List (List ℕ)) (batch : List ℕ) → Begin batches history later →
-    Begin (batches ++ batch ∷ []) history (later ++ batch ∷ [])
-begin-more batches history later batch (inl none) = inl (none.0, ap (λ (bs : List (List ℕ)). bs ++ batch ∷ []) none.1)
-begin-more batches history later batch (inr of) = inr (of.0, of.1, (of.2.0, ap (λ (bs : List (List ℕ)). bs ++ batch ∷ []) of.2.1))
+-- the other way round
+pub AreTold-split : (batches more : List (List ℕ)) (facts : List DatedFact) → AreTold (batches ++ more) facts →
+    (front back : List DatedFact) × AreTold batches front × AreTold more back × (facts ≡ front ++ back)
+AreTold-split [] more facts told = ([], facts, refl, told, refl)
+AreTold-split (batch ∷ batches) more facts told =
+    let rest = AreTold-split batches more told.1 told.3 in
+    (told.0 ++ rest.0, rest.1, (told.0, rest.0, told.2, rest.2, refl), rest.3, told.4 ∙ ap (λ (ds : List DatedFact). told.0 ++ ds) rest.4 ∙ sym (append_assoc told.0 rest.0 rest.1))
 
--- what the file stood for, with what happened then
+-- one batch of changes, of rules, or a mark
+pub AreTold-changes : (facts : List DatedFact) → HaveSpelling facts → AreTold (batch_spelling facts ∷ []) facts
+AreTold-changes facts fit = (facts, [], (fit, refl), refl, sym (append-nil facts))
+
+pub AreTold-rules : (fields : List ℕ) → AreTold ((0 ∷ fields) ∷ []) []
+AreTold-rules fields = ([], [], refl, refl, refl)
+
+pub AreTold-mark : (until : ℕ) → IsSome (mark_in (mark until)) → AreTold (mark until ∷ []) []
+AreTold-mark until is = ([], [], (is, refl), refl, refl)
+
+-- what begins so does with more batches
+Begin-more : (batches : List (List ℕ)) (history : List Event) (later more : List (List ℕ)) → Begin batches history later → Begin (batches ++ more) history (later ++ more)
+Begin-more batches history later more (inl none) = inl (none.0, ap (λ (bs : List (List ℕ)). bs ++ more) none.1)
+Begin-more batches history later more (inr of) = inr (of.0, of.1, (of.2.0, ap (λ (bs : List (List ℕ)). bs ++ more) of.2.1))
+
+-- what the batches stood for, with what happened then
+pub StandFor-joined : (batches more : List (List ℕ)) (before after : List Event) (facts : List DatedFact) → StandFor batches before →
+    AreTold more facts → Happened before facts after → StandFor (batches ++ more) after
+StandFor-joined batches more before after facts stands told happened = record {
+  base = stands.base;
+  later = stands.later ++ more;
+  facts = stands.facts ++ facts;
+  begins = Begin-more batches stands.base stands.later more stands.begins;
+  told = AreTold-joined stands.later more stands.facts facts stands.told told;
+  happened = Happened-joined stands.base before after stands.facts facts stands.happened happened;
+}
+
+-- so it is of a file's bytes
 pub StandsFor-more : (left now : List ℕ) (before after : List Event) (more : List DatedFact) → StandsFor left before →
     HaveSpelling more → recovered now ≡ recovered left ++ batch_spelling more ∷ [] → Happened before more after → StandsFor now after
-StandsFor-more left now before after more stands fits are happened = record {
-  base = stands.base;
-  later = stands.later ++ batch_spelling more ∷ [];
-  facts = stands.facts ++ more;
-  begins = subst (λ (batches : List (List ℕ)). Begin batches stands.base (stands.later ++ batch_spelling more ∷ [])) (sym are) (begin-more (recovered left) stands.base stands.later (batch_spelling more) stands.begins);
-  told = AreTold-more stands.later stands.facts more stands.told fits;
-  happened = Happened-joined stands.base before after stands.facts more stands.happened happened;
-}
+StandsFor-more left now before after more stands fits are happened =
+    subst (λ (batches : List (List ℕ)). StandFor batches after) (sym are)
+    (StandFor-joined (recovered left) (batch_spelling more ∷ []) before after more stands (AreTold-changes more fits) happened)
 
 -- the same batches stand for the same
 pub StandsFor-same : (left now : List ℕ) (history : List Event) → recovered now ≡ recovered left → StandsFor left history → StandsFor now history
-StandsFor-same left now history same stands = record {
-  base = stands.base;
-  later = stands.later;
-  facts = stands.facts;
-  begins = subst (λ (batches : List (List ℕ)). Begin batches stands.base stands.later) (sym same) stands.begins;
-  told = stands.told;
-  happened = stands.happened;
-}
+StandsFor-same left now history same stands = subst (λ (batches : List (List ℕ)). StandFor batches history) (sym same) stands
 
--- a batch of rules more, which has no changes
-AreTold-rules : (batches : List (List ℕ)) (facts : List DatedFact) (fields : List ℕ) → AreTold batches facts → AreTold (batches ++ (0 ∷ fields) ∷ []) facts
-AreTold-rules [] facts fields told = told
-AreTold-rules ([] ∷ batches) facts fields told =
-    (told.0, told.1, told.2, told.3, AreTold-rules batches told.1 fields told.4, told.5)
-AreTold-rules ((zero ∷ rules) ∷ batches) facts fields told = AreTold-rules batches facts fields told
-AreTold-rules ((suc n ∷ bytes) ∷ batches) facts fields told =
-    (told.0, told.1, told.2, told.3, AreTold-rules batches told.1 fields told.4, told.5)
-
--- it stands for the same
-pub StandsFor-rules : (left now : List ℕ) (history : List Event) (fields : List ℕ) → recovered now ≡ recovered left ++ (0 ∷ fields) ∷ [] →
-    StandsFor left history → StandsFor now history
-StandsFor-rules left now history fields are stands = record {
-  base = stands.base;
-  later = stands.later ++ (0 ∷ fields) ∷ [];
-  facts = stands.facts;
-  begins = subst (λ (batches : List (List ℕ)). Begin batches stands.base (stands.later ++ (0 ∷ fields) ∷ [])) (sym are) (begin-more (recovered left) stands.base stands.later (0 ∷ fields) stands.begins);
-  told = AreTold-rules stands.later stands.facts fields stands.told;
-  happened = stands.happened;
-}
+-- batches without changes more, as rules or marks
+pub StandFor-beside : (batches more : List (List ℕ)) (history : List Event) → AreTold more [] → StandFor batches history → StandFor (batches ++ more) history
+StandFor-beside batches more history told stands = StandFor-joined batches more history history [] stands told refl
 
 -- no batch stands for no event
 pub StandsFor-none : (left : List ℕ) (history : List Event) → recovered left ≡ [] → StandsFor left history → history ≡ []
@@ -81,14 +83,33 @@ StandsFor-none left history none stands = by stands.begins stands.told stands.ha
         subst (λ (ds : List DatedFact). Happened stands.base ds history) facts happened ∙ b.0
     by (inr b) told happened = let e = sym none ∙ b.2.1 in absurd cc
 
--- an image alone stands for each history that it is one of
-pub StandsFor-image : (left : List ℕ) (image : ImageFact) (history : List Event) → recovered left ≡ image_spelling image ∷ [] → ImageFits image →
-    IsImageOf image history → StandsFor left history
-StandsFor-image left image history are fits is = record {
+-- an image, with batches without changes behind it, stands for each history that it is one of
+pub StandFor-image : (image : ImageFact) (more : List (List ℕ)) (history : List Event) → ImageFits image → AreTold more [] →
+    IsImageOf image history → StandFor (image_spelling image ∷ more) history
+StandFor-image image more history fits told is = record {
   base = history;
-  later = [];
+  later = more;
   facts = [];
-  begins = inr (image, is, (fits, are));
-  told = refl;
+  begins = inr (image, is, (fits, refl));
+  told = told;
   happened = refl;
 }
+
+pub StandsFor-image : (left : List ℕ) (image : ImageFact) (history : List Event) → recovered left ≡ image_spelling image ∷ [] → ImageFits image →
+    IsImageOf image history → StandsFor left history
+StandsFor-image left image history are fits is =
+    subst (λ (batches : List (List ℕ)). StandFor batches history) (sym are) (StandFor-image image [] history fits refl is)
+
+-- MARKS
+
+max_both : (a b c : ℕ) → max a (max b c) ≡ max (max a b) c
+max_both a b c = omega arith
+
+pub until_of-append : (batches more : List (List ℕ)) → until_of (batches ++ more) ≡ max (until_of batches) (until_of more)
+until_of-append [] more = omega arith
+until_of-append (batch ∷ batches) more =
+    ap (λ (m : ℕ). max (unwrap_or (mark_in batch) 0) m) (until_of-append batches more) ∙ max_both (unwrap_or (mark_in batch) 0) (until_of batches) (until_of more)
+
+-- more batches tell no earlier moment
+pub until_of-more : (batches more : List (List ℕ)) → until_of batches ≤ until_of (batches ++ more)
+until_of-more batches more = let e = until_of-append batches more in omega (arith, e)

@@ -1,9 +1,9 @@
 //! The hooks that the changes of a state file set.
 
-ghost use Rattle.std.specs.Prelude.{◌≡◌, ◌↔◌, ◌++◌, ◌∷◌, [], List, IsTrue, IfOk, OnOk, map, option_copied};
-ghost use Rattle.change_codec.specs.Spelling.{DatedFact, HaveSpelling, dated_facts, fact_of, batch_spelling};
-ghost use Rattle.image_codec.specs.Facts.{hook_fact};
-ghost use Rattle.state_file.specs.Hooks.{hooks_behind, hooks_by, hook_named, without_hook};
+ghost use Rattle.std.specs.Prelude.{◌≡◌, ◌↔◌, ◌++◌, ◌∷◌, [], List, Some, IsTrue, IfOk, IfSome, OnOk, map, option_copied};
+ghost use Rattle.change_codec.specs.Spelling.{dated_facts, fact_of};
+ghost use Rattle.image_codec.specs.Facts.{HookFact, hook_fact};
+ghost use Rattle.state_file.specs.Hooks.{AreBehind, hooks_behind, hooks_by, hook_named, without_hook};
 
 use change_codec::{DatedChange, decode};
 use consent::{Change, RecordVersion};
@@ -131,15 +131,23 @@ impl SetHooks {
         Ok(())
     }
 
-    /// Those that are set behind the dated changes that a batch spells.
-    pub(crate) fn follow_batch(&mut self, batch: &[u8]) -> Result<(), AllocError>
-        ensures { OnOk result ((facts : List DatedFact) → HaveSpelling facts → batch.now ≡ batch_spelling facts →
-            self.new ≡ hooks_behind self.old facts) }
+    // Those that are set behind the dated changes that a batch spells.
+    fn follow_batch(&mut self, batch: &[u8]) -> Result<(), AllocError>
+        ensures { OnOk result (AreBehind self.old batch.now self.new) }
     {
         let Ok(changes) = decode(self.alloc, batch) else {
             return Err(AllocError);
         };
         self.follow_each(&changes)
+    }
+
+    /// Those that are set behind the dated changes that a batch spells. Where memory is refused, they are not known any more.
+    pub(crate) fn behind(before: Option<SetHooks>, batch: &[u8]) -> Option<SetHooks>
+        ensures { IfSome result (λ hooks. (set : List HookFact) × (before ≡ Some set) × AreBehind set batch.now hooks) }
+    {
+        let mut hooks = before?;
+        hooks.follow_batch(batch).ok()?;
+        Some(hooks)
     }
 
     /// The same once more.

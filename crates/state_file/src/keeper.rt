@@ -1,33 +1,51 @@
-//! Keeping the changes of each round in a state file.
+//! Keeping the changes of each round, and the moment, in a state file.
+
+ghost use Rattle.std.specs.Prelude.{◌≡◌, ◌+◌, ◌-◌, ◌^◌, min};
 
 use crate::hooks::SetHooks;
-use batch_file::appending::BatchFile;
+use crate::marks::mark;
+use batch_file::appending::{BatchFault, BatchFile};
 use batch_file::device::Device;
 use change_codec::{Batch, KeepFault, Keeper};
+use consent::Moment;
 use endpoints::{ImageFault, ImageKeeper, Server};
 use hook_host::HookHost;
 use std::alloc::Global;
 use std::marker::Model;
 
-/// Keeps the changes of each round in a state file, and puts an image of the server in their place once the file is long.
-/// Where the disk has failed once, it keeps nothing more.
+/// A mark is so many seconds ahead of the clock, so that no more than one is written in that time.
+const SPAN: u64 = 10;
+
+/// The greatest moment.
+const LAST: u64 = (1 << 63) - 1;
+
+/// What is known of a state file.
+#[derive(Drop)]
+pub(crate) struct Known {
+    /// The rules, as the file tells them.
+    pub(crate) rules: Vec<u8>,
+    /// The hooks that its changes set, unless memory was refused for them.
+    pub(crate) hooks: Option<SetHooks>,
+    /// How many bytes its image has, if it has one.
+    pub(crate) image: usize,
+    /// The greatest moment of its marks.
+    pub(crate) until: Moment,
+}
+
+/// Keeps the changes of each round and the moment in a state file, and puts an image of the server in their place once the
+/// file is long. Where the disk has failed once, it keeps nothing more.
 #[derive(Drop)]
 pub struct StateKeeper<D: Device> {
     pub(crate) file: BatchFile<D>,
-    /// Whether all that was given is on the disk.
-    pub(crate) settled: bool,
-    /// The rules, as the file tells them.
-    pub(crate) rules: Vec<u8>,
-    /// The hooks that its changes set.
-    pub(crate) hooks: SetHooks,
-    /// How many bytes its image has, if it has one.
-    pub(crate) image: usize,
+    /// Why it keeps nothing more, if it does not.
+    pub(crate) fault: Option<BatchFault>,
+    pub(crate) known: Known,
     pub(crate) alloc: Global,
 }
 
 impl<D: Device> Model for StateKeeper<D> {
-    ghost use Rattle.std.specs.Prelude.{IsTrue};
-    ghost use Rattle.batch_file.specs.Frames.{IsOnDisk};
+    ghost use Rattle.std.specs.Prelude.{IsNone};
+    ghost use Rattle.batch_file.specs.Frames.{IsOnDisk, recovered};
     ghost use Rattle.batch_file.specs.declared.appending.BatchFile.{BatchFile};
     ghost use Rattle.state_file.specs.Knowing.{IsKnown};
 
@@ -35,58 +53,88 @@ impl<D: Device> Model for StateKeeper<D> {
 
     ghost view = { λ keeper. keeper.file };
 
-    ghost invariant = { λ keeper. IsTrue keeper.settled →
-        IsOnDisk D.seen D.may_leave keeper.file
-        × IsKnown (D.seen keeper.file.device) keeper.rules.items keeper.hooks keeper.image };
+    ghost invariant = { λ keeper. IsNone keeper.fault →
+        IsOnDisk D.seen D.may_leave D.faults keeper.file × IsKnown (recovered (D.seen keeper.file.device)) keeper.known };
+}
+
+/// The moment of a mark that is written at a moment.
+fn marked(now: Moment) -> Moment
+    ensures { result ≡ min (now + 10) (2 ^ 63 - 1) }
+{
+    Moment::new((now.get() + SPAN).min(LAST))
 }
 
 impl<D: Device> StateKeeper<D> {
     ghost use Rattle.std.specs.Prelude.{◌≡◌, OnOk, OnErr};
-    ghost use Rattle.batch_file.specs.Frames.{IsOnDisk};
-    ghost use Rattle.change_codec.specs.Keeping.{KeepsEach, KeepsNone};
+    ghost use Rattle.batch_file.specs.Frames.{IsOnDisk, recovered};
+    ghost use Rattle.change_codec.specs.Keeping.{HeldMeanwhile, HoldsMoment, HoldsStill, KeepsEach, KeepsMoments, KeepsNone, TellsMoments};
     ghost use Rattle.state_file.specs.Knowing.{IsKnown, file_crashes};
     ghost use Rattle.state_file.specs.Telling.{KeepRules};
 
     /// One over a file of which all is on the disk, and of which this is known.
-    pub(crate) fn new(
-        alloc: Global,
-        file: BatchFile<D>,
-        rules: Vec<u8>,
-        hooks: SetHooks,
-        image: usize,
-    ) -> StateKeeper<D>
-        requires settled { IsOnDisk D.seen D.may_leave file }
-        requires known { IsKnown (D.seen file.device) rules.items hooks image }
+    pub(crate) fn new(alloc: Global, file: BatchFile<D>, known: Known) -> StateKeeper<D>
+        requires settled { IsOnDisk D.seen D.may_leave D.faults file }
+        requires known { IsKnown (recovered (D.seen file.device)) known }
         ensures { result ≡ file }
     {
         StateKeeper {
             file,
-            settled: true,
-            rules,
-            hooks,
-            image,
+            fault: None,
+            known,
             alloc,
         }
+    }
+
+    /// Why it keeps nothing more, if it does not.
+    pub fn fault(&self) -> Option<BatchFault> {
+        self.fault
     }
 
     /// Keeps dated changes, all of them or none.
     pub fn keep_all(&mut self, batch: &Batch) -> Result<(), KeepFault>
         ensures kept { OnOk result (KeepsEach (file_crashes D.Device) batch.now.facts self.old self.new) }
         ensures lost { OnErr result (KeepsNone (file_crashes D.Device) batch.now.facts self.old self.new) }
+        ensures moments { OnOk result (KeepsMoments (file_crashes D.Device) self.old self.new) }
+        ensures meanwhile { TellsMoments (file_crashes D.Device) self.old self.new }
         // The rules that are told stay.
         ensures told { OnOk result (KeepRules D.seen D.may_leave self.old self.new) }
     {
-        if !self.settled {
+        if self.fault.is_some() {
             return Err(KeepFault::Failed);
         }
-        let Ok(()) = self.hooks.follow_batch(batch.bytes()) else {
-            self.settled = false;
-            return Err(KeepFault::Failed);
-        };
-        match self.file.append(self.alloc, batch.bytes()) {
+        self.known.hooks = SetHooks::behind(self.known.hooks.take(), batch.bytes());
+        match self.file.append(batch.bytes()) {
             Ok(()) => Ok(()),
-            Err(_) => {
-                self.settled = false;
+            Err(fault) => {
+                self.fault = Some(fault);
+                Err(KeepFault::Failed)
+            }
+        }
+    }
+
+    /// Keeps a moment: where it is beyond the greatest mark, another mark is written.
+    pub(crate) fn keep_mark(&mut self, now: Moment) -> Result<(), KeepFault>
+        ensures kept { OnOk result (HoldsStill (file_crashes D.Device) self.old self.new) }
+        ensures lost { OnErr result (HeldMeanwhile (file_crashes D.Device) self.old self.new) }
+        ensures moment { OnOk result (HoldsMoment (file_crashes D.Device) self.new now) }
+        ensures moments { OnOk result (KeepsMoments (file_crashes D.Device) self.old self.new) }
+        ensures meanwhile { TellsMoments (file_crashes D.Device) self.old self.new }
+        ensures told { OnOk result (KeepRules D.seen D.may_leave self.old self.new) }
+    {
+        if self.fault.is_some() {
+            return Err(KeepFault::Failed);
+        }
+        if now <= self.known.until {
+            return Ok(());
+        }
+        let until = marked(now);
+        match self.file.append(&mark(until)) {
+            Ok(()) => {
+                self.known.until = until;
+                Ok(())
+            }
+            Err(fault) => {
+                self.fault = Some(fault);
                 Err(KeepFault::Failed)
             }
         }
@@ -96,9 +144,12 @@ impl<D: Device> StateKeeper<D> {
 impl<D: Device> Keeper for StateKeeper<D> {
     ghost use Rattle.std.specs.Prelude.{◌≡◌, ◌⊎◌};
     ghost use Rattle.std.proofs.Common.{inl};
-    ghost use Rattle.state_file.specs.Standing.{StandsFor};
+    ghost use Rattle.batch_file.specs.Frames.{recovered};
+    ghost use Rattle.state_file.specs.Standing.{StandsFor, until_of};
 
     ghost stands_for = { StandsFor };
+
+    ghost until = { λ left. until_of (recovered left) };
 
     ghost may_leave = { λ f c. D.may_leave f.device c ⊎ (c ≡ D.seen f.device) };
 
@@ -110,6 +161,10 @@ impl<D: Device> Keeper for StateKeeper<D> {
 
     fn keep(&mut self, batch: &Batch) -> Result<(), KeepFault> {
         self.keep_all(batch)
+    }
+
+    fn keep_moment(&mut self, now: Moment) -> Result<(), KeepFault> {
+        self.keep_mark(now)
     }
 
     // With the closed latch behind the last frame.

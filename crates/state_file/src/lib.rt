@@ -15,6 +15,7 @@ mod hooks;
 mod imaging;
 mod keeper;
 mod laws;
+mod marks;
 mod redoing;
 mod renewing;
 mod restored;

@@ -1,8 +1,9 @@
 //! An image of a server in the place of all that a state file has.
 
-ghost use Rattle.std.specs.Prelude.{◌≡◌, ◌<◌, ◌^◌, true, false, length, OnOk, IfOk, IfErr, IsErrOf};
+ghost use Rattle.std.specs.Prelude.{◌≡◌, ◌≢◌, ◌<◌, ◌^◌, true, false, length, OnOk, IfOk, IfErr, IsErrOf};
 ghost use Rattle.endpoints.specs.Imaging.{KeepsImage, KeepsNoImage};
-ghost use Rattle.endpoints.specs.declared.image_keeper.ImageFault.TheVariants.{Memory, TooLong, Failed};
+ghost use Rattle.endpoints.specs.declared.image_keeper.ImageFault.TheVariants.{Memory, TooLong, Unwritten, Failed};
+ghost use Rattle.change_codec.specs.Keeping.{KeepsMoments, TellsMoments};
 ghost use Rattle.state_file.specs.Knowing.{IsLong, IsLongFile, file_crashes};
 ghost use Rattle.state_file.specs.Renewing.{HasTooMuch, IsUnspelled, SpellImage};
 ghost use Rattle.state_file.specs.Telling.{KeepRules};
@@ -10,8 +11,9 @@ ghost use Rattle.state_file.specs.Telling.{KeepRules};
 use crate::hooks::SetHooks;
 use crate::imaging::image_of;
 use crate::keeper::StateKeeper;
-use batch_file::device::Device;
-use batch_file::file_of;
+use crate::marks::image_frames;
+use batch_file::appending::BatchFault;
+use batch_file::device::{Device, ReplaceFault};
 use endpoints::{ImageFault, Server};
 use hook_host::HookHost;
 use image_codec::{EncodeFault, decode_rules, encode};
@@ -20,8 +22,8 @@ use std::alloc::Global;
 /// A file of fewer bytes is left as it is.
 const SMALL: usize = 1 << 20;
 
-// The spelling of the image of a server, with these hooks, under the rules that the bytes spell.
-fn spelled_image<H: HookHost>(
+/// The spelling of the image of a server, with these hooks, under the rules that the bytes spell.
+pub(crate) fn spelled_image<H: HookHost>(
     alloc: Global,
     server: &Server<H>,
     hooks: &SetHooks,
@@ -46,8 +48,8 @@ fn spelled_image<H: HookHost>(
     Ok(bytes)
 }
 
-// Whether batches that take so many bytes are short, beside an image of so many.
-fn is_short(end: usize, image: usize) -> bool
+/// Whether batches that take so many bytes are short, beside an image of so many.
+pub(crate) fn is_short(end: usize, image: usize) -> bool
     ensures short { result ≡ true → ¬ (IsLong end image) }
     ensures long { result ≡ false → IsLong end image }
 {
@@ -55,34 +57,43 @@ fn is_short(end: usize, image: usize) -> bool
 }
 
 impl<D: Device> StateKeeper<D> {
-    /// Where the file is longer than 1 MB, and than four times its image, the image of a server is put in the place of all
-    /// that it has. Where it can't be written, the keeper keeps nothing more.
+    /// Where the file is longer than 1 MB, and than four times its image, the image of a server and a mark are put in the place
+    /// of all that it has. Where it is not known whether they stand there, the keeper keeps nothing more.
     pub(crate) fn shorten<H: HookHost>(&mut self, server: &Server<H>) -> Result<(), ImageFault>
         ensures kept { OnOk result (KeepsImage H.HookHost (file_crashes D.Device) server.now self.old self.new) }
+        ensures moments { OnOk result (KeepsMoments (file_crashes D.Device) self.old self.new) }
+        ensures meanwhile { TellsMoments (file_crashes D.Device) self.old self.new }
         ensures told { OnOk result (KeepRules D.seen D.may_leave self.old self.new) }
         ensures short { OnOk result (¬ (IsLongFile D.seen self.new)) }
         ensures left { OnOk result (¬ (IsLongFile D.seen self.old) → self.new ≡ self.old) }
+        ensures refused { IfErr result (λ fault. fault ≢ Failed → IsLongFile D.seen self.old) }
         ensures no_memory { IsErrOf result Memory → self.new ≡ self.old }
         ensures too_long { IsErrOf result TooLong → self.new ≡ self.old }
         ensures too_much { IsErrOf result TooLong → HasTooMuch H.HookHost server.now (D.seen self.old.device) }
+        ensures unwritten { IsErrOf result Unwritten → self.new ≡ self.old }
         ensures failed { IsErrOf result Failed →
             KeepsNoImage H.HookHost (file_crashes D.Device) server.now self.old self.new }
     {
-        if !self.settled {
+        if self.fault.is_some() {
             return Err(ImageFault::Failed);
         }
-        if is_short(self.file.end, self.image) {
+        if is_short(self.file.end, self.known.image) {
             return Ok(());
         }
-        let bytes = spelled_image(self.alloc, server, &self.hooks, self.rules.as_slice())?;
-        let file = file_of(self.alloc, bytes.as_slice())?;
-        match self.file.replace(bytes.as_slice(), file.as_slice()) {
+        let Some(hooks) = &self.known.hooks else {
+            return Err(ImageFault::Memory);
+        };
+        let image = spelled_image(self.alloc, server, hooks, self.known.rules.as_slice())?;
+        let frames = image_frames(self.alloc, image.as_slice(), self.known.until)?;
+        match self.file.replace(frames) {
             Ok(()) => {
-                self.image = bytes.len();
+                self.known.image = image.len();
                 Ok(())
             }
-            Err(_) => {
-                self.settled = false;
+            Err(ReplaceFault::Memory) => Err(ImageFault::Memory),
+            Err(ReplaceFault::Unplaced(_)) => Err(ImageFault::Unwritten),
+            Err(ReplaceFault::Failed(reason)) => {
+                self.fault = Some(BatchFault::Failed(reason));
                 Err(ImageFault::Failed)
             }
         }

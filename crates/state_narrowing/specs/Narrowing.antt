@@ -1,5 +1,5 @@
 -- When a state file is narrowed to a registry, and what it stands for then.
-use Rattle.std.specs.Prelude.{◌≡◌, ◌⊎◌, ℕ, List, [], Option, None, Some, IsSome}
+use Rattle.std.specs.Prelude.{◌≡◌, ◌⊎◌, ℕ, List, Option, None, Some}
 use Rattle.batch_file.specs.Frames.{recovered}
 use Rattle.clients.specs.RegistryRecord.{RegistryRecord}
 use Rattle.consent.specs.History.{Event}
@@ -9,21 +9,25 @@ use Rattle.image_codec.specs.Facts.{ImageFact, RulesFact}
 use Rattle.narrowing.specs.Left.{ended_count, left_under}
 use Rattle.state_file.specs.Comparing.{AreAsWide, IsUntold, KeepClients}
 use Rattle.state_file.specs.Resuming.{OfEachHistory, WasRight}
-use Rattle.state_file.specs.Standing.{BeginWithImage, StandsFor}
-use Rattle.state_file.specs.Telling.{TellsRules}
+use Rattle.state_file.specs.Standing.{BeginWithImage, StandsFor, marks, until_of}
+use Rattle.state_file.specs.Telling.{Tell}
 use Rattle.state_file.specs.declared.fault.StateFault.{StateFault}
 use Rattle.state_file.specs.declared.fault.StateFault.TheVariants.{Memory, Device, TooLong, NoRules, Spelling, Follows, Image, Hook}
-use Rattle.state_narrowing.specs.declared.narrowed.NarrowedFile.{NarrowedFile}
+use Rattle.state_narrowing.specs.declared.narrowed.Narrowed.{Narrowed}
 
 -- the rules keep the names of those told, and are not as wide
 abbrev pub AreLess : RulesFact → RulesFact → Type 0
 AreLess told now = KeepClients told now × (¬ AreAsWide told now)
 
--- so they are beside the rules that the bytes tell
-pub record IsNarrower (left : List ℕ) (now : RulesFact) : Type 0 where
+-- so they are beside the rules that the batches tell
+pub record AreNarrower (batches : List (List ℕ)) (now : RulesFact) : Type 0 where
   pub told : RulesFact
-  pub tells : TellsRules left told
+  pub tells : Tell batches told
   pub less : AreLess told now
+
+-- so it is of the batches that the bytes stand for
+abbrev pub IsNarrower : List ℕ → RulesFact → Type 0
+IsNarrower left now = AreNarrower (recovered left) now
 
 -- the bytes stand for a history that is right under rules that they tell, and a host came through it
 pub record GoesOn {H : Type 0} (hosting : Hosting H) (first : H) (left : List ℕ) (history : List Event) : Type 0 where
@@ -32,26 +36,22 @@ pub record GoesOn {H : Type 0} (hosting : Hosting H) (first : H) (left : List �
   pub host : H
   pub ran : HostRun hosting first history host
 
--- The file stands for what is left of the history, and has an image alone. So many codes and tokens ended as the history had good
--- ones at the image's moment of which nothing is left.
-pub record HasLeft {H D : Type 0} (hosting : Hosting H) (first : H) (rules : RegistryRecord) (file : NarrowedFile D) (history : List Event) : Type 0 where
+-- The file stands for what is left of the history, and has an image and no more than a mark behind it. So many codes and tokens
+-- ended as the history had good ones at the image's moment of which nothing is left.
+pub record HasLeft {H : Type 0} (hosting : Hosting H) (first : H) (rules : RegistryRecord) (file : Narrowed) (history : List Event) : Type 0 where
   pub goes_on : GoesOn hosting first file.bytes.items (left_under rules history)
   pub image : ImageFact
-  pub alone : BeginWithImage (recovered file.bytes.items) image []
-  pub ended : file.ended ≡ Some (ended_count rules history image.greatest)
+  pub begins : BeginWithImage (recovered file.bytes.items) image (marks (until_of (recovered file.bytes.items)))
+  pub ended : file.ended ≡ ended_count rules history image.greatest
 
--- so it is, where it was narrowed, of each history that the bytes stood for
-abbrev pub HasLeftOfEach : {H D : Type 0} → Hosting H → H → List ℕ → RegistryRecord → NarrowedFile D → Type 0
-HasLeftOfEach hosting first left rules file = IsSome file.ended → OfEachHistory hosting first left (HasLeft hosting first rules file)
+-- so it is of each history that the bytes stood for
+abbrev pub HasLeftOfEach : {H : Type 0} → Hosting H → H → List ℕ → RegistryRecord → Narrowed → Type 0
+HasLeftOfEach hosting first left rules file = OfEachHistory hosting first left (HasLeft hosting first rules file)
 
--- the history, or what is left of it where the file was narrowed, which ended so many codes and tokens
-abbrev pub history_under : RegistryRecord → Option ℕ → List Event → List Event
+-- the history, or what is left of it where the file was narrowed
+abbrev pub history_under : RegistryRecord → Option Narrowed → List Event → List Event
 history_under rules None history = history
-history_under rules (Some ended) history = left_under rules history
-
--- a crash left the one or the other
-abbrev pub IsEither : List ℕ → List ℕ → List ℕ → Type 0
-IsEither old new left = (left ≡ old) ⊎ (left ≡ new)
+history_under rules (Some narrowed) history = left_under rules history
 
 -- Why a file is not narrowed, though the registry is narrower: memory was refused, the disk failed, what is left is too long to be
 -- told, or the file is at fault.

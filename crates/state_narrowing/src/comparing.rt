@@ -1,14 +1,14 @@
 //! Whether a registry is narrower than the rules that a state file tells.
 
 ghost use Rattle.std.specs.Prelude.{◌≡◌, ◌↔◌, IsTrue, IfOk, IfErr};
+ghost use Rattle.batch_file.specs.Frames.{lists};
 ghost use Rattle.image_codec.specs.Facts.{rules_fact};
 ghost use Rattle.state_file.specs.Comparing.{IsUntold};
 ghost use Rattle.state_file.specs.Telling.{rules_of};
 ghost use Rattle.state_file.specs.declared.fault.StateFault.TheVariants.{Memory};
-ghost use Rattle.state_narrowing.specs.Narrowing.{AreLess, IsNarrower};
+ghost use Rattle.state_narrowing.specs.Narrowing.{AreLess, AreNarrower};
 ghost use Rattle.state_narrowing.specs.NarrowingParts.{less_by};
 
-use batch_file::framing::read_batches;
 use clients::Registry;
 use image_codec::Rules;
 use state_file::{StateFault, compare, last_rules, registry_rules, told_rules};
@@ -37,17 +37,16 @@ fn are_less(alloc: Global, told: &Rules<'_>, now: &Rules<'_>) -> Result<bool, St
     }
 }
 
-/// Whether the registry keeps the names that a state file tells, and is narrower than the rules of the file.
+/// Whether the registry keeps the names that the batches tell, and is narrower than their rules.
 pub(crate) fn is_narrower(
     alloc: Global,
-    bytes: &[u8],
+    batches: &[Vec<u8>],
     registry: &Registry,
 ) -> Result<bool, StateFault>
-    ensures exact { IfOk result (λ narrower. IsTrue narrower ↔ IsNarrower bytes.now (rules_of registry.now)) }
+    ensures exact { IfOk result (λ narrower. IsTrue narrower ↔ AreNarrower (lists batches.now) (rules_of registry.now)) }
     ensures refused { IfErr result (IsUntold (rules_of registry.now)) }
 {
-    let found = read_batches(alloc, bytes)?;
-    let Some(batch) = last_rules(&found.batches) else {
+    let Some(batch) = last_rules(batches) else {
         return Ok(false);
     };
     let told = match told_rules(alloc, batch) {

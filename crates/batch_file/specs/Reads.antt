@@ -1,0 +1,18 @@
+-- Beside Frames: only the contracts of this crate's own parts and their proofs cite this, no public clause.
+use Rattle.std.specs.Prelude.{◌≡◌, ◌+◌, ℕ, List, [], ◌∷◌, ◌++◌, length, drop}
+use Rattle.batch_file.specs.Frames.{header, AreFrames, IsTorn}
+
+-- the frames of these batches end there
+pub record IsRead (batches : List (List ℕ)) (last : List ℕ) (end : ℕ) (bytes : List ℕ) : Type 0 where
+  pub frames : List ℕ
+  pub is : bytes ≡ header ++ (frames ++ drop end bytes)
+  pub are : AreFrames header batches last frames
+  pub ends : end ≡ 16 + length frames
+
+-- a closed latch, behind which an append was perhaps not finished
+abbrev pub IsOpenEnd : List ℕ → List ℕ → Type 0
+IsOpenEnd last bytes = (torn : List ℕ) × (bytes ≡ 0 ∷ torn) × IsTorn last torn
+
+-- so it is read, and not refused
+abbrev pub IsFound : List (List ℕ) → List ℕ → ℕ → List ℕ → Type 0
+IsFound batches last end bytes = IsRead batches last end bytes × IsOpenEnd last (drop end bytes)
