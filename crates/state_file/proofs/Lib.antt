@@ -1,4 +1,3 @@
-pub mod Accounted
 pub mod Begun
 pub mod Compared
 pub mod Imaged

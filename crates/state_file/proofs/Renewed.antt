@@ -14,7 +14,7 @@ use Rattle.image_codec.specs.Spelling.{ImageFits, RulesFit, image_spelling, rule
 use Rattle.state_file.specs.Hooks.{hooks_set_in}
 use Rattle.state_file.specs.Knowing.{IsLong}
 use Rattle.state_file.specs.Renewing.{HasTooMuch, IsUnspelled}
-use Rattle.state_file.specs.Standing.{StandsFor, mark, marks}
+use Rattle.state_file.specs.Standing.{StandFor, mark, marks}
 use Rattle.state_file.specs.Telling.{Tell, TellsIn}
 use Rattle.state_file.proofs.Marked.{Tell-image}
 
@@ -31,9 +31,9 @@ image_tells batches bytes image until fits spell known told tell =
     subst (λ (r : RulesFact). Tell (image_spelling image ∷ marks until) r) same (Tell-image image until fits)
 
 -- where no image was spelled since it is too large, there is such an image
-pub too_much : {H : Type 0} (hosting : Hosting H) (server : SeenServer H) (hooks : List HookFact) (left : List ℕ) (fault : ImageFault) → IsUnspelled hosting server hooks fault → fault ≡ TooLong →
-    ((history : List Event) → StandsFor left history → hooks ≡ hooks_set_in history) → HasTooMuch hosting server left
-too_much hosting server hooks left fault unspelled is known =
+pub too_much : {H : Type 0} (hosting : Hosting H) (server : SeenServer H) (hooks : List HookFact) (batches : List (List ℕ)) (fault : ImageFault) → IsUnspelled hosting server hooks fault → fault ≡ TooLong →
+    ((history : List Event) → StandFor batches history → hooks ≡ hooks_set_in history) → HasTooMuch hosting server batches
+too_much hosting server hooks batches fault unspelled is known =
     let large = subst (λ (f : ImageFault). IsUnspelled hosting server hooks f) is unspelled in
     (large.0, λ outset history m fits stands. large.1 outset history m fits (known history stands), large.2)
 

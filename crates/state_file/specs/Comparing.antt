@@ -9,7 +9,7 @@ use Rattle.image_codec.specs.Spelling.{RulesCount, rules_spelling}
 use Rattle.std.specs.Prelude.{Err}
 use Rattle.state_file.specs.Telling.{last_rules, Tell, TellsIn, BeginWithRules}
 use Rattle.state_file.specs.declared.fault.StateFault.{StateFault}
-use Rattle.state_file.specs.declared.fault.StateFault.TheVariants.{Memory, Device, Full, TooLong, NoRules, Spelling, ScopeMoved, OwnerMoved, ClientMoved, ClientNarrowed, LifeNarrowed}
+use Rattle.state_file.specs.declared.fault.StateFault.TheVariants.{Memory, TooLong, NoRules, Spelling, ScopeMoved, OwnerMoved, ClientMoved, ClientNarrowed, LifeNarrowed}
 
 -- the first of the names told that does not have its place now
 abbrev pub first_moved : List (List ℕ) → List (List ℕ) → Option (List ℕ)
@@ -66,12 +66,10 @@ IsUntold rules TooLong = AreRulesTooLong rules
 IsUntold rules Memory = Unit {0}
 IsUntold rules _ = ⊥
 
--- why the spelling of rules is not written: the disk failed, or has no room, or memory was refused, or it is too long
+-- why the spelling of rules is not added: memory was refused, or it is too long
 abbrev pub IsUnwritten : List ℕ → StateFault → Type 0
 IsUnwritten bytes TooLong = 2 ^ 32 ≤ length bytes
 IsUnwritten bytes Memory = Unit {0}
-IsUnwritten bytes Device = Unit {0}
-IsUnwritten bytes Full = Unit {0}
 IsUnwritten bytes _ = ⊥
 
 -- the bytes that should tell rules spell none: no image where they begin with a byte 2, and else no rules alone

@@ -1,5 +1,5 @@
 -- How faults are printed.
-use Rattle.std.specs.Prelude.{ℕ, List, codes, ◌++◌, string_bytes}
+use Rattle.std.specs.Prelude.{ℕ, List, codes, decimal, ◌++◌, string_bytes}
 use Rattle.change_codec.specs.FaultTexts.{change_fault_text}
 use Rattle.endpoints.specs.FaultTexts.{redo_fault_text}
 use Rattle.hook_host.specs.Faults.{hook_fault_text}
@@ -7,10 +7,13 @@ use Rattle.change_codec.specs.declared.fault.DecodeFault.{DecodeFault}
 use Rattle.change_codec.specs.declared.fault.DecodeFault.TheVariants as decoding
 use Rattle.change_codec.specs.declared.fault.EncodeFault.{EncodeFault}
 use Rattle.change_codec.specs.declared.fault.EncodeFault.TheVariants as encoding
-use Rattle.batch_file.specs.declared.appending.BatchFault.{BatchFault}
-use Rattle.batch_file.specs.declared.appending.BatchFault.TheVariants as batch
-use Rattle.batch_file.specs.declared.device.DeviceFault.{DeviceFault}
-use Rattle.batch_file.specs.declared.device.DeviceFault.TheVariants as device
+use Rattle.batch_file.specs.FaultTexts.{system_fault_text}
+use Rattle.batch_file.specs.declared.device.ReplaceFault.{ReplaceFault}
+use Rattle.batch_file.specs.declared.device.ReplaceFault.TheVariants as replacing
+use Rattle.batch_file.specs.declared.frames.AddFault.{AddFault}
+use Rattle.batch_file.specs.declared.frames.AddFault.TheVariants as adding
+use Rattle.batch_file.specs.declared.framing.ReadFault.{ReadFault}
+use Rattle.batch_file.specs.declared.framing.ReadFault.TheVariants as reading
 use Rattle.endpoints.specs.Restoring.{restore_fault_text}
 use Rattle.endpoints.specs.declared.redo.RedoFault.{RedoFault}
 use Rattle.endpoints.specs.declared.redo.RedoFault.TheVariants as redoing
@@ -21,7 +24,11 @@ use Rattle.state_file.specs.declared.fault.StateFault.TheVariants as state
 
 abbrev pub state_fault_text : StateFault → List ℕ
 state_fault_text state.Memory = codes "Memory"
-state_fault_text state.Device = codes "Device"
+state_fault_text state.NotState = codes "NotState"
+state_fault_text (state.Version version) = codes "Version " ++ decimal version
+state_fault_text (state.Damaged batches) = codes "Damaged " ++ decimal batches
+state_fault_text (state.Unplaced reason) = codes "Device: " ++ system_fault_text reason
+state_fault_text (state.Device reason) = codes "Device: " ++ system_fault_text reason
 state_fault_text state.Full = codes "Full"
 state_fault_text state.TooLong = codes "TooLong"
 state_fault_text state.NoRules = codes "NoRules"
@@ -53,12 +60,17 @@ abbrev pub of_restoring : RestoreFault → StateFault
 of_restoring restoring.Memory = state.Memory
 of_restoring fault = state.Image fault
 
-abbrev pub state_fault_of_device : DeviceFault → StateFault
-state_fault_of_device device.Memory = state.Memory
-state_fault_of_device device.Failed = state.Device
+abbrev pub of_reading : ReadFault → StateFault
+of_reading reading.Memory = state.Memory
+of_reading reading.NotState = state.NotState
+of_reading (reading.Version version) = state.Version version
+of_reading (reading.Damaged batches) = state.Damaged batches
 
-abbrev pub of_batch : BatchFault → StateFault
-of_batch batch.Memory = state.Memory
-of_batch batch.Failed = state.Device
-of_batch batch.Full = state.Full
-of_batch batch.TooLong = state.TooLong
+abbrev pub of_adding : AddFault → StateFault
+of_adding adding.Memory = state.Memory
+of_adding adding.TooLong = state.Full
+
+abbrev pub of_replacing : ReplaceFault → StateFault
+of_replacing replacing.Memory = state.Memory
+of_replacing (replacing.Unplaced reason) = state.Unplaced reason
+of_replacing (replacing.Failed reason) = state.Device reason

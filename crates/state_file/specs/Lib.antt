@@ -4,11 +4,13 @@ pub mod Telling
 pub mod Comparing
 pub mod Hooks
 pub mod Resuming
+pub mod Making
 pub mod Starting
 pub mod FaultTexts
 pub mod Knowing
 pub mod Renewing
-pub mod Accounts
+-- What only the contracts of this crate's own parts and their proofs cite.
+pub mod MakingParts
 -- Laws, each proved: a reader may skip them.
 pub mod StandingLaws
 pub mod TellingLaws

@@ -1,5 +1,6 @@
 -- When an image is put in the place of a state file's batches.
 use Rattle.std.specs.Prelude.{◌≡◌, ◌⊎◌, ◌≤◌, ◌^◌, ℕ, List, length}
+use Rattle.batch_file.specs.Frames.{recovered}
 use Rattle.batch_file.specs.declared.appending.BatchFile.{BatchFile}
 use Rattle.endpoints.specs.Server.{SeenServer}
 use Rattle.hook_host.specs.declared.host.HookHost.{Ghosts as Hosting}
@@ -8,17 +9,9 @@ use Rattle.image_codec.specs.Spelling.{ImageCounts, ImageFits, image_spelling, r
 use Rattle.endpoints.specs.Imaging.{OfFitted}
 use Rattle.endpoints.specs.declared.image_keeper.ImageFault.{ImageFault}
 use Rattle.endpoints.specs.declared.image_keeper.ImageFault.TheVariants.{Memory, TooLong, Unwritten, Failed}
-use Rattle.state_file.specs.declared.fault.StateFault.{StateFault}
-use Rattle.state_file.specs.declared.fault.StateFault.TheVariants as state
 use Rattle.state_file.specs.Hooks.{hooks_set_in}
 use Rattle.state_file.specs.Knowing.{IsLongFile}
-use Rattle.state_file.specs.Standing.{IsImageOf, StandsFor}
-
--- memory was refused, or the disk failed
-abbrev pub IsOfDisk : StateFault → Type 0
-IsOfDisk state.Memory = Unit {0}
-IsOfDisk state.Device = Unit {0}
-IsOfDisk _ = ⊥
+use Rattle.state_file.specs.Standing.{IsImageOf, StandFor}
 
 -- the image is one of each history that the server fits and that sets these hooks
 abbrev pub IsImageFor : {H : Type 0} → Hosting H → SeenServer H → List HookFact → ImageFact → Type 0
@@ -44,11 +37,11 @@ IsUnspelled hosting server hooks TooLong = (image : ImageFact) × IsImageFor hos
 IsUnspelled hosting server hooks Unwritten = ⊥
 IsUnspelled hosting server hooks Failed = ⊥
 
--- an image is too large that is one of each history that the server fits and for which the bytes stand
-abbrev pub HasTooMuch : {H : Type 0} → Hosting H → SeenServer H → List ℕ → Type 0
-HasTooMuch hosting server left =
-    (image : ImageFact) × OfFitted hosting server (λ history. StandsFor left history → IsImageOf image history) × IsTooLarge image
+-- an image is too large that is one of each history that the server fits and for which the batches stand
+abbrev pub HasTooMuch : {H : Type 0} → Hosting H → SeenServer H → List (List ℕ) → Type 0
+HasTooMuch hosting server batches =
+    (image : ImageFact) × OfFitted hosting server (λ history. StandFor batches history → IsImageOf image history) × IsTooLarge image
 
 -- the file is no longer than it may be, unless an image of the server is too large
 abbrev pub IsKeptShort : {H D : Type 0} → Hosting H → (D → List ℕ) → SeenServer H → BatchFile D → Type 0
-IsKeptShort hosting seen server file = (¬ IsLongFile seen file) ⊎ HasTooMuch hosting server (seen file.device)
+IsKeptShort hosting seen server file = (¬ IsLongFile seen file) ⊎ HasTooMuch hosting server (recovered (seen file.device))

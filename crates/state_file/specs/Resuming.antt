@@ -1,9 +1,9 @@
 -- What a server does that is started on a state file.
 use Rattle.std.specs.Prelude.{◌≡◌, ◌≢◌, ◌⊎◌, ◌++◌, ℕ, List, [], ◌∷◌, false, None, Some, string_bytes}
-use Rattle.batch_file.specs.Frames.{recovered}
-use Rattle.batch_file.specs.declared.appending.BatchFile.{BatchFile}
+use Rattle.batch_file.specs.Frames.{RefusesFile, recovered}
+use Rattle.batch_file.specs.declared.framing.ReadFault.TheVariants as reading
 use Rattle.change_codec.specs.Happened.{Happened}
-use Rattle.change_codec.specs.Keeping.{Crashes, Holds, IsFrontOf, LeavesEither}
+use Rattle.change_codec.specs.Keeping.{IsFrontOf}
 use Rattle.change_codec.specs.Spelling.{DatedFact}
 use Rattle.clients.specs.RegistryRecord.{RegistryRecord}
 use Rattle.consent.specs.History.{Event}
@@ -18,9 +18,8 @@ use Rattle.state_file.specs.Hooks.{AreSet, hooks_behind, hooks_set_in, hook_name
 use Rattle.state_file.specs.Standing.{AreTold, BeginWithImage, IsImageOf, StandsFor, begins_image}
 use Rattle.state_file.specs.Telling.{TellsRules, rules_of}
 use Rattle.state_file.specs.declared.fault.StateFault.{StateFault}
-use Rattle.state_file.specs.declared.fault.StateFault.TheVariants.{Memory, Device, Full, Spelling, Follows, Image, HookDiffers, Hook}
+use Rattle.state_file.specs.declared.fault.StateFault.TheVariants.{Memory, NotState, Version, Damaged, Spelling, Follows, Image, HookDiffers, Hook}
 use Rattle.state_file.specs.declared.restored.Restored.{Restored}
-use Rattle.state_file.specs.declared.starting.Started.{Started}
 
 -- CHANGES MADE AGAIN
 
@@ -132,16 +131,21 @@ RefusesImage batches (Image fault) = IsImaged batches
 RefusesImage batches (Hook name fault) = IsImaged batches
 RefusesImage batches fault = IsOfImage fault
 
--- Why no server is started on the batches: for their rules, or else, where the rules are taken, for their image or for their
--- changes. The disk may fail, or have no room.
-abbrev pub RefusesResume : List (List ℕ) → RulesFact → StateFault → Type 0
-RefusesResume batches now Device = Unit {0}
-RefusesResume batches now Full = Unit {0}
-RefusesResume batches now (Follows fault) = TakesRules batches now
-RefusesResume batches now (Image fault) = TakesRules batches now × IsImaged batches
-RefusesResume batches now (Hook name fault) = TakesRules batches now × IsImaged batches
-RefusesResume batches now (Spelling fault) = RefuseRules batches now (Spelling fault) ⊎ TakesRules batches now
-RefusesResume batches now fault = RefuseRules batches now fault
+-- Why no server is made of the batches: for their rules, or else, where the rules are taken, for their image or for their
+-- changes.
+abbrev pub RefuseServer : List (List ℕ) → RulesFact → StateFault → Type 0
+RefuseServer batches now (Follows fault) = TakesRules batches now
+RefuseServer batches now (Image fault) = TakesRules batches now × IsImaged batches
+RefuseServer batches now (Hook name fault) = TakesRules batches now × IsImaged batches
+RefuseServer batches now (Spelling fault) = RefuseRules batches now (Spelling fault) ⊎ TakesRules batches now
+RefuseServer batches now fault = RefuseRules batches now fault
+
+-- why none is made of the bytes: they are no file of batches, or these are refused
+abbrev pub RefusesResume : List ℕ → RulesFact → StateFault → Type 0
+RefusesResume left now NotState = RefusesFile left reading.NotState
+RefusesResume left now (Version version) = RefusesFile left (reading.Version version)
+RefusesResume left now (Damaged number) = RefusesFile left (reading.Damaged number)
+RefusesResume left now fault = RefuseServer (recovered left) now fault
 
 -- HOOKS
 
@@ -179,23 +183,6 @@ RefusesSettings {H = H} hosting old hooks fault =
 abbrev pub RefusesSome : {H : Type 0} → Hosting H → (Restored H → Type 0) → List HookFact → StateFault → Type 0
 RefusesSome {H = H} hosting These hooks fault = (restored : Restored H) × These restored × RefusesSettings hosting restored hooks fault
 
--- KEEPING
-
--- Wherever the server has noted all from a history that the keeper holds: it has noted nothing from the one that it is at,
--- and the keeper holds that; a crash meanwhile left the one or the other.
-abbrev pub KeepsNoted : {H K : Type 0} → Crashes K → SeenServer H → SeenServer H → K → K → Type 0
-KeepsNoted crashes old new keeper kept =
-    (before after : List Event) → Notes old (Some before) after → Holds crashes keeper before →
-    Notes new (Some after) after × Holds crashes kept after × LeavesEither crashes before after keeper kept
-
--- the keeper holds each history that the bytes stand for
-abbrev pub HoldsEach : {K : Type 0} → Crashes K → K → List ℕ → Type 0
-HoldsEach crashes keeper left = (history : List Event) → StandsFor left history → Holds crashes keeper history
-
--- the file has the batches that the bytes stand for
-abbrev pub HasBatchesOf : {D : Type 0} → (D → List ℕ) → BatchFile D → List ℕ → Type 0
-HasBatchesOf seen file left = recovered (seen file.device) ≡ recovered left
-
 -- A START
 
 -- The history is right under rules that the bytes tell. It is asked for where they begin with an image alone.
@@ -208,7 +195,7 @@ abbrev pub OfEachHistory : {H : Type 0} → Hosting H → H → List ℕ → (Li
 OfEachHistory hosting first left claim =
     (history : List Event) → StandsFor left history → WasRight left history → WasRun hosting first left history → claim history
 
--- from its moment on the server answers as the history says, and it notes what happens from there on
-pub record ServesOn {H D : Type 0} (hosting : Hosting H) (started : Started D H) (outset : Outset H) (history : List Event) : Type 0 where
-  pub fits : FitsServer hosting started.server outset history started.moment
-  pub notes : Notes started.server (Some history) history
+-- from the moment on the server answers as the history says, and it notes what happens from there on
+pub record ServesOn {H : Type 0} (hosting : Hosting H) (server : SeenServer H) (outset : Outset H) (moment : ℕ) (history : List Event) : Type 0 where
+  pub fits : FitsServer hosting server outset history moment
+  pub notes : Notes server (Some history) history

@@ -16,12 +16,12 @@ use std::alloc::Global;
 
 /// A server from which the changes of a state file lead on.
 #[derive(Drop)]
-pub(crate) struct Beginning<'b, H> {
-    pub(crate) restored: Restored<H>,
+pub struct Beginning<'b, H> {
+    pub restored: Restored<H>,
     /// The batches behind it.
-    pub(crate) later: &'b [Vec<u8>],
+    pub later: &'b [Vec<u8>],
     /// How long the image is of which it was made, if it was.
-    pub(crate) image: usize,
+    pub image: usize,
 }
 
 /// The first batch, where that is an image, and those behind it.
@@ -49,7 +49,7 @@ fn is_image(batch: &[u8]) -> bool
 }
 
 /// Makes a server of the first batch, where that is an image, and else one to which nothing has happened.
-pub(crate) fn begin<'b, H: HookHost>(
+pub fn begin<'b, H: HookHost>(
     alloc: Global,
     registry: Registry,
     host: H,

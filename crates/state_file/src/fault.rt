@@ -1,12 +1,14 @@
 //! Why a server is not started on a state file.
 
 ghost use Rattle.std.specs.Prelude.{◌≡◌, Some};
-ghost use Rattle.state_file.specs.FaultTexts.{of_batch, state_fault_of_decoding, state_fault_of_device, of_encoding, of_redoing, of_restoring, state_fault_text};
-ghost use Rattle.state_file.specs.declared.fault.StateFault.TheVariants.{Device, Memory};
+ghost use Rattle.state_file.specs.FaultTexts.{of_adding, of_reading, of_redoing, of_replacing, of_restoring, of_encoding, state_fault_of_decoding, state_fault_text};
+ghost use Rattle.state_file.specs.declared.fault.StateFault.TheVariants.{Memory};
 
-use batch_file::appending::BatchFault;
-use batch_file::device::DeviceFault;
-use change_codec::{ChangeFault, DecodeFault, EncodeFault, KeepFault};
+use batch_file::device::ReplaceFault;
+use batch_file::framing::ReadFault;
+use batch_file::system::SystemFault;
+use batch_file::AddFault;
+use change_codec::{ChangeFault, DecodeFault, EncodeFault};
 use endpoints::{RedoFault, RestoreFault};
 use hook_host::HookFault;
 use std::alloc::{AllocError, AllocFailed};
@@ -17,9 +19,17 @@ use std::fmt::{self, Display, Formatter, Write};
 pub enum StateFault {
     /// Memory was refused.
     Memory,
+    /// It is no state file.
+    NotState,
+    /// It is a state file of this other version.
+    Version(u8),
+    /// So many batches are right, and what is behind them is damaged.
+    Damaged(usize),
+    /// No other file could be put in the place of this one, which stands as it was.
+    Unplaced(SystemFault),
     /// The disk failed.
-    Device,
-    /// The file has no room.
+    Device(SystemFault),
+    /// What is to be added has 2^32 bytes or more.
     Full,
     /// The registry's rules are too long to be told: the length of a name, or how many names there are, takes more than
     /// four bytes.
@@ -54,7 +64,11 @@ impl Display for StateFault {
     fn fmt<W: Write>(&self, f: &mut Formatter<W>) -> fmt::Result {
         match self {
             StateFault::Memory => write!(f, "Memory"),
-            StateFault::Device => write!(f, "Device"),
+            StateFault::NotState => write!(f, "NotState"),
+            StateFault::Version(version) => write!(f, "Version {version}"),
+            StateFault::Damaged(batches) => write!(f, "Damaged {batches}"),
+            StateFault::Unplaced(reason) => write!(f, "Device: {reason}"),
+            StateFault::Device(reason) => write!(f, "Device: {reason}"),
             StateFault::Full => write!(f, "Full"),
             StateFault::TooLong => write!(f, "TooLong"),
             StateFault::NoRules => write!(f, "NoRules"),
@@ -132,34 +146,38 @@ impl From<RestoreFault> for StateFault {
     }
 }
 
-impl From<DeviceFault> for StateFault {
-    ghost from_gives = { λ device fault. fault ≡ state_fault_of_device device };
+impl From<ReadFault> for StateFault {
+    ghost from_gives = { λ reading fault. fault ≡ of_reading reading };
 
-    fn from(device: DeviceFault) -> StateFault {
-        match device {
-            DeviceFault::Memory => StateFault::Memory,
-            DeviceFault::Failed => StateFault::Device,
+    fn from(reading: ReadFault) -> StateFault {
+        match reading {
+            ReadFault::Memory => StateFault::Memory,
+            ReadFault::NotState => StateFault::NotState,
+            ReadFault::Version(version) => StateFault::Version(version),
+            ReadFault::Damaged(batches) => StateFault::Damaged(batches),
         }
     }
 }
 
-impl From<BatchFault> for StateFault {
-    ghost from_gives = { λ batch fault. fault ≡ of_batch batch };
+impl From<AddFault> for StateFault {
+    ghost from_gives = { λ adding fault. fault ≡ of_adding adding };
 
-    fn from(batch: BatchFault) -> StateFault {
-        match batch {
-            BatchFault::Memory => StateFault::Memory,
-            BatchFault::Failed => StateFault::Device,
-            BatchFault::Full => StateFault::Full,
-            BatchFault::TooLong => StateFault::TooLong,
+    fn from(adding: AddFault) -> StateFault {
+        match adding {
+            AddFault::Memory => StateFault::Memory,
+            AddFault::TooLong => StateFault::Full,
         }
     }
 }
 
-impl From<KeepFault> for StateFault {
-    ghost from_gives = { λ _ fault. fault ≡ Device };
+impl From<ReplaceFault> for StateFault {
+    ghost from_gives = { λ replacing fault. fault ≡ of_replacing replacing };
 
-    fn from(_keeping: KeepFault) -> StateFault {
-        StateFault::Device
+    fn from(replacing: ReplaceFault) -> StateFault {
+        match replacing {
+            ReplaceFault::Memory => StateFault::Memory,
+            ReplaceFault::Unplaced(reason) => StateFault::Unplaced(reason),
+            ReplaceFault::Failed(reason) => StateFault::Device(reason),
+        }
     }
 }

@@ -170,7 +170,7 @@ impl SetHooks {
     }
 
     /// A list of them.
-    pub(crate) fn listed(&self, alloc: Global) -> Result<Vec<KeptHook<'_>>, AllocError>
+    pub fn listed(&self, alloc: Global) -> Result<Vec<KeptHook<'_>>, AllocError>
         ensures { IfOk result (λ list. map hook_fact list.items ≡ self.now) }
     {
         let mut list = Vec::new(alloc);

@@ -1,10 +1,10 @@
 //! Marks: until which moment what was told by the clock is kept.
 
-ghost use Rattle.std.specs.Prelude.{◌≡◌, ◌∷◌, ◌<◌, ◌^◌, IfOk, length, max};
+ghost use Rattle.std.specs.Prelude.{◌≡◌, ◌++◌, [], ◌∷◌, ◌<◌, ◌^◌, OnOk, IfOk, length, max};
 ghost use Rattle.batch_file.specs.Frames.{lists};
 ghost use Rattle.state_file.specs.Standing.{mark, mark_in, marks, until_of};
 
-use batch_file::{AddFault, Frames};
+use batch_file::frames::{AddFault, Frames};
 use consent::Moment;
 use std::alloc::{AllocError, Global};
 
@@ -32,7 +32,7 @@ pub(crate) fn mark_in(batch: &[u8]) -> Option<Moment>
 }
 
 /// The later of two moments.
-fn later(a: Moment, b: Moment) -> Moment
+pub(crate) fn later(a: Moment, b: Moment) -> Moment
     ensures { result ≡ max a b }
 {
     if a.get() < b.get() { b } else { a }

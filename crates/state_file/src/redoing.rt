@@ -6,8 +6,9 @@ ghost use Rattle.change_codec.specs.Spelling.{dated_facts};
 ghost use Rattle.state_file.specs.Resuming.{IsOfChanges, RedoesDated, RedoesBatches};
 
 use crate::fault::StateFault;
+use crate::marks::mark_in;
 use crate::restored::Restored;
-use change_codec::{DatedChange, decode};
+use change_codec::{ChangeFault, DatedChange, decode};
 use endpoints::RedoFault;
 use hook_host::HookHost;
 use std::alloc::Global;
@@ -31,17 +32,23 @@ fn redo_batch<H: HookHost>(
     ensures redone { OnOk result (RedoesBatches H.HookHost restored.old (batch.now ∷ []) restored.new) }
     ensures refused { IfErr result IsOfChanges }
 {
-    if let [0, ..] = batch {
-        return Ok(());
+    match batch {
+        [0, ..] => Ok(()),
+        [3, ..] => match mark_in(batch) {
+            Some(_) => Ok(()),
+            None => Err(StateFault::Spelling(ChangeFault::Moment)),
+        },
+        _ => {
+            let changes = decode(alloc, batch)?;
+            redo(restored, &changes)?;
+            Ok(())
+        }
     }
-    let changes = decode(alloc, batch)?;
-    redo(restored, &changes)?;
-    Ok(())
 }
 
 /// Makes the changes of the batches again.
 #[tactic(auto, using(crate::proofs::Redone::redoes_no_batch))]
-pub(crate) fn redo_all<H: HookHost>(
+pub fn redo_all<H: HookHost>(
     alloc: Global,
     restored: &mut Restored<H>,
     batches: &[Vec<u8>],

@@ -1,8 +1,9 @@
 //! An image of a server in the place of all that a state file has.
 
 ghost use Rattle.std.specs.Prelude.{◌≡◌, ◌≢◌, ◌<◌, ◌^◌, true, false, length, OnOk, IfOk, IfErr, IsErrOf};
+ghost use Rattle.batch_file.specs.Frames.{recovered};
 ghost use Rattle.endpoints.specs.Imaging.{KeepsImage, KeepsNoImage};
-ghost use Rattle.endpoints.specs.declared.image_keeper.ImageFault.TheVariants.{Memory, TooLong, Unwritten, Failed};
+ghost use Rattle.endpoints.specs.declared.image_keeper.ImageFault.TheVariants.{TooLong, Failed};
 ghost use Rattle.change_codec.specs.Keeping.{KeepsMoments, TellsMoments};
 ghost use Rattle.state_file.specs.Knowing.{IsLong, IsLongFile, file_crashes};
 ghost use Rattle.state_file.specs.Renewing.{HasTooMuch, IsUnspelled, SpellImage};
@@ -69,7 +70,7 @@ impl<D: Device> StateKeeper<D> {
         ensures refused { IfErr result (λ fault. fault ≢ Failed → IsLongFile D.seen self.old) }
         ensures no_memory { IsErrOf result Memory → self.new ≡ self.old }
         ensures too_long { IsErrOf result TooLong → self.new ≡ self.old }
-        ensures too_much { IsErrOf result TooLong → HasTooMuch H.HookHost server.now (D.seen self.old.device) }
+        ensures too_much { IsErrOf result TooLong → HasTooMuch H.HookHost server.now (recovered (D.seen self.old.device)) }
         ensures unwritten { IsErrOf result Unwritten → self.new ≡ self.old }
         ensures failed { IsErrOf result Failed →
             KeepsNoImage H.HookHost (file_crashes D.Device) server.now self.old self.new }

@@ -1,6 +1,6 @@
 //! A server whose changes are made again.
 
-ghost use Rattle.std.specs.Prelude.{◌≡◌, ◌↔◌, [], ◌∷◌, None, Some, IfOk, IfErr, OnOk, map, if◌then◌else◌, string_bytes};
+ghost use Rattle.std.specs.Prelude.{◌≡◌, ◌↔◌, [], ◌∷◌, None, Some, IfOk, IfErr, OnOk, map, max, if◌then◌else◌, string_bytes};
 ghost use Rattle.consent.specs.declared.change.Change.TheVariants.{HookSet};
 ghost use Rattle.consent.specs.declared.change.Changes.TheVariants.{One};
 ghost use Rattle.change_codec.specs.Spelling.{dated_fact};
@@ -9,10 +9,11 @@ ghost use Rattle.endpoints.specs.Redo.{RefusesRedo};
 ghost use Rattle.endpoints.specs.Server.{Notes, outset_of};
 ghost use Rattle.image_codec.specs.Facts.{hook_fact};
 ghost use Rattle.state_file.specs.Hooks.{hook_named};
-ghost use Rattle.state_file.specs.Resuming.{FitsRestored, RedoesDated, RefusesSetting, RefusesSettings, Sets};
+ghost use Rattle.state_file.specs.Resuming.{FitsOn, FitsRestored, RedoesDated, RefusesSetting, RefusesSettings, Sets};
 
 use crate::fault::StateFault;
 use crate::hooks::SetHooks;
+use crate::marks::later;
 use change_codec::DatedChange;
 use clients::Registry;
 use consent::{Change, Moment};
@@ -25,7 +26,7 @@ use std::alloc::Global;
 #[derive(Drop)]
 pub struct Restored<H> {
     pub server: Server<H>,
-    /// When the last of them happened.
+    /// The moment from which it goes on: when the last of them happened, or a later one that is told.
     pub moment: Moment,
     /// The hooks that they set.
     pub hooks: SetHooks,
@@ -57,6 +58,17 @@ impl<H: HookHost> Restored<H> {
         };
         self.moment = dated.moment;
         Ok(())
+    }
+
+    /// Goes on from a moment, or from its own, if that is later.
+    pub fn reach(&mut self, moment: Moment)
+        ensures reached { FitsOn H.HookHost self.old [] self.new }
+        ensures unkept { self.new.server.unkept ≡ self.old.server.unkept }
+        ensures hooks { self.new.hooks ≡ self.old.hooks }
+        ensures moment { self.new.moment ≡ max self.old.moment moment }
+    {
+        self.server.reach(moment);
+        self.moment = later(self.moment, moment);
     }
 
     // Whether the hook is set. Where one of its name is set that is another, it is refused.

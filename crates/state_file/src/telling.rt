@@ -1,35 +1,32 @@
 //! What rules a state file tells, and telling a registry's.
 
-ghost use Rattle.std.specs.Prelude.{◌++◌, ◌∷◌, [], ◌≡◌, ◌↔◌, Some, true, false, IsTrue, IfOk, IfErr, OnOk, List, is_some, option_copied};
-ghost use Rattle.batch_file.specs.Crashes.{LeavesOnly};
-ghost use Rattle.batch_file.specs.Frames.{IsOnDisk, lists, recovered};
+ghost use Rattle.std.specs.Prelude.{◌++◌, ◌∷◌, [], ◌≡◌, ◌↔◌, Some, true, false, IsTrue, IfOk, IfErr, OnOk, option_copied};
+ghost use Rattle.batch_file.specs.Frames.{lists};
 ghost use Rattle.image_codec.specs.Facts.{RulesFact, rules_fact};
 ghost use Rattle.image_codec.specs.Spelling.{RulesCount, RulesFit, rules_spelling};
 ghost use Rattle.state_file.specs.Comparing.{AreAsWide, IsUnread, IsUnwritten, RefuseBeside, RefuseRules, TakesRules};
-ghost use Rattle.state_file.specs.Standing.{StandsOn};
 ghost use Rattle.state_file.specs.Telling.{BeginWithRules, Tell, TellsIn, last_rules, rules_in, rules_of};
 ghost use Rattle.state_file.specs.declared.fault.StateFault.TheVariants.{Memory};
 
 use crate::comparing::compare;
 use crate::fault::StateFault;
 use crate::rules::registry_rules;
-use batch_file::appending::BatchFile;
-use batch_file::device::Device;
+use batch_file::frames::{AddFault, Frames};
 use clients::Registry;
 use image_codec::{EncodeFault, Image, Rules, decode, decode_rules, encode_rules};
 use std::alloc::Global;
 
 /// Rules as they are told.
 #[derive(Drop)]
-pub(crate) struct Spelled {
+pub struct Spelled {
     /// Their spelling.
-    pub(crate) bytes: Vec<u8>,
+    pub bytes: Vec<u8>,
     /// Whether the batches told just these last.
-    pub(crate) told: bool,
+    pub told: bool,
 }
 
 /// Whether a batch tells rules.
-pub(crate) fn tells_rules(batch: &[u8]) -> bool
+pub fn tells_rules(batch: &[u8]) -> bool
     ensures { IsTrue result ↔ rules_in batch.now ≡ Some batch.now }
 {
     match batch {
@@ -135,7 +132,7 @@ fn compare_behind(
 }
 
 /// The spelling of the registry's rules, which are as wide as those that the batches told last.
-pub(crate) fn rules_behind(
+pub fn rules_behind(
     alloc: Global,
     batches: &[Vec<u8>],
     registry: &Registry,
@@ -152,27 +149,18 @@ pub(crate) fn rules_behind(
     Ok(Spelled { bytes, told })
 }
 
-/// Tells rules in a file, unless it told just these last.
-pub(crate) fn tell<D: Device>(
-    alloc: Global,
-    file: &mut BatchFile<D>,
-    rules: &Spelled,
-) -> Result<(), StateFault>
-    requires settled { IsOnDisk D.seen D.may_leave file.old }
-    requires of_rules { (told : RulesFact) × (rules.now.bytes.items ≡ rules_spelling told) }
-    ensures settled { OnOk result (IsOnDisk D.seen D.may_leave file.new) }
-    ensures told { OnOk result (rules.now.told ≡ false → last_rules (recovered (D.seen file.new.device)) ≡ Some rules.now.bytes.items) }
-    ensures added { OnOk result (rules.now.told ≡ false →
-        recovered (D.seen file.new.device) ≡ recovered (D.seen file.old.device) ++ rules.now.bytes.items ∷ []) }
-    ensures stands { OnOk result (StandsOn (D.seen file.old.device) (D.seen file.new.device)) }
-    // Where they are told, nothing is written.
-    ensures unwritten { OnOk result (rules.now.told ≡ true → file.new ≡ file.old) }
-    ensures any_moment { OnOk result (LeavesOnly D.moment D.left_since file.old.device file.new.device (StandsOn (D.seen file.old.device))) }
+/// Tells rules behind batches, unless these told just them last.
+pub(crate) fn tell(frames: &mut Frames, rules: &Spelled) -> Result<(), StateFault>
+    ensures told { OnOk result (rules.now.told ≡ true → frames.new ≡ frames.old) }
+    ensures added { OnOk result (rules.now.told ≡ false → frames.new ≡ frames.old ++ rules.now.bytes.items ∷ []) }
     ensures refused { IfErr result (IsUnwritten rules.now.bytes.items) }
 {
     if rules.told {
         return Ok(());
     }
-    file.append(alloc, rules.bytes.as_slice())?;
-    Ok(())
+    match frames.add(rules.bytes.as_slice()) {
+        Ok(()) => Ok(()),
+        Err(AddFault::Memory) => Err(StateFault::Memory),
+        Err(AddFault::TooLong) => Err(StateFault::TooLong),
+    }
 }

@@ -13,11 +13,11 @@ use Rattle.token_store.specs.Fits.{FitsHistory, FitsStore}
 use Rattle.token_store.specs.Image.{as_kept}
 use Rattle.token_store.specs.Kept.{Kept}
 use Rattle.token_store.specs.declared.image.KeptRecord.{KeptRecord}
-use Rattle.state_file.specs.Accounts.{IsAccountOf, IsImageIn, IsOfTelling, RefusesAccount, TellIfAny, fault_in}
+use Rattle.state_account.specs.Accounts.{IsAccountOf, IsImageIn, IsOfTelling, RefusesAccount, TellIfAny, fault_in}
 use Rattle.state_file.specs.Resuming.{AnswersFor, BeginsByBatches, FitsRestored, IsOfChanges, RedoesBatches, RefusesImage}
 use Rattle.state_file.specs.Standing.{AreTold, IsImageOf}
 use Rattle.state_file.specs.Telling.{Tell, rules_of}
-use Rattle.state_file.specs.declared.account.Account.{Account}
+use Rattle.state_account.specs.declared.account.Account.{Account}
 use Rattle.state_file.specs.declared.fault.StateFault.{StateFault}
 use Rattle.state_file.specs.declared.fault.StateFault.TheVariants as state
 use Rattle.state_file.specs.declared.restored.Restored.{Restored}

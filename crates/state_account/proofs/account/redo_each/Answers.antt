@@ -4,7 +4,7 @@ use Rattle.std.specs.declared.alloc.Global.{Global}
 use Rattle.batch_file.specs.Frames.{lists}
 use Rattle.state_file.specs.Resuming.{RedoesBatches}
 use Rattle.state_file.proofs.Redone.{redoes_batches, redoes_no_batch}
-use Rattle.state_file.proofs.account.redo_each.Goals as goal
+use Rattle.state_account.proofs.account.redo_each.Goals as goal
 
 pub loop-i-init : goal.loop-i-init
 loop-i-init g c = redoes_no_batch g.H.HookHost c.args.restored.now

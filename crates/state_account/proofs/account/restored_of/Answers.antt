@@ -1,7 +1,7 @@
 use Rattle.batch_file.specs.Frames.{lists}
 use Rattle.endpoints.specs.Server.{outset_of}
-use Rattle.state_file.proofs.Accounted.{answers_for}
-use Rattle.state_file.proofs.account.restored_of.Goals as goal
+use Rattle.state_account.proofs.Accounted.{answers_for}
+use Rattle.state_account.proofs.account.restored_of.Goals as goal
 
 pub returns-clause-answers : goal.returns-clause-answers
 returns-clause-answers g c =

@@ -1,29 +1,19 @@
 -- What is told of a state file, where no server is started on it.
-use Rattle.std.specs.Prelude.{◌≡◌, ◌⊎◌, ℕ, List, [], length, drop}
-use Rattle.batch_file.specs.Frames.{AreFrames, recovered, torn_size}
+use Rattle.std.specs.Prelude.{◌≡◌, ◌≤◌, ◌⊎◌, ℕ, List, [], length}
+use Rattle.batch_file.specs.Frames.{RefusesFile, recovered, torn_of}
 use Rattle.clients.specs.RegistryRecord.{RegistryRecord}
 use Rattle.endpoints.specs.Widening.{IsWider}
 use Rattle.endpoints.specs.Server.{outset_of}
 use Rattle.hook_host.specs.declared.host.HookHost.{Ghosts as Hosting}
 use Rattle.image_codec.specs.Facts.{ImageFact, RulesFact}
 use Rattle.state_file.specs.Resuming.{AnswersFor, OfEachHistory}
-use Rattle.state_file.specs.Standing.{IsImageOf}
+use Rattle.state_file.specs.Standing.{IsImageOf, until_of}
 use Rattle.state_file.specs.Telling.{IsOfRules, TellsRules, rules_of}
-use Rattle.state_file.specs.declared.account.Account.{Account}
-use Rattle.state_file.specs.declared.account.AccountFault.{AccountFault}
-use Rattle.state_file.specs.declared.account.AccountFault.TheVariants as accounts
+use Rattle.state_account.specs.declared.account.Account.{Account}
+use Rattle.state_account.specs.declared.account.AccountFault.{AccountFault}
+use Rattle.state_account.specs.declared.account.AccountFault.TheVariants as accounts
 use Rattle.state_file.specs.declared.fault.StateFault.{StateFault}
 use Rattle.state_file.specs.declared.fault.StateFault.TheVariants as state
-use Rattle.std.specs.Prelude.{take}
-
--- whole frames end there, and no whole frame is behind them
-pub record IsEndOf (end : ℕ) (left : List ℕ) : Type 0 where
-  pub frames : AreFrames (take end left) (recovered left)
-  pub nothing : (n : ℕ) → recovered (take n (drop end left)) ≡ []
-
--- so many bytes of an unfinished write stand behind the whole frames
-abbrev pub HasTornEnd : List ℕ → ℕ → Type 0
-HasTornEnd left torn = (end : ℕ) × IsEndOf end left × (torn ≡ torn_size (drop end left))
 
 -- the bytes tell just these rules last, if they have a batch
 abbrev pub TellIfAny : List ℕ → RulesFact → Type 0
@@ -37,7 +27,8 @@ pub record IsAccountOf {H : Type 0} (hosting : Hosting H) (left : List ℕ) (fir
   pub rules : IsOfRules account.rules.items (rules_of registry)
   pub answers : AnswersFor hosting left (outset_of registry first) account.restored
   pub batches : account.batches ≡ length (recovered left)
-  pub torn : HasTornEnd left account.torn
+  pub torn : account.torn ≡ length (torn_of left)
+  pub later : until_of (recovered left) ≤ account.restored.moment
 
 -- the image is one of each history that the bytes stand for, under the rules that they tell
 pub record IsImageIn {H : Type 0} (hosting : Hosting H) (left : List ℕ) (first : H) (image : ImageFact) : Type 0 where
@@ -71,7 +62,13 @@ IsOfBatch (state.Image fault) = Unit {0}
 IsOfBatch (state.Hook name fault) = Unit {0}
 IsOfBatch _ = ⊥
 
--- why it is not told what a file stands for: memory was refused, or a batch is at fault
-abbrev pub RefusesAccount : AccountFault → Type 0
-RefusesAccount accounts.Memory = Unit {0}
-RefusesAccount (accounts.Batch number fault) = IsOfBatch fault
+-- memory was refused, or a batch is at fault
+abbrev pub IsOfBatches : AccountFault → Type 0
+IsOfBatches accounts.Memory = Unit {0}
+IsOfBatches (accounts.Batch number fault) = IsOfBatch fault
+IsOfBatches (accounts.File fault) = ⊥
+
+-- why it is not told what a file stands for: memory was refused, or it is no file of batches, or a batch is at fault
+abbrev pub RefusesAccount : List ℕ → AccountFault → Type 0
+RefusesAccount left (accounts.File fault) = RefusesFile left fault
+RefusesAccount left fault = IsOfBatches fault

@@ -2,16 +2,15 @@
 
 ghost use Rattle.std.specs.Prelude.{◌≡◌, ◌⊎◌, [], IfOk, IfErr};
 ghost use Rattle.batch_file.specs.Frames.{lists};
-ghost use Rattle.state_file.specs.Accounts.{IsOfTelling};
+ghost use Rattle.state_account.specs.Accounts.{IsOfTelling};
 ghost use Rattle.state_file.specs.Comparing.{TakesRules};
 ghost use Rattle.state_file.specs.Telling.{IsOfRules, Tell, rules_of};
 
-use crate::fault::StateFault;
-use crate::telling::{last_rules, rules_behind, told_rules};
 use clients::{ConfigFault, Registry};
 use consent::ScopeSet;
 use image_codec::Rules;
 use json::Writer;
+use state_file::{StateFault, last_rules, rules_behind, told_rules};
 use std::alloc::{AllocError, Global};
 
 /// No registry has more owners.

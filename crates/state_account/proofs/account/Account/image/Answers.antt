@@ -2,8 +2,8 @@ use Rattle.std.proofs.Common.{◌≡◌, ◌∙◌, refl}
 use Rattle.change_codec.specs.FieldLaws.{ok_is}
 use Rattle.image_codec.specs.Facts.{rules_fact}
 use Rattle.state_file.specs.Telling.{rules_of}
-use Rattle.state_file.proofs.Accounted.{image_in, imaged}
-use Rattle.state_file.proofs.account.Account.image.Goals as goal
+use Rattle.state_account.proofs.Accounted.{image_in, imaged}
+use Rattle.state_account.proofs.account.Account.image.Goals as goal
 
 pub returns : goal.returns
 returns g c = λ left host of.

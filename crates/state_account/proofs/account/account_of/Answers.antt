@@ -2,9 +2,9 @@ use Rattle.std.proofs.Common.{◌≡◌, ◌∙◌, ℕ, List, ap, length, sym, 
 use Rattle.std.proofs.lemmas.List.{length-map}
 use Rattle.batch_file.specs.Frames.{lists, recovered}
 use Rattle.state_file.specs.Telling.{Tell, rules_of}
-use Rattle.state_file.proofs.Accounted.{tells_any}
+use Rattle.state_account.proofs.Accounted.{tells_any}
 use Rattle.state_file.proofs.Compared.{wider}
-use Rattle.state_file.proofs.account.account_of.Goals as goal
+use Rattle.state_account.proofs.account.account_of.Goals as goal
 
 pub returns-clause-told : goal.returns-clause-told
 returns-clause-told g c =

@@ -1,23 +1,19 @@
 //! What a state file stands for, where no server is started on it and nothing is written.
 
 ghost use Rattle.std.specs.Prelude.{◌≡◌, IfOk, IfErr, OnOk};
-ghost use Rattle.batch_file.specs.Frames.{lists};
+ghost use Rattle.batch_file.specs.Frames.{lists, recovered, torn_of};
 ghost use Rattle.endpoints.specs.Server.{outset_of};
 ghost use Rattle.image_codec.specs.Facts.{RulesFact, image_fact};
-ghost use Rattle.state_file.specs.Accounts.{IsAccountOf, IsImageOfAccount, RefusesAccount, fault_in};
+ghost use Rattle.state_account.specs.Accounts.{IsAccountOf, IsImageOfAccount, IsOfBatches, RefusesAccount, fault_in};
 ghost use Rattle.state_file.specs.Resuming.{AnswersForBatches, RedoesBatches};
-ghost use Rattle.state_file.specs.declared.account.AccountFault.TheVariants.{Memory};
+ghost use Rattle.state_account.specs.declared.account.AccountFault.TheVariants.{Memory};
 
-use crate::beginning::{Beginning, begin};
-use crate::fault::StateFault;
 use crate::file_rules::file_rules;
-use crate::redoing::redo_all;
-use crate::restored::Restored;
-use crate::telling::tells_rules;
-use batch_file::framing::{read_batches, torn_behind};
+use batch_file::framing::{Batches, ReadFault, read_batches};
 use clients::Registry;
 use hook_host::HookHost;
 use image_codec::{Image, decode_rules};
+use state_file::{Beginning, Restored, StateFault, begin, redo_all, tells_rules, until_of};
 use std::alloc::{AllocError, Global};
 
 /// Why it is not told what a file stands for.
@@ -25,6 +21,8 @@ use std::alloc::{AllocError, Global};
 pub enum AccountFault {
     /// Memory was refused.
     Memory,
+    /// It is no file of batches that is read.
+    File(ReadFault),
     /// This is wrong with the batch of that number, which counts from 1.
     Batch(usize, StateFault),
 }
@@ -79,7 +77,7 @@ fn redo_each<H: HookHost>(
     before: usize,
 ) -> Result<(), AccountFault>
     ensures redone { OnOk result (RedoesBatches H.HookHost restored.old (lists batches.now) restored.new) }
-    ensures refused { IfErr result RefusesAccount }
+    ensures refused { IfErr result IsOfBatches }
 {
     for i in 0..batches.len() {
         if let Err(fault) = redo_all(alloc, restored, &batches[i..i + 1]) {
@@ -98,7 +96,7 @@ fn restored_of<H: HookHost>(
     batches: &[Vec<u8>],
 ) -> Result<Restored<H>, AccountFault>
     ensures answers { IfOk result (AnswersForBatches H.HookHost (lists batches.now) (outset_of registry host)) }
-    ensures refused { IfErr result RefusesAccount }
+    ensures refused { IfErr result IsOfBatches }
 {
     let begun = match begin(alloc, registry, host, batches) {
         Ok(begun) => begun,
@@ -114,6 +112,19 @@ fn restored_of<H: HookHost>(
     Ok(restored)
 }
 
+/// Reads the batches of a file.
+fn read(alloc: Global, bytes: &[u8]) -> Result<Batches, AccountFault>
+    ensures batches { IfOk result (λ read. lists read.batches.items ≡ recovered bytes.now) }
+    ensures torn { IfOk result (λ read. read.torn.items ≡ torn_of bytes.now) }
+    ensures refused { IfErr result (RefusesAccount bytes.now) }
+{
+    match read_batches(alloc, bytes) {
+        Ok(read) => Ok(read),
+        Err(ReadFault::Memory) => Err(AccountFault::Memory),
+        Err(fault) => Err(AccountFault::File(fault)),
+    }
+}
+
 /// What the bytes of a state file stand for, whatever a crash left there, with the rules that it tells last. The host is one
 /// without hooks.
 #[tactic(auto, using(crate::proofs::Accounted::of_telling))]
@@ -123,20 +134,21 @@ pub fn account_of<H: HookHost>(
     host: H,
 ) -> Result<Account<H>, AccountFault>
     ensures told { IfOk result (IsAccountOf H.HookHost bytes.now host) }
-    ensures refused { IfErr result RefusesAccount }
+    ensures refused { IfErr result (RefusesAccount bytes.now) }
 {
-    let found = read_batches(alloc, bytes)?;
+    let found = read(alloc, bytes)?;
     let batches = found.batches.as_slice();
     let rules = match file_rules(alloc, batches) {
         Ok(rules) => rules,
         Err(fault) => return Err(fault_in(rules_number(batches), fault)),
     };
-    let restored = restored_of(alloc, rules.registry, host, batches)?;
+    let mut restored = restored_of(alloc, rules.registry, host, batches)?;
+    restored.reach(until_of(batches));
     Ok(Account {
         restored,
         rules: rules.bytes,
         batches: batches.len(),
-        torn: torn_behind(bytes, found.end),
+        torn: found.torn.len(),
     })
 }
 

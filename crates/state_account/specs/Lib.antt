@@ -1,0 +1,2 @@
+-- What public clauses cite. docs/DEFINITIONS.md says what to read in which order.
+pub mod Accounts

@@ -1,0 +1,66 @@
+-- What a server is started with on the bytes of a state file, before anything is written.
+use Rattle.std.specs.Prelude.{◌≡◌, ◌≤◌, ◌⊎◌, ◌+◌, ℕ, List}
+use Rattle.batch_file.specs.Frames.{frames_size, recovered, torn_of}
+use Rattle.consent.specs.History.{Event}
+use Rattle.endpoints.specs.Server.{Outset, SeenServer}
+use Rattle.hook_host.specs.declared.host.HookHost.{Ghosts as Hosting}
+use Rattle.image_codec.specs.Facts.{HookFact}
+use Rattle.state_file.specs.Hooks.{AreSet, with_hooks}
+use Rattle.state_file.specs.Knowing.{IsLong, image_size}
+use Rattle.state_file.specs.Renewing.{HasTooMuch}
+use Rattle.state_file.specs.Resuming.{AnswersFor, OfEachHistory, RefusesResume, RefusesSome, ServesOn}
+use Rattle.state_file.specs.Standing.{StandFor, until_of}
+use Rattle.state_file.specs.Telling.{Tell, rules_of}
+use Rattle.state_file.specs.declared.fault.StateFault.{StateFault}
+use Rattle.state_file.specs.declared.fault.StateFault.TheVariants as state
+
+-- what a server is started on: what stands in a file, the registry with a host, and the hooks that it is to have
+pub record OnBytes (H : Type 0) : Type 0 where
+  pub bytes : List ℕ
+  pub outset : Outset H
+  pub hooks : List HookFact
+
+abbrev pub on_bytes : {H : Type 0} → List ℕ → Outset H → List HookFact → OnBytes H
+on_bytes bytes outset hooks = record { bytes = bytes; outset = outset; hooks = hooks }
+
+-- the history goes on with those of the hooks that it lacks, set at the moment from which the server goes on
+abbrev pub going_on : {H : Type 0} → OnBytes H → ℕ → List Event → List Event
+going_on on moment history = with_hooks moment history on.hooks
+
+-- what is made: a server, the batches of a new file, the moment from which it goes on, and what an unfinished write left
+pub record Made (H : Type 0) : Type 0 where
+  pub server : SeenServer H
+  pub batches : List (List ℕ)
+  pub moment : ℕ
+  pub torn : List ℕ
+
+-- The history goes on with the hooks: from there the server serves, all of them are set, and the batches stand for it.
+pub record MakesFrom {H : Type 0} (hosting : Hosting H) (on : OnBytes H) (made : Made H) (history : List Event) : Type 0 where
+  pub serves : ServesOn hosting made.server on.outset made.moment (going_on on made.moment history)
+  pub set : AreSet on.hooks (going_on on made.moment history)
+  pub stands : StandFor made.batches (going_on on made.moment history)
+
+-- where the closed latch stands behind the frames of these batches
+abbrev pub end_of : List (List ℕ) → ℕ
+end_of batches = 16 + frames_size batches
+
+-- the batches are no longer than they may be, unless an image of the server is too large
+abbrev pub AreKeptShort : {H : Type 0} → Hosting H → SeenServer H → List (List ℕ) → Type 0
+AreKeptShort hosting server batches = (¬ IsLong (end_of batches) (image_size batches)) ⊎ HasTooMuch hosting server batches
+
+-- So it is of each history that the bytes stand for. The batches tell the rules, and no earlier moment than the bytes did; the
+-- server goes on from none that is earlier than that.
+pub record Makes {H : Type 0} (hosting : Hosting H) (on : OnBytes H) (made : Made H) : Type 0 where
+  pub each : OfEachHistory hosting on.outset.first on.bytes (MakesFrom hosting on made)
+  pub tell : Tell made.batches (rules_of on.outset.rules)
+  pub kept : until_of (recovered on.bytes) ≤ until_of made.batches
+  pub later : until_of (recovered on.bytes) ≤ made.moment
+  pub short : AreKeptShort hosting made.server made.batches
+  pub torn_is : made.torn ≡ torn_of on.bytes
+
+-- why nothing is made: for the file, or for a hook, once a server was made of the file; or the hooks are too long to be told
+abbrev pub RefusesMaking : {H : Type 0} → Hosting H → OnBytes H → StateFault → Type 0
+RefusesMaking hosting on fault =
+    RefusesResume on.bytes (rules_of on.outset.rules) fault ⊎ RefusesSome hosting (AnswersFor hosting on.bytes on.outset) on.hooks fault
+    ⊎ (fault ≡ state.Full)
+

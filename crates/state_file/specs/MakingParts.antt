@@ -1,0 +1,34 @@
+-- Beside Making: only the contracts of this crate's own parts and their proofs cite this, no public clause.
+use Rattle.std.specs.Prelude.{◌≡◌, ◌⊎◌, ◌++◌, ℕ, List, [], ◌∷◌}
+use Rattle.change_codec.specs.Spelling.{DatedFact, HaveSpelling, batch_spelling}
+use Rattle.endpoints.specs.Imaging.{OfFitted}
+use Rattle.endpoints.specs.Server.{SeenServer}
+use Rattle.hook_host.specs.declared.host.HookHost.{Ghosts as Hosting}
+use Rattle.image_codec.specs.Facts.{RulesFact}
+use Rattle.image_codec.specs.Spelling.{RulesFit, rules_spelling}
+use Rattle.state_file.specs.Standing.{StandFor, until_of}
+use Rattle.state_file.specs.Telling.{Tell}
+use Rattle.state_file.specs.declared.fault.StateFault.{StateFault}
+use Rattle.state_file.specs.declared.fault.StateFault.TheVariants as state
+
+-- the rules stand behind the old batches, unless these told just them
+abbrev pub AreToldBehind : List (List ℕ) → RulesFact → List (List ℕ) → Type 0
+AreToldBehind old rules new =
+    (Tell old rules × (new ≡ old)) ⊎ (RulesFit rules × (new ≡ old ++ rules_spelling rules ∷ []))
+
+-- the dated changes stand behind the old batches, as one batch, if there are any
+abbrev pub AreAdded : List DatedFact → List (List ℕ) → List (List ℕ) → Type 0
+AreAdded facts old new = ((facts ≡ []) × (new ≡ old)) ⊎ (HaveSpelling facts × (new ≡ old ++ batch_spelling facts ∷ []))
+
+-- why they do not: memory was refused, or they are too long
+abbrev pub IsUnadded : StateFault → Type 0
+IsUnadded state.Memory = Unit {0}
+IsUnadded state.Full = Unit {0}
+IsUnadded _ = ⊥
+
+-- The new batches may stand in for the old ones: they tell the same rules and the same moment, and stand for each history that
+-- the server fits, if the old ones do.
+pub record StandInFor {H : Type 0} (hosting : Hosting H) (server : SeenServer H) (old new : List (List ℕ)) : Type 0 where
+  pub tell : (rules : RulesFact) → Tell old rules → Tell new rules
+  pub until : until_of new ≡ until_of old
+  pub stand : OfFitted hosting server (λ history. StandFor old history → StandFor new history)

@@ -1,0 +1,164 @@
+//! What a start makes of a state file's bytes, before anything is written.
+
+ghost use Rattle.std.specs.Prelude.{◌≡◌, List, [], Some, IfOk, IfErr, OnOk, map};
+ghost use Rattle.change_codec.specs.Spelling.{DatedFact};
+ghost use Rattle.clients.specs.RegistryRecord.{RegistryRecord};
+ghost use Rattle.endpoints.specs.Server.{NowNotes, outset_of};
+ghost use Rattle.endpoints.specs.Widening.{IsWider};
+ghost use Rattle.image_codec.specs.Facts.{hook_fact};
+ghost use Rattle.state_file.specs.Knowing.{IsKnown};
+ghost use Rattle.state_file.specs.Making.{AreKeptShort, Makes, RefusesMaking, on_bytes};
+ghost use Rattle.state_file.specs.MakingParts.{AreAdded, IsUnadded, StandInFor};
+ghost use Rattle.state_file.specs.Telling.{TellsRules, rules_of};
+ghost use Rattle.state_file.specs.declared.fault.StateFault.TheVariants.{Memory};
+
+use crate::fault::StateFault;
+use crate::hooks::SetHooks;
+use crate::keeper::Known;
+use crate::marks::image_frames;
+use crate::renewing::{is_short, spelled_image};
+use crate::restored::Restored;
+use crate::resuming::{Resumed, resume};
+use batch_file::frames::Frames;
+use clients::Registry;
+use consent::Moment;
+use endpoints::{ImageFault, Server};
+use hook_host::HookHost;
+use image_codec::KeptHook;
+use std::alloc::Global;
+use std::marker::Model;
+
+/// What a start makes of the bytes of a state file: a server that notes what happens, and the batches of a new file, which stand
+/// for what it goes on from.
+#[derive(Drop)]
+pub struct Prepared<H> {
+    pub(crate) server: Server<H>,
+    pub(crate) frames: Frames,
+    pub(crate) known: Known,
+    pub(crate) moment: Moment,
+    pub(crate) torn: Vec<u8>,
+    pub(crate) alloc: Global,
+}
+
+impl<H> Model for Prepared<H> {
+    ghost use Rattle.state_file.specs.Knowing.{IsKnown};
+    ghost use Rattle.state_file.specs.Making.{Made};
+
+    ghost Value = { Made H };
+
+    ghost view = { λ p. record { server = p.server; batches = p.frames; moment = p.moment; torn = p.torn.items } };
+
+    ghost invariant = { λ p. IsKnown p.frames p.known };
+}
+
+/// Adds what the server has noted to batches. Nothing is unkept then.
+fn add_noted<H: HookHost>(
+    server: &mut Server<H>,
+    frames: &mut Frames,
+    known: &mut Known,
+) -> Result<(), StateFault>
+    requires known { IsKnown frames.old known.old }
+    ensures known { OnOk result (IsKnown frames.new known.new) }
+    ensures same { NowNotes server.old server.new server.new.unkept }
+    ensures added { OnOk result ((facts : List DatedFact) → server.old.unkept ≡ Some facts →
+        (server.new.unkept ≡ Some []) × AreAdded facts frames.old frames.new) }
+    ensures refused { IfErr result IsUnadded }
+{
+    let Some(batch) = server.unkept() else {
+        return Ok(());
+    };
+    if batch.is_empty() {
+        return Ok(());
+    }
+    frames.add(batch.bytes())?;
+    known.hooks = SetHooks::behind(known.hooks.take(), batch.bytes());
+    server.forget_unkept();
+    Ok(())
+}
+
+/// Where batches are long, an image of the server and a mark take their place, unless the image is too large.
+fn keep_short<H: HookHost>(
+    alloc: Global,
+    server: &Server<H>,
+    frames: Frames,
+    known: &mut Known,
+) -> Result<Frames, StateFault>
+    requires known { IsKnown frames known.old }
+    ensures known { IfOk result (λ short. IsKnown short known.new) }
+    ensures stands { IfOk result (StandInFor H.HookHost server.now frames) }
+    ensures short { IfOk result (AreKeptShort H.HookHost server.now) }
+    ensures refused { IfErr result (λ fault. fault ≡ Memory) }
+{
+    if is_short(frames.len_of_file() - 1, known.image) {
+        return Ok(frames);
+    }
+    let Some(hooks) = &known.hooks else {
+        return Err(StateFault::Memory);
+    };
+    match spelled_image(alloc, server, hooks, known.rules.as_slice()) {
+        Ok(image) => {
+            let short = image_frames(alloc, image.as_slice(), known.until)?;
+            known.image = image.len();
+            Ok(short)
+        }
+        Err(ImageFault::TooLong) => Ok(frames),
+        Err(_) => Err(StateFault::Memory),
+    }
+}
+
+/// Makes all that a server is started with on the bytes of a state file, whatever a crash left there. It is made of the file's
+/// image, if there is one, and all changes of the batches behind that are made again under these rules. A hook is then set,
+/// unless it is, at the moment from which the server goes on: the last change's, or the last mark's. The batches are those that
+/// were read, the rules and the hooks where they lack them, or an image of the server where they are long.
+pub fn prepare<H: HookHost>(
+    alloc: Global,
+    bytes: &[u8],
+    registry: Registry,
+    host: H,
+    hooks: &[KeptHook<'_>],
+) -> Result<Prepared<H>, StateFault>
+    ensures makes { IfOk result (Makes H.HookHost (on_bytes bytes.now (outset_of registry host) (map hook_fact hooks.now))) }
+    // The registry's rules are as wide as those that the file told.
+    ensures wider { IfOk result (λ _. (old : RegistryRecord) → TellsRules bytes.now (rules_of old) → IsWider old registry) }
+    ensures refused { IfErr result (RefusesMaking H.HookHost (on_bytes bytes.now (outset_of registry host) (map hook_fact hooks.now))) }
+{
+    let Resumed {
+        mut restored,
+        mut frames,
+        mut known,
+        torn,
+    } = resume(alloc, bytes, registry, host)?;
+    restored.server.begin_noting()?;
+    restored.set_hooks(alloc, hooks)?;
+    let Restored {
+        mut server,
+        moment,
+        hooks: _hooks,
+    } = restored;
+    add_noted(&mut server, &mut frames, &mut known)?;
+    let frames = keep_short(alloc, &server, frames, &mut known)?;
+    Ok(Prepared {
+        server,
+        frames,
+        known,
+        moment,
+        torn,
+        alloc,
+    })
+}
+
+impl<H: HookHost> Prepared<H> {
+    /// What an unfinished write left in the file: the new one will not have it.
+    pub fn torn(&self) -> &[u8]
+        ensures { result.now ≡ self.now.torn }
+    {
+        self.torn.as_slice()
+    }
+
+    /// The moment from which the server goes on.
+    pub fn moment(&self) -> Moment
+        ensures { result ≡ self.now.moment }
+    {
+        self.moment
+    }
+}
