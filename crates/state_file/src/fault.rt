@@ -5,9 +5,9 @@ ghost use Rattle.state_file.specs.FaultTexts.{of_adding, of_reading, of_redoing,
 ghost use Rattle.state_file.specs.declared.fault.StateFault.TheVariants.{Memory};
 
 use batch_file::device::ReplaceFault;
+use batch_file::frames::AddFault;
 use batch_file::framing::ReadFault;
 use batch_file::system::SystemFault;
-use batch_file::AddFault;
 use change_codec::{ChangeFault, DecodeFault, EncodeFault};
 use endpoints::{RedoFault, RestoreFault};
 use hook_host::HookFault;

@@ -3,7 +3,7 @@ use Rattle.std.proofs.lemmas.Grind.{common_steps}
 use Rattle.std.specs.Prelude.{max, unwrap_or}
 use Rattle.batch_file.specs.Frames.{lists}
 use Rattle.state_file.specs.Standing.{mark_in, until_of}
-use Rattle.state_file.proofs.Marked.{until_of-append}
+use Rattle.state_file.specs.StandingLaws.{until_of-append}
 use Rattle.state_file.proofs.marks.until_of.Goals as goal
 
 pub loop-batch-preserved : goal.loop-batch-preserved
