@@ -1,5 +1,5 @@
 -- Changes that are made again one after the other.
-use Rattle.std.proofs.Common.{◌≡◌, ℕ, zero, suc, List, [], ◌∷◌, ◌++◌, Some, refl, sym, ap, ◌∙◌, subst, append_assoc}
+use Rattle.std.proofs.Common.{◌≡◌, ℕ, List, [], ◌∷◌, ◌++◌, Some, refl, sym, ap, ◌∙◌, subst}
 use Rattle.std.proofs.lemmas.List.{append-nil}
 use Rattle.clients.specs.RegistryRecord.{RegistryRecord}
 use Rattle.consent.specs.History.{Event, with_change}
@@ -11,7 +11,8 @@ use Rattle.endpoints.specs.Redo as again
 use Rattle.change_codec.specs.Spelling.{DatedFact, HaveSpelling, batch_spelling, fact_of}
 use Rattle.change_codec.specs.Happened.{dated}
 use Rattle.change_codec.specs.HappenedLaws.{Happened-split, meaning_of-told}
-use Rattle.state_file.specs.Standing.{AreTold}
+use Rattle.state_file.specs.Standing.{AreTold, IsTold}
+use Rattle.state_file.specs.StandingLaws.{AreTold-split}
 use Rattle.image_codec.specs.Facts.{HookFact}
 use Rattle.state_file.specs.Hooks.{hooks_behind, hooks_by, hooks_set_in}
 use Rattle.state_file.specs.Resuming.{FitsRestored, FitsOn, RedoesDated, RedoesBatches, StaysUnnoted}
@@ -30,20 +31,13 @@ told_as batch ds facts is one told = by (subst (λ (b : List ℕ). AreTold (b �
   where
     by : AreTold (batch_spelling ds ∷ []) facts → facts ≡ ds
     by t =
-        let same : t.0 ≡ ds = one t.0 t.2 (is ∙ t.3) in
-        t.5 ∙ ap (λ (x : List DatedFact). t.0 ++ x) t.4 ∙ append-nil t.0 ∙ same
+        let same : t.0 ≡ ds = one t.0 t.2.0 (is ∙ t.2.1) in
+        t.4 ∙ ap (λ (x : List DatedFact). t.0 ++ x) t.3 ∙ append-nil t.0 ∙ same
 
--- the dated changes of some batches, and of those behind them
-pub told_split : (batches more : List (List ℕ)) (facts : List DatedFact) → AreTold (batches ++ more) facts →
-    (front back : List DatedFact) × AreTold batches front × AreTold more back × (facts ≡ front ++ back)
-told_split [] more facts told = ([], facts, refl, told, refl)
-told_split ([] ∷ batches) more facts told =
-    let rest = told_split batches more told.1 told.4 in
-    (told.0 ++ rest.0, rest.1, (told.0, rest.0, told.2, told.3, rest.2, refl), rest.3, told.5 ∙ ap (λ (x : List DatedFact). told.0 ++ x) rest.4 ∙ sym (append_assoc told.0 rest.0 rest.1))
-told_split ((zero ∷ rules) ∷ batches) more facts told = told_split batches more facts told
-told_split ((suc n ∷ bytes) ∷ batches) more facts told =
-    let rest = told_split batches more told.1 told.4 in
-    (told.0 ++ rest.0, rest.1, (told.0, rest.0, told.2, told.3, rest.2, refl), rest.3, told.5 ∙ ap (λ (x : List DatedFact). told.0 ++ x) rest.4 ∙ sym (append_assoc told.0 rest.0 rest.1))
+-- rules and marks have none
+pub nothing_told : (batch : List ℕ) (facts : List DatedFact) → ((some : List DatedFact) → IsTold batch some → some ≡ []) → AreTold (batch ∷ []) facts → facts ≡ []
+nothing_told batch facts none told =
+    told.4 ∙ ap (λ (ds : List DatedFact). told.0 ++ ds) told.3 ∙ append-nil told.0 ∙ none told.0 told.2
 
 module _ {H : Type 0} (hosting : Hosting H) where
   -- none
@@ -82,13 +76,21 @@ module _ {H : Type 0} (hosting : Hosting H) where
       new.hooks ≡ hooks_by old.hooks (fact_of change) → new.moment ≡ moment → StaysUnnoted old new → RedoesDated hosting old (dated moment change ∷ []) new
   redoes_one old new moment change redone hooks moment_is unnoted = (hooks, fits_one old new moment change redone hooks moment_is, unnoted)
 
-  -- no batch, or one of rules
+  -- no batch, or one of rules, or a mark
   pub redoes_no_batch : (restored : Restored H) → RedoesBatches hosting restored [] restored
   redoes_no_batch restored = (λ none. none, λ facts told. subst (λ (ds : List DatedFact). RedoesDated hosting restored ds restored) (sym told) (redoes_none restored))
 
+  redoes_beside : (restored : Restored H) (batch : List ℕ) → ((facts : List DatedFact) → IsTold batch facts → facts ≡ []) → RedoesBatches hosting restored (batch ∷ []) restored
+  redoes_beside restored batch none =
+      (λ unnoted. unnoted, λ facts told. (redoes_no_batch restored).1 facts (nothing_told batch facts none told))
+
   pub redoes_rules : (restored : Restored H) (batch rules : List ℕ) → batch ≡ 0 ∷ rules → RedoesBatches hosting restored (batch ∷ []) restored
   redoes_rules restored batch rules is =
-      (λ none. none, λ facts told. (redoes_no_batch restored).1 facts (subst (λ (b : List ℕ). AreTold (b ∷ []) facts) is told))
+      redoes_beside restored batch (λ facts told. let none : facts ≡ [] = subst (λ (b : List ℕ). IsTold b facts) is told in none)
+
+  pub redoes_mark : (restored : Restored H) (batch bytes : List ℕ) → batch ≡ 3 ∷ bytes → RedoesBatches hosting restored (batch ∷ []) restored
+  redoes_mark restored batch bytes is =
+      redoes_beside restored batch (λ facts told. let parts : IsTold (3 ∷ bytes) facts = subst (λ (b : List ℕ). IsTold b facts) is told in parts.1)
 
   -- a batch of dated changes
   pub redoes_batch : (old new : Restored H) (batch : List ℕ) (ds : List DatedFact) → batch ≡ batch_spelling ds →
@@ -103,6 +105,6 @@ module _ {H : Type 0} (hosting : Hosting H) where
   redoes_batches old mid new batches more one then = (
     λ none. then.0 (one.0 none),
     λ facts told.
-        let parts = told_split batches more facts told in
+        let parts = AreTold-split batches more facts told in
         subst (λ (x : List DatedFact). RedoesDated hosting old x new) (sym parts.4) (redoes_then old mid new parts.0 parts.1 (one.1 parts.0 parts.2) (then.1 parts.1 parts.3)),
   )

@@ -63,4 +63,3 @@ abbrev pub RefusesMaking : {H : Type 0} → Hosting H → OnBytes H → StateFau
 RefusesMaking hosting on fault =
     RefusesResume on.bytes (rules_of on.outset.rules) fault ⊎ RefusesSome hosting (AnswersFor hosting on.bytes on.outset) on.hooks fault
     ⊎ (fault ≡ state.Full)
-

@@ -23,7 +23,17 @@ fn redo<H: HookHost>(restored: &mut Restored<H>, changes: &[DatedChange]) -> Res
     Ok(())
 }
 
-#[tactic(auto, using(crate::proofs::Redone::redoes_rules))]
+/// Tests whether what begins as a mark is one.
+fn check_mark(batch: &[u8]) -> Result<(), StateFault>
+    ensures refused { IfErr result IsOfChanges }
+{
+    match mark_in(batch) {
+        Some(_) => Ok(()),
+        None => Err(StateFault::Spelling(ChangeFault::Moment)),
+    }
+}
+
+#[tactic(auto, using(crate::proofs::Redone::redoes_rules, crate::proofs::Redone::redoes_mark))]
 fn redo_batch<H: HookHost>(
     alloc: Global,
     restored: &mut Restored<H>,
@@ -32,18 +42,16 @@ fn redo_batch<H: HookHost>(
     ensures redone { OnOk result (RedoesBatches H.HookHost restored.old (batch.now ∷ []) restored.new) }
     ensures refused { IfErr result IsOfChanges }
 {
-    match batch {
-        [0, ..] => Ok(()),
-        [3, ..] => match mark_in(batch) {
-            Some(_) => Ok(()),
-            None => Err(StateFault::Spelling(ChangeFault::Moment)),
-        },
-        _ => {
-            let changes = decode(alloc, batch)?;
-            redo(restored, &changes)?;
-            Ok(())
-        }
+    if let [0, ..] = batch {
+        return Ok(());
     }
+    if let [3, ..] = batch {
+        check_mark(batch)?;
+        return Ok(());
+    }
+    let changes = decode(alloc, batch)?;
+    redo(restored, &changes)?;
+    Ok(())
 }
 
 /// Makes the changes of the batches again.
