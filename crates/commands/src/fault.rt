@@ -10,7 +10,7 @@ use crate::status::Status;
 use clients::{ConfigFault, Spot};
 use hook_commands::HookCommandFault;
 use http_edge::EdgeFault;
-use state_file::{AccountFault, StateFault};
+use state_file::StateFault;
 use std::alloc::AllocError;
 use std::fmt::{self, Display, Formatter};
 use transcript::ReplayFault;
@@ -147,14 +147,6 @@ impl<'w> CommandFault<'w> {
         match fault {
             StateFault::Memory => CommandFault::OutOfMemory,
             fault => CommandFault::State(path, fault),
-        }
-    }
-
-    /// The same of one that is told what the file stands for.
-    pub fn of_account(path: &'w str, fault: AccountFault) -> CommandFault<'w> {
-        match fault {
-            AccountFault::Memory => CommandFault::OutOfMemory,
-            AccountFault::Batch(number, fault) => CommandFault::StateAt(number, fault),
         }
     }
 }
