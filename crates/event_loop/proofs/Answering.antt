@@ -220,7 +220,7 @@ module _ {N C J K H : Type 0} where
     }
 
     step_answered : (s' : Scene N C J K H) → LoopStep p s s' → IsAllAnswered p s'
-    step_answered s' (waits limit room found n times c may done told) = idles _ refl refl (λ k. refl) (λ k. refl)
+    step_answered s' (waits limit room found n times c keeper may done told kept) = idles _ refl refl (λ k. refl) (λ k. refl)
     step_answered s' (hears_of_listener more is) = idles _ refl refl (λ k. refl) (λ k. refl)
     step_answered s' (hears_of j readable writable hung more place place' is here told) =
         let same : place'.stage ≡ place.stage = ap (λ (q : Place). q.stage) told in
@@ -232,9 +232,9 @@ module _ {N C J K H : Type 0} where
     step_answered s' (writes j place s'' here writable unwritten kept may writing) = writes_answered j place s'' here (served_taken place.stage may.served) writing
     step_answered s' (closes j place s'' here taken cause closing) = closes_answered j place s'' closing
     step_answered s' (reports notice told journal due done) = idles _ refl refl (λ k. refl) (λ k. refl)
-    step_answered s' (puts_image keeper all kept) = idles _ refl refl (λ k. refl) (λ k. refl)
-    step_answered s' no_image = idles _ refl refl (λ k. refl) (λ k. refl)
-    step_answered s' (keeps keeper e unkept on undone kept) = record {
+    step_answered s' (puts_image keeper all kept moments short) = idles _ refl refl (λ k. refl) (λ k. refl)
+    step_answered s' (no_image journal all long ago told) = idles _ refl refl (λ k. refl) (λ k. refl)
+    step_answered s' (keeps keeper e unkept on undone kept moments) = record {
       reached = on.reached;
       exchanges = λ k place here taken.
           stays_same s _ k place place (before.exchanges k place here taken) (ap (λ ks. connection_at ks k) (kept_connections s.course.journey.world on.world on.happens)) refl refl (λ e. e);

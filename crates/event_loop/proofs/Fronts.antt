@@ -6,8 +6,9 @@ use Rattle.http_edge.specs.Schedule.{World, PieceComes, PiecePasses, TakesOutput
 use Rattle.endpoints.specs.Server.{Outset}
 use Rattle.event_loop.specs.declared.fault.LoopFault.{LoopFault}
 use Rattle.event_loop.specs.declared.place.Place.{Place}
-use Rattle.change_codec.specs.Keeping.{IsFrontOf, Holds, Keeps}
+use Rattle.change_codec.specs.Keeping.{IsFrontOf, Holds, Keeps, KeepsMoments}
 use Rattle.event_loop.specs.Courses.{Course}
+use Rattle.event_loop.specs.Deeds.{waits as waits_done}
 use Rattle.event_loop.specs.Giving.{GivesPieces, nothing, gives}
 use Rattle.event_loop.specs.Scenes.{Promises, Scene, IsAllKept, IsUnkept}
 use Rattle.event_loop.specs.Coming.{AcceptsOne, opens, denies, finds_nobody, fails, asks}
@@ -17,13 +18,13 @@ use Rattle.event_loop.specs.Writing as writing
 use Rattle.event_loop.specs.Writing.{WritesPlace}
 use Rattle.event_loop.specs.Closing.{Closes, leaves}
 use Rattle.event_loop.specs.Served.{LoopStep, Served, Shuts, TellsLast, tells_nothing, waits, hears_of_listener, hears_of, hears_of_none, comes, tries_again, reads, writes, closes, reports, keeps, puts_image, no_image, begins, goes, stops, shuts, reports_last}
-use Rattle.event_loop.specs.Durable.{Onward, stays, onward, KeeperHolds, StandsBetween, IsDurable, IsDurableToEnd}
-use Rattle.event_loop.specs.Ends.{CannotGoOn, no_wait, no_time, not_kept, not_imaged, no_more}
+use Rattle.event_loop.specs.Durable.{Onward, stays, onward, KeeperHolds, StandsBetween, IsDurable, IsDurableToEnd, MomentIsHeld}
+use Rattle.event_loop.specs.Ends.{CannotGoOn, no_wait, no_time, no_moment, not_kept, not_imaged, no_more}
 use Rattle.event_loop.proofs.Answering.{served_answered}
 use Rattle.event_loop.proofs.Kept.{same_front, front_then, reached_front, kept_history, kept_last}
 
 -- the history grows, and what was kept last is as it was
-record Grows (old new : World) : Type 0 where
+pub record Grows (old new : World) : Type 0 where
   pub kept : new.kept ≡ old.kept
   pub front : IsFrontOf old.history new.history
 
@@ -48,69 +49,78 @@ takes_grows : (old new : World) (c n : ℕ) → TakesOutput old new c n ⊎ Take
 takes_grows old new c n (inl takes) = record { kept = takes.still.kept; front = same_front _ _ takes.still.history }
 takes_grows old new c n (inr absent) = grows_not old new absent.same
 
--- the keeper is as it was, and the history grows; or what is unkept is kept; or all is kept, and is in another way
-data Moves {N C J K H : Type 0} (p : Promises N C J K H) (s s' : Scene N C J K H) : Type 0 where
-  goes_on : s'.keeper ≡ s.keeper → Grows s.course.journey.world s'.course.journey.world → Moves p s s'
+-- the clocks' times are as they were, and no wait was done
+abbrev pub IsSameTime : {N C J K H : Type 0} → Scene N C J K H → Scene N C J K H → Type 0
+IsSameTime s s' = (s'.times ≡ s.times) × (waits_done s'.deeds ≡ waits_done s.deeds)
+
+-- what was kept last is held still
+abbrev pub KeepsLast : {N C J K H : Type 0} → Promises N C J K H → Scene N C J K H → K → Type 0
+KeepsLast p s keeper = (kept : List Event) → s.course.journey.world.kept ≡ Some kept → Keeps p.keeping.crashes kept kept s.keeper keeper
+
+-- the keeper is as it was, and the history grows; or what is unkept is kept; or what was kept is kept in another way
+pub data Moves {N C J K H : Type 0} (p : Promises N C J K H) (s s' : Scene N C J K H) : Type 0 where
+  goes_on : (s'.keeper ≡ s.keeper) × IsSameTime s s' → Grows s.course.journey.world s'.course.journey.world → Moves p s s'
   keeps_all : (unkept : IsUnkept s.course.journey.world) → Keeps p.keeping.crashes unkept.kept s.course.journey.world.history s.keeper s'.keeper → s'.course.journey.world.kept ≡ Some s.course.journey.world.history →
-      s'.course.journey.world.history ≡ s.course.journey.world.history → Moves p s s'
-  keeps_still : IsAllKept s.course.journey.world → Keeps p.keeping.crashes s.course.journey.world.history s.course.journey.world.history s.keeper s'.keeper → s'.course.journey.world ≡ s.course.journey.world → Moves p s s'
+      s'.course.journey.world.history ≡ s.course.journey.world.history → KeepsMoments p.keeping.crashes s.keeper s'.keeper → IsSameTime s s' → Moves p s s'
+  keeps_still : KeepsLast p s s'.keeper → s'.course.journey.world ≡ s.course.journey.world → KeepsMoments p.keeping.crashes s.keeper s'.keeper →
+      IsSameTime s s' ⊎ MomentIsHeld p s' → Moves p s s'
 
 module _ {N C J K H : Type 0} (p : Promises N C J K H) where
   comes_moves : (s s' : Scene N C J K H) → AcceptsOne p s s' → Moves p s s'
-  comes_moves s s' (opens j n e on within free done) = goes_on refl (record { kept = on.happens.still.kept; front = same_front _ _ on.happens.still.history })
-  comes_moves s s' (denies j n n' fault noted within free done refused closed noting) = goes_on refl (grows_not _ _ refl)
-  comes_moves s s' (finds_nobody j n done) = goes_on refl (grows_not _ _ refl)
-  comes_moves s s' (fails j n noted done noting) = goes_on refl (grows_not _ _ refl)
-  comes_moves s s' (asks n taken done) = goes_on refl (grows_not _ _ refl)
+  comes_moves s s' (opens j n e on within free done) = goes_on (refl, refl, refl) (record { kept = on.happens.still.kept; front = same_front _ _ on.happens.still.history })
+  comes_moves s s' (denies j n n' fault noted within free done refused closed noting) = goes_on (refl, refl, refl) (grows_not _ _ refl)
+  comes_moves s s' (finds_nobody j n done) = goes_on (refl, refl, refl) (grows_not _ _ refl)
+  comes_moves s s' (fails j n noted done noting) = goes_on (refl, refl, refl) (grows_not _ _ refl)
+  comes_moves s s' (asks n taken done) = goes_on (refl, refl, refl) (grows_not _ _ refl)
 
   reads_moves : (j : ℕ) (place : Place) (s s' : Scene N C J K H) → ReadsPlace p j place s s' → Moves p s s'
   reads_moves j place s s' (reading.hears bytes n course place' some few done heard is) =
-      goes_on refl (gives_grows p.hosting (piece_of j bytes s.times.moment) s.course heard.given course heard.gives)
+      goes_on (refl, refl, refl) (gives_grows p.hosting (piece_of j bytes s.times.moment) s.course heard.given course heard.gives)
   reads_moves j place s s' (reading.refuses bytes n fault course some few done unheard) =
-      goes_on refl (gives_grows p.hosting (piece_of j bytes s.times.moment) s.course unheard.given course unheard.gives)
-  reads_moves j place s s' (reading.ends n e on done) = goes_on refl (record { kept = on.happens.still.kept; front = same_front _ _ on.happens.still.history })
-  reads_moves j place s s' (reading.ends_nothing n fault done refused) = goes_on refl (grows_not _ _ refl)
-  reads_moves j place s s' (reading.finds_nothing n done) = goes_on refl (grows_not _ _ refl)
-  reads_moves j place s s' (reading.fails n done) = goes_on refl (grows_not _ _ refl)
+      goes_on (refl, refl, refl) (gives_grows p.hosting (piece_of j bytes s.times.moment) s.course unheard.given course unheard.gives)
+  reads_moves j place s s' (reading.ends n e on done) = goes_on (refl, refl, refl) (record { kept = on.happens.still.kept; front = same_front _ _ on.happens.still.history })
+  reads_moves j place s s' (reading.ends_nothing n fault done refused) = goes_on (refl, refl, refl) (grows_not _ _ refl)
+  reads_moves j place s s' (reading.finds_nothing n done) = goes_on (refl, refl, refl) (grows_not _ _ refl)
+  reads_moves j place s s' (reading.fails n done) = goes_on (refl, refl, refl) (grows_not _ _ refl)
 
   writes_moves : (j : ℕ) (place : Place) (s s' : Scene N C J K H) → WritesPlace p j place s s' → Moves p s s'
-  writes_moves j place s s' (writing.sends count front n e on some is_front done) = goes_on refl (takes_grows s.course.journey.world on.world j count on.happens)
-  writes_moves j place s s' (writing.finds_no_room n done) = goes_on refl (grows_not _ _ refl)
-  writes_moves j place s s' (writing.fails n done) = goes_on refl (grows_not _ _ refl)
+  writes_moves j place s s' (writing.sends count front n e on some is_front done) = goes_on (refl, refl, refl) (takes_grows s.course.journey.world on.world j count on.happens)
+  writes_moves j place s s' (writing.finds_no_room n done) = goes_on (refl, refl, refl) (grows_not _ _ refl)
+  writes_moves j place s s' (writing.fails n done) = goes_on (refl, refl, refl) (grows_not _ _ refl)
 
   closes_moves : (j : ℕ) (place : Place) (s s' : Scene N C J K H) → Closes p j place s s' → Moves p s s'
-  closes_moves j place s s' (leaves n e on noted done noting) = goes_on refl (record { kept = on.happens.still.kept; front = same_front _ _ on.happens.still.history })
+  closes_moves j place s s' (leaves n e on noted done noting) = goes_on (refl, refl, refl) (record { kept = on.happens.still.kept; front = same_front _ _ on.happens.still.history })
 
-  step_moves : (s s' : Scene N C J K H) → LoopStep p s s' → Moves p s s'
-  step_moves s s' (waits limit room found n times c may done told) = goes_on refl (grows_not _ _ refl)
-  step_moves s s' (hears_of_listener more is) = goes_on refl (grows_not _ _ refl)
-  step_moves s s' (hears_of j readable writable hung more place place' is here told) = goes_on refl (grows_not _ _ refl)
-  step_moves s s' (hears_of_none j readable writable hung more is none) = goes_on refl (grows_not _ _ refl)
+  pub step_moves : (s s' : Scene N C J K H) → LoopStep p s s' → Moves p s s'
+  step_moves s s' (waits limit room found n times c keeper may done told kept) = keeps_still (λ last is. kept.holds last) refl kept.moments (inr kept.told)
+  step_moves s s' (hears_of_listener more is) = goes_on (refl, refl, refl) (grows_not _ _ refl)
+  step_moves s s' (hears_of j readable writable hung more place place' is here told) = goes_on (refl, refl, refl) (grows_not _ _ refl)
+  step_moves s s' (hears_of_none j readable writable hung more is none) = goes_on (refl, refl, refl) (grows_not _ _ refl)
   step_moves s s' (comes s'' told coming) = comes_moves s s'' coming
-  step_moves s s' (tries_again since barred later) = goes_on refl (grows_not _ _ refl)
+  step_moves s s' (tries_again since barred later) = goes_on (refl, refl, refl) (grows_not _ _ refl)
   step_moves s s' (reads j place s'' here readable unread may reading) = reads_moves j place s s'' reading
   step_moves s s' (writes j place s'' here writable unwritten kept may writing) = writes_moves j place s s'' writing
   step_moves s s' (closes j place s'' here taken cause closing) = closes_moves j place s s'' closing
-  step_moves s s' (reports notice told journal due done) = goes_on refl (grows_not _ _ refl)
-  step_moves s s' (puts_image keeper all kept) = keeps_still all kept refl
-  step_moves s s' no_image = goes_on refl (grows_not _ _ refl)
-  step_moves s s' (keeps keeper e unkept on undone kept) =
-      keeps_all unkept kept (kept_last s.course.journey.world on.world on.happens) (kept_history s.course.journey.world on.world on.happens)
+  step_moves s s' (reports notice told journal due done) = goes_on (refl, refl, refl) (grows_not _ _ refl)
+  step_moves s s' (puts_image keeper all kept moments short) =
+      keeps_still (λ last is. subst (λ (h : List Event). Keeps p.keeping.crashes h h s.keeper keeper) (sym (all last is)) kept) refl moments (inl (refl, refl))
+  step_moves s s' (no_image journal all long ago told) = goes_on (refl, refl, refl) (grows_not _ _ refl)
+  step_moves s s' (keeps keeper e unkept on undone kept moments) =
+      keeps_all unkept kept (kept_last s.course.journey.world on.world on.happens) (kept_history s.course.journey.world on.world on.happens) moments (refl, refl)
 
   -- what was kept is a front of what happened, wherever steps lead to
   served_front : (first s : Scene N C J K H) → Served p first s → (kept : List Event) → s.course.journey.world.kept ≡ Some kept → IsFrontOf kept s.course.journey.world.history
   served_front first s served kept is = reached_front p.hosting s.course.edge s.course.journey (served_answered p first s served).reached kept is
 
   moves_held : (s s' : Scene N C J K H) → Moves p s s' → KeeperHolds p s → KeeperHolds p s'
-  moves_held s s' (goes_on same grows) held = λ kept is c left. held kept (sym grows.kept ∙ is) c (subst (λ k. p.keeping.crashes.may_leave k c) same left)
-  moves_held s s' (keeps_all unkept kept last history) held = λ now is c left.
+  moves_held s s' (goes_on same grows) held = λ kept is c left. held kept (sym grows.kept ∙ is) c (subst (λ k. p.keeping.crashes.may_leave k c) same.0 left)
+  moves_held s s' (keeps_all unkept kept last history moments still) held = λ now is c left.
       let same : Some s.course.journey.world.history ≡ Some now = sym last ∙ is in
       let e : s.course.journey.world.history ≡ now = cc in
       subst (p.keeping.crashes.stands_for c) e (kept.holds (held unkept.kept unkept.here) c left)
-  moves_held s s' (keeps_still all kept same) held = λ now is c left.
+  moves_held s s' (keeps_still last same moments still) held = λ now is c left.
       let before : s.course.journey.world.kept ≡ Some now = ap (λ (w : World). w.kept) (sym same) ∙ is in
-      let e : now ≡ s.course.journey.world.history = all now before in
-      subst (p.keeping.crashes.stands_for c) (sym e) (kept.holds (subst (λ (h : List Event). Holds p.keeping.crashes s.keeper h) e (held now before)) c left)
+      (last now before).holds (held now before) c left
 
   served_held : (first s : Scene N C J K H) → KeeperHolds p first → Served p first s → KeeperHolds p s
   served_held first s held (begins is) = held
@@ -162,14 +172,14 @@ module _ {N C J K H : Type 0} (p : Promises N C J K H) where
   lasts_on first s before s' s'' l step (goes_on same grows) = record {
     served = goes l.served step;
     on = onward l.on step;
-    later = subst (λ k. p.keeping.crashes.moment s.keeper ≤ p.keeping.crashes.moment k) (sym same) l.later;
-    durable = λ c left. between_on s before s' s'' c step grows.front (l.durable c (subst (λ k. p.keeping.crashes.left_since k (p.keeping.crashes.moment s.keeper) c) same left));
+    later = subst (λ k. p.keeping.crashes.moment s.keeper ≤ p.keeping.crashes.moment k) (sym same.0) l.later;
+    durable = λ c left. between_on s before s' s'' c step grows.front (l.durable c (subst (λ k. p.keeping.crashes.left_since k (p.keeping.crashes.moment s.keeper) c) same.0 left));
     kept = l.kept;
     here = grows.kept ∙ l.here;
     from = l.from;
     held = moves_held s' s'' (goes_on same grows) l.held;
   }
-  lasts_on first s before s' s'' l step (keeps_all unkept kept last history) =
+  lasts_on first s before s' s'' l step (keeps_all unkept kept last history moments still) =
       let meanwhile = kept.meanwhile (l.held unkept.kept unkept.here) in
       let grows : IsFrontOf s'.course.journey.world.history s''.course.journey.world.history = same_front _ _ history in
       let front : IsFrontOf before s'.course.journey.world.history = front_then before l.kept s'.course.journey.world.history l.from (served_front first s' l.served l.kept l.here) in
@@ -187,13 +197,10 @@ module _ {N C J K H : Type 0} (p : Promises N C J K H) where
         kept = s'.course.journey.world.history;
         here = last;
         from = front;
-        held = moves_held s' s'' (keeps_all unkept kept last history) l.held;
+        held = moves_held s' s'' (keeps_all unkept kept last history moments still) l.held;
       }
-  lasts_on first s before s' s'' l step (keeps_still all kept same) =
-      let e : l.kept ≡ s'.course.journey.world.history = all l.kept l.here in
-      let held : Holds p.keeping.crashes s'.keeper s'.course.journey.world.history = subst (λ (h : List Event). Holds p.keeping.crashes s'.keeper h) e (l.held l.kept l.here) in
-      let here : s'.course.journey.world.kept ≡ Some s'.course.journey.world.history = l.here ∙ ap Some e in
-      let meanwhile = kept.meanwhile held in
+  lasts_on first s before s' s'' l step (keeps_still last same moments still) =
+      let meanwhile = (last l.kept l.here).meanwhile (l.held l.kept l.here) in
       let grows : IsFrontOf s'.course.journey.world.history s''.course.journey.world.history = same_front _ _ (ap (λ (w : World). w.history) same) in
       record {
         served = goes l.served step;
@@ -202,15 +209,27 @@ module _ {N C J K H : Type 0} (p : Promises N C J K H) where
         durable = λ c left. elim (meanwhile.earlier (p.keeping.crashes.moment s.keeper) c l.later left) [
           | inl then ↦ between_on s before s' s'' c step grows (l.durable c then)
           | inr now ↦ elim now [
-            | inl old ↦ between_on s before s' s'' c step grows (kept_between first s before s' l s'.course.journey.world.history here c old)
-            | inr new ↦ between_on s before s' s'' c step grows (kept_between first s before s' l s'.course.journey.world.history here c new)
+            | inl old ↦ between_on s before s' s'' c step grows (kept_between first s before s' l l.kept l.here c old)
+            | inr new ↦ between_on s before s' s'' c step grows (kept_between first s before s' l l.kept l.here c new)
           ]
         ];
         kept = l.kept;
         here = ap (λ (w : World). w.kept) same ∙ l.here;
         from = l.from;
-        held = moves_held s' s'' (keeps_still all kept same) l.held;
+        held = moves_held s' s'' (keeps_still last same moments still) l.held;
       }
+
+  -- closing keeps nothing
+  closes_keeper : (k : ℕ) (place : Place) (s s' : Scene N C J K H) → Closes p k place s s' → s'.keeper ≡ s.keeper
+  closes_keeper k place s s' (leaves n e on noted done noting) = refl
+
+  pub shuts_keeper : (s s' : Scene N C J K H) → Shuts p s s' → s'.keeper ≡ s.keeper
+  shuts_keeper s s' stops = refl
+  shuts_keeper s s' (shuts {s = before} k place shut here taken closing) = closes_keeper k place before s' closing ∙ shuts_keeper s before shut
+
+  pub last_keeper : (s s' : Scene N C J K H) → TellsLast p s s' → s'.keeper ≡ s.keeper
+  last_keeper s s' (reports_last report journal wanted tells done) = refl
+  last_keeper s s' (tells_nothing unwanted) = refl
 
   module _ (only_now : (keeper : K) (c : List ℕ) → p.keeping.crashes.left_since keeper (p.keeping.crashes.moment keeper) c → p.keeping.crashes.may_leave keeper c) (first : Scene N C J K H) (at_first : KeeperHolds p first) where
     lasts : (s : Scene N C J K H) (before : List Event) (s' : Scene N C J K H) → s.course.journey.world.kept ≡ Some before → Served p first s → Onward p s s' → Lasts first s before s'
@@ -245,7 +264,17 @@ module _ {N C J K H : Type 0} (p : Promises N C J K H) where
     fails_durable s last failed fault served on (no_wait limit room n may done) = λ kept is c left. inl (served_durable s last served on kept is c left)
     fails_durable s last failed fault served on (no_time limit room found n c may done told) = λ kept is c left. inl (served_durable s last served on kept is c left)
     fails_durable s last failed fault served on (no_more many) = λ kept is c left. inl (served_durable s last served on kept is c left)
-    fails_durable s last failed fault served on (not_kept keeper unkept undone lost) = λ kept is c left.
+    fails_durable s last failed fault served on (no_moment limit room found n times c keeper may done told lost moments) = λ kept is c left.
+        let l = lasts s kept last is served on in
+        let meanwhile = (lost l.kept).meanwhile (l.held l.kept l.here) in
+        elim (meanwhile.earlier (p.keeping.crashes.moment s.keeper) c l.later left) [
+          | inl then ↦ inl (l.durable c then)
+          | inr now ↦ elim now [
+            | inl old ↦ inl (kept_between first s kept last l l.kept l.here c old)
+            | inr new ↦ inl (kept_between first s kept last l l.kept l.here c new)
+          ]
+        ]
+    fails_durable s last failed fault served on (not_kept keeper unkept undone lost moments) = λ kept is c left.
         let l = lasts s kept last is served on in
         let meanwhile = lost.meanwhile (l.held unkept.kept unkept.here) in
         elim (meanwhile.earlier (p.keeping.crashes.moment s.keeper) c l.later left) [
@@ -255,7 +284,7 @@ module _ {N C J K H : Type 0} (p : Promises N C J K H) where
             | inr new ↦ inr new
           ]
         ]
-    fails_durable s last failed fault served on (not_imaged keeper all lost) = λ kept is c left.
+    fails_durable s last failed fault served on (not_imaged keeper all lost moments) = λ kept is c left.
         let l = lasts s kept last is served on in
         let e : l.kept ≡ last.course.journey.world.history = all l.kept l.here in
         let held : Holds p.keeping.crashes last.keeper last.course.journey.world.history = subst (λ (h : List Event). Holds p.keeping.crashes last.keeper h) e (l.held l.kept l.here) in
@@ -268,18 +297,6 @@ module _ {N C J K H : Type 0} (p : Promises N C J K H) where
             | inr new ↦ inr new
           ]
         ]
-
-    -- closing keeps nothing
-    closes_keeper : (k : ℕ) (place : Place) (s s' : Scene N C J K H) → Closes p k place s s' → s'.keeper ≡ s.keeper
-    closes_keeper k place s s' (leaves n e on noted done noting) = refl
-
-    shuts_keeper : (s s' : Scene N C J K H) → Shuts p s s' → s'.keeper ≡ s.keeper
-    shuts_keeper s s' stops = refl
-    shuts_keeper s s' (shuts {s = before} k place shut here taken closing) = closes_keeper k place before s' closing ∙ shuts_keeper s before shut
-
-    last_keeper : (s s' : Scene N C J K H) → TellsLast p s s' → s'.keeper ≡ s.keeper
-    last_keeper s s' (reports_last report journal wanted tells done) = refl
-    last_keeper s s' (tells_nothing unwanted) = refl
 
     -- and so it is up to the end
     pub durable_to_end : (s last failed emptied end : Scene N C J K H) (fault : LoopFault) → Served p first s → Onward p s last → CannotGoOn p last fault failed → Shuts p failed emptied →

@@ -17,7 +17,7 @@ use Rattle.event_loop.specs.Scenes.{Promises, Scene}
 use Rattle.event_loop.specs.Closing.{AreWithin, Cause}
 use Rattle.event_loop.specs.Served as served
 use Rattle.event_loop.specs.Served.{IsIdle, IsPatient, MayWait, goes, closes}
-use Rattle.event_loop.specs.Ends.{CannotGoOn, no_wait, no_time, not_kept, not_imaged, no_more}
+use Rattle.event_loop.specs.Ends.{CannotGoOn, no_wait, no_time, no_moment, not_kept, not_imaged, no_more}
 use Rattle.event_loop.specs.Goes as limited
 use Rattle.event_loop.specs.Goes.{Past, IsQuick, IsReported, IsTried, NobodyIsSilent, OnlyTells, FreesPlace, IsBusy, IsLimit, IsReadyToWait, IsKeptShort, LeadsAway, SettlesAll, AreAllSettled, MayRest, running, scene_of}
 use Rattle.event_loop.proofs.Doing.{closes_done, closes_some, done_some, none_more}
@@ -58,8 +58,9 @@ module _ {N C J K H : Type 0} (p : Promises N C J K H) where
   pub fails_reached : (s s' : Scene N C J K H) (fault : LoopFault) → CannotGoOn p s fault s' → IsReached p.hosting s.course → IsReached p.hosting s'.course
   fails_reached s s' fault (no_wait limit room n may done) reached = reached
   fails_reached s s' fault (no_time limit room found n c may done told) reached = reached
-  fails_reached s s' fault (not_kept keeper unkept undone lost) reached = reached
-  fails_reached s s' fault (not_imaged keeper all lost) reached = reached
+  fails_reached s s' fault (no_moment limit room found n times c keeper may done told lost moments) reached = reached
+  fails_reached s s' fault (not_kept keeper unkept undone lost moments) reached = reached
+  fails_reached s s' fault (not_imaged keeper all lost moments) reached = reached
   fails_reached s s' fault (no_more many) reached = reached
 
 -- where something is noted to be due, something was done

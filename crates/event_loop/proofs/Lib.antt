@@ -9,3 +9,4 @@ pub mod Cutting
 pub mod Kept
 pub mod Fronts
 pub mod Leaving
+pub mod Moments

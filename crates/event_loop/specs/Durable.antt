@@ -1,7 +1,7 @@
 -- What a crash leaves of what was done.
-use Rattle.std.specs.Prelude.{◌≡◌, ◌⊎◌, ℕ, List, Some}
+use Rattle.std.specs.Prelude.{◌≡◌, ◌⊎◌, ◌≤◌, ℕ, List, Some}
 use Rattle.consent.specs.History.{Event}
-use Rattle.change_codec.specs.Keeping.{IsFrontOf, Holds}
+use Rattle.change_codec.specs.Keeping.{IsFrontOf, Holds, HoldsMoment}
 use Rattle.event_loop.specs.Scenes.{Promises, Scene}
 use Rattle.event_loop.specs.Served.{LoopStep}
 
@@ -41,3 +41,11 @@ IsDurable p s s' = (kept : List Event) → s.course.journey.world.kept ≡ Some 
 abbrev pub IsDurableToEnd : {N C J K H : Type 0} → Promises N C J K H → Scene N C J K H → Scene N C J K H → Scene N C J K H → Type 0
 IsDurableToEnd p s last end = (kept : List Event) → s.course.journey.world.kept ≡ Some kept → (c : List ℕ) → MayLeave p s end c →
     StandsBetween p s kept last c ⊎ p.keeping.crashes.stands_for c last.course.journey.world.history
+
+-- the keeper holds the moment by which requests are answered
+abbrev pub MomentIsHeld : {N C J K H : Type 0} → Promises N C J K H → Scene N C J K H → Type 0
+MomentIsHeld p s = HoldsMoment p.keeping.crashes s.keeper s.times.moment
+
+-- Each crash from the one scene on, up to the other, tells the one's moment, or a later one: so does a start on what it left.
+abbrev pub MomentStays : {N C J K H : Type 0} → Promises N C J K H → Scene N C J K H → Scene N C J K H → Type 0
+MomentStays p s s' = (c : List ℕ) → MayLeave p s s' c → s.times.moment ≤ p.keeping.crashes.until c

@@ -1,6 +1,7 @@
 -- How the loop ends.
-use Rattle.std.specs.Prelude.{◌≡◌, ◌⊎◌, ◌≤◌, ℕ, List, Option, Some, None}
+use Rattle.std.specs.Prelude.{◌≡◌, ◌⊎◌, ◌≤◌, ◌<◌, ℕ, List, Option, Some, None}
 use Rattle.http_edge.specs.Reached.{Journey, Reached}
+use Rattle.event_loop.specs.declared.clocks.Times.{Times}
 use Rattle.event_loop.specs.declared.fault.LoopFault.{LoopFault}
 use Rattle.event_loop.specs.declared.fault.LoopFault.TheVariants.{Wait, Clock, Keep, Rounds}
 use Rattle.event_loop.specs.declared.limits.Limits.{Limits}
@@ -8,8 +9,8 @@ use Rattle.event_loop.specs.declared.sockets.Ready.{Ready}
 use Rattle.event_loop.specs.declared.tools.Tools.{Tools}
 use Rattle.event_loop.specs.Deeds as deed
 use Rattle.event_loop.specs.Deeds.{Keeping, IsDone}
-use Rattle.change_codec.specs.Keeping.{KeepsNot}
-use Rattle.event_loop.specs.Durable.{Onward, KeeperHolds, IsDurable, IsDurableToEnd}
+use Rattle.change_codec.specs.Keeping.{HeldMeanwhile, KeepsNot, TellsMoments}
+use Rattle.event_loop.specs.Durable.{Onward, KeeperHolds, IsDurable, IsDurableToEnd, MomentIsHeld, MomentStays}
 use Rattle.event_loop.specs.Places.{AllFree}
 use Rattle.event_loop.specs.Scenes.{Promises, Scene, IsAllKept, IsUnkept, with_deed}
 use Rattle.event_loop.specs.Answered.{IsAllAnswered}
@@ -19,18 +20,24 @@ use Rattle.event_loop.specs.Served.{IsFirst, MayWait, Served, Shuts, TellsLast}
 abbrev pub rounds_limit : ℕ
 rounds_limit = 18446744073709551615
 
--- why it goes on no more: a wait failed; behind a wait the clocks told nothing, and what it found was not looked at; what is
--- unkept could not be kept; an image could not be written; or so many rounds were made as can be counted
+-- why it goes on no more: a wait failed; behind a wait the clocks told nothing, or their moment could not be kept, and what it
+-- found was not looked at; what is unkept could not be kept; an image could not be put, and what was kept may be lost; or so
+-- many rounds were made as can be counted
 pub data CannotGoOn {N C J K H : Type 0} (p : Promises N C J K H) (s : Scene N C J K H) : LoopFault → Scene N C J K H → Type 0 where
   no_wait : (limit : Option ℕ) (room : ℕ) (n : N) → MayWait p s limit room → p.sockets.does s.sockets (deed.WaitFailed limit room) n →
       CannotGoOn p s Wait (with_deed s (deed.WaitFailed limit room) n)
   no_time : (limit : Option ℕ) (room : ℕ) (found : List Ready) (n : N) (c : C) → MayWait p s limit room →
       p.sockets.does s.sockets (deed.Waited limit room found) n → p.clocks.tells s.clocks None c →
       CannotGoOn p s Clock (record (with_deed s (deed.Waited limit room found) n) { clocks = c; found = found })
+  no_moment : (limit : Option ℕ) (room : ℕ) (found : List Ready) (n : N) (times : Times) (c : C) (keeper : K) → MayWait p s limit room →
+      p.sockets.does s.sockets (deed.Waited limit room found) n → p.clocks.tells s.clocks (Some times) c →
+      HeldMeanwhile p.keeping.crashes s.keeper keeper → TellsMoments p.keeping.crashes s.keeper keeper →
+      CannotGoOn p s Keep (record (with_deed s (deed.Waited limit room found) n) { clocks = c; keeper = keeper; found = found })
   not_kept : (keeper : K) (unkept : IsUnkept s.course.journey.world) → ¬ (IsDone Keeping s.deeds) →
-      KeepsNot p.keeping.crashes unkept.kept s.course.journey.world.history s.keeper keeper → CannotGoOn p s Keep (record s { keeper = keeper })
+      KeepsNot p.keeping.crashes unkept.kept s.course.journey.world.history s.keeper keeper → TellsMoments p.keeping.crashes s.keeper keeper →
+      CannotGoOn p s Keep (record s { keeper = keeper })
   not_imaged : (keeper : K) → IsAllKept s.course.journey.world →
-      KeepsNot p.keeping.crashes s.course.journey.world.history s.course.journey.world.history s.keeper keeper →
+      KeepsNot p.keeping.crashes s.course.journey.world.history s.course.journey.world.history s.keeper keeper → TellsMoments p.keeping.crashes s.keeper keeper →
       CannotGoOn p s Keep (record s { keeper = keeper })
   no_more : rounds_limit ≤ deed.waits s.deeds → CannotGoOn p s Rounds s
 
@@ -54,6 +61,7 @@ tools_at s = record {
 -- The clocks told the first times, and steps led on, whose every scene is answered, until something failed; then nothing
 -- was done but that each connection that was left was closed and forgotten, and all places are free, and that behind them,
 -- where reports are wanted, there was one more. Where the keeper held at first what was kept, all that was kept is durable.
+-- Behind the first wait the keeper holds the moment by which requests are answered: each crash from then on tells it.
 pub record HasServed {N C J K H : Type 0} (p : Promises N C J K H) (start : Beginning N C J K H) (fault : LoopFault) (tools' : Tools N C J K H) : Type 0 where
   pub first : Scene N C J K H
   pub is_first : IsFirst p first
@@ -65,6 +73,8 @@ pub record HasServed {N C J K H : Type 0} (p : Promises N C J K H) (start : Begi
   pub served : Served p first last
   pub answered : (s : Scene N C J K H) → Served p first s → IsAllAnswered p s
   pub durable : KeeperHolds p first → (s s' : Scene N C J K H) → Served p first s → Onward p s s' → IsDurable p s s'
+  pub moment : (s : Scene N C J K H) → Served p first s → 0 < deed.waits s.deeds → MomentIsHeld p s
+  pub moment_stays : (s s' : Scene N C J K H) → Served p first s → 0 < deed.waits s.deeds → Onward p s s' → MomentStays p s s'
   pub failed : Scene N C J K H
   pub fails : CannotGoOn p last fault failed
   pub emptied : Scene N C J K H
@@ -72,6 +82,7 @@ pub record HasServed {N C J K H : Type 0} (p : Promises N C J K H) (start : Begi
   pub end : Scene N C J K H
   pub tells_last : TellsLast p emptied end
   pub durable_then : KeeperHolds p first → (s : Scene N C J K H) → Served p first s → Onward p s last → IsDurableToEnd p s last end
+  pub moment_stays_then : (s : Scene N C J K H) → Served p first s → 0 < deed.waits s.deeds → Onward p s last → MomentStays p s end
   pub free : AllFree end.places
   pub tools_are_then : tools' ≡ tools_at end
 

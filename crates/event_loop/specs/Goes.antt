@@ -19,7 +19,7 @@ use Rattle.event_loop.specs.Noting.{Noted}
 use Rattle.event_loop.specs.Places.{IsOccupied, MayRead, MayWrite, NeedsNoRead, NeedsNoWrite, IsOver, IsPlaceAtRest, AllFree}
 use Rattle.event_loop.specs.Scenes.{Promises, Scene, IsAllKept}
 use Rattle.event_loop.specs.Closing.{IsSilentLongest, AreWithin, Closes, freed_queue}
-use Rattle.event_loop.specs.Reporting.{Tells}
+use Rattle.event_loop.specs.Reporting.{Tells, is_long_ago}
 use Rattle.event_loop.specs.Served.{HadTurn, Served, Shuts, TellsLast}
 use Rattle.event_loop.specs.Ends.{CannotGoOn}
 
@@ -331,9 +331,9 @@ LeadsToLoss {N} {C} {J} {K} {H} p tools fault tools' =
     Served p first (scene_of (running service tools) found past) →
     CannotGoOn p (scene_of (running service tools) found past) fault (scene_of (running service tools') found past)
 
--- where nothing is unkept, no more is kept than may be beside an image, or an image was refused in this second
+-- where nothing is unkept, no more is kept than may be beside an image, or an image was refused less than a minute ago
 abbrev pub IsKeptShort : {N C J K H : Type 0} → Promises N C J K H → Running N C J K H → World → Type 0
-IsKeptShort p now world = IsAllKept world → p.keeping.is_long now.tools.keeper → now.service.refused ≡ Some now.service.times.steady
+IsKeptShort p now world = IsAllKept world → p.keeping.is_long now.tools.keeper → is_long_ago now.service.refused now.service.times.steady 60 ≡ false
 
 -- wherever steps lead to, they lead on, and it is so
 abbrev pub LeadsToShort : {N C J K H : Type 0} → Promises N C J K H → Running N C J K H → Running N C J K H → Type 0
@@ -341,7 +341,7 @@ LeadsToShort {N} {C} {J} {K} {H} p before after =
     (first : Scene N C J K H) (found : List Ready) (past : Past H) → Served p first (scene_of before found past) →
     Served p first (scene_of after found past) × IsKeptShort p after past.journey.world
 
--- or the image could not be written
+-- or the image could not be put
 abbrev pub LeadsToNoImage : {N C J K H : Type 0} → Promises N C J K H → Running N C J K H → LoopFault → Running N C J K H → Type 0
 LeadsToNoImage {N} {C} {J} {K} {H} p before fault after =
     (first : Scene N C J K H) (found : List Ready) (past : Past H) → Served p first (scene_of before found past) →

@@ -1,15 +1,16 @@
 -- What the journal is told of the server, and when.
 use Rattle.std.specs.Prelude.{◌≡◌, ◌≤◌, ◌-◌, ℕ, Bool, true, nat_le, Option, Some, None, IsSome, length}
+use Rattle.event_loop.specs.declared.journal.Journal.{Ghosts as Journal}
 use Rattle.event_loop.specs.declared.report.LastTold.{LastTold}
 use Rattle.event_loop.specs.declared.report.Notice.{Notice}
-use Rattle.event_loop.specs.declared.report.Notice.TheVariants.{Reported, StoreFull}
+use Rattle.event_loop.specs.declared.report.Notice.TheVariants.{ImageRefused, Reported, StoreFull}
 use Rattle.event_loop.specs.declared.report.Report.{Report}
 use Rattle.event_loop.specs.Places.{open_count}
 use Rattle.event_loop.specs.Scenes.{Promises, Scene}
 
--- a report tells the moment, how many connections are there, and how much the server keeps
+-- a report tells the greatest moment by which a request was answered, how many connections are there, and how much the server keeps
 pub record Tells {N C J K H : Type 0} (p : Promises N C J K H) (s : Scene N C J K H) (report : Report) : Type 0 where
-  pub moment : report.moment ≡ s.times.moment
+  pub moment : report.moment ≡ s.course.edge.server.greatest
   pub connections : report.«open» ≡ open_count s.places
   pub records : report.records ≡ length s.course.edge.server.store.kept
   pub consents : report.consents ≡ length s.course.edge.server.consents.masks
@@ -27,3 +28,8 @@ pub data IsDue {N C J K H : Type 0} (p : Promises N C J K H) (s : Scene N C J K 
       IsDue p s (Reported report) (record s.told { report = s.times.steady })
   full : IsSome s.limits.report → is_long_ago s.told.full s.times.steady 60 ≡ true →
       IsDue p s StoreFull (record s.told { full = Some s.times.steady })
+
+-- That an image is refused is told whether reports are wanted or not: once, until one is put.
+abbrev pub TellsRefusal : {J : Type 0} → Journal J → Option ℕ → J → J → Type 0
+TellsRefusal journaling None journal journal' = journaling.reports journal ImageRefused journal'
+TellsRefusal journaling (Some last) journal journal' = journal' ≡ journal

@@ -1,5 +1,5 @@
 -- All that the loop does, step by step.
-use Rattle.std.specs.Prelude.{◌≡◌, ◌≢◌, ◌⊎◌, ◌<◌, ◌≤◌, ◌-◌, ℕ, Bool, true, ◌||◌, List, [], ◌∷◌, Option, Some, None, IsSome, slice_get, length}
+use Rattle.std.specs.Prelude.{◌≡◌, ◌≢◌, ◌⊎◌, ◌<◌, ◌≤◌, ◌-◌, ℕ, Bool, true, false, ◌||◌, List, [], ◌∷◌, Option, Some, None, IsSome, slice_get, length}
 use Rattle.event_loop.specs.declared.clocks.Times.{Times}
 use Rattle.event_loop.specs.declared.place.Place.{Place}
 use Rattle.event_loop.specs.declared.queue.Queue.TheVariants.{Told, Empty, Barred, Waits}
@@ -8,7 +8,7 @@ use Rattle.event_loop.specs.declared.sockets.Ready.TheVariants as ready
 use Rattle.event_loop.specs.Deeds as deed
 use Rattle.event_loop.specs.Deeds.{Deed, Reading, Keeping, Writing, Accepting, IsDone, done_since}
 use Rattle.event_loop.specs.Courses.{known, led, IsReached}
-use Rattle.change_codec.specs.Keeping.{Keeps}
+use Rattle.change_codec.specs.Keeping.{Keeps, KeepsMoments}
 use Rattle.http_edge.specs.Edges.{SeenEdge}
 use Rattle.http_edge.specs.Reached.{GoesOn}
 use Rattle.http_edge.specs.Schedule.{Connection, Kept}
@@ -18,7 +18,8 @@ use Rattle.event_loop.specs.Coming.{AcceptsOne, told_queue}
 use Rattle.event_loop.specs.Reading.{ReadsPlace}
 use Rattle.event_loop.specs.Writing.{WritesPlace}
 use Rattle.event_loop.specs.Closing.{AreWithin, Cause, Closes}
-use Rattle.event_loop.specs.Reporting.{IsDue, Tells}
+use Rattle.event_loop.specs.Reporting.{IsDue, Tells, TellsRefusal, is_long_ago}
+use Rattle.event_loop.specs.Times.{KeepsTimes}
 use Rattle.event_loop.specs.declared.report.LastTold.{LastTold}
 use Rattle.event_loop.specs.declared.report.Notice.{Notice}
 use Rattle.event_loop.specs.declared.report.Notice.TheVariants.{Reported}
@@ -58,28 +59,28 @@ pub data IsPatient {N C J K H : Type 0} (s : Scene N C J K H) : Option ℕ → T
   sleeps : IsIdle s → AllFree s.places → ((since : ℕ) → s.queue ≢ Barred since) → IsPatient s None
 
 -- It may wait so long now, with room for so much: all that the last wait found was looked at, and where nothing is unkept, no
--- more is kept than may be beside an image, or an image was refused in this second.
+-- more is kept than may be beside an image, or an image was refused less than a minute ago.
 pub record MayWait {N C J K H : Type 0} (p : Promises N C J K H) (s : Scene N C J K H) (limit : Option ℕ) (room : ℕ) : Type 0 where
   pub patient : IsPatient s limit
   pub fair : IsFair s
   pub prompt : IsPrompt s
   pub heard : s.found ≡ []
   pub roomy : ready_limit ≤ room
-  pub short : IsAllKept s.course.journey.world → p.keeping.is_long s.keeper → s.refused ≡ Some s.times.steady
+  pub short : IsAllKept s.course.journey.world → p.keeping.is_long s.keeper → is_long_ago s.refused s.times.steady 60 ≡ false
 
 -- the place, when its connection was found ready
 abbrev pub told_place : Place → Bool → Bool → Bool → Place
 told_place place readable writable hung =
     record place { readable = place.readable || readable; writable = place.writable || writable; hung = place.hung || hung }
 
--- One step: a wait with a look at the clocks behind it, a look at what the wait found, something done for connections,
--- the journal is told what is due, what is unkept is kept, or an image is put in the place of what is kept. Between two waits
--- a place is read at most once, and written to at most once, and it is kept at most once. Nothing is written, and no image is
--- put, while something is unkept.
+-- One step: a wait with a look at the clocks behind it, whose moment is kept, a look at what the wait found, something done
+-- for connections, the journal is told what is due, what is unkept is kept, or an image is put in the place of what is kept,
+-- or refused. Between two waits a place is read at most once, and written to at most once, and it is kept at most once.
+-- Nothing is written, and no image is put, while something is unkept.
 pub data LoopStep {N C J K H : Type 0} (p : Promises N C J K H) (s : Scene N C J K H) : Scene N C J K H → Type 0 where
-  waits : (limit : Option ℕ) (room : ℕ) (found : List Ready) (n : N) (times : Times) (c : C) → MayWait p s limit room →
-      p.sockets.does s.sockets (deed.Waited limit room found) n → p.clocks.tells s.clocks (Some times) c →
-      LoopStep p s (record (with_deed s (deed.Waited limit room found) n) { clocks = c; found = found; times = times })
+  waits : (limit : Option ℕ) (room : ℕ) (found : List Ready) (n : N) (times : Times) (c : C) (keeper : K) → MayWait p s limit room →
+      p.sockets.does s.sockets (deed.Waited limit room found) n → p.clocks.tells s.clocks (Some times) c → KeepsTimes p.keeping.crashes times s.keeper keeper →
+      LoopStep p s (record (with_deed s (deed.Waited limit room found) n) { clocks = c; keeper = keeper; found = found; times = times })
   hears_of_listener : (more : List Ready) → s.found ≡ ready.Listener ∷ more → LoopStep p s (record s { found = more; queue = told_queue s.queue })
   hears_of : (k : ℕ) (readable writable hung : Bool) (more : List Ready) (place place' : Place) → s.found ≡ ready.Connection k readable writable hung ∷ more →
       slice_get s.places k ≡ Some place → place' ≡ told_place place readable writable hung → LoopStep p s (record (with_place s k place') { found = more })
@@ -99,12 +100,16 @@ pub data LoopStep {N C J K H : Type 0} (p : Promises N C J K H) (s : Scene N C J
       LoopStep p s (record s { noted = record s.noted { journal = journal }; told = told })
   keeps : (keeper : K) (e : SeenEdge H) (unkept : IsUnkept s.course.journey.world) (on : GoesOn p.hosting e s.course.journey Kept) →
       ¬ (IsDone Keeping s.deeds) → Keeps p.keeping.crashes unkept.kept s.course.journey.world.history s.keeper keeper →
+      KeepsMoments p.keeping.crashes s.keeper keeper →
       LoopStep p s (record s { keeper = keeper; course = led s.course on; deeds = deed.Kept ∷ s.deeds })
-  -- the keeper alone is another, which holds the same
+  -- the keeper alone is another, which holds the same, and keeps no more than it may beside an image
   puts_image : (keeper : K) → IsAllKept s.course.journey.world →
-      Keeps p.keeping.crashes s.course.journey.world.history s.course.journey.world.history s.keeper keeper → LoopStep p s (record s { keeper = keeper })
-  -- an image was refused, and nothing else is other
-  no_image : LoopStep p s (record s { refused = Some s.times.steady })
+      Keeps p.keeping.crashes s.course.journey.world.history s.course.journey.world.history s.keeper keeper → KeepsMoments p.keeping.crashes s.keeper keeper →
+      ¬ (p.keeping.is_long keeper) → LoopStep p s (record s { keeper = keeper; refused = None })
+  -- an image is refused, where it keeps more than that; it is tried again after a minute
+  no_image : (journal : J) → IsAllKept s.course.journey.world → p.keeping.is_long s.keeper → is_long_ago s.refused s.times.steady 60 ≡ true →
+      TellsRefusal p.journal s.refused s.noted.journal journal →
+      LoopStep p s (record s { refused = Some s.times.steady; noted = record s.noted { journal = journal } })
 
 -- At first no connection is there, none is known to wait, and nothing was done, and the edge is reached.
 pub record IsFirst {N C J K H : Type 0} (p : Promises N C J K H) (s : Scene N C J K H) : Type 0 where

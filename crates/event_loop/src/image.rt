@@ -1,12 +1,16 @@
 //! An image in the place of what is kept.
 ghost use Rattle.std.specs.Prelude.{◌≡◌, true, false, Some, OnOk, IfErr};
+ghost use Rattle.event_loop.specs.Reporting.{TellsRefusal};
 ghost use Rattle.http_edge.specs.Reached.{InEach};
 ghost use Rattle.event_loop.specs.Goes.{LeadsToNoImage, LeadsToShort, running};
 ghost use Rattle.event_loop.specs.Scenes.{promises, IsAllKept, IsUnkept};
 ghost use Rattle.endpoints.specs.Keeping.{keeping};
 
 use crate::fault::LoopFault;
+use crate::limits::MINUTE;
+use crate::report::Notice;
 use crate::service::Service;
+use crate::tell::is_long_ago;
 use crate::tools::{Clocks, Journal, Sockets, Tools};
 use endpoints::{ImageFault, ImageKeeper};
 use hook_host::HookHost;
@@ -24,18 +28,19 @@ fn is_all_kept<H: HookHost>(edge: &Edge<H>) -> bool
 }
 
 impl Service {
-    // Whether an image was refused in this second.
-    fn was_refused(&self) -> bool
-        ensures { result ≡ true → self.now.refused ≡ Some self.now.times.steady }
+    // An image is refused now. The journal is told once, until one is put.
+    fn note_refusal<J: Journal>(&mut self, journal: &mut J)
+        ensures told { TellsRefusal J.Journal self.old.refused journal.old journal.new }
+        ensures refused { self.new ≡ record self.old { refused = Some self.old.times.steady } }
     {
-        match self.refused {
-            Some(second) => second == self.times.steady,
-            None => false,
+        if self.refused.is_none() {
+            journal.report(&Notice::ImageRefused);
         }
+        self.refused = Some(self.times.steady);
     }
 
     /// Where nothing is unkept, an image of the server is put in the place of what is kept, where that is long. One that is
-    /// refused is tried again in another second.
+    /// refused is tried again after a minute.
     pub(crate) fn put_image<N: Sockets, C: Clocks, J: Journal, K: ImageKeeper, H: HookHost>(
         &mut self,
         tools: &mut Tools<N, C, J, K, H>,
@@ -44,23 +49,22 @@ impl Service {
         ensures same { OnOk result (self.new ≡ record self.old { refused = self.new.refused }) }
         ensures failed { IfErr result (λ fault. LeadsToNoImage (promises N.Sockets C.Clocks J.Journal (keeping K.Keeper K.ImageKeeper.own) H.HookHost) (running self.old tools.old) fault (running self.new tools.new)) }
     {
-        if self.was_refused() {
+        if !is_long_ago(self.refused, self.times.steady, MINUTE) {
             return Ok(());
         }
         if !is_all_kept(&tools.edge) {
             return Ok(());
         }
-        match tools.keeper.put_image(tools.edge.server()) {
-            Ok(()) => Ok(()),
-            Err(ImageFault::Memory) => {
-                self.refused = Some(self.times.steady);
+        let Err(fault) = tools.keeper.put_image(tools.edge.server()) else {
+            self.refused = None;
+            return Ok(());
+        };
+        match fault {
+            ImageFault::Failed => Err(LoopFault::Keep),
+            _ => {
+                self.note_refusal(&mut tools.journal);
                 Ok(())
             }
-            Err(ImageFault::TooLong) => {
-                self.refused = Some(self.times.steady);
-                Ok(())
-            }
-            Err(ImageFault::Failed) => Err(LoopFault::Keep),
         }
     }
 }

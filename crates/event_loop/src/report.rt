@@ -7,7 +7,7 @@ use endpoints::Tally;
 /// What a server has done so far, and what it keeps.
 #[derive(Clone, Copy)]
 pub struct Report {
-    /// The moment that it is.
+    /// The greatest moment by which a request was answered.
     pub moment: Moment,
     /// For how many seconds it has served.
     pub seconds: u64,
@@ -34,6 +34,8 @@ pub enum Notice {
     Reported(Report),
     /// A code or a token was wanted, and no more may be unexpired.
     StoreFull,
+    /// An image was refused: what is kept grows until one is put.
+    ImageRefused,
 }
 
 /// When the journal was told last, in steady seconds.

@@ -13,6 +13,7 @@ use crate::queue::Queue;
 use crate::service::Service;
 use crate::sockets::{Ready, Sockets};
 use crate::tools::{Journal, Tools};
+use change_codec::Keeper;
 use endpoints::ImageKeeper;
 use hook_host::HookHost;
 
@@ -39,10 +40,7 @@ impl Service {
     {
         match self.queue {
             Queue::Told => true,
-            Queue::Empty => self.has_due(),
-            Queue::Barred(_) => self.has_due(),
-            Queue::Asked => self.has_due(),
-            Queue::Waits => self.has_due(),
+            _ => self.has_due(),
         }
     }
 
@@ -65,8 +63,9 @@ impl Service {
         Some(SECOND)
     }
 
-    /// Puts an image in the place of what is kept, where that is long. Then waits once and looks at the clocks, notes what was
-    /// found, reads each place, keeps what changed, writes to each, closes and accepts, and then tells the journal what is due.
+    /// Puts an image in the place of what is kept, where that is long. Then waits once, looks at the clocks, whose moment is
+    /// kept, notes what was found, reads each place, keeps what changed, writes to each, closes and accepts, and then tells
+    /// the journal what is due.
     pub(crate) fn round<N: Sockets, C: Clocks, J: Journal, K: ImageKeeper, H: HookHost>(
         &mut self,
         tools: &mut Tools<N, C, J, K, H>,
@@ -76,9 +75,7 @@ impl Service {
         ensures goes { OnOk result (LeadsRound (promises N.Sockets C.Clocks J.Journal (keeping K.Keeper K.ImageKeeper.own) H.HookHost) 1 (running self.old tools.old) (running self.new tools.new)) }
         ensures wrong { IfErr result (λ fault. LeadsWrong (promises N.Sockets C.Clocks J.Journal (keeping K.Keeper K.ImageKeeper.own) H.HookHost) fault (running self.old tools.old) (running self.new tools.new)) }
     {
-        if let Err(fault) = self.put_image(tools) {
-            return Err(fault);
-        }
+        self.put_image(tools)?;
         let limit = self.wait_limit();
         let Some(count) = tools.sockets.wait(limit, found) else {
             return Err(LoopFault::Wait);
@@ -86,13 +83,14 @@ impl Service {
         let Some(times) = tools.clocks.read() else {
             return Err(LoopFault::Clock);
         };
+        let Ok(()) = tools.keeper.keep_moment(times.moment) else {
+            return Err(LoopFault::Keep);
+        };
         let second = Second::of(times.steady, self.times.steady);
         self.times = times;
         self.hear_all(tools, &found[..count]);
         self.read_all(tools);
-        if let Err(fault) = keep_all(tools) {
-            return Err(fault);
-        }
+        keep_all(tools)?;
         self.write_all(tools);
         self.tidy(tools, second);
         self.make_room(tools);

@@ -30,8 +30,8 @@ impl Service {
     }
 }
 
-/// Serves up to 64 connections at once, until a wait fails, the clocks tell nothing or changes can't be kept, and says which.
-/// Then each connection that is left is closed and forgotten, and where reports are wanted, there is a last one.
+/// Serves up to 64 connections at once, until a wait fails, the clocks tell nothing, or changes or a moment can't be kept, and
+/// says which. Then each connection that is left is closed and forgotten, and where reports are wanted, there is a last one.
 pub fn serve_all<N: Sockets, C: Clocks, J: Journal, K: ImageKeeper, H: HookHost>(
     tools: &mut Tools<N, C, J, K, H>,
     limits: Limits,

@@ -33,7 +33,7 @@ pub struct Service {
     pub(crate) full: u64,
     // When the journal was told last of what the server does.
     pub(crate) told: LastTold,
-    // In which second an image was refused last.
+    // In which second an image was refused last, where none was put since.
     pub(crate) refused: Option<u64>,
 }
 

@@ -14,8 +14,8 @@ use change_codec::Keeper;
 use endpoints::ImageKeeper;
 use hook_host::HookHost;
 
-// Whether that was never, or so many seconds ago.
-fn is_long_ago(last: Option<u64>, now: u64, seconds: u64) -> bool
+/// Whether that was never, or so many seconds ago.
+pub(crate) fn is_long_ago(last: Option<u64>, now: u64, seconds: u64) -> bool
     ensures { result ≡ is_long_ago last now seconds }
 {
     match last {
@@ -48,7 +48,7 @@ impl Service {
     {
         let server = tools.edge.server();
         Report {
-            moment: self.times.moment,
+            moment: server.moment(),
             seconds: self.times.steady.saturating_sub(self.began),
             open: self.open_count(),
             accepted: self.accepted,

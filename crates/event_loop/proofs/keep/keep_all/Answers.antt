@@ -43,7 +43,7 @@ returns-in_default-keep-clause-lost g c = λ first found service past undone h.
     let some = not_empty _ facts c.is_empty.ensures c.if-is_empty.false in
     let noted = c.in-Some.ensures.unkept past.journey reached in
     let unkept = something_unkept past.journey.world facts some noted in
-    not_kept c.keep.new.self unkept undone (c.in_default-keep.ensures.lost unkept.kept past.journey.world.history (unkept_happened past.journey.world facts some noted))
+    not_kept c.keep.new.self unkept undone (c.in_default-keep.ensures.lost unkept.kept past.journey.world.history (unkept_happened past.journey.world facts some noted)) c.keep.ensures.meanwhile
 
 pub returns-clause-kept : goal.returns-clause-kept
 returns-clause-kept g c = λ first found service past undone h.
@@ -55,7 +55,7 @@ returns-clause-kept g c = λ first found service past undone h.
     let on = c.forget_unkept.ensures.kept past.journey reached in
     record {
       next = record { deeds = deed.Kept ∷ past.deeds; journey = led_on past.journey (Kept ∷ []) on.world };
-      served = goes h (keeps c.keep.new.self c.forget_unkept.new.self unkept on undone (c.in-Ok.ensures.kept unkept.kept past.journey.world.history (unkept_happened past.journey.world facts some noted)));
+      served = goes h (keeps c.keep.new.self c.forget_unkept.new.self unkept on undone (c.in-Ok.ensures.kept unkept.kept past.journey.world.history (unkept_happened past.journey.world facts some noted)) c.in-Ok.ensures.moments);
       kept = all_kept_now past.journey.world on.world on.happens;
       connections = kept_connections past.journey.world on.world on.happens;
       done = kept_more past.deeds;

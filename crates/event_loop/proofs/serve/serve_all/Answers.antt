@@ -13,6 +13,7 @@ use Rattle.event_loop.proofs.Resting.{free_rests}
 use Rattle.event_loop.proofs.Leading.{rested_settled}
 use Rattle.event_loop.proofs.Fronts.{served_durable, durable_to_end}
 use Rattle.event_loop.proofs.Leaving.{fails_reached}
+use Rattle.event_loop.proofs.Moments.{served_moment, moment_stays, moment_to_end}
 use Rattle.event_loop.proofs.serve.serve_all.Goals as goal
 
 pub returns-in_default : goal.returns-in_default
@@ -47,6 +48,8 @@ returns g c = λ journey reached.
       served = wrong.served;
       answered = λ s. served_answered p first s;
       durable = λ held. served_durable p g.met.K.Keeper.only_now first held;
+      moment = served_moment p first;
+      moment_stays = moment_stays p g.met.K.Keeper.only_now first;
       failed = failed;
       fails = wrong.fails;
       emptied = scene_of (running c.leave_all.new.self c.leave_all.new.tools) wrong.found shut.next;
@@ -54,6 +57,7 @@ returns g c = λ journey reached.
       end = scene_of (running c.leave_all.new.self c.tell_last.new.tools) wrong.found shut.next;
       tells_last = told;
       durable_then = λ held s served on. durable_to_end p g.met.K.Keeper.only_now first held s wrong.last failed _ _ _ served on wrong.fails shut.shuts told;
+      moment_stays_then = λ s served some on. moment_to_end p g.met.K.Keeper.only_now first s wrong.last failed _ _ _ served some on wrong.fails shut.shuts told;
       free = c.leave_all.ensures.free;
       tools_are_then = refl;
     })

@@ -1,14 +1,20 @@
-use Rattle.std.proofs.Common.{rules, ◌≡◌, true, false, Err, Some, refl, sym, ap, subst}
+use Rattle.std.proofs.Common.{rules, arith, ◌≡◌, ◌-◌, ◌∙◌, ℕ, true, false, Err, Some, refl, sym, ap, subst}
+use Rattle.std.specs.Prelude.{nat_le}
 use Rattle.endpoints.specs.declared.image_keeper.ImageFault.{ImageFault}
 use Rattle.endpoints.specs.Server.{SeenServer, FitsServer}
 use Rattle.event_loop.specs.declared.service.Service.{Service}
 use Rattle.event_loop.specs.Ends.{not_imaged}
+use Rattle.event_loop.specs.Reporting.{is_long_ago}
 use Rattle.event_loop.specs.Goes.{running, scene_of}
 use Rattle.event_loop.specs.Scenes.{promises, IsAllKept}
 use Rattle.event_loop.specs.Served.{Served, goes, no_image, puts_image}
 use Rattle.endpoints.specs.Keeping.{keeping}
 use Rattle.event_loop.proofs.Answering.{served_answered}
 use Rattle.event_loop.proofs.service.Service.put_image.Goals as goal
+
+-- what was just now is not long ago
+just_now : (n : ℕ) → is_long_ago (Some n) n 60 ≡ false
+just_now n = ap (nat_le 60) (let none : n - n ≡ 0 = omega arith in none)
 
 pub returns-then-not-is_all_kept-clause-put : goal.returns-then-not-is_all_kept-clause-put
 returns-then-not-is_all_kept-clause-put g c = λ first found past h.
@@ -17,34 +23,36 @@ returns-then-not-is_all_kept-clause-put g c = λ first found past h.
     let unkept = c.is_all_kept.ensures.unkept none past.journey reached in
     (h, λ all long. absurd (unkept.more (all unkept.kept unkept.here)))
 
-pub returns-in-Ok-clause-put : goal.returns-in-Ok-clause-put
-returns-in-Ok-clause-put g c = λ first found past h.
+pub returns-in_default-clause-put : goal.returns-in_default-clause-put
+returns-in_default-clause-put g c = λ first found past h.
     let reached = (served_answered (promises g.N.Sockets g.C.Clocks g.J.Journal (keeping g.K.Keeper g.K.ImageKeeper) g.H.HookHost) first _ h).reached in
     let kept : c.is_all_kept.result ≡ true = search rules in
     let all : IsAllKept past.journey.world = c.is_all_kept.ensures.kept kept past.journey reached in
     let fits : FitsServer g.H.HookHost c.server.result.now past.journey.outset past.journey.world.history past.journey.world.greatest =
     subst (λ (s : SeenServer g.row.H.Denot). FitsServer g.H.HookHost s past.journey.outset past.journey.world.history past.journey.world.greatest) (sym c.server.ensures) reached.server in
-    (goes h (puts_image c.put_image.new.self all (c.in-Ok.ensures.kept past.journey.outset past.journey.world.history past.journey.world.greatest fits)), λ still long. absurd (c.in-Ok.ensures.short long))
+    (goes h (puts_image c.put_image.new.self all (c.in_default.ensures.kept past.journey.outset past.journey.world.history past.journey.world.greatest fits) c.in_default.ensures.moments c.in_default.ensures.short), λ still long. absurd (c.in_default.ensures.short long))
 
-pub returns-in-Err-Failed-clause-failed : goal.returns-in-Err-Failed-clause-failed
-returns-in-Err-Failed-clause-failed g c = λ first found past h.
+pub returns-in-Failed-clause-failed : goal.returns-in-Failed-clause-failed
+returns-in-Failed-clause-failed g c = λ first found past h.
     let reached = (served_answered (promises g.N.Sockets g.C.Clocks g.J.Journal (keeping g.K.Keeper g.K.ImageKeeper) g.H.HookHost) first _ h).reached in
     let kept : c.is_all_kept.result ≡ true = search rules in
     let all : IsAllKept past.journey.world = c.is_all_kept.ensures.kept kept past.journey reached in
     let fits : FitsServer g.H.HookHost c.server.result.now past.journey.outset past.journey.world.history past.journey.world.greatest =
     subst (λ (s : SeenServer g.row.H.Denot). FitsServer g.H.HookHost s past.journey.outset past.journey.world.history past.journey.world.greatest) (sym c.server.ensures) reached.server in
-    not_imaged c.put_image.new.self all (c.in-Err-Failed.ensures.failed (ap (λ (fault : ImageFault). Err fault) c.in-Err-Failed.field-0-is) past.journey.outset past.journey.world.history past.journey.world.greatest fits)
+    not_imaged c.put_image.new.self all (c.in-Err.ensures.failed (ap (λ (fault : ImageFault). Err fault) c.in-Failed.is) past.journey.outset past.journey.world.history past.journey.world.greatest fits) c.put_image.ensures.meanwhile
 
-pub returns-in-Err-Memory-clause-put : goal.returns-in-Err-Memory-clause-put
-returns-in-Err-Memory-clause-put g c = λ first found past h.
-    let same : c.put_image.new.self ≡ c.args.tools.now.keeper = c.in-Err-Memory.ensures.no_memory (ap (λ (fault : ImageFault). Err fault) c.in-Err-Memory.field-0-is) in
-    let still : Service = record c.args.self.now { refused = Some c.args.self.now.times.steady } in
-    let S : g.row.K.Denot → Type 0 = λ keeper. Served (promises g.N.Sockets g.C.Clocks g.J.Journal (keeping g.K.Keeper g.K.ImageKeeper) g.H.HookHost) first (scene_of (running still (record c.args.tools.now { keeper = keeper })) found past) in
-    (subst S (sym same) (goes h no_image), λ all long. refl)
-
-pub returns-in-Err-TooLong-clause-put : goal.returns-in-Err-TooLong-clause-put
-returns-in-Err-TooLong-clause-put g c = λ first found past h.
-    let same : c.put_image.new.self ≡ c.args.tools.now.keeper = c.in-Err-TooLong.ensures.too_long (ap (λ (fault : ImageFault). Err fault) c.in-Err-TooLong.field-0-is) in
-    let still : Service = record c.args.self.now { refused = Some c.args.self.now.times.steady } in
-    let S : g.row.K.Denot → Type 0 = λ keeper. Served (promises g.N.Sockets g.C.Clocks g.J.Journal (keeping g.K.Keeper g.K.ImageKeeper) g.H.HookHost) first (scene_of (running still (record c.args.tools.now { keeper = keeper })) found past) in
-    (subst S (sym same) (goes h no_image), λ all long. refl)
+pub returns-in_default-fault-clause-put : goal.returns-in_default-fault-clause-put
+returns-in_default-fault-clause-put g c = λ first found past h.
+    let p = promises g.N.Sockets g.C.Clocks g.J.Journal (keeping g.K.Keeper g.K.ImageKeeper) g.H.HookHost in
+    let reached = (served_answered p first _ h).reached in
+    let kept : c.is_all_kept.result ≡ true = search rules in
+    let all : IsAllKept past.journey.world = c.is_all_kept.ensures.kept kept past.journey reached in
+    let ago : is_long_ago c.args.self.now.refused c.args.self.now.times.steady 60 ≡ true = sym c.is_long_ago.ensures ∙ c.if-not-is_long_ago.false in
+    let long = c.in-Err.ensures.refused c.in_default-fault.not-Failed in
+    let same = c.in-Err.ensures.same c.in_default-fault.not-Failed in
+    let S : Service → g.row.K.Denot → Type 0 = λ service keeper. Served p first (scene_of (running service (record c.args.tools.now { journal = c.note_refusal.new.journal; keeper = keeper })) found past) in
+    let gone : S (record c.args.self.now { refused = Some c.args.self.now.times.steady }) c.args.tools.now.keeper = goes h (no_image c.note_refusal.new.journal all long ago c.note_refusal.ensures.told) in
+    (
+      subst (λ service. S service c.put_image.new.self) (sym c.note_refusal.ensures.refused) (subst (S (record c.args.self.now { refused = Some c.args.self.now.times.steady })) (sym same) gone),
+      λ still long. subst (λ (service : Service). is_long_ago service.refused service.times.steady 60 ≡ false) (sym c.note_refusal.ensures.refused) (just_now c.args.self.now.times.steady),
+    )
