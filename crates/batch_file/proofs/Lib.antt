@@ -1,0 +1,4 @@
+mod Reading
+mod Version1
+mod Walking
+mod Wholes

@@ -58,8 +58,11 @@ limit = 2 ^ 20
 
 -- Behind a closed latch stands a batch with its right digest, and more than the latch behind it: no append leaves that, so
 -- the latch was open once.
-abbrev pub HidesFrame : List ℕ → List ℕ → Type 0
-HidesFrame last torn = (batch : List ℕ) × (rest : List ℕ) × IsSealed last batch rest torn × (1 < length rest)
+pub record HidesFrame (last torn : List ℕ) : Type 0 where
+  pub batch : List ℕ
+  pub rest : List ℕ
+  pub is : IsSealed last batch rest torn
+  pub more : 1 < length rest
 
 -- Behind the closed latch stands no more than an append that was not finished may have left.
 pub record IsTorn (last torn : List ℕ) : Type 0 where

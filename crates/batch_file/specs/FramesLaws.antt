@@ -1,1 +1,297 @@
--- Laws.
+-- Laws of what a file stands for: a reader may skip the proofs.
+use Rattle.std.proofs.Common.{◌≡◌, ◌≢◌, ◌⊎◌, inl, inr, ℕ, zero, suc, ◌+◌, ◌^◌, ◌<◌, ◌≤◌, List, [], ◌∷◌, ◌++◌, length, get_or, take, drop, refl, sym, ◌∙◌, ap, subst, arith, append_assoc, length-append, length-drop, length-take}
+use Rattle.std.proofs.lemmas.List.{take_at, drop_at, drop-drop, append-nil, append_cancel_left}
+use Rattle.std.proofs.lemmas.Bool.{cases_eq, cases_lt}
+use Rattle.std.proofs.lemmas.Nat.{from_be_bytes-to_be_bytes_4}
+use Rattle.sha2.specs.Sha256.{sha256}
+use Rattle.sha2.proofs.Facts256.{length-sha256}
+use Rattle.batch_file.specs.declared.framing.ReadFault.{ReadFault}
+use Rattle.batch_file.specs.declared.framing.ReadFault.TheVariants.{Memory, NotState, Version, Damaged}
+use Rattle.batch_file.specs.Frames.{header, header_of, body, seal, digest, sealed, size_at, batches_in, recovered, frames_size, IsSealed, IsFrame, AreFrames, HidesFrame, IsTorn, Spells, IsFileOf, IsReadable, IsVersion, IsNoEnd, IsDamaged, RefusesFile, IsChance}
+
+pub length-seal : (bytes : List ℕ) → length (seal bytes) ≡ 16
+unfolding seal
+length-seal bytes = omega (arith, length-take 16 (sha256 bytes), length-sha256 bytes)
+
+-- WHAT IS READ
+
+-- it doesn't matter by how much the count of frames is too high
+enough : (n m : ℕ) (file : List ℕ) → length file ≤ n → length file ≤ m → batches_in n file ≡ batches_in m file
+unfolding batches_in
+enough zero zero file p q = refl
+enough zero (suc m) [] p q = refl
+enough zero (suc m) (a ∷ file) p q = absurd (omega arith)
+enough (suc n) zero [] p q = refl
+enough (suc n) zero (a ∷ file) p q = absurd (omega arith)
+enough (suc n) (suc m) [] p q = refl
+enough (suc n) (suc m) (zero ∷ bytes) p q = refl
+enough (suc n) (suc m) (suc latch ∷ bytes) p q =
+    let rest = drop (size_at bytes) (drop 20 bytes) in
+    let short : length rest ≤ length bytes = omega (arith, length-drop (size_at bytes) (drop 20 bytes), length-drop (size_at bytes) (drop 20 bytes), length-drop 20 bytes) in
+    let same : batches_in n rest ≡ batches_in m rest = enough n m rest (omega arith) (omega arith) in
+    ap (λ (l : List (List ℕ)). take (size_at bytes) (drop 20 bytes) ∷ l) same
+
+-- the batches from here on
+abbrev pub parsed : List ℕ → List (List ℕ)
+parsed bytes = batches_in (length bytes) bytes
+
+pub parsed-closed : (torn : List ℕ) → parsed (0 ∷ torn) ≡ []
+unfolding batches_in
+parsed-closed torn = refl
+
+parsed-open : (latch : ℕ) (bytes : List ℕ) → parsed (suc latch ∷ bytes) ≡ take (size_at bytes) (drop 20 bytes) ∷ parsed (drop (size_at bytes) (drop 20 bytes))
+unfolding batches_in
+parsed-open latch bytes =
+    let rest = drop (size_at bytes) (drop 20 bytes) in
+    let short : length rest ≤ length bytes = omega (arith, length-drop (size_at bytes) (drop 20 bytes), length-drop (size_at bytes) (drop 20 bytes), length-drop 20 bytes) in
+    ap (λ (l : List (List ℕ)). take (size_at bytes) (drop 20 bytes) ∷ l) (enough (length bytes) (length rest) rest short (omega arith))
+
+-- the batch of a frame, and what stands behind it, by the bytes behind the latch
+parts : (before batch rest : List ℕ) → length batch < 2 ^ 32
+    → (take (size_at (sealed before batch ++ rest)) (drop 20 (sealed before batch ++ rest)) ≡ batch) × (drop (size_at (sealed before batch ++ rest)) (drop 20 (sealed before batch ++ rest)) ≡ rest)
+parts before batch rest small =
+    let tail = sealed before batch ++ rest in
+    let says : size_at tail ≡ length batch = from_be_bytes-to_be_bytes_4 (length batch) small in
+    let behind : drop 20 tail ≡ batch ++ rest = ap (λ (l : List ℕ). drop 16 l) (append_assoc (digest before batch) batch rest) ∙ drop_at (digest before batch) (batch ++ rest) 16 (length-seal _) in (
+      ap (λ (n : ℕ). take n (drop 20 tail)) says ∙ ap (λ (l : List ℕ). take (length batch) l) behind ∙ take_at batch rest (length batch) refl,
+      ap (λ (n : ℕ). drop n (drop 20 tail)) says ∙ ap (λ (l : List ℕ). drop (length batch) l) behind ∙ drop_at batch rest (length batch) refl,
+    )
+
+parsed-latch : (latch : ℕ) (before batch rest : List ℕ) → 0 < latch → length batch < 2 ^ 32 → parsed (latch ∷ sealed before batch ++ rest) ≡ batch ∷ parsed rest
+parsed-latch zero before batch rest counts small = absurd (omega arith)
+parsed-latch (suc latch) before batch rest counts small =
+    let two = parts before batch rest small in
+    parsed-open latch (sealed before batch ++ rest)
+    ∙ ap (λ (l : List ℕ). l ∷ parsed (drop (size_at (sealed before batch ++ rest)) (drop 20 (sealed before batch ++ rest)))) two.0
+    ∙ ap (λ (l : List ℕ). batch ∷ parsed l) two.1
+
+frame_parsed : (before batch rest bytes : List ℕ) → IsFrame before batch rest bytes → parsed bytes ≡ batch ∷ parsed rest
+frame_parsed before batch rest bytes f = ap parsed f.is ∙ parsed-latch f.latch before batch rest f.counts f.short
+
+pub further : (before batch rest bytes more : List ℕ) → IsFrame before batch rest bytes → IsFrame before batch (rest ++ more) (bytes ++ more)
+further before batch rest bytes more f = record {
+  latch = f.latch;
+  counts = f.counts;
+  short = f.short;
+  is = ap (λ (l : List ℕ). l ++ more) f.is ∙ append_assoc (f.latch ∷ sealed before batch) rest more;
+}
+
+-- frames stand for their batches, whatever follows them
+pub frames_parsed : (batches : List (List ℕ)) (before last frames more : List ℕ) → AreFrames before batches last frames → parsed (frames ++ more) ≡ batches ++ parsed more
+frames_parsed [] before last frames more are = ap (λ (l : List ℕ). parsed (l ++ more)) are.1
+frames_parsed (batch ∷ later) before last frames more are =
+    frame_parsed before batch (are.0 ++ more) (frames ++ more) (further before batch are.0 frames more are.1)
+    ∙ ap (λ (bs : List (List ℕ)). batch ∷ bs) (frames_parsed later (digest before batch) last are.0 more are.2)
+
+pub recovered-header : (rest : List ℕ) → recovered (header ++ rest) ≡ parsed rest
+unfolding recovered
+recovered-header rest = enough (length (header ++ rest)) (length rest) rest (omega (arith, length-append header rest)) (omega arith)
+
+-- the header, frames and a closed latch stand for the batches of the frames
+pub framed_is : (batches : List (List ℕ)) (last frames torn file : List ℕ) → AreFrames header batches last frames → file ≡ header ++ (frames ++ 0 ∷ torn) → recovered file ≡ batches
+framed_is batches last frames torn file are is =
+    ap recovered is
+    ∙ recovered-header (frames ++ 0 ∷ torn)
+    ∙ frames_parsed batches header last frames (0 ∷ torn) are
+    ∙ ap (λ (bs : List (List ℕ)). batches ++ bs) (parsed-closed torn)
+    ∙ append-nil batches
+
+-- a file that is read as batches stands for these, and for no other
+pub file_is : (batches : List (List ℕ)) (file : List ℕ) → IsFileOf batches file → recovered file ≡ batches
+file_is batches file s = framed_is batches s.0 s.1.frames s.1.torn file s.1.are s.1.is
+
+pub readable_is : (batches : List (List ℕ)) (file : List ℕ) → IsFileOf batches file → IsReadable file
+readable_is batches file is = subst (λ (bs : List (List ℕ)). IsFileOf bs file) (sym (file_is batches file is)) is
+
+pub length-sealed : (before batch : List ℕ) → length (sealed before batch) ≡ 20 + length batch
+length-sealed before batch = omega (arith, length-append (digest before batch) batch, length-seal (before ++ body batch))
+
+pub length-frames : (batches : List (List ℕ)) (before last frames : List ℕ) → AreFrames before batches last frames → length frames ≡ frames_size batches
+length-frames [] before last frames are = ap length are.1
+length-frames (batch ∷ later) before last frames are =
+    let f = are.1 in
+    omega (arith, ap length f.is, length-append (sealed before batch) are.0, length-sealed before batch, length-frames later (digest before batch) last are.0 are.2)
+
+-- WHAT IS REFUSED
+
+-- the batch behind a latch is told by the bytes there
+pub sealed_parts : (before batch rest bytes : List ℕ) → IsSealed before batch rest bytes
+    → (batch ≡ take (size_at bytes) (drop 20 bytes)) × (rest ≡ drop (size_at bytes) (drop 20 bytes))
+sealed_parts before batch rest bytes s =
+    let two = parts before batch rest s.0 in (
+      sym (ap (λ (l : List ℕ). take (size_at l) (drop 20 l)) s.1 ∙ two.0),
+      sym (ap (λ (l : List ℕ). drop (size_at l) (drop 20 l)) s.1 ∙ two.1),
+    )
+
+pub two_sealed : (before other batch rest more bytes : List ℕ) → IsSealed before batch rest bytes → IsSealed before other more bytes → (batch ≡ other) × (rest ≡ more)
+two_sealed before other batch rest more bytes s t =
+    let a = sealed_parts before batch rest bytes s in
+    let b = sealed_parts before other more bytes t in
+    (a.0 ∙ sym b.0, a.1 ∙ sym b.1)
+
+-- behind the latch of a frame
+pub behind_latch : (before batch rest bytes : List ℕ) → IsFrame before batch rest bytes → IsSealed before batch rest (drop 1 bytes)
+behind_latch before batch rest bytes f = (f.short, ap (λ (l : List ℕ). drop 1 l) f.is)
+
+two_frames : (before batch other rest more bytes : List ℕ) → IsFrame before batch rest bytes → IsFrame before other more bytes → (batch ≡ other) × (rest ≡ more)
+two_frames before batch other rest more bytes f g =
+    two_sealed before other batch rest more (drop 1 bytes) (behind_latch before batch rest bytes f) (behind_latch before other more bytes g)
+
+-- behind right frames there is one more, or an end, or they are none of a file
+no_way : (xs ys : List (List ℕ)) (before last other frames found rest torn : List ℕ)
+    → AreFrames before xs last frames → AreFrames before ys other found → frames ++ rest ≡ found ++ 0 ∷ torn
+    → ((batch more : List ℕ) → IsFrame last batch more rest → ⊥) → IsNoEnd last rest → IsTorn other torn → ⊥
+no_way [] [] before last other frames found rest torn are had same no_frame no_end ends =
+    let is : rest ≡ 0 ∷ torn = ap (λ (l : List ℕ). l ++ rest) (sym are.1) ∙ same ∙ ap (λ (l : List ℕ). l ++ 0 ∷ torn) had.1 in
+    no_end torn is (subst (λ (l : List ℕ). IsTorn l torn) (had.0 ∙ sym are.0) ends)
+no_way [] (y ∷ ys) before last other frames found rest torn are had same no_frame no_end ends =
+    let is : rest ≡ found ++ 0 ∷ torn = ap (λ (l : List ℕ). l ++ rest) (sym are.1) ∙ same in
+    let f : IsFrame before y (had.0 ++ 0 ∷ torn) rest = subst (λ (l : List ℕ). IsFrame before y (had.0 ++ 0 ∷ torn) l) (sym is) (further before y had.0 found (0 ∷ torn) had.1) in
+    no_frame y (had.0 ++ 0 ∷ torn) (subst (λ (l : List ℕ). IsFrame l y (had.0 ++ 0 ∷ torn) rest) (sym are.0) f)
+no_way (x ∷ xs) [] before last other frames found rest torn are had same no_frame no_end ends =
+    let f = further before x are.0 frames rest are.1 in
+    let is : f.latch ∷ (sealed before x ++ (are.0 ++ rest)) ≡ 0 ∷ torn = sym f.is ∙ same ∙ ap (λ (l : List ℕ). l ++ 0 ∷ torn) had.1 in
+    let zero_is : f.latch ≡ 0 = cc in
+    let counts = f.counts in
+    absurd (omega arith)
+no_way (x ∷ xs) (y ∷ ys) before last other frames found rest torn are had same no_frame no_end ends =
+    let f = further before x are.0 frames rest are.1 in
+    let g = further before y had.0 found (0 ∷ torn) had.1 in
+    let two = two_frames before x y (are.0 ++ rest) (had.0 ++ 0 ∷ torn) (frames ++ rest) f (subst (λ (l : List ℕ). IsFrame before y (had.0 ++ 0 ∷ torn) l) (sym same) g) in
+    no_way xs ys (digest before x) last other are.0 had.0 rest torn are.2 (subst (λ (l : List ℕ). AreFrames (digest before l) ys other had.0) (sym two.0) had.2) two.1 no_frame no_end ends
+
+-- a damaged file spells nothing
+pub damaged_is_none : (number : ℕ) (file : List ℕ) (batches : List (List ℕ)) → IsDamaged number file → IsFileOf batches file → ⊥
+damaged_is_none number file batches d some =
+    let s = some.1 in
+    no_way d.batches batches header d.last some.0 d.frames s.frames d.rest s.torn d.are s.are (append_cancel_left header (d.frames ++ d.rest) (s.frames ++ 0 ∷ s.torn) (sym d.is ∙ s.is)) d.no_frame d.no_end s.ends
+
+-- a file that begins with the header is of this version, and of no other
+other_version : (version : ℕ) (rest file : List ℕ) → file ≡ header ++ rest → IsVersion version file → version ≡ 2
+other_version version rest file is (inl told) =
+    let digit : 48 + version ≡ 50 = ap (λ (l : List ℕ). get_or l 14 0) (sym told.1 ∙ ap (λ (l : List ℕ). take 16 l) is) in
+    omega (arith, digit)
+other_version version rest file is (inr first) =
+    let latch : 1 ≡ 111 = ap (λ (l : List ℕ). get_or l 0 0) (sym first.1.1 ∙ is) in
+    absurd (omega (arith, latch))
+
+-- so a file that is read is never refused
+pub readable_is_kept : (file : List ℕ) (fault : ReadFault) → IsReadable file → RefusesFile file fault → ⊥
+readable_is_kept file Memory readable refused = refused
+readable_is_kept file NotState readable refused = refused 2 (inl (omega arith, ap (λ (l : List ℕ). take 16 l) readable.1.is))
+readable_is_kept file (Version version) readable refused = refused.1 (other_version version _ file readable.1.is refused.0)
+readable_is_kept file (Damaged number) readable refused = damaged_is_none number file (recovered file) refused readable
+
+-- WHAT A DIGEST VOUCHES FOR
+
+-- two inputs of SHA-256 have one digest, as far as its first 16 bytes go
+pub record Collision : Type 0 where
+  pub one : List ℕ
+  pub other : List ℕ
+  pub differ : one ≢ other
+  pub meet : seal one ≡ seal other
+
+same_list : (a b : List ℕ) → (a ≡ b) ⊎ (a ≢ b)
+same_list [] [] = inl refl
+same_list [] (y ∷ b) = inr (λ is. absurd (cc))
+same_list (x ∷ a) [] = inr (λ is. absurd (cc))
+same_list (x ∷ a) (y ∷ b) =
+    elim (cases_eq x y) [
+      | inl head ↦
+          elim (same_list a b) [
+            | inl tail ↦ inl (ap (λ (n : ℕ). n ∷ a) head ∙ ap (λ (l : List ℕ). y ∷ l) tail)
+            | inr differ ↦ inr (λ is. let tail : a ≡ b = cc in differ tail)
+          ]
+      | inr differ ↦ inr (λ is. let head : x ≡ y = cc in differ head)
+    ]
+
+-- where the digest of a frame stands
+pub digest_is : (before batch rest bytes : List ℕ) → IsFrame before batch rest bytes → take 16 (drop 5 bytes) ≡ digest before batch
+digest_is before batch rest bytes f =
+    ap (λ (l : List ℕ). take 16 (drop 5 l)) f.is
+    ∙ ap (λ (l : List ℕ). take 16 l) (append_assoc (digest before batch) batch rest)
+    ∙ take_at (digest before batch) (batch ++ rest) 16 (length-seal _)
+
+-- Two frames behind the same digest that have one digest are of the same batch.
+pub digest_vouches : (before batch other rest more bytes changed : List ℕ) → IsFrame before batch rest bytes → IsFrame before other more changed → take 16 (drop 5 bytes) ≡ take 16 (drop 5 changed) → (batch ≡ other) ⊎ Collision
+digest_vouches before batch other rest more bytes changed f g same =
+    elim (same_list (before ++ body batch) (before ++ body other)) [
+      | inr differ ↦ inr (record { one = before ++ body batch; other = before ++ body other; differ = differ; meet = sym (digest_is before batch rest bytes f) ∙ same ∙ digest_is before other more changed g })
+      | inl input ↦ inl (ap (λ (l : List ℕ). drop 4 l) (append_cancel_left before (body batch) (body other) input))
+    ]
+
+-- two chains of as many frames that end in one digest are of the same batches
+same_chain : (xs ys : List (List ℕ)) (before other last frames found : List ℕ) → length before ≡ 16 → length other ≡ 16 → length xs ≡ length ys
+    → AreFrames before xs last frames → AreFrames other ys last found → ((before ≡ other) × (xs ≡ ys)) ⊎ Collision
+same_chain [] [] before other last frames found p q long are had = inl (sym are.0 ∙ had.0, refl)
+same_chain [] (y ∷ ys) before other last frames found p q long are had = absurd (omega arith)
+same_chain (x ∷ xs) [] before other last frames found p q long are had = absurd (omega arith)
+same_chain (x ∷ xs) (y ∷ ys) before other last frames found p q long are had =
+    elim (same_chain xs ys (digest before x) (digest other y) last are.0 had.0 (length-seal _) (length-seal _) (omega arith) are.2 had.2) [
+      | inr collision ↦ inr collision
+      | inl same ↦
+          elim (same_list (before ++ body x) (other ++ body y)) [
+            | inr differ ↦ inr (record { one = before ++ body x; other = other ++ body y; differ = differ; meet = same.0 })
+            | inl input ↦
+                let front : before ≡ other = sym (take_at before (body x) 16 p) ∙ ap (λ (l : List ℕ). take 16 l) input ∙ take_at other (body y) 16 q in
+                let back : body x ≡ body y = sym (drop_at before (body x) 16 p) ∙ ap (λ (l : List ℕ). drop 16 l) input ∙ drop_at other (body y) 16 q in
+                let batch : x ≡ y = ap (λ (l : List ℕ). drop 4 l) back in
+                inl (front, ap (λ (b : List ℕ). b ∷ xs) batch ∙ ap (λ (l : List (List ℕ)). y ∷ l) same.1)
+          ]
+    ]
+
+-- Two files that are read as the same number of batches, the last of which have one digest, are read as the same batches.
+pub last_digest_vouches : (xs ys : List (List ℕ)) (last file other : List ℕ) → Spells xs last file → Spells ys last other → length xs ≡ length ys → (xs ≡ ys) ⊎ Collision
+last_digest_vouches xs ys last file other a b long =
+    elim (same_chain xs ys header header last a.frames b.frames refl refl long a.are b.are) [
+      | inl same ↦ inl same.1
+      | inr collision ↦ inr collision
+    ]
+
+-- WHAT A TORN APPEND IS NOT
+
+-- whether a batch with its digest stands behind a closed latch, and more
+pub hides_or_not : (last torn : List ℕ) → HidesFrame last torn ⊎ (HidesFrame last torn → ⊥)
+hides_or_not last torn =
+    let batch = take (size_at torn) (drop 20 torn) in
+    let rest = drop (size_at torn) (drop 20 torn) in
+    let told : (h : HidesFrame last torn) → (h.batch ≡ batch) × (h.rest ≡ rest) = λ h. sealed_parts last h.batch h.rest torn h.is in
+    elim (cases_lt (length batch) (2 ^ 32)) [
+      | inr long ↦ inr (λ h. let short = h.is.0 in absurd (omega (arith, ap length (told h).0)))
+      | inl short ↦
+          elim (cases_lt 1 (length rest)) [
+            | inr brief ↦ inr (λ h. let more = h.more in absurd (omega (arith, ap length (told h).1)))
+            | inl more ↦
+                elim (same_list torn (sealed last batch ++ rest)) [
+                  | inl is ↦ inl (record { batch = batch; rest = rest; is = (short, is); more = more })
+                  | inr differ ↦ inr (λ h.
+                    differ (h.is.1 ∙ ap (λ (l : List ℕ). sealed last l ++ h.rest) (told h).0 ∙ ap (λ (l : List ℕ). sealed last batch ++ l) (told h).1))
+                ]
+          ]
+    ]
+
+-- the digest that stands in a file behind a closed latch
+stands : (last other rest : List ℕ) (front file : List ℕ) → file ≡ front ++ 0 ∷ (sealed last other ++ rest) → take 16 (drop (length front + 5) file) ≡ digest last other
+stands last other rest front file is =
+    ap (λ (l : List ℕ). take 16 l) (sym (drop-drop 5 (length front) file) ∙ ap (λ (l : List ℕ). drop 5 l) (ap (λ (l : List ℕ). drop (length front) l) is ∙ drop_at front (0 ∷ (sealed last other ++ rest)) (length front) refl))
+    ∙ ap (λ (l : List ℕ). take 16 l) (append_assoc (digest last other) other rest)
+    ∙ take_at (digest last other) (other ++ rest) 16 (length-seal _)
+
+-- Where it is a coincidence, the digest that stands there is that of bytes that nobody wrote, and is not the one that was
+-- written, or two inputs of SHA-256 with one digest prefix are known.
+pub chance_is_coincidence : (last batch file : List ℕ) (chance : IsChance last batch file)
+    → (take 16 (drop (length chance.front + 5) file) ≡ digest last chance.other) × ((digest last chance.other ≢ digest last batch) ⊎ Collision)
+chance_is_coincidence last batch file chance = (
+  stands last chance.other chance.rest chance.front file chance.is,
+  elim (same_list (digest last chance.other) (digest last batch)) [
+    | inr differ ↦ inl differ
+    | inl same ↦ inr (record {
+      one = last ++ body chance.other;
+      other = last ++ body batch;
+      differ = λ is.
+          let shorter = chance.shorter in
+          absurd (omega (arith, ap length is, length-append last (body chance.other), length-append last (body batch)));
+      meet = same;
+    })
+  ],
+)

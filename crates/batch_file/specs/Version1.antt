@@ -28,7 +28,3 @@ frames_size_1 (batch ∷ later) = 5 + length batch + frames_size_1 later
 abbrev pub torn_size : List ℕ → ℕ
 torn_size (zero ∷ bytes) = length bytes
 torn_size bytes = length bytes
-
--- the bytes are whole frames of these batches, whatever follows them
-abbrev pub AreFrames1 : List ℕ → List (List ℕ) → Type 0
-AreFrames1 bytes batches = (rest : List ℕ) → recovered_1 (bytes ++ rest) ≡ batches ++ recovered_1 rest

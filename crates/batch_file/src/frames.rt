@@ -105,7 +105,8 @@ impl Frames {
         ensures whole { IsWhole result.1 result.0.items }
         ensures size { length result.0.items ≡ file_size self }
     {
-        (self.bytes, self.last)
+        let last = self.last;
+        (self.bytes, last)
     }
 }
 

@@ -182,10 +182,10 @@ fn first_batch<'b>(bytes: &'b [u8], before: &[u8; 16]) -> Option<&'b [u8]>
     ensures within { IfSome result (λ batch. 21 + length batch.now ≤ length bytes.now) }
     ensures none { IfNone result ((batch more : List ℕ) → IsFrame before.now batch more bytes.now → ⊥) }
 {
-    match bytes {
-        [] | [0, ..] => None,
-        [_, sealed @ ..] => sealed_batch(sealed, before),
+    if bytes.is_empty() || bytes[0] == 0 {
+        return None;
     }
+    sealed_batch(&bytes[1..], before)
 }
 
 /// The batch behind a latch, if all of it is there with its digest.

@@ -1,8 +1,8 @@
 //! What files of batches promise beside what each call does. The functions here do nothing: read their contracts.
 
-ghost use Rattle.std.specs.Prelude.{◌≡◌, ◌⊎◌, List, ℕ, length, take, drop};
+ghost use Rattle.std.specs.Prelude.{◌≡◌, ◌≢◌, ◌⊎◌, ◌+◌, List, ℕ, length, take, drop};
 ghost use Rattle.batch_file.specs.declared.framing.ReadFault.{ReadFault};
-ghost use Rattle.batch_file.specs.Frames.{recovered, IsFileOf, IsFrame, IsReadable, RefusesFile, Spells};
+ghost use Rattle.batch_file.specs.Frames.{digest, recovered, IsChance, IsFileOf, IsFrame, IsReadable, RefusesFile, Spells};
 ghost use Rattle.batch_file.specs.FramesLaws.{Collision};
 
 /// A file that is readable is never refused, so none is that a crash leaves.
@@ -28,4 +28,13 @@ pub fn digest_vouches()
 pub fn last_digest_vouches()
     ensures { (xs ys : List (List ℕ)) (last file other : List ℕ) → Spells xs last file → Spells ys last other
         → length xs ≡ length ys → (xs ≡ ys) ⊎ Collision }
+{}
+
+/// What it would take for a crash of an append to leave a file that is refused: behind the closed latch stand 16 bytes that are
+/// not those that were written, and they are the digest of a shorter batch that nobody wrote, which stands behind them; or two
+/// inputs of SHA-256 are known whose digests begin with the same 16 bytes.
+pub fn chance_is_coincidence()
+    ensures { (last batch file : List ℕ) (chance : IsChance last batch file)
+        → (take 16 (drop (length chance.front + 5) file) ≡ digest last chance.other)
+        × ((digest last chance.other ≢ digest last batch) ⊎ Collision) }
 {}

@@ -3,9 +3,9 @@
 //! Frames without more: a latch of one byte, the length of a batch in four, and the batch. A frame counts if its latch is 1
 //! and all of it is there.
 
-ghost use Rattle.std.specs.Prelude.{◌≡◌, ◌+◌, ◌≤◌, ◌↔◌, [], ◌∷◌, ℕ, List, length, take, drop, IfOk, IfSome, IfNone, IsTrue};
+ghost use Rattle.std.specs.Prelude.{◌≡◌, ◌+◌, ◌≤◌, ◌↔◌, [], ◌∷◌, length, drop, IfOk, IfSome, IfNone, IsTrue};
 ghost use Rattle.batch_file.specs.Frames.{lists, IsFirstKind};
-ghost use Rattle.batch_file.specs.Version1.{frames_size_1, recovered_1, torn_size, AreFrames1};
+ghost use Rattle.batch_file.specs.Version1.{frames_size_1, recovered_1, torn_size};
 
 use std::alloc::{AllocError, Global};
 
@@ -53,9 +53,9 @@ fn torn_behind(bytes: &[u8]) -> usize
 /// The batch of the frame at the front, if its latch is open and all of it is there.
 fn first_batch(bytes: &[u8]) -> Option<&[u8]>
     ensures within { IfSome result (λ batch. 5 + length batch.now ≤ length bytes.now) }
-    ensures some { IfSome result (λ batch. AreFrames1 (take (5 + length batch.now) bytes.now) (batch.now ∷ [])) }
+    ensures some { IfSome result (λ batch. recovered_1 bytes.now ≡ batch.now ∷ recovered_1 (drop (5 + length batch.now) bytes.now)) }
     ensures kind { IfSome result (λ _. IsFirstKind bytes.now) }
-    ensures none { IfNone result ((n : ℕ) → recovered_1 (take n bytes.now) ≡ []) }
+    ensures none { IfNone result (recovered_1 bytes.now ≡ []) }
     ensures no_kind { IfNone result (IsFirstKind bytes.now → ⊥) }
 {
     if bytes.len() < 5 || bytes[0] != 1 {
@@ -65,6 +65,5 @@ fn first_batch(bytes: &[u8]) -> Option<&[u8]>
     if bytes.len() - 5 < size {
         return None;
     }
-    let rest = &bytes[5..];
-    Some(&rest[..size])
+    Some(&bytes[5..5 + size])
 }

@@ -1,40 +1,21 @@
--- What a state file keeps when other batches are put in the place of its own, or one is added to them.
+-- What a state file keeps when other batches are put in the place of its own: also those that have one more.
 use Rattle.std.proofs.Common.{◌≡◌, ◌⊎◌, ◌≤◌, inl, inr, ℕ, List, [], ◌∷◌, ◌++◌, refl, sym, ap, ◌∙◌, subst, arith}
 use Rattle.batch_file.specs.Crashes.{LeavesOnly}
 use Rattle.batch_file.specs.Frames.{recovered, IsOldOrNew, IsOnDisk}
 use Rattle.batch_file.specs.declared.appending.BatchFile.{BatchFile}
 use Rattle.batch_file.specs.declared.device.Device.{Ghosts as Device}
 use Rattle.consent.specs.History.{Event}
-use Rattle.change_codec.specs.Keeping.{HeldMeanwhile, Holds, HoldsMoment, HoldsStill, Keeps, KeepsMoments, KeepsNot, LeavesEither, StandsForEither, TellsMoments}
+use Rattle.change_codec.specs.Keeping.{Holds, HoldsMoment, Keeps, KeepsMoments, KeepsNot, LeavesEither, StandsForEither, TellsMoments}
+use Rattle.change_codec.specs.Happened.{Happened}
+use Rattle.change_codec.specs.Spelling.{DatedFact, HaveSpelling, batch_spelling}
 use Rattle.image_codec.specs.Facts.{RulesFact}
 use Rattle.state_file.specs.Knowing.{file_crashes}
-use Rattle.state_file.specs.Standing.{StandFor, StandsFor, until_of}
-use Rattle.state_file.specs.Telling.{KeepRules, LeavesRules, Tell}
+use Rattle.state_file.specs.Standing.{StandFor, until_of}
+use Rattle.state_file.specs.StandingLaws.{AreTold-changes, StandFor-joined}
+use Rattle.state_file.specs.Telling.{KeepRules, Tell, last_rules}
+use Rattle.state_file.specs.TellingLaws.{last_rules-push}
 
 module _ {D : Type 0} (device : Device D) where
-  -- NOTHING WAS DONE
-
-  still : (file : BatchFile D) (before after : List Event) → Holds (file_crashes device) file before → LeavesEither (file_crashes device) before after file file
-  still file before after holds = record {
-    later = omega arith;
-    each = λ c left. inl (holds c (inl (device.only_now file.device c left)));
-    earlier = λ t c le left. inl left;
-  }
-
-  pub keeps_same : (file : BatchFile D) → HoldsStill (file_crashes device) file file
-  keeps_same file history = record { holds = λ holds. holds; meanwhile = still file history history }
-
-  pub keeps_not_same : (file : BatchFile D) (before after : List Event) → KeepsNot (file_crashes device) before after file file
-  keeps_not_same file before after = record { meanwhile = still file before after }
-
-  pub tells_same : (file : BatchFile D) → TellsMoments (file_crashes device) file file
-  tells_same file = record { later = omega arith; earlier = λ m t c holds le left. inl left }
-
-  pub moments_same : (file : BatchFile D) → KeepsMoments (file_crashes device) file file
-  moments_same file = record { holds = λ m holds. holds; meanwhile = tells_same file }
-
-  -- OTHER BATCHES
-
   -- what was left meanwhile stands for the one history or for the other
   leaves_either : (old new : BatchFile D) (batches : List (List ℕ)) (before after : List Event) →
       LeavesOnly device.moment device.left_since old.device new.device (IsOldOrNew (recovered (device.seen old.device)) batches) →
@@ -110,3 +91,16 @@ module _ {D : Type 0} (device : Device D) where
     holds = λ m holds. (let told = holds (device.seen old.device) (inr refl) in holds_moment new batches m settled are (omega (arith, told, le)));
     meanwhile = tells_moments old new batches leaves le;
   }
+
+-- A BATCH OF CHANGES MORE
+
+pub changes_stand : (batches : List (List ℕ)) (batch : List ℕ) (facts : List DatedFact) (before after : List Event) → batch ≡ batch_spelling facts → HaveSpelling facts →
+    Happened before facts after → StandFor batches before → StandFor (batches ++ batch ∷ []) after
+changes_stand batches batch facts before after is fits happened stands =
+    subst (λ (b : List ℕ). StandFor (batches ++ b ∷ []) after) (sym is)
+    (StandFor-joined batches (batch_spelling facts ∷ []) before after facts stands (AreTold-changes facts fits) happened)
+
+pub changes_tell : (batches : List (List ℕ)) (batch : List ℕ) (facts : List DatedFact) → batch ≡ batch_spelling facts →
+    (rules : RulesFact) → Tell batches rules → Tell (batches ++ batch ∷ []) rules
+changes_tell batches batch facts is rules tell =
+    (tell.0, ap (λ (b : List ℕ). last_rules (batches ++ b ∷ [])) is ∙ last_rules-push batches (batch_spelling facts) ∙ tell.1, tell.2)

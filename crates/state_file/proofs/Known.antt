@@ -17,7 +17,7 @@ use Rattle.state_file.specs.Telling.{IsOfRules, Tell, last_rules}
 use Rattle.state_file.specs.TellingLaws.{last_rules-push, tell_in, tell_one, tells_one}
 use Rattle.state_file.specs.declared.keeper.Known.{Known}
 use Rattle.state_file.proofs.Hooked.{hooks_of-happened}
-use Rattle.state_file.proofs.Marked.{AreTold-marks, last_rules-image, until_of-image, until_of-mark}
+use Rattle.state_file.proofs.Marked.{AreTold-marks, last_rules-image, mark_until, until_of-image}
 
 -- WHAT STOOD BEFORE A BATCH
 
@@ -147,15 +147,15 @@ rules_nothing : (rules : RulesFact) (facts : List DatedFact) → AreTold (rules_
 rules_nothing rules facts told = no_more facts told.0 told.1 told.4 told.3 ∙ told.2
 
 -- a mark beyond those before
-pub known_mark : (batches : List (List ℕ)) (until : ℕ) (old new : Known) → until < 2 ^ 63 → old.until ≤ until →
-    new.rules ≡ old.rules → new.hooks ≡ old.hooks → new.image ≡ old.image → new.until ≡ until → IsKnown batches old → IsKnown (batches ++ mark until ∷ []) new
-known_mark batches until old new less le rules hooks image now known = record {
+pub known_mark : (batches : List (List ℕ)) (batch : List ℕ) (until : ℕ) (old new : Known) → batch ≡ mark until → until < 2 ^ 63 → old.until ≤ until →
+    new.rules ≡ old.rules → new.hooks ≡ old.hooks → new.image ≡ old.image → new.until ≡ until → IsKnown batches old → IsKnown (batches ++ batch ∷ []) new
+known_mark batches batch until old new is less le rules hooks image now known = subst (λ (b : List ℕ). IsKnown (batches ++ b ∷ []) new) (sym is) (record {
   rules_are = λ told tell. ap (λ r. r.items) rules ∙ told_before batches old.rules.items told (mark until) (last_rules-push batches (mark until)) known.rules_are tell;
   hooks_are = subst (λ (o : Option (List HookFact)). IfSome o (λ set. (history : List Event) → StandFor (batches ++ mark until ∷ []) history → set ≡ hooks_set_in history)) (sym hooks)
       (hooks_stay batches (batches ++ mark until ∷ []) old.hooks (λ history stands. stood_same batches (mark until) history refl (mark_nothing until) stands) known.hooks_are);
   image_is = image ∙ known.image_is ∙ sym (image_size-more batches (mark until) refl);
-  until_is = now ∙ sym (until_of-mark batches until less ∙ greater (until_of batches) (subst (λ (n : ℕ). n ≤ until) known.until_is le));
-}
+  until_is = now ∙ sym (mark_until batches (mark until) until refl less ∙ greater (until_of batches) (subst (λ (n : ℕ). n ≤ until) known.until_is le));
+})
   where
     greater : (n : ℕ) → n ≤ until → max n until ≡ until
     greater n le = omega arith

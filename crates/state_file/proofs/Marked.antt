@@ -1,7 +1,7 @@
 -- What marks tell, and a file's batches once one is behind them.
-use Rattle.std.proofs.Common.{◌≡◌, inr, ◌+◌, ◌<◌, ◌≤◌, ◌^◌, ℕ, List, [], ◌∷◌, ◌++◌, Option, None, Some, Bool, true, false, refl, sym, ap, ◌∙◌, subst, arith}
+use Rattle.std.proofs.Common.{◌≡◌, inr, ◌+◌, ◌<◌, ◌≤◌, ◌^◌, ℕ, zero, suc, List, [], ◌∷◌, ◌++◌, Option, None, Some, Bool, true, false, refl, sym, ap, ◌∙◌, subst, arith}
 use Rattle.std.specs.Prelude.{IsSome, max, unwrap_or, nat_lt, length, ◌==◌, ◌&&◌, if◌then◌else◌}
-use Rattle.std.proofs.lemmas.Bool.{eqb-true, lt-ltb}
+use Rattle.std.proofs.lemmas.Bool.{eqb-true, lt-ltb, ltb-true}
 use Rattle.std.proofs.lemmas.Nat.{from_be_bytes-to_be_bytes_8}
 use Rattle.std.specs.Int.{w64, from_be_bytes, to_be_bytes}
 use Rattle.consent.specs.History.{Event}
@@ -22,25 +22,48 @@ mark_in-mark until less = by_value (to_be_bytes w64 until) until refl (from_be_b
 is_mark : (until : ℕ) → until < 2 ^ 63 → IsSome (mark_in (mark until))
 is_mark until less = subst (λ (o : Option ℕ). IsSome o) (sym (mark_in-mark until less)) refl
 
+-- every moment of a mark is so
+in_range : (bytes : List ℕ) → unwrap_or (mark_in (3 ∷ bytes)) 0 < 2 ^ 63
+in_range bytes = by (length bytes == 8) (nat_lt (from_be_bytes w64 bytes) (2 ^ 63)) refl
+  where
+    by : (long less : Bool) → nat_lt (from_be_bytes w64 bytes) (2 ^ 63) ≡ less → unwrap_or (if (long && less) then Some (from_be_bytes w64 bytes) else None) 0 < 2 ^ 63
+    by true true is = ltb-true (from_be_bytes w64 bytes) (2 ^ 63) is
+    by true false is = omega arith
+    by false less is = omega arith
+
+mark_in-less : (batch : List ℕ) → unwrap_or (mark_in batch) 0 < 2 ^ 63
+mark_in-less [] = omega arith
+mark_in-less (zero ∷ bytes) = omega arith
+mark_in-less (suc zero ∷ bytes) = omega arith
+mark_in-less (suc (suc zero) ∷ bytes) = omega arith
+mark_in-less (suc (suc (suc zero)) ∷ bytes) = in_range bytes
+mark_in-less (suc (suc (suc (suc n))) ∷ bytes) = omega arith
+
+pub until_of-less : (batches : List (List ℕ)) → until_of batches < 2 ^ 63
+until_of-less [] = omega arith
+until_of-less (batch ∷ batches) = let here = mark_in-less batch in let rest = until_of-less batches in omega (arith, here, rest)
+
 -- A MARK MORE
 
 value_of : (o : Option ℕ) (n : ℕ) → o ≡ Some n → unwrap_or o 0 ≡ n
 value_of o n is = ap (λ (p : Option ℕ). unwrap_or p 0) is
 
 -- the batches tell it, or a later moment
-pub until_of-mark : (batches : List (List ℕ)) (until : ℕ) → until < 2 ^ 63 → until_of (batches ++ mark until ∷ []) ≡ max (until_of batches) until
-until_of-mark batches until less =
+pub mark_until : (batches : List (List ℕ)) (batch : List ℕ) (until : ℕ) → batch ≡ mark until → until < 2 ^ 63 → until_of (batches ++ batch ∷ []) ≡ max (until_of batches) until
+mark_until batches batch until is less =
     let all = until_of-append batches (mark until ∷ []) in
     let one = value_of (mark_in (mark until)) until (mark_in-mark until less) in
-    omega (arith, all, one)
+    ap (λ (b : List ℕ). until_of (batches ++ b ∷ [])) is ∙ omega (arith, all, one)
 
 -- they stand for the same
-pub StandFor-mark : (batches : List (List ℕ)) (until : ℕ) (history : List Event) → until < 2 ^ 63 → StandFor batches history → StandFor (batches ++ mark until ∷ []) history
-StandFor-mark batches until history less stands = StandFor-beside batches (mark until ∷ []) history (AreTold-mark until (is_mark until less)) stands
+pub mark_stands : (batches : List (List ℕ)) (batch : List ℕ) (until : ℕ) (history : List Event) → batch ≡ mark until → until < 2 ^ 63 → StandFor batches history → StandFor (batches ++ batch ∷ []) history
+mark_stands batches batch until history is less stands =
+    subst (λ (b : List ℕ). StandFor (batches ++ b ∷ []) history) (sym is) (StandFor-beside batches (mark until ∷ []) history (AreTold-mark until (is_mark until less)) stands)
 
 -- and tell the same rules
-pub Tell-mark : (batches : List (List ℕ)) (until : ℕ) (rules : RulesFact) → Tell batches rules → Tell (batches ++ mark until ∷ []) rules
-Tell-mark batches until rules tell = (tell.0, last_rules-push batches (mark until) ∙ tell.1, tell.2)
+pub mark_tells : (batches : List (List ℕ)) (batch : List ℕ) (until : ℕ) → batch ≡ mark until → (rules : RulesFact) → Tell batches rules → Tell (batches ++ batch ∷ []) rules
+mark_tells batches batch until is rules tell =
+    (tell.0, ap (λ (b : List ℕ). last_rules (batches ++ b ∷ [])) is ∙ last_rules-push batches (mark until) ∙ tell.1, tell.2)
 
 -- AN IMAGE, AND THE MARK OF A MOMENT
 

@@ -1,9 +1,10 @@
 -- An image in the place of a file's batches.
-use Rattle.std.proofs.Common.{◌≡◌, ◌<◌, ◌≤◌, ◌+◌, ◌^◌, inl, inr, ℕ, List, [], ◌∷◌, length, Bool, true, false, sym, ap, ◌∙◌, subst, arith}
-use Rattle.std.specs.Prelude.{◌/◌, ◌==◌, if◌then◌else◌}
+use Rattle.std.proofs.Common.{◌≡◌, ◌<◌, ◌≤◌, ◌+◌, ◌^◌, inl, inr, ℕ, List, [], ◌∷◌, length, Option, Some, Bool, true, false, sym, ap, ◌∙◌, subst, arith}
+use Rattle.std.specs.Prelude.{◌/◌, ◌==◌, if◌then◌else◌, IfSome}
 use Rattle.std.proofs.Math.Nat.{mul-div-le}
 use Rattle.batch_file.specs.Frames.{file_size, frames_size}
 use Rattle.consent.specs.History.{Event}
+use Rattle.endpoints.specs.Imaging.{OfFitted}
 use Rattle.endpoints.specs.Server.{SeenServer}
 use Rattle.endpoints.specs.declared.image_keeper.ImageFault.{ImageFault}
 use Rattle.endpoints.specs.declared.image_keeper.ImageFault.TheVariants.{TooLong}
@@ -12,23 +13,64 @@ use Rattle.image_codec.proofs.Images.{one_rules}
 use Rattle.image_codec.specs.Facts.{HookFact, ImageFact, RulesFact}
 use Rattle.image_codec.specs.Spelling.{ImageFits, RulesFit, image_spelling, rules_spelling}
 use Rattle.state_file.specs.Hooks.{hooks_set_in}
-use Rattle.state_file.specs.Knowing.{IsLong}
-use Rattle.state_file.specs.Renewing.{HasTooMuch, IsUnspelled}
-use Rattle.state_file.specs.Standing.{StandFor, mark, marks}
+use Rattle.state_file.specs.Knowing.{IsKnown, IsLong}
+use Rattle.state_file.specs.Renewing.{HasTooMuch, IsUnspelled, SpellImage}
+use Rattle.state_file.specs.Standing.{StandFor, mark, marks, until_of}
 use Rattle.state_file.specs.Telling.{Tell, TellsIn}
-use Rattle.state_file.proofs.Marked.{Tell-image}
+use Rattle.state_file.specs.declared.keeper.Known.{Known}
+use Rattle.state_file.proofs.Known.{known_image}
+use Rattle.state_file.proofs.Marked.{StandFor-image_marked, Tell-image, until_of-image, until_of-less}
 
 -- rules that are told fit
 fit_told : (batch : List ℕ) (told : RulesFact) → TellsIn batch told → RulesFit told
 fit_told batch told (inl alone) = alone.0
 fit_told batch told (inr of) = subst RulesFit of.2 of.1.0
 
--- it tells the rules that were told
-pub image_tells : (batches : List (List ℕ)) (bytes : List ℕ) (image : ImageFact) (until : ℕ) → ImageFits image → bytes ≡ rules_spelling image.rules →
-    ((told : RulesFact) → Tell batches told → bytes ≡ rules_spelling told) → (told : RulesFact) → Tell batches told → Tell (image_spelling image ∷ marks until) told
-image_tells batches bytes image until fits spell known told tell =
-    let same : image.rules ≡ told = one_rules image.rules told fits.0 (fit_told tell.0 told tell.2) (sym spell ∙ known told tell) in
-    subst (λ (r : RulesFact). Tell (image_spelling image ∷ marks until) r) same (Tell-image image until fits)
+-- AN IMAGE OF THE SERVER THAT IS SPELLED, AND A MARK
+
+-- the batches are that image's spelling and the mark
+pub record AreOfImage {H : Type 0} (hosting : Hosting H) (server : SeenServer H) (hooks : List HookFact) (known : Known) (batches : List (List ℕ)) : Type 0 where
+  pub bytes : List ℕ
+  pub spell : SpellImage hosting server hooks known.rules.items bytes
+  pub are : batches ≡ bytes ∷ marks known.until
+  pub less : known.until < 2 ^ 63
+
+abbrev pub of_image : {H : Type 0} (hosting : Hosting H) (server : SeenServer H) (hooks : List HookFact) (known : Known) (old : List (List ℕ)) (rules bytes slice : List ℕ) (new : List (List ℕ)) →
+    rules ≡ known.rules.items → SpellImage hosting server hooks rules bytes → slice ≡ bytes → new ≡ slice ∷ marks known.until → IsKnown old known → AreOfImage hosting server hooks known new
+of_image hosting server hooks known old rules bytes slice new told spell same are is_known = record {
+  bytes = bytes;
+  spell = subst (λ (r : List ℕ). SpellImage hosting server hooks r bytes) told spell;
+  are = are ∙ ap (λ (b : List ℕ). b ∷ marks known.until) same;
+  less = subst (λ (n : ℕ). n < 2 ^ 63) (sym is_known.until_is) (until_of-less old);
+}
+
+module _ {H : Type 0} (hosting : Hosting H) (server : SeenServer H) (hooks : List HookFact) (known : Known) (old new : List (List ℕ)) (of : AreOfImage hosting server hooks known new) where
+  spelled : new ≡ image_spelling of.spell.image ∷ marks known.until
+  spelled = of.are ∙ ap (λ (b : List ℕ). b ∷ marks known.until) of.spell.spelled
+
+  -- they stand for the history that the old ones stand for
+  pub image_stands : known.hooks ≡ Some hooks → IsKnown old known → OfFitted hosting server (λ history. StandFor old history → StandFor new history)
+  image_stands there is_known outset history m fits stands =
+      let hooks_are = subst (λ (o : Option (List HookFact)). IfSome o (λ set. (h : List Event) → StandFor old h → set ≡ hooks_set_in h)) there is_known.hooks_are in
+      subst (λ (bs : List (List ℕ)). StandFor bs history) (sym spelled)
+      (StandFor-image_marked of.spell.image known.until history of.less of.spell.fits (of.spell.is outset history m fits (hooks_are history stands)))
+
+  -- and tell the rules that these tell
+  pub image_tells : IsKnown old known → (told : RulesFact) → Tell old told → Tell new told
+  image_tells is_known told tell =
+      let same : of.spell.image.rules ≡ told = one_rules of.spell.image.rules told of.spell.fits.0 (fit_told tell.0 told tell.2) (sym of.spell.rules_are ∙ is_known.rules_are told tell) in
+      subst (λ (bs : List (List ℕ)). Tell bs told) (sym spelled)
+      (subst (λ (r : RulesFact). Tell (image_spelling of.spell.image ∷ marks known.until) r) same (Tell-image of.spell.image known.until of.spell.fits))
+
+  -- and the moment
+  pub image_until : IsKnown old known → until_of new ≡ until_of old
+  image_until is_known = ap until_of spelled ∙ until_of-image of.spell.image known.until of.less ∙ is_known.until_is
+
+  -- what is known of them
+  pub image_known : known.hooks ≡ Some hooks → (now : Known) → now.rules ≡ known.rules → now.hooks ≡ known.hooks → now.until ≡ known.until → now.image ≡ length of.bytes → IsKnown new now
+  image_known there now rules stay until size =
+      subst (λ (bs : List (List ℕ)). IsKnown bs now) (sym (spelled ∙ ap (λ (n : ℕ). image_spelling of.spell.image ∷ marks n) (sym until)))
+      (known_image of.spell.image now hooks of.spell.fits (subst (λ (n : ℕ). n < 2 ^ 63) (sym until) of.less) (ap (λ r. r.items) rules ∙ of.spell.rules_are) (stay ∙ there) of.spell.hooks_are (size ∙ ap length of.spell.spelled))
 
 -- where no image was spelled since it is too large, there is such an image
 pub too_much : {H : Type 0} (hosting : Hosting H) (server : SeenServer H) (hooks : List HookFact) (batches : List (List ℕ)) (fault : ImageFault) → IsUnspelled hosting server hooks fault → fault ≡ TooLong →

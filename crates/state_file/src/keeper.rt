@@ -1,6 +1,6 @@
 //! Keeping the changes of each round, and the moment, in a state file.
 
-ghost use Rattle.std.specs.Prelude.{◌≡◌, ◌+◌, ◌-◌, ◌^◌, min};
+ghost use Rattle.std.specs.Prelude.{◌≡◌, ◌≤◌, ◌<◌, ◌+◌, ◌-◌, ◌^◌, min};
 
 use crate::hooks::SetHooks;
 use crate::marks::mark;
@@ -59,7 +59,9 @@ impl<D: Device> Model for StateKeeper<D> {
 
 /// The moment of a mark that is written at a moment.
 fn marked(now: Moment) -> Moment
-    ensures { result ≡ min (now + 10) (2 ^ 63 - 1) }
+    ensures is { result ≡ min (now + 10) (2 ^ 63 - 1) }
+    ensures later { now ≤ result }
+    ensures in_range { result < 2 ^ 63 }
 {
     Moment::new((now.get() + SPAN).min(LAST))
 }
@@ -124,7 +126,7 @@ impl<D: Device> StateKeeper<D> {
         if self.fault.is_some() {
             return Err(KeepFault::Failed);
         }
-        if now <= self.known.until {
+        if now.get() <= self.known.until.get() {
             return Ok(());
         }
         let until = marked(now);
@@ -133,8 +135,8 @@ impl<D: Device> StateKeeper<D> {
                 self.known.until = until;
                 Ok(())
             }
-            Err(fault) => {
-                self.fault = Some(fault);
+            Err(refused) => {
+                self.fault = Some(refused);
                 Err(KeepFault::Failed)
             }
         }

@@ -68,10 +68,8 @@ impl<D: Device> StateKeeper<D> {
         ensures short { OnOk result (¬ (IsLongFile D.seen self.new)) }
         ensures left { OnOk result (¬ (IsLongFile D.seen self.old) → self.new ≡ self.old) }
         ensures refused { IfErr result (λ fault. fault ≢ Failed → IsLongFile D.seen self.old) }
-        ensures no_memory { IsErrOf result Memory → self.new ≡ self.old }
-        ensures too_long { IsErrOf result TooLong → self.new ≡ self.old }
+        ensures same { IfErr result (λ fault. fault ≢ Failed → self.new ≡ self.old) }
         ensures too_much { IsErrOf result TooLong → HasTooMuch H.HookHost server.now (recovered (D.seen self.old.device)) }
-        ensures unwritten { IsErrOf result Unwritten → self.new ≡ self.old }
         ensures failed { IsErrOf result Failed →
             KeepsNoImage H.HookHost (file_crashes D.Device) server.now self.old self.new }
     {

@@ -1,5 +1,5 @@
 -- What a file stands for that has an image of what is left.
-use Rattle.std.proofs.Common.{◌≡◌, inl, inr, ℕ, ◌-◌, zero, suc, List, [], ◌∷◌, Bool, true, false, cond, None, Some, refl, ap, sym, subst, ◌∙◌}
+use Rattle.std.proofs.Common.{◌≡◌, ◌<◌, ◌^◌, inl, inr, ℕ, ◌-◌, zero, suc, List, [], ◌∷◌, Bool, true, false, cond, None, Some, refl, ap, sym, subst, ◌∙◌}
 use Rattle.std.specs.Prelude.{◌==◌, if◌then◌else◌, is_some, slice_get, map, Result, Ok, Err, IfOk, IfErr}
 use Rattle.std.specs.Str.{bytes_eq}
 use Rattle.batch_file.specs.Frames.{recovered}
@@ -24,21 +24,22 @@ use Rattle.token_store.specs.Fits.{FitsHistory}
 use Rattle.token_store.specs.Image.{as_kept}
 use Rattle.token_store.specs.Kept.{Kept}
 use Rattle.token_store.specs.declared.image.KeptRecord.{KeptRecord}
-use Rattle.state_file.specs.Accounts.{IsAccountOf, IsImageIn, TellIfAny}
+use Rattle.state_account.specs.Accounts.{IsAccountOf, IsImageIn, TellIfAny}
 use Rattle.state_file.specs.Comparing.{KeepClients, client_names, first_moved}
 use Rattle.state_file.specs.FaultTexts.{of_encoding}
 use Rattle.state_file.specs.Hooks.{hooks_after, hooks_with}
 use Rattle.state_file.specs.Resuming.{OfEachHistory}
-use Rattle.state_file.specs.Standing.{IsImageOf, StandsFor}
-use Rattle.state_file.specs.StandingLaws.{StandsFor-image, StandsFor-none}
-use Rattle.state_file.specs.Telling.{TellsRules, client_told, rules_of}
+use Rattle.state_file.specs.Standing.{IsImageOf, StandFor, StandsFor, marks, until_of}
+use Rattle.state_file.specs.StandingLaws.{StandsFor-none}
+use Rattle.state_file.specs.Telling.{Tell, TellsRules, client_told, rules_of}
+use Rattle.state_file.proofs.Marked.{StandFor-image_marked, Tell-image, until_of-image}
 use Rattle.state_file.specs.ResumingLaws.{right_now}
-use Rattle.state_file.specs.TellingLaws.{TellsRules-image, tell_one}
-use Rattle.state_file.specs.declared.account.Account.{Account}
+use Rattle.state_file.specs.TellingLaws.{tell_one}
+use Rattle.state_account.specs.declared.account.Account.{Account}
 use Rattle.state_narrowing.specs.Narrowing.{GoesOn, HasLeftOfEach, IsNarrower, RefusesNarrowing}
 use Rattle.state_narrowing.specs.NarrowingParts.{IsRightImage, SpellLeft}
 use Rattle.state_narrowing.specs.declared.imaging.LeftImage.{LeftImage}
-use Rattle.state_narrowing.specs.declared.narrowed.NarrowedFile.{NarrowedFile}
+use Rattle.state_narrowing.specs.declared.narrowed.Narrowed.{Narrowed}
 
 -- RESULTS
 
@@ -164,16 +165,17 @@ module _ {H : Type 0} (hosting : Hosting H) where
       let fits = subst (λ (ks : List Kept). FitsHistory ks history told.greatest) before (is_in.each history stands was run).records in
       counts history fits ∙ ap (ended_count rules history) (sym greatest)
 
-  -- a file that has that image alone stands for what is left
-  pub has_left : {D : Type 0} (left : List ℕ) (first : H) (rules : RegistryRecord) (of : LeftImage) (file : NarrowedFile D) → SpellLeft hosting first left rules of →
-      file.ended ≡ Some of.ended → recovered file.bytes.items ≡ of.bytes.items ∷ [] → HasLeftOfEach hosting first left rules file
-  has_left left first rules of file spell ended alone some history stands was run =
+  -- a file that has that image and a mark stands for what is left
+  pub has_left : (left : List ℕ) (first : H) (rules : RegistryRecord) (of : LeftImage) (file : Narrowed) (until : ℕ) → until < 2 ^ 63 → SpellLeft hosting first left rules of →
+      file.ended ≡ of.ended → recovered file.bytes.items ≡ of.bytes.items ∷ marks until → HasLeftOfEach hosting first left rules file
+  has_left left first rules of file until less spell ended are history stands was run =
       let now = file.bytes.items in
       let image = spell.is history stands was run in
-      let spelled : recovered now ≡ image_spelling spell.image ∷ [] = alone ∙ ap (λ (b : List ℕ). b ∷ []) spell.spelled in
-      let tells : TellsRules now (rules_of rules) = subst (λ (r : RulesFact). TellsRules now r) spell.rules_are (TellsRules-image now spell.image spelled spell.fits) in
+      let spelled : recovered now ≡ image_spelling spell.image ∷ marks until = are ∙ ap (λ (b : List ℕ). b ∷ marks until) spell.spelled in
+      let tells : TellsRules now (rules_of rules) = subst (λ (r : RulesFact). TellsRules now r) spell.rules_are
+          (subst (λ (bs : List (List ℕ)). Tell bs spell.image.rules) (sym spelled) (Tell-image spell.image until spell.fits)) in
       let goes_on : GoesOn hosting first now (left_under rules history) = record {
-        stands = StandsFor-image now spell.image (left_under rules history) spelled spell.fits image.is;
+        stands = subst (λ (bs : List (List ℕ)). StandFor bs (left_under rules history)) (sym spelled) (StandFor-image_marked spell.image until (left_under rules history) less spell.fits image.is);
         right = inr (rules, tells, image.right);
         host = image.host;
         ran = image.ran;
@@ -181,6 +183,6 @@ module _ {H : Type 0} (hosting : Hosting H) where
       record {
         goes_on = goes_on;
         image = spell.image;
-        alone = (spell.fits, spelled);
-        ended = ended ∙ ap Some (spell.counted history stands was run);
+        begins = (spell.fits, spelled ∙ ap (λ (n : ℕ). image_spelling spell.image ∷ marks n) (sym (ap until_of spelled ∙ until_of-image spell.image until less)));
+        ended = ended ∙ spell.counted history stands was run;
       }

@@ -1,6 +1,7 @@
 -- When a state file is narrowed to a registry, and what it stands for then.
 use Rattle.std.specs.Prelude.{◌≡◌, ◌⊎◌, ℕ, List, Option, None, Some}
-use Rattle.batch_file.specs.Frames.{recovered}
+use Rattle.batch_file.specs.Frames.{RefusesFile, recovered}
+use Rattle.batch_file.specs.declared.framing.ReadFault.TheVariants as reading
 use Rattle.clients.specs.RegistryRecord.{RegistryRecord}
 use Rattle.consent.specs.History.{Event}
 use Rattle.endpoints.specs.Hosts.{HostRun}
@@ -12,7 +13,7 @@ use Rattle.state_file.specs.Resuming.{OfEachHistory, WasRight}
 use Rattle.state_file.specs.Standing.{BeginWithImage, StandsFor, marks, until_of}
 use Rattle.state_file.specs.Telling.{Tell}
 use Rattle.state_file.specs.declared.fault.StateFault.{StateFault}
-use Rattle.state_file.specs.declared.fault.StateFault.TheVariants.{Memory, Device, TooLong, NoRules, Spelling, Follows, Image, Hook}
+use Rattle.state_file.specs.declared.fault.StateFault.TheVariants.{Memory, NotState, Version, Damaged, TooLong, NoRules, Spelling, Follows, Image, Hook}
 use Rattle.state_narrowing.specs.declared.narrowed.Narrowed.{Narrowed}
 
 -- the rules keep the names of those told, and are not as wide
@@ -53,11 +54,17 @@ abbrev pub history_under : RegistryRecord → Option Narrowed → List Event →
 history_under rules None history = history
 history_under rules (Some narrowed) history = left_under rules history
 
--- Why a file is not narrowed, though the registry is narrower: memory was refused, the disk failed, what is left is too long to be
--- told, or the file is at fault.
+-- why the bytes are not read as a state file
+abbrev pub IsUnreadable : List ℕ → StateFault → Type 0
+IsUnreadable left NotState = RefusesFile left reading.NotState
+IsUnreadable left (Version version) = RefusesFile left (reading.Version version)
+IsUnreadable left (Damaged number) = RefusesFile left (reading.Damaged number)
+IsUnreadable left _ = ⊥
+
+-- Why a file is not narrowed, though the registry is narrower: memory was refused, what is left is too long to be told, or a batch
+-- is at fault.
 abbrev pub RefusesNarrowing : StateFault → Type 0
 RefusesNarrowing Memory = Unit {0}
-RefusesNarrowing Device = Unit {0}
 RefusesNarrowing TooLong = Unit {0}
 RefusesNarrowing NoRules = Unit {0}
 RefusesNarrowing (Spelling fault) = Unit {0}
@@ -68,4 +75,4 @@ RefusesNarrowing _ = ⊥
 
 -- why it is not known whether the rules are narrower, or why it is not narrowed, though they are
 abbrev pub IsUnnarrowed : List ℕ → RulesFact → StateFault → Type 0
-IsUnnarrowed left now fault = IsUntold now fault ⊎ (IsNarrower left now × RefusesNarrowing fault)
+IsUnnarrowed left now fault = IsUnreadable left fault ⊎ (IsUntold now fault ⊎ (IsNarrower left now × RefusesNarrowing fault))

@@ -1,10 +1,11 @@
 //! The image of what is left of a state file under a registry.
 
-ghost use Rattle.std.specs.Prelude.{◌≡◌, ◌<◌, ◌^◌, IfOk, IfErr, length, map};
+ghost use Rattle.std.specs.Prelude.{◌≡◌, ◌⊎◌, ◌<◌, ◌^◌, ℕ, List, IfOk, IfErr, length, map};
 ghost use Rattle.image_codec.specs.Facts.{image_fact, record_fact};
 ghost use Rattle.narrowing.specs.Left.{FitsLeft};
 ghost use Rattle.token_store.specs.Image.{as_kept};
-ghost use Rattle.state_narrowing.specs.Narrowing.{IsNarrower, RefusesNarrowing};
+ghost use Rattle.state_account.specs.Accounts.{RefusesAccount};
+ghost use Rattle.state_narrowing.specs.Narrowing.{IsNarrower, IsUnreadable, RefusesNarrowing};
 ghost use Rattle.state_file.specs.Telling.{rules_of};
 ghost use Rattle.state_narrowing.specs.NarrowingParts.{SpellLeft};
 
@@ -12,7 +13,8 @@ use clients::Registry;
 use hook_host::HookHost;
 use image_codec::{Image, encode};
 use narrowing::{ended_count, records_left};
-use state_file::{AccountFault, StateFault, account_of, registry_rules};
+use state_account::{AccountFault, account_of};
+use state_file::{StateFault, registry_rules};
 use std::alloc::Global;
 
 /// The image of what is left of a state file.
@@ -30,7 +32,6 @@ fn of_batch(fault: StateFault) -> StateFault
 {
     match fault {
         StateFault::Memory => StateFault::Memory,
-        StateFault::Device => StateFault::Device,
         StateFault::Spelling(fault) => StateFault::Spelling(fault),
         StateFault::Follows(fault) => StateFault::Follows(fault),
         StateFault::Image(fault) => StateFault::Image(fault),
@@ -41,10 +42,11 @@ fn of_batch(fault: StateFault) -> StateFault
 
 // The fault of an account.
 fn fault_of(fault: AccountFault) -> StateFault
-    ensures { RefusesNarrowing result }
+    ensures { (left : List ℕ) → RefusesAccount left fault → IsUnreadable left result ⊎ RefusesNarrowing result }
 {
     match fault {
         AccountFault::Memory => StateFault::Memory,
+        AccountFault::File(fault) => StateFault::from(fault),
         AccountFault::Batch(_, fault) => of_batch(fault),
     }
 }
@@ -87,7 +89,7 @@ pub(crate) fn image_left<H: HookHost>(
     requires narrower { IsNarrower bytes.now (rules_of registry.now) }
     ensures is { IfOk result (SpellLeft H.HookHost host bytes.now registry.now) }
     ensures short { IfOk result (λ left. length left.bytes.items < 2 ^ 32) }
-    ensures refused { IfErr result RefusesNarrowing }
+    ensures refused { IfErr result (λ fault. IsUnreadable bytes.now fault ⊎ RefusesNarrowing fault) }
 {
     let account = match account_of(alloc, bytes, host) {
         Ok(account) => account,
