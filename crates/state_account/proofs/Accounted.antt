@@ -13,7 +13,7 @@ use Rattle.token_store.specs.Fits.{FitsHistory, FitsStore}
 use Rattle.token_store.specs.Image.{as_kept}
 use Rattle.token_store.specs.Kept.{Kept}
 use Rattle.token_store.specs.declared.image.KeptRecord.{KeptRecord}
-use Rattle.state_account.specs.Accounts.{IsAccountOf, IsImageIn, IsOfTelling, RefusesAccount, TellIfAny, fault_in}
+use Rattle.state_account.specs.Accounts.{IsAccountOf, IsImageIn, IsOfTelling, IsOfBatches, TellIfAny, fault_in}
 use Rattle.state_file.specs.Resuming.{AnswersFor, BeginsByBatches, FitsRestored, IsOfChanges, RedoesBatches, RefusesImage}
 use Rattle.state_file.specs.Standing.{AreTold, IsImageOf}
 use Rattle.state_file.specs.Telling.{Tell, rules_of}
@@ -21,16 +21,19 @@ use Rattle.state_account.specs.declared.account.Account.{Account}
 use Rattle.state_file.specs.declared.fault.StateFault.{StateFault}
 use Rattle.state_file.specs.declared.fault.StateFault.TheVariants as state
 use Rattle.state_file.specs.declared.restored.Restored.{Restored}
-use Rattle.state_file.proofs.Begun.{begun_fits}
 use Rattle.state_file.specs.ResumingLaws.{right_now}
 
 -- FAULTS
 
-pub of_telling : (number : ℕ) (fault : StateFault) → IsOfTelling fault → RefusesAccount (fault_in number fault)
+pub of_telling : (number : ℕ) (fault : StateFault) → IsOfTelling fault → IsOfBatches (fault_in number fault)
 of_telling number state.Memory of = tt
 of_telling number state.NoRules of = tt
 of_telling number (state.Spelling fault) of = tt
-of_telling number state.Device of = absurd of
+of_telling number state.NotState of = absurd of
+of_telling number (state.Version version) of = absurd of
+of_telling number (state.Damaged number) of = absurd of
+of_telling number (state.Unplaced reason) of = absurd of
+of_telling number (state.Device reason) of = absurd of
 of_telling number state.Full of = absurd of
 of_telling number state.TooLong of = absurd of
 of_telling number (state.ScopeMoved name) of = absurd of
@@ -43,12 +46,16 @@ of_telling number (state.Image fault) of = absurd of
 of_telling number (state.HookDiffers name) of = absurd of
 of_telling number (state.Hook name fault) of = absurd of
 
-pub of_changes : (number : ℕ) (fault : StateFault) → IsOfChanges fault → RefusesAccount (fault_in number fault)
+pub of_changes : (number : ℕ) (fault : StateFault) → IsOfChanges fault → IsOfBatches (fault_in number fault)
 of_changes number state.Memory of = tt
 of_changes number (state.Spelling fault) of = tt
 of_changes number (state.Follows fault) of = tt
 of_changes number state.NoRules of = absurd of
-of_changes number state.Device of = absurd of
+of_changes number state.NotState of = absurd of
+of_changes number (state.Version version) of = absurd of
+of_changes number (state.Damaged number) of = absurd of
+of_changes number (state.Unplaced reason) of = absurd of
+of_changes number (state.Device reason) of = absurd of
 of_changes number state.Full of = absurd of
 of_changes number state.TooLong of = absurd of
 of_changes number (state.ScopeMoved name) of = absurd of
@@ -60,14 +67,18 @@ of_changes number (state.Image fault) of = absurd of
 of_changes number (state.HookDiffers name) of = absurd of
 of_changes number (state.Hook name fault) of = absurd of
 
-pub of_image : (number : ℕ) (batches : List (List ℕ)) (fault : StateFault) → RefusesImage batches fault → RefusesAccount (fault_in number fault)
+pub of_image : (number : ℕ) (batches : List (List ℕ)) (fault : StateFault) → RefusesImage batches fault → IsOfBatches (fault_in number fault)
 of_image number batches state.Memory of = tt
 of_image number batches (state.Spelling fault) of = tt
 of_image number batches (state.Follows fault) of = absurd of
 of_image number batches (state.Image fault) of = tt
 of_image number batches (state.Hook name fault) of = tt
 of_image number batches state.NoRules of = absurd of
-of_image number batches state.Device of = absurd of
+of_image number batches state.NotState of = absurd of
+of_image number batches (state.Version version) of = absurd of
+of_image number batches (state.Damaged number) of = absurd of
+of_image number batches (state.Unplaced reason) of = absurd of
+of_image number batches (state.Device reason) of = absurd of
 of_image number batches state.Full of = absurd of
 of_image number batches state.TooLong of = absurd of
 of_image number batches (state.ScopeMoved name) of = absurd of
@@ -78,14 +89,6 @@ of_image number batches state.LifeNarrowed of = absurd of
 of_image number batches (state.HookDiffers name) of = absurd of
 
 module _ {H : Type 0} (hosting : Hosting H) where
-  -- a server that is begun, and for which the later batches are made again, fits what the bytes stand for
-  pub answers_for : (outset : Outset H) (batches later : List (List ℕ)) (begun restored : Restored H) → BeginsByBatches hosting outset batches later begun →
-      RedoesBatches hosting begun later restored → (left : List ℕ) → recovered left ≡ batches → AnswersFor hosting left outset restored
-  answers_for outset batches later begun restored begins redone left are history stands right run =
-      let from = begun_fits hosting outset left batches later begun history stands are begins right run in
-      let told : AreTold later stands.facts = subst (λ (bs : List (List ℕ)). AreTold bs stands.facts) from.0 stands.told in
-      (redone.1 stands.facts told).1 outset stands.base history from.1 stands.happened
-
   -- a server that fits a history has an image that is one of it
   pub imaged : (restored : Restored H) (image : ImageFact) (records : List KeptRecord) (consents : List KeptConsent) →
       map record_fact records ≡ image.records → consents ≡ image.consents → image.greatest ≡ restored.moment → image.hooks ≡ restored.hooks →

@@ -7,12 +7,13 @@ use Rattle.change_codec.specs.Spelling.{DatedFact}
 use Rattle.endpoints.specs.Bounded.{AllRight}
 use Rattle.endpoints.specs.Server.{AreUnkept, Outset}
 use Rattle.hook_host.specs.declared.host.HookHost.{Ghosts as Hosting}
-use Rattle.image_codec.specs.Facts.{ImageFact}
+use Rattle.image_codec.specs.Facts.{HookFact, ImageFact}
 use Rattle.image_codec.specs.Spelling.{ImageFits, image_spelling}
-use Rattle.state_file.specs.Hooks.{hooks_set_in}
-use Rattle.state_file.specs.Resuming.{BeginsByBatches, FitsRestored, HaveNoImage, IsMadeOf, IsRight, Replays, WasRun}
-use Rattle.state_file.specs.Standing.{AreTold, Begin, BeginWithImage, StandsFor}
+use Rattle.state_file.specs.Hooks.{hooks_behind, hooks_set_in}
+use Rattle.state_file.specs.Resuming.{AnswersFor, BeginsByBatches, FitsOn, FitsRestored, HaveNoImage, IsMadeOf, IsRight, RedoesBatches, Replays, WasRun}
+use Rattle.state_file.specs.Standing.{AreTold, Begin, BeginWithImage, StandFor, StandsFor}
 use Rattle.state_file.specs.declared.restored.Restored.{Restored}
+use Rattle.state_file.proofs.Hooked.{hooks_of-happened}
 use Rattle.state_file.proofs.Redone.{right_before}
 
 -- batches that tell changes alone have no image first
@@ -21,7 +22,7 @@ no_image [] facts told = tt
 no_image ([] ∷ batches) facts told = refl
 no_image ((zero ∷ rules) ∷ batches) facts told = refl
 no_image ((suc zero ∷ fields) ∷ batches) facts told = refl
-no_image ((suc (suc zero) ∷ fields) ∷ batches) facts told = let e = told.3 in absurd cc
+no_image ((suc (suc zero) ∷ fields) ∷ batches) facts told = let e = told.2.1 in absurd cc
 no_image ((suc (suc (suc n)) ∷ fields) ∷ batches) facts told = refl
 
 -- an image is one
@@ -53,20 +54,40 @@ module _ {H : Type 0} (hosting : Hosting H) (outset : Outset H) where
           let front = Happened-front stands.base history stands.facts stands.happened in
           (sym made.0, made.1.1 stands.base of.1 (was_right right of.0 of.2.1 front.0 front.1) (ran run of.0 of.2.1 front.0 front.1))
 
+  -- once the later batches are made again for it, it fits what the bytes stand for
+  pub answers_for : (batches later : List (List ℕ)) (begun restored : Restored H) → BeginsByBatches hosting outset batches later begun →
+      RedoesBatches hosting begun later restored → (left : List ℕ) → recovered left ≡ batches → AnswersFor hosting left outset restored
+  answers_for batches later begun restored begins redone left are history stands right run =
+      let from = begun_fits left batches later begun history stands are begins right run in
+      let told : AreTold later stands.facts = subst (λ (bs : List (List ℕ)). AreTold bs stands.facts) from.0 stands.told in
+      (redone.1 stands.facts told).1 outset stands.base history from.1 stands.happened
+
+  -- so it does from a later moment on
+  pub answers_reached : (left : List ℕ) (old new : Restored H) → FitsOn hosting old [] new → AnswersFor hosting left outset old → AnswersFor hosting left outset new
+  answers_reached left old new on answers history stands right run = on outset history history (answers history stands right run) refl
+
 -- so are the hooks
 module _ {H : Type 0} (hosting : Hosting H) (outset : Outset H) where
-  pub begun_hooks : (left : List ℕ) (batches later : List (List ℕ)) (restored : Restored H) (history : List Event) → (stands : StandsFor left history) →
-      recovered left ≡ batches → BeginsByBatches hosting outset batches later restored → (stands.later ≡ later) × (restored.hooks ≡ hooks_set_in stands.base)
-  begun_hooks left batches later restored history stands are begins = by stands.begins
+  begun_hooks : (batches later : List (List ℕ)) (restored : Restored H) (history : List Event) → (stands : StandFor batches history) →
+      BeginsByBatches hosting outset batches later restored → (stands.later ≡ later) × (restored.hooks ≡ hooks_set_in stands.base)
+  begun_hooks batches later restored history stands begins = by stands.begins
     where
-      by : Begin (recovered left) stands.base stands.later → (stands.later ≡ later) × (restored.hooks ≡ hooks_set_in stands.base)
+      by : Begin batches stands.base stands.later → (stands.later ≡ later) × (restored.hooks ≡ hooks_set_in stands.base)
       by (inl none) =
-          let told : AreTold batches stands.facts = subst (λ (bs : List (List ℕ)). AreTold bs stands.facts) (none.1 ∙ are) stands.told in
+          let told : AreTold batches stands.facts = subst (λ (bs : List (List ℕ)). AreTold bs stands.facts) none.1 stands.told in
           let anew = begins.anew (no_image batches stands.facts told) in
-          (none.1 ∙ are ∙ sym anew.0, anew.1.1 ∙ ap hooks_set_in (sym none.0))
+          (none.1 ∙ sym anew.0, anew.1.1 ∙ ap hooks_set_in (sym none.0))
       by (inr of) =
-          let made = begins.of_image of.0 stands.later (of.2.0, sym are ∙ of.2.1) in
+          let made = begins.of_image of.0 stands.later (of.2.0, of.2.1) in
           (sym made.0, made.1.0 ∙ of.1.hooks)
+
+  pub hooks_for : (batches later : List (List ℕ)) (begun restored : Restored H) → BeginsByBatches hosting outset batches later begun →
+      RedoesBatches hosting begun later restored → (history : List Event) → StandFor batches history → restored.hooks ≡ hooks_set_in history
+  hooks_for batches later begun restored begins redone history stands =
+      let from = begun_hooks batches later begun history stands begins in
+      let told : AreTold later stands.facts = subst (λ (bs : List (List ℕ)). AreTold bs stands.facts) from.0 stands.told in
+      (redone.1 stands.facts told).0 ∙ ap (λ (hs : List HookFact). hooks_behind hs stands.facts) from.1
+      ∙ sym (hooks_of-happened stands.base history stands.facts stands.happened)
 
 -- the first batch is read as the image that it spells
 pub same_image : (batches later behind : List (List ℕ)) (batch : List ℕ) (read image : ImageFact) → batches ≡ batch ∷ later → BeginWithImage batches image behind →

@@ -2,11 +2,9 @@ pub mod Begun
 pub mod Compared
 pub mod Imaged
 pub mod Renewed
-pub mod FromFile
 pub mod Hooked
 pub mod Kept
 pub mod Known
-pub mod Left
 pub mod Listed
 pub mod Marked
 pub mod Redone

@@ -1,6 +1,7 @@
 -- Changes that are made again one after the other.
 use Rattle.std.proofs.Common.{◌≡◌, ℕ, List, [], ◌∷◌, ◌++◌, Some, refl, sym, ap, ◌∙◌, subst}
 use Rattle.std.proofs.lemmas.List.{append-nil}
+use Rattle.std.specs.Prelude.{max}
 use Rattle.clients.specs.RegistryRecord.{RegistryRecord}
 use Rattle.consent.specs.History.{Event, with_change}
 use Rattle.consent.specs.declared.change.Change.{Change}
@@ -8,6 +9,7 @@ use Rattle.hook_host.specs.declared.host.HookHost.{Ghosts as Hosting}
 use Rattle.endpoints.specs.Bounded.{AllRight}
 use Rattle.endpoints.specs.Server.{FitsServer}
 use Rattle.endpoints.specs.Redo as again
+use Rattle.endpoints.specs.Steps.{Reaches}
 use Rattle.change_codec.specs.Spelling.{DatedFact, HaveSpelling, batch_spelling, fact_of}
 use Rattle.change_codec.specs.Happened.{dated}
 use Rattle.change_codec.specs.HappenedLaws.{Happened-split, meaning_of-told}
@@ -107,4 +109,12 @@ module _ {H : Type 0} (hosting : Hosting H) where
     λ facts told.
         let parts = AreTold-split batches more facts told in
         subst (λ (x : List DatedFact). RedoesDated hosting old x new) (sym parts.4) (redoes_then old mid new parts.0 parts.1 (one.1 parts.0 parts.2) (then.1 parts.1 parts.3)),
+  )
+
+  -- from a later moment on
+  pub reaches_on : (old new : Restored H) (moment : ℕ) → Reaches hosting old.server moment new.server → new.hooks ≡ old.hooks → new.moment ≡ max old.moment moment → FitsOn hosting old [] new
+  reaches_on old new moment reaches hooks at outset before after fits happened = (
+    subst (λ (h : List Event). FitsServer hosting new.server outset h new.moment) (sym happened)
+        (subst (λ (m : ℕ). FitsServer hosting new.server outset before m) (sym at) (reaches outset before old.moment fits.0)),
+    hooks ∙ fits.1 ∙ ap hooks_set_in (sym happened),
   )

@@ -1,7 +1,10 @@
 -- Why rules are refused, over a batch and over all.
-use Rattle.std.proofs.Common.{◌≡◌, ◌<◌, ◌+◌, ◌++◌, ◌∙◌, ℕ, List, ◌∷◌, None, Some, inl, inr, map, take, drop, length, get_or, refl, sym, ap, arith}
+use Rattle.std.proofs.Common.{◌≡◌, ◌<◌, ◌≤◌, ◌^◌, ◌⊎◌, ◌+◌, ◌++◌, ◌∙◌, ℕ, List, ◌∷◌, None, Some, inl, inr, map, take, drop, length, get_or, refl, sym, ap, subst, arith}
 use Rattle.std.specs.Borrow.{Bor}
 use Rattle.std.proofs.lemmas.List.{drop_more, map-append, take-append-drop}
+use Rattle.batch_file.specs.Frames.{RefusesFile, recovered}
+use Rattle.batch_file.specs.declared.framing.ReadFault.{ReadFault}
+use Rattle.batch_file.specs.declared.framing.ReadFault.TheVariants as reading
 use Rattle.consent.specs.History.{Event}
 use Rattle.consent.specs.declared.change.Change.TheVariants.{HookSet}
 use Rattle.consent.specs.declared.record_version.RecordVersion.{RecordVersion}
@@ -12,11 +15,11 @@ use Rattle.endpoints.specs.declared.redo.RedoFault.TheVariants as redoing
 use Rattle.hook_host.specs.declared.fault.HookFault.{HookFault}
 use Rattle.hook_host.specs.declared.host.HookHost.{Ghosts as Hosting}
 use Rattle.image_codec.specs.Facts.{HookFact, ImageFact, RulesFact, hook_fact}
-use Rattle.image_codec.specs.Spelling.{ImageFits, image_spelling}
+use Rattle.image_codec.specs.Spelling.{ImageFits, image_spelling, rules_spelling}
 use Rattle.image_codec.specs.declared.image.KeptHook.{KeptHook}
-use Rattle.state_file.specs.Comparing.{AreNarrower, IsUnread, RefuseBeside, RefuseRules, TakesRules}
-use Rattle.state_file.specs.FaultTexts.{of_redoing}
-use Rattle.state_file.specs.Resuming.{FitsNone, IsOfChanges, IsOfImage, RefusesSetting, RefusesImage, RefusesResume}
+use Rattle.state_file.specs.Comparing.{AreNarrower, IsUnread, IsUnwritten, RefuseBeside, RefuseRules, TakesRules}
+use Rattle.state_file.specs.FaultTexts.{of_reading, of_redoing}
+use Rattle.state_file.specs.Resuming.{FitsNone, IsOfChanges, IsOfImage, RefusesSetting, RefusesImage, RefusesResume, RefuseServer}
 use Rattle.state_file.specs.Telling.{TellsIn}
 use Rattle.state_file.specs.declared.fault.StateFault.{StateFault}
 use Rattle.state_file.specs.declared.fault.StateFault.TheVariants as state
@@ -25,7 +28,11 @@ use Rattle.state_file.specs.declared.restored.Restored.{Restored}
 -- narrower than what the batch tells
 pub beside_fault : (batch : List ℕ) (told now : RulesFact) → TellsIn batch told → (fault : StateFault) → AreNarrower told now fault → RefuseBeside batch now fault
 beside_fault batch told now is state.Memory narrower = tt
-beside_fault batch told now is state.Device narrower = absurd narrower
+beside_fault batch told now is state.NotState narrower = absurd narrower
+beside_fault batch told now is (state.Version version) narrower = absurd narrower
+beside_fault batch told now is (state.Damaged number) narrower = absurd narrower
+beside_fault batch told now is (state.Unplaced reason) narrower = absurd narrower
+beside_fault batch told now is (state.Device reason) narrower = absurd narrower
 beside_fault batch told now is state.Full narrower = absurd narrower
 beside_fault batch told now is state.TooLong narrower = absurd narrower
 beside_fault batch told now is state.NoRules narrower = absurd narrower
@@ -43,7 +50,11 @@ beside_fault batch told now is (state.Hook name fault) narrower = absurd narrowe
 -- what the batch tells is not read
 pub unread : (batch : List ℕ) (now : RulesFact) (fault : StateFault) → IsUnread batch fault → RefuseBeside batch now fault
 unread batch now state.Memory is = tt
-unread batch now state.Device is = absurd is
+unread batch now state.NotState is = absurd is
+unread batch now (state.Version version) is = absurd is
+unread batch now (state.Damaged number) is = absurd is
+unread batch now (state.Unplaced reason) is = absurd is
+unread batch now (state.Device reason) is = absurd is
 unread batch now state.Full is = absurd is
 unread batch now state.TooLong is = absurd is
 unread batch now state.NoRules is = absurd is
@@ -88,10 +99,14 @@ parted hooks i d within =
     ap (map hook_fact) (sym e) ∙ map-append hook_fact (take i hooks) (get_or hooks i d ∷ drop (i + 1) hooks)
 
 -- what refuses the rules refuses the start
-pub no_start : (batches : List (List ℕ)) (now : RulesFact) (fault : StateFault) → RefuseRules batches now fault → RefusesResume batches now fault
+pub no_start : (batches : List (List ℕ)) (now : RulesFact) (fault : StateFault) → RefuseRules batches now fault → RefuseServer batches now fault
 no_start batches now state.Memory refused = refused
-no_start batches now state.Device refused = tt
-no_start batches now state.Full refused = tt
+no_start batches now state.NotState refused = refused
+no_start batches now (state.Version version) refused = refused
+no_start batches now (state.Damaged number) refused = refused
+no_start batches now (state.Unplaced reason) refused = refused
+no_start batches now (state.Device reason) refused = refused
+no_start batches now state.Full refused = refused
 no_start batches now state.TooLong refused = refused
 no_start batches now state.NoRules refused = refused
 no_start batches now (state.Spelling fault) refused = inl refused
@@ -106,9 +121,13 @@ no_start batches now (state.HookDiffers name) refused = refused
 no_start batches now (state.Hook name fault) refused = absurd refused.2.2
 
 -- what refuses the image refuses the start
-pub no_server : (batches : List (List ℕ)) (now : RulesFact) (fault : StateFault) → TakesRules batches now → RefusesImage batches fault → RefusesResume batches now fault
+pub no_server : (batches : List (List ℕ)) (now : RulesFact) (fault : StateFault) → TakesRules batches now → RefusesImage batches fault → RefuseServer batches now fault
 no_server batches now state.Memory takes refuses = tt
-no_server batches now state.Device takes refuses = absurd refuses
+no_server batches now state.NotState takes refuses = absurd refuses
+no_server batches now (state.Version version) takes refuses = absurd refuses
+no_server batches now (state.Damaged number) takes refuses = absurd refuses
+no_server batches now (state.Unplaced reason) takes refuses = absurd refuses
+no_server batches now (state.Device reason) takes refuses = absurd refuses
 no_server batches now state.Full takes refuses = absurd refuses
 no_server batches now state.TooLong takes refuses = absurd refuses
 no_server batches now state.NoRules takes refuses = absurd refuses
@@ -127,7 +146,11 @@ no_server batches now (state.Hook name fault) takes refuses = (takes, refuses)
 pub not_made_of : (batches later : List (List ℕ)) (batch : List ℕ) (image : ImageFact) → batches ≡ batch ∷ later → ImageFits image → batch ≡ image_spelling image →
     (fault : StateFault) → IsOfImage fault → RefusesImage batches fault
 not_made_of batches later batch image are fits is state.Memory of = tt
-not_made_of batches later batch image are fits is state.Device of = absurd of
+not_made_of batches later batch image are fits is state.NotState of = absurd of
+not_made_of batches later batch image are fits is (state.Version version) of = absurd of
+not_made_of batches later batch image are fits is (state.Damaged number) of = absurd of
+not_made_of batches later batch image are fits is (state.Unplaced reason) of = absurd of
+not_made_of batches later batch image are fits is (state.Device reason) of = absurd of
 not_made_of batches later batch image are fits is state.Full of = absurd of
 not_made_of batches later batch image are fits is state.TooLong of = absurd of
 not_made_of batches later batch image are fits is state.NoRules of = absurd of
@@ -143,9 +166,13 @@ not_made_of batches later batch image are fits is (state.HookDiffers name) of = 
 not_made_of batches later batch image are fits is (state.Hook name fault) of = (image, later, (fits, are ∙ ap (λ (b : List ℕ). b ∷ later) is))
 
 -- what refuses the changes refuses the start
-pub not_redone : (batches : List (List ℕ)) (now : RulesFact) (fault : StateFault) → TakesRules batches now → IsOfChanges fault → RefusesResume batches now fault
+pub not_redone : (batches : List (List ℕ)) (now : RulesFact) (fault : StateFault) → TakesRules batches now → IsOfChanges fault → RefuseServer batches now fault
 not_redone batches now state.Memory takes of = tt
-not_redone batches now state.Device takes of = absurd of
+not_redone batches now state.NotState takes of = absurd of
+not_redone batches now (state.Version version) takes of = absurd of
+not_redone batches now (state.Damaged number) takes of = absurd of
+not_redone batches now (state.Unplaced reason) takes of = absurd of
+not_redone batches now (state.Device reason) takes of = absurd of
 not_redone batches now state.Full takes of = absurd of
 not_redone batches now state.TooLong takes of = absurd of
 not_redone batches now state.NoRules takes of = absurd of
@@ -159,3 +186,57 @@ not_redone batches now (state.Follows fault) takes of = takes
 not_redone batches now (state.Image fault) takes of = absurd of
 not_redone batches now (state.HookDiffers name) takes of = absurd of
 not_redone batches now (state.Hook name fault) takes of = absurd of
+
+-- what refuses the batches refuses the file
+pub no_resume : (left : List ℕ) (now : RulesFact) (fault : StateFault) → RefuseServer (recovered left) now fault → RefusesResume left now fault
+no_resume left now state.Memory refused = refused
+no_resume left now state.NotState refused = absurd refused.2.2
+no_resume left now (state.Version version) refused = absurd refused.2.2
+no_resume left now (state.Damaged number) refused = absurd refused.2.2
+no_resume left now (state.Unplaced reason) refused = refused
+no_resume left now (state.Device reason) refused = refused
+no_resume left now state.Full refused = refused
+no_resume left now state.TooLong refused = refused
+no_resume left now state.NoRules refused = refused
+no_resume left now (state.Spelling fault) refused = refused
+no_resume left now (state.ScopeMoved name) refused = refused
+no_resume left now state.OwnerMoved refused = refused
+no_resume left now (state.ClientMoved name) refused = refused
+no_resume left now (state.ClientNarrowed name) refused = refused
+no_resume left now state.LifeNarrowed refused = refused
+no_resume left now (state.Follows fault) refused = refused
+no_resume left now (state.Image fault) refused = refused
+no_resume left now (state.HookDiffers name) refused = refused
+no_resume left now (state.Hook name fault) refused = refused
+
+-- it is no file of batches
+pub not_read : (left : List ℕ) (now : RulesFact) (fault : ReadFault) → (fault ≡ reading.Memory) ⊎ RefusesFile left fault → RefusesResume left now (of_reading fault)
+not_read left now reading.Memory either = tt
+not_read left now reading.NotState (inl none) = absurd cc
+not_read left now reading.NotState (inr refused) = refused
+not_read left now (reading.Version version) (inl none) = absurd cc
+not_read left now (reading.Version version) (inr refused) = refused
+not_read left now (reading.Damaged number) (inl none) = absurd cc
+not_read left now (reading.Damaged number) (inr refused) = refused
+
+-- its rules are too long to be told
+pub not_told : (batches : List (List ℕ)) (now : RulesFact) (bytes : List ℕ) (fault : StateFault) → bytes ≡ rules_spelling now → IsUnwritten bytes fault → RefuseServer batches now fault
+not_told batches now bytes state.Memory is refused = tt
+not_told batches now bytes state.NotState is refused = absurd refused
+not_told batches now bytes (state.Version version) is refused = absurd refused
+not_told batches now bytes (state.Damaged number) is refused = absurd refused
+not_told batches now bytes (state.Unplaced reason) is refused = absurd refused
+not_told batches now bytes (state.Device reason) is refused = absurd refused
+not_told batches now bytes state.Full is refused = absurd refused
+not_told batches now bytes state.TooLong is refused = inr (subst (λ (b : List ℕ). 2 ^ 32 ≤ length b) is refused)
+not_told batches now bytes state.NoRules is refused = absurd refused
+not_told batches now bytes (state.Spelling fault) is refused = absurd refused
+not_told batches now bytes (state.ScopeMoved name) is refused = absurd refused
+not_told batches now bytes state.OwnerMoved is refused = absurd refused
+not_told batches now bytes (state.ClientMoved name) is refused = absurd refused
+not_told batches now bytes (state.ClientNarrowed name) is refused = absurd refused
+not_told batches now bytes state.LifeNarrowed is refused = absurd refused
+not_told batches now bytes (state.Follows fault) is refused = absurd refused
+not_told batches now bytes (state.Image fault) is refused = absurd refused
+not_told batches now bytes (state.HookDiffers name) is refused = absurd refused
+not_told batches now bytes (state.Hook name fault) is refused = absurd refused

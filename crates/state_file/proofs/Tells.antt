@@ -1,43 +1,18 @@
 -- A state file in which rules are told.
-use Rattle.std.proofs.Common.{◌≡◌, ◌↔◌, ◌≤◌, ◌^◌, ◌⊎◌, inl, inr, length, ℕ, zero, suc, List, [], ◌∷◌, ◌++◌, Bool, true, false, Option, None, Some, refl, sym, ap, ◌∙◌, subst}
+use Rattle.std.proofs.Common.{◌≡◌, ◌↔◌, inl, inr, length, ℕ, zero, suc, List, [], ◌∷◌, ◌++◌, Bool, true, false, Option, None, Some, refl, sym, ap, ◌∙◌, subst, arith}
+use Rattle.std.specs.Prelude.{max}
 use Rattle.std.specs.List.{AllByRecursion}
 use Rattle.std.specs.Option.{option_or}
-use Rattle.batch_file.specs.Frames.{recovered, IsBeforeOrAfter, IsOnDisk}
-use Rattle.batch_file.specs.declared.appending.BatchFile.{BatchFile}
-use Rattle.batch_file.specs.declared.appending.BatchFault.{BatchFault}
-use Rattle.batch_file.specs.declared.appending.BatchFault.TheVariants as batch
 use Rattle.consent.specs.History.{Event}
 use Rattle.change_codec.specs.Spelling.{FitsFourBytes, IsText}
 use Rattle.image_codec.proofs.Images.{one_rules}
 use Rattle.image_codec.specs.Facts.{ClientFact, ImageFact, RulesFact}
 use Rattle.image_codec.specs.Spelling.{ClientFits, ImageFits, RulesCount, RulesFit, image_spelling, rules_fields, rules_spelling}
-use Rattle.state_file.specs.Comparing.{IsUnwritten}
-use Rattle.state_file.specs.FaultTexts.{of_batch}
-use Rattle.state_file.specs.Standing.{StandsFor, StandsOn}
-use Rattle.state_file.specs.StandingLaws.{StandsFor-rules, StandsFor-same}
-use Rattle.state_file.specs.Telling.{IsOfRules, LeavesRules, TellsIn, TellsRules, last_rules, rules_in}
+use Rattle.state_file.specs.MakingParts.{AreToldBehind}
+use Rattle.state_file.specs.Standing.{StandFor, until_of}
+use Rattle.state_file.specs.StandingLaws.{AreTold-rules, StandFor-beside, until_of-append}
+use Rattle.state_file.specs.Telling.{IsOfRules, Tell, TellsIn, last_rules, rules_in}
 use Rattle.state_file.specs.TellingLaws.{last_rules-push}
-
--- the file stands for what it stood for, with the rules or without them
-pub stands_more : (left now batch : List ℕ) (told : RulesFact) → batch ≡ rules_spelling told → recovered now ≡ recovered left ++ batch ∷ [] → StandsOn left now
-stands_more left now batch told is are history stands =
-    StandsFor-rules left now history (rules_fields told) (are ∙ ap (λ (x : List ℕ). recovered left ++ x ∷ []) is) stands
-
-pub stands_either : (left now batch : List ℕ) (told : RulesFact) → batch ≡ rules_spelling told → IsBeforeOrAfter (recovered left) batch now → StandsOn left now
-stands_either left now batch told is (inl same) history stands = StandsFor-same left now history same stands
-stands_either left now batch told is (inr more) history stands = stands_more left now batch told is more history stands
-
--- the rules are the last ones
-pub told_last : (left now batch : List ℕ) (told : RulesFact) → batch ≡ rules_spelling told → recovered now ≡ recovered left ++ batch ∷ [] → last_rules (recovered now) ≡ Some batch
-told_last left now batch told is are =
-    let of_rules : rules_in batch ≡ Some batch = ap rules_in is ∙ ap Some (sym is) in
-    ap last_rules are ∙ last_rules-push (recovered left) batch ∙ ap (λ (o : Option (List ℕ)). option_or o (last_rules (recovered left))) of_rules
-
--- all that a settled file leaves tells what it tells
-pub leaves_rules : {D : Type 0} (seen : D → List ℕ) (may_leave : D → List ℕ → Type 0) (file : BatchFile D) (rules : RulesFact) →
-    IsOnDisk seen may_leave file → TellsRules (seen file.device) rules → LeavesRules seen may_leave file rules
-leaves_rules seen may_leave file rules settled tells c (inl left) = subst (λ (x : List ℕ). TellsRules x rules) (sym (settled.durable c left)) tells
-leaves_rules seen may_leave file rules settled tells c (inr same) = subst (λ (x : List ℕ). TellsRules x rules) (sym same) tells
 
 -- what begins neither with a byte 0 nor with a byte 2 tells no rules
 no_rules : (batch : List ℕ) → (rules_in batch ≡ Some batch → ⊥) → rules_in batch ≡ None
@@ -54,24 +29,32 @@ told_item batches batch of_rules = last_rules-push batches batch ∙ ap (λ (o :
 pub untold_item : (batches : List (List ℕ)) (batch : List ℕ) → (rules_in batch ≡ Some batch → ⊥) → last_rules (batches ++ batch ∷ []) ≡ last_rules batches
 untold_item batches batch not = last_rules-push batches batch ∙ ap (λ (o : Option (List ℕ)). option_or o (last_rules batches)) (no_rules batch not)
 
--- the file was written to badly
-pub unwritten : (bytes : List ℕ) (fault : BatchFault) → (fault ≡ batch.TooLong → 2 ^ 32 ≤ length bytes) → IsUnwritten bytes (of_batch fault)
-unwritten bytes batch.Memory long = tt
-unwritten bytes batch.Failed long = tt
-unwritten bytes batch.Full long = tt
-unwritten bytes batch.TooLong long = long refl
+-- RULES BEHIND BATCHES
 
--- all that a settled file leaves stands for what it stands for
-pub leaves_standing : {D : Type 0} (seen : D → List ℕ) (may_leave : D → List ℕ → Type 0) (file : BatchFile D) (history : List Event) →
-    IsOnDisk seen may_leave file → StandsFor (seen file.device) history → (c : List ℕ) → may_leave file.device c ⊎ (c ≡ seen file.device) → StandsFor c history
-leaves_standing seen may_leave file history settled stands c (inl left) = subst (λ (x : List ℕ). StandsFor x history) (sym (settled.durable c left)) stands
-leaves_standing seen may_leave file history settled stands c (inr same) = subst (λ (x : List ℕ). StandsFor x history) (sym same) stands
+max_0 : (n : ℕ) → max n (max 0 0) ≡ n
+max_0 n = omega arith
 
--- the file tells the rules: it told them before, or they were told now
-pub told_either : (told : Bool) (old new : List ℕ) (now : RulesFact) (bytes : List ℕ) → IsOfRules bytes now → (told ≡ true → TellsRules old now) → (told ≡ true → new ≡ old) →
-    (told ≡ false → last_rules (recovered new) ≡ Some bytes) → TellsRules new now
-told_either true old new now bytes of tells same last = subst (λ (x : List ℕ). TellsRules x now) (sym (same refl)) (tells refl)
-told_either false old new now bytes of tells same last = (bytes, last refl, inl of)
+pub told_behind : (told : Bool) (old new : List (List ℕ)) (rules : RulesFact) (bytes : List ℕ) → IsOfRules bytes rules → (told ≡ true → Tell old rules) → (told ≡ true → new ≡ old) →
+    (told ≡ false → new ≡ old ++ bytes ∷ []) → AreToldBehind old rules new
+told_behind true old new rules bytes of tells same added = inl (tells refl, same refl)
+told_behind false old new rules bytes of tells same added = inr (of.0, added refl ∙ ap (λ (b : List ℕ). old ++ b ∷ []) of.1)
+
+module _ (old new : List (List ℕ)) (rules : RulesFact) where
+  -- then they are told
+  pub tells_behind : AreToldBehind old rules new → Tell new rules
+  tells_behind (inl same) = subst (λ (bs : List (List ℕ)). Tell bs rules) (sym same.1) same.0
+  tells_behind (inr more) = (rules_spelling rules, ap last_rules more.1 ∙ last_rules-push old (rules_spelling rules), inl (more.0, refl))
+
+  -- and the batches stand for the same
+  pub stand_behind : (history : List Event) → AreToldBehind old rules new → StandFor old history → StandFor new history
+  stand_behind history (inl same) stands = subst (λ (bs : List (List ℕ)). StandFor bs history) (sym same.1) stands
+  stand_behind history (inr more) stands =
+      subst (λ (bs : List (List ℕ)). StandFor bs history) (sym more.1) (StandFor-beside old (rules_spelling rules ∷ []) history (AreTold-rules (rules_fields rules)) stands)
+
+  -- and tell the same moment
+  pub until_behind : AreToldBehind old rules new → until_of new ≡ until_of old
+  until_behind (inl same) = ap until_of same.1
+  until_behind (inr more) = ap until_of more.1 ∙ until_of-append old (rules_spelling rules ∷ []) ∙ max_0 (until_of old)
 
 -- WHAT A BATCH TELLS
 

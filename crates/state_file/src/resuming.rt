@@ -55,18 +55,19 @@ pub(crate) fn resume<H: HookHost>(
     ensures refused { IfErr result (RefusesResume bytes.now (rules_of registry)) }
 {
     let Batches {
-        batches,
+        batches: list,
         mut frames,
         torn,
     } = read_batches(alloc, bytes)?;
-    let rules = rules_behind(alloc, &batches, &registry)?;
+    let batches = list.as_slice();
+    let rules = rules_behind(alloc, batches, &registry)?;
     let Beginning {
         mut restored,
         later,
         image,
-    } = begin(alloc, registry, host, &batches)?;
+    } = begin(alloc, registry, host, batches)?;
     redo_all(alloc, &mut restored, later)?;
-    let until = until_of(&batches);
+    let until = until_of(batches);
     restored.reach(until);
     tell(&mut frames, &rules)?;
     let known = Known {
