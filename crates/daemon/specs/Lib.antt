@@ -1,3 +1,4 @@
+pub mod FaultTexts
 pub mod Listening
 pub mod Begun
 pub mod Started

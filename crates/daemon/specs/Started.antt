@@ -19,6 +19,7 @@ use Rattle.event_loop.specs.declared.limits.Limits.{Limits}
 use Rattle.event_loop.specs.declared.tools.Tools.{Tools}
 use Rattle.event_loop.specs.Scenes.{Promises, promises}
 use Rattle.event_loop.specs.Ends.{Beginning, HasServed, ServesNothing}
+use Rattle.daemon.specs.declared.means.Ended.{Ended}
 use Rattle.daemon.specs.declared.means.Ending.{Ending}
 use Rattle.daemon.specs.declared.means.Means.{Means}
 use Rattle.daemon.specs.declared.patience.Patience.{Patience}
@@ -77,11 +78,12 @@ pub record HasStarted {N C J K H : Type 0} (p : Promises N C J K H) (rules : Reg
   pub fault_is : ending.fault ≡ fault
   pub serves : Serves p (new_journey (outset_of rules host)) means ending
 
--- a server that was made before did so, with this keeper, and with some sockets, clocks, journal and draws
-pub record HasGoneOn {N C J K H : Type 0} (p : Promises N C J K H) (server : SeenServer H) (keeper : K) (patience : Patience) (fault : LoopFault) : Type 0 where
+-- a server that was made before did so, with this keeper, which was left then, and with some sockets, clocks, journal and draws
+pub record HasGoneOn {N C J K H : Type 0} (p : Promises N C J K H) (server : SeenServer H) (keeper : K) (patience : Patience) (ended : Ended K) : Type 0 where
   pub means : Means N C J K
   pub keeper_is : means.keeper ≡ keeper
   pub patience_is : means.patience ≡ patience
   pub ending : Ending N C J K H
-  pub fault_is : ending.fault ≡ fault
+  pub fault_is : ending.fault ≡ ended.fault
+  pub keeper_left : ending.tools.keeper ≡ ended.keeper
   pub serves : ServesFrom p server means ending

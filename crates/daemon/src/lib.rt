@@ -14,10 +14,10 @@ mod sockets;
 mod until_stopped;
 
 pub use by_count::serve;
-pub use fault::ListenFault;
+pub use fault::{ListenFault, SocketFault};
 pub use line_journal::LineJournal;
 pub use machine_clocks::MachineClocks;
-pub use means::{Ending, Means, go_on_with, serve_with};
+pub use means::{Ended, Ending, Means, go_on_with, serve_with};
 pub use patience::Patience;
 pub use report_line::report_text;
 pub use sockets::MachineSockets;

@@ -1,7 +1,7 @@
 //! Faults and reports, in lines.
 
 use crate::report_line::report_text;
-use event_loop::{ConnectionFault, Journal, Notice};
+use event_loop::{ConnectionFault, Journal, Notice, Report};
 use std::alloc::Global;
 use std::io::Write;
 
@@ -23,10 +23,24 @@ impl<'e, E: Write> Journal for LineJournal<'e, E> {
     }
 
     fn report(&mut self, notice: &Notice) {
-        let Notice::Reported(report) = notice else {
-            let _ = writeln!(self.lines, "oauthd: store full");
-            return;
-        };
+        match notice {
+            Notice::Reported(report) => self.print(report),
+            Notice::StoreFull => {
+                let _ = writeln!(self.lines, "oauthd: store full");
+            }
+            Notice::ImageRefused => {
+                let _ = writeln!(
+                    self.lines,
+                    "oauthd: state: the file cannot be shortened; it grows until that works"
+                );
+            }
+        }
+    }
+}
+
+impl<'e, E: Write> LineJournal<'e, E> {
+    // A report, in a line.
+    fn print(&mut self, report: &Report) {
         let Ok(mut line) = report_text(self.alloc, report) else {
             return;
         };

@@ -1,9 +1,9 @@
 //! Sockets that listen, and the connections that come to them.
 
-ghost use Rattle.std.specs.Prelude.{◌≡◌, OnOk, IfErr};
+ghost use Rattle.std.specs.Prelude.{◌≡◌, ◌≢◌, OnOk, IfErr};
 ghost use Rattle.std.specs.Io.KnownBytes.{Appends};
 ghost use Rattle.daemon.specs.Listening.{listening_text, Announces};
-ghost use Rattle.daemon.specs.declared.fault.ListenFault.TheVariants.{NoSocket, Unwritten};
+ghost use Rattle.daemon.specs.declared.fault.ListenFault.TheVariants.{Unwritten};
 
 use crate::fault::ListenFault;
 use std::io::{self, Read, Write};
@@ -25,13 +25,15 @@ pub fn listen<R: Net, W: Write>(
     out: &mut W,
 ) -> Result<R::Listener, ListenFault>
     ensures done { OnOk result (Announces (W.contents out.old) (W.contents out.new)) }
-    ensures silent { IfErr result (λ fault. fault ≡ NoSocket → out.new ≡ out.old) }
+    ensures silent { IfErr result (λ fault. fault ≢ Unwritten → out.new ≡ out.old) }
 {
-    let Ok(listener) = TcpListener::bind(rt, address) else {
-        return Err(ListenFault::NoSocket);
+    let listener = match TcpListener::bind(rt, address) {
+        Ok(listener) => listener,
+        Err(error) => return Err(ListenFault::no_socket(&error)),
     };
-    let Ok(bound) = listener.local_addr() else {
-        return Err(ListenFault::NoSocket);
+    let bound = match listener.local_addr() {
+        Ok(bound) => bound,
+        Err(error) => return Err(ListenFault::no_socket(&error)),
     };
     let Ok(()) = announce(out, bound) else {
         return Err(ListenFault::Unwritten);

@@ -39,6 +39,15 @@ pub struct Ending<N, C, J, K, H> {
     pub tools: Tools<N, C, J, K, H>,
 }
 
+/// What is left of a server that can't go on, once its connections are closed.
+#[derive(Drop)]
+pub struct Ended<K> {
+    /// Why it could not go on.
+    pub fault: LoopFault,
+    /// Its keeper, as it was left.
+    pub keeper: K,
+}
+
 /// Serves up to 64 connections at once, by an edge and with what it is handed, until it can't go on.
 fn serve_by<N: Sockets, C: Clocks, J: Journal, K: ImageKeeper>(
     edge: Edge<Chain>,

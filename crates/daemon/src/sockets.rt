@@ -2,7 +2,7 @@
 
 ghost use Rattle.std.specs.Prelude.{◌≤◌, length};
 
-use crate::fault::ListenFault;
+use crate::fault::{ListenFault, SocketFault};
 use event_loop::{Accepted, PLACES, Ready, Received, Sent, Sockets};
 use mio::event::Event;
 use mio::net::{TcpListener, TcpStream};
@@ -33,14 +33,19 @@ pub struct MachineSockets {
     streams: Vec<Option<TcpStream>>,
 }
 
-/// A listener at the first of the addresses that a text names at which there can be one.
-fn listener_at<R: Net>(rt: &R, address: &str) -> Option<TcpListener> {
-    for each in address.to_socket_addrs(rt).ok()? {
-        if let Ok(listener) = TcpListener::bind(rt, each) {
-            return Some(listener);
+/// A listener at the first of the addresses that a text names at which there can be one; or the fault of the last.
+fn listener_at<R: Net>(rt: &R, address: &str) -> Result<TcpListener, ListenFault> {
+    let mut fault = ListenFault::NoSocket(SocketFault::NoAddress);
+    let Ok(addresses) = address.to_socket_addrs(rt) else {
+        return Err(fault);
+    };
+    for each in addresses {
+        match TcpListener::bind(rt, each) {
+            Ok(listener) => return Ok(listener),
+            Err(error) => fault = ListenFault::no_socket(&error),
         }
     }
-    None
+    Err(fault)
 }
 
 /// So many places without a connection.
@@ -90,18 +95,15 @@ impl MachineSockets {
     ) -> Result<MachineSockets, ListenFault> {
         let events = Events::with_capacity(alloc, TOLD_LIMIT)?;
         let streams = free_places(alloc)?;
-        let Some(mut listener) = listener_at(rt, address) else {
-            return Err(ListenFault::NoSocket);
+        let mut listener = listener_at(rt, address)?;
+        let poll = match Poll::new(rt) {
+            Ok(poll) => poll,
+            Err(error) => return Err(ListenFault::no_socket(&error)),
         };
-        let Ok(poll) = Poll::new(rt) else {
-            return Err(ListenFault::NoSocket);
-        };
-        let Ok(()) = poll
-            .registry()
-            .register(&mut listener, LISTENER, Interest::READABLE)
-        else {
-            return Err(ListenFault::NoSocket);
-        };
+        let registry = poll.registry();
+        if let Err(error) = registry.register(&mut listener, LISTENER, Interest::READABLE) {
+            return Err(ListenFault::no_socket(&error));
+        }
         Ok(MachineSockets {
             poll,
             events,

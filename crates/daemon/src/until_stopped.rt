@@ -6,11 +6,11 @@ ghost use Rattle.daemon.specs.Listening.{Announces};
 ghost use Rattle.daemon.specs.Started.{HasGoneOn, HasStarted, keeping_nothing, on_machine};
 ghost use Rattle.daemon.specs.declared.fault.ListenFault.TheVariants.{Unwritten};
 
-use crate::fault::ListenFault;
+use crate::fault::{ListenFault, SocketFault};
 use crate::line_journal::LineJournal;
 use crate::listening::announce;
 use crate::machine_clocks::MachineClocks;
-use crate::means::{Means, go_on_with, serve_with};
+use crate::means::{Ended, Means, go_on_with, serve_with};
 use crate::patience::Patience;
 use crate::sockets::MachineSockets;
 use change_codec::NoKeeper;
@@ -45,7 +45,7 @@ fn listening_sockets<R: Net + AllocGlobal, W: Write>(
 {
     let sockets = MachineSockets::listen(rt, rt.alloc(), address)?;
     let Some(bound) = sockets.address() else {
-        return Err(ListenFault::NoSocket);
+        return Err(ListenFault::NoSocket(SocketFault::Other));
     };
     let Ok(()) = announce(out, bound) else {
         return Err(ListenFault::Unwritten);
@@ -90,7 +90,7 @@ pub fn start<'r, 'e, R: Net + Clock + RandomSource + AllocGlobal, W: Write, E: W
 /// Listens at an address, tells where, and serves up to 64 connections at once until the program is stopped, by a server that
 /// was made before, whose changes are kept before a reply tells of them, and with draws by random bytes of the system. The
 /// fault of a connection ends that one alone, and is told to `err`, in at most one line a second. What it gives is why it
-/// can't go on.
+/// can't go on, and the keeper, as it was left.
 pub fn go_on<
     'r,
     'e,
@@ -106,7 +106,7 @@ pub fn go_on<
     patience: Patience,
     out: &mut W,
     err: &'e mut E,
-) -> Result<LoopFault, ListenFault>
+) -> Result<Ended<K>, ListenFault>
     ensures done { OnOk result (Announces (W.contents out.old) (W.contents out.new)) }
     ensures serves { IfOk result (HasGoneOn (on_machine ⟦<MachineClocks<'r, R> as Clocks>⟧ ⟦<LineJournal<'e, E> as Journal>⟧
         (keeping K.Keeper K.ImageKeeper.own)) server keeper patience) }
@@ -127,5 +127,8 @@ pub fn go_on<
         patience,
     };
     let ending = go_on_with(rt.alloc(), server, means);
-    Ok(ending.fault)
+    Ok(Ended {
+        fault: ending.fault,
+        keeper: ending.tools.keeper,
+    })
 }

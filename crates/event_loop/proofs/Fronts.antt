@@ -1,8 +1,10 @@
 -- Each crash leaves what stands for what was kept at some scene.
-use Rattle.std.proofs.Common.{◌≡◌, ◌⊎◌, inl, inr, ◌≤◌, ℕ, List, Some, refl, sym, ap, subst, ◌∙◌, arith}
+use Rattle.std.proofs.Common.{◌≡◌, ◌⊎◌, inl, inr, ◌≤◌, ℕ, suc, max, List, [], ◌∷◌, Some, refl, sym, ap, subst, ◌∙◌, arith}
 use Rattle.hook_host.specs.declared.host.HookHost.{Ghosts as Hosting}
 use Rattle.consent.specs.History.{Event}
-use Rattle.http_edge.specs.Schedule.{World, PieceComes, PiecePasses, TakesOutput, TakesNothing, AnsweredPiece, Piece, piece_of}
+use Rattle.std.proofs.lemmas.Bool.Decides.{leb_tells}
+use Rattle.heads.specs.Message.{Message}
+use Rattle.http_edge.specs.Schedule.{World, IsServerStill, moment_after, PieceComes, PiecePasses, TakesOutput, TakesNothing, AnsweredPiece, Piece, piece_of}
 use Rattle.endpoints.specs.Server.{Outset}
 use Rattle.event_loop.specs.declared.fault.LoopFault.{LoopFault}
 use Rattle.event_loop.specs.declared.place.Place.{Place}
@@ -10,7 +12,7 @@ use Rattle.change_codec.specs.Keeping.{IsFrontOf, Holds, Keeps, KeepsMoments}
 use Rattle.event_loop.specs.Courses.{Course}
 use Rattle.event_loop.specs.Deeds.{waits as waits_done}
 use Rattle.event_loop.specs.Giving.{GivesPieces, nothing, gives}
-use Rattle.event_loop.specs.Scenes.{Promises, Scene, IsAllKept, IsUnkept}
+use Rattle.event_loop.specs.Scenes.{Promises, Scene, IsUnkept}
 use Rattle.event_loop.specs.Coming.{AcceptsOne, opens, denies, finds_nobody, fails, asks}
 use Rattle.event_loop.specs.Reading as reading
 use Rattle.event_loop.specs.Reading.{ReadsPlace}
@@ -23,31 +25,68 @@ use Rattle.event_loop.specs.Ends.{CannotGoOn, no_wait, no_time, no_moment, not_k
 use Rattle.event_loop.proofs.Answering.{served_answered}
 use Rattle.event_loop.proofs.Kept.{same_front, front_then, reached_front, kept_history, kept_last}
 
--- the history grows, and what was kept last is as it was
-pub record Grows (old new : World) : Type 0 where
+-- the history grows, what was kept last is as it was, and the greatest moment too, or it is this one
+pub record Grows (m : ℕ) (old new : World) : Type 0 where
   pub kept : new.kept ≡ old.kept
   pub front : IsFrontOf old.history new.history
+  pub greatest : (new.greatest ≡ old.greatest) ⊎ (new.greatest ≡ m)
 
-grows_not : (old new : World) → new ≡ old → Grows old new
-grows_not old new same = record { kept = ap (λ (w : World). w.kept) same; front = same_front old.history new.history (ap (λ (w : World). w.history) same) }
+grows_not : (m : ℕ) (old new : World) → new ≡ old → Grows m old new
+grows_not m old new same = record {
+  kept = ap (λ (w : World). w.kept) same;
+  front = same_front old.history new.history (ap (λ (w : World). w.history) same);
+  greatest = inl (ap (λ (w : World). w.greatest) same);
+}
 
-grows_then : (a b c : World) → Grows a b → Grows b c → Grows a c
-grows_then a b c one two = record { kept = two.kept ∙ one.kept; front = front_then a.history b.history c.history one.front two.front }
+-- the server's side is as it was
+grows_still : (m : ℕ) (old new : World) → IsServerStill old new → Grows m old new
+grows_still m old new still = record { kept = still.kept; front = same_front old.history new.history still.history; greatest = inl still.greatest }
+
+grows_then : (m : ℕ) (a b c : World) → Grows m a b → Grows m b c → Grows m a c
+grows_then m a b c one two = record {
+  kept = two.kept ∙ one.kept;
+  front = front_then a.history b.history c.history one.front two.front;
+  greatest = elim two.greatest [
+    | inr now ↦ inr now
+    | inl same ↦ elim one.greatest [
+      | inl before ↦ inl (same ∙ before)
+      | inr now ↦ inr (same ∙ now)
+    ]
+  ];
+}
+
+max_either : (a b : ℕ) → (max a b ≡ a) ⊎ (max a b ≡ b)
+max_either a b = elim (leb_tells a b) [
+  | inl le ↦ (let within = le.1 in inr (omega (arith, within)))
+  | inr gt ↦ (let over = gt.1 in inl (omega (arith, over)))
+]
+
+-- only requests move the greatest moment
+moved_to : (greatest m : ℕ) (messages : List Message) → (moment_after greatest m messages ≡ greatest) ⊎ (moment_after greatest m messages ≡ m)
+moved_to greatest m [] = inl refl
+moved_to greatest m (message ∷ messages) = max_either greatest m
 
 came_grows : {H : Type 0} (hosting : Hosting H) (outset : Outset H) (old new : World) (came : AnsweredPiece) →
-    PieceComes hosting outset old came new ⊎ PiecePasses old came new → Grows old new
-came_grows hosting outset old new came (inl answers) = record { kept = answers.kept; front = (_, answers.history) }
-came_grows hosting outset old new came (inr passes) = grows_not old new passes.same
+    PieceComes hosting outset old came new ⊎ PiecePasses old came new → Grows came.piece.moment old new
+came_grows hosting outset old new came (inl answers) = record {
+  kept = answers.kept;
+  front = (_, answers.history);
+  greatest = elim (moved_to old.greatest came.piece.moment answers.messages) [
+    | inl same ↦ inl (answers.greatest ∙ same)
+    | inr now ↦ inr (answers.greatest ∙ now)
+  ];
+}
+came_grows hosting outset old new came (inr passes) = grows_not came.piece.moment old new passes.same
 
 gives_grows : {H : Type 0} (hosting : Hosting H) (piece : Piece) (first : Course H) (bytes : List ℕ) (course : Course H) → GivesPieces hosting piece first bytes course →
-    Grows first.journey.world course.journey.world
-gives_grows hosting piece first bytes course nothing = grows_not _ _ refl
+    Grows piece.moment first.journey.world course.journey.world
+gives_grows hosting piece first bytes course nothing = grows_not piece.moment _ _ refl
 gives_grows hosting piece first bytes course (gives {bytes = front} {course = before} part given still g) =
-    grows_then first.journey.world before.journey.world _ (gives_grows hosting piece first front before given) (came_grows hosting before.journey.outset before.journey.world g.on.on.world _ g.on.on.happens.1)
+    grows_then piece.moment first.journey.world before.journey.world _ (gives_grows hosting piece first front before given) (came_grows hosting before.journey.outset before.journey.world g.on.on.world _ g.on.on.happens.1)
 
-takes_grows : (old new : World) (c n : ℕ) → TakesOutput old new c n ⊎ TakesNothing old new c n → Grows old new
-takes_grows old new c n (inl takes) = record { kept = takes.still.kept; front = same_front _ _ takes.still.history }
-takes_grows old new c n (inr absent) = grows_not old new absent.same
+takes_grows : (m : ℕ) (old new : World) (c n : ℕ) → TakesOutput old new c n ⊎ TakesNothing old new c n → Grows m old new
+takes_grows m old new c n (inl takes) = grows_still m old new takes.still
+takes_grows m old new c n (inr absent) = grows_not m old new absent.same
 
 -- the clocks' times are as they were, and no wait was done
 abbrev pub IsSameTime : {N C J K H : Type 0} → Scene N C J K H → Scene N C J K H → Type 0
@@ -59,54 +98,55 @@ KeepsLast p s keeper = (kept : List Event) → s.course.journey.world.kept ≡ S
 
 -- the keeper is as it was, and the history grows; or what is unkept is kept; or what was kept is kept in another way
 pub data Moves {N C J K H : Type 0} (p : Promises N C J K H) (s s' : Scene N C J K H) : Type 0 where
-  goes_on : (s'.keeper ≡ s.keeper) × IsSameTime s s' → Grows s.course.journey.world s'.course.journey.world → Moves p s s'
+  goes_on : (s'.keeper ≡ s.keeper) × IsSameTime s s' → Grows s.times.moment s.course.journey.world s'.course.journey.world → Moves p s s'
   keeps_all : (unkept : IsUnkept s.course.journey.world) → Keeps p.keeping.crashes unkept.kept s.course.journey.world.history s.keeper s'.keeper → s'.course.journey.world.kept ≡ Some s.course.journey.world.history →
-      s'.course.journey.world.history ≡ s.course.journey.world.history → KeepsMoments p.keeping.crashes s.keeper s'.keeper → IsSameTime s s' → Moves p s s'
+      s'.course.journey.world.history ≡ s.course.journey.world.history → KeepsMoments p.keeping.crashes s.keeper s'.keeper →
+      IsSameTime s s' × (s'.course.journey.world.greatest ≡ s.course.journey.world.greatest) → Moves p s s'
   keeps_still : KeepsLast p s s'.keeper → s'.course.journey.world ≡ s.course.journey.world → KeepsMoments p.keeping.crashes s.keeper s'.keeper →
-      IsSameTime s s' ⊎ MomentIsHeld p s' → Moves p s s'
+      IsSameTime s s' ⊎ (MomentIsHeld p s' × (waits_done s'.deeds ≡ suc (waits_done s.deeds))) → Moves p s s'
 
 module _ {N C J K H : Type 0} (p : Promises N C J K H) where
   comes_moves : (s s' : Scene N C J K H) → AcceptsOne p s s' → Moves p s s'
-  comes_moves s s' (opens j n e on within free done) = goes_on (refl, refl, refl) (record { kept = on.happens.still.kept; front = same_front _ _ on.happens.still.history })
-  comes_moves s s' (denies j n n' fault noted within free done refused closed noting) = goes_on (refl, refl, refl) (grows_not _ _ refl)
-  comes_moves s s' (finds_nobody j n done) = goes_on (refl, refl, refl) (grows_not _ _ refl)
-  comes_moves s s' (fails j n noted done noting) = goes_on (refl, refl, refl) (grows_not _ _ refl)
-  comes_moves s s' (asks n taken done) = goes_on (refl, refl, refl) (grows_not _ _ refl)
+  comes_moves s s' (opens j n e on within free done) = goes_on (refl, (refl, refl)) (grows_still s.times.moment s.course.journey.world on.world on.happens.still)
+  comes_moves s s' (denies j n n' fault noted within free done refused closed noting) = goes_on (refl, (refl, refl)) (grows_not s.times.moment _ _ refl)
+  comes_moves s s' (finds_nobody j n done) = goes_on (refl, (refl, refl)) (grows_not s.times.moment _ _ refl)
+  comes_moves s s' (fails j n noted done noting) = goes_on (refl, (refl, refl)) (grows_not s.times.moment _ _ refl)
+  comes_moves s s' (asks n taken done) = goes_on (refl, (refl, refl)) (grows_not s.times.moment _ _ refl)
 
   reads_moves : (j : ℕ) (place : Place) (s s' : Scene N C J K H) → ReadsPlace p j place s s' → Moves p s s'
   reads_moves j place s s' (reading.hears bytes n course place' some few done heard is) =
-      goes_on (refl, refl, refl) (gives_grows p.hosting (piece_of j bytes s.times.moment) s.course heard.given course heard.gives)
+      goes_on (refl, (refl, refl)) (gives_grows p.hosting (piece_of j bytes s.times.moment) s.course heard.given course heard.gives)
   reads_moves j place s s' (reading.refuses bytes n fault course some few done unheard) =
-      goes_on (refl, refl, refl) (gives_grows p.hosting (piece_of j bytes s.times.moment) s.course unheard.given course unheard.gives)
-  reads_moves j place s s' (reading.ends n e on done) = goes_on (refl, refl, refl) (record { kept = on.happens.still.kept; front = same_front _ _ on.happens.still.history })
-  reads_moves j place s s' (reading.ends_nothing n fault done refused) = goes_on (refl, refl, refl) (grows_not _ _ refl)
-  reads_moves j place s s' (reading.finds_nothing n done) = goes_on (refl, refl, refl) (grows_not _ _ refl)
-  reads_moves j place s s' (reading.fails n done) = goes_on (refl, refl, refl) (grows_not _ _ refl)
+      goes_on (refl, (refl, refl)) (gives_grows p.hosting (piece_of j bytes s.times.moment) s.course unheard.given course unheard.gives)
+  reads_moves j place s s' (reading.ends n e on done) = goes_on (refl, (refl, refl)) (grows_still s.times.moment s.course.journey.world on.world on.happens.still)
+  reads_moves j place s s' (reading.ends_nothing n fault done refused) = goes_on (refl, (refl, refl)) (grows_not s.times.moment _ _ refl)
+  reads_moves j place s s' (reading.finds_nothing n done) = goes_on (refl, (refl, refl)) (grows_not s.times.moment _ _ refl)
+  reads_moves j place s s' (reading.fails n done) = goes_on (refl, (refl, refl)) (grows_not s.times.moment _ _ refl)
 
   writes_moves : (j : ℕ) (place : Place) (s s' : Scene N C J K H) → WritesPlace p j place s s' → Moves p s s'
-  writes_moves j place s s' (writing.sends count front n e on some is_front done) = goes_on (refl, refl, refl) (takes_grows s.course.journey.world on.world j count on.happens)
-  writes_moves j place s s' (writing.finds_no_room n done) = goes_on (refl, refl, refl) (grows_not _ _ refl)
-  writes_moves j place s s' (writing.fails n done) = goes_on (refl, refl, refl) (grows_not _ _ refl)
+  writes_moves j place s s' (writing.sends count front n e on some is_front done) = goes_on (refl, (refl, refl)) (takes_grows s.times.moment s.course.journey.world on.world j count on.happens)
+  writes_moves j place s s' (writing.finds_no_room n done) = goes_on (refl, (refl, refl)) (grows_not s.times.moment _ _ refl)
+  writes_moves j place s s' (writing.fails n done) = goes_on (refl, (refl, refl)) (grows_not s.times.moment _ _ refl)
 
   closes_moves : (j : ℕ) (place : Place) (s s' : Scene N C J K H) → Closes p j place s s' → Moves p s s'
-  closes_moves j place s s' (leaves n e on noted done noting) = goes_on (refl, refl, refl) (record { kept = on.happens.still.kept; front = same_front _ _ on.happens.still.history })
+  closes_moves j place s s' (leaves n e on noted done noting) = goes_on (refl, (refl, refl)) (grows_still s.times.moment s.course.journey.world on.world on.happens.still)
 
   pub step_moves : (s s' : Scene N C J K H) → LoopStep p s s' → Moves p s s'
-  step_moves s s' (waits limit room found n times c keeper may done told kept) = keeps_still (λ last is. kept.holds last) refl kept.moments (inr kept.told)
-  step_moves s s' (hears_of_listener more is) = goes_on (refl, refl, refl) (grows_not _ _ refl)
-  step_moves s s' (hears_of j readable writable hung more place place' is here told) = goes_on (refl, refl, refl) (grows_not _ _ refl)
-  step_moves s s' (hears_of_none j readable writable hung more is none) = goes_on (refl, refl, refl) (grows_not _ _ refl)
+  step_moves s s' (waits limit room found n times c keeper may done told kept) = keeps_still (λ last is. kept.holds last) refl kept.moments (inr (kept.told, refl))
+  step_moves s s' (hears_of_listener more is) = goes_on (refl, (refl, refl)) (grows_not s.times.moment _ _ refl)
+  step_moves s s' (hears_of j readable writable hung more place place' is here told) = goes_on (refl, (refl, refl)) (grows_not s.times.moment _ _ refl)
+  step_moves s s' (hears_of_none j readable writable hung more is none) = goes_on (refl, (refl, refl)) (grows_not s.times.moment _ _ refl)
   step_moves s s' (comes s'' told coming) = comes_moves s s'' coming
-  step_moves s s' (tries_again since barred later) = goes_on (refl, refl, refl) (grows_not _ _ refl)
+  step_moves s s' (tries_again since barred later) = goes_on (refl, (refl, refl)) (grows_not s.times.moment _ _ refl)
   step_moves s s' (reads j place s'' here readable unread may reading) = reads_moves j place s s'' reading
   step_moves s s' (writes j place s'' here writable unwritten kept may writing) = writes_moves j place s s'' writing
   step_moves s s' (closes j place s'' here taken cause closing) = closes_moves j place s s'' closing
-  step_moves s s' (reports notice told journal due done) = goes_on (refl, refl, refl) (grows_not _ _ refl)
+  step_moves s s' (reports notice told journal due done) = goes_on (refl, (refl, refl)) (grows_not s.times.moment _ _ refl)
   step_moves s s' (puts_image keeper all kept moments short) =
       keeps_still (λ last is. subst (λ (h : List Event). Keeps p.keeping.crashes h h s.keeper keeper) (sym (all last is)) kept) refl moments (inl (refl, refl))
-  step_moves s s' (no_image journal all long ago told) = goes_on (refl, refl, refl) (grows_not _ _ refl)
+  step_moves s s' (no_image journal all long ago told) = goes_on (refl, (refl, refl)) (grows_not s.times.moment _ _ refl)
   step_moves s s' (keeps keeper e unkept on undone kept moments) =
-      keeps_all unkept kept (kept_last s.course.journey.world on.world on.happens) (kept_history s.course.journey.world on.world on.happens) moments (refl, refl)
+      keeps_all unkept kept (kept_last s.course.journey.world on.world on.happens) (kept_history s.course.journey.world on.world on.happens) moments ((refl, refl), ap (λ (w : World). w.greatest) on.happens.kept)
 
   -- what was kept is a front of what happened, wherever steps lead to
   served_front : (first s : Scene N C J K H) → Served p first s → (kept : List Event) → s.course.journey.world.kept ≡ Some kept → IsFrontOf kept s.course.journey.world.history

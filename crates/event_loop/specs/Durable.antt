@@ -1,5 +1,5 @@
 -- What a crash leaves of what was done.
-use Rattle.std.specs.Prelude.{◌≡◌, ◌⊎◌, ◌≤◌, ℕ, List, Some}
+use Rattle.std.specs.Prelude.{◌≡◌, ◌≢◌, ◌⊎◌, ◌≤◌, ℕ, List, Some}
 use Rattle.consent.specs.History.{Event}
 use Rattle.change_codec.specs.Keeping.{IsFrontOf, Holds, HoldsMoment}
 use Rattle.event_loop.specs.Scenes.{Promises, Scene}
@@ -42,10 +42,12 @@ abbrev pub IsDurableToEnd : {N C J K H : Type 0} → Promises N C J K H → Scen
 IsDurableToEnd p s last end = (kept : List Event) → s.course.journey.world.kept ≡ Some kept → (c : List ℕ) → MayLeave p s end c →
     StandsBetween p s kept last c ⊎ p.keeping.crashes.stands_for c last.course.journey.world.history
 
--- the keeper holds the moment by which requests are answered
+-- the keeper holds the moment by which requests are answered now
 abbrev pub MomentIsHeld : {N C J K H : Type 0} → Promises N C J K H → Scene N C J K H → Type 0
 MomentIsHeld p s = HoldsMoment p.keeping.crashes s.keeper s.times.moment
 
--- Each crash from the one scene on, up to the other, tells the one's moment, or a later one: so does a start on what it left.
-abbrev pub MomentStays : {N C J K H : Type 0} → Promises N C J K H → Scene N C J K H → Scene N C J K H → Type 0
-MomentStays p s s' = (c : List ℕ) → MayLeave p s s' c → s.times.moment ≤ p.keeping.crashes.until c
+-- Where requests have moved the greatest moment by which one was answered on since the first scene, each crash from the one
+-- scene on, up to the other, tells that of the one, or a later one.
+abbrev pub MomentStays : {N C J K H : Type 0} → Promises N C J K H → Scene N C J K H → Scene N C J K H → Scene N C J K H → Type 0
+MomentStays p first s s' = s.course.journey.world.greatest ≢ first.course.journey.world.greatest → (c : List ℕ) → MayLeave p s s' c →
+    s.course.journey.world.greatest ≤ p.keeping.crashes.until c

@@ -61,7 +61,8 @@ tools_at s = record {
 -- The clocks told the first times, and steps led on, whose every scene is answered, until something failed; then nothing
 -- was done but that each connection that was left was closed and forgotten, and all places are free, and that behind them,
 -- where reports are wanted, there was one more. Where the keeper held at first what was kept, all that was kept is durable.
--- Behind the first wait the keeper holds the moment by which requests are answered: each crash from then on tells it.
+-- Behind the first wait the keeper holds the moment by which requests are answered, and each crash tells the greatest one by
+-- which one was.
 pub record HasServed {N C J K H : Type 0} (p : Promises N C J K H) (start : Beginning N C J K H) (fault : LoopFault) (tools' : Tools N C J K H) : Type 0 where
   pub first : Scene N C J K H
   pub is_first : IsFirst p first
@@ -74,7 +75,7 @@ pub record HasServed {N C J K H : Type 0} (p : Promises N C J K H) (start : Begi
   pub answered : (s : Scene N C J K H) → Served p first s → IsAllAnswered p s
   pub durable : KeeperHolds p first → (s s' : Scene N C J K H) → Served p first s → Onward p s s' → IsDurable p s s'
   pub moment : (s : Scene N C J K H) → Served p first s → 0 < deed.waits s.deeds → MomentIsHeld p s
-  pub moment_stays : (s s' : Scene N C J K H) → Served p first s → 0 < deed.waits s.deeds → Onward p s s' → MomentStays p s s'
+  pub moment_stays : (s s' : Scene N C J K H) → Served p first s → Onward p s s' → MomentStays p first s s'
   pub failed : Scene N C J K H
   pub fails : CannotGoOn p last fault failed
   pub emptied : Scene N C J K H
@@ -82,7 +83,7 @@ pub record HasServed {N C J K H : Type 0} (p : Promises N C J K H) (start : Begi
   pub end : Scene N C J K H
   pub tells_last : TellsLast p emptied end
   pub durable_then : KeeperHolds p first → (s : Scene N C J K H) → Served p first s → Onward p s last → IsDurableToEnd p s last end
-  pub moment_stays_then : (s : Scene N C J K H) → Served p first s → 0 < deed.waits s.deeds → Onward p s last → MomentStays p s end
+  pub moment_stays_then : (s : Scene N C J K H) → Served p first s → Onward p s last → MomentStays p first s end
   pub free : AllFree end.places
   pub tools_are_then : tools' ≡ tools_at end
 

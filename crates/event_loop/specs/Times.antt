@@ -1,5 +1,4 @@
 -- How the moment that the clocks tell is kept.
-use Rattle.std.specs.Prelude.{ℕ}
 use Rattle.change_codec.specs.Keeping.{Crashes, HoldsMoment, HoldsStill, KeepsMoments}
 use Rattle.event_loop.specs.declared.clocks.Times.{Times}
 

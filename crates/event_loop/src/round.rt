@@ -75,7 +75,9 @@ impl Service {
         ensures goes { OnOk result (LeadsRound (promises N.Sockets C.Clocks J.Journal (keeping K.Keeper K.ImageKeeper.own) H.HookHost) 1 (running self.old tools.old) (running self.new tools.new)) }
         ensures wrong { IfErr result (λ fault. LeadsWrong (promises N.Sockets C.Clocks J.Journal (keeping K.Keeper K.ImageKeeper.own) H.HookHost) fault (running self.old tools.old) (running self.new tools.new)) }
     {
-        self.put_image(tools)?;
+        if let Err(fault) = self.put_image(tools) {
+            return Err(fault);
+        }
         let limit = self.wait_limit();
         let Some(count) = tools.sockets.wait(limit, found) else {
             return Err(LoopFault::Wait);
@@ -90,7 +92,9 @@ impl Service {
         self.times = times;
         self.hear_all(tools, &found[..count]);
         self.read_all(tools);
-        keep_all(tools)?;
+        if let Err(fault) = keep_all(tools) {
+            return Err(fault);
+        }
         self.write_all(tools);
         self.tidy(tools, second);
         self.make_room(tools);

@@ -57,7 +57,7 @@ returns g c = λ journey reached.
       end = scene_of (running c.leave_all.new.self c.tell_last.new.tools) wrong.found shut.next;
       tells_last = told;
       durable_then = λ held s served on. durable_to_end p g.met.K.Keeper.only_now first held s wrong.last failed _ _ _ served on wrong.fails shut.shuts told;
-      moment_stays_then = λ s served some on. moment_to_end p g.met.K.Keeper.only_now first s wrong.last failed _ _ _ served some on wrong.fails shut.shuts told;
+      moment_stays_then = λ s served on. moment_to_end p g.met.K.Keeper.only_now first s wrong.last failed _ _ _ served on wrong.fails shut.shuts told;
       free = c.leave_all.ensures.free;
       tools_are_then = refl;
     })

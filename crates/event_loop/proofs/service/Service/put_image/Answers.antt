@@ -1,4 +1,4 @@
-use Rattle.std.proofs.Common.{rules, arith, ◌≡◌, ◌-◌, ◌∙◌, ℕ, true, false, Err, Some, refl, sym, ap, subst}
+use Rattle.std.proofs.Common.{rules, arith, ◌≡◌, ◌-◌, ◌∙◌, ℕ, true, false, Err, Some, sym, ap, subst}
 use Rattle.std.specs.Prelude.{nat_le}
 use Rattle.endpoints.specs.declared.image_keeper.ImageFault.{ImageFault}
 use Rattle.endpoints.specs.Server.{SeenServer, FitsServer}
@@ -51,8 +51,7 @@ returns-in_default-fault-clause-put g c = λ first found past h.
     let long = c.in-Err.ensures.refused c.in_default-fault.not-Failed in
     let same = c.in-Err.ensures.same c.in_default-fault.not-Failed in
     let S : Service → g.row.K.Denot → Type 0 = λ service keeper. Served p first (scene_of (running service (record c.args.tools.now { journal = c.note_refusal.new.journal; keeper = keeper })) found past) in
-    let gone : S (record c.args.self.now { refused = Some c.args.self.now.times.steady }) c.args.tools.now.keeper = goes h (no_image c.note_refusal.new.journal all long ago c.note_refusal.ensures.told) in
-    (
+    let gone : S (record c.args.self.now { refused = Some c.args.self.now.times.steady }) c.args.tools.now.keeper = goes h (no_image c.note_refusal.new.journal all long ago c.note_refusal.ensures.told) in (
       subst (λ service. S service c.put_image.new.self) (sym c.note_refusal.ensures.refused) (subst (S (record c.args.self.now { refused = Some c.args.self.now.times.steady })) (sym same) gone),
       λ still long. subst (λ (service : Service). is_long_ago service.refused service.times.steady 60 ≡ false) (sym c.note_refusal.ensures.refused) (just_now c.args.self.now.times.steady),
     )

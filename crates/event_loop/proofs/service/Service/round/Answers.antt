@@ -16,11 +16,11 @@ use Rattle.event_loop.proofs.service.Service.round.Goals as goal
 
 pub returns-in_default-wait-clause-wrong : goal.returns-in_default-wait-clause-wrong
 returns-in_default-wait-clause-wrong g c = λ first past begun was_ready.
-    let put = c.in_ok-put_image.ensures.put first [] past begun in
+    let put = c.in_default.ensures.put first [] past begun in
     let h = put.0 in
-    let ready = ready_still c.args.self.now past c.put_image.new.self c.in_ok-put_image.ensures.same was_ready in
+    let ready = ready_still c.args.self.now past c.put_image.new.self c.in_default.ensures.same was_ready in
     let before : length c.args.self.now.places ≡ 64 = search rules in
-    let size : length c.put_image.new.self.places ≡ 64 = ap (λ (s : Service). length s.places) c.in_ok-put_image.ensures.same ∙ before in
+    let size : length c.put_image.new.self.places ≡ 64 = ap (λ (s : Service). length s.places) c.in_default.ensures.same ∙ before in
     let room : 65 ≤ length c.wait.new.found = search (rules, arith, c.requires.room) in
     record {
       last = scene_of (running c.put_image.new.self c.put_image.new.tools) [] past;
@@ -32,12 +32,12 @@ returns-in_default-wait-clause-wrong g c = λ first past begun was_ready.
 
 pub returns-in_default-read-clause-wrong : goal.returns-in_default-read-clause-wrong
 returns-in_default-read-clause-wrong g c = λ first past begun was_ready.
-    let put = c.in_ok-put_image.ensures.put first [] past begun in
+    let put = c.in_default.ensures.put first [] past begun in
     let h = put.0 in
-    let ready = ready_still c.args.self.now past c.put_image.new.self c.in_ok-put_image.ensures.same was_ready in
+    let ready = ready_still c.args.self.now past c.put_image.new.self c.in_default.ensures.same was_ready in
     let heard = take c.in-Some.count c.wait.new.found in
     let before : length c.args.self.now.places ≡ 64 = search rules in
-    let size : length c.put_image.new.self.places ≡ 64 = ap (λ (s : Service). length s.places) c.in_ok-put_image.ensures.same ∙ before in
+    let size : length c.put_image.new.self.places ≡ 64 = ap (λ (s : Service). length s.places) c.in_default.ensures.same ∙ before in
     let room : 65 ≤ length c.wait.new.found = search (rules, arith, c.requires.room) in
     let may = may_wait (promises g.N.Sockets g.C.Clocks g.J.Journal (keeping g.K.Keeper g.K.ImageKeeper) g.H.HookHost) c.put_image.new.self c.put_image.new.tools past c.wait_limit-limit.result (length c.wait.new.found) size ready c.wait_limit-limit.ensures room put.1 in
     record {
@@ -50,12 +50,12 @@ returns-in_default-read-clause-wrong g c = λ first past begun was_ready.
 
 pub returns-in_default-keep_moment-clause-wrong : goal.returns-in_default-keep_moment-clause-wrong
 returns-in_default-keep_moment-clause-wrong g c = λ first past begun was_ready.
-    let put = c.in_ok-put_image.ensures.put first [] past begun in
+    let put = c.in_default.ensures.put first [] past begun in
     let h = put.0 in
-    let ready = ready_still c.args.self.now past c.put_image.new.self c.in_ok-put_image.ensures.same was_ready in
+    let ready = ready_still c.args.self.now past c.put_image.new.self c.in_default.ensures.same was_ready in
     let heard = take c.in-Some.count c.wait.new.found in
     let before : length c.args.self.now.places ≡ 64 = search rules in
-    let size : length c.put_image.new.self.places ≡ 64 = ap (λ (s : Service). length s.places) c.in_ok-put_image.ensures.same ∙ before in
+    let size : length c.put_image.new.self.places ≡ 64 = ap (λ (s : Service). length s.places) c.in_default.ensures.same ∙ before in
     let room : 65 ≤ length c.wait.new.found = search (rules, arith, c.requires.room) in
     let may = may_wait (promises g.N.Sockets g.C.Clocks g.J.Journal (keeping g.K.Keeper g.K.ImageKeeper) g.H.HookHost) c.put_image.new.self c.put_image.new.tools past c.wait_limit-limit.result (length c.wait.new.found) size ready c.wait_limit-limit.ensures room put.1 in
     record {
@@ -66,14 +66,14 @@ returns-in_default-keep_moment-clause-wrong g c = λ first past begun was_ready.
       fails = no_moment c.wait_limit-limit.result (length c.wait.new.found) heard c.wait.new.self c.in-Some-read.times c.read.new.self c.keep_moment.new.self may c.in-Some.ensures.done c.in-Some-read.ensures c.in_default-keep_moment.ensures.lost c.keep_moment.ensures.meanwhile;
     }
 
-pub returns-in_err-keep_all-clause-wrong : goal.returns-in_err-keep_all-clause-wrong
-returns-in_err-keep_all-clause-wrong g c = λ first past begun was_ready.
-    let put = c.in_ok-put_image.ensures.put first [] past begun in
+pub returns-in-Err-keep_all-clause-wrong : goal.returns-in-Err-keep_all-clause-wrong
+returns-in-Err-keep_all-clause-wrong g c = λ first past begun was_ready.
+    let put = c.in_default.ensures.put first [] past begun in
     let h = put.0 in
-    let ready = ready_still c.args.self.now past c.put_image.new.self c.in_ok-put_image.ensures.same was_ready in
+    let ready = ready_still c.args.self.now past c.put_image.new.self c.in_default.ensures.same was_ready in
     let heard = take c.in-Some.count c.wait.new.found in
     let before : length c.args.self.now.places ≡ 64 = search rules in
-    let size : length c.put_image.new.self.places ≡ 64 = ap (λ (s : Service). length s.places) c.in_ok-put_image.ensures.same ∙ before in
+    let size : length c.put_image.new.self.places ≡ 64 = ap (λ (s : Service). length s.places) c.in_default.ensures.same ∙ before in
     let room : 65 ≤ length c.wait.new.found = search (rules, arith, c.requires.room) in
     let may = may_wait (promises g.N.Sockets g.C.Clocks g.J.Journal (keeping g.K.Keeper g.K.ImageKeeper) g.H.HookHost) c.put_image.new.self c.put_image.new.tools past c.wait_limit-limit.result (length c.wait.new.found) size ready c.wait_limit-limit.ensures room put.1 in
     let waited = goes h (waits c.wait_limit-limit.result (length c.wait.new.found) heard c.wait.new.self c.in-Some-read.times c.read.new.self c.keep_moment.new.self may c.in-Some.ensures.done c.in-Some-read.ensures (record { holds = c.in-Ok.ensures.kept; moments = c.in-Ok.ensures.moments; told = c.in-Ok.ensures.told })) in
@@ -85,25 +85,25 @@ returns-in_err-keep_all-clause-wrong g c = λ first past begun was_ready.
       served = read.served;
       found = [];
       next = read.next;
-      fails = c.in_err-keep_all.ensures.lost first [] c.read_all.new.self read.next read.not_kept read.served;
+      fails = c.in-Err-keep_all.ensures.lost first [] c.read_all.new.self read.next read.not_kept read.served;
     }
 
 pub returns-clause-goes : goal.returns-clause-goes
 returns-clause-goes g c = λ first past begun was_ready.
-    let put = c.in_ok-put_image.ensures.put first [] past begun in
+    let put = c.in_default.ensures.put first [] past begun in
     let h = put.0 in
-    let ready = ready_still c.args.self.now past c.put_image.new.self c.in_ok-put_image.ensures.same was_ready in
+    let ready = ready_still c.args.self.now past c.put_image.new.self c.in_default.ensures.same was_ready in
     let p = promises g.N.Sockets g.C.Clocks g.J.Journal (keeping g.K.Keeper g.K.ImageKeeper) g.H.HookHost in
     let heard = take c.in-Some.count c.wait.new.found in
     let before : length c.args.self.now.places ≡ 64 = search rules in
-    let size : length c.put_image.new.self.places ≡ 64 = ap (λ (s : Service). length s.places) c.in_ok-put_image.ensures.same ∙ before in
+    let size : length c.put_image.new.self.places ≡ 64 = ap (λ (s : Service). length s.places) c.in_default.ensures.same ∙ before in
     let room : 65 ≤ length c.wait.new.found = search (rules, arith, c.requires.room) in
     let may = may_wait (promises g.N.Sockets g.C.Clocks g.J.Journal (keeping g.K.Keeper g.K.ImageKeeper) g.H.HookHost) c.put_image.new.self c.put_image.new.tools past c.wait_limit-limit.result (length c.wait.new.found) size ready c.wait_limit-limit.ensures room put.1 in
     let waited = goes h (waits c.wait_limit-limit.result (length c.wait.new.found) heard c.wait.new.self c.in-Some-read.times c.read.new.self c.keep_moment.new.self may c.in-Some.ensures.done c.in-Some-read.ensures (record { holds = c.in-Ok.ensures.kept; moments = c.in-Ok.ensures.moments; told = c.in-Ok.ensures.told })) in
     let since : Past g.row.H.Denot = record past { deeds = deed.Waited c.wait_limit-limit.result (length c.wait.new.found) heard ∷ past.deeds } in
     let told = c.hear_all.ensures.hears first since waited (λ k less. (ready.settled k less).rested) in
     let read = c.read_all.ensures.reads first [] since (λ task is. is) told.1 told.0 in
-    let written = kept_then p first [] since _ c.read_all.new.self c.write_all.new.self _ c.read_all.new.tools c.keep_all.new.tools c.write_all.new.tools read c.in_ok-keep_all.ensures.kept c.write_all.ensures.writes in
+    let written = kept_then p first [] since _ c.read_all.new.self c.write_all.new.self _ c.read_all.new.tools c.keep_all.new.tools c.write_all.new.tools read c.in_default-keep_all.ensures.kept c.write_all.ensures.writes in
     let on = to_then p [] [] [] _ _ _ _ _ _ (c.tidy.ensures.leads []) (c.make_room.ensures.leads []) first written.next written.served written.below in
     let admitted = c.admit_all.ensures.leads [] first on.next on.served on.settled in
     let last = c.tell.ensures.leads [] first admitted.goes.next admitted.goes.served admitted.goes.settled in
@@ -128,6 +128,6 @@ returns-clause-goes g c = λ first past begun was_ready.
       waits_are = last.done.waits ∙ admitted.goes.done.waits ∙ on.done.waits ∙ written.done.waits ∙ sym (add-one (deed.waits past.deeds));
     }
 
-pub returns-in_err-put_image-clause-wrong : goal.returns-in_err-put_image-clause-wrong
-returns-in_err-put_image-clause-wrong g c = λ first past h ready.
-    record { last = scene_of (running c.args.self.now c.args.tools.now) [] past; served = h; found = []; next = past; fails = c.in_err-put_image.ensures.failed first [] past h }
+pub returns-in-Err-clause-wrong : goal.returns-in-Err-clause-wrong
+returns-in-Err-clause-wrong g c = λ first past h ready.
+    record { last = scene_of (running c.args.self.now c.args.tools.now) [] past; served = h; found = []; next = past; fails = c.in-Err.ensures.failed first [] past h }
