@@ -1,5 +1,5 @@
 -- What a fault of a layer below is to a service: want of memory is told alike wherever it comes.
-use Rattle.std.specs.Prelude.{◌≡◌, ⊤, ℕ, List}
+use Rattle.std.specs.Prelude.{◌≡◌, ℕ, List}
 use Rattle.commands.specs.declared.fault.CommandFault.TheVariants.{OutOfMemory, CannotWrite}
 use Rattle.daemon.specs.declared.fault.ListenFault.{ListenFault}
 use Rattle.daemon.specs.declared.fault.ListenFault.TheVariants as listen
@@ -11,8 +11,8 @@ use Rattle.command_line.specs.declared.fault.PerformFault.TheVariants.{Command, 
 -- no socket is had at the address
 abbrev pub IsOfListening : List ℕ → ListenFault → PerformFault → Type 0
 IsOfListening address listen.NoSeed fault = fault ≡ NoSeed
-IsOfListening address (listen.NoSocket kind) (CannotListen named reason) = (named.now ≡ address) × (reason.0 ≡ kind)
-IsOfListening address (listen.NoSocket kind) fault = ⊥
+IsOfListening address (listen.NoSocket why) (CannotListen named told) = (named.now ≡ address) × (told ≡ why)
+IsOfListening address (listen.NoSocket why) fault = ⊥
 IsOfListening address listen.Unwritten fault = fault ≡ Command CannotWrite
 IsOfListening address listen.Memory fault = fault ≡ Command OutOfMemory
 

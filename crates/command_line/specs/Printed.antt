@@ -1,14 +1,13 @@
 -- What is told of a command line.
 use Rattle.std.specs.Prelude.{ℕ, List, [], ◌++◌, codes}
 use Rattle.std.specs.Fmt.{decimal}
-use Rattle.std.specs.declared.io.ErrorKind.{ErrorKind}
-use Rattle.std.specs.declared.io.ErrorKind.TheVariants as kinds
 use Rattle.batch_file.specs.FaultTexts.{batch_fault_text, make_fault_text, open_fault_text, system_fault_text}
 use Rattle.batch_file.specs.declared.appending.BatchFault.{BatchFault}
 use Rattle.batch_file.specs.declared.appending.BatchFault.TheVariants.{Failed}
 use Rattle.batch_file.specs.declared.disk_file.OpenFault.{OpenFault}
 use Rattle.batch_file.specs.declared.disk_file.OpenFault.TheVariants.{Missing}
 use Rattle.commands.specs.Printed.{command_fault_text, line_of_fault}
+use Rattle.daemon.specs.FaultTexts.{socket_fault_text}
 use Rattle.event_loop.specs.FaultTexts.{loop_fault_text}
 use Rattle.event_loop.specs.declared.fault.LoopFault.{LoopFault}
 use Rattle.event_loop.specs.declared.fault.LoopFault.TheVariants.{Keep}
@@ -27,15 +26,6 @@ abbrev pub keep_text : BatchFault → List ℕ
 keep_text (Failed reason) = system_fault_text reason
 keep_text fault = batch_fault_text fault
 
--- the system's reason why there is no socket at an address
-abbrev pub socket_reason_text : ErrorKind → List ℕ
-socket_reason_text kinds.AddrInUse = codes "address in use"
-socket_reason_text kinds.AddrNotAvailable = codes "address not available"
-socket_reason_text kinds.PermissionDenied = codes "permission denied"
-socket_reason_text kinds.InvalidInput = codes "no address"
-socket_reason_text kinds.NotFound = codes "host not found"
-socket_reason_text kind = codes "other error"
-
 -- what helps where a file is not opened, if that is known
 abbrev pub advice_on_opening : OpenFault → List ℕ
 advice_on_opening Missing = codes "; oauthd state --new FILE makes one"
@@ -48,7 +38,7 @@ fault_text (Hook name fault) = codes "hook " ++ name.now ++ codes ": " ++ hook_f
 fault_text (Unopened path fault) = codes "State " ++ open_fault_text fault ++ codes ": " ++ path.now ++ advice_on_opening fault
 fault_text (Unmade path fault) = codes "State " ++ make_fault_text fault ++ codes ": " ++ path.now
 fault_text (ClockAhead path seconds) = codes "State ClockAhead " ++ decimal seconds ++ codes ": " ++ path.now ++ codes "; --accept-clock takes it"
-fault_text (CannotListen address reason) = codes "cannot listen on " ++ address.now ++ codes ": " ++ socket_reason_text reason.0
+fault_text (CannotListen address reason) = codes "cannot listen on " ++ address.now ++ codes ": " ++ socket_fault_text reason
 fault_text NoSeed = codes "no random bytes"
 fault_text (Stopped fault) = codes "stopped: " ++ stop_text fault
 fault_text (Unkept fault) = codes "stopped: State: " ++ keep_text fault

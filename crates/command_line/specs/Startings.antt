@@ -14,6 +14,7 @@ use Rattle.change_codec.specs.declared.keeper.Keeper.{Ghosts as Keeper}
 use Rattle.endpoints.specs.contracts.image_keeper.NoKeeperImageKeeper.TheImpl as no_imaging
 use Rattle.daemon.specs.Started.{HasGoneOn, HasStarted, keeping_by}
 use Rattle.daemon.specs.contracts.sockets.MachineSocketsSockets.TheImpl as sockets
+use Rattle.daemon.specs.declared.means.Ended.{Ended}
 use Rattle.daemon.specs.declared.patience.Patience.{Patience}
 use Rattle.event_loop.specs.Scenes.{Promises, promises}
 use Rattle.event_loop.specs.declared.clocks.Clocks.{Ghosts as Clocks}
@@ -96,7 +97,9 @@ pub record ComesOfState {R : Type 0} (keeping : Crashes (BatchFile (DiskFile R))
 pub record HasResumed {N C J R : Type 0} (p : Promises N C J (BatchFile (DiskFile R)) (List Named)) (handed : Handed) (fault : LoopFault) : Type 0 where
   pub started : Started (DiskFile R) (List Named)
   pub comes : ComesOfState p.keeping.crashes handed.registry handed.codes started
-  pub gone_on : HasGoneOn p started.server started.keeper handed.patience fault
+  pub ended : Ended (BatchFile (DiskFile R))
+  pub fault_is : ended.fault ≡ fault
+  pub gone_on : HasGoneOn p started.server started.keeper handed.patience ended
 
 -- the file at the path is not opened, and why
 abbrev pub IsUnopened : List ℕ → PerformFault → Type 0

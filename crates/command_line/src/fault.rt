@@ -6,10 +6,10 @@ ghost use Rattle.command_line.specs.Statuses.{end_status};
 ghost use Rattle.command_line.specs.Printed.{advice_on_opening, fault_text, keep_text, stop_text};
 ghost use Rattle.command_line.specs.declared.fault.PerformFault.TheVariants.{Command};
 
-use crate::socket_reason::SocketReason;
 use batch_file::appending::BatchFault;
 use batch_file::disk_file::{MakeFault, OpenFault};
 use commands::{CommandFault, Status};
+use daemon::SocketFault;
 use event_loop::LoopFault;
 use hook_host::HookFault;
 use start_words::WordFault;
@@ -32,7 +32,7 @@ pub enum PerformFault<'w> {
     /// The clock is so many seconds ahead of the state in the file at this path.
     ClockAhead(&'w str, u64),
     /// There is no socket at this address.
-    CannotListen(&'w str, SocketReason),
+    CannotListen(&'w str, SocketFault),
     /// The system gives no random bytes.
     NoSeed,
     /// A server that served can't go on.

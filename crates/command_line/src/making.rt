@@ -37,7 +37,7 @@ fn frames_of(alloc: Global, batches: &[Vec<u8>]) -> Result<Frames, AddFault>
 }
 
 /// What is made of a file of the first kind, which has a batch.
-fn upgraded(alloc: Global, bytes: &[u8]) -> Result<Upgraded, StateFault>
+fn upgrade_of(alloc: Global, bytes: &[u8]) -> Result<Upgraded, StateFault>
     ensures made { IfOk result (IsUpgradeOf bytes.now) }
     ensures refused { IfErr result (RefusesUpgrade bytes.now) }
 {
@@ -95,7 +95,7 @@ pub fn upgrade<'w, R: Files<File = File> + AllocGlobal>(
 {
     let alloc = rt.alloc();
     let opened = open_at(rt, path)?;
-    match upgraded(alloc, &opened.bytes) {
+    match upgrade_of(alloc, &opened.bytes) {
         Ok(Upgraded { bytes, torn }) => {
             let bytes = write_new(rt, new_path, bytes)?;
             Ok(Upgraded { bytes, torn })

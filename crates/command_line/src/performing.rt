@@ -14,7 +14,6 @@ use crate::fault::PerformFault;
 use crate::clock::Clocked;
 use crate::hook_files::{HooksTaken, take_hooks};
 use crate::service::{ServeWords, Service};
-use crate::socket_reason::SocketReason;
 use crate::state::start_at;
 use crate::state_performing::perform_state;
 use batch_file::appending::BatchFault;
@@ -23,7 +22,7 @@ use change_codec::Keeper;
 use clients::Registry;
 use commands::{CommandFault, Status, moment_now, perform_command, registry_of, write_text};
 use daemon::{
-    LineJournal, ListenFault, MachineClocks, Patience, Stopped, go_on, serve, start,
+    Ended, LineJournal, ListenFault, MachineClocks, Patience, go_on, serve, start,
 };
 use endpoints::ImageKeeper;
 use event_loop::{Clocks, Journal, LoopFault};
@@ -59,7 +58,7 @@ fn deaf<'w>(address: &'w str, fault: ListenFault) -> PerformFault<'w>
 {
     match fault {
         ListenFault::NoSeed => PerformFault::NoSeed,
-        ListenFault::NoSocket(kind) => PerformFault::CannotListen(address, SocketReason(kind)),
+        ListenFault::NoSocket(fault) => PerformFault::CannotListen(address, fault),
         ListenFault::Unwritten => PerformFault::Command(CommandFault::CannotWrite),
         ListenFault::Memory => PerformFault::Command(CommandFault::OutOfMemory),
     }
@@ -137,7 +136,7 @@ fn serve_as<
     };
     let Started { server, keeper, .. } = start_at(rt, path, registry, &codes, clock, err)?;
     match go_on(rt, given.address, server, keeper, patience, out, err) {
-        Ok(Stopped { fault, keeper }) => Err(stop_of(fault, keeper.fault())),
+        Ok(Ended { fault, keeper }) => Err(stop_of(fault, keeper.fault())),
         Err(fault) => Err(deaf(given.address, fault)),
     }
 }
