@@ -1,5 +1,6 @@
+mod Beginning
+mod Coming
 mod Failing
-mod Naming
-mod Resuming
 mod Hooking
-pub mod Beginning
+mod Naming
+mod Planning
