@@ -3,7 +3,7 @@ use Rattle.std.proofs.Common.{◌≡◌, ◌≢◌, ◌↔◌, ℕ, zero, suc, �
 use Rattle.std.specs.Int.{w32, from_be_bytes, to_be_bytes}
 use Rattle.std.proofs.lemmas.List.{take_at, drop_at, drop_more, drop-drop}
 use Rattle.std.proofs.lemmas.Nat.{from_be_bytes-to_be_bytes_4, be_bytes_4}
-use Rattle.batch_file.specs.Frames.{body, digest, seal, sealed, HidesFrame, IsFrame, IsSealed}
+use Rattle.batch_file.specs.Frames.{digest, seal, sealed, HidesFrame, IsFrame, IsSealed}
 use Rattle.batch_file.specs.FramesLaws.{length-seal, length-sealed, behind_latch, two_sealed}
 
 -- the first four bytes, as a number
@@ -91,8 +91,8 @@ framed before batch bytes rest some counts is s =
       counts = omega arith;
       short = s.0;
       is =
-        drop_more bytes 0 0 (omega arith)
-        ∙ ap (λ (l : List ℕ). latch ∷ l) (sym is ∙ s.1 ∙ ap (λ (l : List ℕ). sealed before batch ++ l) (ap (λ (l : List ℕ). drop (20 + length batch) l) is ∙ drop-drop (20 + length batch) 1 bytes ∙ ap (λ (n : ℕ). drop n bytes) (omega arith)));
+          drop_more bytes 0 0 (omega arith)
+          ∙ ap (λ (l : List ℕ). latch ∷ l) (sym is ∙ s.1 ∙ ap (λ (l : List ℕ). sealed before batch ++ l) (ap (λ (l : List ℕ). drop (20 + length batch) l) is ∙ drop-drop (20 + length batch) 1 bytes ∙ ap (λ (n : ℕ). drop n bytes) (omega arith)));
     }
 
 pub no_latch : (before batch more bytes : List ℕ) → get_or bytes 0 0 ≡ 0 → IsFrame before batch more bytes → ⊥
@@ -109,7 +109,7 @@ pub hides : (last part torn : List ℕ) → IsSealed last part (drop (20 + lengt
 hides last part torn s within = (
   λ more. record { batch = part; rest = drop (20 + length part) torn; is = s; more = omega (arith, length-drop (20 + length part) torn) },
   λ h.
-      let two = two_sealed last h.batch part (drop (20 + length part) torn) h.rest torn s h.is in
+      let two = two_sealed last part h.batch (drop (20 + length part) torn) h.rest torn s h.is in
       let more = h.more in
       omega (arith, length-drop (20 + length part) torn, ap length two.0, ap length two.1),
 )

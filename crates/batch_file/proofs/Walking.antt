@@ -1,7 +1,7 @@
 -- One frame after the other.
 use Rattle.std.proofs.Common.{◌≡◌, inl, inr, ℕ, ◌+◌, ◌<◌, List, [], ◌∷◌, ◌++◌, length, take, drop, refl, sym, ◌∙◌, ap, subst, arith, append_assoc, length-append, length-drop, take-append-drop}
 use Rattle.std.proofs.lemmas.List.{drop-drop, append-nil, take_at}
-use Rattle.batch_file.specs.Frames.{header, body, digest, sealed, recovered, frames_size, file_size, IsFrame, AreFrames, IsFileOf, IsReadable, IsAtRest, IsWhole, IsVersion}
+use Rattle.batch_file.specs.Frames.{header, digest, sealed, recovered, frames_size, file_size, IsFrame, AreFrames, IsFileOf, IsReadable, IsAtRest, IsWhole, IsVersion}
 use Rattle.batch_file.specs.FramesLaws.{digest_is, length-frames, length-sealed, further, file_is, framed_is, readable_is}
 use Rattle.batch_file.specs.Reads.{IsRead, IsFound}
 

@@ -180,18 +180,17 @@ IsOldOrNew old new file = (recovered file ≡ old) ⊎ (recovered file ≡ new)
 abbrev pub IsAsBefore : (List ℕ → Type 0) → List (List ℕ) → List ℕ → Type 0
 IsAsBefore before batches file = before file ⊎ IsFileOf batches file
 
--- Of an append that a crash cut short the disk has made, by chance, a shorter batch with its right digest: bytes that nobody
--- wrote. `chance_is_coincidence` says what that would take.
-pub record IsChance (last batch file : List ℕ) : Type 0 where
-  pub front : List ℕ
-  pub other : List ℕ
-  pub rest : List ℕ
-  pub is : file ≡ front ++ 0 ∷ (sealed last other ++ rest)
-  pub shorter : length other < length batch
+-- Of an append that a crash cut short the disk has made, by chance, a shorter batch with its right digest behind the closed
+-- latch of the old file: bytes that nobody wrote. `chance_is_coincidence` says what that would take.
+pub record IsChance (old last batch file : List ℕ) : Type 0 where
+  pub torn : List ℕ
+  pub is : file ≡ old ++ torn
+  pub hides : HidesFrame last torn
+  pub shorter : length hides.batch < length batch
 
 -- the file is read, but for such a chance
-abbrev pub IsReadableOrChance : List ℕ → List ℕ → List ℕ → Type 0
-IsReadableOrChance last batch file = IsReadable file ⊎ IsChance last batch file
+abbrev pub IsReadableOrChance : List ℕ → List ℕ → List ℕ → List ℕ → Type 0
+IsReadableOrChance old last batch file = IsReadable file ⊎ IsChance old last batch file
 
 -- the disk failed
 abbrev pub IsBatchFailure : BatchFault → Type 0

@@ -7,7 +7,7 @@ use Rattle.sha2.specs.Sha256.{sha256}
 use Rattle.sha2.proofs.Facts256.{length-sha256}
 use Rattle.batch_file.specs.declared.framing.ReadFault.{ReadFault}
 use Rattle.batch_file.specs.declared.framing.ReadFault.TheVariants.{Memory, NotState, Version, Damaged}
-use Rattle.batch_file.specs.Frames.{header, header_of, body, seal, digest, sealed, size_at, batches_in, recovered, frames_size, IsSealed, IsFrame, AreFrames, HidesFrame, IsTorn, Spells, IsFileOf, IsReadable, IsVersion, IsNoEnd, IsDamaged, RefusesFile, IsChance}
+use Rattle.batch_file.specs.Frames.{header, body, seal, digest, sealed, size_at, batches_in, recovered, frames_size, IsSealed, IsFrame, AreFrames, HidesFrame, IsTorn, Spells, IsFileOf, IsReadable, IsVersion, IsNoEnd, IsDamaged, RefusesFile, IsChance}
 
 pub length-seal : (bytes : List ℕ) → length (seal bytes) ≡ 16
 unfolding seal
@@ -123,8 +123,8 @@ sealed_parts before batch rest bytes s =
       sym (ap (λ (l : List ℕ). drop (size_at l) (drop 20 l)) s.1 ∙ two.1),
     )
 
-pub two_sealed : (before other batch rest more bytes : List ℕ) → IsSealed before batch rest bytes → IsSealed before other more bytes → (batch ≡ other) × (rest ≡ more)
-two_sealed before other batch rest more bytes s t =
+pub two_sealed : (before batch other rest more bytes : List ℕ) → IsSealed before batch rest bytes → IsSealed before other more bytes → (batch ≡ other) × (rest ≡ more)
+two_sealed before batch other rest more bytes s t =
     let a = sealed_parts before batch rest bytes s in
     let b = sealed_parts before other more bytes t in
     (a.0 ∙ sym b.0, a.1 ∙ sym b.1)
@@ -135,7 +135,7 @@ behind_latch before batch rest bytes f = (f.short, ap (λ (l : List ℕ). drop 1
 
 two_frames : (before batch other rest more bytes : List ℕ) → IsFrame before batch rest bytes → IsFrame before other more bytes → (batch ≡ other) × (rest ≡ more)
 two_frames before batch other rest more bytes f g =
-    two_sealed before other batch rest more (drop 1 bytes) (behind_latch before batch rest bytes f) (behind_latch before other more bytes g)
+    two_sealed before batch other rest more (drop 1 bytes) (behind_latch before batch rest bytes f) (behind_latch before other more bytes g)
 
 -- behind right frames there is one more, or an end, or they are none of a file
 no_way : (xs ys : List (List ℕ)) (before last other frames found rest torn : List ℕ)
@@ -265,33 +265,31 @@ hides_or_not last torn =
                 elim (same_list torn (sealed last batch ++ rest)) [
                   | inl is ↦ inl (record { batch = batch; rest = rest; is = (short, is); more = more })
                   | inr differ ↦ inr (λ h.
-                    differ (h.is.1 ∙ ap (λ (l : List ℕ). sealed last l ++ h.rest) (told h).0 ∙ ap (λ (l : List ℕ). sealed last batch ++ l) (told h).1))
+                      differ (h.is.1 ∙ ap (λ (l : List ℕ). sealed last l ++ h.rest) (told h).0 ∙ ap (λ (l : List ℕ). sealed last batch ++ l) (told h).1))
                 ]
           ]
     ]
 
--- the digest that stands in a file behind a closed latch
-stands : (last other rest : List ℕ) (front file : List ℕ) → file ≡ front ++ 0 ∷ (sealed last other ++ rest) → take 16 (drop (length front + 5) file) ≡ digest last other
-stands last other rest front file is =
-    ap (λ (l : List ℕ). take 16 l) (sym (drop-drop 5 (length front) file) ∙ ap (λ (l : List ℕ). drop 5 l) (ap (λ (l : List ℕ). drop (length front) l) is ∙ drop_at front (0 ∷ (sealed last other ++ rest)) (length front) refl))
-    ∙ ap (λ (l : List ℕ). take 16 l) (append_assoc (digest last other) other rest)
-    ∙ take_at (digest last other) (other ++ rest) 16 (length-seal _)
-
--- Where it is a coincidence, the digest that stands there is that of bytes that nobody wrote, and is not the one that was
--- written, or two inputs of SHA-256 with one digest prefix are known.
-pub chance_is_coincidence : (last batch file : List ℕ) (chance : IsChance last batch file)
-    → (take 16 (drop (length chance.front + 5) file) ≡ digest last chance.other) × ((digest last chance.other ≢ digest last batch) ⊎ Collision)
-chance_is_coincidence last batch file chance = (
-  stands last chance.other chance.rest chance.front file chance.is,
-  elim (same_list (digest last chance.other) (digest last batch)) [
-    | inr differ ↦ inl differ
-    | inl same ↦ inr (record {
-      one = last ++ body chance.other;
-      other = last ++ body batch;
-      differ = λ is.
-          let shorter = chance.shorter in
-          absurd (omega (arith, ap length is, length-append last (body chance.other), length-append last (body batch)));
-      meet = same;
-    })
-  ],
-)
+-- Where it is a coincidence, the digest that stands behind the old file and a length is that of bytes that nobody wrote, and
+-- is not the one that was written, or two inputs of SHA-256 with one digest prefix are known.
+pub chance_is_coincidence : (old last batch file : List ℕ) (chance : IsChance old last batch file)
+    → (take 16 (drop (length old + 4) file) ≡ digest last chance.hides.batch) × ((digest last chance.hides.batch ≢ digest last batch) ⊎ Collision)
+chance_is_coincidence old last batch file chance =
+    let other = chance.hides.batch in
+    let rest = chance.hides.rest in
+    let behind : drop (length old + 4) file ≡ drop 4 chance.torn =
+    sym (drop-drop 4 (length old) file) ∙ ap (λ (l : List ℕ). drop 4 l) (ap (λ (l : List ℕ). drop (length old) l) chance.is ∙ drop_at old chance.torn (length old) refl) in
+    let digests : drop 4 chance.torn ≡ digest last other ++ (other ++ rest) = ap (λ (l : List ℕ). drop 4 l) chance.hides.is.1 ∙ append_assoc (digest last other) other rest in (
+      ap (λ (l : List ℕ). take 16 l) (behind ∙ digests) ∙ take_at (digest last other) (other ++ rest) 16 (length-seal _),
+      elim (same_list (digest last other) (digest last batch)) [
+        | inr differ ↦ inl differ
+        | inl same ↦ inr (record {
+          one = last ++ body other;
+          other = last ++ body batch;
+          differ = λ is.
+              let shorter = chance.shorter in
+              absurd (omega (arith, ap length is, length-append last (body other), length-append last (body batch)));
+          meet = same;
+        })
+      ],
+    )

@@ -1,5 +1,5 @@
 -- Beside Frames: only the contracts of this crate's own parts and their proofs cite this, no public clause.
-use Rattle.std.specs.Prelude.{◌≡◌, ◌+◌, ℕ, List, [], ◌∷◌, ◌++◌, length, drop}
+use Rattle.std.specs.Prelude.{◌≡◌, ◌+◌, ℕ, List, ◌∷◌, ◌++◌, length, drop}
 use Rattle.batch_file.specs.Frames.{header, AreFrames, IsTorn}
 
 -- the frames of these batches end there

@@ -1,5 +1,5 @@
 -- What a file of the first kind stands for: it has no header, and its batches no digests.
-use Rattle.std.specs.Prelude.{◌≡◌, ◌+◌, ℕ, zero, suc, List, [], ◌∷◌, ◌++◌, length, take, drop, Bool, ◌&&◌, ◌==◌, nat_le, if◌then◌else◌}
+use Rattle.std.specs.Prelude.{◌+◌, ℕ, zero, suc, List, [], ◌∷◌, length, take, drop, Bool, ◌&&◌, ◌==◌, nat_le, if◌then◌else◌}
 use Rattle.batch_file.specs.Frames.{size_at}
 
 -- all of the batch behind a latch is there

@@ -112,7 +112,7 @@ impl<D: Device> BatchFile<D> {
             (IsBeforeOrAfter (recovered (D.seen self.old.device)) batch.now) }
         // Each of these is a file that is not refused, but for a coincidence of SHA-256.
         ensures readable { LeavesOnly D.moment D.left_since self.old.device self.new.device
-            (IsReadableOrChance self.old.last batch.now) }
+            (IsReadableOrChance (D.seen self.old.device) self.old.last batch.now) }
         ensures failed { IfErr result (λ fault. IsBatchFailure fault → D.faults self.old.device < D.faults self.new.device) }
         ensures full { IsErrOf result BatchFault.Full → 2 ^ 60 ≤ self.old.end }
         ensures too_long { IsErrOf result BatchFault.TooLong → limit ≤ length batch.now }

@@ -1,8 +1,8 @@
 //! A file of the system as a device. Each method makes the calls that it notes: this has to be read, since a body that
 //! notes a sync and makes none would be proved as well.
 //!
-//! The lock is held on a file of its own beside it, since the file itself is another one after a replacement, and on the
-//! file, which may be mounted in two places.
+//! The lock is held on a file of its own beside it, since the file itself is another one after a replacement. All names of the
+//! file lead to that lock: links to the file are refused, and one that is mounted by itself can't be replaced.
 
 ghost use Rattle.std.specs.Prelude.{◌≡◌, length, IfOk, IfErr, OnOk, IfSome, IfNone, IsErrOf, IsTrue, ◌↔◌, Some};
 ghost use Rattle.std.specs.Io.KnownBytes.{IsAtEnd};
@@ -291,7 +291,6 @@ impl<'r, R: Files<File = File> + AllocGlobal> DiskFile<'r, R> {
         let lock = options().create(true).open(rt, lock_path.as_str())?;
         lock.try_lock()?;
         let mut file = open_checked(rt, path.as_str())?;
-        file.try_lock()?;
         let bytes = read_whole(alloc, &mut file)?;
         let mut log = CallLog::new();
         let _ = log.told(DiskCall::Opened(&bytes), Ok(()));

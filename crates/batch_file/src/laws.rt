@@ -30,11 +30,11 @@ pub fn last_digest_vouches()
         → length xs ≡ length ys → (xs ≡ ys) ⊎ Collision }
 {}
 
-/// What it would take for a crash of an append to leave a file that is refused: behind the closed latch stand 16 bytes that are
-/// not those that were written, and they are the digest of a shorter batch that nobody wrote, which stands behind them; or two
-/// inputs of SHA-256 are known whose digests begin with the same 16 bytes.
+/// What it would take for a crash of an append to leave a file that is refused: behind the old file and a length stand 16 bytes
+/// that are not those that were written, and they are the digest of a shorter batch that nobody wrote, which stands behind
+/// them; or two inputs of SHA-256 are known whose digests begin with the same 16 bytes.
 pub fn chance_is_coincidence()
-    ensures { (last batch file : List ℕ) (chance : IsChance last batch file)
-        → (take 16 (drop (length chance.front + 5) file) ≡ digest last chance.other)
-        × ((digest last chance.other ≢ digest last batch) ⊎ Collision) }
+    ensures { (old last batch file : List ℕ) (chance : IsChance old last batch file)
+        → (take 16 (drop (length old + 4) file) ≡ digest last chance.hides.batch)
+        × ((digest last chance.hides.batch ≢ digest last batch) ⊎ Collision) }
 {}

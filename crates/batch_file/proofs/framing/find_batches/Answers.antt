@@ -1,9 +1,9 @@
-use Rattle.std.proofs.Common.{◌≡◌, inr, List, ℕ, ◌-◌, ◌≤◌, ◌<◌, ◌++◌, ◌∷◌, [], ◌+◌, ◌∙◌, length, take, drop, refl, sym, ap, subst, arith, rules, Vec, length-drop}
+use Rattle.std.proofs.Common.{◌≡◌, inr, List, ℕ, ◌-◌, ◌≤◌, ◌++◌, ◌∷◌, [], ◌+◌, ◌∙◌, length, take, drop, refl, sym, ap, subst, arith, rules, Vec, length-drop}
 use Rattle.std.proofs.lemmas.List.{map_push, take_all, length-map}
 use Rattle.std.specs.declared.alloc.Global.{Global}
-use Rattle.batch_file.specs.Frames.{header, lists, IsFrame, IsNoEnd}
-use Rattle.batch_file.specs.Reads.{IsOpenEnd, IsRead}
-use Rattle.batch_file.proofs.Walking.{starts, goes_on, version_header}
+use Rattle.batch_file.specs.Frames.{lists, IsFrame, IsNoEnd}
+use Rattle.batch_file.specs.Reads.{IsRead}
+use Rattle.batch_file.proofs.Walking.{goes_on}
 use Rattle.batch_file.proofs.framing.find_batches.Goals as goal
 
 pub loop-batch-preserved : goal.loop-batch-preserved

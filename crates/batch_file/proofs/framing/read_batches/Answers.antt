@@ -1,6 +1,5 @@
-use Rattle.std.proofs.Common.{◌≡◌, ℕ, List, ◌+◌, ◌-◌, length, drop, take, arith, rules, sym, ◌∙◌, ap, length-drop}
+use Rattle.std.proofs.Common.{◌≡◌, ℕ, ◌+◌, ◌-◌, length, drop, take, arith, rules, ◌∙◌, ap, length-drop}
 use Rattle.std.proofs.lemmas.List.{take_all}
-use Rattle.batch_file.specs.Frames.{file_size, recovered}
 use Rattle.batch_file.proofs.Walking.{found_batches, found_readable, found_size, found_whole}
 use Rattle.batch_file.proofs.framing.read_batches.Goals as goal
 

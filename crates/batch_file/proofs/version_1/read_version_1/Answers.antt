@@ -1,4 +1,4 @@
-use Rattle.std.proofs.Common.{◌≡◌, List, ℕ, ◌-◌, ◌≤◌, ◌++◌, ◌∷◌, [], ◌+◌, ◌∙◌, length, take, drop, refl, sym, ap, subst, arith, rules, Vec, length-drop}
+use Rattle.std.proofs.Common.{◌≡◌, List, ℕ, ◌-◌, ◌≤◌, ◌++◌, ◌∷◌, [], ◌+◌, ◌∙◌, length, take, drop, refl, ap, subst, arith, rules, Vec, length-drop}
 use Rattle.std.proofs.lemmas.List.{map_push, take_all}
 use Rattle.std.specs.declared.alloc.Global.{Global}
 use Rattle.batch_file.specs.Frames.{lists}

@@ -1,5 +1,5 @@
 use Rattle.std.proofs.Common.{◌≡◌, List, ℕ, length, ◌-◌, set, ap, subst, sym, ◌∙◌, ◌++◌, ◌∷◌, [], rules}
-use Rattle.batch_file.specs.Frames.{digest, IsWhole}
+use Rattle.batch_file.specs.Frames.{IsWhole}
 use Rattle.batch_file.proofs.Wholes.{added}
 use Rattle.batch_file.proofs.frames.Frames.add.Goals as goal
 
