@@ -11,7 +11,7 @@ pub mod Reading
 pub mod Writing
 pub mod Closing
 pub mod Reporting
-pub mod Times
+pub mod Moments
 pub mod Served
 pub mod Durable
 pub mod Answered

@@ -19,7 +19,7 @@ use Rattle.event_loop.specs.Reading.{ReadsPlace}
 use Rattle.event_loop.specs.Writing.{WritesPlace}
 use Rattle.event_loop.specs.Closing.{AreWithin, Cause, Closes}
 use Rattle.event_loop.specs.Reporting.{IsDue, Tells, TellsRefusal, is_long_ago}
-use Rattle.event_loop.specs.Times.{KeepsTimes}
+use Rattle.event_loop.specs.Moments.{KeepsTimes}
 use Rattle.event_loop.specs.declared.report.LastTold.{LastTold}
 use Rattle.event_loop.specs.declared.report.Notice.{Notice}
 use Rattle.event_loop.specs.declared.report.Notice.TheVariants.{Reported}

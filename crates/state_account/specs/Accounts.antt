@@ -7,7 +7,7 @@ use Rattle.endpoints.specs.Server.{outset_of}
 use Rattle.hook_host.specs.declared.host.HookHost.{Ghosts as Hosting}
 use Rattle.image_codec.specs.Facts.{ImageFact, RulesFact}
 use Rattle.state_file.specs.Resuming.{AnswersFor, OfEachHistory}
-use Rattle.state_file.specs.Standing.{IsImageOf, until_of}
+use Rattle.state_file.specs.Standing.{IsImageOf, IsMomentTold, until_of}
 use Rattle.state_file.specs.Telling.{IsOfRules, TellsRules, rules_of}
 use Rattle.state_account.specs.declared.account.Account.{Account}
 use Rattle.state_account.specs.declared.account.AccountFault.{AccountFault}
@@ -28,6 +28,7 @@ pub record IsAccountOf {H : Type 0} (hosting : Hosting H) (left : List ℕ) (fir
   pub answers : AnswersFor hosting left (outset_of registry first) account.restored
   pub batches : account.batches ≡ length (recovered left)
   pub torn : account.torn ≡ length (torn_of left)
+  pub moment_is : IsMomentTold (recovered left) account.restored.moment
   pub later : until_of (recovered left) ≤ account.restored.moment
 
 -- the image is one of each history that the bytes stand for, under the rules that they tell

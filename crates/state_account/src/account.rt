@@ -1,11 +1,12 @@
 //! What a state file stands for, where no server is started on it and nothing is written.
 
-ghost use Rattle.std.specs.Prelude.{◌≡◌, IfOk, IfErr, OnOk};
+ghost use Rattle.std.specs.Prelude.{◌≡◌, ◌≤◌, IfOk, IfErr, OnOk};
 ghost use Rattle.batch_file.specs.Frames.{lists, recovered, torn_of};
 ghost use Rattle.endpoints.specs.Server.{outset_of};
 ghost use Rattle.image_codec.specs.Facts.{RulesFact, image_fact};
 ghost use Rattle.state_account.specs.Accounts.{IsAccountOf, IsImageOfAccount, IsOfBatches, RefusesAccount, fault_in};
 ghost use Rattle.state_file.specs.Resuming.{AnswersForBatches, RedoesBatches};
+ghost use Rattle.state_file.specs.Standing.{IsMomentTold, until_of};
 ghost use Rattle.state_account.specs.declared.account.AccountFault.TheVariants.{Memory};
 
 use crate::file_rules::file_rules;
@@ -96,6 +97,8 @@ fn restored_of<H: HookHost>(
     batches: &[Vec<u8>],
 ) -> Result<Restored<H>, AccountFault>
     ensures answers { IfOk result (AnswersForBatches H.HookHost (lists batches.now) (outset_of registry host)) }
+    ensures moment { IfOk result (λ restored. IsMomentTold (lists batches.now) restored.moment) }
+    ensures later { IfOk result (λ restored. until_of (lists batches.now) ≤ restored.moment) }
     ensures refused { IfErr result IsOfBatches }
 {
     let begun = match begin(alloc, registry, host, batches) {
@@ -109,6 +112,7 @@ fn restored_of<H: HookHost>(
     } = begun;
     let before = batches.len().saturating_sub(later.len());
     redo_each(alloc, &mut restored, later, before)?;
+    restored.reach(until_of(batches));
     Ok(restored)
 }
 
@@ -142,8 +146,7 @@ pub fn account_of<H: HookHost>(
         Ok(rules) => rules,
         Err(fault) => return Err(fault_in(rules_number(batches), fault)),
     };
-    let mut restored = restored_of(alloc, rules.registry, host, batches)?;
-    restored.reach(until_of(batches));
+    let restored = restored_of(alloc, rules.registry, host, batches)?;
     Ok(Account {
         restored,
         rules: rules.bytes,

@@ -1,5 +1,6 @@
 -- From where the changes of a file lead on.
 use Rattle.std.proofs.Common.{◌≡◌, inl, inr, ℕ, zero, suc, List, [], ◌∷◌, ◌++◌, true, false, Option, Some, None, refl, sym, ap, ◌∙◌, subst}
+use Rattle.std.specs.Prelude.{max}
 use Rattle.batch_file.specs.Frames.{recovered}
 use Rattle.consent.specs.History.{Event}
 use Rattle.change_codec.specs.HappenedLaws.{Happened-front}
@@ -11,7 +12,7 @@ use Rattle.image_codec.specs.Facts.{HookFact, ImageFact}
 use Rattle.image_codec.specs.Spelling.{ImageFits, image_spelling}
 use Rattle.state_file.specs.Hooks.{hooks_behind, hooks_set_in}
 use Rattle.state_file.specs.Resuming.{AnswersFor, BeginsByBatches, FitsOn, FitsRestored, HaveNoImage, IsMadeOf, IsRight, RedoesBatches, Replays, WasRun}
-use Rattle.state_file.specs.Standing.{AreTold, Begin, BeginWithImage, StandFor, StandsFor}
+use Rattle.state_file.specs.Standing.{AreTold, Begin, BeginWithImage, IsMomentTold, StandFor, StandsFor, first_moment, last_moment, until_of}
 use Rattle.state_file.specs.declared.restored.Restored.{Restored}
 use Rattle.state_file.proofs.Hooked.{hooks_of-happened}
 use Rattle.state_file.proofs.Redone.{right_before}
@@ -89,6 +90,34 @@ module _ {H : Type 0} (hosting : Hosting H) (outset : Outset H) where
       (redone.1 stands.facts told).0 ∙ ap (λ (hs : List HookFact). hooks_behind hs stands.facts) from.1
       ∙ sym (hooks_of-happened stands.base history stands.facts stands.happened)
 
+  -- and so is the moment
+  begun_moment : (batches later : List (List ℕ)) (restored : Restored H) (history : List Event) → (stands : StandFor batches history) →
+      BeginsByBatches hosting outset batches later restored → (begins : Begin batches stands.base stands.later) →
+      (stands.later ≡ later) × (restored.moment ≡ first_moment batches stands.base stands.later begins)
+  begun_moment batches later restored history stands begun (inl none) =
+      let told : AreTold batches stands.facts = subst (λ (bs : List (List ℕ)). AreTold bs stands.facts) none.1 stands.told in
+      let anew = begun.anew (no_image batches stands.facts told) in
+      (none.1 ∙ sym anew.0, anew.2)
+  begun_moment batches later restored history stands begun (inr of) =
+      let made = begun.of_image of.0 stands.later (of.2.0, of.2.1) in
+      (sym made.0, made.1.2)
+
+  moment_for : (batches later : List (List ℕ)) (begun restored : Restored H) → BeginsByBatches hosting outset batches later begun →
+      RedoesBatches hosting begun later restored → (history : List Event) (stands : StandFor batches history) →
+      restored.moment ≡ last_moment (first_moment batches stands.base stands.later stands.begins) stands.facts
+  moment_for batches later begun restored begins redone history stands =
+      let from = begun_moment batches later begun history stands begins stands.begins in
+      let told : AreTold later stands.facts = subst (λ (bs : List (List ℕ)). AreTold bs stands.facts) from.0 stands.told in
+      (redone.1 stands.facts told).3 ∙ ap (λ (m : ℕ). last_moment m stands.facts) from.1
+
+  -- once the marks are reached it is the one that is told
+  pub moment_reached : (other batches later : List (List ℕ)) (begun restored : Restored H) (until moment : ℕ) → BeginsByBatches hosting outset batches later begun →
+      RedoesBatches hosting begun later restored → until ≡ until_of batches → moment ≡ max restored.moment until → batches ≡ other → IsMomentTold other moment
+  moment_reached other batches later begun restored until moment begins redone told reached are =
+      subst (λ (bs : List (List ℕ)). IsMomentTold bs moment) are
+      (λ history stands. reached ∙ ap (λ (m : ℕ). max m until) (moment_for batches later begun restored begins redone history stands)
+      ∙ ap (max (last_moment (first_moment batches stands.base stands.later stands.begins) stands.facts)) told)
+
 -- the first batch is read as the image that it spells
 pub same_image : (batches later behind : List (List ℕ)) (batch : List ℕ) (read image : ImageFact) → batches ≡ batch ∷ later → BeginWithImage batches image behind →
     (ImageFits image → batch ≡ image_spelling image → read ≡ image) → (later ≡ behind) × (read ≡ image)
@@ -122,9 +151,9 @@ module _ {H : Type 0} (hosting : Hosting H) (outset : Outset H) where
       of image behind same = (same.0, subst (λ (i : ImageFact). IsMadeOf hosting i outset restored) same.1 made)
 
   -- a new server, where none is an image
-  pub begins_anew : (batches : List (List ℕ)) (restored : Restored H) → HaveNoImage batches → FitsRestored hosting restored outset [] → AreUnkept restored.server.unkept None [] → BeginsByBatches hosting outset batches batches restored
-  begins_anew batches restored none fits notes = record {
-    anew = λ _. (refl, fits);
+  pub begins_anew : (batches : List (List ℕ)) (restored : Restored H) → HaveNoImage batches → FitsRestored hosting restored outset [] → restored.moment ≡ 0 → AreUnkept restored.server.unkept None [] → BeginsByBatches hosting outset batches batches restored
+  begins_anew batches restored none fits moment notes = record {
+    anew = λ _. (refl, fits, moment);
     of_image = λ image behind begin. absurd (begins_2 batches behind image none begin);
     unnoted = noted_none restored.server.unkept notes;
   }

@@ -45,6 +45,7 @@ module _ {H : Type 0} (hosting : Hosting H) where
           subst (λ (m : ℕ). FitsServer hosting restored.server outset history m) (sym moment) (fits outset.first history of run right),
           hooks ∙ is.hooks,
         ),
+    moment,
   )
 
   -- and a server that fits a history has an image that is one of it

@@ -7,6 +7,8 @@ pub mod Kept
 pub mod Known
 pub mod Listed
 pub mod Marked
+pub mod LedOn
+pub mod Put
 pub mod Redone
 pub mod Refused
 pub mod Setting

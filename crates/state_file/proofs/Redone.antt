@@ -13,7 +13,7 @@ use Rattle.endpoints.specs.Steps.{Reaches}
 use Rattle.change_codec.specs.Spelling.{DatedFact, HaveSpelling, batch_spelling, fact_of}
 use Rattle.change_codec.specs.Happened.{dated}
 use Rattle.change_codec.specs.HappenedLaws.{Happened-split, meaning_of-told}
-use Rattle.state_file.specs.Standing.{AreTold, IsTold}
+use Rattle.state_file.specs.Standing.{AreTold, IsTold, last_moment}
 use Rattle.state_file.specs.StandingLaws.{AreTold-split}
 use Rattle.image_codec.specs.Facts.{HookFact}
 use Rattle.state_file.specs.Hooks.{hooks_behind, hooks_by, hooks_set_in}
@@ -41,10 +41,14 @@ pub nothing_told : (batch : List ℕ) (facts : List DatedFact) → ((some : List
 nothing_told batch facts none told =
     told.4 ∙ ap (λ (ds : List DatedFact). told.0 ++ ds) told.3 ∙ append-nil told.0 ∙ none told.0 told.2
 
+last_moment-append : (before : ℕ) (facts more : List DatedFact) → last_moment before (facts ++ more) ≡ last_moment (last_moment before facts) more
+last_moment-append before [] more = refl
+last_moment-append before (d ∷ facts) more = last_moment-append d.moment facts more
+
 module _ {H : Type 0} (hosting : Hosting H) where
   -- none
   pub redoes_none : (restored : Restored H) → RedoesDated hosting restored [] restored
-  redoes_none restored = (refl, λ outset before after fits happened. subst (λ (h : List Event). FitsRestored hosting restored outset h) (sym happened) fits, λ none. none)
+  redoes_none restored = (refl, λ outset before after fits happened. subst (λ (h : List Event). FitsRestored hosting restored outset h) (sym happened) fits, λ none. none, refl)
 
   -- some, and then others
   fits_then : (old mid new : Restored H) (facts more : List DatedFact) → FitsOn hosting old facts mid → FitsOn hosting mid more new → FitsOn hosting old (facts ++ more) new
@@ -57,6 +61,7 @@ module _ {H : Type 0} (hosting : Hosting H) where
     then.0 ∙ ap (λ (hs : List HookFact). hooks_behind hs more) one.0 ∙ sym (hooks_behind-append old.hooks facts more),
     fits_then old mid new facts more one.1 then.1,
     λ none. then.2 (one.2 none),
+    then.3 ∙ ap (λ (m : ℕ). last_moment m more) one.3 ∙ sym (last_moment-append old.moment facts more),
   )
 
   -- one
@@ -76,7 +81,7 @@ module _ {H : Type 0} (hosting : Hosting H) where
 
   pub redoes_one : (old new : Restored H) (moment : ℕ) (change : Change) → again.RedoesChange hosting old.server moment change new.server →
       new.hooks ≡ hooks_by old.hooks (fact_of change) → new.moment ≡ moment → StaysUnnoted old new → RedoesDated hosting old (dated moment change ∷ []) new
-  redoes_one old new moment change redone hooks moment_is unnoted = (hooks, fits_one old new moment change redone hooks moment_is, unnoted)
+  redoes_one old new moment change redone hooks moment_is unnoted = (hooks, fits_one old new moment change redone hooks moment_is, unnoted, moment_is)
 
   -- no batch, or one of rules, or a mark
   pub redoes_no_batch : (restored : Restored H) → RedoesBatches hosting restored [] restored

@@ -1,6 +1,6 @@
 -- Hooks that are set, and keeping that they are.
-use Rattle.std.proofs.Common.{◌≡◌, inl, ℕ, List, [], ◌∷◌, ◌++◌, Bool, true, false, Option, None, Some, refl, sym, ap, ◌∙◌, subst, arith}
-use Rattle.std.specs.Prelude.{if◌then◌else◌, option_map}
+use Rattle.std.proofs.Common.{◌≡◌, ℕ, List, [], ◌∷◌, ◌++◌, Bool, true, false, Option, None, Some, refl, sym, ap, ◌∙◌, subst}
+use Rattle.std.specs.Prelude.{if◌then◌else◌}
 use Rattle.std.specs.Str.{bytes_eq}
 use Rattle.std.proofs.lemmas.List.Elements.{All-append, All-cons, All-nil, All-weaker}
 use Rattle.std.proofs.lemmas.Slice.Eq.{bytes_eq-Decides}
@@ -9,14 +9,13 @@ use Rattle.consent.specs.History.{Change as happens}
 use Rattle.consent.specs.declared.change.Changes.{Changes}
 use Rattle.change_codec.specs.Happened.{Happened, all_dated}
 use Rattle.change_codec.specs.HappenedLaws.{Happened-joined}
-use Rattle.change_codec.specs.Keeping.{Crashes, Holds, KeepsEach}
 use Rattle.change_codec.specs.Spelling.{DatedFact, HookSet}
 use Rattle.endpoints.specs.Noting.{with_notes}
 use Rattle.endpoints.specs.Server.{SeenServer, FitsServer, Notes, NowNotes, AreUnkept, AreNoted, Outset}
 use Rattle.hook_host.specs.declared.host.HookHost.{Ghosts as Hosting}
 use Rattle.image_codec.specs.Facts.{HookFact}
 use Rattle.state_file.specs.Hooks.{AreSet, hooks_set_in, hook_named, with_hook, with_hooks}
-use Rattle.state_file.specs.Resuming.{FitsRestored, RedoesDated, Sets, KeepsNoted}
+use Rattle.state_file.specs.Resuming.{FitsRestored, RedoesDated, Sets}
 use Rattle.state_file.specs.declared.restored.Restored.{Restored}
 use Rattle.state_file.proofs.Hooked.{hooks_of-with}
 
@@ -149,36 +148,6 @@ module _ {H : Type 0} (hosting : Hosting H) where
         hosts = fits.hosts;
         right = fits.right;
       })
-
--- KEEPING
-
-module _ {H K : Type 0} (crashes : Crashes K) (only_now : (keeper : K) (c : List ℕ) → crashes.left_since keeper (crashes.moment keeper) c → crashes.may_leave keeper c) where
-  -- nothing is noted at all
-  pub keeps_unnoted : (server : SeenServer H) (keeper : K) → server.unkept ≡ None → KeepsNoted crashes server server keeper keeper
-  keeps_unnoted server keeper none before after notes holds =
-      absurd (subst (λ (unkept : Option (List DatedFact)). AreUnkept unkept (Some before) after) none notes)
-
-  -- nothing is unkept
-  pub keeps_all_kept : (server : SeenServer H) (keeper : K) → server.unkept ≡ Some [] → KeepsNoted crashes server server keeper keeper
-  keeps_all_kept server keeper nothing before after notes holds =
-      let same : after ≡ before = subst (λ (unkept : Option (List DatedFact)). AreUnkept unkept (Some before) after) nothing notes in (
-        subst (λ (unkept : Option (List DatedFact)). AreUnkept unkept (Some after) after) (sym nothing) refl,
-        subst (λ (h : List Event). Holds crashes keeper h) (sym same) holds,
-        record {
-          later = omega arith;
-          each = λ c left. inl (holds c (only_now keeper c left));
-          earlier = λ t c le left. inl left;
-        },
-      )
-
-  -- it was kept, and is forgotten
-  pub keeps_noted : (old new : SeenServer H) (keeper kept : K) (facts : List DatedFact) → old.unkept ≡ Some facts → NowNotes old new (option_map (λ noted. []) old.unkept) →
-      KeepsEach crashes facts keeper kept → KeepsNoted crashes old new keeper kept
-  keeps_noted old new keeper kept facts are now keeps before after notes holds =
-      let happened : Happened before facts after = subst (λ (unkept : Option (List DatedFact)). AreUnkept unkept (Some before) after) are notes in
-      let k = keeps before after happened in
-      let empty : new.unkept ≡ Some [] = ap (λ (s : SeenServer H). s.unkept) now ∙ ap (option_map (λ (noted : List DatedFact). [])) are in
-      (subst (λ (unkept : Option (List DatedFact)). AreUnkept unkept (Some after) after) (sym empty) refl, k.holds holds, k.meanwhile holds)
 
 -- LOOKING UP, for what is found
 

@@ -9,7 +9,7 @@ use Rattle.state_file.specs.Hooks.{AreSet, with_hooks}
 use Rattle.state_file.specs.Knowing.{IsLong, image_size}
 use Rattle.state_file.specs.Renewing.{HasTooMuch}
 use Rattle.state_file.specs.Resuming.{AnswersFor, OfEachHistory, RefusesResume, RefusesSome, ServesOn}
-use Rattle.state_file.specs.Standing.{StandFor, until_of}
+use Rattle.state_file.specs.Standing.{IsMomentTold, StandFor, until_of}
 use Rattle.state_file.specs.Telling.{Tell, rules_of}
 use Rattle.state_file.specs.declared.fault.StateFault.{StateFault}
 use Rattle.state_file.specs.declared.fault.StateFault.TheVariants as state
@@ -49,12 +49,13 @@ abbrev pub AreKeptShort : {H : Type 0} → Hosting H → SeenServer H → List (
 AreKeptShort hosting server batches = (¬ IsLong (end_of batches) (image_size batches)) ⊎ HasTooMuch hosting server batches
 
 -- So it is of each history that the bytes stand for. The batches tell the rules, and no earlier moment than the bytes did; the
--- server goes on from none that is earlier than that.
+-- server goes on from none that is earlier than that, and from no other than they told.
 pub record Makes {H : Type 0} (hosting : Hosting H) (on : OnBytes H) (made : Made H) : Type 0 where
   pub each : OfEachHistory hosting on.outset.first on.bytes (MakesFrom hosting on made)
   pub tell : Tell made.batches (rules_of on.outset.rules)
   pub kept : until_of (recovered on.bytes) ≤ until_of made.batches
   pub later : until_of (recovered on.bytes) ≤ made.moment
+  pub moment_is : IsMomentTold (recovered on.bytes) made.moment
   pub short : AreKeptShort hosting made.server made.batches
   pub torn_is : made.torn ≡ torn_of on.bytes
 

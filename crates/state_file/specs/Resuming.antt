@@ -15,7 +15,7 @@ use Rattle.hook_host.specs.declared.host.HookHost.{Ghosts as Hosting}
 use Rattle.image_codec.specs.Facts.{RulesFact, HookFact, ImageFact}
 use Rattle.state_file.specs.Comparing.{RefuseRules, TakesRules}
 use Rattle.state_file.specs.Hooks.{AreSet, hooks_behind, hooks_set_in, hook_named, with_hooks}
-use Rattle.state_file.specs.Standing.{AreTold, BeginWithImage, IsImageOf, StandsFor, begins_image}
+use Rattle.state_file.specs.Standing.{AreTold, BeginWithImage, IsImageOf, StandsFor, begins_image, last_moment}
 use Rattle.state_file.specs.Telling.{TellsRules, rules_of}
 use Rattle.state_file.specs.declared.fault.StateFault.{StateFault}
 use Rattle.state_file.specs.declared.fault.StateFault.TheVariants.{Memory, NotState, Version, Damaged, Spelling, Follows, Image, HookDiffers, Hook}
@@ -39,9 +39,11 @@ FitsOn {H = H} hosting old facts new =
 abbrev pub StaysUnnoted : {H : Type 0} → Restored H → Restored H → Type 0
 StaysUnnoted old new = old.server.unkept ≡ None → new.server.unkept ≡ None
 
--- and its hooks are those that the changes leave
+-- and its hooks and its moment are those that the changes leave
 abbrev pub RedoesDated : {H : Type 0} → Hosting H → Restored H → List DatedFact → Restored H → Type 0
-RedoesDated hosting old facts new = (new.hooks ≡ hooks_behind old.hooks facts) × FitsOn hosting old facts new × StaysUnnoted old new
+RedoesDated hosting old facts new =
+    (new.hooks ≡ hooks_behind old.hooks facts) × FitsOn hosting old facts new × StaysUnnoted old new
+    × (new.moment ≡ last_moment old.moment facts)
 
 -- so it is of the dated changes that the batches have
 abbrev pub RedoesBatches : {H : Type 0} → Hosting H → Restored H → List (List ℕ) → Restored H → Type 0
@@ -72,18 +74,19 @@ abbrev pub WasRun : {H : Type 0} → Hosting H → H → List ℕ → List Event
 WasRun hosting first left history =
     HaveNoImage (recovered left) ⊎ ((front : List Event) → IsFrontOf front history → Replays hosting first front)
 
--- the server has the hooks of the image, and fits each history that this is one of, where that is right under the rules and
--- was run
+-- the server has the hooks and the moment of the image, and fits each history that this is one of, where that is right under
+-- the rules and was run
 abbrev pub IsMadeOf : {H : Type 0} → Hosting H → ImageFact → Outset H → Restored H → Type 0
 IsMadeOf hosting image outset restored =
     (restored.hooks ≡ image.hooks)
     × ((history : List Event) → IsImageOf image history → AllRight outset.rules [] history → Replays hosting outset.first history →
     FitsRestored hosting restored outset history)
+    × (restored.moment ≡ image.greatest)
 
 -- The server is made of the first batch, where that is an image, and else anew; the later batches are the others. It notes
 -- nothing.
 pub record BeginsByBatches {H : Type 0} (hosting : Hosting H) (outset : Outset H) (batches later : List (List ℕ)) (restored : Restored H) : Type 0 where
-  pub anew : HaveNoImage batches → (later ≡ batches) × FitsRestored hosting restored outset []
+  pub anew : HaveNoImage batches → (later ≡ batches) × FitsRestored hosting restored outset [] × (restored.moment ≡ 0)
   pub of_image : (image : ImageFact) (behind : List (List ℕ)) → BeginWithImage batches image behind →
       (later ≡ behind) × IsMadeOf hosting image outset restored
   pub unnoted : restored.server.unkept ≡ None

@@ -1,5 +1,5 @@
 -- What a state file stands for.
-use Rattle.std.specs.Prelude.{◌≡◌, ◌⊎◌, ◌++◌, ◌^◌, ◌==◌, ◌&&◌, ℕ, zero, suc, max, nat_lt, length, List, [], ◌∷◌, Bool, true, false, Option, None, Some, IsSome, if◌then◌else◌, map, unwrap_or}
+use Rattle.std.specs.Prelude.{◌≡◌, ◌⊎◌, inl, inr, ◌++◌, ◌^◌, ◌==◌, ◌&&◌, ℕ, zero, suc, max, nat_lt, length, List, [], ◌∷◌, Bool, true, false, Option, None, Some, IsSome, if◌then◌else◌, map, unwrap_or}
 use Rattle.std.specs.Int.{w64, from_be_bytes, to_be_bytes}
 use Rattle.batch_file.specs.Frames.{recovered}
 use Rattle.consent.specs.Consents.{FitsConsents, kept_consents}
@@ -71,6 +71,25 @@ pub record StandFor (batches : List (List ℕ)) (history : List Event) : Type 0 
   pub begins : Begin batches base later
   pub told : AreTold later facts
   pub happened : Happened base facts history
+
+-- the moment of the last of the dated changes, or the one before them
+abbrev pub last_moment : ℕ → List DatedFact → ℕ
+last_moment before [] = before
+last_moment before (d ∷ later) = last_moment d.moment later
+
+-- the moment from which the later batches lead on: that of the image, if there is one
+abbrev pub first_moment : (batches : List (List ℕ)) (history : List Event) (later : List (List ℕ)) → Begin batches history later → ℕ
+first_moment batches history later (inl anew) = 0
+first_moment batches history later (inr of) = of.0.greatest
+
+-- the moment that batches tell which stand for a history: that of the last change, or a later mark
+abbrev pub moment_told : (batches : List (List ℕ)) (history : List Event) → StandFor batches history → ℕ
+moment_told batches history stands =
+    max (last_moment (first_moment batches stands.base stands.later stands.begins) stands.facts) (until_of batches)
+
+-- a server that goes on from this moment goes on from no other than the batches tell
+abbrev pub IsMomentTold : List (List ℕ) → ℕ → Type 0
+IsMomentTold batches moment = (history : List Event) (stands : StandFor batches history) → moment ≡ moment_told batches history stands
 
 -- so do the bytes of a file, by their batches
 abbrev pub StandsFor : List ℕ → List Event → Type 0

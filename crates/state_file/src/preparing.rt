@@ -1,7 +1,6 @@
 //! What a start makes of a state file's bytes, before anything is written.
 
-ghost use Rattle.std.specs.Prelude.{◌≡◌, List, [], Some, IfOk, IfErr, OnOk, map};
-ghost use Rattle.change_codec.specs.Spelling.{DatedFact};
+ghost use Rattle.std.specs.Prelude.{◌≡◌, [], IfOk, IfErr, OnOk, map, option_map, unwrap_or};
 ghost use Rattle.clients.specs.RegistryRecord.{RegistryRecord};
 ghost use Rattle.endpoints.specs.Server.{NowNotes, outset_of};
 ghost use Rattle.endpoints.specs.Widening.{IsWider};
@@ -60,8 +59,8 @@ fn add_noted<H: HookHost>(
     requires known { IsKnown frames.old known.old }
     ensures known { OnOk result (IsKnown frames.new known.new) }
     ensures same { NowNotes server.old server.new server.new.unkept }
-    ensures added { OnOk result ((facts : List DatedFact) → server.old.unkept ≡ Some facts →
-        (server.new.unkept ≡ Some []) × AreAdded facts frames.old frames.new) }
+    ensures unkept { OnOk result (server.new.unkept ≡ option_map (λ facts. []) server.old.unkept) }
+    ensures added { OnOk result (AreAdded (unwrap_or server.old.unkept []) frames.old frames.new) }
     ensures refused { IfErr result IsUnadded }
 {
     let Some(batch) = server.unkept() else {

@@ -37,6 +37,7 @@ impl<H: HookHost> Restored<H> {
     pub(crate) fn new(alloc: Global, registry: Registry, host: H) -> Restored<H>
         ensures fits { FitsRestored H.HookHost result (outset_of registry host) [] }
         ensures notes { Notes result.server None [] }
+        ensures moment { result.moment ≡ 0 }
     {
         Restored {
             server: Server::new(alloc, registry, host),

@@ -8,7 +8,7 @@ ghost use Rattle.batch_file.specs.Frames.{recovered, torn_of};
 ghost use Rattle.state_file.specs.Knowing.{IsKnown};
 ghost use Rattle.state_file.specs.MakingParts.{AreToldBehind};
 ghost use Rattle.state_file.specs.Resuming.{AnswersFor, RefusesResume};
-ghost use Rattle.state_file.specs.Standing.{until_of};
+ghost use Rattle.state_file.specs.Standing.{IsMomentTold, until_of};
 ghost use Rattle.state_file.specs.Telling.{TellsRules, rules_of};
 
 use crate::beginning::{Beginning, begin};
@@ -47,6 +47,7 @@ pub(crate) fn resume<H: HookHost>(
     ensures answers { IfOk result (λ resumed. AnswersFor H.HookHost bytes.now (outset_of registry host) resumed.restored) }
     ensures unnoted { IfOk result (λ resumed. resumed.restored.server.unkept ≡ None) }
     ensures later { IfOk result (λ resumed. until_of (recovered bytes.now) ≤ resumed.restored.moment) }
+    ensures moment { IfOk result (λ resumed. IsMomentTold (recovered bytes.now) resumed.restored.moment) }
     // The registry's rules are as wide as those that the file told.
     ensures wider { IfOk result (λ _. (old : RegistryRecord) → TellsRules bytes.now (rules_of old) → IsWider old registry) }
     ensures told { IfOk result (λ resumed. AreToldBehind (recovered bytes.now) (rules_of registry) resumed.frames) }

@@ -102,8 +102,10 @@ pub fn start_on<D: Device + Drop, H: HookHost>(
     ensures refused { IfErr result (λ not.
         RefusesMaking H.HookHost (on_bytes bytes.now (outset_of registry host) (map hook_fact hooks.now)) not.fault ⊎ IsOfDisk not.fault) }
 {
-    match prepare(alloc, bytes, registry, host, hooks) {
-        Ok(prepared) => prepared.settle(device),
-        Err(fault) => Err(NotStarted { fault, device }),
-    }
+    let prepared = match prepare(alloc, bytes, registry, host, hooks) {
+        Ok(prepared) => prepared,
+        Err(fault) => return Err(NotStarted { fault, device }),
+    };
+    let started = prepared.settle(device)?;
+    Ok(started)
 }

@@ -1,5 +1,5 @@
 -- What a file stands for that has an image of what is left.
-use Rattle.std.proofs.Common.{◌≡◌, ◌<◌, ◌^◌, inl, inr, ℕ, ◌-◌, zero, suc, List, [], ◌∷◌, Bool, true, false, cond, None, Some, refl, ap, sym, subst, ◌∙◌}
+use Rattle.std.proofs.Common.{◌≡◌, ◌⊎◌, ◌<◌, ◌^◌, inl, inr, ℕ, ◌-◌, zero, suc, List, [], ◌∷◌, Bool, true, false, cond, None, Some, refl, ap, sym, subst, ◌∙◌}
 use Rattle.std.specs.Prelude.{◌==◌, if◌then◌else◌, is_some, slice_get, map, Result, Ok, Err, IfOk, IfErr}
 use Rattle.std.specs.Str.{bytes_eq}
 use Rattle.batch_file.specs.Frames.{recovered}
@@ -36,7 +36,8 @@ use Rattle.state_file.proofs.Marked.{StandFor-image_marked, Tell-image, until_of
 use Rattle.state_file.specs.ResumingLaws.{right_now}
 use Rattle.state_file.specs.TellingLaws.{tell_one}
 use Rattle.state_account.specs.declared.account.Account.{Account}
-use Rattle.state_narrowing.specs.Narrowing.{GoesOn, HasLeftOfEach, IsNarrower, RefusesNarrowing}
+use Rattle.state_file.specs.declared.fault.StateFault.{StateFault}
+use Rattle.state_narrowing.specs.Narrowing.{GoesOn, HasLeftOfEach, IsNarrower, IsUnnarrowed, IsUnreadable, RefusesNarrowing}
 use Rattle.state_narrowing.specs.NarrowingParts.{IsRightImage, SpellLeft}
 use Rattle.state_narrowing.specs.declared.imaging.LeftImage.{LeftImage}
 use Rattle.state_narrowing.specs.declared.narrowed.Narrowed.{Narrowed}
@@ -58,6 +59,11 @@ err_also (Err e) P Q f is = f e is
 pub of_encoding_refuses : (fault : EncodeFault) → RefusesNarrowing (of_encoding fault)
 of_encoding_refuses encoding.Memory = tt
 of_encoding_refuses encoding.TooLong = tt
+
+-- why what is left is not told, where the registry is narrower
+pub unnarrowed : (left : List ℕ) (now : RulesFact) (fault : StateFault) → IsNarrower left now → IsUnreadable left fault ⊎ RefusesNarrowing fault → IsUnnarrowed left now fault
+unnarrowed left now fault narrower (inl unread) = inl unread
+unnarrowed left now fault narrower (inr refused) = inr (inr (narrower, refused))
 
 -- HOOKS
 

@@ -6,12 +6,11 @@ ghost use Rattle.state_file.specs.Standing.{until_of};
 ghost use Rattle.state_file.specs.Telling.{rules_of};
 ghost use Rattle.state_narrowing.specs.Narrowing.{HasLeftOfEach, IsNarrower, IsUnnarrowed};
 
-use crate::comparing::is_narrower;
+use crate::comparing::until_where_narrower;
 use crate::imaging::{LeftImage, image_left};
-use batch_file::framing::read_batches;
 use clients::Registry;
 use hook_host::HookHost;
-use state_file::{StateFault, image_frames, until_of};
+use state_file::{StateFault, image_frames};
 use std::alloc::Global;
 
 /// What is left of a state file under a registry.
@@ -40,11 +39,9 @@ pub fn narrow<H: HookHost>(
         until_of (recovered file.bytes.items) ≡ until_of (recovered bytes.now))) }
     ensures refused { IfErr result (IsUnnarrowed bytes.now (rules_of registry.now)) }
 {
-    let found = read_batches(alloc, bytes)?;
-    if !is_narrower(alloc, &found.batches, registry)? {
+    let Some(until) = until_where_narrower(alloc, bytes, registry)? else {
         return Ok(None);
-    }
-    let until = until_of(&found.batches);
+    };
     let left = image_left(alloc, bytes, registry, host)?;
     let frames = image_frames(alloc, &left.bytes, until)?;
     Ok(Some(Narrowed {

@@ -1,6 +1,7 @@
-use Rattle.std.proofs.Common.{◌≡◌, ◌∙◌, ℕ, List, ap, length, sym, subst}
+use Rattle.std.proofs.Common.{◌≡◌, ◌≤◌, ◌∙◌, ℕ, List, ap, length, sym, subst}
 use Rattle.std.proofs.lemmas.List.{length-map}
 use Rattle.batch_file.specs.Frames.{lists, recovered}
+use Rattle.state_file.specs.Standing.{IsMomentTold, until_of}
 use Rattle.state_file.specs.Telling.{Tell, rules_of}
 use Rattle.state_account.proofs.Accounted.{tells_any}
 use Rattle.state_file.proofs.Compared.{wider}
@@ -19,5 +20,7 @@ returns-clause-told g c =
       rules = c.in-Ok.ensures.spelled;
       answers = c.in_ok-restored.ensures.answers bytes (sym are);
       batches = sym (length-map batches (λ v. v.items)) ∙ ap (λ (bs : List (List ℕ)). length bs) are;
-      torn = (c.in_ok-found.found.end, record { frames = c.in_ok-found.ensures.frames; nothing = c.in_ok-found.ensures.nothing }, c.torn_behind.ensures);
+      torn = c.len-2.ensures ∙ ap length c.in_ok-found.ensures.torn;
+      moment_is = subst (λ (bs : List (List ℕ)). IsMomentTold bs c.in_ok-restored.restored.moment) are c.in_ok-restored.ensures.moment;
+      later = subst (λ (bs : List (List ℕ)). until_of bs ≤ c.in_ok-restored.restored.moment) are c.in_ok-restored.ensures.later;
     }

@@ -11,7 +11,7 @@ use Rattle.state_file.specs.Resuming.{RefuseServer, RefusesImage, RefusesResume}
 use Rattle.state_file.specs.Standing.{StandFor, until_of}
 use Rattle.state_file.specs.Telling.{Tell, rules_of}
 use Rattle.state_file.specs.declared.keeper.Known.{Known}
-use Rattle.state_file.proofs.Begun.{answers_for, answers_reached, hooks_for}
+use Rattle.state_file.proofs.Begun.{answers_for, answers_reached, hooks_for, moment_reached}
 use Rattle.state_file.proofs.Compared.{wider}
 use Rattle.state_file.proofs.Known.{known_begun}
 use Rattle.state_file.proofs.Refused.{no_resume, no_server, no_start, not_redone}
@@ -91,3 +91,9 @@ returns-clause-known g c =
     c.in_ok-restored.ensures.begins c.in_ok-redo_all.ensures.redone history (subst (λ (bs : List (List ℕ)). StandFor bs history) (sym are) stands) in
     known_begun old new known now told (c.in_ok-rules.ensures.fit, c.in_ok-rules.ensures.spelled) (tells_behind old new now behind) same added set
     (c.in_ok-restored.ensures.image ∙ ap image_size are) (c.until_of-until.ensures ∙ ap until_of are)
+
+pub returns-clause-moment : goal.returns-clause-moment
+returns-clause-moment g c =
+    let are : lists c.as_slice-batches.result.now ≡ recovered c.args.bytes.now = ap lists c.as_slice-batches.ensures.value ∙ c.in_ok-list.ensures.batches in
+    moment_reached g.H.HookHost (outset_of c.args.registry c.args.host) (recovered c.args.bytes.now) (lists c.as_slice-batches.result.now) (lists c.in_ok-restored.field-0.later.now) c.in_ok-restored.field-0.restored c.redo_all.new.restored
+    c.until_of-until.result c.reach.new.self.moment c.in_ok-restored.ensures.begins c.in_ok-redo_all.ensures.redone c.until_of-until.ensures c.reach.ensures.moment are

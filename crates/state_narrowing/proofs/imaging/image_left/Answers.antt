@@ -1,23 +1,21 @@
-use Rattle.std.proofs.Common.{rules, ◌≡◌, ◌∙◌, List, Err, refl, sym, ap, subst}
-use Rattle.std.specs.Prelude.{ℕ, ◌++◌}
+use Rattle.std.proofs.Common.{rules, inr, ◌≡◌, ◌⊎◌, List, Err, refl, sym, ap, subst}
 use Rattle.image_codec.specs.Facts.{ImageFact, image_fact}
-use Rattle.image_codec.specs.Spelling.{image_spelling}
 use Rattle.token_store.specs.Fits.{FitsHistory}
 use Rattle.token_store.specs.Image.{as_kept}
 use Rattle.token_store.specs.declared.image.KeptRecord.{KeptRecord}
 use Rattle.state_file.specs.FaultTexts.{of_encoding}
-use Rattle.state_narrowing.specs.Narrowing.{RefusesNarrowing}
+use Rattle.state_narrowing.specs.Narrowing.{IsUnreadable, RefusesNarrowing}
 use Rattle.state_narrowing.proofs.OfLeft.{counted_image, of_encoding_refuses, right_image}
 use Rattle.state_narrowing.proofs.imaging.image_left.Goals as goal
 
 pub returns-in-Err-clause-refused : goal.returns-in-Err-clause-refused
-returns-in-Err-clause-refused g c = c.fault_of.ensures
+returns-in-Err-clause-refused g c = c.fault_of.ensures c.args.bytes.now c.in-Err.ensures.refused
 
 pub returns-in_err-bytes-clause-refused : goal.returns-in_err-bytes-clause-refused
 returns-in_err-bytes-clause-refused g c =
     let cause = c.in_err-bytes.field-0.0 in
     let is : c.from_residual-in_err-bytes.result ≡ Err (of_encoding cause) = search rules in
-    let refused : RefusesNarrowing (of_encoding cause) = of_encoding_refuses cause in
+    let refused : IsUnreadable c.args.bytes.now (of_encoding cause) ⊎ RefusesNarrowing (of_encoding cause) = inr (of_encoding_refuses cause) in
     rw is refused
 
 pub returns-clause-is : goal.returns-clause-is

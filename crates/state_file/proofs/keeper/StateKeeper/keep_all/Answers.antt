@@ -21,8 +21,7 @@ invariant_of-self g c = λ none.
     let now : Known = record { rules = known.rules; hooks = c.behind.result; image = known.image; until = known.until } in
     let same : c.bytes.result.now ≡ batch = c.bytes.ensures.spelled ∙ sym c.bytes-2.ensures.spelled in
     let behind = subst (λ (o : Option (List HookFact)). IfSome c.behind.result (λ hooks. (set : List HookFact) × (o ≡ Some set) × AreBehind set batch hooks)) c.take.ensures.value
-        (subst (λ (b : List ℕ). IfSome c.behind.result (λ hooks. (set : List HookFact) × (c.take.result ≡ Some set) × AreBehind set b hooks)) same c.behind.ensures) in
-    (
+    (subst (λ (b : List ℕ). IfSome c.behind.result (λ hooks. (set : List HookFact) × (c.take.result ≡ Some set) × AreBehind set b hooks)) same c.behind.ensures) in (
       c.in-Ok.ensures.settled,
       subst (λ (bs : List (List ℕ)). IsKnown bs now) (sym c.in-Ok.ensures.added)
           (known_changes was batch c.args.batch.now.facts known now c.bytes-2.ensures.spelled c.bytes-2.ensures.fits refl refl refl behind (c.self.invariant none).1),

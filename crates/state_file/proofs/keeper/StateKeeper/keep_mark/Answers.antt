@@ -15,8 +15,7 @@ pub invariant_of-self : goal.invariant_of-self
 invariant_of-self g c = λ none.
     let was = recovered (g.D.Device.seen c.self.inside.file.device) in
     let known = c.self.inside.known in
-    let now : Known = record { rules = known.rules; hooks = known.hooks; image = known.image; until = c.marked-until.result } in
-    (
+    let now : Known = record { rules = known.rules; hooks = known.hooks; image = known.image; until = c.marked-until.result } in (
       c.in-Ok.ensures.settled,
       subst (λ (bs : List (List ℕ)). IsKnown bs now) (sym c.in-Ok.ensures.added)
           (known_mark was c.mark.result c.marked-until.result known now c.mark.ensures c.marked-until.ensures.in_range (omega arith) refl refl refl refl (c.self.invariant none).1),

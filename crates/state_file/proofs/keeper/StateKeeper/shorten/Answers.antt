@@ -40,10 +40,9 @@ invariant_of-self g c = λ none.
     let was = recovered (g.D.Device.seen c.self.inside.file.device) in
     let new = c.in_ok-frames.frames in
     let of = of_image g.H.HookHost c.args.server.now hooks known was c.as_slice.result.now c.in_ok-image.image.items c.as_slice-2.result.now new
-        c.as_slice.ensures.value c.in_ok-image.ensures.is c.as_slice-2.ensures.value c.in_ok-frames.ensures is_known in
+    c.as_slice.ensures.value c.in_ok-image.ensures.is c.as_slice-2.ensures.value c.in_ok-frames.ensures is_known in
     let size : c.len-self-inside.result ≡ length c.in_ok-image.image.items = (let n = c.len-self-inside.ensures in omega (arith, n)) in
-    let now : Known = record { rules = known.rules; hooks = known.hooks; image = c.len-self-inside.result; until = known.until } in
-    (
+    let now : Known = record { rules = known.rules; hooks = known.hooks; image = c.len-self-inside.result; until = known.until } in (
       c.in-Ok.ensures.settled,
       subst (λ (bs : List (List ℕ)). IsKnown bs now) (sym c.in-Ok.ensures.replaced)
           (image_known g.H.HookHost c.args.server.now hooks known was new of c.in-Some.is now refl refl refl size),
@@ -58,7 +57,7 @@ returns-in-Ok-clause-kept g c outset history m fits =
     let was = recovered (g.D.Device.seen c.self.inside.file.device) in
     let new = c.in_ok-frames.frames in
     let of = of_image g.H.HookHost c.args.server.now hooks known was c.as_slice.result.now c.in_ok-image.image.items c.as_slice-2.result.now new
-        c.as_slice.ensures.value c.in_ok-image.ensures.is c.as_slice-2.ensures.value c.in_ok-frames.ensures is_known in
+    c.as_slice.ensures.value c.in_ok-image.ensures.is c.as_slice-2.ensures.value c.in_ok-frames.ensures is_known in
     let P : BatchFile g.row.D.Denot → Type 0 = λ old. Keeps (file_crashes g.D.Device) history history old c.replace.new.self in
     subst P c.self.view_is
     (keeps g.D.Device c.self.inside.file c.replace.new.self new history history c.in-Ok.ensures.any_moment c.in-Ok.ensures.settled c.in-Ok.ensures.replaced
@@ -73,7 +72,7 @@ returns-in-Ok-clause-moments g c =
     let was = recovered (g.D.Device.seen c.self.inside.file.device) in
     let new = c.in_ok-frames.frames in
     let of = of_image g.H.HookHost c.args.server.now hooks known was c.as_slice.result.now c.in_ok-image.image.items c.as_slice-2.result.now new
-        c.as_slice.ensures.value c.in_ok-image.ensures.is c.as_slice-2.ensures.value c.in_ok-frames.ensures is_known in
+    c.as_slice.ensures.value c.in_ok-image.ensures.is c.as_slice-2.ensures.value c.in_ok-frames.ensures is_known in
     let until = image_until g.H.HookHost c.args.server.now hooks known was new of is_known in
     let P : BatchFile g.row.D.Denot → Type 0 = λ old. KeepsMoments (file_crashes g.D.Device) old c.replace.new.self in
     subst P c.self.view_is
@@ -88,7 +87,7 @@ returns-in-Ok-clause-meanwhile g c =
     let was = recovered (g.D.Device.seen c.self.inside.file.device) in
     let new = c.in_ok-frames.frames in
     let of = of_image g.H.HookHost c.args.server.now hooks known was c.as_slice.result.now c.in_ok-image.image.items c.as_slice-2.result.now new
-        c.as_slice.ensures.value c.in_ok-image.ensures.is c.as_slice-2.ensures.value c.in_ok-frames.ensures is_known in
+    c.as_slice.ensures.value c.in_ok-image.ensures.is c.as_slice-2.ensures.value c.in_ok-frames.ensures is_known in
     let until = image_until g.H.HookHost c.args.server.now hooks known was new of is_known in
     let P : BatchFile g.row.D.Denot → Type 0 = λ old. TellsMoments (file_crashes g.D.Device) old c.replace.new.self in
     subst P c.self.view_is (tells_moments g.D.Device c.self.inside.file c.replace.new.self new c.in-Ok.ensures.any_moment (le_of was new until))
@@ -102,7 +101,7 @@ returns-in-Ok-clause-told g c =
     let was = recovered (g.D.Device.seen c.self.inside.file.device) in
     let new = c.in_ok-frames.frames in
     let of = of_image g.H.HookHost c.args.server.now hooks known was c.as_slice.result.now c.in_ok-image.image.items c.as_slice-2.result.now new
-        c.as_slice.ensures.value c.in_ok-image.ensures.is c.as_slice-2.ensures.value c.in_ok-frames.ensures is_known in
+    c.as_slice.ensures.value c.in_ok-image.ensures.is c.as_slice-2.ensures.value c.in_ok-frames.ensures is_known in
     let P : BatchFile g.row.D.Denot → Type 0 = λ old. KeepRules g.D.Device.seen g.D.Device.may_leave old c.replace.new.self in
     subst P c.self.view_is
     (keeps_rules g.D.Device c.self.inside.file c.replace.new.self new c.in-Ok.ensures.settled c.in-Ok.ensures.replaced (image_tells g.H.HookHost c.args.server.now hooks known was new of is_known))
@@ -116,7 +115,7 @@ returns-clause-meanwhile g c =
     let was = recovered (g.D.Device.seen c.self.inside.file.device) in
     let new = c.in_ok-frames.frames in
     let of = of_image g.H.HookHost c.args.server.now hooks known was c.as_slice.result.now c.in_ok-image.image.items c.as_slice-2.result.now new
-        c.as_slice.ensures.value c.in_ok-image.ensures.is c.as_slice-2.ensures.value c.in_ok-frames.ensures is_known in
+    c.as_slice.ensures.value c.in_ok-image.ensures.is c.as_slice-2.ensures.value c.in_ok-frames.ensures is_known in
     let until = image_until g.H.HookHost c.args.server.now hooks known was new of is_known in
     let P : BatchFile g.row.D.Denot → Type 0 = λ old. TellsMoments (file_crashes g.D.Device) old c.replace.new.self in
     subst P c.self.view_is (tells_moments g.D.Device c.self.inside.file c.replace.new.self new c.in-Err-Failed.ensures.any_moment (le_of was new until))
@@ -130,7 +129,7 @@ returns-clause-failed g c _ outset history m fits =
     let was = recovered (g.D.Device.seen c.self.inside.file.device) in
     let new = c.in_ok-frames.frames in
     let of = of_image g.H.HookHost c.args.server.now hooks known was c.as_slice.result.now c.in_ok-image.image.items c.as_slice-2.result.now new
-        c.as_slice.ensures.value c.in_ok-image.ensures.is c.as_slice-2.ensures.value c.in_ok-frames.ensures is_known in
+    c.as_slice.ensures.value c.in_ok-image.ensures.is c.as_slice-2.ensures.value c.in_ok-frames.ensures is_known in
     let P : BatchFile g.row.D.Denot → Type 0 = λ old. KeepsNot (file_crashes g.D.Device) history history old c.replace.new.self in
     subst P c.self.view_is
     (keeps_not g.D.Device c.self.inside.file c.replace.new.self new history history c.in-Err-Failed.ensures.any_moment
@@ -140,12 +139,12 @@ pub invariant_of-self-in-Err-Memory : goal.invariant_of-self-in-Err-Memory
 invariant_of-self-in-Err-Memory g c = λ none.
     let same = c.in-Err-Memory.ensures.untouched (subst (λ (f : ReplaceFault). IsUnplaced f) (sym c.in-Err-Memory.field-0-is) tt) in
     let P : BatchFile g.row.D.Denot → Type 0 = λ file.
-        IsOnDisk g.D.Device.seen g.D.Device.may_leave g.D.Device.faults file × IsKnown (recovered (g.D.Device.seen file.device)) c.self.inside.known in
+    IsOnDisk g.D.Device.seen g.D.Device.may_leave g.D.Device.faults file × IsKnown (recovered (g.D.Device.seen file.device)) c.self.inside.known in
     subst P (sym same) (c.self.invariant none)
 
 pub invariant_of-self-in-Err-Unplaced : goal.invariant_of-self-in-Err-Unplaced
 invariant_of-self-in-Err-Unplaced g c = λ none.
     let same = c.in-Err-Unplaced.ensures.untouched (subst (λ (f : ReplaceFault). IsUnplaced f) (sym c.in-Err-Unplaced.field-0-is) tt) in
     let P : BatchFile g.row.D.Denot → Type 0 = λ file.
-        IsOnDisk g.D.Device.seen g.D.Device.may_leave g.D.Device.faults file × IsKnown (recovered (g.D.Device.seen file.device)) c.self.inside.known in
+    IsOnDisk g.D.Device.seen g.D.Device.may_leave g.D.Device.faults file × IsKnown (recovered (g.D.Device.seen file.device)) c.self.inside.known in
     subst P (sym same) (c.self.invariant none)

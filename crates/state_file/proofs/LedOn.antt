@@ -1,0 +1,127 @@
+-- A start, from the file's changes up to the batches of the new file.
+use Rattle.std.proofs.Common.{◌≡◌, ◌≤◌, ◌⊎◌, ◌∙◌, ◌++◌, inl, inr, ℕ, List, [], ◌∷◌, Option, None, Some, refl, sym, ap, subst, arith}
+use Rattle.std.specs.Prelude.{max, unwrap_or, option_map}
+use Rattle.batch_file.specs.Frames.{recovered}
+use Rattle.consent.specs.History.{Event}
+use Rattle.change_codec.specs.Happened.{Happened}
+use Rattle.change_codec.specs.Spelling.{DatedFact, HaveSpelling, batch_spelling}
+use Rattle.endpoints.specs.Server.{SeenServer, FitsServer, Notes, NowNotes, AreUnkept, Outset}
+use Rattle.hook_host.specs.declared.host.HookHost.{Ghosts as Hosting}
+use Rattle.image_codec.specs.Facts.{HookFact, RulesFact}
+use Rattle.state_file.specs.Hooks.{AreSet, with_hooks}
+use Rattle.state_file.specs.Making.{MakesFrom, Made, OnBytes, RefusesMaking}
+use Rattle.state_file.specs.MakingParts.{AreAdded, AreToldBehind, IsUnadded, StandInFor}
+use Rattle.state_file.specs.Resuming.{FitsRestored, Sets}
+use Rattle.state_file.specs.Standing.{StandFor, until_of}
+use Rattle.state_file.specs.StandingLaws.{AreTold-changes, StandFor-joined, until_of-append}
+use Rattle.state_file.specs.Telling.{Tell, last_rules}
+use Rattle.state_file.specs.TellingLaws.{last_rules-push}
+use Rattle.state_file.specs.declared.fault.StateFault.{StateFault}
+use Rattle.state_file.specs.declared.fault.StateFault.TheVariants as state
+use Rattle.state_file.specs.declared.restored.Restored.{Restored}
+use Rattle.state_file.proofs.Setting.{fits_noting}
+use Rattle.state_file.proofs.Tells.{stand_behind, tells_behind, until_behind}
+
+-- a server that begins to note fits what it fitted
+pub noting_fits : {H : Type 0} (hosting : Hosting H) (restored : Restored H) (server : SeenServer H) (outset : Outset H) (history : List Event) → NowNotes restored.server server (Some []) →
+    FitsRestored hosting restored outset history → FitsRestored hosting (record restored { server = server }) outset history
+noting_fits hosting restored server outset history begins fits =
+    (fits_noting hosting restored.server server (Some []) outset history restored.moment begins fits.0, fits.1)
+
+-- BATCHES WITH WHAT WAS NOTED
+
+module _ (facts : List DatedFact) (old new : List (List ℕ)) where
+  pub added_stand : (before after : List Event) → AreAdded facts old new → Happened before facts after → StandFor old before → StandFor new after
+  added_stand before after (inl none) happened stands =
+      let same : after ≡ before = subst (λ (ds : List DatedFact). Happened before ds after) none.0 happened in
+      subst (λ (bs : List (List ℕ)). StandFor bs after) (sym none.1) (subst (λ (h : List Event). StandFor old h) (sym same) stands)
+  added_stand before after (inr more) happened stands =
+      subst (λ (bs : List (List ℕ)). StandFor bs after) (sym more.1) (StandFor-joined old (batch_spelling facts ∷ []) before after facts stands (AreTold-changes facts more.0) happened)
+
+  pub added_tell : (rules : RulesFact) → AreAdded facts old new → Tell old rules → Tell new rules
+  added_tell rules (inl none) tell = subst (λ (bs : List (List ℕ)). Tell bs rules) (sym none.1) tell
+  added_tell rules (inr more) tell = (tell.0, ap last_rules more.1 ∙ last_rules-push old (batch_spelling facts) ∙ tell.1, tell.2)
+
+  max_0 : (n : ℕ) → max n (max 0 0) ≡ n
+  max_0 n = omega arith
+
+  pub added_until : AreAdded facts old new → until_of new ≡ until_of old
+  added_until (inl none) = ap until_of none.1
+  added_until (inr more) = ap until_of more.1 ∙ until_of-append old (batch_spelling facts ∷ []) ∙ max_0 (until_of old)
+
+-- nothing is unkept any more, where that is noted
+abbrev no_more : Option (List DatedFact) → Option (List DatedFact)
+no_more unkept = option_map (λ (facts : List DatedFact). []) unkept
+
+-- what was noted from a history leads on from there
+noted_leads : (unkept : Option (List DatedFact)) (before after : List Event) → AreUnkept unkept (Some before) after → Happened before (unwrap_or unkept []) after × (no_more unkept ≡ Some [])
+noted_leads None before after notes = absurd notes
+noted_leads (Some facts) before after notes = (notes, refl)
+
+-- why it is not added
+pub unadded : {H : Type 0} (hosting : Hosting H) (on : OnBytes H) (fault : StateFault) → IsUnadded fault → RefusesMaking hosting on fault
+unadded hosting on state.Memory is = inl tt
+unadded hosting on state.Full is = inr (inr refl)
+unadded hosting on state.NotState is = absurd is
+unadded hosting on (state.Version version) is = absurd is
+unadded hosting on (state.Damaged number) is = absurd is
+unadded hosting on (state.Unplaced reason) is = absurd is
+unadded hosting on (state.Device reason) is = absurd is
+unadded hosting on state.TooLong is = absurd is
+unadded hosting on state.NoRules is = absurd is
+unadded hosting on (state.Spelling fault) is = absurd is
+unadded hosting on (state.ScopeMoved name) is = absurd is
+unadded hosting on state.OwnerMoved is = absurd is
+unadded hosting on (state.ClientMoved name) is = absurd is
+unadded hosting on (state.ClientNarrowed name) is = absurd is
+unadded hosting on state.LifeNarrowed is = absurd is
+unadded hosting on (state.Follows fault) is = absurd is
+unadded hosting on (state.Image fault) is = absurd is
+unadded hosting on (state.HookDiffers name) is = absurd is
+unadded hosting on (state.Hook name fault) is = absurd is
+
+-- A WHOLE START
+
+-- the batches that were read, with the rules and with what was noted, and those of the new file
+pub record LeadOn {H : Type 0} (hosting : Hosting H) (noted : SeenServer H) (server : SeenServer H) (rules : RulesFact) (read new : List (List ℕ)) : Type 0 where
+  pub told : List (List ℕ)
+  pub tell : AreToldBehind read rules told
+  pub more : List (List ℕ)
+  pub added : AreAdded (unwrap_or noted.unkept []) told more
+  pub in_for : StandInFor hosting server more new
+
+module _ {H : Type 0} (hosting : Hosting H) (noted server : SeenServer H) (rules : RulesFact) (read new : List (List ℕ)) (leads : LeadOn hosting noted server rules read new) where
+  pub lead_tell : Tell new rules
+  lead_tell = leads.in_for.tell rules (added_tell (unwrap_or noted.unkept []) leads.told leads.more rules leads.added (tells_behind read leads.told rules leads.tell))
+
+  pub lead_until : until_of read ≤ until_of new
+  lead_until =
+      let same = leads.in_for.until ∙ added_until (unwrap_or noted.unkept []) leads.told leads.more leads.added ∙ until_behind read leads.told rules leads.tell in omega (arith, same)
+
+  pub lead_stand : (outset : Outset H) (before after : List Event) (m : ℕ) → StandFor read before → Happened before (unwrap_or noted.unkept []) after → FitsServer hosting server outset after m → StandFor new after
+  lead_stand outset before after m stands happened fits =
+      leads.in_for.stand outset after m fits
+      (added_stand (unwrap_or noted.unkept []) leads.told leads.more before after leads.added happened (stand_behind read leads.told rules before leads.tell stands))
+
+-- each history goes on with the hooks
+pub makes_from : {H : Type 0} (hosting : Hosting H) (on : OnBytes H) (made : Made H) (restored : Restored H) (noting : SeenServer H) (set : Restored H) (rules : RulesFact) (history : List Event) →
+    FitsRestored hosting restored on.outset history → NowNotes restored.server noting (Some []) → Sets hosting (record restored { server = noting }) on.hooks set → set.moment ≡ restored.moment →
+    NowNotes set.server made.server made.server.unkept → made.server.unkept ≡ no_more set.server.unkept → made.moment ≡ set.moment →
+    LeadOn hosting set.server made.server rules (recovered on.bytes) made.batches → StandFor (recovered on.bytes) history → MakesFrom hosting on made history
+makes_from {H = H} hosting on made restored noting set rules history fits begins sets moment same unkept moment_is leads stands =
+    let begun : FitsRestored hosting (record restored { server = noting }) on.outset history = noting_fits hosting restored noting on.outset history begins fits in
+    let noted : noting.unkept ≡ Some [] = ap (λ (s : SeenServer H). s.unkept) begins in
+    let from : Notes noting (Some history) history = subst (λ facts. AreUnkept facts (Some history) history) (sym noted) refl in
+    let all = sets on.outset history begun in
+    let now : List Event = with_hooks made.moment history on.hooks in
+    let at : with_hooks restored.moment history on.hooks ≡ now = ap (λ (m : ℕ). with_hooks m history on.hooks) (sym (moment_is ∙ moment)) in
+    let fits_now : FitsRestored hosting set on.outset now = subst (λ (h : List Event). FitsRestored hosting set on.outset h) at all.0 in
+    let notes : Notes set.server (Some history) now = subst (λ (h : List Event). Notes set.server (Some history) h) at (all.2 (Some history) from) in
+    let led = noted_leads set.server.unkept history now notes in
+    let fits_made : FitsServer hosting made.server on.outset now made.moment =
+    subst (λ (m : ℕ). FitsServer hosting made.server on.outset now m) (sym moment_is) (fits_noting hosting set.server made.server made.server.unkept on.outset now set.moment same fits_now.0) in
+    record {
+      serves = record { fits = fits_made; notes = subst (λ (facts : Option (List DatedFact)). AreUnkept facts (Some now) now) (sym (unkept ∙ led.1)) refl };
+      set = subst (λ (h : List Event). AreSet on.hooks h) at all.1;
+      stands = lead_stand hosting set.server made.server rules (recovered on.bytes) made.batches leads on.outset history now made.moment stands led.0 fits_made;
+    }
