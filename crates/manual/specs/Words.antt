@@ -19,7 +19,7 @@ unfoldable pub state_words : List (List ℕ)
 state_words =
     codes "Missing" ∷ codes "NotState" ∷ codes "Version" ∷ codes "Damaged" ∷ codes "Device" ∷ codes "InUse" ∷
     codes "Open" ∷ codes "Link" ∷ codes "NotAFile" ∷ codes "SecondLink" ∷ codes "WritableByOthers" ∷ codes "ClockAhead" ∷
-    codes "Exists" ∷ []
+    codes "Exists" ∷ codes "Make" ∷ []
 
 -- those of the faults of the text of a hook
 unfoldable pub text_words : List (List ℕ)

@@ -3,7 +3,7 @@
 use crate::topic::Topic;
 
 /// What the faults of a state file mean that are told with its path.
-pub const STATE_FAULTS: [Topic; 13] = [
+pub const STATE_FAULTS: [Topic; 14] = [
     Topic {
         name: "Missing",
         text: "\
@@ -54,7 +54,7 @@ State InUse: FILE: another server holds the lock on FILE.lock. Stop that one fir
     Topic {
         name: "Open",
         text: "\
-State Open: WHY: FILE: the system refused to open the file, its lock or its folder, for its reason WHY: entity not found, permission denied, not a directory, is a directory, read-only filesystem, no storage space, quota exceeded, and others. Look at the path, and who may read and write there.
+State Open: WHY: FILE: the system refused to open the file, its lock or its folder, for its reason WHY: permission denied, not a directory, is a directory, read-only filesystem, no storage space, quota exceeded, and others. Look at the path, and who may read and write there.
 
   ls -ld /var/lib/oauthd /var/lib/oauthd/state
 ",
@@ -106,6 +106,14 @@ State ClockAhead N: FILE: the machine's clock is N seconds ahead of the last mom
 State Exists: FILE: state --new or state --upgrade was to make the file, and something is there already. It was left as it is. Name another path, or move away what is there.
 
   oauthd state --new /var/lib/oauthd/new-state
+",
+    },
+    Topic {
+        name: "Make",
+        text: "\
+State Make: WHY: FILE: state --new or state --upgrade was to make the file, and the system refuses it, for its reason WHY: not found (a folder of the path), permission denied, not a directory, read-only filesystem, no storage space, quota exceeded, and others. Nothing is left there.
+
+  ls -ld /var/lib/oauthd
 ",
     },
 ];

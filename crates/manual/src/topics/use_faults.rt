@@ -75,13 +75,14 @@ hook NAME: FAULT: start was to install this hook, and it is refused; no connecti
 State FAULT: FILE: start was to keep its state in FILE, and can't; no connection was taken, and the file stays as it is. So it is told where state or registry --state can't read FILE, or state --new or state --upgrade can't make it.
 State FAULT in batch N: state or registry --state was to read the file, and its N-th batch is wrong; nothing was printed.
 
-oauthd help has each of the first twelve:
+oauthd help has each of the first fourteen:
 
   Missing, NotState, Version N      there is no file, or it is none of this oauthd's
   Damaged N                         what stands behind the first N batches is damaged
   Link, NotAFile, SecondLink, WritableByOthers    the file can't be a server's own
   InUse, Open: WHY, Device: WHY     another server has it, or the system refuses it
-  ClockAhead N, Exists              the clock, or what stands where a file is to be made
+  ClockAhead N                      the clock is far ahead of the file
+  Exists, Make: WHY                 no file can be made there
   NoRules, Spelling .., Image ..    the file is not what a server wrote
   Follows ..                        a change in the file can't have happened after those before it
   ScopeMoved NAME, OwnerMoved, ClientMoved NAME    the registry has left out or moved what the file has
