@@ -1,5 +1,5 @@
 -- What is written behind what was written.
-use Rattle.std.proofs.Common.{◌≡◌, ◌∙◌, ℕ, List, ◌++◌, ap, append_assoc, Result, Ok, Err, OnOk}
+use Rattle.std.proofs.Common.{◌≡◌, ◌∙◌, List, ◌++◌, ap, append_assoc, Result, Ok, Err, OnOk}
 use Rattle.json.specs.Token.{Token}
 
 pub joined : (old mid new y x : List Token) → mid ≡ old ++ y → new ≡ mid ++ x → new ≡ old ++ (y ++ x)

@@ -1,5 +1,4 @@
 -- A server that was served.
-use Rattle.std.proofs.Common.{◌≡◌}
 use Rattle.http_edge.specs.Edges.{SeenEdge}
 use Rattle.http_edge.specs.Reached.{Journey, Reached}
 use Rattle.event_loop.specs.Scenes.{Promises}
