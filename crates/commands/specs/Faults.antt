@@ -2,8 +2,6 @@
 use Rattle.std.specs.Prelude.{◌≡◌, ◌≢◌, ℕ, List}
 use Rattle.clients.specs.declared.fault.ConfigFault.{ConfigFault}
 use Rattle.clients.specs.declared.fault.ConfigFault.TheVariants as config
-use Rattle.state_file.specs.declared.account.AccountFault.{AccountFault}
-use Rattle.state_file.specs.declared.account.AccountFault.TheVariants as accounts
 use Rattle.state_file.specs.declared.fault.StateFault.{StateFault}
 use Rattle.state_file.specs.declared.fault.StateFault.TheVariants as state
 use Rattle.transcript.specs.declared.fault.ReplayFault.{ReplayFault}
