@@ -1,9 +1,9 @@
 -- One frame after the other.
 use Rattle.std.proofs.Common.{◌≡◌, inl, inr, ℕ, ◌+◌, ◌<◌, List, [], ◌∷◌, ◌++◌, length, take, drop, refl, sym, ◌∙◌, ap, subst, arith, append_assoc, length-append, length-drop, take-append-drop}
 use Rattle.std.proofs.lemmas.List.{drop-drop, append-nil, take_at}
-use Rattle.batch_file.specs.Frames.{header, digest, sealed, recovered, frames_size, file_size, IsFrame, AreFrames, IsFileOf, IsReadable, IsAtRest, IsWhole, IsVersion}
+use Rattle.batch_file.specs.Frames.{header, digest, sealed, recovered, frames_size, file_size, IsFrame, AreFrames, IsFileOf, IsReadable, IsAtRest, IsWhole, IsRightFront, IsVersion}
 use Rattle.batch_file.specs.FramesLaws.{digest_is, length-frames, length-sealed, further, file_is, framed_is, readable_is}
-use Rattle.batch_file.specs.Reads.{IsRead, IsFound}
+use Rattle.batch_file.specs.Reads.{IsRead, IsFront, IsFound}
 
 -- with nothing behind the latch
 pub rests : (batches : List (List ℕ)) (last frames c : List ℕ) (end : ℕ) → AreFrames header batches last frames → c ≡ (header ++ frames) ++ 0 ∷ [] → length (header ++ frames) ≡ end → IsAtRest end last c × (recovered c ≡ batches)
@@ -72,15 +72,25 @@ found_size batches last end bytes found =
     let r = found.0 in
     omega (arith, r.ends, length-frames batches header last r.frames r.are, ap frames_size (found_batches batches last end bytes found))
 
--- a file that was read, without what stands behind the latch
-pub found_whole : (batches : List (List ℕ)) (last : List ℕ) (end : ℕ) (bytes out : List ℕ) → IsFound batches last end bytes → out ≡ take end bytes ++ 0 ∷ [] → IsWhole last out × (recovered out ≡ recovered bytes)
-found_whole batches last end bytes out found is =
-    let r = found.0 in
+-- the front of a file, and a closed latch
+pub front_whole : (batches : List (List ℕ)) (last : List ℕ) (end : ℕ) (bytes out : List ℕ) → IsRead batches last end bytes → out ≡ take end bytes ++ 0 ∷ [] → IsWhole last out × (recovered out ≡ batches)
+front_whole batches last end bytes out r is =
     let front : take end bytes ≡ header ++ r.frames =
     ap (λ (l : List ℕ). take end l) (r.is ∙ sym (append_assoc header r.frames (drop end bytes))) ∙ take_at (header ++ r.frames) (drop end bytes) end (omega (arith, r.ends)) in
     let spelled : out ≡ (header ++ r.frames) ++ 0 ∷ [] = is ∙ ap (λ (l : List ℕ). l ++ 0 ∷ []) front in
     let whole : IsAtRest end last out × (recovered out ≡ batches) = rests batches last r.frames out end r.are spelled (omega (arith, r.ends)) in
-    ((end, whole.0), whole.1 ∙ found_batches batches last end bytes found)
+    ((end, whole.0), whole.1)
+
+-- a file that was read, without what stands behind the latch
+pub found_whole : (batches : List (List ℕ)) (last : List ℕ) (end : ℕ) (bytes out : List ℕ) → IsFound batches last end bytes → out ≡ take end bytes ++ 0 ∷ [] → IsWhole last out × (recovered out ≡ recovered bytes)
+found_whole batches last end bytes out found is =
+    let whole = front_whole batches last end bytes out found.0 is in
+    (whole.0, whole.1 ∙ found_batches batches last end bytes found)
+
+abbrev pub front_is_right : (batches : List (List ℕ)) (last : List ℕ) (end : ℕ) (bytes : List ℕ) → IsFront batches last end bytes → IsRightFront batches bytes
+front_is_right batches last end bytes front =
+    let r = front.0 in
+    record { last = last; frames = r.frames; rest = drop end bytes; is = r.is; are = r.are; no_frame = front.1 }
 
 -- of which version a file is
 pub version_header : (bytes : List ℕ) → IsVersion 2 bytes → bytes ≡ header ++ drop 16 bytes

@@ -8,7 +8,7 @@ use Rattle.batch_file.specs.declared.appending.BatchFile.{BatchFile}
 use Rattle.batch_file.specs.declared.appending.BatchFault.{BatchFault}
 use Rattle.batch_file.specs.declared.appending.BatchFault.TheVariants as appending
 use Rattle.batch_file.specs.declared.framing.ReadFault.{ReadFault}
-use Rattle.batch_file.specs.declared.framing.ReadFault.TheVariants.{Memory, NotState, Version, Damaged}
+use Rattle.batch_file.specs.declared.framing.ReadFault.TheVariants.{NotState, Version, Damaged}
 
 -- WHICH BYTES ARE A FILE OF BATCHES
 
@@ -130,24 +130,36 @@ IsVersion version file = ((version < 10) × (take 16 file ≡ header_of version)
 abbrev pub IsNoEnd : List ℕ → List ℕ → Type 0
 IsNoEnd last rest = (torn : List ℕ) → rest ≡ 0 ∷ torn → IsTorn last torn → ⊥
 
--- So many frames are right, and what stands behind them is no frame and no end.
-pub record IsDamaged (number : ℕ) (file : List ℕ) : Type 0 where
-  pub batches : List (List ℕ)
+-- behind the frame with this digest there is no other
+abbrev pub IsNoFrame : List ℕ → List ℕ → Type 0
+IsNoFrame last rest = (batch more : List ℕ) → IsFrame last batch more rest → ⊥
+
+-- The frames of these batches are right, and are all that are: what stands behind them is no frame.
+pub record IsRightFront (batches : List (List ℕ)) (file : List ℕ) : Type 0 where
   pub last : List ℕ
   pub frames : List ℕ
   pub rest : List ℕ
   pub is : file ≡ header ++ (frames ++ rest)
   pub are : AreFrames header batches last frames
-  pub count : length batches ≡ number
-  pub no_frame : (batch more : List ℕ) → IsFrame last batch more rest → ⊥
-  pub no_end : IsNoEnd last rest
+  pub no_frame : IsNoFrame last rest
 
--- the file does not begin as a state file does, or as one of another version, or is damaged
+-- So many frames are right, and what stands behind them is no frame and no end.
+pub record IsDamaged (number : ℕ) (file : List ℕ) : Type 0 where
+  pub batches : List (List ℕ)
+  pub front : IsRightFront batches file
+  pub count : length batches ≡ number
+  pub no_end : IsNoEnd front.last front.rest
+
+-- the file does not begin as a state file does, or as one of another version
+abbrev pub RefusesHeader : List ℕ → ReadFault → Type 0
+RefusesHeader file NotState = (version : ℕ) → IsVersion version file → ⊥
+RefusesHeader file (Version version) = IsVersion version file × (version ≢ 2)
+RefusesHeader file fault = ⊥
+
+-- or is damaged
 abbrev pub RefusesFile : List ℕ → ReadFault → Type 0
-RefusesFile file NotState = (version : ℕ) → IsVersion version file → ⊥
-RefusesFile file (Version version) = IsVersion version file × (version ≢ 2)
 RefusesFile file (Damaged number) = IsDamaged number file
-RefusesFile file Memory = ⊥
+RefusesFile file fault = RefusesHeader file fault
 
 -- FILES THAT ARE WRITTEN
 

@@ -7,7 +7,7 @@ use Rattle.sha2.specs.Sha256.{sha256}
 use Rattle.sha2.proofs.Facts256.{length-sha256}
 use Rattle.batch_file.specs.declared.framing.ReadFault.{ReadFault}
 use Rattle.batch_file.specs.declared.framing.ReadFault.TheVariants.{Memory, NotState, Version, Damaged}
-use Rattle.batch_file.specs.Frames.{header, body, seal, digest, sealed, size_at, batches_in, recovered, frames_size, IsSealed, IsFrame, AreFrames, HidesFrame, IsTorn, Spells, IsFileOf, IsReadable, IsVersion, IsNoEnd, IsDamaged, RefusesFile, IsChance}
+use Rattle.batch_file.specs.Frames.{header, body, seal, digest, sealed, size_at, batches_in, recovered, frames_size, IsSealed, IsFrame, AreFrames, HidesFrame, IsTorn, Spells, IsFileOf, IsReadable, IsVersion, IsNoFrame, IsRightFront, IsDamaged, RefusesFile, IsChance}
 
 pub length-seal : (bytes : List ℕ) → length (seal bytes) ≡ 16
 unfolding seal
@@ -137,34 +137,55 @@ two_frames : (before batch other rest more bytes : List ℕ) → IsFrame before 
 two_frames before batch other rest more bytes f g =
     two_sealed before batch other rest more (drop 1 bytes) (behind_latch before batch rest bytes f) (behind_latch before other more bytes g)
 
--- behind right frames there is one more, or an end, or they are none of a file
-no_way : (xs ys : List (List ℕ)) (before last other frames found rest torn : List ℕ)
-    → AreFrames before xs last frames → AreFrames before ys other found → frames ++ rest ≡ found ++ 0 ∷ torn
-    → ((batch more : List ℕ) → IsFrame last batch more rest → ⊥) → IsNoEnd last rest → IsTorn other torn → ⊥
-no_way [] [] before last other frames found rest torn are had same no_frame no_end ends =
-    let is : rest ≡ 0 ∷ torn = ap (λ (l : List ℕ). l ++ rest) (sym are.1) ∙ same ∙ ap (λ (l : List ℕ). l ++ 0 ∷ torn) had.1 in
-    no_end torn is (subst (λ (l : List ℕ). IsTorn l torn) (had.0 ∙ sym are.0) ends)
-no_way [] (y ∷ ys) before last other frames found rest torn are had same no_frame no_end ends =
-    let is : rest ≡ found ++ 0 ∷ torn = ap (λ (l : List ℕ). l ++ rest) (sym are.1) ∙ same in
-    let f : IsFrame before y (had.0 ++ 0 ∷ torn) rest = subst (λ (l : List ℕ). IsFrame before y (had.0 ++ 0 ∷ torn) l) (sym is) (further before y had.0 found (0 ∷ torn) had.1) in
-    no_frame y (had.0 ++ 0 ∷ torn) (subst (λ (l : List ℕ). IsFrame l y (had.0 ++ 0 ∷ torn) rest) (sym are.0) f)
-no_way (x ∷ xs) [] before last other frames found rest torn are had same no_frame no_end ends =
+-- behind right frames no other ones begin, where no frame stands behind them
+none_begin : (batch : List ℕ) (later : List (List ℕ)) (before last other frames more rest : List ℕ)
+    → AreFrames before (batch ∷ later) other frames → rest ≡ frames ++ more → last ≡ before → IsNoFrame last rest → ⊥
+none_begin batch later before last other frames more rest are is same no_frame =
+    let f : IsFrame before batch (are.0 ++ more) rest = subst (λ (l : List ℕ). IsFrame before batch (are.0 ++ more) l) (sym is) (further before batch are.0 frames more are.1) in
+    no_frame batch (are.0 ++ more) (subst (λ (l : List ℕ). IsFrame l batch (are.0 ++ more) rest) (sym same) f)
+
+-- all right frames at the front of the same bytes are of the same batches
+one_run : (xs ys : List (List ℕ)) (before last other frames found rest more : List ℕ)
+    → AreFrames before xs last frames → AreFrames before ys other found → frames ++ rest ≡ found ++ more
+    → IsNoFrame last rest → IsNoFrame other more → (xs ≡ ys) × (last ≡ other) × (rest ≡ more)
+one_run [] [] before last other frames found rest more are had same no_frame none =
+    (refl, are.0 ∙ sym had.0, ap (λ (l : List ℕ). l ++ rest) (sym are.1) ∙ same ∙ ap (λ (l : List ℕ). l ++ more) had.1)
+one_run [] (y ∷ ys) before last other frames found rest more are had same no_frame none =
+    absurd (none_begin y ys before last other found more rest had (ap (λ (l : List ℕ). l ++ rest) (sym are.1) ∙ same) are.0 no_frame)
+one_run (x ∷ xs) [] before last other frames found rest more are had same no_frame none =
+    absurd (none_begin x xs before other last frames rest more are (ap (λ (l : List ℕ). l ++ more) (sym had.1) ∙ sym same) had.0 none)
+one_run (x ∷ xs) (y ∷ ys) before last other frames found rest more are had same no_frame none =
     let f = further before x are.0 frames rest are.1 in
-    let is : f.latch ∷ (sealed before x ++ (are.0 ++ rest)) ≡ 0 ∷ torn = sym f.is ∙ same ∙ ap (λ (l : List ℕ). l ++ 0 ∷ torn) had.1 in
-    let zero_is : f.latch ≡ 0 = cc in
-    let counts = f.counts in
-    absurd (omega arith)
-no_way (x ∷ xs) (y ∷ ys) before last other frames found rest torn are had same no_frame no_end ends =
-    let f = further before x are.0 frames rest are.1 in
-    let g = further before y had.0 found (0 ∷ torn) had.1 in
-    let two = two_frames before x y (are.0 ++ rest) (had.0 ++ 0 ∷ torn) (frames ++ rest) f (subst (λ (l : List ℕ). IsFrame before y (had.0 ++ 0 ∷ torn) l) (sym same) g) in
-    no_way xs ys (digest before x) last other are.0 had.0 rest torn are.2 (subst (λ (l : List ℕ). AreFrames (digest before l) ys other had.0) (sym two.0) had.2) two.1 no_frame no_end ends
+    let g = further before y had.0 found more had.1 in
+    let two = two_frames before x y (are.0 ++ rest) (had.0 ++ more) (frames ++ rest) f (subst (λ (l : List ℕ). IsFrame before y (had.0 ++ more) l) (sym same) g) in
+    let moved : AreFrames (digest before x) ys other had.0 = subst (λ (l : List ℕ). AreFrames (digest before l) ys other had.0) (sym two.0) had.2 in
+    let one = one_run xs ys (digest before x) last other are.0 had.0 rest more are.2 moved two.1 no_frame none in
+    (ap (λ (l : List ℕ). l ∷ xs) two.0 ∙ ap (λ (l : List (List ℕ)). y ∷ l) one.0, one.1, one.2)
+
+-- a file has one right front
+pub one_front : (xs ys : List (List ℕ)) (file : List ℕ) (a : IsRightFront xs file) (b : IsRightFront ys file) → (xs ≡ ys) × (a.last ≡ b.last) × (a.rest ≡ b.rest)
+one_front xs ys file a b =
+    one_run xs ys header a.last b.last a.frames b.frames a.rest b.rest a.are b.are (append_cancel_left header (a.frames ++ a.rest) (b.frames ++ b.rest) (sym a.is ∙ b.is)) a.no_frame b.no_frame
+
+-- of a file that is read it is all of its frames
+abbrev pub front_of_file : (batches : List (List ℕ)) (file : List ℕ) → IsFileOf batches file → IsRightFront batches file
+front_of_file batches file some =
+    let s = some.1 in
+    record {
+      last = some.0;
+      frames = s.frames;
+      rest = 0 ∷ s.torn;
+      is = s.is;
+      are = s.are;
+      no_frame = λ batch more f. let counts = f.counts in absurd (omega (arith, ap (λ (l : List ℕ). get_or l 0 0) f.is));
+    }
 
 -- a damaged file spells nothing
 pub damaged_is_none : (number : ℕ) (file : List ℕ) (batches : List (List ℕ)) → IsDamaged number file → IsFileOf batches file → ⊥
 damaged_is_none number file batches d some =
     let s = some.1 in
-    no_way d.batches batches header d.last some.0 d.frames s.frames d.rest s.torn d.are s.are (append_cancel_left header (d.frames ++ d.rest) (s.frames ++ 0 ∷ s.torn) (sym d.is ∙ s.is)) d.no_frame d.no_end s.ends
+    let one = one_front d.batches batches file d.front (front_of_file batches file some) in
+    d.no_end s.torn one.2 (subst (λ (l : List ℕ). IsTorn l s.torn) (sym one.1) s.ends)
 
 -- a file that begins with the header is of this version, and of no other
 other_version : (version : ℕ) (rest file : List ℕ) → file ≡ header ++ rest → IsVersion version file → version ≡ 2

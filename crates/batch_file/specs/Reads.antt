@@ -1,6 +1,6 @@
 -- Beside Frames: only the contracts of this crate's own parts and their proofs cite this, no public clause.
 use Rattle.std.specs.Prelude.{◌≡◌, ◌+◌, ℕ, List, ◌∷◌, ◌++◌, length, drop}
-use Rattle.batch_file.specs.Frames.{header, AreFrames, IsTorn}
+use Rattle.batch_file.specs.Frames.{header, AreFrames, IsNoFrame, IsTorn}
 
 -- the frames of these batches end there
 pub record IsRead (batches : List (List ℕ)) (last : List ℕ) (end : ℕ) (bytes : List ℕ) : Type 0 where
@@ -8,6 +8,10 @@ pub record IsRead (batches : List (List ℕ)) (last : List ℕ) (end : ℕ) (byt
   pub is : bytes ≡ header ++ (frames ++ drop end bytes)
   pub are : AreFrames header batches last frames
   pub ends : end ≡ 16 + length frames
+
+-- and are all that are right
+abbrev pub IsFront : List (List ℕ) → List ℕ → ℕ → List ℕ → Type 0
+IsFront batches last end bytes = IsRead batches last end bytes × IsNoFrame last (drop end bytes)
 
 -- a closed latch, behind which an append was perhaps not finished
 abbrev pub IsOpenEnd : List ℕ → List ℕ → Type 0

@@ -4,14 +4,15 @@
 //! The lock is held on a file of its own beside it, since the file itself is another one after a replacement. All names of the
 //! file lead to that lock: links to the file are refused, and one that is mounted by itself can't be replaced.
 
-ghost use Rattle.std.specs.Prelude.{◌≡◌, length, IfOk, IfErr, OnOk, IfSome, IfNone, IsErrOf, IsTrue, ◌↔◌, Some};
+ghost use Rattle.std.specs.Prelude.{◌≡◌, length, bit_and, IfOk, IfErr, OnOk, IfSome, IfNone, IsTrue, ◌↔◌, Some};
+ghost use Rattle.std.specs.Fs.{file_type, metadata_mode, IsFile, IsSymlink};
 ghost use Rattle.std.specs.Io.KnownBytes.{IsAtEnd};
 ghost use Rattle.std.specs.IoError.{error_kind};
 ghost use Rattle.std.specs.Path.{path_bytes};
 ghost use Rattle.batch_file.specs.declared.disk_file.OpenFault.TheVariants as opening;
 ghost use Rattle.batch_file.specs.declared.disk_file.MakeFault.TheVariants as making;
 ghost use Rattle.batch_file.specs.Calls.{content, failures, LeftSince, MayLeave};
-ghost use Rattle.batch_file.specs.Crashes.{IsUnplaced};
+ghost use Rattle.batch_file.specs.CallsParts.{RenamesNothing};
 ghost use Rattle.batch_file.specs.FaultTexts.{make_fault_text, of_error, of_making, of_lock, open_fault_text};
 ghost use Rattle.batch_file.specs.Folders.{folder_of};
 ghost use Rattle.batch_file.specs.Moments.{counts_now_of, only_now_of};
@@ -194,7 +195,11 @@ fn folder_of(path: &str) -> Path<'_>
 }
 
 /// Why a file of which the system tells this is not opened.
-fn fault_of(found: &Metadata) -> Option<OpenFault> {
+fn fault_of(found: &Metadata) -> Option<OpenFault>
+    ensures link { IsSymlink (file_type found.now) → result ≡ Some opening.Link }
+    ensures file { IfNone result (IsFile (file_type found.now)) }
+    ensures owned { IfNone result (bit_and (metadata_mode found.now) 0o022 ≡ 0) }
+{
     if found.is_symlink() {
         Some(OpenFault::Link)
     } else if !found.is_file() {
@@ -209,19 +214,21 @@ fn fault_of(found: &Metadata) -> Option<OpenFault> {
 }
 
 /// Whether a rename that the system refused for this reason has renamed nothing.
-fn leaves_old(reason: SystemFault) -> bool {
-    match reason {
-        SystemFault::ResourceBusy
-        | SystemFault::CrossesDevices
-        | SystemFault::PermissionDenied
-        | SystemFault::ReadOnlyFilesystem
-        | SystemFault::StorageFull
-        | SystemFault::QuotaExceeded
-        | SystemFault::NotFound
-        | SystemFault::IsADirectory
-        | SystemFault::NotADirectory => true,
-        _ => false,
-    }
+fn leaves_old(reason: SystemFault) -> bool
+    ensures { IsTrue result ↔ RenamesNothing reason }
+{
+    matches!(
+        reason,
+        SystemFault::NotFound
+            | SystemFault::PermissionDenied
+            | SystemFault::NotADirectory
+            | SystemFault::IsADirectory
+            | SystemFault::ReadOnlyFilesystem
+            | SystemFault::StorageFull
+            | SystemFault::QuotaExceeded
+            | SystemFault::ResourceBusy
+            | SystemFault::CrossesDevices
+    )
 }
 
 /// Opens the file of a path, where it is one file that no other may write. What the system tells of the path is asked first,
@@ -337,6 +344,7 @@ impl<'r, R: Files<File = File> + AllocGlobal> DiskFile<'r, R> {
     fn put_next(&mut self, next: File) -> Result<io::Result<()>, SystemFault>
         ensures log { self.new.log ≡ self.old.log }
         ensures untouched { IfErr result (λ _. self.new ≡ self.old) }
+        ensures refused { IfErr result RenamesNothing }
     {
         if let Err(error) = fs::rename(self.rt, self.next_path.as_str(), self.path.as_str()) {
             let reason = SystemFault::of(&error);

@@ -8,8 +8,8 @@ ghost use Rattle.std.specs.Prelude.{◌≡◌, ◌<◌, ◌≤◌, ◌^◌, ◌�
 ghost use Rattle.std.specs.Int.{w32, to_be_bytes};
 ghost use Rattle.batch_file.specs.declared.framing.ReadFault.TheVariants.{Memory};
 ghost use Rattle.batch_file.specs.FaultTexts.{read_fault_text};
-ghost use Rattle.batch_file.specs.Frames.{digest, lists, recovered, seal, torn_of, HidesFrame, IsFrame, IsNoEnd, IsReadable, IsSealed, IsVersion, RefusesFile};
-ghost use Rattle.batch_file.specs.Reads.{IsFound, IsOpenEnd};
+ghost use Rattle.batch_file.specs.Frames.{digest, lists, recovered, seal, torn_of, HidesFrame, IsDamaged, IsFrame, IsNoEnd, IsNoFrame, IsReadable, IsRightFront, IsSealed, IsVersion, RefusesFile, RefusesHeader};
+ghost use Rattle.batch_file.specs.Reads.{IsFound, IsFront, IsOpenEnd};
 
 use crate::frames::Frames;
 use crate::version_1::is_first_kind;
@@ -88,7 +88,7 @@ pub fn read_batches(alloc: Global, bytes: &[u8]) -> Result<Batches, ReadFault>
     ensures refused { IfErr result (λ fault. (fault ≡ Memory) ⊎ RefusesFile bytes.now fault) }
 {
     let found = find_batches(alloc, bytes)?;
-    let whole = without_torn(alloc, bytes, found.end)?;
+    let whole = closed_at(alloc, bytes, found.end)?;
     Ok(Batches {
         batches: found.batches,
         frames: Frames::of(whole, found.last),
@@ -96,20 +96,45 @@ pub fn read_batches(alloc: Global, bytes: &[u8]) -> Result<Batches, ReadFault>
     })
 }
 
-/// The batches of a file, and where the last of them ends.
+/// The frames at the front of a file that are right, as a whole file in memory: of a damaged one those before the damage.
+pub fn right_front(alloc: Global, bytes: &[u8]) -> Result<Frames, ReadFault>
+    ensures front { IfOk result (λ frames. IsRightFront frames bytes.now) }
+    ensures damaged { IfOk result (λ frames. (number : ℕ) → IsDamaged number bytes.now → length frames ≡ number) }
+    ensures readable { IfOk result (λ frames. IsReadable bytes.now → frames ≡ recovered bytes.now) }
+    ensures refused { IfErr result (λ fault. (fault ≡ Memory) ⊎ RefusesHeader bytes.now fault) }
+{
+    let front = find_front(alloc, bytes)?;
+    let whole = closed_at(alloc, bytes, front.end)?;
+    Ok(Frames::of(whole, front.last))
+}
+
+/// Frames that were found in a file, from the first on.
 #[derive(Drop)]
 struct Found {
     batches: Vec<Vec<u8>>,
-    /// Where the closed latch stands.
+    /// Where the last of them ends.
     end: usize,
-    /// The digest of the last frame.
+    /// Its digest.
     last: [u8; 16],
 }
 
-/// Walks over the frames of a file, up to the closed latch.
+/// All frames of a file, up to the closed latch.
 fn find_batches(alloc: Global, bytes: &[u8]) -> Result<Found, ReadFault>
     ensures found { IfOk result (λ found. IsFound (lists found.batches.items) found.last found.end bytes.now) }
     ensures refused { IfErr result (λ fault. (fault ≡ Memory) ⊎ RefusesFile bytes.now fault) }
+{
+    let front = find_front(alloc, bytes)?;
+    if !is_open_end(&bytes[front.end..], &front.last) {
+        return Err(ReadFault::Damaged(front.batches.len()));
+    }
+    Ok(front)
+}
+
+/// Walks over the frames of a file, as long as they are right.
+fn find_front(alloc: Global, bytes: &[u8]) -> Result<Found, ReadFault>
+    ensures front { IfOk result (λ front. IsFront (lists front.batches.items) front.last front.end bytes.now) }
+    ensures within { IfOk result (λ front. front.end ≤ length bytes.now) }
+    ensures refused { IfErr result (λ fault. (fault ≡ Memory) ⊎ RefusesHeader bytes.now fault) }
 {
     match version_of(bytes) {
         Some(2) => {}
@@ -123,9 +148,6 @@ fn find_batches(alloc: Global, bytes: &[u8]) -> Result<Found, ReadFault>
         last = digest_at(bytes, end + 5);
         batches.push(batch.to_vec(alloc)?)?;
         end += 21 + batch.len();
-    }
-    if !is_open_end(&bytes[end..], &last) {
-        return Err(ReadFault::Damaged(batches.len()));
     }
     Ok(Found { batches, end, last })
 }
@@ -180,7 +202,7 @@ fn hides_frame(torn: &[u8], last: &[u8; 16]) -> bool
 fn first_batch<'b>(bytes: &'b [u8], before: &[u8; 16]) -> Option<&'b [u8]>
     ensures some { IfSome result (λ batch. IsFrame before.now batch.now (drop (21 + length batch.now) bytes.now) bytes.now) }
     ensures within { IfSome result (λ batch. 21 + length batch.now ≤ length bytes.now) }
-    ensures none { IfNone result ((batch more : List ℕ) → IsFrame before.now batch more bytes.now → ⊥) }
+    ensures none { IfNone result (IsNoFrame before.now bytes.now) }
 {
     if bytes.is_empty() || bytes[0] == 0 {
         return None;
@@ -263,9 +285,9 @@ fn digest_at(bytes: &[u8], at: usize) -> [u8; 16]
     last
 }
 
-/// A file that was read, without what an append left that was not finished.
-fn without_torn(alloc: Global, bytes: &[u8], end: usize) -> Result<Vec<u8>, AllocError>
-    requires { end < length bytes.now }
+/// A file up to there, with a closed latch behind.
+fn closed_at(alloc: Global, bytes: &[u8], end: usize) -> Result<Vec<u8>, AllocError>
+    requires { end ≤ length bytes.now }
     ensures { IfOk result (λ out. out.items ≡ take end bytes.now ++ 0 ∷ []) }
 {
     let mut out = Vec::with_capacity(alloc, end + 1)?;

@@ -2,7 +2,7 @@
 
 ghost use Rattle.std.specs.Prelude.{◌≡◌, ◌≢◌, ◌⊎◌, ◌+◌, List, ℕ, length, take, drop};
 ghost use Rattle.batch_file.specs.declared.framing.ReadFault.{ReadFault};
-ghost use Rattle.batch_file.specs.Frames.{digest, recovered, IsChance, IsFileOf, IsFrame, IsReadable, RefusesFile, Spells};
+ghost use Rattle.batch_file.specs.Frames.{digest, recovered, IsChance, IsFileOf, IsFrame, IsReadable, IsRightFront, RefusesFile, Spells};
 ghost use Rattle.batch_file.specs.FramesLaws.{Collision};
 
 /// A file that is readable is never refused, so none is that a crash leaves.
@@ -13,6 +13,11 @@ pub fn readable_is_kept()
 /// Bytes are a file of no batches but those that they stand for.
 pub fn stands_for_one()
     ensures { (batches : List (List ℕ)) (file : List ℕ) → IsFileOf batches file → recovered file ≡ batches }
+{}
+
+/// A file has one right front.
+pub fn one_front()
+    ensures { (xs ys : List (List ℕ)) (file : List ℕ) → IsRightFront xs file → IsRightFront ys file → xs ≡ ys }
 {}
 
 /// Two frames behind the same bytes, in which the same digest stands, are of the same batch, or two inputs of SHA-256 are known
