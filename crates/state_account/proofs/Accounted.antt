@@ -14,8 +14,8 @@ use Rattle.token_store.specs.Image.{as_kept}
 use Rattle.token_store.specs.Kept.{Kept}
 use Rattle.token_store.specs.declared.image.KeptRecord.{KeptRecord}
 use Rattle.state_account.specs.Accounts.{IsAccountOf, IsImageIn, IsOfTelling, IsOfBatches, TellIfAny, fault_in}
-use Rattle.state_file.specs.Resuming.{AnswersFor, BeginsByBatches, FitsRestored, IsOfChanges, RedoesBatches, RefusesImage}
-use Rattle.state_file.specs.Standing.{AreTold, IsImageOf}
+use Rattle.state_file.specs.Resuming.{FitsRestored, IsOfChanges, RefusesImage}
+use Rattle.state_file.specs.Standing.{IsImageOf}
 use Rattle.state_file.specs.Telling.{Tell, rules_of}
 use Rattle.state_account.specs.declared.account.Account.{Account}
 use Rattle.state_file.specs.declared.fault.StateFault.{StateFault}
@@ -31,7 +31,7 @@ of_telling number state.NoRules of = tt
 of_telling number (state.Spelling fault) of = tt
 of_telling number state.NotState of = absurd of
 of_telling number (state.Version version) of = absurd of
-of_telling number (state.Damaged number) of = absurd of
+of_telling number (state.Damaged count) of = absurd of
 of_telling number (state.Unplaced reason) of = absurd of
 of_telling number (state.Device reason) of = absurd of
 of_telling number state.Full of = absurd of
@@ -53,7 +53,7 @@ of_changes number (state.Follows fault) of = tt
 of_changes number state.NoRules of = absurd of
 of_changes number state.NotState of = absurd of
 of_changes number (state.Version version) of = absurd of
-of_changes number (state.Damaged number) of = absurd of
+of_changes number (state.Damaged count) of = absurd of
 of_changes number (state.Unplaced reason) of = absurd of
 of_changes number (state.Device reason) of = absurd of
 of_changes number state.Full of = absurd of
@@ -76,7 +76,7 @@ of_image number batches (state.Hook name fault) of = tt
 of_image number batches state.NoRules of = absurd of
 of_image number batches state.NotState of = absurd of
 of_image number batches (state.Version version) of = absurd of
-of_image number batches (state.Damaged number) of = absurd of
+of_image number batches (state.Damaged count) of = absurd of
 of_image number batches (state.Unplaced reason) of = absurd of
 of_image number batches (state.Device reason) of = absurd of
 of_image number batches state.Full of = absurd of

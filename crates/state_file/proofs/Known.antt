@@ -17,7 +17,7 @@ use Rattle.state_file.specs.Telling.{IsOfRules, Tell, last_rules}
 use Rattle.state_file.specs.TellingLaws.{last_rules-push, tell_in, tell_one, tells_one}
 use Rattle.state_file.specs.declared.keeper.Known.{Known}
 use Rattle.state_file.proofs.Hooked.{hooks_of-happened}
-use Rattle.state_file.proofs.Marked.{AreTold-marks, last_rules-image, mark_until, until_of-image}
+use Rattle.state_file.proofs.Marked.{last_rules-image, mark_until, until_of-image}
 
 -- WHAT STOOD BEFORE A BATCH
 

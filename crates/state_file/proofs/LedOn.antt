@@ -1,13 +1,13 @@
 -- A start, from the file's changes up to the batches of the new file.
-use Rattle.std.proofs.Common.{◌≡◌, ◌≤◌, ◌⊎◌, ◌∙◌, ◌++◌, inl, inr, ℕ, List, [], ◌∷◌, Option, None, Some, refl, sym, ap, subst, arith}
+use Rattle.std.proofs.Common.{◌≡◌, ◌≤◌, ◌∙◌, inl, inr, ℕ, List, [], ◌∷◌, Option, None, Some, refl, sym, ap, subst, arith}
 use Rattle.std.specs.Prelude.{max, unwrap_or, option_map}
 use Rattle.batch_file.specs.Frames.{recovered}
 use Rattle.consent.specs.History.{Event}
 use Rattle.change_codec.specs.Happened.{Happened}
-use Rattle.change_codec.specs.Spelling.{DatedFact, HaveSpelling, batch_spelling}
+use Rattle.change_codec.specs.Spelling.{DatedFact, batch_spelling}
 use Rattle.endpoints.specs.Server.{SeenServer, FitsServer, Notes, NowNotes, AreUnkept, Outset}
 use Rattle.hook_host.specs.declared.host.HookHost.{Ghosts as Hosting}
-use Rattle.image_codec.specs.Facts.{HookFact, RulesFact}
+use Rattle.image_codec.specs.Facts.{RulesFact}
 use Rattle.state_file.specs.Hooks.{AreSet, with_hooks}
 use Rattle.state_file.specs.Making.{MakesFrom, Made, OnBytes, RefusesMaking}
 use Rattle.state_file.specs.MakingParts.{AreAdded, AreToldBehind, IsUnadded, StandInFor}

@@ -1,5 +1,5 @@
 -- What marks tell, and a file's batches once one is behind them.
-use Rattle.std.proofs.Common.{◌≡◌, inr, ◌+◌, ◌<◌, ◌≤◌, ◌^◌, ℕ, zero, suc, List, [], ◌∷◌, ◌++◌, Option, None, Some, Bool, true, false, refl, sym, ap, ◌∙◌, subst, arith}
+use Rattle.std.proofs.Common.{◌≡◌, inr, ◌<◌, ◌^◌, ℕ, zero, suc, List, [], ◌∷◌, ◌++◌, Option, None, Some, Bool, true, false, refl, sym, ap, ◌∙◌, subst, arith}
 use Rattle.std.specs.Prelude.{IsSome, max, unwrap_or, nat_lt, length, ◌==◌, ◌&&◌, if◌then◌else◌}
 use Rattle.std.proofs.lemmas.Bool.{eqb-true, lt-ltb, ltb-true}
 use Rattle.std.proofs.lemmas.Nat.{from_be_bytes-to_be_bytes_8}
@@ -9,7 +9,7 @@ use Rattle.image_codec.specs.Facts.{ImageFact, RulesFact}
 use Rattle.image_codec.specs.Spelling.{ImageFits, image_spelling}
 use Rattle.state_file.specs.Standing.{AreTold, IsImageOf, StandFor, mark, mark_in, marks, until_of}
 use Rattle.state_file.specs.StandingLaws.{AreTold-mark, StandFor-beside, StandFor-image, until_of-append}
-use Rattle.state_file.specs.Telling.{Tell, TellsIn, last_rules}
+use Rattle.state_file.specs.Telling.{Tell, last_rules}
 use Rattle.state_file.specs.TellingLaws.{last_rules-push}
 
 by_value : (bytes : List ℕ) (n : ℕ) → (length bytes == 8) ≡ true → from_be_bytes w64 bytes ≡ n → n < 2 ^ 63 → mark_in (3 ∷ bytes) ≡ Some n

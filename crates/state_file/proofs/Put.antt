@@ -17,7 +17,7 @@ use Rattle.state_file.specs.Renewing.{HasTooMuch, IsKeptShort}
 use Rattle.state_file.specs.Resuming.{ServesOn}
 use Rattle.state_file.specs.Standing.{StandFor, StandsFor, until_of}
 use Rattle.state_file.specs.Starting.{IsOldOr, IsPutOn, LosesNothing, StartsFrom}
-use Rattle.state_file.specs.Telling.{LeavesRules, Tell, TellsRules}
+use Rattle.state_file.specs.Telling.{LeavesRules, Tell}
 use Rattle.state_file.specs.declared.starting.Started.{Started}
 
 module _ {D : Type 0} (device : Device D) where

@@ -11,7 +11,7 @@ use Rattle.endpoints.specs.declared.image_keeper.ImageFault.TheVariants.{TooLong
 use Rattle.hook_host.specs.declared.host.HookHost.{Ghosts as Hosting}
 use Rattle.image_codec.proofs.Images.{one_rules}
 use Rattle.image_codec.specs.Facts.{HookFact, ImageFact, RulesFact}
-use Rattle.image_codec.specs.Spelling.{ImageFits, RulesFit, image_spelling, rules_spelling}
+use Rattle.image_codec.specs.Spelling.{RulesFit, image_spelling}
 use Rattle.state_file.specs.Hooks.{hooks_set_in}
 use Rattle.state_file.specs.Knowing.{IsKnown, IsLong}
 use Rattle.state_file.specs.Renewing.{HasTooMuch, IsUnspelled, SpellImage}

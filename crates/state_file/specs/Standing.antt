@@ -1,5 +1,6 @@
 -- What a state file stands for.
-use Rattle.std.specs.Prelude.{◌≡◌, ◌⊎◌, inl, inr, ◌++◌, ◌^◌, ◌==◌, ◌&&◌, ℕ, zero, suc, max, nat_lt, length, List, [], ◌∷◌, Bool, true, false, Option, None, Some, IsSome, if◌then◌else◌, map, unwrap_or}
+use Rattle.std.specs.Prelude.{◌≡◌, ◌⊎◌, ◌++◌, ◌^◌, ◌==◌, ◌&&◌, ℕ, zero, suc, max, nat_lt, length, List, [], ◌∷◌, Bool, true, false, Option, None, Some, IsSome, if◌then◌else◌, map, unwrap_or}
+use Rattle.std.proofs.Common.{inl, inr}
 use Rattle.std.specs.Int.{w64, from_be_bytes, to_be_bytes}
 use Rattle.batch_file.specs.Frames.{recovered}
 use Rattle.consent.specs.Consents.{FitsConsents, kept_consents}

@@ -1,5 +1,5 @@
 -- What batches stand for once there are more of them. For proofs alone.
-use Rattle.std.proofs.Common.{◌≡◌, ◌≤◌, ◌∙◌, inl, inr, ℕ, zero, suc, max, List, [], ◌∷◌, ◌++◌, refl, sym, ap, subst, append_assoc, arith}
+use Rattle.std.proofs.Common.{◌≡◌, ◌≤◌, ◌∙◌, inl, inr, ℕ, max, List, [], ◌∷◌, ◌++◌, refl, sym, ap, subst, append_assoc, arith}
 use Rattle.std.proofs.lemmas.List.{append-nil}
 use Rattle.std.specs.Prelude.{IsSome, unwrap_or}
 use Rattle.batch_file.specs.Frames.{recovered}

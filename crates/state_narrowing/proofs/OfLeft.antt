@@ -179,7 +179,7 @@ module _ {H : Type 0} (hosting : Hosting H) where
       let image = spell.is history stands was run in
       let spelled : recovered now ≡ image_spelling spell.image ∷ marks until = are ∙ ap (λ (b : List ℕ). b ∷ marks until) spell.spelled in
       let tells : TellsRules now (rules_of rules) = subst (λ (r : RulesFact). TellsRules now r) spell.rules_are
-          (subst (λ (bs : List (List ℕ)). Tell bs spell.image.rules) (sym spelled) (Tell-image spell.image until spell.fits)) in
+      (subst (λ (bs : List (List ℕ)). Tell bs spell.image.rules) (sym spelled) (Tell-image spell.image until spell.fits)) in
       let goes_on : GoesOn hosting first now (left_under rules history) = record {
         stands = subst (λ (bs : List (List ℕ)). StandFor bs (left_under rules history)) (sym spelled) (StandFor-image_marked spell.image until (left_under rules history) less spell.fits image.is);
         right = inr (rules, tells, image.right);

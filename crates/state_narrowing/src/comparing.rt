@@ -41,11 +41,7 @@ fn are_less(alloc: Global, told: &Rules<'_>, now: &Rules<'_>) -> Result<bool, St
 }
 
 // Whether the registry keeps the names that the batches tell, and is narrower than their rules.
-fn is_narrower(
-    alloc: Global,
-    batches: &[Vec<u8>],
-    registry: &Registry,
-) -> Result<bool, StateFault>
+fn is_narrower(alloc: Global, batches: &[Vec<u8>], registry: &Registry) -> Result<bool, StateFault>
     ensures exact { IfOk result (λ narrower. IsTrue narrower ↔ AreNarrower (lists batches.now) (rules_of registry.now)) }
     ensures refused { IfErr result (IsUntold (rules_of registry.now)) }
 {

@@ -3,8 +3,12 @@
 use super::sockets::{Count, Ticking, edge_that_notes, limits};
 use change_codec::{Batch, KeepFault, Keeper, decode};
 use clients::ConfigFault;
+use consent::Moment;
 use endpoints::{ImageFault, ImageKeeper, Server};
-use event_loop::{Accepted, LoopFault, Ready, Received, Sent, Sockets, Tools, serve_all};
+use event_loop::{
+    Accepted, ConnectionFault, Journal, LoopFault, Notice, Ready, Received, Sent, Sockets, Tools,
+    serve_all,
+};
 use hook_host::HookHost;
 use rand_chacha::ChaCha20Rng;
 use rand_core::SeedableRng;
@@ -97,6 +101,8 @@ struct Patient<'t> {
     kept: &'t Cell<usize>,
     /// How many changes each batch had.
     changes: Vec<usize>,
+    /// How often it was told the moment.
+    moments: usize,
     /// How often it was asked for an image.
     images: &'t Cell<usize>,
 }
@@ -106,11 +112,18 @@ impl Keeper for Patient<'_> {
 
     ghost stands_for = { λ _ _. ⊤ };
 
+    ghost until = { λ _. 0 };
+
     ghost may_leave = { λ _ _. ⊥ };
 
     ghost moment = { λ _. 0 };
 
     ghost left_since = { λ _ _ _. ⊥ };
+
+    fn keep_moment(&mut self, _now: Moment) -> Result<(), KeepFault> {
+        self.moments = self.moments.saturating_add(1);
+        Ok(())
+    }
 
     fn keep(&mut self, batch: &Batch) -> Result<(), KeepFault> {
         if self.changes.len() >= self.most {
@@ -149,6 +162,7 @@ struct Outcome {
     fault: LoopFault,
     writes: Vec<usize>,
     changes: Vec<usize>,
+    moments: usize,
     images: usize,
 }
 
@@ -175,6 +189,7 @@ fn outcome_of(alloc: Global, most: usize) -> Result<Outcome, ConfigFault> {
             most,
             kept: &kept,
             changes: Vec::new(alloc),
+            moments: 0,
             images: &images,
         },
     };
@@ -183,6 +198,7 @@ fn outcome_of(alloc: Global, most: usize) -> Result<Outcome, ConfigFault> {
         fault,
         writes: tools.sockets.writes,
         changes: tools.keeper.changes,
+        moments: tools.keeper.moments,
         images: images.get(),
     })
 }
@@ -190,13 +206,13 @@ fn outcome_of(alloc: Global, most: usize) -> Result<Outcome, ConfigFault> {
 #[test]
 fn what_changes_is_kept_before_the_reply(rt: HostRuntime) -> Result<(), Fail> {
     // A round without changes keeps nothing, and where keeping fails, nothing of that round is written. Before each wait an
-    // image is asked for.
-    let rows: [(usize, LoopFault, &[usize], &[usize], usize); 3] = [
-        (9, LoopFault::Wait, &[1, 1, 2], &[1, 1], 5),
-        (1, LoopFault::Keep, &[1, 1], &[1], 4),
-        (0, LoopFault::Keep, &[], &[], 2),
+    // image is asked for, and behind each the moment is kept.
+    let rows: [(usize, LoopFault, &[usize], &[usize], (usize, usize)); 3] = [
+        (9, LoopFault::Wait, &[1, 1, 2], &[1, 1], (5, 4)),
+        (1, LoopFault::Keep, &[1, 1], &[1], (4, 4)),
+        (0, LoopFault::Keep, &[], &[], (2, 2)),
     ];
-    for (most, fault, writes, changes, images) in rows {
+    for (most, fault, writes, changes, (images, moments)) in rows {
         let Ok(outcome) = outcome_of(rt.alloc(), most) else {
             return Err(Fail::from("no registry"));
         };
@@ -204,6 +220,94 @@ fn what_changes_is_kept_before_the_reply(rt: HostRuntime) -> Result<(), Fail> {
         assert_eq!(rt; outcome.writes.as_slice(), writes, "most {most}");
         assert_eq!(rt; outcome.changes.as_slice(), changes, "most {most}");
         assert_eq!(rt; outcome.images, images, "most {most}");
+        assert_eq!(rt; outcome.moments, moments, "most {most}");
     }
+    Ok(())
+}
+
+/// It keeps all, and refuses each image.
+#[derive(Drop)]
+struct Refusing<'t> {
+    /// How often it was asked for one.
+    images: &'t Cell<usize>,
+}
+
+impl Keeper for Refusing<'_> {
+    ghost use Rattle.std.specs.Prelude.{⊤};
+
+    ghost stands_for = { λ _ _. ⊤ };
+
+    ghost until = { λ _. 0 };
+
+    ghost may_leave = { λ _ _. ⊥ };
+
+    ghost moment = { λ _. 0 };
+
+    ghost left_since = { λ _ _ _. ⊥ };
+
+    fn keep_moment(&mut self, _now: Moment) -> Result<(), KeepFault> {
+        Ok(())
+    }
+
+    fn keep(&mut self, _batch: &Batch) -> Result<(), KeepFault> {
+        Ok(())
+    }
+
+    ghost only_now = { λ keeper c left. left };
+}
+
+impl ImageKeeper for Refusing<'_> {
+    ghost use Rattle.std.specs.Prelude.{⊤};
+
+    ghost is_long = { λ _. ⊤ };
+
+    fn put_image<H: HookHost>(&mut self, _server: &Server<H>) -> Result<(), ImageFault> {
+        self.images.set(self.images.get().wrapping_add(1));
+        Err(ImageFault::Unwritten)
+    }
+}
+
+/// How often it was told that an image is refused.
+#[derive(Drop)]
+struct Refusals(usize);
+
+impl Journal for Refusals {
+    ghost use Rattle.std.specs.Prelude.{⊤};
+
+    ghost notes = { λ _ _ _. ⊤ };
+
+    ghost reports = { λ _ _ _. ⊤ };
+
+    fn note(&mut self, _fault: ConnectionFault) {}
+
+    fn report(&mut self, notice: &Notice) {
+        if let Notice::ImageRefused = notice {
+            self.0 = self.0.saturating_add(1);
+        }
+    }
+}
+
+#[test]
+fn a_refused_image_is_tried_each_minute_and_told_once(rt: HostRuntime) -> Result<(), Fail> {
+    let kept = Cell::new(0);
+    let images = Cell::new(0);
+    let mut tools = Tools {
+        sockets: OneClient {
+            requests: &[STRAYS; 200],
+            read: 0,
+            has_come: false,
+            kept: &kept,
+            writes: Vec::new(rt.alloc()),
+        },
+        edge: edge_that_notes(rt.alloc(), true)?,
+        clocks: Ticking { steady: 0 },
+        generator: ChaCha20Rng::from_seed([0; 32]),
+        journal: Refusals(0),
+        keeper: Refusing { images: &images },
+    };
+    assert_eq!(rt; serve_all(&mut tools, limits(None)), LoopFault::Wait);
+    // In the seconds 1, 61, 121 and 181.
+    assert_eq!(rt; images.get(), 4);
+    assert_eq!(rt; tools.journal.0, 1);
     Ok(())
 }

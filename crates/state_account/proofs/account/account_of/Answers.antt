@@ -1,4 +1,4 @@
-use Rattle.std.proofs.Common.{◌≡◌, ◌≤◌, ◌∙◌, ℕ, List, ap, length, sym, subst}
+use Rattle.std.proofs.Common.{◌≡◌, ◌≤◌, ◌∙◌, ℕ, List, ap, length, sym, subst, arith}
 use Rattle.std.proofs.lemmas.List.{length-map}
 use Rattle.batch_file.specs.Frames.{lists, recovered}
 use Rattle.state_file.specs.Standing.{IsMomentTold, until_of}
@@ -20,7 +20,7 @@ returns-clause-told g c =
       rules = c.in-Ok.ensures.spelled;
       answers = c.in_ok-restored.ensures.answers bytes (sym are);
       batches = sym (length-map batches (λ v. v.items)) ∙ ap (λ (bs : List (List ℕ)). length bs) are;
-      torn = c.len-2.ensures ∙ ap length c.in_ok-found.ensures.torn;
+      torn = (let n = c.len.ensures in let all = ap length c.in_ok-found.ensures.torn in omega (arith, n, all));
       moment_is = subst (λ (bs : List (List ℕ)). IsMomentTold bs c.in_ok-restored.restored.moment) are c.in_ok-restored.ensures.moment;
       later = subst (λ (bs : List (List ℕ)). until_of bs ≤ c.in_ok-restored.restored.moment) are c.in_ok-restored.ensures.later;
     }

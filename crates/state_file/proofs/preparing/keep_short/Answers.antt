@@ -1,11 +1,10 @@
-use Rattle.std.proofs.Common.{◌≡◌, ◌<◌, ◌^◌, ◌∙◌, ◌+◌, inl, inr, ℕ, List, ◌∷◌, length, Option, Some, refl, sym, ap, subst, arith}
+use Rattle.std.proofs.Common.{◌≡◌, ◌∙◌, ◌+◌, inl, inr, ℕ, List, ◌∷◌, length, Option, refl, sym, ap, subst, arith}
 use Rattle.std.specs.Prelude.{IfSome}
 use Rattle.batch_file.specs.Frames.{file_size}
 use Rattle.consent.specs.History.{Event}
 use Rattle.image_codec.specs.Facts.{HookFact}
 use Rattle.image_codec.specs.Spelling.{image_spelling}
 use Rattle.state_file.specs.Hooks.{hooks_set_in}
-use Rattle.state_file.specs.Knowing.{IsLong, image_size}
 use Rattle.state_file.specs.Making.{AreKeptShort, end_of}
 use Rattle.state_file.specs.Standing.{StandFor, marks}
 use Rattle.state_file.specs.declared.keeper.Known.{Known}

@@ -1,4 +1,4 @@
-use Rattle.std.proofs.Common.{rules, ◌≡◌, ◌∙◌, inl, inr, ℕ, List, [], Err, Some, map, refl, sym, subst, arith}
+use Rattle.std.proofs.Common.{rules, ◌≡◌, inl, inr, ℕ, [], Err, Some, map, refl, sym, subst, arith}
 use Rattle.std.specs.Prelude.{IfErr, unwrap_or}
 use Rattle.batch_file.specs.Frames.{recovered}
 use Rattle.endpoints.specs.Server.{NowNotes, outset_of}

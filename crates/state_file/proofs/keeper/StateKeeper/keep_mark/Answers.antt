@@ -1,4 +1,4 @@
-use Rattle.std.proofs.Common.{◌≤◌, arith, List, [], ◌∷◌, ◌++◌, ℕ, refl, sym, subst}
+use Rattle.std.proofs.Common.{arith, List, [], ◌∷◌, ◌++◌, ℕ, refl, sym, subst}
 use Rattle.batch_file.specs.Frames.{recovered}
 use Rattle.batch_file.specs.declared.appending.BatchFile.{BatchFile}
 use Rattle.change_codec.specs.Keeping.{Keeps, KeepsMoments, KeepsNot, TellsMoments}

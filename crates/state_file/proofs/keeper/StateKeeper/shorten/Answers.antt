@@ -1,4 +1,4 @@
-use Rattle.std.proofs.Common.{rules, ◌≡◌, ◌≤◌, ◌∙◌, ℕ, List, ◌∷◌, length, Option, Some, Err, refl, sym, ap, subst, arith}
+use Rattle.std.proofs.Common.{rules, ◌≡◌, ◌≤◌, ◌∙◌, ℕ, List, length, Option, Err, refl, sym, subst, arith}
 use Rattle.std.specs.Prelude.{IfSome, IsNone}
 use Rattle.batch_file.specs.Crashes.{IsUnplaced}
 use Rattle.batch_file.specs.Frames.{IsOnDisk, recovered}
