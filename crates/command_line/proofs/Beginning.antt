@@ -7,6 +7,7 @@ use Rattle.clients.specs.RegistryRecord.{RegistryRecord}
 use Rattle.event_loop.specs.declared.fault.LoopFault.{LoopFault}
 use Rattle.hook_chain.specs.Chains.{Named}
 use Rattle.state_file.specs.declared.starting.Started.{Started}
+use Rattle.command_line.specs.declared.clock.Clocked.{Clocked}
 use Rattle.command_line.specs.declared.fault.PerformFault.{PerformFault}
 use Rattle.command_line.specs.declared.hook_files.HookCode.{HookCode}
 use Rattle.command_line.specs.Hooks.{hook_fact_of}
@@ -25,6 +26,6 @@ pub comes_of : {R : Type 0} (keeping : Crashes (BatchFile (DiskFile R))) (rules 
     → codes ≡ others → ComesOfState keeping rules (map hook_fact_of codes) started → ComesOfState keeping rules (map hook_fact_of others) started
 comes_of keeping rules started codes others same comes = subst (λ cs. ComesOfState keeping rules (map hook_fact_of cs) started) same comes
 
-pub refused_of : (rules : RegistryRecord) (fault : PerformFault) (codes others : List HookCode)
-    → codes ≡ others → RefusesState rules (map hook_fact_of codes) fault → RefusesState rules (map hook_fact_of others) fault
-refused_of rules fault codes others same refuses = subst (λ cs. RefusesState rules (map hook_fact_of cs) fault) same refuses
+pub refused_of : (path : List ℕ) (clock : Clocked) (rules : RegistryRecord) (fault : PerformFault) (codes others : List HookCode)
+    → codes ≡ others → RefusesState path clock rules (map hook_fact_of codes) fault → RefusesState path clock rules (map hook_fact_of others) fault
+refused_of path clock rules fault codes others same refuses = subst (λ cs. RefusesState path clock rules (map hook_fact_of cs) fault) same refuses

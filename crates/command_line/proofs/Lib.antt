@@ -1,5 +1,8 @@
+mod Beginning
+mod Coming
+mod Ending
 mod Failing
-mod Naming
-mod Resuming
 mod Hooking
-pub mod Beginning
+mod Naming
+mod Planning
+mod Telling

@@ -1,12 +1,13 @@
 -- How a command line ends.
 use Rattle.std.specs.Prelude.{◌≡◌, ◌⊎◌, Err}
 use Rattle.command_line.specs.declared.call.Call.{Call}
-use Rattle.command_line.specs.declared.call.Call.TheVariants.{Command, Service}
+use Rattle.command_line.specs.declared.call.Call.TheVariants.{Command, State, Service}
 use Rattle.command_line.specs.declared.fault.PerformFault.{PerformFault}
 use Rattle.commands.specs.declared.status.Status.{Status}
 use Rattle.command_line.specs.Calls.{hooks_named_by, IsCall, AreWordsRead}
 use Rattle.command_line.specs.Hooks.{said_of}
-use Rattle.command_line.specs.Listening.{EndsService, ServiceFiles}
+use Rattle.command_line.specs.Listening.{EndsService, ServiceFiles, registry_bytes}
+use Rattle.command_line.specs.StateEndings.{EndsStateCommand}
 use Rattle.commands.specs.Outputs.{Output, Outputs, IsUntouched, GetsText}
 use Rattle.commands.specs.Performed.{EndsCommand}
 use Rattle.command_line.specs.Printed.{told_text}
@@ -21,6 +22,7 @@ IsTold fault status err = (status ≡ end_status fault) × GetsText err (told_te
 -- a call ends on the file that it names and, where it serves, on those of its hooks
 abbrev pub EndsCall : {W E : Type 0} → Startings → Call → ServiceFiles → Status → Outputs W E → Type 0
 EndsCall starts (Command command) files status to = EndsCommand command files.named status to
+EndsCall starts (State command) files status to = EndsStateCommand command (registry_bytes files) status to
 EndsCall starts (Service service) files status to = EndsService starts service files status to
 
 -- words call for something, which ends on some files, those of the hooks that it names among them

@@ -1,5 +1,5 @@
 -- How a service serves, or why it doesn't, or no longer.
-use Rattle.std.specs.Prelude.{◌≡◌, ◌⊎◌, ℕ, List, [], map, Option, IsSome}
+use Rattle.std.specs.Prelude.{◌≡◌, ◌⊎◌, ℕ, List, [], map, Option, Some, IsSome}
 use Rattle.std.specs.Io.KnownBytes.{Appends}
 use Rattle.clients.specs.RegistryRecord.{RegistryRecord}
 use Rattle.daemon.specs.Listening.{Announces}
@@ -8,7 +8,7 @@ use Rattle.event_loop.specs.declared.fault.LoopFault.{LoopFault}
 use Rattle.commands.specs.NamedFiles.{bytes_in}
 use Rattle.command_line.specs.declared.call_files.CallFiles.{CallFiles}
 use Rattle.command_line.specs.declared.fault.PerformFault.{PerformFault}
-use Rattle.command_line.specs.declared.fault.PerformFault.TheVariants.{Command, Stopped}
+use Rattle.command_line.specs.declared.fault.PerformFault.TheVariants.{Command}
 use Rattle.commands.specs.declared.status.Status.{Status}
 use Rattle.commands.specs.declared.status.Status.TheVariants.{Done}
 use Rattle.commands.specs.declared.named_file.NamedFile.{NamedFile}
@@ -17,16 +17,17 @@ use Rattle.start_words.specs.declared.words.StartWords.{StartWords}
 use Rattle.command_line.specs.declared.service.Service.{Service}
 use Rattle.command_line.specs.declared.service.Service.TheVariants.{Serve, Start}
 use Rattle.commands.specs.Config.{HoldsNoRegistry, HoldsRegistry}
-use Rattle.command_line.specs.Faults.{of_listening}
+use Rattle.command_line.specs.Faults.{IsOfListening, IsOfStop}
 use Rattle.hook_commands.specs.File.{File}
 use Rattle.command_line.specs.Hooks.{AreFactsOf, HookInFile, in_file, RefusesHooks, TakesHooks}
 use Rattle.hook_chain.specs.Chains.{Named}
 use Rattle.image_codec.specs.Facts.{HookFact}
 use Rattle.commands.specs.Outputs.{Output, Outputs, IsUntouched}
 use Rattle.command_line.specs.Printed.{told_text}
-use Rattle.command_line.specs.Services.{config_of, patience_of}
+use Rattle.command_line.specs.Services.{address_of, config_of, patience_of}
 use Rattle.command_line.specs.Startings.{RefusesState, Startings, handed, starting_of}
 use Rattle.command_line.specs.Statuses.{end_status}
+use Rattle.command_line.specs.declared.clock.Clocked.{Clocked}
 
 -- the file that a call is about, a service's registry, and what stands in those of its hooks
 pub record ServiceFiles : Type 0 where
@@ -57,12 +58,12 @@ pub record ServeEnded {W : Type 0} (service : Service) (files : ServiceFiles) (o
   pub given : ServeWords
   pub service_is : service ≡ Serve given
 
--- a service's file holds a registry, and its server does not listen, for this fault
-pub record IsDeaf (file : File) (fault : PerformFault) : Type 0 where
+-- a service's file holds a registry, and its server does not listen at its address, for this fault
+pub record IsDeaf (service : Service) (file : File) (fault : PerformFault) : Type 0 where
   pub registry : RegistryRecord
   pub held : HoldsRegistry file registry
   pub cause : ListenFault
-  pub fault_is : fault ≡ of_listening cause
+  pub fault_is : IsOfListening (address_of service) cause fault
 
 -- the hooks of `start` are not all taken, and this is the first one's fault
 pub record LacksHook (service : Service) (files : ServiceFiles) (fault : PerformFault) : Type 0 where
@@ -82,16 +83,20 @@ pub record LacksState (service : Service) (files : ServiceFiles) (fault : Perfor
   pub taken : TakesHooks [] files.hooks hooks
   pub codes : List HookFact
   pub coded : AreFactsOf files.hooks codes
-  pub named : IsSome given.options.state
-  pub refused : RefusesState registry codes fault
+  pub path : List ℕ
+  pub named : given.options.state ≡ Some path
+  -- what the clock told, and that one that is far ahead was accepted, if it was
+  pub clock : Clocked
+  pub far : clock.far ≡ given.options.clock
+  pub refused : RefusesState path clock registry codes fault
 
 -- why a service serves nothing: the file comes first, then its registry, then its hooks, then its state, and then the server's
 -- socket
 abbrev pub CannotServe : Service → ServiceFiles → PerformFault → Type 0
 CannotServe service files fault =
-    LacksRegistry service files fault ⊎ LacksHook service files fault ⊎ LacksState service files fault ⊎ IsDeaf (registry_bytes files) fault
+    LacksRegistry service files fault ⊎ LacksHook service files fault ⊎ LacksState service files fault ⊎ IsDeaf service (registry_bytes files) fault
 
--- a service keeps its state in a file that is named: of that a torn end is told, where it is cut off
+-- a service keeps its state in a file that is named: what comes of that is told
 pub record NamesState (service : Service) : Type 0 where
   pub given : StartWords
   pub service_is : service ≡ Start given
@@ -118,7 +123,7 @@ pub record HasStopped {W : Type 0} (starts : Startings) (service : Service) (fil
   pub coded : AreFactsOf files.hooks codes
   pub cause : LoopFault
   pub started : starting_of starts given.options.state (handed listened.registry hooks codes (patience_of given.options)) cause
-  pub fault_is : fault ≡ Stopped cause
+  pub fault_is : IsOfStop cause fault
 
 -- A service ends with a fault: it serves nothing, and has told nothing, but of its state's file, or it stopped.
 abbrev pub FailsService : {W E : Type 0} → Startings → Service → ServiceFiles → PerformFault → Outputs W E → Type 0

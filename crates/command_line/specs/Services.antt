@@ -68,3 +68,8 @@ patience_of said = record { silence = unwrap_or said.silence 60; full = unwrap_o
 abbrev pub config_of : Service → List ℕ
 config_of (Serve given) = given.config.now
 config_of (Start given) = given.config.now
+
+-- where its server listens
+abbrev pub address_of : Service → List ℕ
+address_of (Serve given) = given.address.now
+address_of (Start given) = given.address.now

@@ -1,20 +1,20 @@
 -- How a server is started: anew, or on the file of its state.
-use Rattle.std.specs.Prelude.{◌≡◌, ◌⊎◌, ◌↔◌, ℕ, List, [], length, Option, Some, None, IsSome}
+use Rattle.std.specs.Prelude.{◌≡◌, ◌≤◌, ◌⊎◌, ◌↔◌, ⊤, ℕ, List, [], length, Option, Some, None, IsSome, IfSome}
 use Rattle.clients.specs.RegistryRecord.{RegistryRecord}
 use Rattle.consent.specs.History.{Event}
-use Rattle.batch_file.specs.Calls.{content, LeftSince}
+use Rattle.batch_file.specs.Calls.{content, LeftSince, MayLeave}
 use Rattle.batch_file.specs.Crashes.{LeavesOnly}
 use Rattle.batch_file.specs.Frames.{recovered}
 use Rattle.batch_file.specs.declared.appending.BatchFile.{BatchFile}
 use Rattle.batch_file.specs.declared.disk_file.DiskFile.{DiskFile}
-use Rattle.batch_file.specs.declared.disk_file.OpenFault.{OpenFault}
 use Rattle.batch_file.specs.declared.disk_file.Opened.{Opened}
-use Rattle.change_codec.specs.Keeping.{Crashes, Holds, crashes}
+use Rattle.change_codec.specs.Keeping.{Crashes, Holds, HoldsMoment, crashes}
 use Rattle.change_codec.specs.contracts.keeper.NoKeeperKeeper.TheImpl as no_keeper
 use Rattle.change_codec.specs.declared.keeper.Keeper.{Ghosts as Keeper}
 use Rattle.endpoints.specs.contracts.image_keeper.NoKeeperImageKeeper.TheImpl as no_imaging
 use Rattle.daemon.specs.Started.{HasGoneOn, HasStarted, keeping_by}
 use Rattle.daemon.specs.contracts.sockets.MachineSocketsSockets.TheImpl as sockets
+use Rattle.daemon.specs.declared.means.Ended.{Ended}
 use Rattle.daemon.specs.declared.patience.Patience.{Patience}
 use Rattle.event_loop.specs.Scenes.{Promises, promises}
 use Rattle.event_loop.specs.declared.clocks.Clocks.{Ghosts as Clocks}
@@ -25,16 +25,21 @@ use Rattle.hook_chain.specs.Chains.{Named}
 use Rattle.hook_chain.specs.contracts.chain.ChainHookHost.TheImpl as chain
 use Rattle.image_codec.specs.Facts.{HookFact}
 use Rattle.state_file.specs.Hooks.{with_hooks}
-use Rattle.state_file.specs.Resuming.{AnswersFor, RefusesResume, RefusesSome, ServesOn}
-use Rattle.state_file.specs.Standing.{StandsFor}
+use Rattle.state_file.specs.Resuming.{ServesOn}
+use Rattle.state_file.specs.Standing.{StandsFor, until_of}
+use Rattle.state_file.specs.Starting.{IsOfDisk}
 use Rattle.state_file.specs.Telling.{rules_of}
-use Rattle.state_file.specs.declared.fault.StateFault.{StateFault}
 use Rattle.state_file.specs.declared.starting.Started.{Started}
-use Rattle.state_narrowing.specs.Narrowing.{HasLeft, IsNarrower, IsUnnarrowed, history_under}
-use Rattle.state_narrowing.specs.declared.narrowed.NarrowedFile.{NarrowedFile}
+use Rattle.state_narrowing.specs.Narrowing.{HasLeft, IsNarrower, history_under}
+use Rattle.state_narrowing.specs.declared.narrowed.Narrowed.{Narrowed}
 use Rattle.commands.specs.Runs.{OfEachRun}
+use Rattle.commands.specs.declared.fault.CommandFault.TheVariants.{OutOfMemory, State}
+use Rattle.command_line.specs.Clocks.{clock_refused}
+use Rattle.command_line.specs.Plans.{IsPlanOf, RefusesPlan}
+use Rattle.command_line.specs.declared.clock.Clocked.{Clocked}
 use Rattle.command_line.specs.declared.fault.PerformFault.{PerformFault}
-use Rattle.command_line.specs.Faults.{of_opening, of_state}
+use Rattle.command_line.specs.declared.fault.PerformFault.TheVariants.{ClockAhead, Command, Unopened}
+use Rattle.command_line.specs.declared.plan.Plan.{Plan}
 
 -- what a server is started with: its registry, its hooks as they stand in their chain, the code of each, and its patience
 pub record Handed : Type 0 where
@@ -60,49 +65,71 @@ starting_of starts (Some path) handed = starts.on_state handed
 
 -- what is kept, as a keeper promises it
 abbrev pub keeping_of : {K : Type 0} → Keeper K → Crashes K
-keeping_of keeper = crashes keeper.stands_for keeper.may_leave keeper.moment keeper.left_since
+keeping_of keeper = crashes keeper.stands_for keeper.until keeper.may_leave keeper.moment keeper.left_since
 
--- what a crash left stands for a history, or for what is left of it under the rules, with these hooks or without them
-abbrev pub StandsForOneOf : (history under with : List Event) → List ℕ → Type 0
-StandsForOneOf history under with left = StandsFor left history ⊎ StandsFor left under ⊎ StandsFor left with
+-- what a crash left might have been left before the start, or stands for the history
+abbrev pub IsAsBeforeOr : {R : Type 0} → Opened R → List Event → List ℕ → Type 0
+IsAsBeforeOr opened history left = MayLeave opened.device.log.calls left ⊎ StandsFor left history
 
 -- The file was opened, and a server was started on its bytes. Whatever history they stood for: with those of the hooks that it
 -- lacks, the server goes on from that history under these rules, and all that a crash may leave stands for it. Where the rules
--- are narrower than those that the bytes tell, and only there, the file is narrowed first, and the server goes on from what is
--- left of the history.
+-- are narrower than those that the bytes tell, and only there, the server goes on from what is left of the history.
 pub record ComesOfState {R : Type 0} (keeping : Crashes (BatchFile (DiskFile R))) (rules : RegistryRecord) (hooks : List HookFact)
     (started : Started (DiskFile R) (List Named)) : Type 0 where
   pub opened : Opened R
   pub bytes_are : opened.bytes.items ≡ content opened.device.log.calls
-  -- what then stood there, and how many codes and tokens ended, where it was narrowed
-  pub narrowed : NarrowedFile (DiskFile R)
-  pub narrower : IsSome narrowed.ended ↔ IsNarrower opened.bytes.items (rules_of rules)
-  pub left : IsSome narrowed.ended → OfEachRun opened.bytes.items (HasLeft chain.ghosts [] rules narrowed)
+  -- what is left, and how many codes and tokens ended, where they were narrower
+  pub narrowed : Option Narrowed
+  pub narrower : IsSome narrowed ↔ IsNarrower opened.bytes.items (rules_of rules)
+  pub left : IfSome narrowed (λ left. OfEachRun opened.bytes.items (HasLeft chain.ghosts [] rules left))
   pub serves : OfEachRun opened.bytes.items
-      (λ history. ServesOn chain.ghosts started (outset_of rules []) (with_hooks started.moment (history_under rules narrowed.ended history) hooks))
-  pub held : OfEachRun opened.bytes.items (λ history. Holds keeping started.keeper (with_hooks started.moment (history_under rules narrowed.ended history) hooks))
+      (λ history. ServesOn chain.ghosts started.server (outset_of rules []) started.moment (with_hooks started.moment (history_under rules narrowed history) hooks))
+  pub held : OfEachRun opened.bytes.items (λ history. Holds keeping started.keeper (with_hooks started.moment (history_under rules narrowed history) hooks))
+  -- what was told by the clock stays told
+  pub later : until_of (recovered opened.bytes.items) ≤ started.moment
+  pub moment : HoldsMoment keeping started.keeper (until_of (recovered opened.bytes.items))
   -- the keeper's file is the one that was opened
   pub meanwhile : OfEachRun opened.bytes.items
       (λ history. LeavesOnly (λ d. length d.log.calls) (λ d. LeftSince d.log.calls) opened.device started.keeper.device
-      (StandsForOneOf history (history_under rules narrowed.ended history) (with_hooks started.moment (history_under rules narrowed.ended history) hooks)))
+      (IsAsBeforeOr opened (with_hooks started.moment (history_under rules narrowed history) hooks)))
 
 -- it served connections from there, and kept what happened in that file
 pub record HasResumed {N C J R : Type 0} (p : Promises N C J (BatchFile (DiskFile R)) (List Named)) (handed : Handed) (fault : LoopFault) : Type 0 where
   pub started : Started (DiskFile R) (List Named)
   pub comes : ComesOfState p.keeping.crashes handed.registry handed.codes started
-  pub gone_on : HasGoneOn p started.server started.keeper handed.patience fault
+  pub ended : Ended (BatchFile (DiskFile R))
+  pub fault_is : ended.fault ≡ fault
+  pub gone_on : HasGoneOn p started.server started.keeper handed.patience ended
 
--- no server is started on the bytes of the file, for this fault
-pub record RefusesBytes (rules : RegistryRecord) (hooks : List HookFact) (fault : PerformFault) : Type 0 where
+-- the file at the path is not opened, and why
+abbrev pub IsUnopened : List ℕ → PerformFault → Type 0
+IsUnopened path (Unopened named cause) = named.now ≡ path
+IsUnopened path (Command OutOfMemory) = ⊤
+IsUnopened path fault = ⊥
+
+-- the clock is too far ahead of the moment from which a server would go on that is made of some bytes
+pub record IsTooFar (clock : Clocked) (rules : RegistryRecord) (hooks : List HookFact) (seconds : ℕ) : Type 0 where
   pub bytes : List ℕ
-  pub cause : StateFault
-  pub fault_is : fault ≡ of_state cause
-  pub refused : IsUnnarrowed bytes (rules_of rules) cause
-      ⊎ (RefusesResume (recovered bytes) (rules_of rules) cause ⊎ RefusesSome chain.ghosts (AnswersFor chain.ghosts bytes (outset_of rules [])) hooks cause)
+  pub plan : Plan
+  pub is : IsPlanOf rules hooks bytes plan
+  pub refused : clock_refused clock plan.prepared.moment ≡ Some seconds
 
--- why none is started on the file: it is not opened, or what stands there is refused
-abbrev pub RefusesState : RegistryRecord → List HookFact → PerformFault → Type 0
-RefusesState rules hooks fault = ((cause : OpenFault) × (fault ≡ of_opening cause)) ⊎ RefusesBytes rules hooks fault
+-- no server is started on the bytes of the file at the path: they are refused, or the clock is
+abbrev pub RefusesBytes : List ℕ → Clocked → RegistryRecord → List HookFact → PerformFault → Type 0
+RefusesBytes path clock rules hooks (ClockAhead named seconds) = (named.now ≡ path) × IsTooFar clock rules hooks seconds
+RefusesBytes path clock rules hooks (Command (State named cause)) = (named.now ≡ path) × (bytes : List ℕ) × RefusesPlan rules hooks bytes cause
+RefusesBytes path clock rules hooks (Command OutOfMemory) = ⊤
+RefusesBytes path clock rules hooks fault = ⊥
+
+-- the disk refuses what is to be written for the file at the path
+abbrev pub IsUnsettled : List ℕ → PerformFault → Type 0
+IsUnsettled path (Command (State named cause)) = (named.now ≡ path) × IsOfDisk cause
+IsUnsettled path (Command OutOfMemory) = ⊤
+IsUnsettled path fault = ⊥
+
+-- why none is started on the file: it is not opened, or what stands there is refused, or the disk refuses the new file
+abbrev pub RefusesState : List ℕ → Clocked → RegistryRecord → List HookFact → PerformFault → Type 0
+RefusesState path clock rules hooks fault = IsUnopened path fault ⊎ RefusesBytes path clock rules hooks fault ⊎ IsUnsettled path fault
 
 -- ON THE MACHINE
 

@@ -7,6 +7,7 @@ ghost use Rattle.command_line.specs.Calls.{file_of, hooks_named_by, AreWordsRead
 
 use crate::fault::PerformFault;
 use crate::service::Service;
+use crate::state_command::StateCommand;
 use commands::{Command, CommandFault};
 use start_words::HookFile;
 use std::alloc::Global;
@@ -16,6 +17,8 @@ use std::alloc::Global;
 pub enum Call<'w> {
     /// A command that answers, and is over.
     Command(Command<'w>),
+    /// A command on the file of a server's state.
+    State(StateCommand<'w>),
     /// A command that serves connections.
     Service(Service<'w>),
 }
@@ -27,6 +30,9 @@ impl<'w> Call<'w> {
     {
         if let Some(service) = Service::from_words(alloc, words)? {
             return Ok(Call::Service(service));
+        }
+        if let Some(command) = StateCommand::from_words(words) {
+            return Ok(Call::State(command));
         }
         match Command::from_words(words) {
             Some(command) => Ok(Call::Command(command)),
@@ -40,15 +46,17 @@ impl<'w> Call<'w> {
     {
         match self {
             Call::Command(command) => command.file(),
+            Call::State(command) => command.config(),
             Call::Service(service) => Some(service.config()),
         }
     }
+
     /// The hooks whose files are read for it.
     pub fn hooks(&self) -> &[HookFile<'w>]
         ensures { map hook_said result.now ≡ hooks_named_by self.now }
     {
         match self {
-            Call::Command(_) => &[],
+            Call::Command(_) | Call::State(_) => &[],
             Call::Service(service) => service.hooks(),
         }
     }

@@ -3,17 +3,16 @@
 ghost use Rattle.std.specs.Prelude.{◌≡◌, Some};
 ghost use Rattle.commands.specs.declared.fault.CommandFault.TheVariants.{OutOfMemory};
 ghost use Rattle.command_line.specs.Statuses.{end_status};
-ghost use Rattle.command_line.specs.Faults.{of_listening, of_opening, of_state};
-ghost use Rattle.command_line.specs.Printed.{fault_text, stop_text};
+ghost use Rattle.command_line.specs.Printed.{advice_on_opening, fault_text, keep_text, stop_text};
 ghost use Rattle.command_line.specs.declared.fault.PerformFault.TheVariants.{Command};
 
-use batch_file::disk_file::OpenFault;
+use batch_file::appending::BatchFault;
+use batch_file::disk_file::{MakeFault, OpenFault};
 use commands::{CommandFault, Status};
-use daemon::ListenFault;
+use daemon::SocketFault;
 use event_loop::LoopFault;
 use hook_host::HookFault;
 use start_words::WordFault;
-use state_file::StateFault;
 use std::alloc::AllocError;
 use std::fmt::{self, Display, Formatter};
 
@@ -26,16 +25,20 @@ pub enum PerformFault<'w> {
     BadWord(&'w str, WordFault),
     /// The hook of this name is refused.
     Hook(&'w str, HookFault),
-    /// The file of a server's state is not opened.
-    Unopened(OpenFault),
-    /// No server is started on what stands in the file of its state.
-    State(StateFault),
-    /// There is no socket at the address.
-    CannotListen,
+    /// The file of a server's state at this path is not opened.
+    Unopened(&'w str, OpenFault),
+    /// No such file is made at this path.
+    Unmade(&'w str, MakeFault),
+    /// The clock is so many seconds ahead of the state in the file at this path.
+    ClockAhead(&'w str, u64),
+    /// There is no socket at this address.
+    CannotListen(&'w str, SocketFault),
     /// The system gives no random bytes.
     NoSeed,
     /// A server that served can't go on.
     Stopped(LoopFault),
+    /// A server that served can't keep its state any more.
+    Unkept(BatchFault),
 }
 
 impl<'w> PerformFault<'w> {
@@ -47,11 +50,13 @@ impl<'w> PerformFault<'w> {
             PerformFault::Command(fault) => fault.status(),
             PerformFault::BadWord(_, _)
             | PerformFault::Hook(_, _)
-            | PerformFault::Unopened(_)
-            | PerformFault::State(_)
-            | PerformFault::CannotListen
+            | PerformFault::Unopened(_, _)
+            | PerformFault::Unmade(_, _)
+            | PerformFault::ClockAhead(_, _)
+            | PerformFault::CannotListen(_, _)
             | PerformFault::NoSeed
-            | PerformFault::Stopped(_) => Status::BadUse,
+            | PerformFault::Stopped(_)
+            | PerformFault::Unkept(_) => Status::BadUse,
         }
     }
 }
@@ -64,12 +69,31 @@ impl<'w> Display for PerformFault<'w> {
             PerformFault::Command(fault) => write!(f, "{fault}"),
             PerformFault::BadWord(word, fault) => write!(f, "bad arguments: {word} {fault}"),
             PerformFault::Hook(name, fault) => write!(f, "hook {name}: {fault}"),
-            PerformFault::Unopened(fault) => write!(f, "State {fault}"),
-            PerformFault::State(fault) => write!(f, "State {fault}"),
-            PerformFault::CannotListen => write!(f, "cannot listen"),
+            PerformFault::Unopened(path, fault) => {
+                let advice = advice_on_opening(*fault);
+                write!(f, "State {fault}: {path}{advice}")
+            }
+            PerformFault::Unmade(path, fault) => write!(f, "State {fault}: {path}"),
+            PerformFault::ClockAhead(path, seconds) => {
+                write!(f, "State ClockAhead {seconds}: {path}; --accept-clock takes it")
+            }
+            PerformFault::CannotListen(address, reason) => {
+                write!(f, "cannot listen on {address}: {reason}")
+            }
             PerformFault::NoSeed => write!(f, "no random bytes"),
             PerformFault::Stopped(fault) => write!(f, "stopped: {}", Stop(*fault)),
+            PerformFault::Unkept(fault) => write!(f, "stopped: State: {}", Unkept(*fault)),
         }
+    }
+}
+
+/// What helps where a file is not opened, if that is known.
+fn advice_on_opening(fault: OpenFault) -> &'static str
+    ensures { result.now ≡ advice_on_opening fault }
+{
+    match fault {
+        OpenFault::Missing => "; oauthd state --new FILE makes one",
+        _ => "",
     }
 }
 
@@ -88,46 +112,26 @@ impl Display for Stop {
     }
 }
 
+/// Why a batch is not kept: where the disk failed, the system's reason.
+#[derive(Clone, Copy)]
+struct Unkept(BatchFault);
+
+impl Display for Unkept {
+    ghost output = { λ unkept. Some (keep_text unkept.0) };
+
+    fn fmt<W: fmt::Write>(&self, f: &mut Formatter<W>) -> fmt::Result {
+        match self.0 {
+            BatchFault::Failed(reason) => write!(f, "{reason}"),
+            fault => write!(f, "{fault}"),
+        }
+    }
+}
+
 impl<'w> From<CommandFault<'w>> for PerformFault<'w> {
     ghost from_gives = { λ fault f. f ≡ Command fault };
 
     fn from(fault: CommandFault<'w>) -> PerformFault<'w> {
         PerformFault::Command(fault)
-    }
-}
-
-impl<'w> From<OpenFault> for PerformFault<'w> {
-    ghost from_gives = { λ fault f. f ≡ of_opening fault };
-
-    fn from(fault: OpenFault) -> PerformFault<'w> {
-        match fault {
-            OpenFault::Memory => PerformFault::Command(CommandFault::OutOfMemory),
-            fault => PerformFault::Unopened(fault),
-        }
-    }
-}
-
-impl<'w> From<StateFault> for PerformFault<'w> {
-    ghost from_gives = { λ fault f. f ≡ of_state fault };
-
-    fn from(fault: StateFault) -> PerformFault<'w> {
-        match fault {
-            StateFault::Memory => PerformFault::Command(CommandFault::OutOfMemory),
-            fault => PerformFault::State(fault),
-        }
-    }
-}
-
-impl<'w> From<ListenFault> for PerformFault<'w> {
-    ghost from_gives = { λ fault f. f ≡ of_listening fault };
-
-    fn from(fault: ListenFault) -> PerformFault<'w> {
-        match fault {
-            ListenFault::NoSeed => PerformFault::NoSeed,
-            ListenFault::NoSocket => PerformFault::CannotListen,
-            ListenFault::Unwritten => PerformFault::Command(CommandFault::CannotWrite),
-            ListenFault::Memory => PerformFault::Command(CommandFault::OutOfMemory),
-        }
     }
 }
 

@@ -2,6 +2,8 @@
 
 ghost use Rattle.std.specs.Prelude.{◌≡◌, ◌⊎◌, OnOk, IfErr};
 ghost use Rattle.command_line.specs.Endings.{EndsCall, EndsWords, IsTold};
+ghost use Rattle.command_line.specs.Faults.{IsOfListening, IsOfStop};
+ghost use Rattle.daemon.specs.Listening.{Announces};
 ghost use Rattle.command_line.specs.Listening.{EndsService, FailsService, files_in, ServeEnded};
 ghost use Rattle.commands.specs.Outputs.{output, outputs};
 ghost use Rattle.command_line.specs.Startings.{startings};
@@ -9,15 +11,21 @@ ghost use Rattle.command_line.specs.Startings.{startings};
 use crate::call::Call;
 use crate::call_files::{CallFiles, read_files};
 use crate::fault::PerformFault;
+use crate::clock::Clocked;
 use crate::hook_files::{HooksTaken, take_hooks};
-use crate::service::Service;
+use crate::service::{ServeWords, Service};
 use crate::state::start_at;
+use crate::state_performing::perform_state;
+use batch_file::appending::BatchFault;
 use batch_file::disk_file::DiskFile;
 use change_codec::Keeper;
-use commands::{Status, moment_now, perform_command, registry_of, write_text};
-use daemon::{LineJournal, MachineClocks, Patience, go_on, serve, start};
+use clients::Registry;
+use commands::{CommandFault, Status, moment_now, perform_command, registry_of, write_text};
+use daemon::{
+    Ended, LineJournal, ListenFault, MachineClocks, Patience, go_on, serve, start,
+};
 use endpoints::ImageKeeper;
-use event_loop::{Clocks, Journal};
+use event_loop::{Clocks, Journal, LoopFault};
 use state_file::{Started, StateKeeper};
 use std::fs::File;
 use std::io::Write;
@@ -41,6 +49,44 @@ pub fn told<E: Write>(fault: PerformFault<'_>, err: &mut E) -> Status
     match write_text(err, format_args!("oauthd: {fault}\n")) {
         Ok(()) => fault.status(),
         Err(_) => Status::BadUse,
+    }
+}
+
+/// The fault of a service for which no socket is had at an address.
+fn deaf<'w>(address: &'w str, fault: ListenFault) -> PerformFault<'w>
+    ensures { IsOfListening address.now fault result }
+{
+    match fault {
+        ListenFault::NoSeed => PerformFault::NoSeed,
+        ListenFault::NoSocket(fault) => PerformFault::CannotListen(address, fault),
+        ListenFault::Unwritten => PerformFault::Command(CommandFault::CannotWrite),
+        ListenFault::Memory => PerformFault::Command(CommandFault::OutOfMemory),
+    }
+}
+
+/// The fault of a server that stopped: where it could not keep its state, why, if that is known.
+fn stop_of(fault: LoopFault, why: Option<BatchFault>) -> PerformFault<'static>
+    ensures { IsOfStop fault result }
+{
+    match (fault, why) {
+        (LoopFault::Keep, Some(why)) => PerformFault::Unkept(why),
+        (fault, _) => PerformFault::Stopped(fault),
+    }
+}
+
+/// Serves so many connections.
+fn serve_count<'w, R: Net + Clock + AllocGlobal, W: Write>(
+    rt: &R,
+    given: &ServeWords<'w>,
+    registry: Registry,
+    out: &mut W,
+) -> Result<(), PerformFault<'w>>
+    ensures done { OnOk result (Announces (W.contents out.old) (W.contents out.new)) }
+    ensures refused { IfErr result (λ fault. (cause : ListenFault) × IsOfListening given.now.address.now cause fault) }
+{
+    match serve(rt, given.address, registry, given.seed, given.count, out) {
+        Ok(()) => Ok(()),
+        Err(fault) => Err(deaf(given.address, fault)),
     }
 }
 
@@ -70,10 +116,7 @@ fn serve_as<
     let registry = registry_of(rt.alloc(), service.config(), named)?;
     let given = match service {
         Service::Start(given) => given,
-        Service::Serve(given) => {
-            serve(rt, given.address, registry, given.seed, given.count, out)?;
-            return Ok(());
-        }
+        Service::Serve(given) => return serve_count(rt, given, registry, out),
     };
     let HooksTaken { chain, codes } = take_hooks(rt.alloc(), &hooks)?;
     let patience = Patience {
@@ -81,18 +124,21 @@ fn serve_as<
         full: given.options.full(),
         report: given.options.report(),
     };
-    let fault = match given.options.state() {
-        None => start(rt, given.address, registry, chain, patience, out, err)?,
-        Some(path) => {
-            let Started {
-                server,
-                keeper,
-                moment: _,
-            } = start_at(rt, path, registry, &codes, err)?;
-            go_on(rt, given.address, server, keeper, patience, out, err)?
-        }
+    let Some(path) = given.options.state() else {
+        return match start(rt, given.address, registry, chain, patience, out, err) {
+            Ok(fault) => Err(PerformFault::Stopped(fault)),
+            Err(fault) => Err(deaf(given.address, fault)),
+        };
     };
-    Err(PerformFault::Stopped(fault))
+    let clock = Clocked {
+        now: moment_now(rt),
+        far: given.options.clock(),
+    };
+    let Started { server, keeper, .. } = start_at(rt, path, registry, &codes, clock, err)?;
+    match go_on(rt, given.address, server, keeper, patience, out, err) {
+        Ok(Ended { fault, keeper }) => Err(stop_of(fault, keeper.fault())),
+        Err(fault) => Err(deaf(given.address, fault)),
+    }
 }
 
 /// Serves, and says how the program then ends. `files` are what stands in the files that the service names.
@@ -136,6 +182,7 @@ fn perform_call<
             let file = files.named.as_ref();
             perform_command(rt.alloc(), *command, file, moment_now(rt), out, err)
         }
+        Call::State(command) => perform_state(rt, *command, files.named, out, err),
         Call::Service(service) => perform_service(rt, service, files, out, err),
     }
 }

@@ -1,12 +1,13 @@
 -- What a fault of a layer below is to a command: want of memory is told alike wherever it comes.
+use Rattle.std.specs.Prelude.{◌≡◌, ◌≢◌, ℕ, List}
 use Rattle.clients.specs.declared.fault.ConfigFault.{ConfigFault}
 use Rattle.clients.specs.declared.fault.ConfigFault.TheVariants as config
-use Rattle.state_file.specs.declared.account.AccountFault.{AccountFault}
-use Rattle.state_file.specs.declared.account.AccountFault.TheVariants as accounts
+use Rattle.state_file.specs.declared.fault.StateFault.{StateFault}
+use Rattle.state_file.specs.declared.fault.StateFault.TheVariants as state
 use Rattle.transcript.specs.declared.fault.ReplayFault.{ReplayFault}
 use Rattle.transcript.specs.declared.fault.ReplayFault.TheVariants as replay
 use Rattle.commands.specs.declared.fault.CommandFault.{CommandFault}
-use Rattle.commands.specs.declared.fault.CommandFault.TheVariants.{Config, BadLine, Event, StateAt, OutOfMemory}
+use Rattle.commands.specs.declared.fault.CommandFault.TheVariants.{Config, BadLine, Event, State, OutOfMemory}
 
 abbrev pub of_configuring : ConfigFault → CommandFault
 of_configuring config.Memory = OutOfMemory
@@ -18,6 +19,8 @@ of_replaying (replay.BadLine line) = BadLine line
 of_replaying (replay.Refused line fault) = Event line fault
 of_replaying replay.Memory = OutOfMemory
 
-abbrev pub of_account : AccountFault → CommandFault
-of_account accounts.Memory = OutOfMemory
-of_account (accounts.Batch number fault) = StateAt number fault
+-- the fault of the state file of a path
+abbrev pub IsOfState : List ℕ → StateFault → CommandFault → Type 0
+IsOfState path fault (State named told) = (named.now ≡ path) × (told ≡ fault) × (fault ≢ state.Memory)
+IsOfState path fault OutOfMemory = fault ≡ state.Memory
+IsOfState path fault _ = ⊥

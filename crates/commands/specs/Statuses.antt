@@ -4,7 +4,7 @@ use Rattle.hook_commands.specs.declared.answer.HookAnswer.TheVariants as hook_an
 use Rattle.hook_commands.specs.declared.fault.HookCommandFault.{HookCommandFault}
 use Rattle.hook_commands.specs.declared.fault.HookCommandFault.TheVariants as hook
 use Rattle.commands.specs.declared.fault.CommandFault.{CommandFault}
-use Rattle.commands.specs.declared.fault.CommandFault.TheVariants.{BadArguments, HookCommand, CannotRead, Config, ConfigAt, BadLine, Event, StateAt, OutOfMemory, CannotWrite}
+use Rattle.commands.specs.declared.fault.CommandFault.TheVariants.{BadArguments, HookCommand, CannotRead, Config, ConfigAt, BadLine, Event, State, StateAt, OutOfMemory, CannotWrite}
 use Rattle.commands.specs.declared.answer.Answer.{Answer}
 use Rattle.commands.specs.declared.answer.Answer.TheVariants as answers
 use Rattle.commands.specs.declared.status.Status.{Status}
@@ -38,6 +38,7 @@ status_of_command_fault (Config fault) = BadUse
 status_of_command_fault (ConfigAt fault spot) = BadUse
 status_of_command_fault (BadLine line) = BadUse
 status_of_command_fault (Event line fault) = Refused
+status_of_command_fault (State path fault) = BadUse
 status_of_command_fault (StateAt number fault) = BadUse
 status_of_command_fault OutOfMemory = NoMemory
 status_of_command_fault CannotWrite = BadUse

@@ -2,15 +2,15 @@
 
 ghost use Rattle.std.specs.Prelude.{◌≡◌, Some};
 ghost use Rattle.commands.specs.Statuses.{status_of_command_fault, status_of_hook_command};
-ghost use Rattle.commands.specs.Faults.{of_account, of_configuring, of_replaying};
-ghost use Rattle.commands.specs.Printed.{command_fault_text};
+ghost use Rattle.commands.specs.Faults.{of_configuring, of_replaying, IsOfState};
+ghost use Rattle.commands.specs.Printed.{advice_on, command_fault_text};
 ghost use Rattle.commands.specs.declared.fault.CommandFault.TheVariants.{OutOfMemory};
 
 use crate::status::Status;
 use clients::{ConfigFault, Spot};
 use hook_commands::HookCommandFault;
 use http_edge::EdgeFault;
-use state_file::{AccountFault, StateFault};
+use state_file::StateFault;
 use std::alloc::AllocError;
 use std::fmt::{self, Display, Formatter};
 use transcript::ReplayFault;
@@ -32,6 +32,8 @@ pub enum CommandFault<'w> {
     BadLine(usize),
     /// The event of the line with this number is refused.
     Event(usize, EdgeFault),
+    /// The state file of this path is refused.
+    State(&'w str, StateFault),
     /// It is not told what a state file stands for, for what is wrong with the batch of this number.
     StateAt(usize, StateFault),
     /// Memory was refused.
@@ -70,6 +72,7 @@ impl<'w> CommandFault<'w> {
             | CommandFault::Config(_)
             | CommandFault::ConfigAt(_, _)
             | CommandFault::BadLine(_)
+            | CommandFault::State(_, _)
             | CommandFault::StateAt(_, _)
             | CommandFault::CannotWrite => Status::BadUse,
             CommandFault::OutOfMemory => Status::NoMemory,
@@ -89,6 +92,10 @@ impl<'w> Display for CommandFault<'w> {
             CommandFault::ConfigAt(fault, spot) => write!(f, "Config {fault} at {spot}"),
             CommandFault::BadLine(line) => write!(f, "line {line}: bad line"),
             CommandFault::Event(line, fault) => write!(f, "line {line}: {fault}"),
+            CommandFault::State(path, fault) => {
+                let advice = advice_on(fault);
+                write!(f, "State {fault}: {path}{advice}")
+            }
             CommandFault::StateAt(number, fault) => { write!(f, "State {fault} in batch {number}") }
             CommandFault::OutOfMemory => write!(f, "out of memory"),
             CommandFault::CannotWrite => write!(f, "cannot write"),
@@ -120,13 +127,26 @@ impl<'w> From<ReplayFault> for CommandFault<'w> {
     }
 }
 
-impl<'w> From<AccountFault> for CommandFault<'w> {
-    ghost from_gives = { λ fault f. f ≡ of_account fault };
+/// What helps against a fault of a state file, where that is known.
+fn advice_on(fault: &StateFault) -> &'static str
+    ensures { result.now ≡ advice_on fault.now }
+{
+    match fault {
+        StateFault::NotState => "; oauthd state --new FILE makes one",
+        StateFault::Version(1) => "; oauthd state --upgrade FILE NEW makes one of this version",
+        StateFault::Version(version) if *version > 2 => "; a newer oauthd wrote it",
+        _ => "",
+    }
+}
 
-    fn from(fault: AccountFault) -> CommandFault<'w> {
+impl<'w> CommandFault<'w> {
+    /// What a fault of the state file of a path is to a command.
+    pub fn of_state(path: &'w str, fault: StateFault) -> CommandFault<'w>
+        ensures { IsOfState path.now fault result }
+    {
         match fault {
-            AccountFault::Memory => CommandFault::OutOfMemory,
-            AccountFault::Batch(number, fault) => CommandFault::StateAt(number, fault),
+            StateFault::Memory => CommandFault::OutOfMemory,
+            fault => CommandFault::State(path, fault),
         }
     }
 }

@@ -1,16 +1,17 @@
 //! `state FILE`: what a state file stands for. It is read alone, and not written to or locked.
 
-ghost use Rattle.std.specs.Prelude.{[], IfOk};
+ghost use Rattle.std.specs.Prelude.{[], IfOk, List, ℕ};
 ghost use Rattle.std.specs.Option.{option_copied};
 ghost use Rattle.hook_chain.specs.contracts.chain.ChainHookHost.TheImpl as chain;
-ghost use Rattle.state_file.specs.Accounts.{IsAccountOf};
-ghost use Rattle.commands.specs.States.{IsStateText, IsStateTold};
+ghost use Rattle.state_account.specs.Accounts.{IsAccountOf, RefusesAccount};
+ghost use Rattle.commands.specs.States.{HasNoAccount, IsStateText, IsStateTold};
 
 use crate::answer::Answer;
 use crate::fault::CommandFault;
 use consent::Moment;
 use hook_chain::Chain;
-use state_file::{Account, account_of};
+use state_account::{Account, AccountFault, account_of};
+use state_file::StateFault;
 use state_listing::{FileFacts, listing};
 use std::alloc::{AllocError, Global};
 
@@ -35,6 +36,17 @@ fn lines_of(
     Ok(text)
 }
 
+/// Why it is not told what the state file of a path stands for.
+fn fault_of<'w>(path: &'w str, fault: AccountFault) -> CommandFault<'w>
+    ensures { (left : List ℕ) → RefusesAccount left fault → HasNoAccount path.now left result }
+{
+    match fault {
+        AccountFault::Memory => CommandFault::OutOfMemory,
+        AccountFault::File(fault) => CommandFault::of_state(path, StateFault::from(fault)),
+        AccountFault::Batch(number, fault) => CommandFault::StateAt(number, fault),
+    }
+}
+
 /// What the state file stands for, and how old it is now.
 pub fn told_state<'w>(
     alloc: Global,
@@ -49,6 +61,6 @@ pub fn told_state<'w>(
     };
     match account_of(alloc, bytes, Chain::new(alloc)) {
         Ok(account) => Ok(Answer::Lines(lines_of(alloc, bytes, &account, now)?)),
-        Err(fault) => Err(CommandFault::from(fault)),
+        Err(fault) => Err(fault_of(path, fault)),
     }
 }

@@ -14,6 +14,13 @@ use_words =
     codes "cannot write" ∷ codes "bad line" ∷ codes "hook" ∷ codes "State" ∷ codes "cannot listen" ∷
     codes "no random bytes" ∷ codes "connection ended" ∷ codes "stopped" ∷ codes "out of memory" ∷ []
 
+-- those of the faults of a state file that are told with its path
+unfoldable pub state_words : List (List ℕ)
+state_words =
+    codes "Missing" ∷ codes "NotState" ∷ codes "Version" ∷ codes "Damaged" ∷ codes "Device" ∷ codes "InUse" ∷
+    codes "Open" ∷ codes "Link" ∷ codes "NotAFile" ∷ codes "SecondLink" ∷ codes "WritableByOthers" ∷ codes "ClockAhead" ∷
+    codes "Exists" ∷ codes "Make" ∷ []
+
 -- those of the faults of the text of a hook
 unfoldable pub text_words : List (List ℕ)
 text_words =
@@ -46,4 +53,5 @@ event_words =
 
 -- all of them
 unfoldable pub all_words : List (List ℕ)
-all_words = (((((command_words ++ use_words) ++ text_words) ++ code_words) ++ verdict_words) ++ config_words) ++ event_words
+all_words =
+    ((((((command_words ++ use_words) ++ state_words) ++ text_words) ++ code_words) ++ verdict_words) ++ config_words) ++ event_words

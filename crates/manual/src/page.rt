@@ -31,8 +31,16 @@ oauthd serve ADDR CONFIG SEEDHEX COUNT
     oauthd serve 127.0.0.1:8080 registry.json 0707070707070707070707070707070707070707070707070707070707070707 1
 oauthd registry FILE       says what the registry of a file has, or where its first fault is
     oauthd registry registry.json
+oauthd registry FILE --state STATE
+                           says how many codes and tokens of a state a start under that registry would end
+    oauthd registry registry.json --state /var/lib/oauthd/state
 oauthd state FILE          lists what the file of a server's state stands for, a line of JSON each
     oauthd state /var/lib/oauthd/state
+oauthd state --new FILE    makes an empty file for a server's state
+    oauthd state --new /var/lib/oauthd/state
+oauthd state --upgrade FILE NEW
+                           makes such a file of one that an older oauthd wrote
+    oauthd state --upgrade old-state /var/lib/oauthd/state
 oauthd replay FILE         prints what the server of a transcript sends to each connection
     oauthd replay transcript.txt
 oauthd help NAME           says what a command or a fault means

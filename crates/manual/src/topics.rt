@@ -2,12 +2,13 @@
 
 ghost use Rattle.std.specs.Option.{option_copied};
 ghost use Rattle.manual.specs.Topics.{IsSaid, IsSaidBy};
-ghost use Rattle.manual.specs.Words.{code_words, command_words, config_words, event_words, text_words, use_words, verdict_words};
+ghost use Rattle.manual.specs.Words.{code_words, command_words, config_words, event_words, state_words, text_words, use_words, verdict_words};
 
 mod code_faults;
 mod commands;
 mod config_faults;
 mod event_faults;
+mod state_faults;
 mod text_faults;
 mod use_faults;
 mod verdicts;
@@ -17,6 +18,7 @@ use code_faults::CODE_FAULTS;
 use commands::COMMANDS;
 use config_faults::CONFIG_FAULTS;
 use event_faults::EVENT_FAULTS;
+use state_faults::STATE_FAULTS;
 use text_faults::TEXT_FAULTS;
 use use_faults::USE_FAULTS;
 use verdicts::VERDICTS;
@@ -33,6 +35,13 @@ fn use_fault(name: &str) -> Option<&'static str>
     ensures { IsSaidBy use_words name.now (option_copied result) }
 {
     said_by(&USE_FAULTS, name)
+}
+
+/// What a fault of a state file means that is told with its path.
+fn state_fault(name: &str) -> Option<&'static str>
+    ensures { IsSaidBy state_words name.now (option_copied result) }
+{
+    said_by(&STATE_FAULTS, name)
 }
 
 /// What a fault of the text of a hook means.
@@ -70,12 +79,13 @@ fn event_fault(name: &str) -> Option<&'static str>
     said_by(&EVENT_FAULTS, name)
 }
 
-/// What the manual says of a name: it explains just the words of its seven lists.
+/// What the manual says of a name: it explains just the words of its eight lists.
 pub fn explained(name: &str) -> Option<&'static str>
     ensures { IsSaid name.now (option_copied result) }
 {
     command(name)
         .or(use_fault(name))
+        .or(state_fault(name))
         .or(text_fault(name))
         .or(code_fault(name))
         .or(verdict(name))

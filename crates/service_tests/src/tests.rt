@@ -366,11 +366,50 @@ fn token_in(reply: &[u8]) -> &str {
     token
 }
 
+/// What came of a command: its status, and what it wrote and told.
+#[derive(Drop)]
+struct Done {
+    status: u8,
+    out: Page,
+    err: Page,
+}
+
+/// Carries out a command.
+fn done<R: Files<File = File> + Net + Clock + RandomSource + AllocGlobal>(
+    rt: &R,
+    texts: &[&str],
+) -> Result<Done, Fail> {
+    let words = words_of(rt.alloc(), texts)?;
+    let (mut out, mut err) = (Page::new(rt.alloc()), Page::new(rt.alloc()));
+    let status = perform(rt, &words, &mut out, &mut err).code();
+    Ok(Done { status, out, err })
+}
+
+/// The path of a state file that was just made.
+fn state_path<R: Files<File = File> + Net + Clock + RandomSource + AllocGlobal>(
+    rt: &R,
+) -> Result<String, Fail> {
+    let path = fresh_path(rt)?;
+    let made = done(rt, &["state", "--new", &path])?;
+    if made.status != 0 {
+        return Err(Fail::from("no state file is made"));
+    }
+    Ok(path)
+}
+
+/// Removes a state file, and the file of its lock.
+fn remove_state<R: Files + AllocGlobal>(rt: &R, path: &str) -> Result<(), Fail> {
+    let lock = format!(in rt.alloc(); "{path}.lock")?;
+    fs::remove_file(rt, path)?;
+    fs::remove_file(rt, &lock)?;
+    Ok(())
+}
+
 #[test]
 fn a_token_outlives_its_server(rt: HostRuntime) -> Result<(), Fail> {
     let alloc = rt.alloc();
     let config = registry_path(&rt)?;
-    let path = fresh_path(&rt)?;
+    let path = state_path(&rt)?;
     let words = ["start", "127.0.0.1:0", &config, "--state", &path];
     let first = served(&rt, &words, TOKEN)?;
     let token = token_in(&first.clients.reply);
@@ -383,11 +422,111 @@ fn a_token_outlives_its_server(rt: HostRuntime) -> Result<(), Fail> {
     let told = str::from_utf8(&second.clients.reply).unwrap_or("");
     assert!(rt; told.contains("{\"active\":true,"), "{told}");
     fs::remove_file(&rt, &config)?;
+    remove_state(&rt, &path)
+}
+
+/// What each state file begins with, and the closed latch of one that has no batch.
+const EMPTY_STATE: &[u8] = b"oauthd state v2\n\0";
+
+#[test]
+fn a_state_file_is_made_where_nothing_is(rt: HostRuntime) -> Result<(), Fail> {
+    let path = fresh_path(&rt)?;
+    let made = done(&rt, &["state", "--new", &path])?;
+    assert_eq!(rt; made.status, 0);
+    assert_eq!(rt; made.out.text(), "");
+    assert_eq!(rt; made.err.text(), "");
+    assert!(rt; fs::read(&rt, &path)?.as_slice() == EMPTY_STATE);
+    let again = done(&rt, &["state", "--new", &path])?;
+    assert_eq!(rt; again.status, 2);
+    let told = format!(in rt.alloc(); "oauthd: State Exists: {path}\n")?;
+    assert_eq!(rt; again.err.text(), told.as_str());
+    assert!(rt; fs::read(&rt, &path)?.as_slice() == EMPTY_STATE);
     fs::remove_file(&rt, &path)?;
-    let lock = format!(in alloc; "{path}.lock")?;
-    fs::remove_file(&rt, &lock)?;
     Ok(())
 }
+
+/// A file of the first kind: the rules of a registry, and behind them three bytes of a write that was not finished.
+const OLD_STATE: &str = "01000000350000000002000000047265616400000005777269746500000001000000010000000361707000000000000000030000012c0001518000616263";
+
+/// What is made of it.
+const NEW_STATE: &str = "6f61757468642073746174652076320aff00000035530b0f22d387cd5daacf4b7e1fee85c90000000002000000047265616400000005777269746500000001000000010000000361707000000000000000030000012c0001518000";
+
+/// The path of a file of these bytes.
+fn path_of<R: Files<File = File> + RandomSource + AllocGlobal>(
+    rt: &R,
+    bytes: &[u8],
+) -> Result<String, Fail> {
+    let path = fresh_path(rt)?;
+    fs::write(rt, &path, bytes)?;
+    Ok(path)
+}
+
+#[test]
+fn an_old_state_file_is_brought_over(rt: HostRuntime) -> Result<(), Fail> {
+    let alloc = rt.alloc();
+    let Ok(old_bytes) = hex::decode(alloc, OLD_STATE) else {
+        return Err(Fail::from("no hex"));
+    };
+    let old = path_of(&rt, &old_bytes)?;
+    let new = fresh_path(&rt)?;
+    let made = done(&rt, &["state", "--upgrade", &old, &new])?;
+    assert_eq!(rt; made.status, 0);
+    assert_eq!(rt; made.out.text(), "");
+    assert_eq!(rt; made.err.text(), "oauthd: state: 3 bytes of an unfinished write are left out\n");
+    assert!(rt; fs::read(&rt, &old)?.as_slice() == old_bytes.as_slice());
+    let new_hex = hex::encode(alloc, fs::read(&rt, &new)?)?;
+    assert_eq!(rt; new_hex.as_str(), NEW_STATE);
+    fs::remove_file(&rt, &new)?;
+    remove_state(&rt, &old)
+}
+
+#[test]
+fn what_an_unfinished_write_left_is_put_aside(rt: HostRuntime) -> Result<(), Fail> {
+    let alloc = rt.alloc();
+    let config = registry_path(&rt)?;
+    let path = path_of(&rt, b"oauthd state v2\n\0abc")?;
+    let begun = done(
+        &rt,
+        &["start", "127.0.0.1:99999", &config, "--state", &path],
+    )?;
+    let told = format!(in alloc;
+        "oauthd: state: 3 bytes of an unfinished write are in {path}.torn\noauthd: cannot listen on 127.0.0.1:99999: no address\n"
+    )?;
+    assert_eq!(rt; begun.status, 2);
+    assert_eq!(rt; begun.err.text(), told.as_str());
+    let torn = format!(in alloc; "{path}.torn")?;
+    assert!(rt; fs::read(&rt, &torn)?.as_slice() == b"abc");
+    let listed = done(&rt, &["state", &path])?;
+    assert!(rt; listed.out.text().contains("\"batches\":1,\"torn\":0,"));
+    fs::remove_file(&rt, &torn)?;
+    fs::remove_file(&rt, &config)?;
+    remove_state(&rt, &path)
+}
+
+#[test]
+fn a_refused_start_writes_nothing(rt: HostRuntime) -> Result<(), Fail> {
+    let config = registry_path(&rt)?;
+    // A torn end behind a batch that is none.
+    let Ok(bytes) = hex::decode(rt.alloc(), REFUSED_STATE) else {
+        return Err(Fail::from("no hex"));
+    };
+    let path = path_of(&rt, &bytes)?;
+    let begun = done(
+        &rt,
+        &["start", "127.0.0.1:99999", &config, "--state", &path],
+    )?;
+    let told = format!(in rt.alloc(); "oauthd: State NoRules: {path}\n")?;
+    assert_eq!(rt; begun.status, 2);
+    assert_eq!(rt; begun.err.text(), told.as_str());
+    assert!(rt; fs::read(&rt, &path)?.as_slice() == bytes.as_slice());
+    let torn = format!(in rt.alloc(); "{path}.torn")?;
+    assert!(rt; fs::read(&rt, &torn).is_err());
+    fs::remove_file(&rt, &config)?;
+    remove_state(&rt, &path)
+}
+
+/// A file whose first batch tells no rules, and three bytes of a write that was not finished.
+const REFUSED_STATE: &str = "6f61757468642073746174652076320aff00000087a75765d29143fb3954923626136846db010000000300000000000003e8010000000100000001000000000000000100000000000003e8030000000100abababababababababababababababababababababababababababababababab00000000000000030000012c00000000000003e807000000066c6973746564000000000000000100000010b700000001000000950000000000000000616263";
 
 /// A hook that allows every grant.
 const ALLOW: &str = "b7000000010000009500000000000000";

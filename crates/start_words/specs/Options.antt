@@ -9,6 +9,8 @@ use Rattle.start_words.specs.declared.fault.StartFault.{StartFault}
 use Rattle.start_words.specs.declared.fault.StartFault.TheVariants.{BadWords, Word, Memory}
 use Rattle.start_words.specs.declared.fault.WordFault.{WordFault}
 use Rattle.start_words.specs.declared.fault.WordFault.TheVariants.{Unknown, NoValue, BadValue, Twice}
+use Rattle.start_words.specs.declared.option.FarClock.{FarClock}
+use Rattle.start_words.specs.declared.option.FarClock.TheVariants as clocks
 use Rattle.start_words.specs.declared.option.HookFile.{HookFile}
 use Rattle.start_words.specs.declared.option.OptionName.{OptionName}
 use Rattle.start_words.specs.declared.option.OptionName.TheVariants.{Silence, Full, Report, State, Hook}
@@ -24,16 +26,17 @@ abbrev pub hook_said : HookFile → HookSaid
 hook_said file = record { name = file.name.now; layout = file.layout; path = file.path.now }
 
 -- what has been said: seconds of silence, and where all places are taken, and from report to report, the path of the state's
--- file, and the hooks in their order
+-- file, what comes of a clock that is far ahead of it, and the hooks in their order
 pub record Said : Type 0 where
   pub silence : Option ℕ
   pub full : Option ℕ
   pub report : Option ℕ
   pub state : Option (List ℕ)
+  pub clock : FarClock
   pub hooks : List HookSaid
 
 abbrev pub nothing_said : Said
-nothing_said = record { silence = None; full = None; report = None; state = None; hooks = [] }
+nothing_said = record { silence = None; full = None; report = None; state = None; clock = clocks.Refused; hooks = [] }
 
 -- why words are refused: for what is wrong with one of them, or as bad words
 pub data Refused : Type 0 where
@@ -110,6 +113,21 @@ with_option said word value = do
   name ← ok_or (option_named word) Unknown
   with_option_value said name value
 
+-- a word is the option that has no value
+abbrev pub accepts_clock : List ℕ → Bool
+accepts_clock word = bytes_eq word (codes "--accept-clock")
+
+-- a clock that is far ahead is taken, unless that was said before
+abbrev pub clock_taken : FarClock → Result FarClock WordFault
+clock_taken clocks.Refused = Ok clocks.Accepted
+clock_taken clocks.Accepted = Err Twice
+
+-- with what that option says
+abbrev pub with_clock : Said → Result Said WordFault
+with_clock said = do
+  clock ← clock_taken said.clock
+  Ok (record said { clock = clock })
+
 -- ---- the words
 
 -- a fault is one of a word
@@ -121,13 +139,15 @@ blamed word (Err fault) = Err (wrong word fault)
 abbrev pub lone_fault : List ℕ → WordFault
 lone_fault word = if is_some (option_named word) then NoValue else Unknown
 
--- what these words say, two by two, beside what was said before
+-- what these words say beside what was said before: the options, each with its value, where it has one
 abbrev pub options_after : Said → List (List ℕ) → Result Said Refused
 options_after said [] = Ok said
-options_after said (word ∷ []) = Err (wrong word (lone_fault word))
-options_after said (word ∷ value ∷ words) = do
-  more ← blamed word (with_option said word value)
-  options_after more words
+options_after said (word ∷ []) =
+    if accepts_clock word then blamed word (with_clock said)
+    else Err (wrong word (lone_fault word))
+options_after said (word ∷ value ∷ words) =
+    if accepts_clock word then (blamed word (with_clock said) >>= λ more. options_after more (value ∷ words))
+    else (blamed word (with_option said word value) >>= λ more. options_after more words)
 
 -- a word begins with two hyphens
 abbrev pub is_option : List ℕ → Bool

@@ -3,7 +3,7 @@
 ghost use Rattle.std.specs.Prelude.{◌≡◌, option_map};
 ghost use Rattle.std.specs.Option.{option_copied};
 ghost use Rattle.std.specs.Str.{bytes_eq};
-ghost use Rattle.start_words.specs.Options.{above_0, hook_in, hook_said, option_named, path_in};
+ghost use Rattle.start_words.specs.Options.{above_0, accepts_clock, hook_in, hook_said, option_named, path_in};
 
 use crate::number::number_said;
 use insn::layout::Layout;
@@ -19,7 +19,16 @@ pub struct HookFile<'w> {
     pub path: &'w str,
 }
 
-/// An option.
+/// What comes of a clock that is far ahead of the moment that a state has.
+#[derive(Clone, Copy, Debug, PartialEq, Eq)]
+pub enum FarClock {
+    /// The start is refused.
+    Refused,
+    /// It is taken as it is.
+    Accepted,
+}
+
+/// An option that has a value.
 #[derive(Clone, Copy, Debug)]
 pub enum OptionName {
     /// `--silence SECONDS`.
@@ -47,6 +56,13 @@ pub fn option_named(word: &str) -> Option<OptionName>
         "--hook2" => Some(OptionName::Hook(Layout::V2)),
         _ => None,
     }
+}
+
+/// Whether a word is the option that has no value, `--accept-clock`.
+pub fn accepts_clock(word: &str) -> bool
+    ensures { result ≡ accepts_clock word.now }
+{
+    word == "--accept-clock"
 }
 
 /// The number, of seconds, that a text says, where it is not 0.

@@ -1,13 +1,15 @@
 //! What the words behind the registry's file give.
 
-ghost use Rattle.std.specs.Prelude.{◌≡◌, ◌∷◌, ◌++◌, [], Ok, Err, OnOk, IfOk, IfErr, IfSome, IfNone, map, string_bytes, unwrap_or, option_map};
+ghost use Rattle.std.specs.Prelude.{◌≡◌, ◌∷◌, ◌++◌, [], Ok, Err, OnOk, IfOk, IfErr, IfSome, IfNone, map, string_bytes, unwrap_or, option_map, length, ◌≤◌};
 ghost use Rattle.std.specs.Option.{option_copied};
-ghost use Rattle.start_words.specs.Options.{bad_words, blamed, by_place, hook_said, is_option, IsWhyRefused, lone_fault, nothing_said, once, options_after, options_in, placed_after, with_option};
+ghost use Rattle.start_words.specs.Options.{bad_words, blamed, by_place, hook_said, is_option, IsWhyRefused, lone_fault, nothing_said, once, options_after, options_in, placed_after, with_clock, with_option};
 ghost use Rattle.start_words.specs.declared.fault.StartFault.TheVariants.{Memory};
 
 use crate::fault::{StartFault, WordFault};
 use crate::number::number_said;
-use crate::option::{HookFile, OptionName, above_0, hook_in, option_named, path_in};
+use crate::option::{
+    FarClock, HookFile, OptionName, above_0, accepts_clock, hook_in, option_named, path_in,
+};
 use std::alloc::Global;
 use std::marker::Model;
 
@@ -18,6 +20,7 @@ pub struct Options<'w> {
     full: Option<u32>,
     report: Option<u32>,
     state: Option<&'w str>,
+    clock: FarClock,
     hooks: Vec<HookFile<'w>>,
 }
 
@@ -28,7 +31,7 @@ impl<'w> Model for Options<'w> {
 
     ghost Value = { Said };
 
-    ghost view = { λ o. record { silence = o.silence; full = o.full; report = o.report; state = option_copied o.state; hooks = map hook_said o.hooks.items } };
+    ghost view = { λ o. record { silence = o.silence; full = o.full; report = o.report; state = option_copied o.state; clock = o.clock; hooks = map hook_said o.hooks.items } };
 }
 
 /// The first word, where it counts by its place, and those behind it.
@@ -81,6 +84,7 @@ impl<'w> Options<'w> {
             full: None,
             report: None,
             state: None,
+            clock: FarClock::Refused,
             hooks: Vec::new(alloc),
         }
     }
@@ -112,6 +116,13 @@ impl<'w> Options<'w> {
         ensures { option_copied result ≡ self.now.state }
     {
         self.state
+    }
+
+    /// What comes of a clock that is far ahead of the moment that the state has.
+    pub fn clock(&self) -> FarClock
+        ensures { result ≡ self.now.clock }
+    {
+        self.clock
     }
 
     /// The hooks, in their order.
@@ -155,20 +166,49 @@ impl<'w> Options<'w> {
         Ok(())
     }
 
-    // Takes options, two words each.
+    // Takes the option that has no value.
+    fn accept_clock(&mut self, word: &'w str) -> Result<(), StartFault<'w>>
+        ensures done { OnOk result (with_clock self.old ≡ Ok self.new) }
+        ensures refused { IfErr result (λ fault. IsWhyRefused (blamed word.now (with_clock self.old)) fault) }
+    {
+        if let FarClock::Accepted = self.clock {
+            let fault = WordFault::Twice;
+            return Err(StartFault::Word { word, fault });
+        }
+        self.clock = FarClock::Accepted;
+        Ok(())
+    }
+
+    // Takes the option of a word, with its value where it has one, and gives the words behind it.
+    fn take_first(
+        &mut self,
+        word: &'w str,
+        behind: &'w [String],
+    ) -> Result<&'w [String], StartFault<'w>>
+        ensures done { IfOk result (λ rest. options_after self.old (word.now ∷ map string_bytes behind.now) ≡ options_after self.new (map string_bytes rest.now)) }
+        ensures behind { IfOk result (λ rest. length rest.now ≤ length behind.now) }
+        ensures refused { IfErr result (IsWhyRefused (options_after self.old (word.now ∷ map string_bytes behind.now))) }
+    {
+        if accepts_clock(word) {
+            self.accept_clock(word)?;
+            return Ok(behind);
+        }
+        let Some((value, behind)) = behind.split_first() else {
+            let fault = lone_fault(word);
+            return Err(StartFault::Word { word, fault });
+        };
+        self.take(word, value.as_str())?;
+        Ok(behind)
+    }
+
+    // Takes options.
     fn take_all(&mut self, words: &'w [String]) -> Result<(), StartFault<'w>>
         ensures done { OnOk result (options_after self.old (map string_bytes words.now) ≡ Ok self.new) }
         ensures refused { IfErr result (IsWhyRefused (options_after self.old (map string_bytes words.now))) }
     {
         let mut rest = words;
         while let Some((word, behind)) = rest.split_first() {
-            let word = word.as_str();
-            let Some((value, behind)) = behind.split_first() else {
-                let fault = lone_fault(word);
-                return Err(StartFault::Word { word, fault });
-            };
-            self.take(word, value.as_str())?;
-            rest = behind;
+            rest = self.take_first(word.as_str(), behind)?;
         }
         Ok(())
     }

@@ -1,5 +1,5 @@
 -- The lines that tell what a state file stands for. Each is an object of JSON (RFC 8259), and a line feed.
-use Rattle.std.specs.Prelude.{◌++◌, ◌-◌, ◌==◌, ℕ, List, [], ◌∷◌, Bool, Option, None, Some, codes, decimal, flat_map, length, map, option_map, take, if◌then◌else◌, slice_get}
+use Rattle.std.specs.Prelude.{◌++◌, ◌-◌, ◌==◌, ℕ, List, [], ◌∷◌, Bool, Option, None, Some, codes, decimal, flat_map, length, map, nat_lt, option_map, take, if◌then◌else◌, slice_get}
 use Rattle.std.specs.List.{list_any}
 use Rattle.consent.specs.Versions.{version_number}
 use Rattle.consent.specs.declared.grant.TokenKind.TheVariants.{Access, Refresh}
@@ -55,9 +55,13 @@ abbrev pub code_scope_members : RulesFact → Option ℕ → List Token
 code_scope_members rules (Some scope) = scope_members rules scope
 code_scope_members rules None = []
 
--- how many seconds lie between the last change and now, where that is known
+-- an age below 0: so many seconds the last moment is ahead
+abbrev pub age_ahead : ℕ → List Token
+age_ahead seconds = key (codes "age") ∷ number (codes "-" ++ decimal seconds) ∷ []
+
+-- how many seconds lie between the last moment and now, where that is known
 abbrev pub age_members : ℕ → Option ℕ → List Token
-age_members last (Some now) = number_tokens (codes "age") (now - last)
+age_members last (Some now) = if nat_lt now last then age_ahead (last - now) else number_tokens (codes "age") (now - last)
 age_members last None = []
 
 -- LINES

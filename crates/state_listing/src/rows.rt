@@ -1,11 +1,11 @@
 //! A line for each thing that an image has.
 
-ghost use Rattle.std.specs.Prelude.{◌≡◌, ◌++◌, ◌∷◌, [], OnOk, IfOk, map, option_copied};
+ghost use Rattle.std.specs.Prelude.{◌≡◌, ◌<◌, ◌^◌, ◌++◌, ◌∷◌, [], OnOk, IfOk, map, option_copied};
 ghost use Rattle.consent.specs.declared.kept_consent.KeptConsent.{KeptConsent};
 ghost use Rattle.image_codec.specs.Facts.{hook_fact, kind_fact, record_fact, rules_fact};
 ghost use Rattle.params.specs.Scope.{names_in_mask};
 ghost use Rattle.json.specs.Token.{key};
-ghost use Rattle.state_listing.specs.Lines.{client_members, code_scope_members, consent_line, family_line, file_line, hook_line, kind_name, client_name, owner_members, age_members, scope_members, token_line};
+ghost use Rattle.state_listing.specs.Lines.{age_ahead, client_members, code_scope_members, consent_line, family_line, file_line, hook_line, kind_name, client_name, owner_members, age_members, scope_members, token_line};
 
 use crate::facts::FileFacts;
 use crate::line::{begin_line, end_line};
@@ -174,13 +174,28 @@ pub(crate) fn push_hook(
     end_line(line, lines)
 }
 
+// One more member: how many seconds the last moment is ahead, as an age below 0.
+fn push_ahead(line: &mut Object, seconds: u64) -> Result<(), AllocError>
+    requires some { 0 < seconds }
+    requires short { seconds < 2 ^ 63 }
+    ensures { OnOk result (line.new.json.tokens ≡ line.old.json.tokens ++ age_ahead seconds) }
+{
+    line.json.key("age")?;
+    line.json.i64(-(seconds as i64))
+}
+
 // One more member, where it is known: how many seconds lie between the two moments.
 fn push_age(line: &mut Object, last: Moment, now: Option<Moment>) -> Result<(), AllocError>
     ensures { OnOk result (line.new.json.tokens ≡ line.old.json.tokens ++ age_members last now) }
 {
-    match now {
-        Some(now) => line.number("age", now.get().saturating_sub(last.get())),
-        None => Ok(()),
+    let Some(now) = now else {
+        return Ok(());
+    };
+    let (last, now) = (last.get(), now.get());
+    if now < last {
+        push_ahead(line, last - now)
+    } else {
+        line.number("age", now - last)
     }
 }
 

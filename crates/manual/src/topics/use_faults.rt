@@ -72,19 +72,23 @@ hook NAME: FAULT: start was to install this hook, and it is refused; no connecti
     Topic {
         name: "State",
         text: "\
-State FAULT: start was to keep its state in the file of --state, and can't; no connection was taken, and all that the file has kept stays there.
-State FAULT in batch N: state was to list the file, and its N-th batch is wrong; nothing was printed.
+State FAULT: FILE: start was to keep its state in FILE, and can't; no connection was taken, and the file stays as it is. So it is told where state or registry --state can't read FILE, or state --new or state --upgrade can't make it.
+State FAULT in batch N: state or registry --state was to read the file, and its N-th batch is wrong; nothing was printed.
 
-  InUse                  another server holds the lock on FILE.lock; stop that one first
-  Open: WHY              the system refused to open or to make the file, its lock or its folder: not found, permission denied, not a directory, is a directory, read-only filesystem, no storage space, quota exceeded, other error
-  Device                 the disk failed, or was full, while the file was read, or what was new was written to it
+oauthd help has each of the first fourteen:
+
+  Missing, NotState, Version N      there is no file, or it is none of this oauthd's
+  Damaged N                         what stands behind the first N batches is damaged
+  Link, NotAFile, SecondLink, WritableByOthers    the file can't be a server's own
+  InUse, Open: WHY, Device: WHY     another server has it, or the system refuses it
+  ClockAhead N                      the clock is far ahead of the file
+  Exists, Make: WHY                 no file can be made there
   NoRules, Spelling .., Image ..    the file is not what a server wrote
-  Follows ..             a change in the file can't have happened after those before it
+  Follows ..                        a change in the file can't have happened after those before it
   ScopeMoved NAME, OwnerMoved, ClientMoved NAME    the registry has left out or moved what the file has
-  ClientNarrowed NAME, LifeNarrowed                the registry allows less than when the file was written
-  HookDiffers NAME       the file has another hook of that name; remove it by a request, or leave out the option
-  Hook NAME FAULT        a hook behind start is refused: oauthd help hook
-  Full, TooLong          the file, or what is to be written to it, is too long
+  HookDiffers NAME                  the file has another hook of that name; remove it by a request, or leave out the option
+  Hook NAME FAULT                   a hook behind start is refused: oauthd help hook
+  Full, TooLong                     the file, or what is to be written to it, is too long
 
   oauthd start 127.0.0.1:8080 registry.json --state /var/lib/oauthd/state
 ",
@@ -92,7 +96,7 @@ State FAULT in batch N: state was to list the file, and its N-th batch is wrong;
     Topic {
         name: "cannot listen",
         text: "\
-cannot listen: no socket can be had at the address. It may be in use, its port may be below 1024 and reserved, or its host may not be of this machine. An address is an IP address or a host's name, a colon and a port.
+cannot listen on ADDR: WHY: no socket can be had at the address, for the system's reason WHY. address in use: another program listens there. permission denied: its port is below 1024, and reserved. address not available: its host is not of this machine. An address is an IP address or a host's name, a colon and a port.
 
   oauthd start 8080 registry.json      oauthd start 127.0.0.1:8080 registry.json
 ",
@@ -112,7 +116,7 @@ connection ended: FAULT: a connection of start was closed before its client ende
     Topic {
         name: "stopped",
         text: "\
-stopped: FAULT: start served, and can't go on. Wait is a wait for connections that fails, Clock is a clock of the machine that can't be read, Rounds are more rounds than can be counted, and State is a state that can't be written to its file: the disk is full, or fails. All connections were closed. Start it again.
+stopped: FAULT: start served, and can't go on. Wait is a wait for connections that fails, Clock is a clock of the machine that can't be read, Rounds are more rounds than can be counted, and State: WHY is a state that can't be written to its file, for the system's reason WHY: make room on the disk, or look what is wrong with it. All connections were closed; what was acknowledged is in the file. Start it again.
 ",
     },
     Topic {

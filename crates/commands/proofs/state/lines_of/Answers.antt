@@ -11,9 +11,7 @@ returns c =
     let is = c.in_ok-image.ensures bytes [] of in
     record {
       image = image;
-      torn = c.args.account.now.torn;
       each = λ history stands was ran. is.each history stands was (was_run bytes history ran);
       told = is.told;
-      torn_is = of.torn;
-      text_is = rw of.batches at c.in_ok-text.ensures;
+      text_is = rw (of.batches, of.torn) at c.in_ok-text.ensures;
     }

@@ -6,8 +6,9 @@ pub returns : goal.returns
 unfolding all_words
 returns c =
     let said_2 = said_by_either _ _ c.args.name.now _ _ _ c.command.ensures c.use_fault.ensures c.or.ensures in
-    let said_3 = said_by_either _ _ c.args.name.now _ _ _ said_2 c.text_fault.ensures c.or-2.ensures in
-    let said_4 = said_by_either _ _ c.args.name.now _ _ _ said_3 c.code_fault.ensures c.or-3.ensures in
-    let said_5 = said_by_either _ _ c.args.name.now _ _ _ said_4 c.verdict.ensures c.or-4.ensures in
-    let said_6 = said_by_either _ _ c.args.name.now _ _ _ said_5 c.config_fault.ensures c.or-5.ensures in
-    said_by_either _ _ c.args.name.now _ _ _ said_6 c.event_fault.ensures c.or-6.ensures
+    let said_3 = said_by_either _ _ c.args.name.now _ _ _ said_2 c.state_fault.ensures c.or-2.ensures in
+    let said_4 = said_by_either _ _ c.args.name.now _ _ _ said_3 c.text_fault.ensures c.or-3.ensures in
+    let said_5 = said_by_either _ _ c.args.name.now _ _ _ said_4 c.code_fault.ensures c.or-4.ensures in
+    let said_6 = said_by_either _ _ c.args.name.now _ _ _ said_5 c.verdict.ensures c.or-5.ensures in
+    let said_7 = said_by_either _ _ c.args.name.now _ _ _ said_6 c.config_fault.ensures c.or-6.ensures in
+    said_by_either _ _ c.args.name.now _ _ _ said_7 c.event_fault.ensures c.or-7.ensures

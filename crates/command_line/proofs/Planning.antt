@@ -1,0 +1,52 @@
+-- What a start makes of the bytes of a state file, by what the calls say.
+use Rattle.std.proofs.Common.{◌≡◌, ◌≤◌, ◌↔◌, ◌∙◌, inr, ℕ, List, [], Option, None, Some, subst}
+use Rattle.std.specs.Prelude.{IsSome}
+use Rattle.batch_file.specs.Frames.{recovered, torn_of}
+use Rattle.clients.specs.RegistryRecord.{RegistryRecord}
+use Rattle.hook_chain.specs.contracts.chain.ChainHookHost.TheImpl as chain
+use Rattle.image_codec.specs.Facts.{HookFact}
+use Rattle.narrowing.specs.Left.{left_under}
+use Rattle.state_file.specs.Making.{Makes}
+use Rattle.state_file.specs.Standing.{until_of}
+use Rattle.state_file.specs.Telling.{rules_of}
+use Rattle.state_narrowing.specs.Narrowing.{HasLeftOfEach, IsNarrower}
+use Rattle.state_narrowing.specs.declared.narrowed.Narrowed.{Narrowed}
+use Rattle.commands.specs.RunLaws.{was_run}
+use Rattle.command_line.specs.Plans.{IsPlanOf, start_of}
+use Rattle.command_line.specs.declared.plan.Plan.{Plan}
+
+-- where they are not narrowed
+pub plan_whole : (rules : RegistryRecord) (hooks : List HookFact) (bytes : List ℕ) (plan : Plan) →
+    Makes chain.ghosts (start_of rules hooks bytes) plan.prepared → plan.ended ≡ None → plan.torn.items ≡ plan.prepared.torn →
+    (IsSome {A = Narrowed} None ↔ IsNarrower bytes (rules_of rules)) → IsPlanOf rules hooks bytes plan
+plan_whole rules hooks bytes plan makes none torn exact = record {
+  narrowed = None;
+  ended = none;
+  narrower = exact;
+  left = tt;
+  makes = λ history stands was ran. makes.each history stands was (was_run bytes history ran);
+  tell = makes.tell;
+  until = makes.kept;
+  later = makes.later;
+  torn_is = torn ∙ makes.torn_is;
+}
+
+-- where they are
+pub plan_narrowed : (rules : RegistryRecord) (hooks : List HookFact) (bytes : List ℕ) (plan : Plan) (narrowed : Narrowed) →
+    Makes chain.ghosts (start_of rules hooks narrowed.bytes.items) plan.prepared → plan.ended ≡ Some narrowed.ended → plan.torn.items ≡ torn_of bytes →
+    (IsSome (Some narrowed) ↔ IsNarrower bytes (rules_of rules)) → HasLeftOfEach chain.ghosts [] bytes rules narrowed →
+    until_of (recovered narrowed.bytes.items) ≡ until_of (recovered bytes) → IsPlanOf rules hooks bytes plan
+plan_narrowed rules hooks bytes plan narrowed makes ended torn exact left same = record {
+  narrowed = Some narrowed;
+  ended = ended;
+  narrower = exact;
+  left = λ history stands was ran. left history stands was (was_run bytes history ran);
+  makes = λ history stands was ran. (
+      let on = (left history stands was (was_run bytes history ran)).goes_on in
+      let made = makes.each (left_under rules history) on.stands on.right (was_run narrowed.bytes.items (left_under rules history) (inr (on.host, on.ran))) in
+      record { serves = made.serves; set = made.set; stands = made.stands });
+  tell = makes.tell;
+  until = subst (λ (until : ℕ). until ≤ until_of plan.prepared.batches) same makes.kept;
+  later = subst (λ (until : ℕ). until ≤ plan.prepared.moment) same makes.later;
+  torn_is = torn;
+}

@@ -1,0 +1,101 @@
+//! The commands on a state file, from their words' meaning to what is written and how the program then ends.
+
+ghost use Rattle.std.specs.Prelude.{◌≡◌, ◌⊎◌, IfOk, IfErr};
+ghost use Rattle.commands.specs.NamedFiles.{bytes_in};
+ghost use Rattle.commands.specs.Outputs.{GetsText, output, outputs};
+ghost use Rattle.command_line.specs.Printed.{trial_text};
+ghost use Rattle.command_line.specs.StateEndings.{EndsStateCommand, FailsTrial, IsTrial, IsUpgradeTold};
+
+use crate::fault::PerformFault;
+use crate::making::{make_new, upgrade};
+use crate::performing::told;
+use crate::plan::plan_of;
+use crate::state_command::StateCommand;
+use commands::{
+    CommandFault, NamedFile, Status, Unwritten, bytes_at, failed, registry_of, write_text,
+};
+use std::fs::File;
+use std::io::Write;
+use std::rt::Files;
+
+/// How many codes and tokens a start on the state file of a path would end, under the registry of a file. Nothing is written.
+fn ended_by<'w, R: Files<File = File> + AllocGlobal>(
+    rt: &R,
+    config: &'w str,
+    file: Option<NamedFile>,
+    path: &'w str,
+) -> Result<usize, PerformFault<'w>>
+    ensures done { IfOk result (IsTrial (bytes_in file)) }
+    ensures refused { IfErr result (FailsTrial config.now (bytes_in file) path.now) }
+{
+    let alloc = rt.alloc();
+    let registry = registry_of(alloc, config, file)?;
+    let Some(bytes) = bytes_at(rt, path)? else {
+        return Err(PerformFault::Command(CommandFault::CannotRead(path)));
+    };
+    match plan_of(alloc, &bytes, registry, &[]) {
+        Ok(plan) => Ok(plan.ended.unwrap_or(0)),
+        Err(fault) => Err(PerformFault::from(CommandFault::of_state(path, fault))),
+    }
+}
+
+/// Tells how many bytes of an unfinished write are left out of a new file, where there are some, and says how the program then
+/// ends. A write that fails is bad use.
+fn told_upgrade<E: Write>(torn: usize, err: &mut E) -> Status
+    ensures { (result ≡ Status.BadUse) ⊎ ((result ≡ Status.Done) × IsUpgradeTold torn (output E.contents err.old err.new)) }
+{
+    if torn == 0 {
+        return Status::Done;
+    }
+    match write_text(
+        err,
+        format_args!("oauthd: state: {torn} bytes of an unfinished write are left out\n"),
+    ) {
+        Ok(()) => Status::Done,
+        Err(_) => Status::BadUse,
+    }
+}
+
+/// Tells how many codes and tokens a start would end, and says how the program then ends. A write that fails is bad use.
+fn told_trial<W: Write, E: Write>(ended: usize, out: &mut W, err: &mut E) -> Status
+    ensures { (result ≡ Status.BadUse)
+        ⊎ ((result ≡ Status.Done) × (err.new ≡ err.old) × GetsText (output W.contents out.old out.new) (trial_text ended)) }
+{
+    match write_text(
+        out,
+        format_args!("{ended} codes and tokens would end, beyond the registry\n"),
+    ) {
+        Ok(()) => Status::Done,
+        Err(_) => failed(Unwritten::Answer, err),
+    }
+}
+
+/// Carries out a command on a state file, and says how the program then ends. `file` is the registry's, where the command names
+/// one, and `None` where that cannot be read.
+pub fn perform_state<R: Files<File = File> + AllocGlobal, W: Write, E: Write>(
+    rt: &R,
+    command: StateCommand<'_>,
+    file: Option<NamedFile>,
+    out: &mut W,
+    err: &mut E,
+) -> Status
+    // Bad use may be that of a write that failed.
+    ensures { (result ≡ Status.BadUse)
+        ⊎ EndsStateCommand command.entry (bytes_in file) result
+        (outputs (output W.contents out.old out.new) (output E.contents err.old err.new)) }
+{
+    match command {
+        StateCommand::New { path } => match make_new(rt, path) {
+            Ok(_written) => Status::Done,
+            Err(fault) => told(fault, err),
+        },
+        StateCommand::Upgrade { path, new_path } => match upgrade(rt, path, new_path) {
+            Ok(made) => told_upgrade(made.torn, err),
+            Err(fault) => told(fault, err),
+        },
+        StateCommand::Trial { config, path } => match ended_by(rt, config, file, path) {
+            Ok(ended) => told_trial(ended, out, err),
+            Err(fault) => told(fault, err),
+        },
+    }
+}

@@ -1,0 +1,119 @@
+//! Faults of a state file, and of the moment that it has.
+
+use crate::topic::Topic;
+
+/// What the faults of a state file mean that are told with its path.
+pub const STATE_FAULTS: [Topic; 14] = [
+    Topic {
+        name: "Missing",
+        text: "\
+State Missing: FILE: there is no file at the path of --state; none was made. Look at the path, and whether its disk is mounted: a server on a new file knows nothing of the codes, tokens and hooks of the old one. At the first start of all, make the file:
+
+  oauthd state --new /var/lib/oauthd/state
+",
+    },
+    Topic {
+        name: "NotState",
+        text: "\
+State NotState: FILE: the file is another program's, or was emptied. It was left as it is. Look at the path. Where it was the state, put the last copy of it back. For a server that begins anew, move the file away and make a new one:
+
+  mv state not-a-state
+  oauthd state --new state
+",
+    },
+    Topic {
+        name: "Version",
+        text: "\
+State Version N: FILE: the file is of another version than this oauthd's, which is 2. It was left as it is. Version 1 is of an older oauthd: stop its server, make a new file of this one, and start on the new one. A number above 2 is of a newer oauthd: start that one.
+
+  oauthd state --upgrade old-state /var/lib/oauthd/state
+",
+    },
+    Topic {
+        name: "Damaged",
+        text: "\
+State Damaged N: FILE: the first N batches of the file are right, and what stands behind them is not what a server wrote, nor what a crash leaves: a disk fails, or something else wrote to the file. Nothing was written. Keep the file, and look at the disk. Then put the last copy of the state in its place; what happened after that copy is lost.
+
+  cp -p /backup/state /var/lib/oauthd/state
+",
+    },
+    Topic {
+        name: "Device",
+        text: "\
+State Device: WHY: FILE: the disk refused to read or to write, for the system's reason WHY: no storage space, quota exceeded, read-only filesystem, and others. All that was acknowledged is in the file. Make room, or look what is wrong with the disk, and start again.
+
+  df /var/lib/oauthd
+",
+    },
+    Topic {
+        name: "InUse",
+        text: "\
+State InUse: FILE: another server holds the lock on FILE.lock. Stop that one first.
+",
+    },
+    Topic {
+        name: "Open",
+        text: "\
+State Open: WHY: FILE: the system refused to open the file, its lock or its folder, for its reason WHY: permission denied, not a directory, is a directory, read-only filesystem, no storage space, quota exceeded, and others. Look at the path, and who may read and write there.
+
+  ls -ld /var/lib/oauthd /var/lib/oauthd/state
+",
+    },
+    Topic {
+        name: "Link",
+        text: "\
+State Link: FILE: the path is a symbolic link. Name the file that it leads to: by two names two servers could have one file, and each would undo what the other one keeps.
+
+  oauthd start 127.0.0.1:8080 registry.json --state $(readlink -f state)
+",
+    },
+    Topic {
+        name: "NotAFile",
+        text: "\
+State NotAFile: FILE: the path is that of a folder, a pipe, a socket or a device. A state is kept in a regular file:
+
+  oauthd state --new /var/lib/oauthd/state
+",
+    },
+    Topic {
+        name: "SecondLink",
+        text: "\
+State SecondLink: FILE: the file has a second name (a hard link). The server puts new files in its place, which the other name would not see, and two servers could have it. Remove the other name; find tells it:
+
+  find /var/lib/oauthd -samefile /var/lib/oauthd/state
+",
+    },
+    Topic {
+        name: "WritableByOthers",
+        text: "\
+State WritableByOthers: FILE: not only its owner may write the file, and who writes there makes tokens. Look who did. Then take the right away:
+
+  chmod 600 /var/lib/oauthd/state
+",
+    },
+    Topic {
+        name: "ClockAhead",
+        text: "\
+State ClockAhead N: FILE: the machine's clock is N seconds ahead of the last moment in the file, which is more than a year. Nothing was written: codes and tokens would end at once, and the moment would stay, since a server's time never goes back. Set the clock. Where it is right, and the server did not run for so long, start it once with --accept-clock:
+
+  date
+  oauthd start 127.0.0.1:8080 registry.json --state /var/lib/oauthd/state --accept-clock
+",
+    },
+    Topic {
+        name: "Exists",
+        text: "\
+State Exists: FILE: state --new or state --upgrade was to make the file, and something is there already. It was left as it is. Name another path, or move away what is there.
+
+  oauthd state --new /var/lib/oauthd/new-state
+",
+    },
+    Topic {
+        name: "Make",
+        text: "\
+State Make: WHY: FILE: state --new or state --upgrade was to make the file, and the system refuses it, for its reason WHY: not found (a folder of the path), permission denied, not a directory, read-only filesystem, no storage space, quota exceeded, and others. Nothing is left there.
+
+  ls -ld /var/lib/oauthd
+",
+    },
+];
