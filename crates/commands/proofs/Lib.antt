@@ -1,3 +1,4 @@
 mod Asking
+mod Fronts
 mod Lists
 mod Refusing

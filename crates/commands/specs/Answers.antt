@@ -14,7 +14,7 @@ use Rattle.commands.specs.declared.fault.CommandFault.{CommandFault}
 use Rattle.commands.specs.declared.fault.CommandFault.TheVariants as faults
 use Rattle.commands.specs.Help.{IsNameExplained, IsPage}
 use Rattle.commands.specs.Registries.{IsRegistryTold}
-use Rattle.commands.specs.States.{IsStateTold}
+use Rattle.commands.specs.States.{IsFrontTold, IsStateTold}
 use Rattle.commands.specs.Transcripts.{IsReplayedAs}
 
 -- what a command about a hook answers: as crate hook_commands has it
@@ -29,6 +29,7 @@ abbrev pub IsAnsweredBy : Command → Option NamedFile → Result Answer Command
 IsAnsweredBy (commands.Hook command) file outcome = IsAnsweredOfHook command (bytes_in file) outcome
 IsAnsweredBy (commands.Registry path) file outcome = IsRegistryTold path.now file outcome
 IsAnsweredBy (commands.State path) file outcome = (now : Option ℕ) × IsStateTold path.now (bytes_in file) now outcome
+IsAnsweredBy (commands.StateFront path) file outcome = (now : Option ℕ) × IsFrontTold path.now (bytes_in file) now outcome
 IsAnsweredBy (commands.Replay path) file outcome = IsReplayedAs path.now (bytes_in file) outcome
 IsAnsweredBy (commands.Help word) file outcome = IsPage PAGE.now outcome
 IsAnsweredBy (commands.Explain name) file outcome = IsNameExplained name.now outcome

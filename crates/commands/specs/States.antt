@@ -1,6 +1,6 @@
 -- What `state` answers to a file.
 use Rattle.std.specs.Prelude.{◌≡◌, ⊤, ℕ, List, length, Option, None, IsSomeAnd, Result, Ok, Err}
-use Rattle.batch_file.specs.Frames.{RefusesFile, recovered, torn_of}
+use Rattle.batch_file.specs.Frames.{IsRightFront, RefusesFile, RefusesHeader, recovered, torn_of}
 use Rattle.batch_file.specs.declared.framing.ReadFault.{ReadFault}
 use Rattle.hook_commands.specs.File.{File}
 use Rattle.image_codec.specs.Facts.{ImageFact}
@@ -45,3 +45,24 @@ IsStateTold path file now (Ok answer) = ⊥
 IsStateTold path file now (Err (faults.CannotRead named)) = (file ≡ None) × (named.now ≡ path)
 IsStateTold path file now (Err faults.OutOfMemory) = ⊤
 IsStateTold path file now (Err fault) = IsSomeAnd file (λ bytes. HasNoAccount path bytes fault)
+
+-- the text is that of a whole file of the frames at the front of the bytes that are right
+pub record IsFrontText (bytes : List ℕ) (now : Option ℕ) (text : List ℕ) : Type 0 where
+  pub front : List ℕ
+  pub right : IsRightFront (recovered front) bytes
+  pub text_is : IsStateText front now text
+
+-- why it is not told what stands at the front: the bytes do not begin as a state file does, or a batch of it is at fault
+abbrev pub HasNoFront : List ℕ → List ℕ → CommandFault → Type 0
+HasNoFront path bytes (faults.State named fault) = (named.now ≡ path) × (cause : ReadFault) × RefusesHeader bytes cause × (fault ≡ of_reading cause)
+HasNoFront path bytes (faults.StateAt number fault) = IsOfBatch fault
+HasNoFront path bytes faults.OutOfMemory = ⊤
+HasNoFront path bytes fault = ⊥
+
+-- what `state --front` answers to the file of a path
+abbrev pub IsFrontTold : List ℕ → File → Option ℕ → Result Answer CommandFault → Type 0
+IsFrontTold path file now (Ok (answers.Lines text)) = IsSomeAnd file (λ bytes. IsFrontText bytes now text.items)
+IsFrontTold path file now (Ok answer) = ⊥
+IsFrontTold path file now (Err (faults.CannotRead named)) = (file ≡ None) × (named.now ≡ path)
+IsFrontTold path file now (Err faults.OutOfMemory) = ⊤
+IsFrontTold path file now (Err fault) = IsSomeAnd file (λ bytes. HasNoFront path bytes fault)

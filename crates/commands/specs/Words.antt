@@ -38,6 +38,7 @@ abbrev pub words_of_command : Command → List (List ℕ)
 words_of_command (commands.Hook command) = hook_words_of command
 words_of_command (commands.Registry path) = codes "registry" ∷ path.now ∷ []
 words_of_command (commands.State path) = codes "state" ∷ path.now ∷ []
+words_of_command (commands.StateFront path) = codes "state" ∷ codes "--front" ∷ path.now ∷ []
 words_of_command (commands.Replay path) = codes "replay" ∷ path.now ∷ []
 words_of_command (commands.Help Help) = codes "help" ∷ []
 words_of_command (commands.Help Long) = codes "--help" ∷ []
@@ -60,6 +61,7 @@ IsAsking command = ⊥
 abbrev pub IsOptional : Command → Type 0
 IsOptional (commands.Hook (hook.ListSlots path)) = ⊤
 IsOptional (commands.Hook (hook.Why layout path)) = ⊤
+IsOptional (commands.StateFront path) = ⊤
 IsOptional command = ⊥
 
 -- no command has these words
@@ -75,6 +77,7 @@ abbrev pub file_named_by : Command → Option (List ℕ)
 file_named_by (commands.Hook command) = file_of_hook_command command
 file_named_by (commands.Registry path) = Some path.now
 file_named_by (commands.State path) = Some path.now
+file_named_by (commands.StateFront path) = Some path.now
 file_named_by (commands.Replay path) = Some path.now
 file_named_by (commands.Help word) = None
 file_named_by (commands.Explain name) = None

@@ -12,7 +12,7 @@ use crate::named_file::{NamedFile, bytes_in};
 use crate::options::{to_ask, to_trace, with_option};
 use crate::registry::told_registry;
 use crate::replay::replayed;
-use crate::state::told_state;
+use crate::state::{told_front, told_state};
 use consent::Moment;
 use hook_commands::HookCommand;
 use insn::layout::Layout;
@@ -39,6 +39,8 @@ pub enum Command<'w> {
     Registry { path: &'w str },
     /// `state FILE`: what the state file stands for.
     State { path: &'w str },
+    /// `state --front FILE`: what a damaged state file stands for, up to the damage.
+    StateFront { path: &'w str },
     /// `replay FILE`: what the server of the transcript in a file sends to each connection.
     Replay { path: &'w str },
     /// `help`, `--help` and `-h`: the commands.
@@ -123,7 +125,7 @@ impl<'w> Command<'w> {
         match self {
             Command::Hook(command) => command.file(),
             Command::Registry { path } => Some(path),
-            Command::State { path } => Some(path),
+            Command::State { path } | Command::StateFront { path } => Some(path),
             Command::Replay { path } => Some(path),
             Command::Help(_) | Command::Explain { .. } | Command::Version => None,
         }
@@ -146,6 +148,7 @@ impl<'w> Command<'w> {
             },
             Command::Registry { path } => told_registry(alloc, path, file),
             Command::State { path } => told_state(alloc, path, bytes_in(file), now),
+            Command::StateFront { path } => told_front(alloc, path, bytes_in(file), now),
             Command::Replay { path } => replayed(alloc, path, bytes_in(file)),
             Command::Help(_) => Ok(Answer::Page(PAGE)),
             Command::Explain { name } => explained(name),

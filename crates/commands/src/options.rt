@@ -22,6 +22,7 @@ pub fn with_option<'w>(name: &str, option: &str, word: &'w str) -> Option<Comman
             layout: Layout::V2,
             path: word,
         })),
+        ("state", "--front") => Some(Command::StateFront { path: word }),
         _ => None,
     }
 }

@@ -4,10 +4,11 @@ ghost use Rattle.std.specs.Prelude.{[], IfOk, List, ℕ};
 ghost use Rattle.std.specs.Option.{option_copied};
 ghost use Rattle.hook_chain.specs.contracts.chain.ChainHookHost.TheImpl as chain;
 ghost use Rattle.state_account.specs.Accounts.{IsAccountOf, RefusesAccount};
-ghost use Rattle.commands.specs.States.{HasNoAccount, IsStateText, IsStateTold};
+ghost use Rattle.commands.specs.States.{HasNoAccount, IsFrontTold, IsStateText, IsStateTold};
 
 use crate::answer::Answer;
 use crate::fault::CommandFault;
+use batch_file::framing::right_front;
 use consent::Moment;
 use hook_chain::Chain;
 use state_account::{Account, AccountFault, account_of};
@@ -61,6 +62,28 @@ pub fn told_state<'w>(
     };
     match account_of(alloc, bytes, Chain::new(alloc)) {
         Ok(account) => Ok(Answer::Lines(lines_of(alloc, bytes, &account, now)?)),
+        Err(fault) => Err(fault_of(path, fault)),
+    }
+}
+
+/// What a state file stands for up to the damage, where it is damaged, and else all of it.
+pub fn told_front<'w>(
+    alloc: Global,
+    path: &'w str,
+    file: Option<&[u8]>,
+    now: Option<Moment>,
+) -> Result<Answer, CommandFault<'w>>
+    ensures { IsFrontTold path.now (option_copied file.entry) now result }
+{
+    let Some(bytes) = file else {
+        return Err(CommandFault::CannotRead(path));
+    };
+    let front = match right_front(alloc, bytes) {
+        Ok(frames) => frames.into_bytes(),
+        Err(fault) => return Err(CommandFault::of_state(path, StateFault::from(fault))),
+    };
+    match account_of(alloc, &front, Chain::new(alloc)) {
+        Ok(account) => Ok(Answer::Lines(lines_of(alloc, &front, &account, now)?)),
         Err(fault) => Err(fault_of(path, fault)),
     }
 }
