@@ -2,7 +2,7 @@
 
 ghost use Rattle.std.specs.Prelude.{◌≡◌, ◌<◌, ◌≤◌, ◌^◌, ◌+◌, ◌++◌, [], ◌∷◌, length, OnOk, OnErr, IfOk, IfErr, IsErrOf, Some};
 ghost use Rattle.batch_file.specs.declared.frames.AddFault.TheVariants.{Memory};
-ghost use Rattle.batch_file.specs.Frames.{file_size, recovered, sealed, IsWhole};
+ghost use Rattle.batch_file.specs.Frames.{file_size, recovered, sealed, IsReadable, IsWhole};
 
 use crate::framing::{HEADER, head_of};
 use std::alloc::{AllocError, AllocFailed, Global};
@@ -89,6 +89,14 @@ impl Frames {
         ensures { result ≡ file_size self.now }
     {
         self.bytes.len()
+    }
+
+    /// Its bytes.
+    pub fn into_bytes(self) -> Vec<u8>
+        ensures batches { recovered result.items ≡ self }
+        ensures readable { IsReadable result.items }
+    {
+        self.bytes
     }
 
     /// Its bytes, and the digest of the last frame.
