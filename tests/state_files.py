@@ -17,8 +17,8 @@ import state_clocks
 import state_disks
 import state_paths
 from crashes import consents
-from state_format import HEADER, MARK, batches_of, changes_of, consented, file_of, first_kind_of, mark_of, next_body, rules_of
-from state_trials import LIFE, NotServed, Trials, bytes_of, is_named
+from state_format import HEADER, batches_of, changes_of, consented, file_of, first_kind_of, mark_of, next_body, rules_of
+from state_trials import LIFE, NotServed, Trials, bytes_of, is_named, without_marks
 
 # The line that tells how much ended beyond the registry, behind how many that were.
 ENDED = " codes and tokens ended, beyond the registry"
@@ -123,8 +123,7 @@ def tries_draws(trials, content, chance, draws):
                 trials.wrong(what, f"status {came.status}, {came.lines}, {sorted(came.files)}")
             return
         taken.append(what)
-        found = [it for it in batches_of(came.files["state"]) if it[0] != MARK]
-        kept = [it for it in batches_of(content) if it[0] != MARK]
+        found, kept = without_marks(batches_of(came.files["state"])), without_marks(batches_of(content))
         front = next((n for n, pair in enumerate(zip(found, kept)) if pair[0] != pair[1]), min(len(found), len(kept)))
         if front < len(kept) and not changed.endswith(came.files.get("state.torn") or b"none"):
             trials.wrong(what, f"{front} of {len(kept)} batches, and the rest is nowhere")
