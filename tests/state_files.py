@@ -93,6 +93,18 @@ def tries_every_front(trials, content):
                                torn[:at] + bytes([torn[at] ^ 255]) + torn[at + 1:]) for at in range(len(torn) - 1)))
 
 
+def tries_a_damaged_front(trials, content):
+    """`state --front` lists what the batches before the damage stand for, as `state` does of a file that has no others."""
+    batches, begins = batches_of(content), places(content)
+    for number in (0, 1, 20, len(batches) - 1):
+        at = begins[number] + 30
+        damaged = trials.file_of(content[:at] + bytes([content[at] ^ 1]) + content[at + 1:], f"{trials.room}/damaged")
+        told = trials.run("state", "--front", damaged)
+        whole = trials.run("state", trials.file_of(file_of(batches[:number])))
+        if told.returncode or told.stdout.split('"age"')[0] != whole.stdout.split('"age"')[0]:
+            trials.wrong(f"a front of {number} batches", f"status {told.returncode}, {told.stderr!r}, {told.stdout[-200:]!r}, not {whole.stdout[-200:]!r}")
+
+
 def drawn_change(chance, content):
     """The bytes with some of them changed, left out, or put in."""
     changed = bytearray(content)
@@ -272,7 +284,7 @@ def main():
             (state_paths.tries_new_files,), (state_paths.tries_other_files,), (state_paths.tries_what_is_no_file, content),
             (state_paths.tries_two_names,), (state_paths.tries_owners, content), (state_paths.tries_order,),
             *((it,) for it in state_clocks.all_trials()), *((it, content) for it in state_disks.all_trials()),
-            (tries_every_byte, content), (tries_every_front, content), (tries_draws, content, random.Random(seed), draws),
+            (tries_a_damaged_front, content), (tries_every_byte, content), (tries_every_front, content), (tries_draws, content, random.Random(seed), draws),
         ]
         for trial, *given in all_trials:
             if names and not any(name in trial.__name__ for name in names):
