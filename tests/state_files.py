@@ -17,8 +17,8 @@ import state_clocks
 import state_disks
 import state_paths
 from crashes import consents
-from state_format import HEADER, MARK, batches_of, changes_of, consented, file_of, first_kind_of, mark_of, next_body, rules_of
-from state_trials import LIFE, NotServed, Trials, bytes_of, is_named
+from state_format import HEADER, batches_of, changes_of, consented, file_of, first_kind_of, mark_of, next_body, rules_of
+from state_trials import LIFE, NotServed, Trials, bytes_of, is_named, without_marks
 
 # The line that tells how much ended beyond the registry, behind how many that were.
 ENDED = " codes and tokens ended, beyond the registry"
@@ -93,6 +93,18 @@ def tries_every_front(trials, content):
                                torn[:at] + bytes([torn[at] ^ 255]) + torn[at + 1:]) for at in range(len(torn) - 1)))
 
 
+def tries_a_damaged_front(trials, content):
+    """`state --front` lists what the batches before the damage stand for, as `state` does of a file that has no others."""
+    batches, begins = batches_of(content), places(content)
+    for number in (0, 1, 20, len(batches) - 1):
+        at = begins[number] + 30
+        damaged = trials.file_of(content[:at] + bytes([content[at] ^ 1]) + content[at + 1:], f"{trials.room}/damaged")
+        told = trials.run("state", "--front", damaged)
+        whole = trials.run("state", trials.file_of(file_of(batches[:number])))
+        if told.returncode or told.stdout.split('"age"')[0] != whole.stdout.split('"age"')[0]:
+            trials.wrong(f"a front of {number} batches", f"status {told.returncode}, {told.stderr!r}, {told.stdout[-200:]!r}, not {whole.stdout[-200:]!r}")
+
+
 def drawn_change(chance, content):
     """The bytes with some of them changed, left out, or put in."""
     changed = bytearray(content)
@@ -123,8 +135,7 @@ def tries_draws(trials, content, chance, draws):
                 trials.wrong(what, f"status {came.status}, {came.lines}, {sorted(came.files)}")
             return
         taken.append(what)
-        found = [it for it in batches_of(came.files["state"]) if it[0] != MARK]
-        kept = [it for it in batches_of(content) if it[0] != MARK]
+        found, kept = without_marks(batches_of(came.files["state"])), without_marks(batches_of(content))
         front = next((n for n, pair in enumerate(zip(found, kept)) if pair[0] != pair[1]), min(len(found), len(kept)))
         if front < len(kept) and not changed.endswith(came.files.get("state.torn") or b"none"):
             trials.wrong(what, f"{front} of {len(kept)} batches, and the rest is nowhere")
@@ -273,7 +284,7 @@ def main():
             (state_paths.tries_new_files,), (state_paths.tries_other_files,), (state_paths.tries_what_is_no_file, content),
             (state_paths.tries_two_names,), (state_paths.tries_owners, content), (state_paths.tries_order,),
             *((it,) for it in state_clocks.all_trials()), *((it, content) for it in state_disks.all_trials()),
-            (tries_every_byte, content), (tries_every_front, content), (tries_draws, content, random.Random(seed), draws),
+            (tries_a_damaged_front, content), (tries_every_byte, content), (tries_every_front, content), (tries_draws, content, random.Random(seed), draws),
         ]
         for trial, *given in all_trials:
             if names and not any(name in trial.__name__ for name in names):
