@@ -33,7 +33,7 @@ fn too_far(moment: Moment, now: Moment) -> Option<u64>
 impl Clocked {
     /// How many seconds the clock is too far ahead of a state's moment for a start, if it is.
     pub fn refused(self, moment: Moment) -> Option<u64>
-        ensures { result ≡ clock_refused self.entry moment }
+        ensures { result ≡ clock_refused self moment }
     {
         match (self.far, self.now) {
             (FarClock::Refused, Some(now)) => too_far(moment, now),
@@ -43,7 +43,7 @@ impl Clocked {
 
     /// How many seconds a state's moment is ahead of the clock: 0 where it is not, or where the clock tells nothing.
     pub fn seconds_ahead(self, moment: Moment) -> u64
-        ensures { result ≡ seconds_ahead self.entry moment }
+        ensures { result ≡ seconds_ahead self moment }
     {
         match self.now {
             Some(now) => moment.get().saturating_sub(now.get()),

@@ -87,8 +87,8 @@ fn plan_at<'w>(
     clock: Clocked,
 ) -> Result<Plan, PerformFault<'w>>
     ensures made { IfOk result (IsPlanOf registry (map hook_fact hooks.now) bytes.now) }
-    ensures clock { IfOk result (λ plan. clock_refused clock.entry plan.prepared.moment ≡ None) }
-    ensures refused { IfErr result (RefusesBytes path.now clock.entry registry (map hook_fact hooks.now)) }
+    ensures clock { IfOk result (λ plan. clock_refused clock plan.prepared.moment ≡ None) }
+    ensures refused { IfErr result (RefusesBytes path.now clock registry (map hook_fact hooks.now)) }
 {
     let plan = match plan_of(alloc, bytes, registry, hooks) {
         Ok(plan) => plan,
@@ -139,8 +139,8 @@ pub fn start_at<'r, 'w, R: Files<File = File> + AllocGlobal, E: Write>(
     err: &mut E,
 ) -> Result<Started<DiskFile<'r, R>, Chain>, PerformFault<'w>>
     ensures started { IfOk result (ComesOfState (keeping_of ⟦<StateKeeper<DiskFile<'r, R>> as Keeper>⟧) registry (map hook_fact_of codes.now)) }
-    ensures clock { IfOk result (λ started. clock_refused clock.entry started.moment ≡ None) }
-    ensures refused { IfErr result (RefusesState path.now clock.entry registry (map hook_fact_of codes.now)) }
+    ensures clock { IfOk result (λ started. clock_refused clock started.moment ≡ None) }
+    ensures refused { IfErr result (RefusesState path.now clock registry (map hook_fact_of codes.now)) }
 {
     let alloc = rt.alloc();
     let Opened { device, bytes } = open_at(rt, path)?;
