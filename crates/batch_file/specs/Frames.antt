@@ -54,7 +54,7 @@ AreFrames before (batch ∷ later) last bytes =
 
 -- a batch that is added has fewer bytes
 abbrev pub limit : ℕ
-limit = 2 ^ 20
+limit = 2 ^ 23
 
 -- Behind a closed latch stands a batch with its right digest, and more than the latch behind it: no append leaves that, so
 -- the latch was open once.

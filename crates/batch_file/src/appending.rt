@@ -15,7 +15,7 @@ use std::fmt::{self, Display, Formatter, Write};
 const MAX_END: usize = 1 << 60;
 
 /// An append of as many bytes or more is refused.
-const LIMIT: usize = 1 << 20;
+const LIMIT: usize = 1 << 23;
 
 /// Why a batch was not added to a file.
 #[derive(Clone, Copy, Debug, PartialEq, Eq)]
@@ -26,7 +26,7 @@ pub enum BatchFault {
     Failed(SystemFault),
     /// The file has no room: it has `2^60` bytes or more.
     Full,
-    /// The batch has `2^20` bytes or more.
+    /// The batch has `2^23` bytes or more.
     TooLong,
 }
 

@@ -24,7 +24,7 @@ const TITLE: [u8; 14] = *b"oauthd state v";
 pub const HEADER: [u8; 16] = *b"oauthd state v2\n";
 
 /// Behind a closed latch an append that was not finished leaves no more than this.
-const LONGEST_TORN: usize = (1 << 20) + 20;
+const LONGEST_TORN: usize = (1 << 23) + 20;
 
 /// Why a file is not read.
 #[derive(Clone, Copy, Debug, PartialEq, Eq)]
