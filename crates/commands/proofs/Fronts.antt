@@ -14,7 +14,7 @@ use Rattle.commands.specs.declared.fault.CommandFault.TheVariants.{BadArguments,
 pub no_front : (path bytes : List ℕ) (cause : ReadFault) (told : CommandFault) → (cause ≡ reading.Memory) ⊎ RefusesHeader bytes cause →
     IsOfState path (of_reading cause) told → HasNoFront path bytes told
 no_front path bytes cause (State named f) (inl is) of = absurd (of.2 (ap of_reading is))
-no_front path bytes cause (State named f) (inr refuses) of = (of.0, (cause, refuses, of.1))
+no_front path bytes cause (State named f) (inr refuses) of = (of.0, cause, refuses, of.1)
 no_front path bytes cause OutOfMemory refused of = tt
 no_front path bytes cause BadArguments refused of = absurd of
 no_front path bytes cause (HookCommand f) refused of = absurd of
