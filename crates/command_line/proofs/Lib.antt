@@ -6,3 +6,4 @@ mod Hooking
 mod Naming
 mod Planning
 mod Telling
+mod Upgrading

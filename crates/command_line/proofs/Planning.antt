@@ -1,26 +1,32 @@
 -- What a start makes of the bytes of a state file, by what the calls say.
-use Rattle.std.proofs.Common.{◌≡◌, ◌≤◌, ◌↔◌, ◌∙◌, inr, ℕ, List, [], Option, None, Some, subst}
+use Rattle.std.proofs.Common.{◌≡◌, ◌≤◌, ◌↔◌, ◌∙◌, inl, inr, ℕ, List, [], Option, None, Some, subst}
 use Rattle.std.specs.Prelude.{IsSome}
 use Rattle.batch_file.specs.Frames.{recovered, torn_of}
 use Rattle.clients.specs.RegistryRecord.{RegistryRecord}
 use Rattle.hook_chain.specs.contracts.chain.ChainHookHost.TheImpl as chain
 use Rattle.image_codec.specs.Facts.{HookFact}
 use Rattle.narrowing.specs.Left.{left_under}
-use Rattle.state_file.specs.Making.{Makes}
+use Rattle.state_file.specs.Making.{Makes, RefusesMaking}
+use Rattle.state_file.specs.declared.fault.StateFault.{StateFault}
+use Rattle.state_file.specs.declared.fault.StateFault.TheVariants as state
 use Rattle.state_file.specs.Standing.{until_of}
 use Rattle.state_file.specs.Telling.{rules_of}
 use Rattle.state_narrowing.specs.Narrowing.{HasLeftOfEach, IsNarrower}
 use Rattle.state_narrowing.specs.declared.narrowed.Narrowed.{Narrowed}
 use Rattle.commands.specs.RunLaws.{was_run}
-use Rattle.command_line.specs.Plans.{IsPlanOf, start_of}
+use Rattle.command_line.specs.Plans.{IsPlanOf, RefusesPlan, bytes_under, start_of}
 use Rattle.command_line.specs.declared.plan.Plan.{Plan}
+
+-- nothing is left out
+abbrev pub unnarrowed : Option Narrowed
+unnarrowed = None
 
 -- where they are not narrowed
 pub plan_whole : (rules : RegistryRecord) (hooks : List HookFact) (bytes : List ℕ) (plan : Plan) →
     Makes chain.ghosts (start_of rules hooks bytes) plan.prepared → plan.ended ≡ None → plan.torn.items ≡ plan.prepared.torn →
-    (IsSome {A = Narrowed} None ↔ IsNarrower bytes (rules_of rules)) → IsPlanOf rules hooks bytes plan
+    (IsSome unnarrowed ↔ IsNarrower bytes (rules_of rules)) → IsPlanOf rules hooks bytes plan
 plan_whole rules hooks bytes plan makes none torn exact = record {
-  narrowed = None;
+  narrowed = unnarrowed;
   ended = none;
   narrower = exact;
   left = tt;
@@ -50,3 +56,11 @@ plan_narrowed rules hooks bytes plan narrowed makes ended torn exact left same =
   later = subst (λ (until : ℕ). until ≤ plan.prepared.moment) same makes.later;
   torn_is = torn;
 }
+
+-- why there is no plan
+pub no_memory : (rules : RegistryRecord) (hooks : List HookFact) (bytes : List ℕ) (fault : StateFault) → fault ≡ state.Memory → RefusesPlan rules hooks bytes fault
+no_memory rules hooks bytes fault is = inl is
+
+pub not_made : (rules : RegistryRecord) (hooks : List HookFact) (bytes : List ℕ) (narrowed : Option Narrowed) (fault : StateFault) →
+    RefusesMaking chain.ghosts (start_of rules hooks (bytes_under bytes narrowed)) fault → RefusesPlan rules hooks bytes fault
+not_made rules hooks bytes narrowed fault refuses = inr (inr (narrowed, refuses))

@@ -33,7 +33,7 @@ told_as P path cause CannotWrite is of memory = absurd is
 pub refused_bytes : (path : List ℕ) (clock : Clocked) (rules : RegistryRecord) (hooks : List HookFact) (bytes : List ℕ) (cause : StateFault) (told : CommandFault) →
     IsOfState path cause told → RefusesPlan rules hooks bytes cause → RefusesBytes path clock rules hooks (Command told)
 refused_bytes path clock rules hooks bytes cause told is refuses =
-    told_as (λ told. RefusesBytes path clock rules hooks (Command told)) path cause told is (λ named same. (same, (bytes, refuses))) tt
+    told_as (λ told. RefusesBytes path clock rules hooks (Command told)) path cause told is (λ named same. (same, bytes, refuses)) tt
 
 pub unsettled : (path : List ℕ) (cause : StateFault) (told : CommandFault) → IsOfState path cause told → IsOfDisk cause → IsUnsettled path (Command told)
 unsettled path cause told is of_disk = told_as (λ told. IsUnsettled path (Command told)) path cause told is (λ named same. (same, of_disk)) tt
@@ -41,8 +41,8 @@ unsettled path cause told is of_disk = told_as (λ told. IsUnsettled path (Comma
 pub no_upgrade : (path new_path old : List ℕ) (cause : StateFault) (told : CommandFault) → IsOfState path cause told → RefusesUpgrade old cause →
     FailsUpgrade path new_path (Command told)
 no_upgrade path new_path old cause told is refuses =
-    told_as (λ told. FailsUpgrade path new_path (Command told)) path cause told is (λ named same. (same, (old, refuses))) tt
+    told_as (λ told. FailsUpgrade path new_path (Command told)) path cause told is (λ named same. (same, old, refuses)) tt
 
 pub no_trial : (rules : RegistryRecord) (path bytes : List ℕ) (cause : StateFault) (told : CommandFault) → IsOfState path cause told → RefusesPlan rules [] bytes cause →
     RefusesTrial rules path told
-no_trial rules path bytes cause told is refuses = told_as (λ told. RefusesTrial rules path told) path cause told is (λ named same. (same, (bytes, refuses))) tt
+no_trial rules path bytes cause told is refuses = told_as (λ told. RefusesTrial rules path told) path cause told is (λ named same. (same, bytes, refuses)) tt

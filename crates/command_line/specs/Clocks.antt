@@ -20,10 +20,7 @@ refused_by far now moment = None
 abbrev pub clock_refused : Clocked → ℕ → Option ℕ
 clock_refused clocked moment = refused_by clocked.far clocked.now moment
 
-abbrev pub ahead_of : Option ℕ → ℕ → ℕ
-ahead_of (Some now) moment = moment - now
-ahead_of None moment = 0
-
--- how many seconds a state's moment is ahead of the clock, where that is known
-abbrev pub seconds_ahead : Clocked → ℕ → ℕ
-seconds_ahead clocked moment = ahead_of clocked.now moment
+-- how many seconds a state's moment is ahead of what a clock told, where it told something
+abbrev pub seconds_ahead : Option ℕ → ℕ → ℕ
+seconds_ahead (Some now) moment = moment - now
+seconds_ahead None moment = 0

@@ -40,14 +40,14 @@ impl Clocked {
             _ => None,
         }
     }
+}
 
-    /// How many seconds a state's moment is ahead of the clock: 0 where it is not, or where the clock tells nothing.
-    pub fn seconds_ahead(self, moment: Moment) -> u64
-        ensures { result ≡ seconds_ahead self moment }
-    {
-        match self.now {
-            Some(now) => moment.get().saturating_sub(now.get()),
-            None => 0,
-        }
+/// How many seconds a state's moment is ahead of what a clock told: 0 where it is not, or where that told nothing.
+pub fn seconds_ahead(now: Option<Moment>, moment: Moment) -> u64
+    ensures { result ≡ seconds_ahead now moment }
+{
+    match now {
+        Some(now) => moment.get().saturating_sub(now.get()),
+        None => 0,
     }
 }

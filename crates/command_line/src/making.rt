@@ -80,7 +80,8 @@ pub fn make_new<'w, R: Files<File = File> + AllocGlobal>(
     ensures refused { IfErr result (FailsMaking path.now) }
 {
     let frames = Frames::new(rt.alloc())?;
-    write_new(rt, path, frames.into_bytes())
+    let written = write_new(rt, path, frames.into_bytes())?;
+    Ok(written)
 }
 
 /// Makes a state file of what one of the first kind stands for, which stays as it is. No server may have it meanwhile. It gives

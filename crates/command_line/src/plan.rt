@@ -3,6 +3,7 @@
 ghost use Rattle.std.specs.Prelude.{◌≡◌, IfOk, IfErr, map};
 ghost use Rattle.image_codec.specs.Facts.{hook_fact};
 ghost use Rattle.batch_file.specs.Frames.{torn_of};
+ghost use Rattle.state_file.specs.declared.fault.StateFault.TheVariants.{Memory};
 ghost use Rattle.command_line.specs.Plans.{IsPlanOf, RefusesPlan};
 
 use batch_file::framing::read_batches;
@@ -24,12 +25,15 @@ pub struct Plan {
     pub torn: Vec<u8>,
 }
 
-/// What an unfinished write left in a state file.
+/// What an unfinished write left in a state file, which was read before.
 fn torn_in(alloc: Global, bytes: &[u8]) -> Result<Vec<u8>, StateFault>
-    ensures { IfOk result (λ torn. torn.items ≡ torn_of bytes.now) }
+    ensures torn { IfOk result (λ torn. torn.items ≡ torn_of bytes.now) }
+    ensures memory { IfErr result (λ fault. fault ≡ Memory) }
 {
-    let read = read_batches(alloc, bytes)?;
-    Ok(read.torn)
+    match read_batches(alloc, bytes) {
+        Ok(read) => Ok(read.torn),
+        Err(_) => Err(StateFault::Memory),
+    }
 }
 
 /// What a start makes of the bytes of a state file, with hooks. Where the registry is narrower than the rules that they tell,
@@ -45,17 +49,18 @@ pub fn plan_of(
 {
     let Some(narrowed) = narrow(alloc, bytes, &registry, Chain::new(alloc))? else {
         let prepared = prepare(alloc, bytes, registry, Chain::new(alloc), hooks)?;
-        let torn = prepared.torn().to_vec(alloc)?;
+        let torn = Vec::from_slice(alloc, prepared.torn())?;
         return Ok(Plan {
             prepared,
             ended: None,
             torn,
         });
     };
+    let torn = torn_in(alloc, bytes)?;
     let prepared = prepare(alloc, &narrowed.bytes, registry, Chain::new(alloc), hooks)?;
     Ok(Plan {
         prepared,
         ended: Some(narrowed.ended),
-        torn: torn_in(alloc, bytes)?,
+        torn,
     })
 }

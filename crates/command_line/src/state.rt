@@ -10,7 +10,7 @@ ghost use Rattle.command_line.specs.Printed.{ahead_text, ended_text, torn_text};
 ghost use Rattle.command_line.specs.Plans.{IsPlanOf};
 ghost use Rattle.command_line.specs.Startings.{ComesOfState, IsUnsettled, RefusesBytes, RefusesState, keeping_of};
 
-use crate::clock::Clocked;
+use crate::clock::{Clocked, seconds_ahead};
 use crate::fault::PerformFault;
 use crate::hook_files::{HookCode, kept_hooks};
 use crate::opening::open_at;
@@ -145,6 +145,7 @@ pub fn start_at<'r, 'w, R: Files<File = File> + AllocGlobal, E: Write>(
     let alloc = rt.alloc();
     let Opened { device, bytes } = open_at(rt, path)?;
     let hooks = kept_hooks(alloc, codes)?;
+    let now = clock.now;
     let Plan {
         prepared,
         ended,
@@ -154,7 +155,7 @@ pub fn start_at<'r, 'w, R: Files<File = File> + AllocGlobal, E: Write>(
     match prepared.settle(device) {
         Ok(started) => {
             let _told = tell_ended(ended, err);
-            let _told = tell_ahead(clock.seconds_ahead(started.moment), err);
+            let _told = tell_ahead(seconds_ahead(now, started.moment), err);
             Ok(started)
         }
         Err(NotStarted {
