@@ -36,6 +36,8 @@ oauthd registry FILE --state STATE
     oauthd registry registry.json --state /var/lib/oauthd/state
 oauthd state FILE          lists what the file of a server's state stands for, a line of JSON each
     oauthd state /var/lib/oauthd/state
+oauthd state --front FILE  the same of a damaged one, up to the damage
+    oauthd state --front damaged-state
 oauthd state --new FILE    makes an empty file for a server's state
     oauthd state --new /var/lib/oauthd/state
 oauthd state --upgrade FILE NEW

@@ -32,8 +32,9 @@ State Version N: FILE: the file is of another version than this oauthd's, which 
     Topic {
         name: "Damaged",
         text: "\
-State Damaged N: FILE: the first N batches of the file are right, and what stands behind them is not what a server wrote, nor what a crash leaves: a disk fails, or something else wrote to the file. Nothing was written. Keep the file, and look at the disk. Then put the last copy of the state in its place; what happened after that copy is lost.
+State Damaged N: FILE: the first N batches of the file are right, and what stands behind them is not what a server wrote, nor what a crash leaves: a disk fails, or something else wrote to the file. Nothing was written. Keep the file, and look at the disk. Then put the last copy of the state in its place; what happened after that copy is lost. state --front lists what the first N batches stand for.
 
+  oauthd state --front damaged-state
   cp -p /backup/state /var/lib/oauthd/state
 ",
     },
