@@ -1,6 +1,7 @@
 use Rattle.std.proofs.Common.{◌≡◌, [], Err, IsSome, None, Some, inl, inr, map, refl, rules, subst}
 use Rattle.command_line.specs.Hooks.{AreFactsOf, hook_fact_of, in_file, TakesHooks}
 use Rattle.command_line.specs.Listening.{files_in}
+use Rattle.commands.specs.Outputs.{output, outputs}
 use Rattle.command_line.proofs.Beginning.{anew, comes_of, on_state, refused_of}
 use Rattle.command_line.proofs.Serving.{not_heard, not_served, served}
 use Rattle.command_line.proofs.performing.serve_as.Goals.{in-Ok, in-Err}
@@ -13,7 +14,8 @@ returns-in-Serve-clause-done g c =
 
 pub returns-in-Serve-clause-fault : goal.returns-in-Serve-clause-fault
 returns-in-Serve-clause-fault g c =
-    not_served c.serve_count.result _ c.args.service.now (files_in c.args.files) _ c.in_ok-registry.registry c.in-Serve.given c.in_ok-registry.ensures.found c.in-Serve.is refl
+    not_served c.serve_count.result _ c.args.service.now (files_in c.args.files)
+    (outputs (output g.W.Write.contents c.args.out.now c.serve_count.new.out) (output g.E.Write.contents c.args.err.now c.args.err.now)) c.in_ok-registry.registry c.in-Serve.given c.in_ok-registry.ensures.found c.in-Serve.is refl
     c.serve_count.ensures.refused
 
 pub returns-in_default-clause-fault : goal.returns-in_default-clause-fault
@@ -33,7 +35,8 @@ returns-in_default-clause-fault g c =
             started = anew _ _ _ _ none (rw (c.silence.ensures, c.full.ensures, c.report.ensures) at w.in-Ok.ensures.serves);
             fault_is = refl;
           }))
-      | in-Err w ↦ rw w.result-is (not_heard _ c.args.service.now (files_in c.args.files) w.deaf.result _ c.in_ok-registry.registry c.in-Start.given.address.now w.in-Err.fault
+      | in-Err w ↦ rw w.result-is (not_heard _ c.args.service.now (files_in c.args.files) w.deaf.result
+          (outputs (output g.W.Write.contents c.args.out.now c.start.new.out) (output g.E.Write.contents c.args.err.now c.start.new.err)) c.in_ok-registry.registry c.in-Start.given.address.now w.in-Err.fault
           held (rw c.in-Start.is) (inl w.in-Err.ensures.quiet) w.deaf.ensures)
     ]
 
@@ -89,5 +92,6 @@ returns-in-Ok-go_on-clause-fault g c =
 pub returns-clause-fault : goal.returns-clause-fault
 returns-clause-fault g c =
     let some : IsSome c.in-Start.given.options.state = search rules in
-    not_heard _ c.args.service.now (files_in c.args.files) c.deaf-in-Err-go_on.result _ c.in_ok-registry.registry c.in-Start.given.address.now c.in-Err-go_on.fault
+    not_heard _ c.args.service.now (files_in c.args.files) c.deaf-in-Err-go_on.result
+    (outputs (output g.W.Write.contents c.args.out.now c.go_on.new.out) (output g.E.Write.contents c.args.err.now c.go_on.new.err)) c.in_ok-registry.registry c.in-Start.given.address.now c.in-Err-go_on.fault
     c.in_ok-registry.ensures.found (rw c.in-Start.is) (inr (record { given = c.in-Start.given; service_is = c.in-Start.is; named = some })) c.deaf-in-Err-go_on.ensures
