@@ -5,5 +5,6 @@ mod Failing
 mod Hooking
 mod Naming
 mod Planning
+mod Serving
 mod Telling
 mod Upgrading

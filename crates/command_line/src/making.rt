@@ -1,6 +1,6 @@
 //! State files that are made: one of no batch, and one of what a file of the first kind stands for.
 
-ghost use Rattle.std.specs.Prelude.{◌≡◌, [], IfOk, IfErr};
+ghost use Rattle.std.specs.Prelude.{◌≡◌, ◌≢◌, [], true, false, IfOk, IfErr};
 ghost use Rattle.batch_file.specs.Frames.{IsReadable, lists, recovered};
 ghost use Rattle.command_line.specs.Makings.{FailsMaking, FailsUpgrade, IsUpgrade, IsUpgradeOf, RefusesUpgrade};
 
@@ -36,6 +36,17 @@ fn frames_of(alloc: Global, batches: &[Vec<u8>]) -> Result<Frames, AddFault>
     Ok(frames)
 }
 
+/// Whether there is no batch.
+fn has_none(batches: &[Vec<u8>]) -> bool
+    ensures none { result ≡ true → lists batches.now ≡ [] }
+    ensures some { result ≡ false → lists batches.now ≢ [] }
+{
+    match batches {
+        [] => true,
+        _ => false,
+    }
+}
+
 /// What is made of a file of the first kind, which has a batch.
 fn upgrade_of(alloc: Global, bytes: &[u8]) -> Result<Upgraded, StateFault>
     ensures made { IfOk result (IsUpgradeOf bytes.now) }
@@ -47,7 +58,7 @@ fn upgrade_of(alloc: Global, bytes: &[u8]) -> Result<Upgraded, StateFault>
         Ok(_) => return Err(StateFault::Version(2)),
     }
     let Batches1 { batches, torn } = read_version_1(alloc, bytes)?;
-    if batches.is_empty() {
+    if has_none(&batches) {
         return Err(StateFault::NotState);
     }
     let bytes = frames_of(alloc, &batches)?.into_bytes();
