@@ -368,7 +368,7 @@ fn token_in(reply: &[u8]) -> &str {
 
 /// What came of a command: its status, and what it wrote and told.
 #[derive(Drop)]
-struct Done {
+struct Outcome {
     status: u8,
     out: Page,
     err: Page,
@@ -378,11 +378,11 @@ struct Done {
 fn done<R: Files<File = File> + Net + Clock + RandomSource + AllocGlobal>(
     rt: &R,
     texts: &[&str],
-) -> Result<Done, Fail> {
+) -> Result<Outcome, Fail> {
     let words = words_of(rt.alloc(), texts)?;
     let (mut out, mut err) = (Page::new(rt.alloc()), Page::new(rt.alloc()));
     let status = perform(rt, &words, &mut out, &mut err).code();
-    Ok(Done { status, out, err })
+    Ok(Outcome { status, out, err })
 }
 
 /// The path of a state file that was just made.
@@ -495,7 +495,7 @@ fn what_an_unfinished_write_left_is_put_aside(rt: HostRuntime) -> Result<(), Fai
     assert_eq!(rt; begun.status, 2);
     assert_eq!(rt; begun.err.text(), told.as_str());
     let torn = format!(in alloc; "{path}.torn")?;
-    assert!(rt; fs::read(&rt, &torn)?.as_slice() == b"abc");
+    assert!(rt; fs::read(&rt, &torn)?.as_slice() == b"abc".as_slice());
     let listed = done(&rt, &["state", &path])?;
     assert!(rt; listed.out.text().contains("\"batches\":1,\"torn\":0,"));
     fs::remove_file(&rt, &torn)?;

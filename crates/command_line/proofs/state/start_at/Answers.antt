@@ -14,4 +14,4 @@ returns-in-Ok-clause-started g c =
 
 pub returns-clause-refused : goal.returns-clause-refused
 returns-clause-refused g c =
-    inr (inr (rw c.from.ensures (unsettled c.args.path.now c.in-Err.fault c.of_state.result c.of_state.ensures (rw c.in-Err.fault-is c.in-Err.ensures.refused))))
+    inr (inr (rw c.from.ensures (unsettled c.args.path.now c.in-Err.field-0.fault c.of_state.result c.of_state.ensures c.in-Err.ensures.refused)))
