@@ -47,7 +47,7 @@ pub comes_of_plan : {R : Type 0} (rules : RegistryRecord) (hooks : List HookFact
     started.server ≡ plan.prepared.server → started.moment ≡ plan.prepared.moment →
     recovered (content started.keeper.device.log.calls) ≡ plan.prepared.batches → Only (content started.keeper.device.log.calls) (MayLeave started.keeper.device.log.calls) →
     LeavesOnly (λ (d : DiskFile R). length d.log.calls) (λ (d : DiskFile R). LeftSince d.log.calls) opened.device started.keeper.device
-      (λ left. MayLeave opened.device.log.calls left ⊎ (recovered left ≡ plan.prepared.batches)) →
+    (λ left. MayLeave opened.device.log.calls left ⊎ (recovered left ≡ plan.prepared.batches)) →
     ComesOfState disk_crashes rules hooks started
 comes_of_plan rules hooks opened plan started bytes_are is server moment seen only leaves = record {
   opened = opened;

@@ -75,7 +75,10 @@ impl<'w> Display for PerformFault<'w> {
             }
             PerformFault::Unmade(path, fault) => write!(f, "State {fault}: {path}"),
             PerformFault::ClockAhead(path, seconds) => {
-                write!(f, "State ClockAhead {seconds}: {path}; --accept-clock takes it")
+                write!(
+                    f,
+                    "State ClockAhead {seconds}: {path}; --accept-clock takes it"
+                )
             }
             PerformFault::CannotListen(address, reason) => {
                 write!(f, "cannot listen on {address}: {reason}")

@@ -10,8 +10,8 @@ ghost use Rattle.command_line.specs.Startings.{startings};
 
 use crate::call::Call;
 use crate::call_files::{CallFiles, read_files};
-use crate::fault::PerformFault;
 use crate::clock::Clocked;
+use crate::fault::PerformFault;
 use crate::hook_files::{HooksTaken, take_hooks};
 use crate::service::{ServeWords, Service};
 use crate::state::start_at;
@@ -21,9 +21,7 @@ use batch_file::disk_file::DiskFile;
 use change_codec::Keeper;
 use clients::Registry;
 use commands::{CommandFault, Status, moment_now, perform_command, registry_of, write_text};
-use daemon::{
-    Ended, LineJournal, ListenFault, MachineClocks, Patience, go_on, serve, start,
-};
+use daemon::{Ended, LineJournal, ListenFault, MachineClocks, Patience, go_on, serve, start};
 use endpoints::ImageKeeper;
 use event_loop::{Clocks, Journal, LoopFault};
 use state_file::{Started, StateKeeper};

@@ -158,9 +158,11 @@ pub fn start_at<'r, 'w, R: Files<File = File> + AllocGlobal, E: Write>(
             let _told = tell_ahead(seconds_ahead(now, started.moment), err);
             Ok(started)
         }
-        Err(NotStarted {
-            fault,
-            device: _device,
-        }) => Err(PerformFault::from(CommandFault::of_state(path, fault))),
+        Err(
+            NotStarted {
+                fault,
+                device: _device,
+            },
+        ) => Err(PerformFault::from(CommandFault::of_state(path, fault))),
     }
 }

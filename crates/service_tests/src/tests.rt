@@ -446,10 +446,12 @@ fn a_state_file_is_made_where_nothing_is(rt: HostRuntime) -> Result<(), Fail> {
 }
 
 /// A file of the first kind: the rules of a registry, and behind them three bytes of a write that was not finished.
-const OLD_STATE: &str = "01000000350000000002000000047265616400000005777269746500000001000000010000000361707000000000000000030000012c0001518000616263";
+const OLD_STATE: &str =
+    "01000000350000000002000000047265616400000005777269746500000001000000010000000361707000000000000000030000012c0001518000616263";
 
 /// What is made of it.
-const NEW_STATE: &str = "6f61757468642073746174652076320aff00000035530b0f22d387cd5daacf4b7e1fee85c90000000002000000047265616400000005777269746500000001000000010000000361707000000000000000030000012c0001518000";
+const NEW_STATE: &str =
+    "6f61757468642073746174652076320aff00000035530b0f22d387cd5daacf4b7e1fee85c90000000002000000047265616400000005777269746500000001000000010000000361707000000000000000030000012c0001518000";
 
 /// The path of a file of these bytes.
 fn path_of<R: Files<File = File> + RandomSource + AllocGlobal>(
@@ -472,7 +474,10 @@ fn an_old_state_file_is_brought_over(rt: HostRuntime) -> Result<(), Fail> {
     let made = done(&rt, &["state", "--upgrade", &old, &new])?;
     assert_eq!(rt; made.status, 0);
     assert_eq!(rt; made.out.text(), "");
-    assert_eq!(rt; made.err.text(), "oauthd: state: 3 bytes of an unfinished write are left out\n");
+    assert_eq!(rt;
+        made.err.text(),
+        "oauthd: state: 3 bytes of an unfinished write are left out\n"
+    );
     assert!(rt; fs::read(&rt, &old)?.as_slice() == old_bytes.as_slice());
     let new_hex = hex::encode(alloc, fs::read(&rt, &new)?)?;
     assert_eq!(rt; new_hex.as_str(), NEW_STATE);
@@ -526,7 +531,8 @@ fn a_refused_start_writes_nothing(rt: HostRuntime) -> Result<(), Fail> {
 }
 
 /// A file whose first batch tells no rules, and three bytes of a write that was not finished.
-const REFUSED_STATE: &str = "6f61757468642073746174652076320aff00000087a75765d29143fb3954923626136846db010000000300000000000003e8010000000100000001000000000000000100000000000003e8030000000100abababababababababababababababababababababababababababababababab00000000000000030000012c00000000000003e807000000066c6973746564000000000000000100000010b700000001000000950000000000000000616263";
+const REFUSED_STATE: &str =
+    "6f61757468642073746174652076320aff00000087a75765d29143fb3954923626136846db010000000300000000000003e8010000000100000001000000000000000100000000000003e8030000000100abababababababababababababababababababababababababababababababab00000000000000030000012c00000000000003e807000000066c6973746564000000000000000100000010b700000001000000950000000000000000616263";
 
 /// A hook that allows every grant.
 const ALLOW: &str = "b7000000010000009500000000000000";

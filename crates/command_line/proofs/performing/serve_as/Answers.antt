@@ -24,17 +24,17 @@ returns-in_default-clause-fault g c =
     let none : c.in-Start.given.options.state ≡ None = search rules in
     elim c.match-start.branch [
       | in-Ok w ↦ rw w.result-is (inr (record {
-            listened = record { registry = c.in_ok-registry.registry; held = held; announced = w.in-Ok.ensures.done };
-            given = c.in-Start.given;
-            service_is = c.in-Start.is;
-            hooks = c.in_ok-chain.field-0.chain;
-            taken = subst (λ hooks. TakesHooks [] (map in_file hooks) c.in_ok-chain.field-0.chain) c.deref.ensures.value c.in_ok-chain.ensures.taken;
-            codes = map hook_fact_of c.in_ok-chain.field-0.codes.items;
-            coded = subst (λ hooks. AreFactsOf (map in_file hooks) (map hook_fact_of c.in_ok-chain.field-0.codes.items)) c.deref.ensures.value c.in_ok-chain.ensures.coded;
-            cause = w.in-Ok.fault;
-            started = anew _ _ _ _ none (rw (c.silence.ensures, c.full.ensures, c.report.ensures) at w.in-Ok.ensures.serves);
-            fault_is = refl;
-          }))
+        listened = record { registry = c.in_ok-registry.registry; held = held; announced = w.in-Ok.ensures.done };
+        given = c.in-Start.given;
+        service_is = c.in-Start.is;
+        hooks = c.in_ok-chain.field-0.chain;
+        taken = subst (λ hooks. TakesHooks [] (map in_file hooks) c.in_ok-chain.field-0.chain) c.deref.ensures.value c.in_ok-chain.ensures.taken;
+        codes = map hook_fact_of c.in_ok-chain.field-0.codes.items;
+        coded = subst (λ hooks. AreFactsOf (map in_file hooks) (map hook_fact_of c.in_ok-chain.field-0.codes.items)) c.deref.ensures.value c.in_ok-chain.ensures.coded;
+        cause = w.in-Ok.fault;
+        started = anew _ _ _ _ none (rw (c.silence.ensures, c.full.ensures, c.report.ensures) at w.in-Ok.ensures.serves);
+        fault_is = refl;
+      }))
       | in-Err w ↦ rw w.result-is (not_heard _ c.args.service.now (files_in c.args.files) w.deaf.result
           (outputs (output g.W.Write.contents c.args.out.now c.start.new.out) (output g.E.Write.contents c.args.err.now c.start.new.err)) c.in_ok-registry.registry c.in-Start.given.address.now w.in-Err.fault
           held (rw c.in-Start.is) (inl w.in-Err.ensures.quiet) w.deaf.ensures)

@@ -23,7 +23,7 @@ returns-in_err-prepared-2-clause-refused c =
     let cause = c.in_err-prepared-2.field-0.0 in
     let is : c.from_residual-in_err-prepared-2.result ≡ Err cause = search rules in
     rw is (not_made c.args.registry (map hook_fact c.args.hooks.now) c.args.bytes.now (Some c.in-Some.narrowed) cause
-        (rw (c.deref.ensures.value, c.new-2.ensures) at c.in_err-prepared-2.ensures.refused))
+    (rw (c.deref.ensures.value, c.new-2.ensures) at c.in_err-prepared-2.ensures.refused))
 
 pub returns-clause-made : goal.returns-clause-made
 returns-clause-made c =

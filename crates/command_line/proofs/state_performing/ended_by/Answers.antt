@@ -15,5 +15,8 @@ returns-in-Ok-clause-done g c = record {
 
 pub returns-clause-refused : goal.returns-clause-refused
 returns-clause-refused g c =
-    rw c.from.ensures (inr (c.in_ok-registry.registry, c.in_ok-registry.ensures.found,
-        no_trial c.in_ok-registry.registry c.args.path.now c.deref.result.now c.in-Err.fault c.of_state.result c.of_state.ensures c.in-Err.ensures.refused))
+    rw c.from.ensures (inr (
+      c.in_ok-registry.registry,
+      c.in_ok-registry.ensures.found,
+      no_trial c.in_ok-registry.registry c.args.path.now c.deref.result.now c.in-Err.fault c.of_state.result c.of_state.ensures c.in-Err.ensures.refused,
+    ))
