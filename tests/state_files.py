@@ -97,7 +97,7 @@ def tries_a_damaged_front(trials, content):
     """`state --front` lists what the batches before the damage stand for, as `state` does of a file that has no others."""
     batches, begins = batches_of(content), places(content)
     for number in (0, 1, 20, len(batches) - 1):
-        at = begins[number] + 30
+        at = begins[number] + 8
         damaged = trials.file_of(content[:at] + bytes([content[at] ^ 1]) + content[at + 1:], f"{trials.room}/damaged")
         told = trials.run("state", "--front", damaged)
         whole = trials.run("state", trials.file_of(file_of(batches[:number])))
