@@ -672,9 +672,8 @@ awk '/^## / { here = /^## From an empty folder/ }
     here && fence != ""' "$root/docs/HOOKS.md" | sed 's/^``````/```/' >way
 port=18080
 while takes_connections $port; do port=$((port + 1)); done
-oauthd=$program
 at=127.0.0.1:$port
-mkdir empty && cd empty || exit 2
+mkdir bin empty && ln -s "$program" bin/oauthd && PATH=$PWD/bin:$PATH && cd empty || exit 2
 command=
 : >../wanted
 

@@ -147,6 +147,12 @@ check refused-hook 503 "$(status -u "$bot" -d grant_type=client_credentials $aut
 awaits 40 systemctl is-failed -q oauthd
 check refused-hook-is-named '[1-9]*' "$(said 'the hook of /etc/oauthd/hooks/10.faulty.bin is refused')"
 rm /etc/oauthd/hooks/10.faulty.bin
+install_hook "$deny" 10.denied.hex
+systemctl reset-failed oauthd
+systemctl restart oauthd 2>/dev/null
+awaits 40 systemctl is-failed -q oauthd
+check file-that-is-no-bin '[1-9]* 503' "$(said 'hooks/10.denied.hex is refused') $(status -u "$bot" -d grant_type=client_credentials $auth/token)"
+rm /etc/oauthd/hooks/10.denied.hex
 check too-many-starts 1 "$(systemctl start oauthd 2>/dev/null; echo $?)"
 systemctl reset-failed oauthd
 systemctl start oauthd
@@ -221,5 +227,5 @@ print("\n".join([registry["operator"], *registry["owners"], *(client["secret"] f
 PY
 cut -d ' ' -f 2 /root/oauthd-passwords)
 check secrets-in-logs 0 "$( (journalctl --no-pager; cat /var/log/nginx/*) | grep -cF "$secrets")"
-[ "$tried" = 61 ] || differs 'wanted 61 checks'
+[ "$tried" = 62 ] || differs 'wanted 62 checks'
 end_with checks

@@ -5,19 +5,19 @@ use Rattle.std.proofs.lemmas.Bool.{cases_eq}
 use Rattle.batch_file.specs.Crashes.{ComesOfStep, Elapses, IsWrittenAt, LeavesOnly, Swapped, Torn}
 use Rattle.batch_file.specs.Frames.{header, body, digest, sealed, limit, recovered, IsTorn, IsFileOf, IsReadable, IsAtRest, IsWhole, IsAsBefore, IsBeforeOrAfter, IsOldOrNew, IsReadableOrChance}
 use Rattle.batch_file.specs.FramesLaws.{length-seal, length-sealed, file_is, framed_is, readable_is, hides_or_not, two_sealed}
-use Rattle.batch_file.proofs.Moments.{started, goes_on}
+use Rattle.batch_file.proofs.Moments.{started, goes_on, then, weaker}
 use Rattle.batch_file.proofs.Tearing.{torn_behind, length-torn, written_behind, torn_latch, written_latch}
 use Rattle.batch_file.proofs.Wholes.{front_of, front_is, length-front, one_more, head_is}
 
 -- it is a file of these batches, or of those
-abbrev pub Either : List (List ℕ) → List (List ℕ) → List ℕ → Type 0
+abbrev Either : List (List ℕ) → List (List ℕ) → List ℕ → Type 0
 Either old new c = IsFileOf old c ⊎ IsFileOf new c
 
-pub stands_for : (old new : List (List ℕ)) (c : List ℕ) → Either old new c → IsOldOrNew old new c
+stands_for : (old new : List (List ℕ)) (c : List ℕ) → Either old new c → IsOldOrNew old new c
 stands_for old new c (inl a) = inl (file_is old c a)
 stands_for old new c (inr b) = inr (file_is new c b)
 
-pub is_readable : (old new : List (List ℕ)) (c : List ℕ) → Either old new c → IsReadable c
+is_readable : (old new : List (List ℕ)) (c : List ℕ) → Either old new c → IsReadable c
 is_readable old new c (inl a) = readable_is old c a
 is_readable old new c (inr b) = readable_is new c b
 
@@ -50,10 +50,10 @@ module _ (end : ℕ) (last file batch head : List ℕ) (r : IsAtRest end last fi
   short : (c : List ℕ) → Torn (end + 1) (length head + length batch + 1) file c → length (drop (end + 1) c) ≤ 21 + length batch
   short c torn = omega (arith, length-torn (front_of r) end (length-front end last file r) _ c (torn_at c torn), length-head)
 
-  pub staged_stands : (c : List ℕ) → Torn (end + 1) (length head + length batch + 1) file c → IsBeforeOrAfter (recovered file) batch c
+  staged_stands : (c : List ℕ) → Torn (end + 1) (length head + length batch + 1) file c → IsBeforeOrAfter (recovered file) batch c
   staged_stands c torn = inl (framed_is (recovered file) last r.frames (drop (end + 1) c) c r.are (spelled (drop (end + 1) c) c (behind c torn)))
 
-  pub staged_readable : (c : List ℕ) → Torn (end + 1) (length head + length batch + 1) file c → IsReadableOrChance file last batch c
+  staged_readable : (c : List ℕ) → Torn (end + 1) (length head + length batch + 1) file c → IsReadableOrChance file last batch c
   staged_readable c torn =
       let rest = drop (end + 1) c in
       let brief = short c torn in
@@ -100,11 +100,22 @@ module _ (end : ℕ) (last file batch head : List ℕ) (r : IsAtRest end last fi
             inr (subst (λ (bs : List (List ℕ)). IsFileOf bs c) more.1 (at_rest_file (end + (21 + length batch)) (digest last batch) c more.0))
       ]
 
-  pub opens_stands : (staged c : List ℕ) → IsWrittenAt file (end + 1) (head ++ batch ++ 0 ∷ []) staged → Torn end 1 staged c → IsBeforeOrAfter (recovered file) batch c
+  opens_stands : (staged c : List ℕ) → IsWrittenAt file (end + 1) (head ++ batch ++ 0 ∷ []) staged → Torn end 1 staged c → IsBeforeOrAfter (recovered file) batch c
   opens_stands staged c holds torn = stands_for (recovered file) (recovered file ++ batch ∷ []) c (opens staged c holds torn)
 
-  pub opens_readable : (staged c : List ℕ) → IsWrittenAt file (end + 1) (head ++ batch ++ 0 ∷ []) staged → Torn end 1 staged c → IsReadableOrChance file last batch c
+  opens_readable : (staged c : List ℕ) → IsWrittenAt file (end + 1) (head ++ batch ++ 0 ∷ []) staged → Torn end 1 staged c → IsReadableOrChance file last batch c
   opens_readable staged c holds torn = inl (is_readable (recovered file) (recovered file ++ batch ∷ []) c (opens staged c holds torn))
+
+  -- so much for a crash while it is being written, or its latch opened
+  abbrev Leaves : {D : Type 0} (moment : D → ℕ) (left_since : D → ℕ → List ℕ → Type 0) (old new : D) → Type 0
+  Leaves moment left_since old new = LeavesOnly moment left_since old new (IsBeforeOrAfter (recovered file) batch) × LeavesOnly moment left_since old new (IsReadableOrChance file last batch)
+
+  pub staging : {D : Type 0} {moment : D → ℕ} {left_since : D → ℕ → List ℕ → Type 0} {old mid : D} → LeavesOnly moment left_since old mid (Torn (end + 1) (length head + length batch + 1) file) → Leaves moment left_since old mid
+  staging first = (weaker first staged_stands, weaker first staged_readable)
+
+  pub opening : {D : Type 0} {moment : D → ℕ} {left_since : D → ℕ → List ℕ → Type 0} {old mid new : D} (staged : List ℕ) → LeavesOnly moment left_since old mid (Torn (end + 1) (length head + length batch + 1) file)
+      → IsWrittenAt file (end + 1) (head ++ batch ++ 0 ∷ []) staged → LeavesOnly moment left_since mid new (Torn end 1 staged) → Leaves moment left_since old new
+  opening staged first holds second = (then first second staged_stands (λ c. opens_stands staged c holds), then first second staged_readable (λ c. opens_readable staged c holds))
 
   -- and is open
   pub opened : (staged c : List ℕ) → IsWrittenAt file (end + 1) (head ++ batch ++ 0 ∷ []) staged → IsWrittenAt staged end (255 ∷ []) c → IsAtRest (end + (21 + length batch)) (digest last batch) c × (recovered c ≡ recovered file ++ batch ∷ [])
@@ -123,7 +134,7 @@ module _ {D : Type 0} (moment : D → ℕ) (left_since : D → ℕ → List ℕ 
       → Elapses (moment old) (moment new) (left_since old) (left_since new) (may_leave new) → LeavesOnly moment left_since old new (IsAsBefore (may_leave old) batches)
   placing old new only_now crash time =
       let P = IsAsBefore (may_leave old) batches in
-      goes_on moment left_since old old new P (may_leave new) (started moment left_since old P (λ c left. inl (only_now c left))) time
+      goes_on (started {P = P} (λ c left. inl (only_now c left))) time
       (λ c left.
       let from = crash c left in
       ⊎_elim (λ was. inl (subst (λ (l : List ℕ). may_leave old l) (sym was) from.1))

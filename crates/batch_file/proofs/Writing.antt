@@ -56,31 +56,29 @@ written_then at next old a b mid new within next_is first second =
     ends : (i j k l : ℕ) → l ≡ j + k → i + j + k ≡ i + l
     ends i j k l is = omega arith
 
--- Writes one behind the other, from an offset of a file that is on the disk: at each moment a crash leaves it with bytes in their range torn.
-module _ {D : Type 0} (moment : D → ℕ) (left_since : D → ℕ → List ℕ → Type 0) (may_leave : D → List ℕ → Type 0) (at whole : ℕ) (file : List ℕ) where
-  -- so far n bytes are being written
-  pub record Writes (old new : D) (n : ℕ) : Type 0 where
-    pub so_far : LeavesOnly moment left_since old new (Torn at whole file)
-    pub now : (c : List ℕ) → may_leave new c → Torn at n file c
+-- Writes one behind the other, from an offset of a file that is on the disk, so far of n bytes: at each moment a crash leaves
+-- the file with bytes in their range torn.
+pub record Writes {D : Type 0} (moment : D → ℕ) (left_since : D → ℕ → List ℕ → Type 0) (may_leave : D → List ℕ → Type 0) (at whole : ℕ) (file : List ℕ) (old new : D) (n : ℕ) : Type 0 where
+  pub so_far : LeavesOnly moment left_since old new (Torn at whole file)
+  pub now : (c : List ℕ) → may_leave new c → Torn at n file c
 
-  pub none_yet : (old : D) → ((c : List ℕ) → left_since old (moment old) c → may_leave old c) → Only file (may_leave old) → Writes old old 0
-  none_yet old only_now only = record {
-    so_far = started moment left_since old (Torn at whole file) (λ c left. subst (λ (l : List ℕ). Torn at whole file l) (sym (only c (only_now c left))) (torn_none at whole file));
-    now = λ c left. subst (λ (l : List ℕ). Torn at 0 file l) (sym (only c left)) (torn_none at 0 file);
-  }
-
-  pub more : (old mid new : D) (n m k here : ℕ) → Writes old mid n → k ≡ n + m → here ≡ at + n → k ≤ whole → ComesOfStep (Torn here m) (may_leave mid) (may_leave new)
-      → Elapses (moment mid) (moment new) (left_since mid) (left_since new) (may_leave new) → Writes old new k
-  more old mid new n m k here w is here_is within crash time =
+module _ {D : Type 0} {moment : D → ℕ} {left_since : D → ℕ → List ℕ → Type 0} {may_leave : D → List ℕ → Type 0} {at whole : ℕ} {file : List ℕ} {old mid : D} {n : ℕ} (w : Writes moment left_since may_leave at whole file old mid n) where
+  pub more : {new : D} {here m : ℕ} (k : ℕ) → k ≡ n + m → here ≡ at + n → k ≤ whole → ComesOfStep (Torn here m) (may_leave mid) (may_leave new)
+      → Elapses (moment mid) (moment new) (left_since mid) (left_since new) (may_leave new) → Writes moment left_since may_leave at whole file old new k
+  more {new} {here} {m} k is here_is within crash time =
       let leaves : (c : List ℕ) → may_leave new c → Torn at k file c = λ c left.
       let from = crash c left in
       torn_then at n m k file from.0 c is (w.now from.0 from.1) (subst (λ (i : ℕ). Torn i m from.0 c) here_is from.2) in
-      record {
-        so_far = goes_on moment left_since old mid new (Torn at whole file) (may_leave new) w.so_far time (λ c left. torn_more at k whole file c within (leaves c left));
-        now = leaves;
-      }
+      record { so_far = goes_on w.so_far time (λ c left. torn_more at k whole file c within (leaves c left)); now = leaves }
 
-  pub synced : (old mid new : D) (n : ℕ) → Writes old mid n → n ≤ whole → ((c : List ℕ) → may_leave new c → may_leave mid c)
-      → Elapses (moment mid) (moment new) (left_since mid) (left_since new) (may_leave new) → LeavesOnly moment left_since old new (Torn at whole file)
-  synced old mid new n w within crash time =
-      goes_on moment left_since old mid new (Torn at whole file) (may_leave new) w.so_far time (λ c left. torn_more at n whole file c within (w.now c (crash c left)))
+  pub synced : {new : D} → n ≤ whole → ((c : List ℕ) → may_leave new c → may_leave mid c) → Elapses (moment mid) (moment new) (left_since mid) (left_since new) (may_leave new)
+      → LeavesOnly moment left_since old new (Torn at whole file)
+  synced within crash time = goes_on w.so_far time (λ c left. torn_more at n whole file c within (w.now c (crash c left)))
+
+-- none yet
+pub begun : {D : Type 0} (moment : D → ℕ) (left_since : D → ℕ → List ℕ → Type 0) (may_leave : D → List ℕ → Type 0) (at whole : ℕ) {file : List ℕ} {old : D}
+    → ((c : List ℕ) → left_since old (moment old) c → may_leave old c) → Only file (may_leave old) → Writes moment left_since may_leave at whole file old old 0
+begun moment left_since may_leave at whole {file} only_now only = record {
+  so_far = started (λ c left. subst (λ (l : List ℕ). Torn at whole file l) (sym (only c (only_now c left))) (torn_none at whole file));
+  now = λ c left. subst (λ (l : List ℕ). Torn at 0 file l) (sym (only c left)) (torn_none at 0 file);
+}

@@ -1,5 +1,5 @@
 -- The faults of devices and of files of batches, and how they are printed.
-use Rattle.std.specs.Prelude.{ℕ, ℤ, pos, List, ◌++◌, codes, decimal, Option, Some, None, if◌then◌else◌}
+use Rattle.std.specs.Prelude.{ℕ, ℤ, pos, List, ◌++◌, codes, Option, Some, None, if◌then◌else◌}
 use Rattle.std.specs.Ordering.{int_eq}
 use Rattle.std.specs.IoError.{error_kind, raw_os_error}
 use Rattle.std.specs.declared.io.Error.{Error}
@@ -19,8 +19,6 @@ use Rattle.batch_file.specs.declared.disk_file.OpenFault.{OpenFault}
 use Rattle.batch_file.specs.declared.disk_file.OpenFault.TheVariants as opening
 use Rattle.batch_file.specs.declared.disk_file.MakeFault.{MakeFault}
 use Rattle.batch_file.specs.declared.disk_file.MakeFault.TheVariants as making
-use Rattle.batch_file.specs.declared.framing.ReadFault.{ReadFault}
-use Rattle.batch_file.specs.declared.framing.ReadFault.TheVariants as reading
 
 -- WHICH FAULT IT IS
 
@@ -100,15 +98,6 @@ system_fault_text system.InvalidFilename = codes "invalid filename"
 system_fault_text system.InputOutput = codes "input/output error"
 system_fault_text system.Other = codes "other error"
 
-abbrev pub device_fault_text : DeviceFault → List ℕ
-device_fault_text device.Memory = codes "Memory"
-device_fault_text (device.Failed reason) = codes "Failed: " ++ system_fault_text reason
-
-abbrev pub replace_fault_text : ReplaceFault → List ℕ
-replace_fault_text replacing.Memory = codes "Memory"
-replace_fault_text (replacing.Unplaced reason) = codes "Unplaced: " ++ system_fault_text reason
-replace_fault_text (replacing.Failed reason) = codes "Failed: " ++ system_fault_text reason
-
 abbrev pub batch_fault_text : BatchFault → List ℕ
 batch_fault_text batch.Memory = codes "Memory"
 batch_fault_text (batch.Failed reason) = codes "Failed: " ++ system_fault_text reason
@@ -129,9 +118,3 @@ abbrev pub make_fault_text : MakeFault → List ℕ
 make_fault_text making.Memory = codes "Memory"
 make_fault_text making.Exists = codes "Exists"
 make_fault_text (making.Make reason) = codes "Make: " ++ system_fault_text reason
-
-abbrev pub read_fault_text : ReadFault → List ℕ
-read_fault_text reading.Memory = codes "Memory"
-read_fault_text reading.NotState = codes "NotState"
-read_fault_text (reading.Version version) = codes "Version " ++ decimal version
-read_fault_text (reading.Damaged batches) = codes "Damaged " ++ decimal batches

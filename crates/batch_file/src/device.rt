@@ -1,14 +1,13 @@
 //! A file as a `BatchFile` sees it: what a read would return, and what a crash may leave.
 
-ghost use Rattle.std.specs.Prelude.{◌≡◌, ◌≤◌, List, ℕ, length, OnOk, IfErr, Some};
+ghost use Rattle.std.specs.Prelude.{◌≡◌, ◌≤◌, List, ℕ, length, OnOk, IfErr};
 ghost use Rattle.batch_file.specs.declared.device.DeviceFault.TheVariants.{Memory};
 ghost use Rattle.batch_file.specs.declared.device.ReplaceFault.TheVariants as replacing;
 ghost use Rattle.batch_file.specs.Crashes.{Elapses, ComesOfStep, HasCause, IsFailure, IsUnplaced, IsReplaceFailure, IsWrittenAt, Only, Swapped, Torn};
-ghost use Rattle.batch_file.specs.FaultTexts.{device_fault_text, of_replacing, replace_fault_text};
+ghost use Rattle.batch_file.specs.FaultTexts.{of_replacing};
 
 use crate::system::SystemFault;
-use std::alloc::{AllocError, AllocFailed};
-use std::fmt::{self, Display, Formatter, Write};
+use std::alloc::AllocError;
 
 /// Why a device did not do what it was asked for.
 #[derive(Clone, Copy, Debug, PartialEq, Eq)]
@@ -19,29 +18,10 @@ pub enum DeviceFault {
     Failed(SystemFault),
 }
 
-impl Display for DeviceFault {
-    ghost output = { λ fault. Some (device_fault_text fault) };
-
-    fn fmt<W: Write>(&self, f: &mut Formatter<W>) -> fmt::Result {
-        match self {
-            DeviceFault::Memory => write!(f, "Memory"),
-            DeviceFault::Failed(reason) => write!(f, "Failed: {reason}"),
-        }
-    }
-}
-
 impl From<AllocError> for DeviceFault {
     ghost from_gives = { λ _ fault. fault ≡ Memory };
 
     fn from(_: AllocError) -> DeviceFault {
-        DeviceFault::Memory
-    }
-}
-
-impl<T: Drop> From<AllocFailed<T>> for DeviceFault {
-    ghost from_gives = { λ _ fault. fault ≡ Memory };
-
-    fn from(_: AllocFailed<T>) -> DeviceFault {
         DeviceFault::Memory
     }
 }
@@ -55,18 +35,6 @@ pub enum ReplaceFault {
     Unplaced(SystemFault),
     /// The disk failed: which of the two stands is not known.
     Failed(SystemFault),
-}
-
-impl Display for ReplaceFault {
-    ghost output = { λ fault. Some (replace_fault_text fault) };
-
-    fn fmt<W: Write>(&self, f: &mut Formatter<W>) -> fmt::Result {
-        match self {
-            ReplaceFault::Memory => write!(f, "Memory"),
-            ReplaceFault::Unplaced(reason) => write!(f, "Unplaced: {reason}"),
-            ReplaceFault::Failed(reason) => write!(f, "Failed: {reason}"),
-        }
-    }
 }
 
 impl From<AllocError> for ReplaceFault {
@@ -129,6 +97,9 @@ pub trait Device {
         ensures crash { ComesOfStep (Swapped bytes.now) (may_leave self.old) (may_leave self.new) }
         ensures time { Elapses (moment self.old) (moment self.new) (left_since self.old) (left_since self.new) (may_leave self.new) }
         ensures cause { HasCause IsReplaceFailure (faults self.old) (faults self.new) result };
+
+    /// Puts bytes aside, beside the file, which stays as it was.
+    fn set_aside(&self, torn: &[u8]) -> Result<(), DeviceFault>;
 
     /// This moment is one of those since an earlier one.
     ghost counts_now: { (file : Self) (t : ℕ) (left : List ℕ) → t ≤ moment file → may_leave file left → left_since file t left };

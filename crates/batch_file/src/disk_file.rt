@@ -1,5 +1,5 @@
-//! A file of the system as a device. Each method makes the calls that it notes: this has to be read, since a body that
-//! notes a sync and makes none would be proved as well.
+//! A file of the system as a device. No clause says that a method makes the calls that it notes: a body that notes a sync and
+//! makes none would be proved as well. A test over another file system (`unit_tests`) compares the calls and their order.
 //!
 //! The lock is held on a file of its own beside it, since the file itself is another one after a replacement. All names of the
 //! file lead to that lock: links to the file are refused, and one that is mounted by itself can't be replaced.
@@ -11,7 +11,7 @@ ghost use Rattle.std.specs.IoError.{error_kind};
 ghost use Rattle.std.specs.Path.{path_bytes};
 ghost use Rattle.batch_file.specs.declared.disk_file.OpenFault.TheVariants as opening;
 ghost use Rattle.batch_file.specs.declared.disk_file.MakeFault.TheVariants as making;
-ghost use Rattle.batch_file.specs.Calls.{content, failures, LeftSince, MayLeave};
+ghost use Rattle.batch_file.specs.Calls.{content, failures, only_opened, LeftSince, MayLeave};
 ghost use Rattle.batch_file.specs.CallsParts.{RenamesNothing};
 ghost use Rattle.batch_file.specs.FaultTexts.{make_fault_text, of_error, of_making, of_lock, open_fault_text};
 ghost use Rattle.batch_file.specs.Folders.{folder_of};
@@ -22,7 +22,7 @@ use crate::device::{Device, DeviceFault, ReplaceFault};
 use crate::system::SystemFault;
 use std::alloc::{AllocError, Global};
 use std::fmt::{self, Display, Formatter, Write as _};
-use std::fs::{self, File, Metadata, OpenOptions, TryLockError};
+use std::fs::{self, File, Metadata, OpenFile, OpenOptions, TryLockError};
 use std::io::{self, ErrorKind, Read, Write};
 use std::os::unix::fs::{FileExt, MetadataExt, OpenOptionsExt, lchown};
 use std::path::Path;
@@ -146,13 +146,25 @@ impl From<io::Error> for MakeFault {
     }
 }
 
+/// An open file, as the calls here need one.
+pub trait SystemFile: Read + Write + OpenFile + FileExt + Drop {
+    /// Locks it until it is closed, or tells that another holds its lock.
+    fn try_lock(&self) -> Result<(), TryLockError>;
+}
+
+impl SystemFile for File {
+    fn try_lock(&self) -> Result<(), TryLockError> {
+        File::try_lock(self)
+    }
+}
+
 /// A file of the system, open for reading and writing and locked, and the paths of those beside it.
 #[derive(Drop)]
-pub struct DiskFile<'r, R> {
+pub struct DiskFile<'r, R, F = File> {
     rt: &'r R,
-    file: File,
-    folder: File,
-    lock: File,
+    file: F,
+    folder: F,
+    lock: F,
     path: String,
     next_path: String,
     torn_path: String,
@@ -161,8 +173,8 @@ pub struct DiskFile<'r, R> {
 
 /// A file that was opened, and its bytes.
 #[derive(Drop)]
-pub struct Opened<'r, R> {
-    pub device: DiskFile<'r, R>,
+pub struct Opened<'r, R, F = File> {
+    pub device: DiskFile<'r, R, F>,
     pub bytes: Vec<u8>,
 }
 
@@ -204,7 +216,7 @@ fn fault_of(found: &Metadata) -> Option<OpenFault>
         Some(OpenFault::Link)
     } else if !found.is_file() {
         Some(OpenFault::NotAFile)
-    } else if found.nlink() != 1 {
+    } else if found.nlink() > 1 {
         Some(OpenFault::SecondLink)
     } else if found.mode() & OTHERS_WRITE != 0 {
         Some(OpenFault::WritableByOthers)
@@ -233,7 +245,7 @@ fn leaves_old(reason: SystemFault) -> bool
 
 /// Opens the file of a path, where it is one file that no other may write. What the system tells of the path is asked first,
 /// since to open a pipe would wait for another program.
-fn open_checked<R: Files<File = File>>(rt: &R, path: &str) -> Result<File, OpenFault> {
+fn open_checked<R: Files>(rt: &R, path: &str) -> Result<R::File, OpenFault> {
     let found = fs::symlink_metadata(rt, path)?;
     if let Some(fault) = fault_of(&found) {
         return Err(fault);
@@ -247,12 +259,7 @@ fn open_checked<R: Files<File = File>>(rt: &R, path: &str) -> Result<File, OpenF
 }
 
 /// Makes a new file with these bytes in a folder, on the disk, or none.
-fn make_file<R: Files<File = File>>(
-    rt: &R,
-    folder: &File,
-    path: &str,
-    bytes: &[u8],
-) -> io::Result<()> {
+fn make_file<R: Files>(rt: &R, folder: &R::File, path: &str, bytes: &[u8]) -> io::Result<()> {
     let mut file = options().create_new(true).open(rt, path)?;
     let written = write_whole(&mut file, folder, bytes);
     if written.is_err() {
@@ -262,28 +269,24 @@ fn make_file<R: Files<File = File>>(
 }
 
 /// Writes a new file of a folder, and waits until both are on the disk.
-fn write_whole(file: &mut File, folder: &File, bytes: &[u8]) -> io::Result<()> {
+fn write_whole<F: OpenFile + Write>(file: &mut F, folder: &F, bytes: &[u8]) -> io::Result<()> {
     file.write_all(bytes)?;
     file.sync_all()?;
     folder.sync_all()
 }
 
 /// Makes a new file with these bytes, and waits until it is on the disk. Where something is there, it stays as it is.
-pub fn make<R: Files<File = File> + AllocGlobal>(
-    rt: &R,
-    path: &str,
-    bytes: &[u8],
-) -> Result<(), MakeFault> {
+pub fn make<R: Files + AllocGlobal>(rt: &R, path: &str, bytes: &[u8]) -> Result<(), MakeFault> {
     let folder = File::open(rt, folder_of(path))?;
     make_file(rt, &folder, path, bytes)?;
     Ok(())
 }
 
-impl<'r, R: Files<File = File> + AllocGlobal> DiskFile<'r, R> {
+impl<'r, F: SystemFile, R: Files<File = F> + AllocGlobal> DiskFile<'r, R, F> {
     /// Opens the file of a path and locks it: nothing is made but the file beside it that holds the lock. What is read of it
     /// may not be on the disk, where an earlier program could not write it.
-    pub fn open(rt: &'r R, path: &str) -> Result<Opened<'r, R>, OpenFault>
-        ensures same { IfOk result (λ opened. opened.bytes.items ≡ content opened.device.log.calls) }
+    pub fn open(rt: &'r R, path: &str) -> Result<Opened<'r, R, F>, OpenFault>
+        ensures opened { IfOk result (λ opened. opened.device.log.calls ≡ only_opened opened.bytes.items) }
         ensures faultless { IfOk result (λ opened. failures opened.device.log.calls ≡ 0) }
     {
         let alloc = rt.alloc();
@@ -314,18 +317,8 @@ impl<'r, R: Files<File = File> + AllocGlobal> DiskFile<'r, R> {
         Ok(Opened { device, bytes })
     }
 
-    /// Puts aside what an append that was not finished left, in a file of its own beside this one.
-    pub fn set_aside(&self, torn: &[u8]) -> Result<(), DeviceFault> {
-        let torn_path = self.torn_path.as_str();
-        let _ = fs::remove_file(self.rt, torn_path);
-        match make_file(self.rt, &self.folder, torn_path, torn) {
-            Ok(()) => Ok(()),
-            Err(error) => Err(DeviceFault::Failed(SystemFault::of(&error))),
-        }
-    }
-
     /// Writes another file with these bytes beside this one, with its owner, group and mode.
-    fn write_next(&self, bytes: &[u8]) -> io::Result<File> {
+    fn write_next(&self, bytes: &[u8]) -> io::Result<F> {
         let next_path = self.next_path.as_str();
         let _ = fs::remove_file(self.rt, next_path);
         let mut next = options().create_new(true).open(self.rt, next_path)?;
@@ -341,7 +334,7 @@ impl<'r, R: Files<File = File> + AllocGlobal> DiskFile<'r, R> {
     }
 
     /// Puts the file that was written beside this one in its place. The inner result tells whether it is there on the disk.
-    fn put_next(&mut self, next: File) -> Result<io::Result<()>, SystemFault>
+    fn put_next(&mut self, next: F) -> Result<io::Result<()>, SystemFault>
         ensures log { self.new.log ≡ self.old.log }
         ensures untouched { IfErr result (λ _. self.new ≡ self.old) }
         ensures refused { IfErr result RenamesNothing }
@@ -358,7 +351,7 @@ impl<'r, R: Files<File = File> + AllocGlobal> DiskFile<'r, R> {
     }
 }
 
-impl<'r, R: Files<File = File> + AllocGlobal> Device for DiskFile<'r, R> {
+impl<'r, F: SystemFile, R: Files<File = F> + AllocGlobal> Device for DiskFile<'r, R, F> {
     ghost seen = { λ device. content device.log.calls };
 
     ghost may_leave = { λ device left. MayLeave device.log.calls left };
@@ -395,6 +388,15 @@ impl<'r, R: Files<File = File> + AllocGlobal> Device for DiskFile<'r, R> {
                 let _ = fs::remove_file(self.rt, self.next_path.as_str());
                 Err(ReplaceFault::Unplaced(reason))
             }
+        }
+    }
+
+    fn set_aside(&self, torn: &[u8]) -> Result<(), DeviceFault> {
+        let torn_path = self.torn_path.as_str();
+        let _ = fs::remove_file(self.rt, torn_path);
+        match make_file(self.rt, &self.folder, torn_path, torn) {
+            Ok(()) => Ok(()),
+            Err(error) => Err(DeviceFault::Failed(SystemFault::of(&error))),
         }
     }
 }

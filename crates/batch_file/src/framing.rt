@@ -4,10 +4,9 @@
 //! counts: then the frame has to be there, whole, with its digest. The digest is made of the one before it too, so a frame
 //! that is dropped, doubled or moved has not its own.
 
-ghost use Rattle.std.specs.Prelude.{◌≡◌, ◌<◌, ◌≤◌, ◌^◌, ◌⊎◌, ◌+◌, ◌++◌, [], ◌∷◌, ℕ, List, length, take, drop, IfOk, IfErr, IfSome, IfNone, IsTrue, IsFalse, ◌↔◌, Some};
+ghost use Rattle.std.specs.Prelude.{◌≡◌, ◌<◌, ◌≤◌, ◌^◌, ◌⊎◌, ◌+◌, ◌++◌, [], ◌∷◌, ℕ, List, length, take, drop, IfOk, IfErr, IfSome, IfNone, IsTrue, IsFalse, ◌↔◌};
 ghost use Rattle.std.specs.Int.{w32, to_be_bytes};
 ghost use Rattle.batch_file.specs.declared.framing.ReadFault.TheVariants.{Memory};
-ghost use Rattle.batch_file.specs.FaultTexts.{read_fault_text};
 ghost use Rattle.batch_file.specs.Frames.{digest, lists, recovered, seal, torn_of, HidesFrame, IsDamaged, IsFrame, IsNoEnd, IsNoFrame, IsReadable, IsRightFront, IsSealed, IsVersion, RefusesFile, RefusesHeader};
 ghost use Rattle.batch_file.specs.Reads.{IsFound, IsFront, IsOpenEnd};
 
@@ -15,7 +14,6 @@ use crate::frames::Frames;
 use crate::version_1::is_first_kind;
 use sha2::{Digest, Sha256};
 use std::alloc::{AllocError, AllocFailed, Global};
-use std::fmt::{self, Display, Formatter, Write};
 
 /// What a file of each version begins with, up to its digit.
 const TITLE: [u8; 14] = *b"oauthd state v";
@@ -37,19 +35,6 @@ pub enum ReadFault {
     Version(u8),
     /// So many batches are right, and what is behind them is damaged.
     Damaged(usize),
-}
-
-impl Display for ReadFault {
-    ghost output = { λ fault. Some (read_fault_text fault) };
-
-    fn fmt<W: Write>(&self, f: &mut Formatter<W>) -> fmt::Result {
-        match self {
-            ReadFault::Memory => write!(f, "Memory"),
-            ReadFault::NotState => write!(f, "NotState"),
-            ReadFault::Version(version) => write!(f, "Version {version}"),
-            ReadFault::Damaged(batches) => write!(f, "Damaged {batches}"),
-        }
-    }
 }
 
 impl From<AllocError> for ReadFault {

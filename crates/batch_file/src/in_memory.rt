@@ -95,4 +95,8 @@ impl Device for MemoryFile {
         let next = bytes.to_vec(self.alloc)?;
         Ok(take_over(self.alloc, &mut self.bytes, &mut self.past, next)?)
     }
+
+    fn set_aside(&self, _torn: &[u8]) -> Result<(), DeviceFault> {
+        Ok(())
+    }
 }

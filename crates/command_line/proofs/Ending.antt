@@ -1,10 +1,9 @@
 -- How a command on a state file ends, by what comes of it.
 use Rattle.std.proofs.Common.{◌≡◌, ◌⊎◌, inl, inr, ℕ, refl}
 use Rattle.hook_commands.specs.File.{File}
-use Rattle.commands.specs.Outputs.{GetsText, Output, outputs}
+use Rattle.commands.specs.Outputs.{Prints, Output, outputs}
 use Rattle.commands.specs.declared.status.Status.{Status}
 use Rattle.commands.specs.declared.status.Status.TheVariants.{BadUse, Done}
-use Rattle.command_line.specs.Printed.{told_text, trial_text}
 use Rattle.command_line.specs.StateEndings.{EndsStateCommand, FailsStateCommand, IsTrial, IsUpgradeTold, TellsDone}
 use Rattle.command_line.specs.Statuses.{end_status}
 use Rattle.command_line.specs.declared.fault.PerformFault.{PerformFault}
@@ -12,7 +11,7 @@ use Rattle.command_line.specs.declared.state_command.StateCommand.{StateCommand}
 
 -- it fails, which is told
 pub ends_told : {W E : Type 0} (command : StateCommand) (file : File) (fault : PerformFault) (status : Status) (out : Output W) (err : Output E) → out.new ≡ out.old →
-    FailsStateCommand command file fault → (status ≡ BadUse) ⊎ ((status ≡ end_status fault) × GetsText err (told_text fault)) →
+    FailsStateCommand command file fault → (status ≡ BadUse) ⊎ ((status ≡ end_status fault) × Prints err fault) →
     (status ≡ BadUse) ⊎ EndsStateCommand command file status (outputs out err)
 ends_told command file fault status out err same fails (inl bad) = inl bad
 ends_told command file fault status out err same fails (inr told) =

@@ -1,8 +1,7 @@
 -- A service that failed, and what is told of it.
-use Rattle.std.proofs.Common.{◌≡◌, ◌⊎◌, ap, inl, inr}
+use Rattle.std.proofs.Common.{◌≡◌, ◌⊎◌, inl, inr, subst}
 use Rattle.command_line.specs.Listening.{EndsService, FailsService, ServiceFiles}
-use Rattle.commands.specs.Outputs.{Output, GetsText, output, outputs}
-use Rattle.command_line.specs.Printed.{told_text}
+use Rattle.commands.specs.Outputs.{Output, Prints, output, outputs}
 use Rattle.command_line.specs.Startings.{Startings}
 use Rattle.command_line.specs.Statuses.{end_status}
 use Rattle.command_line.specs.declared.fault.PerformFault.{PerformFault}
@@ -12,12 +11,10 @@ use Rattle.command_line.specs.declared.service.Service.{Service}
 
 -- it failed where so much was told, and its fault is told behind that
 pub fails_told : {W E : Type 0} (starts : Startings) (service : Service) (files : ServiceFiles) (fault : PerformFault) (status : Status) (out : Output W) (err : Output E) (mid : E)
-    → FailsService starts service files fault (outputs out (output err.seen err.old mid)) → (status ≡ BadUse) ⊎ ((status ≡ end_status fault) × GetsText (output err.seen mid err.new) (told_text fault))
+    → FailsService starts service files fault (outputs out (output err.seen err.prints err.old mid)) → (status ≡ BadUse) ⊎ ((status ≡ end_status fault) × Prints (output err.seen err.prints mid err.new) fault)
     → (status ≡ BadUse) ⊎ EndsService starts service files status (outputs out err)
 fails_told starts service files fault status out err mid fails (inl bad) = inl bad
-fails_told starts service files fault status out err mid (inl (inl same, cause)) (inr told) =
-    inr (inr (inl (record { fault = fault; cause = cause; ended = told.0; lines = err.seen mid; unlined = inl (ap err.seen same); told = told.1 })))
-fails_told starts service files fault status out err mid (inl (inr names, cause)) (inr told) =
-    inr (inr (inl (record { fault = fault; cause = cause; ended = told.0; lines = err.seen mid; unlined = inr names; told = told.1 })))
-fails_told starts service files fault status out err mid (inr stopped) (inr told) =
-    inr (inr (inr (record { fault = fault; stopped = stopped; ended = told.0; lines = err.seen mid; told = told.1 })))
+fails_told starts service files fault status out err mid (inl (same, cause)) (inr told) =
+    inr (inr (inl (record { fault = fault; cause = cause; ended = told.0; told = subst (λ old. Prints (output err.seen err.prints old err.new) fault) same told.1 })))
+fails_told starts service files fault status out err mid (inr ended) (inr told) =
+    inr (inr (inr (record { fault = fault; ended = ended; status_is = told.0; behind = mid; told = told.1 })))

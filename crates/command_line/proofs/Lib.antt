@@ -1,10 +1,7 @@
-mod Beginning
-mod Coming
 mod Ending
 mod Failing
 mod Hooking
 mod Naming
-mod Planning
 mod Serving
 mod Telling
 mod Upgrading

@@ -1,16 +1,21 @@
 -- How a service fails.
-use Rattle.std.proofs.Common.{◌≡◌, ◌⊎◌, inl, inr, ℕ, List, Result, Ok, Err}
+use Rattle.std.proofs.Common.{◌≡◌, ◌⊎◌, inl, inr, ℕ, List, Option, None, Some, Result, Ok, Err, subst, sym}
 use Rattle.std.specs.Prelude.{OnOk, IfErr}
 use Rattle.clients.specs.RegistryRecord.{RegistryRecord}
 use Rattle.commands.specs.Config.{HoldsRegistry}
 use Rattle.commands.specs.Outputs.{IsUntouched, Output, Outputs}
 use Rattle.daemon.specs.Listening.{Announces}
+use Rattle.daemon.specs.Starts.{handed_anew, handed_on}
 use Rattle.daemon.specs.declared.fault.ListenFault.{ListenFault}
+use Rattle.daemon.specs.declared.fault.OpeningFault.{OpeningFault}
+use Rattle.event_loop.specs.declared.limits.Limits.{Limits}
+use Rattle.image_codec.specs.Facts.{HookFact}
+use Rattle.start_words.specs.Options.{clock_limit}
 use Rattle.start_words.specs.declared.words.StartWords.{StartWords}
-use Rattle.command_line.specs.Faults.{IsOfListening}
-use Rattle.command_line.specs.Listening.{FailsService, NamesState, ServeEnded, ServiceFiles, registry_bytes}
-use Rattle.command_line.specs.Services.{address_of}
-use Rattle.command_line.specs.Startings.{Startings}
+use Rattle.command_line.specs.Faults.{IsOfListening, IsOfOpening}
+use Rattle.command_line.specs.Listening.{FailsService, HasAll, HasEnded, ServeEnded, ServiceFiles, handed, registry_bytes}
+use Rattle.command_line.specs.Services.{address_of, limits_of}
+use Rattle.command_line.specs.Startings.{EndsAnew, EndsOn, EndsStart, Startings}
 use Rattle.command_line.specs.declared.fault.PerformFault.{PerformFault}
 use Rattle.command_line.specs.declared.service.ServeWords.{ServeWords}
 use Rattle.command_line.specs.declared.service.Service.{Service}
@@ -18,10 +23,10 @@ use Rattle.command_line.specs.declared.service.Service.TheVariants.{Serve, Start
 
 -- its server does not listen
 pub not_heard : {W E : Type 0} (starts : Startings) (service : Service) (files : ServiceFiles) (fault : PerformFault) (to : Outputs W E) (registry : RegistryRecord)
-    (address : List ℕ) (cause : ListenFault) → HoldsRegistry (registry_bytes files) registry → address_of service ≡ address → IsUntouched to.err ⊎ NamesState service →
+    (address : List ℕ) (cause : ListenFault) → HoldsRegistry (registry_bytes files) registry → address_of service ≡ address → IsUntouched to.err →
     IsOfListening address cause fault → FailsService starts service files fault to
 not_heard starts service files fault to registry address cause held there told is =
-    inl (told, inr (inr (inr (record { registry = registry; held = held; cause = cause; fault_is = rw there is }))))
+    inl (told, inr (inr (inl (record { registry = registry; held = held; cause = cause; fault_is = rw there is }))))
 
 -- so many connections were served, or none
 pub served : {W T : Type 0} (r : Result T PerformFault) (service : Service) (files : ServiceFiles) (out : Output W) (registry : RegistryRecord) (given : ServeWords) →
@@ -35,4 +40,34 @@ pub not_served : {W E T : Type 0} (r : Result T PerformFault) (starts : Starting
     IfErr r (λ fault. (cause : ListenFault) × IsOfListening given.address.now cause fault) → IfErr r (λ fault. FailsService starts service files fault to)
 not_served (Ok u) starts service files to registry given held is same deaf = tt
 not_served (Err f) starts service files to registry given held is same deaf =
-    not_heard starts service files f to registry given.address.now deaf.0 held (rw is) (inl same) deaf.1
+    not_heard starts service files f to registry given.address.now deaf.0 held (rw is) same deaf.1
+
+-- it was started anew, by all that it has
+pub ended_anew : {W : Type 0} (starts : Startings) (service : Service) (files : ServiceFiles) (fault : PerformFault) (out : Output W) (all : HasAll service files)
+    (limits : Limits) → all.given.options.state ≡ None → limits ≡ limits_of all.given.options →
+    EndsAnew starts (handed_anew all.registry all.hooks limits) fault out → HasEnded starts service files fault out
+ended_anew starts service files fault out all limits none are ends = record {
+  all = all;
+  ends = subst (λ (o : Option (List ℕ)). EndsStart starts o (handed all) fault out) (sym none)
+      (subst (λ (l : Limits). EndsAnew starts (handed_anew all.registry all.hooks l) fault out) are ends);
+}
+
+-- or on the file of its state
+pub ended_on : {W : Type 0} (starts : Startings) (service : Service) (files : ServiceFiles) (fault : PerformFault) (out : Output W) (all : HasAll service files)
+    (path : List ℕ) (codes : List HookFact) (limits : Limits) (ahead : Option ℕ) → all.given.options.state ≡ Some path → codes ≡ all.codes →
+    limits ≡ limits_of all.given.options → ahead ≡ clock_limit all.given.options.clock →
+    EndsOn starts path (handed_on all.registry codes limits ahead) fault out → HasEnded starts service files fault out
+ended_on starts service files fault out all path codes limits ahead named codes_are limits_are ahead_are ends = record {
+  all = all;
+  ends = subst (λ (o : Option (List ℕ)). EndsStart starts o (handed all) fault out) (sym named)
+      (subst (λ (a : Option ℕ). EndsOn starts path (handed_on all.registry all.codes (limits_of all.given.options) a) fault out) ahead_are
+      (subst (λ (l : Limits). EndsOn starts path (handed_on all.registry all.codes l ahead) fault out) limits_are
+      (subst (λ (cs : List HookFact). EndsOn starts path (handed_on all.registry cs limits ahead) fault out) codes_are ends)));
+}
+
+-- that file was not opened
+pub not_opened : {W E : Type 0} (starts : Startings) (service : Service) (files : ServiceFiles) (fault : PerformFault) (to : Outputs W E) (all : HasAll service files)
+    (address path : List ℕ) (cause : OpeningFault) → address_of service ≡ address → all.given.options.state ≡ Some path → IsUntouched to.err →
+    IsOfOpening address path cause fault → FailsService starts service files fault to
+not_opened starts service files fault to all address path cause there named told is =
+    inl (told, inr (inr (inr (record { all = all; path = path; named = named; refused = inr (cause, subst (λ (a : List ℕ). IsOfOpening a path cause fault) (sym there) is) }))))

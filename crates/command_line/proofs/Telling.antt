@@ -2,17 +2,13 @@
 use Rattle.std.proofs.Common.{◌≡◌, ℕ, List, [], subst, sym}
 use Rattle.std.specs.Borrow.{Bor}
 use Rattle.clients.specs.RegistryRecord.{RegistryRecord}
-use Rattle.image_codec.specs.Facts.{HookFact}
-use Rattle.state_file.specs.Starting.{IsOfDisk}
 use Rattle.state_file.specs.declared.fault.StateFault.{StateFault}
 use Rattle.commands.specs.Faults.{IsOfState}
 use Rattle.commands.specs.declared.fault.CommandFault.{CommandFault}
 use Rattle.commands.specs.declared.fault.CommandFault.TheVariants.{BadArguments, HookCommand, CannotRead, Config, ConfigAt, BadLine, Event, State, StateAt, OutOfMemory, CannotWrite}
 use Rattle.command_line.specs.Makings.{FailsUpgrade, RefusesUpgrade}
-use Rattle.command_line.specs.Plans.{RefusesPlan}
+use Rattle.lifetime.specs.Plans.{RefusesPlan}
 use Rattle.command_line.specs.StateEndings.{RefusesTrial}
-use Rattle.command_line.specs.Startings.{IsUnsettled, RefusesBytes}
-use Rattle.command_line.specs.declared.clock.Clocked.{Clocked}
 use Rattle.command_line.specs.declared.fault.PerformFault.TheVariants.{Command}
 
 -- it is told with its path, or as want of memory
@@ -29,14 +25,6 @@ told_as P path cause (BadLine n) is of memory = absurd is
 told_as P path cause (Event n f) is of memory = absurd is
 told_as P path cause (StateAt n f) is of memory = absurd is
 told_as P path cause CannotWrite is of memory = absurd is
-
-pub refused_bytes : (path : List ℕ) (clock : Clocked) (rules : RegistryRecord) (hooks : List HookFact) (bytes : List ℕ) (cause : StateFault) (told : CommandFault) →
-    IsOfState path cause told → RefusesPlan rules hooks bytes cause → RefusesBytes path clock rules hooks (Command told)
-refused_bytes path clock rules hooks bytes cause told is refuses =
-    told_as (λ told. RefusesBytes path clock rules hooks (Command told)) path cause told is (λ named same. (same, bytes, refuses)) tt
-
-pub unsettled : (path : List ℕ) (cause : StateFault) (told : CommandFault) → IsOfState path cause told → IsOfDisk cause → IsUnsettled path (Command told)
-unsettled path cause told is of_disk = told_as (λ told. IsUnsettled path (Command told)) path cause told is (λ named same. (same, of_disk)) tt
 
 pub no_upgrade : (path new_path old : List ℕ) (cause : StateFault) (told : CommandFault) → IsOfState path cause told → RefusesUpgrade old cause →
     FailsUpgrade path new_path (Command told)

@@ -1,32 +1,58 @@
 -- What the words of a command line call for, and the file that is read for it.
-use Rattle.std.specs.Prelude.{⊤, ℕ, List, [], map, Option, Some, Result, Ok, Err}
+use Rattle.std.specs.Prelude.{◌≡◌, ⊤, ℕ, ◌-◌, Bool, false, ◌||◌, if◌then◌else◌, List, [], ◌∷◌, codes, length, map, Option, None, Some, option_map, unwrap_or, slice_get, Result, Ok, Err}
+use Rattle.std.specs.Str.{bytes_eq}
 use Rattle.std.specs.String.{string_bytes}
 use Rattle.command_line.specs.declared.call.Call.{Call}
 use Rattle.command_line.specs.declared.call.Call.TheVariants.{Command, State, Service}
 use Rattle.command_line.specs.declared.fault.PerformFault.{PerformFault}
 use Rattle.command_line.specs.declared.fault.PerformFault.TheVariants as faults
+use Rattle.commands.specs.declared.command.Command.TheVariants.{Explain}
 use Rattle.commands.specs.declared.fault.CommandFault.TheVariants.{BadArguments, OutOfMemory}
 use Rattle.start_words.specs.Options.{HookSaid}
 use Rattle.command_line.specs.Services.{config_of, hooks_installed, IsService, ServiceFails}
 use Rattle.command_line.specs.StateCommands.{config_of_trial, IsStateCommand}
 use Rattle.commands.specs.Words.{file_named_by, IsCommand, Arguments}
 
+-- a word asks for help
+abbrev pub asks_help : List ℕ → Bool
+asks_help word = bytes_eq word (codes "-h") || bytes_eq word (codes "--help")
+
+-- the command that words ask about: they begin with its name, and the last one behind it asks for help
+abbrev pub helped_by : List (List ℕ) → Option (List ℕ)
+helped_by [] = None
+helped_by (name ∷ words) = if unwrap_or (option_map asks_help (slice_get words (length words - 1))) false then Some name else None
+
+-- words name a call
+abbrev pub NameCall : Arguments → Call → Type 0
+NameCall words (Command command) = IsCommand words command
+NameCall words (State command) = IsStateCommand words command
+NameCall words (Service service) = IsService words service
+
+-- how names are read: as the call that they name, and as bad arguments where there is none, but for a word behind `start` that
+-- is refused
+abbrev pub AreNamesRead : Arguments → Result Call PerformFault → Type 0
+AreNamesRead words (Ok call) = NameCall words call
+AreNamesRead words (Err (faults.Command BadArguments)) = (call : Call) → NameCall words call → ⊥
+AreNamesRead words (Err (faults.Command OutOfMemory)) = ⊤
+AreNamesRead words (Err fault) = ServiceFails (map string_bytes words) fault
+
+-- what a name means is asked for
+abbrev pub Asks : List ℕ → Result Call PerformFault → Type 0
+Asks name (Ok (Command (Explain asked))) = asked.now ≡ name
+Asks name (Err (faults.Command OutOfMemory)) = ⊤
+Asks name outcome = ⊥
+
+-- how words are read: where they ask about a command, as that, and else as what they name
+abbrev pub IsReading : Option (List ℕ) → Arguments → Result Call PerformFault → Type 0
+IsReading (Some name) words outcome = Asks name outcome
+IsReading None words outcome = AreNamesRead words outcome
+
+abbrev pub AreWordsRead : Arguments → Result Call PerformFault → Type 0
+AreWordsRead words outcome = IsReading (helped_by (map string_bytes words)) words outcome
+
 -- words are those of a call
 abbrev pub IsCall : Arguments → Call → Type 0
-IsCall words (Command command) = IsCommand words command
-IsCall words (State command) = IsStateCommand words command
-IsCall words (Service service) = IsService words service
-
-abbrev pub IsNoCall : Arguments → Type 0
-IsNoCall words = (call : Call) → IsCall words call → ⊥
-
--- how words are read: as the call whose words they are, and as bad arguments where there is none, but for a word behind
--- `start` that is refused
-abbrev pub AreWordsRead : Arguments → Result Call PerformFault → Type 0
-AreWordsRead words (Ok call) = IsCall words call
-AreWordsRead words (Err (faults.Command BadArguments)) = IsNoCall words
-AreWordsRead words (Err (faults.Command OutOfMemory)) = ⊤
-AreWordsRead words (Err fault) = ServiceFails (map string_bytes words) fault
+IsCall words call = AreWordsRead words (Ok call)
 
 -- the path of the file that is read for a call
 abbrev pub file_of : Call → Option (List ℕ)

@@ -8,16 +8,15 @@ use Rattle.command_line.specs.Calls.{hooks_named_by, IsCall, AreWordsRead}
 use Rattle.command_line.specs.Hooks.{said_of}
 use Rattle.command_line.specs.Listening.{EndsService, ServiceFiles, registry_bytes}
 use Rattle.command_line.specs.StateEndings.{EndsStateCommand}
-use Rattle.commands.specs.Outputs.{Output, Outputs, IsUntouched, GetsText}
+use Rattle.commands.specs.Outputs.{Output, Outputs, IsUntouched, Prints}
 use Rattle.commands.specs.Performed.{EndsCommand}
-use Rattle.command_line.specs.Printed.{told_text}
 use Rattle.command_line.specs.Startings.{Startings}
 use Rattle.command_line.specs.Statuses.{end_status}
 use Rattle.commands.specs.Words.{Arguments}
 
 -- the fault is told in its line, and the status is that of the fault
 abbrev pub IsTold : {E : Type 0} → PerformFault → Status → Output E → Type 0
-IsTold fault status err = (status ≡ end_status fault) × GetsText err (told_text fault)
+IsTold fault status err = (status ≡ end_status fault) × Prints err fault
 
 -- a call ends on the file that it names and, where it serves, on those of its hooks
 abbrev pub EndsCall : {W E : Type 0} → Startings → Call → ServiceFiles → Status → Outputs W E → Type 0
@@ -40,7 +39,7 @@ pub record TellsNoCall {W E : Type 0} (words : Arguments) (status : Status) (to 
   pub unread : AreWordsRead words (Err fault)
   pub unprinted : IsUntouched to.out
   pub ended : status ≡ end_status fault
-  pub told : GetsText to.err (told_text fault)
+  pub told : Prints to.err fault
 
 -- a command line ends, with what it prints and what it tells
 abbrev pub EndsWords : {W E : Type 0} → Startings → Arguments → Status → Outputs W E → Type 0

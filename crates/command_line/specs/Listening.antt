@@ -1,14 +1,13 @@
 -- How a service serves, or why it doesn't, or no longer.
-use Rattle.std.specs.Prelude.{◌≡◌, ◌⊎◌, ℕ, List, [], map, Option, Some, IsSome}
-use Rattle.std.specs.Io.KnownBytes.{Appends}
+use Rattle.std.specs.Prelude.{◌≡◌, ◌⊎◌, ℕ, List, [], map, Option, Some}
 use Rattle.clients.specs.RegistryRecord.{RegistryRecord}
 use Rattle.daemon.specs.Listening.{Announces}
 use Rattle.daemon.specs.declared.fault.ListenFault.{ListenFault}
-use Rattle.event_loop.specs.declared.fault.LoopFault.{LoopFault}
 use Rattle.commands.specs.NamedFiles.{bytes_in}
 use Rattle.command_line.specs.declared.call_files.CallFiles.{CallFiles}
 use Rattle.command_line.specs.declared.fault.PerformFault.{PerformFault}
 use Rattle.command_line.specs.declared.fault.PerformFault.TheVariants.{Command}
+use Rattle.commands.specs.declared.fault.CommandFault.TheVariants.{OutOfMemory}
 use Rattle.commands.specs.declared.status.Status.{Status}
 use Rattle.commands.specs.declared.status.Status.TheVariants.{Done}
 use Rattle.commands.specs.declared.named_file.NamedFile.{NamedFile}
@@ -17,17 +16,15 @@ use Rattle.start_words.specs.declared.words.StartWords.{StartWords}
 use Rattle.command_line.specs.declared.service.Service.{Service}
 use Rattle.command_line.specs.declared.service.Service.TheVariants.{Serve, Start}
 use Rattle.commands.specs.Config.{HoldsNoRegistry, HoldsRegistry}
-use Rattle.command_line.specs.Faults.{IsOfListening, IsOfStop}
+use Rattle.command_line.specs.Faults.{IsNotOpened, IsOfListening}
 use Rattle.hook_commands.specs.File.{File}
 use Rattle.command_line.specs.Hooks.{AreFactsOf, HookInFile, in_file, RefusesHooks, TakesHooks}
 use Rattle.hook_chain.specs.Chains.{Named}
 use Rattle.image_codec.specs.Facts.{HookFact}
-use Rattle.commands.specs.Outputs.{Output, Outputs, IsUntouched}
-use Rattle.command_line.specs.Printed.{told_text}
-use Rattle.command_line.specs.Services.{address_of, config_of, patience_of}
-use Rattle.command_line.specs.Startings.{RefusesState, Startings, handed, starting_of}
+use Rattle.commands.specs.Outputs.{IsUntouched, Output, Outputs, Prints}
+use Rattle.command_line.specs.Services.{address_of, config_of}
+use Rattle.command_line.specs.Startings.{EndsStart, Handed, Startings}
 use Rattle.command_line.specs.Statuses.{end_status}
-use Rattle.command_line.specs.declared.clock.Clocked.{Clocked}
 
 -- the file that a call is about, a service's registry, and what stands in those of its hooks
 pub record ServiceFiles : Type 0 where
@@ -73,72 +70,57 @@ pub record LacksHook (service : Service) (files : ServiceFiles) (fault : Perform
   pub service_is : service ≡ Start given
   pub refused : RefusesHooks [] files.hooks fault
 
--- `start` has all its hooks, and no server is started on the file that it names for its state, for this fault
-pub record LacksState (service : Service) (files : ServiceFiles) (fault : PerformFault) : Type 0 where
-  pub registry : RegistryRecord
-  pub held : HoldsRegistry (registry_bytes files) registry
+-- `start` has its registry and all its hooks
+pub record HasAll (service : Service) (files : ServiceFiles) : Type 0 where
   pub given : StartWords
   pub service_is : service ≡ Start given
+  pub registry : RegistryRecord
+  pub held : HoldsRegistry (registry_bytes files) registry
   pub hooks : List Named
   pub taken : TakesHooks [] files.hooks hooks
   pub codes : List HookFact
   pub coded : AreFactsOf files.hooks codes
-  pub path : List ℕ
-  pub named : given.options.state ≡ Some path
-  -- what the clock told, and that one that is far ahead was accepted, if it was
-  pub clock : Clocked
-  pub far : clock.far ≡ given.options.clock
-  pub refused : RefusesState path clock registry codes fault
 
--- why a service serves nothing: the file comes first, then its registry, then its hooks, then its state, and then the server's
--- socket
+abbrev pub handed : {service : Service} {files : ServiceFiles} → HasAll service files → Handed
+handed all = record { registry = all.registry; hooks = all.hooks; codes = all.codes; options = all.given.options }
+
+-- it has, and no socket, or the file of its state is not opened; or memory is refused before
+pub record LacksState (service : Service) (files : ServiceFiles) (fault : PerformFault) : Type 0 where
+  pub all : HasAll service files
+  pub path : List ℕ
+  pub named : all.given.options.state ≡ Some path
+  pub refused : (fault ≡ Command OutOfMemory) ⊎ IsNotOpened (address_of service) path fault
+
+-- why a service serves nothing: its registry comes first, then its hooks, then its socket, and then the file of its state
 abbrev pub CannotServe : Service → ServiceFiles → PerformFault → Type 0
 CannotServe service files fault =
-    LacksRegistry service files fault ⊎ LacksHook service files fault ⊎ LacksState service files fault ⊎ IsDeaf service (registry_bytes files) fault
+    LacksRegistry service files fault ⊎ LacksHook service files fault ⊎ IsDeaf service (registry_bytes files) fault ⊎ LacksState service files fault
 
--- a service keeps its state in a file that is named: what comes of that is told
-pub record NamesState (service : Service) : Type 0 where
-  pub given : StartWords
-  pub service_is : service ≡ Start given
-  pub named : IsSome given.options.state
-
--- why a service serves nothing is told, behind what was told of its state's file, and the status is that of the fault
+-- that is told, and nothing else, and the status is that of the fault
 pub record TellsNoService {E : Type 0} (service : Service) (files : ServiceFiles) (status : Status) (err : Output E) : Type 0 where
   pub fault : PerformFault
   pub cause : CannotServe service files fault
   pub ended : status ≡ end_status fault
-  pub lines : Option (List ℕ)
-  pub unlined : (lines ≡ err.seen err.old) ⊎ NamesState service
-  pub told : Appends lines (err.seen err.new) (told_text fault)
+  pub told : Prints err fault
 
--- `start` had all its hooks, and its server, on the file of its state where one is named, served connections until it could not
--- go on, for this fault
-pub record HasStopped {W : Type 0} (starts : Startings) (service : Service) (files : ServiceFiles) (fault : PerformFault) (out : Output W) : Type 0 where
-  pub listened : HasListened (registry_bytes files) out
-  pub given : StartWords
-  pub service_is : service ≡ Start given
-  pub hooks : List Named
-  pub taken : TakesHooks [] files.hooks hooks
-  pub codes : List HookFact
-  pub coded : AreFactsOf files.hooks codes
-  pub cause : LoopFault
-  pub started : starting_of starts given.options.state (handed listened.registry hooks codes (patience_of given.options)) cause
-  pub fault_is : IsOfStop cause fault
+-- `start` had all, and its server, on the file of its state where one is named, ended with this fault
+pub record HasEnded {W : Type 0} (starts : Startings) (service : Service) (files : ServiceFiles) (fault : PerformFault) (out : Output W) : Type 0 where
+  pub all : HasAll service files
+  pub ends : EndsStart starts all.given.options.state (handed all) fault out
 
--- A service ends with a fault: it serves nothing, and has told nothing, but of its state's file, or it stopped.
+-- A service ends with a fault: it serves nothing, and has told nothing, or its server ended.
 abbrev pub FailsService : {W E : Type 0} → Startings → Service → ServiceFiles → PerformFault → Outputs W E → Type 0
-FailsService starts service files fault to =
-    ((IsUntouched to.err ⊎ NamesState service) × CannotServe service files fault) ⊎ HasStopped starts service files fault to.out
+FailsService starts service files fault to = (IsUntouched to.err × CannotServe service files fault) ⊎ HasEnded starts service files fault to.out
 
--- so it did, which is told behind the lines of connections that ended, and the status is that of the fault
-pub record TellsStop {W E : Type 0} (starts : Startings) (service : Service) (files : ServiceFiles) (status : Status) (to : Outputs W E) : Type 0 where
+-- so it did, which is told behind the lines of its journal, and the status is that of the fault
+pub record TellsEnd {W E : Type 0} (starts : Startings) (service : Service) (files : ServiceFiles) (status : Status) (to : Outputs W E) : Type 0 where
   pub fault : PerformFault
-  pub stopped : HasStopped starts service files fault to.out
-  pub ended : status ≡ end_status fault
-  pub lines : Option (List ℕ)
-  pub told : Appends lines (to.err.seen to.err.new) (told_text fault)
+  pub ended : HasEnded starts service files fault to.out
+  pub status_is : status ≡ end_status fault
+  pub behind : E
+  pub told : to.err.prints _ behind fault to.err.new
 
--- A service ends, with what it prints and what it tells: it served, or serves nothing, or stopped.
+-- A service ends, with what it prints and what it tells: it served, or serves nothing, or its server ended.
 abbrev pub EndsService : {W E : Type 0} → Startings → Service → ServiceFiles → Status → Outputs W E → Type 0
 EndsService starts service files status to =
-    ((status ≡ Done) × ServeEnded service files to.out) ⊎ TellsNoService service files status to.err ⊎ TellsStop starts service files status to
+    ((status ≡ Done) × ServeEnded service files to.out) ⊎ TellsNoService service files status to.err ⊎ TellsEnd starts service files status to

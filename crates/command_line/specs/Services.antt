@@ -5,7 +5,7 @@ use Rattle.start_words.specs.Numbers.{number_said}
 use Rattle.start_words.specs.Options.{HookSaid, Said, wrong}
 use Rattle.start_words.specs.Start.{given_by, start_in}
 use Rattle.start_words.specs.declared.words.StartWords.{StartWords}
-use Rattle.daemon.specs.declared.patience.Patience.{Patience}
+use Rattle.event_loop.specs.declared.limits.Limits.{Limits}
 use Rattle.command_line.specs.declared.fault.PerformFault.{PerformFault}
 use Rattle.command_line.specs.declared.fault.PerformFault.TheVariants.{Command, BadWord}
 use Rattle.commands.specs.declared.fault.CommandFault.TheVariants.{OutOfMemory}
@@ -61,8 +61,8 @@ hooks_installed (Serve given) = []
 hooks_installed (Start given) = given.options.hooks
 
 -- the seconds for which its server is patient, 60 and 5 where they are left out, and those from report to report
-abbrev pub patience_of : Said → Patience
-patience_of said = record { silence = unwrap_or said.silence 60; full = unwrap_or said.full 5; report = said.report }
+abbrev pub limits_of : Said → Limits
+limits_of said = record { idle = unwrap_or said.silence 60; crowded = unwrap_or said.full 5; report = said.report }
 
 -- the path of the registry's file
 abbrev pub config_of : Service → List ℕ

@@ -4,20 +4,21 @@ use Rattle.clients.specs.RegistryRecord.{RegistryRecord}
 use Rattle.hook_commands.specs.File.{File}
 use Rattle.state_file.specs.declared.fault.StateFault.{StateFault}
 use Rattle.commands.specs.Config.{HoldsNoRegistry, HoldsRegistry}
-use Rattle.commands.specs.Outputs.{GetsText, IsUntouched, Output, Outputs}
+use Rattle.commands.specs.Outputs.{IsUntouched, Output, Outputs, Prints}
 use Rattle.commands.specs.declared.fault.CommandFault.{CommandFault}
 use Rattle.commands.specs.declared.fault.CommandFault.TheVariants as commands
 use Rattle.commands.specs.declared.status.Status.{Status}
 use Rattle.commands.specs.declared.status.Status.TheVariants.{Done}
 use Rattle.command_line.specs.Makings.{FailsMaking, FailsUpgrade, IsUpgrade}
 use Rattle.command_line.specs.declared.making.Upgraded.{Upgraded}
-use Rattle.command_line.specs.Plans.{IsPlanOf, RefusesPlan}
-use Rattle.command_line.specs.Printed.{left_out_text, told_text, trial_text}
+use Rattle.lifetime.specs.Plans.{IsPlanOf, RefusesPlan}
 use Rattle.command_line.specs.Statuses.{end_status}
 use Rattle.command_line.specs.declared.fault.PerformFault.{PerformFault}
 use Rattle.command_line.specs.declared.fault.PerformFault.TheVariants.{Command}
-use Rattle.command_line.specs.declared.plan.Plan.{Plan}
+use Rattle.lifetime.specs.declared.plan.Plan.{Plan}
 use Rattle.command_line.specs.declared.state_command.StateCommand.{StateCommand}
+use Rattle.command_line.specs.declared.state_performing.LeftOut.{LeftOut}
+use Rattle.command_line.specs.declared.state_performing.WouldEnd.{WouldEnd}
 use Rattle.command_line.specs.declared.state_command.StateCommand.TheVariants.{New, Upgrade, Trial}
 
 -- So many codes and tokens would end: those that the narrowing to the registry ends, of the bytes that stood in the state file, and
@@ -49,16 +50,24 @@ FailsStateCommand (New path) file fault = FailsMaking path.now fault
 FailsStateCommand (Upgrade path new_path) file fault = FailsUpgrade path.now new_path.now fault
 FailsStateCommand (Trial config path) file fault = FailsTrial config.now file path.now fault
 
+-- how many bytes of an unfinished write are left out
+abbrev pub left_out : ℕ → LeftOut
+left_out torn = record { torn = torn }
+
+-- how many codes and tokens a start would end
+abbrev pub would_end : ℕ → WouldEnd
+would_end ended = record { ended = ended }
+
 -- how many bytes of an unfinished write are left out is told, if there are any
 abbrev pub IsUpgradeTold : {E : Type 0} → ℕ → Output E → Type 0
-IsUpgradeTold torn err = ((torn ≡ 0) × IsUntouched err) ⊎ GetsText err (left_out_text torn)
+IsUpgradeTold torn err = ((torn ≡ 0) × IsUntouched err) ⊎ Prints err (left_out torn)
 
 -- what is printed and told where it is done: nothing of a new file, what is left out of one that is upgraded, and what a start
 -- would end
 abbrev pub TellsDone : {W E : Type 0} → StateCommand → File → Outputs W E → Type 0
 TellsDone (New path) file to = IsUntouched to.out × IsUntouched to.err
 TellsDone (Upgrade path new_path) file to = IsUntouched to.out × (made : Upgraded) × IsUpgrade made × IsUpgradeTold made.torn to.err
-TellsDone (Trial config path) file to = IsUntouched to.err × (ended : ℕ) × IsTrial file ended × GetsText to.out (trial_text ended)
+TellsDone (Trial config path) file to = IsUntouched to.err × (ended : ℕ) × IsTrial file ended × Prints to.out (would_end ended)
 
 -- why it is not done is told, and the status is that of the fault
 pub record TellsFailure {W E : Type 0} (command : StateCommand) (file : File) (status : Status) (to : Outputs W E) : Type 0 where
@@ -66,7 +75,7 @@ pub record TellsFailure {W E : Type 0} (command : StateCommand) (file : File) (s
   pub cause : FailsStateCommand command file fault
   pub unprinted : IsUntouched to.out
   pub ended : status ≡ end_status fault
-  pub told : GetsText to.err (told_text fault)
+  pub told : Prints to.err fault
 
 -- a command on a state file ends, where this is the registry's file
 abbrev pub EndsStateCommand : {W E : Type 0} → StateCommand → File → Status → Outputs W E → Type 0

@@ -1,9 +1,9 @@
 //! What a command line calls for.
 
-ghost use Rattle.std.specs.Prelude.{◌≡◌, map};
+ghost use Rattle.std.specs.Prelude.{◌≡◌, map, string_bytes};
 ghost use Rattle.std.specs.Option.{option_copied};
 ghost use Rattle.start_words.specs.Options.{hook_said};
-ghost use Rattle.command_line.specs.Calls.{file_of, hooks_named_by, AreWordsRead};
+ghost use Rattle.command_line.specs.Calls.{asks_help, file_of, helped_by, hooks_named_by, AreNamesRead, AreWordsRead};
 
 use crate::fault::PerformFault;
 use crate::service::Service;
@@ -23,10 +23,40 @@ pub enum Call<'w> {
     Service(Service<'w>),
 }
 
+/// Whether a word asks for help.
+fn asks_help(word: &str) -> bool
+    ensures { result ≡ asks_help word.now }
+{
+    word == "-h" || word == "--help"
+}
+
+/// The command that words ask about: they begin with its name, and the last one behind it asks for help.
+fn helped<'w>(words: &'w [String]) -> Option<&'w str>
+    ensures { option_copied result ≡ helped_by (map string_bytes words.now) }
+{
+    let (name, behind) = words.split_first()?;
+    let last = behind.last()?;
+    if asks_help(last.as_str()) {
+        Some(name.as_str())
+    } else {
+        None
+    }
+}
+
 impl<'w> Call<'w> {
     /// What words call for: those behind the program's name. They are read here alone.
     pub fn from_words(alloc: Global, words: &'w [String]) -> Result<Call<'w>, PerformFault<'w>>
         ensures { AreWordsRead words.now result }
+    {
+        match helped(words) {
+            Some(name) => Ok(Call::Command(Command::Explain { name })),
+            None => Call::named(alloc, words),
+        }
+    }
+
+    // What words name that ask for no help.
+    fn named(alloc: Global, words: &'w [String]) -> Result<Call<'w>, PerformFault<'w>>
+        ensures { AreNamesRead words.now result }
     {
         if let Some(service) = Service::from_words(alloc, words)? {
             return Ok(Call::Service(service));

@@ -1,9 +1,8 @@
 //! Why what a command line calls for is not done, and with which status the program then ends.
 
-ghost use Rattle.std.specs.Prelude.{◌≡◌, Some};
+ghost use Rattle.std.specs.Prelude.{◌≡◌};
 ghost use Rattle.commands.specs.declared.fault.CommandFault.TheVariants.{OutOfMemory};
 ghost use Rattle.command_line.specs.Statuses.{end_status};
-ghost use Rattle.command_line.specs.Printed.{advice_on_opening, fault_text, keep_text, stop_text};
 ghost use Rattle.command_line.specs.declared.fault.PerformFault.TheVariants.{Command};
 
 use batch_file::appending::BatchFault;
@@ -61,18 +60,21 @@ impl<'w> PerformFault<'w> {
     }
 }
 
-impl<'w> Display for PerformFault<'w> {
-    ghost output = { λ fault. Some (fault_text fault) };
-
-    fn fmt<W: fmt::Write>(&self, f: &mut Formatter<W>) -> fmt::Result {
+impl<'w> PerformFault<'w> {
+    /// Writes what is told of it, where that is not what a command has.
+    fn write_reason<W: fmt::Write>(&self, f: &mut Formatter<W>) -> fmt::Result {
         match self {
-            PerformFault::Command(fault) => write!(f, "{fault}"),
+            PerformFault::Command(_) => Ok(()),
             PerformFault::BadWord(word, fault) => write!(f, "bad arguments: {word} {fault}"),
             PerformFault::Hook(name, fault) => write!(f, "hook {name}: {fault}"),
-            PerformFault::Unopened(path, fault) => {
-                let advice = advice_on_opening(*fault);
-                write!(f, "State {fault}: {path}{advice}")
+            PerformFault::Unopened(path, OpenFault::Missing) => {
+                let fault = OpenFault::Missing;
+                write!(
+                    f,
+                    "State {fault}: {path}; oauthd state --new FILE makes one"
+                )
             }
+            PerformFault::Unopened(path, fault) => write!(f, "State {fault}: {path}"),
             PerformFault::Unmade(path, fault) => write!(f, "State {fault}: {path}"),
             PerformFault::ClockAhead(path, seconds) => {
                 write!(
@@ -84,49 +86,25 @@ impl<'w> Display for PerformFault<'w> {
                 write!(f, "cannot listen on {address}: {reason}")
             }
             PerformFault::NoSeed => write!(f, "no random bytes"),
-            PerformFault::Stopped(fault) => write!(f, "stopped: {}", Stop(*fault)),
-            PerformFault::Unkept(fault) => write!(f, "stopped: State: {}", Unkept(*fault)),
+            PerformFault::Stopped(LoopFault::Keep) => write!(f, "stopped: State"),
+            PerformFault::Stopped(fault) => write!(f, "stopped: {fault}"),
+            PerformFault::Unkept(BatchFault::Failed(reason)) => {
+                write!(f, "stopped: State: {reason}")
+            }
+            PerformFault::Unkept(fault) => write!(f, "stopped: State: {fault}"),
         }
     }
 }
 
-/// What helps where a file is not opened, if that is known.
-fn advice_on_opening(fault: OpenFault) -> &'static str
-    ensures { result.now ≡ advice_on_opening fault }
-{
-    match fault {
-        OpenFault::Missing => "; oauthd state --new FILE makes one",
-        _ => "",
-    }
-}
-
-/// Why a server can't go on: where it can't keep its state, that is named.
-#[derive(Clone, Copy)]
-struct Stop(LoopFault);
-
-impl Display for Stop {
-    ghost output = { λ stop. Some (stop_text stop.0) };
-
+/// The line in which a fault is told.
+impl<'w> Display for PerformFault<'w> {
     fn fmt<W: fmt::Write>(&self, f: &mut Formatter<W>) -> fmt::Result {
-        match self.0 {
-            LoopFault::Keep => write!(f, "State"),
-            fault => write!(f, "{fault}"),
+        if let PerformFault::Command(fault) = self {
+            return write!(f, "{fault}");
         }
-    }
-}
-
-/// Why a batch is not kept: where the disk failed, the system's reason.
-#[derive(Clone, Copy)]
-struct Unkept(BatchFault);
-
-impl Display for Unkept {
-    ghost output = { λ unkept. Some (keep_text unkept.0) };
-
-    fn fmt<W: fmt::Write>(&self, f: &mut Formatter<W>) -> fmt::Result {
-        match self.0 {
-            BatchFault::Failed(reason) => write!(f, "{reason}"),
-            fault => write!(f, "{fault}"),
-        }
+        write!(f, "oauthd: ")?;
+        self.write_reason(f)?;
+        write!(f, "\n")
     }
 }
 

@@ -5,8 +5,7 @@ ghost use Rattle.batch_file.specs.Frames.{IsReadable, lists, recovered};
 ghost use Rattle.command_line.specs.Makings.{FailsMaking, FailsUpgrade, IsUpgrade, IsUpgradeOf, RefusesUpgrade};
 
 use crate::fault::PerformFault;
-use crate::opening::open_at;
-use batch_file::disk_file::{MakeFault, make};
+use batch_file::disk_file::{DiskFile, MakeFault, OpenFault, make};
 use batch_file::frames::{AddFault, Frames};
 use batch_file::framing::{ReadFault, read_batches};
 use batch_file::version_1::{Batches1, read_version_1};
@@ -106,7 +105,11 @@ pub fn upgrade<'w, R: Files<File = File> + AllocGlobal>(
     ensures refused { IfErr result (FailsUpgrade path.now new_path.now) }
 {
     let alloc = rt.alloc();
-    let opened = open_at(rt, path)?;
+    let opened = match DiskFile::open(rt, path) {
+        Ok(opened) => opened,
+        Err(OpenFault::Memory) => return Err(PerformFault::Command(CommandFault::OutOfMemory)),
+        Err(fault) => return Err(PerformFault::Unopened(path, fault)),
+    };
     match upgrade_of(alloc, &opened.bytes) {
         Ok(Upgraded { bytes, torn }) => {
             let bytes = write_new(rt, new_path, bytes)?;

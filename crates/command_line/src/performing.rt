@@ -1,79 +1,64 @@
 //! The program without its surroundings: words in, lines and a status out.
 
 ghost use Rattle.std.specs.Prelude.{◌≡◌, ◌⊎◌, OnOk, IfErr};
+ghost use Rattle.daemon.specs.Starts.{handed_anew};
 ghost use Rattle.command_line.specs.Endings.{EndsCall, EndsWords, IsTold};
-ghost use Rattle.command_line.specs.Faults.{IsOfListening, IsOfStop};
+ghost use Rattle.command_line.specs.Faults.{IsNotOpened, IsOfListening};
 ghost use Rattle.daemon.specs.Listening.{Announces};
 ghost use Rattle.command_line.specs.Listening.{EndsService, FailsService, files_in, ServeEnded};
 ghost use Rattle.commands.specs.Outputs.{output, outputs};
-ghost use Rattle.command_line.specs.Startings.{startings};
+ghost use Rattle.command_line.specs.Services.{limits_of};
+ghost use Rattle.command_line.specs.Startings.{EndsAnew, EndsOn, handed_by, startings};
 
 use crate::call::Call;
 use crate::call_files::{CallFiles, read_files};
-use crate::clock::Clocked;
 use crate::fault::PerformFault;
-use crate::hook_files::{HooksTaken, take_hooks};
+use crate::hook_files::{HooksTaken, kept_hooks, take_hooks};
 use crate::service::{ServeWords, Service};
-use crate::state::start_at;
 use crate::state_performing::perform_state;
-use batch_file::appending::BatchFault;
+use crate::stopping::{deaf, end_of, unopened};
+use batch_file::device::Device;
 use batch_file::disk_file::DiskFile;
-use change_codec::Keeper;
 use clients::Registry;
-use commands::{CommandFault, Status, moment_now, perform_command, registry_of, write_text};
-use daemon::{Ended, LineJournal, ListenFault, MachineClocks, Patience, go_on, serve, start};
-use endpoints::ImageKeeper;
-use event_loop::{Clocks, Journal, LoopFault};
-use state_file::{Started, StateKeeper};
+use commands::{Printer, Status, moment_now, perform_command, registry_of};
+use daemon::{LineJournal, ListenFault, OpeningFault, StateTerms, Terms, serve, start, start_on};
+use event_loop::{Journal, Limits};
+use hook_chain::Chain;
+use start_words::Options;
 use std::fs::File;
-use std::io::Write;
 use std::net::Net;
 use std::random::RandomSource;
 use std::rt::{Clock, Files};
-
-/// What keeps a server's changes on the disk.
-type OnDisk<'r, R> = StateKeeper<DiskFile<'r, R>>;
-
-/// What tells the time.
-type Ticks<'r, R> = MachineClocks<'r, R>;
 
 /// What faults and reports are told to, as lines.
 type Lines<'e, E> = LineJournal<'e, E>;
 
 /// Tells a fault in one line, and says how the program then ends. A write that fails is bad use.
-pub fn told<E: Write>(fault: PerformFault<'_>, err: &mut E) -> Status
-    ensures { (result ≡ Status.BadUse) ⊎ IsTold fault.entry result (output E.contents err.old err.new) }
+pub fn told<E: Printer>(fault: PerformFault<'_>, err: &mut E) -> Status
+    ensures { (result ≡ Status.BadUse) ⊎ IsTold fault.entry result (output E.contents E.prints err.old err.new) }
 {
-    match write_text(err, format_args!("oauthd: {fault}\n")) {
+    match err.print(&fault) {
         Ok(()) => fault.status(),
         Err(_) => Status::BadUse,
     }
 }
 
-/// The fault of a service for which no socket is had at an address.
-fn deaf<'w>(address: &'w str, fault: ListenFault) -> PerformFault<'w>
-    ensures { IsOfListening address.now fault result }
+/// The limits by which options say that a server serves.
+fn limits_of(options: &Options<'_>) -> Limits
+    ensures { result ≡ limits_of options.now }
 {
-    match fault {
-        ListenFault::NoSeed => PerformFault::NoSeed,
-        ListenFault::NoSocket(fault) => PerformFault::CannotListen(address, fault),
-        ListenFault::Unwritten => PerformFault::Command(CommandFault::CannotWrite),
-        ListenFault::Memory => PerformFault::Command(CommandFault::OutOfMemory),
-    }
-}
-
-/// The fault of a server that stopped: where it could not keep its state, why, if that is known.
-fn stop_of(fault: LoopFault, why: Option<BatchFault>) -> PerformFault<'static>
-    ensures { IsOfStop fault result }
-{
-    match (fault, why) {
-        (LoopFault::Keep, Some(why)) => PerformFault::Unkept(why),
-        (fault, _) => PerformFault::Stopped(fault),
+    Limits {
+        idle: u64::from(options.silence()),
+        crowded: u64::from(options.full()),
+        report: match options.report() {
+            Some(seconds) => Some(u64::from(seconds)),
+            None => None,
+        },
     }
 }
 
 /// Serves so many connections.
-fn serve_count<'w, R: Net + Clock + AllocGlobal, W: Write>(
+fn serve_count<'w, R: Net + Clock + AllocGlobal, W: Printer>(
     rt: &R,
     given: &ServeWords<'w>,
     registry: Registry,
@@ -88,14 +73,66 @@ fn serve_count<'w, R: Net + Clock + AllocGlobal, W: Write>(
     }
 }
 
+/// Starts a server that keeps nothing, and gives why it serves nothing, or no longer.
+fn start_anew<
+    'r,
+    'e,
+    'w,
+    R: Files<File = File> + Net + Clock + RandomSource + AllocGlobal,
+    W: Printer,
+    E: Printer + 'e,
+>(
+    rt: &'r R,
+    terms: Terms<'w>,
+    registry: Registry,
+    hooks: Chain,
+    out: &mut W,
+    err: &mut E,
+) -> PerformFault<'w>
+    ensures { ((err.new ≡ err.old) × (cause : ListenFault) × IsOfListening terms.entry.address.now cause result)
+        ⊎ EndsAnew (startings ⟦<DiskFile<'r, R> as Device>⟧ ⟦<Lines<'e, E> as Journal>⟧)
+        (handed_anew registry hooks terms.entry.limits) result (output W.contents W.prints out.old out.new) }
+{
+    match start(rt, terms, registry, hooks, out, err) {
+        Ok(served) => PerformFault::Stopped(served.fault),
+        Err(fault) => deaf(terms.address, fault),
+    }
+}
+
+/// Starts a server on the file of its state, and gives why it serves nothing, or no longer.
+fn start_on_state<
+    'r,
+    'e,
+    'w,
+    R: Files<File = File> + Net + Clock + RandomSource + AllocGlobal,
+    W: Printer,
+    E: Printer + 'e,
+>(
+    rt: &'r R,
+    terms: Terms<'w>,
+    state: StateTerms<'w, '_>,
+    registry: Registry,
+    out: &mut W,
+    err: &mut E,
+) -> PerformFault<'w>
+    ensures { ((err.new ≡ err.old) × IsNotOpened terms.entry.address.now state.entry.path.now result)
+        ⊎ EndsOn (startings ⟦<DiskFile<'r, R> as Device>⟧ ⟦<Lines<'e, E> as Journal>⟧) state.entry.path.now
+        (handed_by registry terms.entry state.entry) result (output W.contents W.prints out.old out.new) }
+{
+    match start_on(rt, terms, state, registry, out, err) {
+        Ok(lived) => end_of(state.path, lived.end),
+        Err(fault) => unopened(terms.address, state.path, fault),
+    }
+}
+
 /// Serves, until that is over, or can't go on. Of the registry's text nothing stays in memory.
 fn serve_as<
     'r,
     'e,
     'w,
     R: Files<File = File> + Net + Clock + RandomSource + AllocGlobal,
-    W: Write,
-    E: Write + 'e,
+    W: Printer,
+    E: Printer + 'e,
 >(
     rt: &'r R,
     service: &Service<'w>,
@@ -103,12 +140,11 @@ fn serve_as<
     out: &mut W,
     err: &mut E,
 ) -> Result<(), PerformFault<'w>>
-    ensures done { OnOk result (ServeEnded service.now (files_in files.entry) (output W.contents out.old out.new)) }
+    ensures done { OnOk result (ServeEnded service.now (files_in files.entry) (output W.contents W.prints out.old out.new)) }
     ensures fault { IfErr result (λ fault.
-        FailsService (startings ⟦<Ticks<'r, R> as Clocks>⟧
-        ⟦<Lines<'e, E> as Journal>⟧ ⟦<OnDisk<'r, R> as Keeper>⟧ ⟦<OnDisk<'r, R> as ImageKeeper>⟧.is_long)
+        FailsService (startings ⟦<DiskFile<'r, R> as Device>⟧ ⟦<Lines<'e, E> as Journal>⟧)
         service.now (files_in files.entry) fault
-        (outputs (output W.contents out.old out.new) (output E.contents err.old err.new))) }
+        (outputs (output W.contents W.prints out.old out.new) (output E.contents E.prints err.old err.new))) }
 {
     let CallFiles { named, hooks } = files;
     let registry = registry_of(rt.alloc(), service.config(), named)?;
@@ -117,26 +153,21 @@ fn serve_as<
         Service::Serve(given) => return serve_count(rt, given, registry, out),
     };
     let HooksTaken { chain, codes } = take_hooks(rt.alloc(), &hooks)?;
-    let patience = Patience {
-        silence: given.options.silence(),
-        full: given.options.full(),
-        report: given.options.report(),
+    let options = &given.options;
+    let terms = Terms {
+        address: given.address,
+        limits: limits_of(options),
     };
-    let Some(path) = given.options.state() else {
-        return match start(rt, given.address, registry, chain, patience, out, err) {
-            Ok(fault) => Err(PerformFault::Stopped(fault)),
-            Err(fault) => Err(deaf(given.address, fault)),
-        };
+    let Some(path) = options.state() else {
+        return Err(start_anew(rt, terms, registry, chain, out, err));
     };
-    let clock = Clocked {
-        now: moment_now(rt),
-        far: given.options.clock(),
+    let hooks = kept_hooks(rt.alloc(), &codes)?;
+    let state = StateTerms {
+        path,
+        hooks: &hooks,
+        ahead: options.ahead(),
     };
-    let Started { server, keeper, .. } = start_at(rt, path, registry, &codes, clock, err)?;
-    match go_on(rt, given.address, server, keeper, patience, out, err) {
-        Ok(Ended { fault, keeper }) => Err(stop_of(fault, keeper.fault())),
-        Err(fault) => Err(deaf(given.address, fault)),
-    }
+    Err(start_on_state(rt, terms, state, registry, out, err))
 }
 
 /// Serves, and says how the program then ends. `files` are what stands in the files that the service names.
@@ -144,15 +175,14 @@ pub fn perform_service<
     'r,
     'e,
     R: Files<File = File> + Net + Clock + RandomSource + AllocGlobal,
-    W: Write,
-    E: Write + 'e,
+    W: Printer,
+    E: Printer + 'e,
 >(rt: &'r R, service: &Service<'_>, files: CallFiles<'_>, out: &mut W, err: &mut E) -> Status
     // Bad use may be that of a fault that could not be told.
     ensures { (result ≡ Status.BadUse)
-        ⊎ EndsService (startings ⟦<Ticks<'r, R> as Clocks>⟧
-        ⟦<Lines<'e, E> as Journal>⟧ ⟦<OnDisk<'r, R> as Keeper>⟧ ⟦<OnDisk<'r, R> as ImageKeeper>⟧.is_long)
+        ⊎ EndsService (startings ⟦<DiskFile<'r, R> as Device>⟧ ⟦<Lines<'e, E> as Journal>⟧)
         service.now (files_in files.entry) result
-        (outputs (output W.contents out.old out.new) (output E.contents err.old err.new)) }
+        (outputs (output W.contents W.prints out.old out.new) (output E.contents E.prints err.old err.new)) }
 {
     match serve_as(rt, service, files, out, err) {
         Ok(()) => Status::Done,
@@ -165,15 +195,14 @@ fn perform_call<
     'r,
     'e,
     R: Files<File = File> + Net + Clock + RandomSource + AllocGlobal,
-    W: Write,
-    E: Write + 'e,
+    W: Printer,
+    E: Printer + 'e,
 >(rt: &'r R, call: &Call<'_>, files: CallFiles<'_>, out: &mut W, err: &mut E) -> Status
     // Bad use may be that of a write that failed.
     ensures { (result ≡ Status.BadUse)
-        ⊎ EndsCall (startings ⟦<Ticks<'r, R> as Clocks>⟧
-        ⟦<Lines<'e, E> as Journal>⟧ ⟦<OnDisk<'r, R> as Keeper>⟧ ⟦<OnDisk<'r, R> as ImageKeeper>⟧.is_long)
+        ⊎ EndsCall (startings ⟦<DiskFile<'r, R> as Device>⟧ ⟦<Lines<'e, E> as Journal>⟧)
         call.now (files_in files.entry) result
-        (outputs (output W.contents out.old out.new) (output E.contents err.old err.new)) }
+        (outputs (output W.contents W.prints out.old out.new) (output E.contents E.prints err.old err.new)) }
 {
     match call {
         Call::Command(command) => {
@@ -191,14 +220,13 @@ pub fn perform<
     'r,
     'e,
     R: Files<File = File> + Net + Clock + RandomSource + AllocGlobal,
-    W: Write,
-    E: Write + 'e,
+    W: Printer,
+    E: Printer + 'e,
 >(rt: &'r R, words: &[String], out: &mut W, err: &mut E) -> Status
     // Bad use may be that of a write that failed.
     ensures { (result ≡ Status.BadUse)
-        ⊎ EndsWords (startings ⟦<Ticks<'r, R> as Clocks>⟧
-        ⟦<Lines<'e, E> as Journal>⟧ ⟦<OnDisk<'r, R> as Keeper>⟧ ⟦<OnDisk<'r, R> as ImageKeeper>⟧.is_long)
-        words.now result (outputs (output W.contents out.old out.new) (output E.contents err.old err.new)) }
+        ⊎ EndsWords (startings ⟦<DiskFile<'r, R> as Device>⟧ ⟦<Lines<'e, E> as Journal>⟧)
+        words.now result (outputs (output W.contents W.prints out.old out.new) (output E.contents E.prints err.old err.new)) }
 {
     let call = match Call::from_words(rt.alloc(), words) {
         Ok(call) => call,

@@ -2,21 +2,52 @@
 
 ghost use Rattle.std.specs.Prelude.{◌≡◌, ◌⊎◌, IfOk, IfErr};
 ghost use Rattle.commands.specs.NamedFiles.{bytes_in};
-ghost use Rattle.commands.specs.Outputs.{GetsText, output, outputs};
-ghost use Rattle.command_line.specs.Printed.{trial_text};
-ghost use Rattle.command_line.specs.StateEndings.{EndsStateCommand, FailsTrial, IsTrial, IsUpgradeTold};
+ghost use Rattle.commands.specs.Outputs.{output, outputs, Prints};
+ghost use Rattle.command_line.specs.StateEndings.{would_end, EndsStateCommand, FailsTrial, IsTrial, IsUpgradeTold};
 
 use crate::fault::PerformFault;
 use crate::making::{make_new, upgrade};
 use crate::performing::told;
-use crate::plan::plan_of;
 use crate::state_command::StateCommand;
 use commands::{
-    CommandFault, NamedFile, Status, Unwritten, bytes_at, failed, registry_of, write_text,
+    CommandFault, NamedFile, Printer, Status, Unwritten, bytes_at, failed, registry_of,
 };
+use lifetime::plan_of;
+use std::fmt::{self, Display, Formatter, Write};
 use std::fs::File;
-use std::io::Write;
 use std::rt::Files;
+
+/// How many bytes of an unfinished write are left out of a new file.
+#[derive(Clone, Copy)]
+pub struct LeftOut {
+    pub torn: usize,
+}
+
+impl Display for LeftOut {
+    fn fmt<W: Write>(&self, f: &mut Formatter<W>) -> fmt::Result {
+        let torn = self.torn;
+        write!(
+            f,
+            "oauthd: state: {torn} bytes of an unfinished write are left out\n"
+        )
+    }
+}
+
+/// How many codes and tokens a start would end.
+#[derive(Clone, Copy)]
+pub struct WouldEnd {
+    pub ended: usize,
+}
+
+impl Display for WouldEnd {
+    fn fmt<W: Write>(&self, f: &mut Formatter<W>) -> fmt::Result {
+        let ended = self.ended;
+        write!(
+            f,
+            "{ended} codes and tokens would end, beyond the registry\n"
+        )
+    }
+}
 
 /// How many codes and tokens a start on the state file of a path would end, under the registry of a file. Nothing is written.
 fn ended_by<'w, R: Files<File = File> + AllocGlobal>(
@@ -41,30 +72,24 @@ fn ended_by<'w, R: Files<File = File> + AllocGlobal>(
 
 /// Tells how many bytes of an unfinished write are left out of a new file, where there are some, and says how the program then
 /// ends. A write that fails is bad use.
-fn told_upgrade<E: Write>(torn: usize, err: &mut E) -> Status
-    ensures { (result ≡ Status.BadUse) ⊎ ((result ≡ Status.Done) × IsUpgradeTold torn (output E.contents err.old err.new)) }
+fn told_upgrade<E: Printer>(torn: usize, err: &mut E) -> Status
+    ensures { (result ≡ Status.BadUse) ⊎ ((result ≡ Status.Done) × IsUpgradeTold torn (output E.contents E.prints err.old err.new)) }
 {
     if torn == 0 {
         return Status::Done;
     }
-    match write_text(
-        err,
-        format_args!("oauthd: state: {torn} bytes of an unfinished write are left out\n"),
-    ) {
+    match err.print(&LeftOut { torn }) {
         Ok(()) => Status::Done,
         Err(_) => Status::BadUse,
     }
 }
 
 /// Tells how many codes and tokens a start would end, and says how the program then ends. A write that fails is bad use.
-fn told_trial<W: Write, E: Write>(ended: usize, out: &mut W, err: &mut E) -> Status
+fn told_trial<W: Printer, E: Printer>(ended: usize, out: &mut W, err: &mut E) -> Status
     ensures { (result ≡ Status.BadUse)
-        ⊎ ((result ≡ Status.Done) × (err.new ≡ err.old) × GetsText (output W.contents out.old out.new) (trial_text ended)) }
+        ⊎ ((result ≡ Status.Done) × (err.new ≡ err.old) × Prints (output W.contents W.prints out.old out.new) (would_end ended)) }
 {
-    match write_text(
-        out,
-        format_args!("{ended} codes and tokens would end, beyond the registry\n"),
-    ) {
+    match out.print(&WouldEnd { ended }) {
         Ok(()) => Status::Done,
         Err(_) => failed(Unwritten::Answer, err),
     }
@@ -72,7 +97,7 @@ fn told_trial<W: Write, E: Write>(ended: usize, out: &mut W, err: &mut E) -> Sta
 
 /// Carries out a command on a state file, and says how the program then ends. `file` is the registry's, where the command names
 /// one, and `None` where that cannot be read.
-pub fn perform_state<R: Files<File = File> + AllocGlobal, W: Write, E: Write>(
+pub fn perform_state<R: Files<File = File> + AllocGlobal, W: Printer, E: Printer>(
     rt: &R,
     command: StateCommand<'_>,
     file: Option<NamedFile>,
@@ -82,7 +107,7 @@ pub fn perform_state<R: Files<File = File> + AllocGlobal, W: Write, E: Write>(
     // Bad use may be that of a write that failed.
     ensures { (result ≡ Status.BadUse)
         ⊎ EndsStateCommand command.entry (bytes_in file) result
-        (outputs (output W.contents out.old out.new) (output E.contents err.old err.new)) }
+        (outputs (output W.contents W.prints out.old out.new) (output E.contents E.prints err.old err.new)) }
 {
     match command {
         StateCommand::New { path } => match make_new(rt, path) {

@@ -6,14 +6,10 @@ pub mod Help
 pub mod NamedFiles
 pub mod Outputs
 pub mod Performed
-pub mod Printed
 pub mod Registries
-pub mod Runs
 pub mod States
 pub mod Statuses
 pub mod Transcripts
 pub mod Words
--- Laws, each proved: a reader may skip them.
-pub mod RunLaws
 -- What only the contracts of this crate's own parts and their proofs cite.
 pub mod StatusesParts

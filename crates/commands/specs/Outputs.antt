@@ -2,17 +2,18 @@
 use Rattle.std.specs.Prelude.{◌≡◌, ℕ, List, Option}
 use Rattle.std.specs.Io.KnownBytes.{Appends}
 
--- what is written to, as it was and as it is, each seen as the bytes so far
-pub record Output (W : Type 0) : Type 0 where
+-- what is written to, as it was and as it is, each seen as the bytes so far; and that a value is printed to it, whole
+pub record Output (W : Type 0) : Type 1 where
   pub seen : W → Option (List ℕ)
+  pub prints : (D : Type 0) → W → D → W → Type 0
   pub old : W
   pub new : W
 
-abbrev pub output : {W : Type 0} → (W → Option (List ℕ)) → W → W → Output W
-output seen old new = record { seen = seen; old = old; new = new }
+abbrev pub output : {W : Type 0} → (W → Option (List ℕ)) → ((D : Type 0) → W → D → W → Type 0) → W → W → Output W
+output seen prints old new = record { seen = seen; prints = prints; old = old; new = new }
 
 -- standard output, where answers go, and standard error, where faults go
-pub record Outputs (W E : Type 0) : Type 0 where
+pub record Outputs (W E : Type 0) : Type 1 where
   pub out : Output W
   pub err : Output E
 
@@ -22,6 +23,10 @@ outputs out err = record { out = out; err = err }
 -- nothing is written to it
 abbrev pub IsUntouched : {W : Type 0} → Output W → Type 0
 IsUntouched to = to.new ≡ to.old
+
+-- the value is printed to it, behind all that was
+abbrev pub Prints : {W D : Type 0} → Output W → D → Type 0
+Prints to value = to.prints _ to.old value to.new
 
 -- the text is written to it, behind all that was
 abbrev pub GetsText : {W : Type 0} → Output W → List ℕ → Type 0

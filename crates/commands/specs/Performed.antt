@@ -1,32 +1,41 @@
 -- How a command that answers ends: what is written, and the status that then comes.
-use Rattle.std.specs.Prelude.{◌≡◌, ◌⊎◌, Option, Ok, Err}
+use Rattle.std.specs.Prelude.{◌≡◌, ◌⊎◌, IfSome, Option, Ok, Err}
 use Rattle.commands.specs.declared.answer.Answer.{Answer}
+use Rattle.commands.specs.declared.answer.Answer.TheVariants as answers
 use Rattle.commands.specs.declared.command.Command.{Command}
 use Rattle.commands.specs.declared.fault.CommandFault.{CommandFault}
 use Rattle.commands.specs.declared.status.Status.{Status}
 use Rattle.commands.specs.Answers.{IsAnsweredBy}
 use Rattle.commands.specs.declared.named_file.NamedFile.{NamedFile}
-use Rattle.commands.specs.Outputs.{Output, Outputs, IsUntouched, GetsText}
-use Rattle.commands.specs.Printed.{answer_text, command_fault_text, line_of_fault}
+use Rattle.commands.specs.Outputs.{Output, Outputs, GetsText, IsUntouched, Prints}
+use Rattle.hook_commands.specs.Printed.{hook_answer_text}
 use Rattle.commands.specs.Statuses.{status_of_answer, status_of_command_fault}
+
+-- an answer is printed: as a value, or byte by byte where a machine reads it
+abbrev pub IsPrinted : {W : Type 0} → Answer → Output W → Type 0
+IsPrinted (answers.Hook answer) out = Prints out answer × IfSome (hook_answer_text answer) (GetsText out)
+IsPrinted (answers.Registry told) out = Prints out told
+IsPrinted (answers.Lines text) out = GetsText out text.items
+IsPrinted (answers.Replayed bytes) out = GetsText out bytes.items
+IsPrinted (answers.Page text) out = GetsText out text.now
 
 -- the fault is told in its line, and the status is that of the fault
 abbrev pub IsTold : {E : Type 0} → CommandFault → Status → Output E → Type 0
-IsTold fault status err = (status ≡ status_of_command_fault fault) × GetsText err (line_of_fault (command_fault_text fault))
+IsTold fault status err = (status ≡ status_of_command_fault fault) × Prints err fault
 
 -- what a command answers is printed, and it is done, or a program is refused
 pub record PrintsAnswer {W : Type 0} (command : Command) (file : Option NamedFile) (status : Status) (out : Output W) : Type 0 where
   pub answer : Answer
   pub answered : IsAnsweredBy command file (Ok answer)
   pub done : status ≡ status_of_answer answer
-  pub printed : GetsText out (answer_text answer)
+  pub printed : IsPrinted answer out
 
 -- why a command has no answer is told, and the status is that of the fault
 pub record TellsFault {E : Type 0} (command : Command) (file : Option NamedFile) (status : Status) (err : Output E) : Type 0 where
   pub fault : CommandFault
   pub answered : IsAnsweredBy command file (Err fault)
   pub ended : status ≡ status_of_command_fault fault
-  pub told : GetsText err (line_of_fault (command_fault_text fault))
+  pub told : Prints err fault
 
 -- A command ends: it is done, and tells nothing; or it tells a fault, and prints nothing.
 abbrev pub EndsCommand : {W E : Type 0} → Command → Option NamedFile → Status → Outputs W E → Type 0

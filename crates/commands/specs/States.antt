@@ -14,7 +14,7 @@ use Rattle.commands.specs.declared.answer.Answer.{Answer}
 use Rattle.commands.specs.declared.answer.Answer.TheVariants as answers
 use Rattle.commands.specs.declared.fault.CommandFault.{CommandFault}
 use Rattle.commands.specs.declared.fault.CommandFault.TheVariants as faults
-use Rattle.commands.specs.Runs.{OfEachRun}
+use Rattle.state_file.specs.Runs.{OfEachRun}
 
 -- what is told of the file as a whole
 abbrev pub facts_of : List ℕ → Option ℕ → FileFacts

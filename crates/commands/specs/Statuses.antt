@@ -1,5 +1,8 @@
 -- The status with which the program ends.
 use Rattle.std.specs.Prelude.{ℕ}
+use Rattle.assembler.specs.declared.fault.AsmFault.TheVariants as asm
+use Rattle.insn.specs.declared.fault.InsnFault.TheVariants as insn
+use Rattle.insn.specs.declared.verify_fault.VerifyFault.TheVariants as verify
 use Rattle.hook_commands.specs.declared.answer.HookAnswer.TheVariants as hook_answers
 use Rattle.hook_commands.specs.declared.fault.HookCommandFault.{HookCommandFault}
 use Rattle.hook_commands.specs.declared.fault.HookCommandFault.TheVariants as hook
@@ -24,8 +27,11 @@ status_of_hook_command hook.BadRecord = BadUse
 status_of_hook_command (hook.CannotRead path) = BadUse
 status_of_hook_command (hook.IsElf path) = BadUse
 status_of_hook_command (hook.IsNotHex path) = BadUse
+status_of_hook_command (hook.Text asm.Memory) = NoMemory
 status_of_hook_command (hook.Text fault) = Refused
+status_of_hook_command (hook.Insn insn.Memory) = NoMemory
 status_of_hook_command (hook.Insn fault) = Refused
+status_of_hook_command (hook.Verify verify.Memory) = NoMemory
 status_of_hook_command (hook.Verify fault) = Refused
 status_of_hook_command hook.OutOfMemory = NoMemory
 
@@ -45,5 +51,6 @@ status_of_command_fault CannotWrite = BadUse
 
 -- an answer that tells why a program is refused ends as a refusal, every other one is done
 abbrev pub status_of_answer : Answer → Status
-status_of_answer (answers.Hook (hook_answers.Refusal text)) = Refused
+status_of_answer (answers.Hook (hook_answers.Looked fault help)) = Refused
+status_of_answer (answers.Hook (hook_answers.Refused told)) = Refused
 status_of_answer answer = Done

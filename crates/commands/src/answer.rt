@@ -1,21 +1,23 @@
 //! What a command that is done prints.
 
 ghost use Rattle.std.specs.Prelude.{◌≡◌, OnOk};
-ghost use Rattle.std.specs.Io.KnownBytes.{Appends};
-ghost use Rattle.commands.specs.Printed.{answer_text};
+ghost use Rattle.commands.specs.Outputs.{output};
+ghost use Rattle.commands.specs.Performed.{IsPrinted};
 ghost use Rattle.commands.specs.Statuses.{status_of_answer};
 
+use crate::output::Printer;
+use crate::registry::RegistryTold;
 use crate::status::Status;
 use hook_commands::HookAnswer;
-use std::io::{self, Write};
+use std::io;
 
 /// What a command answers.
-#[derive(Debug, Drop)]
+#[derive(Drop)]
 pub enum Answer {
     /// What a command about a hook answers.
     Hook(HookAnswer),
     /// What a registry says.
-    Listing(String),
+    Registry(RegistryTold),
     /// What a state file stands for.
     Lines(Vec<u8>),
     /// What the server of a transcript sent to each connection.
@@ -30,18 +32,19 @@ impl Answer {
         ensures { result ≡ status_of_answer self.now }
     {
         match self {
-            Answer::Hook(HookAnswer::Refusal(_)) => Status::Refused,
+            Answer::Hook(HookAnswer::Looked { .. }) => Status::Refused,
+            Answer::Hook(HookAnswer::Refused(_)) => Status::Refused,
             _ => Status::Done,
         }
     }
 
     /// Writes all of it, to where it is to go.
-    pub fn write_to<W: Write>(&self, to: &mut W) -> io::Result<()>
-        ensures { OnOk result (Appends (W.contents to.old) (W.contents to.new) (answer_text self.now)) }
+    pub fn write_to<W: Printer>(&self, to: &mut W) -> io::Result<()>
+        ensures { OnOk result (IsPrinted self.now (output W.contents W.prints to.old to.new)) }
     {
         match self {
-            Answer::Hook(answer) => write!(to, "{answer}")?,
-            Answer::Listing(text) => to.write_all(text.as_bytes())?,
+            Answer::Hook(answer) => return to.print(answer),
+            Answer::Registry(told) => return to.print(told),
             Answer::Lines(text) => to.write_all(text)?,
             Answer::Replayed(bytes) => to.write_all(bytes)?,
             Answer::Page(text) => to.write_all(text.as_bytes())?,

@@ -1,15 +1,17 @@
 //! Why a command has no answer, and with which status the program then ends.
 
-ghost use Rattle.std.specs.Prelude.{◌≡◌, Some};
+ghost use Rattle.std.specs.Prelude.{◌≡◌};
 ghost use Rattle.commands.specs.Statuses.{status_of_command_fault, status_of_hook_command};
 ghost use Rattle.commands.specs.Faults.{of_configuring, of_replaying, IsOfState};
-ghost use Rattle.commands.specs.Printed.{advice_on, command_fault_text};
 ghost use Rattle.commands.specs.declared.fault.CommandFault.TheVariants.{OutOfMemory};
 
 use crate::status::Status;
+use assembler::AsmFault;
 use clients::{ConfigFault, Spot};
 use hook_commands::HookCommandFault;
 use http_edge::EdgeFault;
+use insn::fault::InsnFault;
+use insn::verify_fault::VerifyFault;
 use state_file::StateFault;
 use std::alloc::AllocError;
 use std::fmt::{self, Display, Formatter};
@@ -47,6 +49,10 @@ fn status_of_hook_command(fault: &HookCommandFault<'_>) -> Status
     ensures { result ≡ status_of_hook_command fault.now }
 {
     match fault {
+        HookCommandFault::Text(AsmFault::Memory)
+        | HookCommandFault::Insn(InsnFault::Memory)
+        | HookCommandFault::Verify(VerifyFault::Memory)
+        | HookCommandFault::OutOfMemory => Status::NoMemory,
         HookCommandFault::Text(_) | HookCommandFault::Insn(_) | HookCommandFault::Verify(_) => {
             Status::Refused
         }
@@ -55,7 +61,6 @@ fn status_of_hook_command(fault: &HookCommandFault<'_>) -> Status
         | HookCommandFault::CannotRead(_)
         | HookCommandFault::IsElf(_)
         | HookCommandFault::IsNotHex(_) => Status::BadUse,
-        HookCommandFault::OutOfMemory => Status::NoMemory,
     }
 }
 
@@ -80,10 +85,9 @@ impl<'w> CommandFault<'w> {
     }
 }
 
-impl<'w> Display for CommandFault<'w> {
-    ghost output = { λ fault. Some (command_fault_text fault) };
-
-    fn fmt<W: fmt::Write>(&self, f: &mut Formatter<W>) -> fmt::Result {
+impl<'w> CommandFault<'w> {
+    /// Writes what is told of it.
+    fn write_reason<W: fmt::Write>(&self, f: &mut Formatter<W>) -> fmt::Result {
         match self {
             CommandFault::BadArguments => write!(f, "bad arguments"),
             CommandFault::HookCommand(fault) => write!(f, "{fault}"),
@@ -96,10 +100,19 @@ impl<'w> Display for CommandFault<'w> {
                 let advice = advice_on(fault);
                 write!(f, "State {fault}: {path}{advice}")
             }
-            CommandFault::StateAt(number, fault) => { write!(f, "State {fault} in batch {number}") }
+            CommandFault::StateAt(number, fault) => write!(f, "State {fault} in batch {number}"),
             CommandFault::OutOfMemory => write!(f, "out of memory"),
             CommandFault::CannotWrite => write!(f, "cannot write"),
         }
+    }
+}
+
+/// The line in which a fault is told.
+impl<'w> Display for CommandFault<'w> {
+    fn fmt<W: fmt::Write>(&self, f: &mut Formatter<W>) -> fmt::Result {
+        write!(f, "oauthd: ")?;
+        self.write_reason(f)?;
+        write!(f, "\n")
     }
 }
 
@@ -128,9 +141,7 @@ impl<'w> From<ReplayFault> for CommandFault<'w> {
 }
 
 /// What helps against a fault of a state file, where that is known.
-fn advice_on(fault: &StateFault) -> &'static str
-    ensures { result.now ≡ advice_on fault.now }
-{
+fn advice_on(fault: &StateFault) -> &'static str {
     match fault {
         StateFault::NotState => "; oauthd state --new FILE makes one",
         StateFault::Version(1) => "; oauthd state --upgrade FILE NEW makes one of this version",

@@ -29,7 +29,7 @@ pub use config_file::registry_of;
 pub use fault::CommandFault;
 pub use moment::moment_now;
 pub use named_file::{NamedFile, Readers, bytes_at, file_at};
-pub use output::{Unwritten, failed, report, told, write_text};
+pub use output::{Printer, Unwritten, failed, report, told};
 pub use perform::{carry_out, perform_command};
 pub use status::Status;
 pub use words::program_words;

@@ -1,10 +1,10 @@
 //! `registry FILE`: what the registry in a file says, or where its first fault lies.
 
-ghost use Rattle.std.specs.Prelude.{◌≡◌, ◌≢◌, ◌++◌, Err, Some, IfOk, string_bytes};
+ghost use Rattle.std.specs.Prelude.{◌≡◌, ◌≢◌, Err, IfOk};
 ghost use Rattle.std.specs.Option.{option_copied};
 ghost use Rattle.clients.specs.Registry.{registry_in};
 ghost use Rattle.clients.specs.declared.fault.ConfigFault.TheVariants as config;
-ghost use Rattle.commands.specs.Registries.{IsFaultTold, IsRegistryTold, number_line, lives_text, counts_text, scopes_text, registry_text, readers_text, warnings_text, whole_text};
+ghost use Rattle.commands.specs.Registries.{IsFaultTold, IsRegistryTold, IsToldOf};
 
 use crate::answer::Answer;
 use crate::fault::CommandFault;
@@ -15,125 +15,67 @@ use registry_warnings::warnings;
 use std::alloc::{AllocError, Global};
 use std::fmt::{self, Display, Formatter, Write};
 
-/// A name and its number, in a line.
-#[derive(Clone, Copy)]
-struct NumberLine<'n> {
-    name: &'n str,
-    number: u64,
+/// What a registry says, and what in it, in its text and in who may read that may be a mistake.
+#[derive(Drop)]
+pub struct RegistryTold {
+    /// How many seconds an access token lives.
+    pub access_life: u32,
+    /// How many seconds a refresh token lives.
+    pub refresh_life: u32,
+    /// How many owners there are.
+    pub owners: usize,
+    /// How many clients there are.
+    pub clients: usize,
+    /// All scope names.
+    pub scopes: String,
+    /// The warnings about its text, a line each.
+    pub warnings: String,
+    /// An owner has the operator's key.
+    pub has_operator_among_owners: bool,
+    /// An access token lives longer than a refresh token.
+    pub access_lives_longer: bool,
+    /// Who may read the file.
+    pub readers: Readers,
 }
 
-impl<'n> Display for NumberLine<'n> {
-    ghost output = { λ line. Some (number_line line.name.now line.number) };
-
+impl Display for RegistryTold {
     fn fmt<W: Write>(&self, f: &mut Formatter<W>) -> fmt::Result {
-        let (name, number) = (self.name, self.number);
-        write!(f, "{name} {number}\n")
+        let (access, refresh) = (self.access_life, self.refresh_life);
+        write!(f, "access_life {access}\nrefresh_life {refresh}\n")?;
+        let (owners, clients) = (self.owners, self.clients);
+        write!(f, "owners {owners}\nclients {clients}\n")?;
+        write!(f, "scopes {}\n{}", self.scopes, self.warnings)?;
+        if self.has_operator_among_owners {
+            write!(f, "warning: an owner has the operator's key\n")?;
+        }
+        if self.access_lives_longer {
+            write!(f, "warning: access_life is above refresh_life\n")?;
+        }
+        match self.readers {
+            Readers::Chosen => Ok(()),
+            Readers::Everybody => write!(f, "warning: everybody may read the file\n"),
+        }
     }
 }
 
-/// Two numbers, a line each.
-fn two_lines(
-    alloc: Global,
-    first: NumberLine<'_>,
-    second: NumberLine<'_>,
-) -> Result<String, AllocError>
-    ensures { IfOk result (λ text. string_bytes text ≡
-        number_line first.entry.name.now first.entry.number ++ number_line second.entry.name.now second.entry.number) }
-{
-    let mut text = String::new(alloc);
-    write!(text, "{first}")?;
-    write!(text, "{second}")?;
-    Ok(text)
-}
-
-/// The lives of tokens in seconds, a line each.
-fn lives_text(alloc: Global, registry: &Registry) -> Result<String, AllocError>
-    ensures { IfOk result (λ text. string_bytes text ≡ lives_text registry.now) }
-{
-    let access = NumberLine {
-        name: "access_life",
-        number: u64::from(registry.access_life()),
-    };
-    let refresh = NumberLine {
-        name: "refresh_life",
-        number: u64::from(registry.refresh_life()),
-    };
-    two_lines(alloc, access, refresh)
-}
-
-/// How many owners and clients there are, a line each.
-fn counts_text(alloc: Global, registry: &Registry) -> Result<String, AllocError>
-    ensures { IfOk result (λ text. string_bytes text ≡ counts_text registry.now) }
-{
-    let owners = NumberLine {
-        name: "owners",
-        number: registry.owner_count() as u64,
-    };
-    let clients = NumberLine {
-        name: "clients",
-        number: registry.client_count() as u64,
-    };
-    two_lines(alloc, owners, clients)
-}
-
-/// All scope names, in a line.
-fn scopes_text(alloc: Global, registry: &Registry) -> Result<String, AllocError>
-    ensures { IfOk result (λ text. string_bytes text ≡ scopes_text registry.now) }
+/// What is told of the registry in a file.
+fn told_of(alloc: Global, file: &NamedFile, registry: &Registry) -> Result<RegistryTold, AllocError>
+    ensures { IfOk result (IsToldOf file.now registry.now) }
 {
     let scopes = registry
         .catalogue()
         .scope_text(alloc, ScopeSet::new(u64::MAX))?;
-    format!(in alloc; "scopes {scopes}\n")
-}
-
-/// What a registry says, a line each.
-fn registry_text(alloc: Global, registry: &Registry) -> Result<String, AllocError>
-    ensures { IfOk result (λ text. string_bytes text ≡ registry_text registry.now) }
-{
-    let mut text = lives_text(alloc, registry)?;
-    text.push_str(&counts_text(alloc, registry)?)?;
-    text.push_str(&scopes_text(alloc, registry)?)?;
-    Ok(text)
-}
-
-/// What in a registry may be a mistake, a line each.
-fn warnings_text(registry: &Registry) -> (&'static str, &'static str)
-    ensures { result.0.now ++ result.1.now ≡ warnings_text registry.now }
-{
-    let key = if registry.has_operator_among_owners() {
-        "warning: an owner has the operator's key\n"
-    } else {
-        ""
-    };
-    let lives = if registry.access_life() > registry.refresh_life() {
-        "warning: access_life is above refresh_life\n"
-    } else {
-        ""
-    };
-    (key, lives)
-}
-
-/// That everybody may read the keys and secrets in a file, or their digests.
-fn readers_text(readers: Readers) -> &'static str
-    ensures { result.now ≡ readers_text readers }
-{
-    match readers {
-        Readers::Chosen => "",
-        Readers::Everybody => "warning: everybody may read the file\n",
-    }
-}
-
-/// What a registry says, and what in it, in its text and in who may read that may be a mistake.
-fn whole_text(alloc: Global, file: &NamedFile, registry: &Registry) -> Result<String, AllocError>
-    ensures { IfOk result (λ text. string_bytes text ≡ whole_text file.now registry.now) }
-{
-    let mut text = registry_text(alloc, registry)?;
-    text.push_str(&warnings(alloc, &file.bytes)?)?;
-    let (key, lives) = warnings_text(registry);
-    text.push_str(key)?;
-    text.push_str(lives)?;
-    text.push_str(readers_text(file.readers))?;
-    Ok(text)
+    Ok(RegistryTold {
+        access_life: registry.access_life(),
+        refresh_life: registry.refresh_life(),
+        owners: registry.owner_count(),
+        clients: registry.client_count(),
+        scopes,
+        warnings: warnings(alloc, &file.bytes)?,
+        has_operator_among_owners: registry.has_operator_among_owners(),
+        access_lives_longer: registry.access_life() > registry.refresh_life(),
+        readers: file.readers,
+    })
 }
 
 /// The fault of a file's text that is no registry, with where in it the fault lies.
@@ -164,7 +106,7 @@ pub fn told_registry<'w>(
         return Err(CommandFault::CannotRead(path));
     };
     match Registry::read(alloc, &file.bytes) {
-        Ok(registry) => Ok(Answer::Listing(whole_text(alloc, file, &registry)?)),
+        Ok(registry) => Ok(Answer::Registry(told_of(alloc, file, &registry)?)),
         Err(ConfigFault::Memory) => Err(CommandFault::OutOfMemory),
         Err(fault) => Err(located(alloc, &file.bytes, fault)?),
     }

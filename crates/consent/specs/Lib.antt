@@ -6,6 +6,10 @@ pub mod Consents
 pub mod Changes
 pub mod Seen
 pub mod FaultTexts
+pub mod Facts
+pub mod RecordFacts
+pub mod Formats
+pub mod RecordFormats
 -- What only the contracts of this crate's own parts and their proofs cite.
 pub mod Covered
 pub mod Growth

@@ -1,3 +1,2 @@
 mod Joining
 mod Leading
-mod Starting

@@ -1,5 +1,4 @@
--- Why there is no socket at an address, and how that is printed.
-use Rattle.std.specs.Prelude.{ℕ, List, codes}
+-- Why there is no socket at an address.
 use Rattle.std.specs.declared.io.ErrorKind.{ErrorKind}
 use Rattle.std.specs.declared.io.ErrorKind.TheVariants as kinds
 use Rattle.daemon.specs.declared.fault.SocketFault.{SocketFault}
@@ -12,10 +11,3 @@ socket_fault kinds.AddrInUse = AddressInUse
 socket_fault kinds.AddrNotAvailable = AddressNotAvailable
 socket_fault kinds.PermissionDenied = PermissionDenied
 socket_fault kind = Other
-
-abbrev pub socket_fault_text : SocketFault → List ℕ
-socket_fault_text NoAddress = codes "no address"
-socket_fault_text AddressInUse = codes "address in use"
-socket_fault_text AddressNotAvailable = codes "address not available"
-socket_fault_text PermissionDenied = codes "permission denied"
-socket_fault_text Other = codes "the system refuses it"

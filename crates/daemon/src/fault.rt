@@ -1,10 +1,11 @@
 //! Why a server does not listen.
 
-ghost use Rattle.std.specs.Prelude.{◌≡◌, Some};
+ghost use Rattle.std.specs.Prelude.{◌≡◌};
 ghost use Rattle.std.specs.IoError.{error_kind};
-ghost use Rattle.daemon.specs.FaultTexts.{socket_fault, socket_fault_text};
+ghost use Rattle.daemon.specs.FaultTexts.{socket_fault};
 ghost use Rattle.daemon.specs.declared.fault.ListenFault.TheVariants.{NoSocket};
 
+use batch_file::disk_file::OpenFault;
 use std::alloc::AllocError;
 use std::fmt::{self, Display, Formatter};
 use std::io::{self, ErrorKind};
@@ -40,8 +41,6 @@ impl SocketFault {
 }
 
 impl Display for SocketFault {
-    ghost output = { λ fault. Some (socket_fault_text fault) };
-
     fn fmt<W: fmt::Write>(&self, f: &mut Formatter<W>) -> fmt::Result {
         match self {
             SocketFault::NoAddress => write!(f, "no address"),
@@ -82,5 +81,34 @@ impl From<AllocError> for ListenFault {
 
     fn from(_error: AllocError) -> ListenFault {
         ListenFault::Memory
+    }
+}
+
+/// Why a start opened no socket, or not the file of its state.
+#[derive(Clone, Copy, Debug, PartialEq, Eq)]
+pub enum OpeningFault {
+    /// The server does not listen.
+    Socket(ListenFault),
+    /// The file is not opened.
+    File(OpenFault),
+}
+
+impl From<ListenFault> for OpeningFault {
+    ghost use Rattle.daemon.specs.declared.fault.OpeningFault.TheVariants.{Socket};
+
+    ghost from_gives = { λ why fault. fault ≡ Socket why };
+
+    fn from(why: ListenFault) -> OpeningFault {
+        OpeningFault::Socket(why)
+    }
+}
+
+impl From<OpenFault> for OpeningFault {
+    ghost use Rattle.daemon.specs.declared.fault.OpeningFault.TheVariants.{File};
+
+    ghost from_gives = { λ why fault. fault ≡ File why };
+
+    fn from(why: OpenFault) -> OpeningFault {
+        OpeningFault::File(why)
     }
 }

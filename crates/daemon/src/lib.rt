@@ -1,25 +1,25 @@
 //! The server on the machine's sockets and clocks: it listens, and serves the connections that come.
 #![tactic(auto)]
 
+mod announcement;
 mod by_count;
+mod call_log;
 mod fault;
 mod line_journal;
 mod listening;
 mod machine_clock;
 mod machine_clocks;
-mod means;
 mod outlet;
-mod patience;
+mod ports;
 mod report_line;
 mod sockets;
-mod until_stopped;
+mod starting;
 
 pub use by_count::serve;
-pub use fault::{ListenFault, SocketFault};
+pub use call_log::CallLog;
+pub use fault::{ListenFault, OpeningFault, SocketFault};
 pub use line_journal::LineJournal;
 pub use machine_clocks::MachineClocks;
-pub use means::{Ended, Ending, Means, go_on_with, serve_with};
-pub use patience::Patience;
 pub use report_line::report_text;
 pub use sockets::MachineSockets;
-pub use until_stopped::{go_on, start};
+pub use starting::{Lived, Served, StateTerms, Terms, start, start_on};

@@ -1,23 +1,78 @@
 //! Faults and reports, in lines.
 
-ghost use Rattle.std.specs.Prelude.{◌≡◌, ◌<◌, ◌⊎◌, ◌+◌, ◌-◌, ◌^◌, min};
+ghost use Rattle.std.specs.Prelude.{◌≡◌, ◌<◌, ◌⊎◌, ◌+◌, ◌-◌, ◌^◌, IfOk, min, string_bytes};
+ghost use Rattle.daemon.specs.NoticeTexts.{notice_text, set_aside_text};
 
 use crate::outlet::Outlet;
 use crate::report_line::report_text;
-use event_loop::{ConnectionFault, Journal, Notice, Report};
+use event_loop::{ConnectionFault, Journal, Notice};
 use std::alloc::{AllocError, Global};
 use std::io::Write;
+use std::net::Net;
 
 /// Where each fault is noted in a line, and each report. One for which there is no room at once, or no memory, or that can't be
 /// written, is lost. How many there was no room for is told once there is.
 #[derive(Drop)]
 pub struct LineJournal<'e, E> {
     pub(crate) alloc: Global,
+    /// The path of the file of the state, where there is one.
+    pub(crate) path: &'e str,
     pub(crate) lines: &'e mut E,
     /// That of the lines.
     pub(crate) outlet: Outlet,
     /// How many lines there was no room for since that was told.
     pub(crate) dropped: u64,
+}
+
+impl<'e, E: Write> LineJournal<'e, E> {
+    /// A journal that noted nothing yet, about the file of the state at a path, where there is one.
+    pub(crate) fn new<R: Net + AllocGlobal>(rt: &R, path: &'e str, lines: &'e mut E) -> Self
+        ensures { result.path.now ≡ path.now }
+    {
+        LineJournal {
+            alloc: rt.alloc(),
+            path,
+            lines,
+            outlet: Outlet::new(rt, rt.alloc()),
+            dropped: 0,
+        }
+    }
+}
+
+/// The line that tells how many bytes of an unfinished write are beside the file of a path.
+fn set_aside_line(alloc: Global, path: &str, count: usize) -> Result<String, AllocError>
+    ensures { IfOk result (λ line. string_bytes line ≡ set_aside_text path.now count) }
+{
+    let mut line = String::new(alloc);
+    write!(
+        line,
+        "oauthd: state: {count} bytes of an unfinished write are in {path}.torn\n"
+    )?;
+    Ok(line)
+}
+
+/// A notice, as a line.
+fn notice_line(alloc: Global, path: &str, notice: &Notice) -> Result<Vec<u8>, AllocError>
+    ensures { IfOk result (λ line. line.items ≡ notice_text path.now notice.now) }
+{
+    match notice {
+        Notice::Reported(report) => {
+            let mut line = report_text(alloc, report)?;
+            line.push(b'\n')?;
+            Ok(line)
+        }
+        Notice::StoreFull => Ok(format!(in alloc; "oauthd: store full\n")?.into_bytes()),
+        Notice::ImageRefused => Ok(format!(in alloc;
+            "oauthd: state: the file cannot be shortened; it grows until that works\n"
+        )?.into_bytes()),
+        Notice::SetAside(count) => Ok(set_aside_line(alloc, path, *count)?.into_bytes()),
+        Notice::Narrowed(count) => Ok(format!(in alloc;
+            "oauthd: state: {count} codes and tokens ended, beyond the registry\n"
+        )?.into_bytes()),
+        Notice::Ahead(seconds) => Ok(format!(in alloc;
+            "oauthd: state: {seconds} seconds ahead of the clock; nothing expires until then\n"
+        )?.into_bytes()),
+    }
 }
 
 impl<'e, E: Write> LineJournal<'e, E> {
@@ -68,25 +123,7 @@ impl<'e, E: Write> Journal for LineJournal<'e, E> {
     }
 
     fn report(&mut self, notice: &Notice) {
-        match notice {
-            Notice::Reported(report) => self.print(report),
-            Notice::StoreFull => self.tell(b"oauthd: store full\n"),
-            Notice::ImageRefused => {
-                self.tell(
-                    b"oauthd: state: the file cannot be shortened; it grows until that works\n",
-                );
-            }
-        }
-    }
-}
-
-impl<'e, E: Write> LineJournal<'e, E> {
-    // A report, in a line.
-    fn print(&mut self, report: &Report) {
-        let Ok(mut line) = report_text(self.alloc, report) else {
-            return;
-        };
-        if line.push(b'\n').is_ok() {
+        if let Ok(line) = notice_line(self.alloc, self.path, notice) {
             self.tell(&line);
         }
     }

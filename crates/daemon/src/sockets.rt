@@ -1,220 +1,73 @@
-//! The machine's sockets: a listener, and the connections at their places.
+//! The machine's sockets, as the loop uses them.
 
-ghost use Rattle.std.specs.Prelude.{◌≤◌, length};
+ghost use Rattle.std.specs.Prelude.{◌≡◌, []};
+ghost use Rattle.daemon.specs.Noting.{NotesCall};
 
-use crate::fault::{ListenFault, SocketFault};
-use event_loop::{Accepted, PLACES, Ready, Received, Sent, Sockets};
-use mio::event::Event;
-use mio::net::{TcpListener, TcpStream};
-use mio::{Events, Interest, Poll, Token};
-use std::alloc::{AllocError, Global};
-use std::io::{ErrorKind, Read, Write};
-use std::net::{Net, Shutdown, SocketAddr, ToSocketAddrs};
-use std::time::Duration;
+use crate::call_log::{CallLog, SystemCall};
+use crate::ports::Ports;
+use event_loop::{Accepted, Ready, Received, Sent, Sockets};
 
-/// The listener is told of under this number, and each connection under that of its place.
-const LISTENER: Token = Token(PLACES as usize);
-
-/// So much may be told at once: of the listener, and of each connection.
-const TOLD_LIMIT: usize = PLACES as usize + 1;
-
-/// So often is a call made that the system breaks off.
-const TRIES: u32 = 16;
-
-/// So many pieces are read of a connection that is seen off.
-const LAST_PIECES: u32 = 64;
-
-/// A listener and the connections at their places, and what tells of them.
+/// A listener and its connections, with a log of what they did.
 #[derive(Drop)]
 pub struct MachineSockets {
-    poll: Poll,
-    events: Events,
-    listener: TcpListener,
-    streams: Vec<Option<TcpStream>>,
-}
-
-/// A listener at the first of the addresses that a text names at which there can be one; or the fault of the last.
-fn listener_at<R: Net>(rt: &R, address: &str) -> Result<TcpListener, ListenFault> {
-    let mut fault = ListenFault::NoSocket(SocketFault::NoAddress);
-    let Ok(addresses) = address.to_socket_addrs(rt) else {
-        return Err(fault);
-    };
-    for each in addresses {
-        match TcpListener::bind(rt, each) {
-            Ok(listener) => return Ok(listener),
-            Err(error) => fault = ListenFault::no_socket(&error),
-        }
-    }
-    Err(fault)
-}
-
-/// So many places without a connection.
-fn free_places(alloc: Global) -> Result<Vec<Option<TcpStream>>, AllocError> {
-    let mut places = Vec::with_capacity(alloc, PLACES as usize)?;
-    for _ in 0..PLACES {
-        places.push(None)?;
-    }
-    Ok(places)
-}
-
-/// What an event tells.
-fn ready_by(event: &Event) -> Ready {
-    let is_over = event.is_error() || event.is_read_closed();
-    match u32::try_from(event.token().0) {
-        Ok(place) if place < PLACES => Ready::Connection {
-            place,
-            readable: event.is_readable() || is_over,
-            writable: event.is_writable(),
-            hung: is_over,
-        },
-        _ => Ready::Listener,
-    }
-}
-
-/// Lets a client have what was written to it. A socket that is closed before all of its bytes are read takes back what
-/// its client has not read, so they are read here, as far as they have come, and dropped.
-fn see_off(mut stream: TcpStream) {
-    let _ = stream.shutdown(Shutdown::Write);
-    let mut buffer = [0; 2048];
-    for _ in 0..LAST_PIECES {
-        let Ok(count) = stream.read(&mut buffer) else {
-            return;
-        };
-        if count == 0 {
-            return;
-        }
-    }
+    ports: Ports,
+    log: CallLog,
 }
 
 impl MachineSockets {
-    /// Listens at an address.
-    pub fn listen<R: Net>(
-        rt: &R,
-        alloc: Global,
-        address: &str,
-    ) -> Result<MachineSockets, ListenFault> {
-        let events = Events::with_capacity(alloc, TOLD_LIMIT)?;
-        let streams = free_places(alloc)?;
-        let mut listener = listener_at(rt, address)?;
-        let poll = match Poll::new(rt) {
-            Ok(poll) => poll,
-            Err(error) => return Err(ListenFault::no_socket(&error)),
-        };
-        let registry = poll.registry();
-        if let Err(error) = registry.register(&mut listener, LISTENER, Interest::READABLE) {
-            return Err(ListenFault::no_socket(&error));
+    /// A listener without connections.
+    pub(crate) fn new(ports: Ports) -> MachineSockets
+        ensures { result.log.calls ≡ [] }
+    {
+        MachineSockets {
+            ports,
+            log: CallLog::new(),
         }
-        Ok(MachineSockets {
-            poll,
-            events,
-            listener,
-            streams,
-        })
-    }
-
-    /// Where it listens.
-    pub fn address(&self) -> Option<SocketAddr> {
-        self.listener.local_addr().ok()
-    }
-
-    // Puts a connection at its place.
-    fn seat(&mut self, mut stream: TcpStream, place: u32) -> Accepted {
-        let _ = stream.set_nodelay(true);
-        let both = Interest::READABLE | Interest::WRITABLE;
-        let token = Token(place as usize);
-        let Ok(()) = self.poll.registry().register(&mut stream, token, both) else {
-            return Accepted::Failed;
-        };
-        let Some(held) = self.streams.get_mut(place as usize) else {
-            return Accepted::Failed;
-        };
-        *held = Some(stream);
-        Accepted::Taken
     }
 }
 
 impl Sockets for MachineSockets {
-    // The system promises nothing.
-    ghost does = { λ _ _ _. Unit {0} };
+    ghost does = { NotesCall };
 
     fn wait(&mut self, limit: Option<u64>, found: &mut [Ready]) -> Option<usize> {
-        let timeout = limit.map(Duration::from_millis);
-        let Ok(()) = self.poll.poll(&mut self.events, timeout) else {
-            return None;
-        };
-        let mut count = 0;
-        for event in self.events.iter() {
-            if count < found.len() {
-                found[count] = ready_by(event);
-                count += 1;
-            }
-        }
-        Some(count)
+        let count = self.ports.wait(limit, found);
+        self.log.note(&SystemCall::Wait {
+            limit,
+            count,
+            found,
+        });
+        count
     }
 
     fn ask(&mut self) {
-        let _ = self
-            .poll
-            .registry()
-            .reregister(&mut self.listener, LISTENER, Interest::READABLE);
+        self.ports.ask();
+        self.log.note(&SystemCall::Ask);
     }
 
     fn accept(&mut self, place: u32) -> Accepted {
-        for _ in 0..TRIES {
-            match self.listener.accept() {
-                Ok((stream, _)) => return self.seat(stream, place),
-                Err(error) => match error.kind() {
-                    ErrorKind::WouldBlock => return Accepted::Later,
-                    ErrorKind::Interrupted | ErrorKind::ConnectionAborted => {}
-                    _ => return Accepted::Failed,
-                },
-            }
-        }
-        Accepted::Failed
+        let came = self.ports.accept(place);
+        self.log.note(&SystemCall::Accept { place, came });
+        came
     }
 
     fn read(&mut self, place: u32, buffer: &mut [u8]) -> Received {
-        let Some(Some(stream)) = self.streams.get_mut(place as usize) else {
-            return Received::Failed;
-        };
-        for _ in 0..TRIES {
-            match stream.read(buffer) {
-                Ok(0) => return Received::End,
-                Ok(count) => return Received::Bytes(count),
-                Err(error) => match error.kind() {
-                    ErrorKind::WouldBlock => return Received::Later,
-                    ErrorKind::Interrupted => {}
-                    _ => return Received::Failed,
-                },
-            }
-        }
-        Received::Failed
+        let came = self.ports.read(place, buffer);
+        self.log.note(&SystemCall::Read {
+            place,
+            came,
+            buffer,
+        });
+        came
     }
 
     fn write(&mut self, place: u32, bytes: &[u8]) -> Sent {
-        let Some(Some(stream)) = self.streams.get_mut(place as usize) else {
-            return Sent::Failed;
-        };
-        for _ in 0..TRIES {
-            match stream.write(bytes) {
-                Ok(0) => return Sent::Failed,
-                Ok(count) => return Sent::Bytes(count),
-                Err(error) => match error.kind() {
-                    ErrorKind::WouldBlock => return Sent::Later,
-                    ErrorKind::Interrupted => {}
-                    _ => return Sent::Failed,
-                },
-            }
-        }
-        Sent::Failed
+        let took = self.ports.write(place, bytes);
+        self.log.note(&SystemCall::Write { place, took, bytes });
+        took
     }
 
     fn close(&mut self, place: u32) {
-        let Some(held) = self.streams.get_mut(place as usize) else {
-            return;
-        };
-        if let Some(stream) = held.take() {
-            see_off(stream);
-        }
+        self.ports.close(place);
+        self.log.note(&SystemCall::Close { place });
     }
 }

@@ -20,7 +20,7 @@ use Rattle.consent.specs.declared.kept_consent.KeptConsent.{KeptConsent}
 use Rattle.token_store.specs.Fits.{to_keep}
 use Rattle.token_store.specs.Image.{as_kept, kept_record}
 use Rattle.token_store.specs.Kept.{Kept, kept_at}
-use Rattle.token_store.specs.declared.image.KeptRecord.{KeptRecord}
+use Rattle.consent.specs.declared.kept_record.KeptRecord.{KeptRecord}
 use Rattle.endpoints.specs.Bounded.{AllRight, IsOwn, IsRightChange, MayHave, token_life_limit}
 use Rattle.endpoints.specs.Restoring.{AreOf, are_allowed, is_allowed, lives_within}
 use Rattle.endpoints.specs.Right.{may_have}

@@ -16,7 +16,7 @@ use Rattle.consent.specs.declared.kept_consent.ListFault.TheVariants as list
 use Rattle.token_store.specs.Fits.{FitsHistory, FitsStore}
 use Rattle.token_store.specs.Image.{HasDigestTwice, as_kept, kept_record}
 use Rattle.token_store.specs.Kept.{Kept, kept_unexpired}
-use Rattle.token_store.specs.declared.image.KeptRecord.{KeptRecord}
+use Rattle.consent.specs.declared.kept_record.KeptRecord.{KeptRecord}
 use Rattle.token_store.specs.declared.restoring.RestoreFault.{RestoreFault as StoreFault}
 use Rattle.token_store.specs.declared.restoring.RestoreFault.TheVariants as store
 use Rattle.endpoints.specs.Bounded.{AllRight, token_life_limit}

@@ -33,7 +33,7 @@ impl From<AllocError> for ImageFault {
 /// A keeper that may put an image of a server in the place of all that it keeps, so that this does not grow without end.
 pub trait ImageKeeper: Keeper {
     ghost use Rattle.std.specs.Prelude.{◌≡◌, ◌≢◌, OnOk, IfErr, IsErrOf};
-    ghost use Rattle.change_codec.specs.Keeping.{crashes, KeepsMoments, TellsMoments};
+    ghost use Rattle.change_codec.specs.Keeping.{crashes, KeepsBasis, TellsBasis};
     ghost use Rattle.endpoints.specs.Imaging.{KeepsImage, KeepsNoImage};
     ghost use Rattle.endpoints.specs.declared.image_keeper.ImageFault.TheVariants.{Failed};
 
@@ -43,15 +43,15 @@ pub trait ImageKeeper: Keeper {
     /// Where it keeps more than it may, an image of the server is put in the place of that, and else nothing is done. The
     /// server has to be one of which all is kept.
     fn put_image<H: HookHost>(&mut self, server: &Server<H>) -> Result<(), ImageFault>
-        ensures kept { OnOk result (KeepsImage H.HookHost (crashes Self.stands_for Self.until Self.may_leave Self.moment Self.left_since) server.now self.old self.new) }
+        ensures kept { OnOk result (KeepsImage H.HookHost (crashes Self.stands_for Self.tells Self.may_leave Self.moment Self.left_since) server.now self.old self.new) }
         ensures short { OnOk result (¬ (is_long self.new)) }
         ensures left { OnOk result (¬ (is_long self.old) → self.new ≡ self.old) }
         // An image is refused only where what is kept is long, and that is as it was.
         ensures refused { IfErr result (λ fault. fault ≢ Failed → is_long self.old) }
         ensures same { IfErr result (λ fault. fault ≢ Failed → self.new ≡ self.old) }
-        ensures failed { IsErrOf result Failed → KeepsNoImage H.HookHost (crashes Self.stands_for Self.until Self.may_leave Self.moment Self.left_since) server.now self.old self.new }
-        ensures moments { OnOk result (KeepsMoments (crashes Self.stands_for Self.until Self.may_leave Self.moment Self.left_since) self.old self.new) }
-        ensures meanwhile { TellsMoments (crashes Self.stands_for Self.until Self.may_leave Self.moment Self.left_since) self.old self.new };
+        ensures failed { IsErrOf result Failed → KeepsNoImage H.HookHost (crashes Self.stands_for Self.tells Self.may_leave Self.moment Self.left_since) server.now self.old self.new }
+        ensures basis { OnOk result (KeepsBasis (crashes Self.stands_for Self.tells Self.may_leave Self.moment Self.left_since) self.old self.new) }
+        ensures meanwhile { TellsBasis (crashes Self.stands_for Self.tells Self.may_leave Self.moment Self.left_since) self.old self.new };
 }
 
 impl ImageKeeper for NoKeeper {

@@ -7,9 +7,8 @@ ghost use Rattle.endpoints.specs.declared.restoring.RestoreFault.TheVariants.{Me
 
 use crate::right::{life_limit, may_have};
 use clients::Registry;
-use consent::{CODE_LIFE, ListFault, Moment};
+use consent::{CODE_LIFE, KeptKind, KeptRecord, ListFault, Moment};
 use std::fmt::{self, Display, Formatter, Write};
-use token_store::{KeptKind, KeptRecord};
 
 /// Why no server is made of codes, tokens and consents.
 #[derive(Clone, Copy, Debug, PartialEq, Eq)]

@@ -34,14 +34,14 @@ use crate::ruling::{Checked, Ruling};
 use answers::{Answer, Cause, Decision, Endpoint, Halt, Tally, View, Want, status_of, write};
 use change_codec::Batch;
 use clients::Registry;
-use consent::{Change, Changes, Consents, KeptConsent, Moment};
+use consent::{Change, Changes, Consents, KeptConsent, KeptRecord, Moment};
 use hook_host::HookHost;
 use http::StatusCode;
 use messages::{Draws, Request, Response, failure};
 use std::alloc::{AllocError, Global};
 use std::marker::Model;
 use token_endpoint::decide;
-use token_store::{KeptRecord, Store};
+use token_store::Store;
 
 /// An authorization server, with any host of hooks.
 pub struct Server<H> {

@@ -12,50 +12,50 @@ use Rattle.http_edge.specs.declared.fault.EdgeFault.TheVariants.{TooManyRequests
 use Rattle.http_edge.specs.Sources.{draws_for}
 use Rattle.http_edge.specs.Pieces.{PieceGiven, RefusesPiece, supplied}
 use Rattle.http_edge.specs.contracts.chance.ChaCha20RngDrawSource.TheImpl as generators
-use Rattle.event_loop.specs.Courses.{Course}
+use Rattle.event_loop.specs.Progress.{Progress}
 use Rattle.event_loop.specs.Giving.{GivesPieces, nothing, gives, cut_limit}
 use Rattle.event_loop.specs.GivingParts.{GivesAll, GivesSome}
 
 module _ {H : Type 0} (hosting : Hosting H) (piece : Piece) where
   -- a front of its bytes was given
-  pub record GivesFront (first : Course H) (front : List ℕ) (edge : SeenEdge H) (generator : ChaCha) : Type 0 where
+  pub record GivesFront (first : Progress H) (front : List ℕ) (edge : SeenEdge H) (generator : ChaCha) : Type 0 where
     pub journey : Journey H
     pub given : GivesPieces hosting piece first front (record { edge = edge; generator = generator; journey = journey })
 
   -- one more part was given
-  pub gives_part : (first course : Course H) (front part : List ℕ) (edge : SeenEdge H) (generator : ChaCha) → GivesPieces hosting piece first front course →
-      Reached hosting course.edge course.journey → is_closing (connection_at course.journey.world.connections piece.connection) ≡ false →
-      PieceGiven hosting generators.ghosts (supplied course.edge course.generator) (record piece { bytes = part }) (supplied edge generator) → GivesFront first (front ++ part) edge generator
-  gives_part first course front part edge generator given reached stays part_given =
-      let on = part_given.leads course.journey reached in
+  pub gives_part : (first progress : Progress H) (front part : List ℕ) (edge : SeenEdge H) (generator : ChaCha) → GivesPieces hosting piece first front progress →
+      Reached hosting progress.edge progress.journey → is_closing (connection_at progress.journey.world.connections piece.connection) ≡ false →
+      PieceGiven hosting generators.ghosts (supplied progress.edge progress.generator) (record piece { bytes = part }) (supplied edge generator) → GivesFront first (front ++ part) edge generator
+  gives_part first progress front part edge generator given reached stays part_given =
+      let on = part_given.leads progress.journey reached in
       record {
-        journey = led_on course.journey (Came (record { piece = record piece { bytes = part }; draws = draws_for generators.ghosts course.generator part_given.messages; marks = on.marks; closes = on.closes }) ∷ []) on.on.world;
-        given = gives part given stays (record { edge = edge; generator = generator; messages = part_given.messages; brought = part_given.brought course.journey reached; after = part_given.source_is; on = on });
+        journey = led_on progress.journey (Came (record { piece = record piece { bytes = part }; draws = draws_for generators.ghosts progress.generator part_given.messages; mishaps = on.mishaps; closes = on.closes }) ∷ []) on.on.world;
+        given = gives part given stays (record { edge = edge; generator = generator; messages = part_given.messages; brought = part_given.brought progress.journey reached; after = part_given.source_is; on = on });
       }
 
   -- all was given at once
-  pub heard_at_once : (course : Course H) (edge : SeenEdge H) (generator : ChaCha) → Reached hosting course.edge course.journey →
-      is_closing (connection_at course.journey.world.connections piece.connection) ≡ false → PieceGiven hosting generators.ghosts (supplied course.edge course.generator) piece (supplied edge generator) → GivesAll hosting piece course (supplied edge generator)
-  heard_at_once course edge generator reached stays piece_given =
-      let front = gives_part course course [] piece.bytes edge generator nothing reached stays piece_given in
+  pub heard_at_once : (progress : Progress H) (edge : SeenEdge H) (generator : ChaCha) → Reached hosting progress.edge progress.journey →
+      is_closing (connection_at progress.journey.world.connections piece.connection) ≡ false → PieceGiven hosting generators.ghosts (supplied progress.edge progress.generator) piece (supplied edge generator) → GivesAll hosting piece progress (supplied edge generator)
+  heard_at_once progress edge generator reached stays piece_given =
+      let front = gives_part progress progress [] piece.bytes edge generator nothing reached stays piece_given in
       record {
         journey = front.journey;
         heard = record { given = piece.bytes; rest = []; all = sym (append-nil piece.bytes); gives = front.given; over = inl refl };
       }
 
   -- a part behind the front was refused, and is not cut
-  pub unheard_behind : (first course : Course H) (front part rest : List ℕ) (fault : EdgeFault) (edge : SeenEdge H) (generator : ChaCha) → GivesPieces hosting piece first front course →
-      Reached hosting course.edge course.journey → piece.bytes ≡ front ++ (part ++ rest) → RefusesPiece hosting course.edge (record piece { bytes = part }) None fault → edge ≡ course.edge → generator ≡ course.generator →
+  pub unheard_behind : (first progress : Progress H) (front part rest : List ℕ) (fault : EdgeFault) (edge : SeenEdge H) (generator : ChaCha) → GivesPieces hosting piece first front progress →
+      Reached hosting progress.edge progress.journey → piece.bytes ≡ front ++ (part ++ rest) → RefusesPiece hosting progress.edge (record piece { bytes = part }) None fault → edge ≡ progress.edge → generator ≡ progress.generator →
       (fault ≡ TooManyRequests → length part ≤ cut_limit) → GivesSome hosting piece fault first (supplied edge generator)
-  unheard_behind first course front part rest fault edge generator given reached all refused same undrawn cut = record {
-    journey = course.journey;
+  unheard_behind first progress front part rest fault edge generator given reached all refused same undrawn cut = record {
+    journey = progress.journey;
     unheard = record {
       given = front;
       part = part;
       rest = rest;
       all = all;
       gives = rw (same, undrawn) given;
-      refused = refused course.journey reached;
+      refused = refused progress.journey reached;
       cut = cut;
     };
   }

@@ -1,18 +1,19 @@
--- Each crash leaves what stands for what was kept at some scene.
-use Rattle.std.proofs.Common.{◌≡◌, ◌⊎◌, inl, inr, ◌≤◌, ℕ, suc, max, List, [], ◌∷◌, Some, refl, sym, ap, subst, ◌∙◌, arith}
+-- Each crash leaves what stands for what was kept at some state.
+use Rattle.std.proofs.Common.{◌≡◌, ◌⊎◌, inl, inr, ℕ, suc, max, List, [], ◌∷◌, Some, length, refl, sym, ap, subst, ◌∙◌, arith}
 use Rattle.hook_host.specs.declared.host.HookHost.{Ghosts as Hosting}
 use Rattle.consent.specs.History.{Event}
 use Rattle.std.proofs.lemmas.Bool.Decides.{leb_tells}
 use Rattle.heads.specs.Message.{Message}
 use Rattle.http_edge.specs.Schedule.{World, IsServerStill, moment_after, PieceComes, PiecePasses, TakesOutput, TakesNothing, AnsweredPiece, Piece, piece_of}
 use Rattle.endpoints.specs.Server.{Outset}
+use Rattle.http_edge.specs.Reached.{Journey}
 use Rattle.event_loop.specs.declared.fault.LoopFault.{LoopFault}
 use Rattle.event_loop.specs.declared.place.Place.{Place}
-use Rattle.change_codec.specs.Keeping.{IsFrontOf, Holds, Keeps, KeepsMoments}
-use Rattle.event_loop.specs.Courses.{Course}
-use Rattle.event_loop.specs.Deeds.{waits as waits_done}
+use Rattle.change_codec.specs.Keeping.{IsFrontOf, Holds, Keeps, KeepsBasis, Leaves}
+use Rattle.event_loop.specs.Progress.{Progress}
+use Rattle.event_loop.specs.Calls.{Call, waits as waits_done}
 use Rattle.event_loop.specs.Giving.{GivesPieces, nothing, gives}
-use Rattle.event_loop.specs.Scenes.{Promises, Scene, IsUnkept}
+use Rattle.event_loop.specs.LoopStates.{Promises, LoopState, IsUnkept}
 use Rattle.event_loop.specs.Coming.{AcceptsOne, opens, denies, finds_nobody, fails, asks}
 use Rattle.event_loop.specs.Reading as reading
 use Rattle.event_loop.specs.Reading.{ReadsPlace}
@@ -20,9 +21,10 @@ use Rattle.event_loop.specs.Writing as writing
 use Rattle.event_loop.specs.Writing.{WritesPlace}
 use Rattle.event_loop.specs.Closing.{Closes, leaves}
 use Rattle.event_loop.specs.Served.{LoopStep, Served, Shuts, TellsLast, tells_nothing, waits, hears_of_listener, hears_of, hears_of_none, comes, tries_again, reads, writes, closes, reports, keeps, puts_image, no_image, begins, goes, stops, shuts, reports_last}
-use Rattle.event_loop.specs.Durable.{Onward, stays, onward, KeeperHolds, StandsBetween, IsDurable, IsDurableToEnd, MomentIsHeld}
+use Rattle.event_loop.specs.Durable.{Onward, stays, onward, KeeperHolds, StandsBetween, IsWriteKept, MomentIsHeld}
 use Rattle.event_loop.specs.Ends.{CannotGoOn, no_wait, no_time, no_moment, not_kept, not_imaged, no_more}
 use Rattle.event_loop.proofs.Answering.{served_answered}
+use Rattle.event_loop.proofs.Lasting.{leaves_either, leaves_now, leaves_same}
 use Rattle.event_loop.proofs.Kept.{same_front, front_then, reached_front, kept_history, kept_last}
 
 -- the history grows, what was kept last is as it was, and the greatest moment too, or it is this one
@@ -78,124 +80,197 @@ came_grows hosting outset old new came (inl answers) = record {
 }
 came_grows hosting outset old new came (inr passes) = grows_not came.piece.moment old new passes.same
 
-gives_grows : {H : Type 0} (hosting : Hosting H) (piece : Piece) (first : Course H) (bytes : List ℕ) (course : Course H) → GivesPieces hosting piece first bytes course →
-    Grows piece.moment first.journey.world course.journey.world
-gives_grows hosting piece first bytes course nothing = grows_not piece.moment _ _ refl
-gives_grows hosting piece first bytes course (gives {bytes = front} {course = before} part given still g) =
+gives_grows : {H : Type 0} (hosting : Hosting H) (piece : Piece) (first : Progress H) (bytes : List ℕ) (progress : Progress H) → GivesPieces hosting piece first bytes progress →
+    Grows piece.moment first.journey.world progress.journey.world
+gives_grows hosting piece first bytes progress nothing = grows_not piece.moment _ _ refl
+gives_grows hosting piece first bytes progress (gives {bytes = front} {progress = before} part given still g) =
     grows_then piece.moment first.journey.world before.journey.world _ (gives_grows hosting piece first front before given) (came_grows hosting before.journey.outset before.journey.world g.on.on.world _ g.on.on.happens.1)
+
+-- giving leaves what the server began with
+gives_outset : {H : Type 0} (hosting : Hosting H) (piece : Piece) (first : Progress H) (bytes : List ℕ) (progress : Progress H) → GivesPieces hosting piece first bytes progress →
+    progress.journey.outset ≡ first.journey.outset
+gives_outset hosting piece first bytes progress nothing = refl
+gives_outset hosting piece first bytes progress (gives {bytes = front} {progress = before} part given still g) = gives_outset hosting piece first front before given
 
 takes_grows : (m : ℕ) (old new : World) (c n : ℕ) → TakesOutput old new c n ⊎ TakesNothing old new c n → Grows m old new
 takes_grows m old new c n (inl takes) = grows_still m old new takes.still
 takes_grows m old new c n (inr absent) = grows_not m old new absent.same
 
+-- what a journey has of one before it: what the server began with, what had happened, and what was kept
+pub record Carries {H : Type 0} (old new : Journey H) : Type 0 where
+  pub outset : new.outset ≡ old.outset
+  pub front : IsFrontOf old.world.history new.world.history
+  pub kept : (before : List Event) → old.world.kept ≡ Some before → (now : List Event) × (new.world.kept ≡ Some now) × IsFrontOf before now
+
+carries_all : {H : Type 0} (journey : Journey H) → Carries journey journey
+carries_all journey = record { outset = refl; front = same_front _ _ refl; kept = λ before is. (before, is, same_front before before refl) }
+
 -- the clocks' times are as they were, and no wait was done
-abbrev pub IsSameTime : {N C J K H : Type 0} → Scene N C J K H → Scene N C J K H → Type 0
-IsSameTime s s' = (s'.times ≡ s.times) × (waits_done s'.deeds ≡ waits_done s.deeds)
+abbrev pub IsSameTime : {N C J K H : Type 0} → LoopState N C J K H → LoopState N C J K H → Type 0
+IsSameTime s s' = (s'.times ≡ s.times) × (waits_done s'.calls ≡ waits_done s.calls)
 
 -- what was kept last is held still
-abbrev pub KeepsLast : {N C J K H : Type 0} → Promises N C J K H → Scene N C J K H → K → Type 0
-KeepsLast p s keeper = (kept : List Event) → s.course.journey.world.kept ≡ Some kept → Keeps p.keeping.crashes kept kept s.keeper keeper
+abbrev pub KeepsLast : {N C J K H : Type 0} → Promises N C J K H → LoopState N C J K H → K → Type 0
+KeepsLast p s keeper = (kept : List Event) → s.progress.journey.world.kept ≡ Some kept → Keeps p.keeping.crashes kept kept s.keeper keeper
 
 -- the keeper is as it was, and the history grows; or what is unkept is kept; or what was kept is kept in another way
-pub data Moves {N C J K H : Type 0} (p : Promises N C J K H) (s s' : Scene N C J K H) : Type 0 where
-  goes_on : (s'.keeper ≡ s.keeper) × IsSameTime s s' → Grows s.times.moment s.course.journey.world s'.course.journey.world → Moves p s s'
-  keeps_all : (unkept : IsUnkept s.course.journey.world) → Keeps p.keeping.crashes unkept.kept s.course.journey.world.history s.keeper s'.keeper → s'.course.journey.world.kept ≡ Some s.course.journey.world.history →
-      s'.course.journey.world.history ≡ s.course.journey.world.history → KeepsMoments p.keeping.crashes s.keeper s'.keeper →
-      IsSameTime s s' × (s'.course.journey.world.greatest ≡ s.course.journey.world.greatest) → Moves p s s'
-  keeps_still : KeepsLast p s s'.keeper → s'.course.journey.world ≡ s.course.journey.world → KeepsMoments p.keeping.crashes s.keeper s'.keeper →
-      IsSameTime s s' ⊎ (MomentIsHeld p s' × (waits_done s'.deeds ≡ suc (waits_done s.deeds))) → Moves p s s'
+pub data Moves {N C J K H : Type 0} (p : Promises N C J K H) (s s' : LoopState N C J K H) : Type 0 where
+  goes_on : (s'.keeper ≡ s.keeper) × IsSameTime s s' × (s'.progress.journey.outset ≡ s.progress.journey.outset) → Grows s.times.moment s.progress.journey.world s'.progress.journey.world → Moves p s s'
+  keeps_all : (unkept : IsUnkept s.progress.journey.world) → Keeps p.keeping.crashes unkept.kept s.progress.journey.world.history s.keeper s'.keeper → s'.progress.journey.world.kept ≡ Some s.progress.journey.world.history →
+      s'.progress.journey.world.history ≡ s.progress.journey.world.history → KeepsBasis p.keeping.crashes s.keeper s'.keeper →
+      IsSameTime s s' × (s'.progress.journey.world.greatest ≡ s.progress.journey.world.greatest) × (s'.progress.journey.outset ≡ s.progress.journey.outset) → Moves p s s'
+  keeps_still : KeepsLast p s s'.keeper → s'.progress.journey ≡ s.progress.journey → KeepsBasis p.keeping.crashes s.keeper s'.keeper →
+      IsSameTime s s' ⊎ (MomentIsHeld p s' × (waits_done s'.calls ≡ suc (waits_done s.calls))) → Moves p s s'
 
 module _ {N C J K H : Type 0} (p : Promises N C J K H) where
-  comes_moves : (s s' : Scene N C J K H) → AcceptsOne p s s' → Moves p s s'
-  comes_moves s s' (opens j n e on within free done) = goes_on (refl, (refl, refl)) (grows_still s.times.moment s.course.journey.world on.world on.happens.still)
-  comes_moves s s' (denies j n n' fault noted within free done refused closed noting) = goes_on (refl, (refl, refl)) (grows_not s.times.moment _ _ refl)
-  comes_moves s s' (finds_nobody j n done) = goes_on (refl, (refl, refl)) (grows_not s.times.moment _ _ refl)
-  comes_moves s s' (fails j n noted done noting) = goes_on (refl, (refl, refl)) (grows_not s.times.moment _ _ refl)
-  comes_moves s s' (asks n taken done) = goes_on (refl, (refl, refl)) (grows_not s.times.moment _ _ refl)
+  comes_moves : (s s' : LoopState N C J K H) → AcceptsOne p s s' → Moves p s s'
+  comes_moves s s' (opens j n e on within free done) = goes_on (refl, (refl, refl), refl) (grows_still s.times.moment s.progress.journey.world on.world on.happens.still)
+  comes_moves s s' (denies j n n' fault noted within free done refused closed noting) = goes_on (refl, (refl, refl), refl) (grows_not s.times.moment _ _ refl)
+  comes_moves s s' (finds_nobody j n done) = goes_on (refl, (refl, refl), refl) (grows_not s.times.moment _ _ refl)
+  comes_moves s s' (fails j n noted done noting) = goes_on (refl, (refl, refl), refl) (grows_not s.times.moment _ _ refl)
+  comes_moves s s' (asks n taken done) = goes_on (refl, (refl, refl), refl) (grows_not s.times.moment _ _ refl)
 
-  reads_moves : (j : ℕ) (place : Place) (s s' : Scene N C J K H) → ReadsPlace p j place s s' → Moves p s s'
-  reads_moves j place s s' (reading.hears bytes n course place' some few done heard is) =
-      goes_on (refl, (refl, refl)) (gives_grows p.hosting (piece_of j bytes s.times.moment) s.course heard.given course heard.gives)
-  reads_moves j place s s' (reading.refuses bytes n fault course some few done unheard) =
-      goes_on (refl, (refl, refl)) (gives_grows p.hosting (piece_of j bytes s.times.moment) s.course unheard.given course unheard.gives)
-  reads_moves j place s s' (reading.ends n e on done) = goes_on (refl, (refl, refl)) (grows_still s.times.moment s.course.journey.world on.world on.happens.still)
-  reads_moves j place s s' (reading.ends_nothing n fault done refused) = goes_on (refl, (refl, refl)) (grows_not s.times.moment _ _ refl)
-  reads_moves j place s s' (reading.finds_nothing n done) = goes_on (refl, (refl, refl)) (grows_not s.times.moment _ _ refl)
-  reads_moves j place s s' (reading.fails n done) = goes_on (refl, (refl, refl)) (grows_not s.times.moment _ _ refl)
+  reads_moves : (j : ℕ) (place : Place) (s s' : LoopState N C J K H) → ReadsPlace p j place s s' → Moves p s s'
+  reads_moves j place s s' (reading.hears bytes n progress place' some few done heard is) =
+      goes_on (refl, (refl, refl), gives_outset p.hosting _ s.progress heard.given progress heard.gives) (gives_grows p.hosting (piece_of j bytes s.times.moment) s.progress heard.given progress heard.gives)
+  reads_moves j place s s' (reading.refuses bytes n fault progress some few done unheard) =
+      goes_on (refl, (refl, refl), gives_outset p.hosting _ s.progress unheard.given progress unheard.gives) (gives_grows p.hosting (piece_of j bytes s.times.moment) s.progress unheard.given progress unheard.gives)
+  reads_moves j place s s' (reading.ends n e on done) = goes_on (refl, (refl, refl), refl) (grows_still s.times.moment s.progress.journey.world on.world on.happens.still)
+  reads_moves j place s s' (reading.ends_nothing n fault done refused) = goes_on (refl, (refl, refl), refl) (grows_not s.times.moment _ _ refl)
+  reads_moves j place s s' (reading.finds_nothing n done) = goes_on (refl, (refl, refl), refl) (grows_not s.times.moment _ _ refl)
+  reads_moves j place s s' (reading.fails n done) = goes_on (refl, (refl, refl), refl) (grows_not s.times.moment _ _ refl)
 
-  writes_moves : (j : ℕ) (place : Place) (s s' : Scene N C J K H) → WritesPlace p j place s s' → Moves p s s'
-  writes_moves j place s s' (writing.sends count front n e on some is_front done) = goes_on (refl, (refl, refl)) (takes_grows s.times.moment s.course.journey.world on.world j count on.happens)
-  writes_moves j place s s' (writing.finds_no_room n done) = goes_on (refl, (refl, refl)) (grows_not s.times.moment _ _ refl)
-  writes_moves j place s s' (writing.fails n done) = goes_on (refl, (refl, refl)) (grows_not s.times.moment _ _ refl)
+  writes_moves : (j : ℕ) (place : Place) (s s' : LoopState N C J K H) → WritesPlace p j place s s' → Moves p s s'
+  writes_moves j place s s' (writing.sends count front n e on some is_front done) = goes_on (refl, (refl, refl), refl) (takes_grows s.times.moment s.progress.journey.world on.world j count on.happens)
+  writes_moves j place s s' (writing.finds_no_room n done) = goes_on (refl, (refl, refl), refl) (grows_not s.times.moment _ _ refl)
+  writes_moves j place s s' (writing.fails n done) = goes_on (refl, (refl, refl), refl) (grows_not s.times.moment _ _ refl)
 
-  closes_moves : (j : ℕ) (place : Place) (s s' : Scene N C J K H) → Closes p j place s s' → Moves p s s'
-  closes_moves j place s s' (leaves n e on noted done noting) = goes_on (refl, (refl, refl)) (grows_still s.times.moment s.course.journey.world on.world on.happens.still)
+  closes_moves : (j : ℕ) (place : Place) (s s' : LoopState N C J K H) → Closes p j place s s' → Moves p s s'
+  closes_moves j place s s' (leaves n e on noted done noting) = goes_on (refl, (refl, refl), refl) (grows_still s.times.moment s.progress.journey.world on.world on.happens.still)
 
-  pub step_moves : (s s' : Scene N C J K H) → LoopStep p s s' → Moves p s s'
-  step_moves s s' (waits limit room found n times c keeper may done told kept) = keeps_still (λ last is. kept.holds last) refl kept.moments (inr (kept.told, refl))
-  step_moves s s' (hears_of_listener more is) = goes_on (refl, (refl, refl)) (grows_not s.times.moment _ _ refl)
-  step_moves s s' (hears_of j readable writable hung more place place' is here told) = goes_on (refl, (refl, refl)) (grows_not s.times.moment _ _ refl)
-  step_moves s s' (hears_of_none j readable writable hung more is none) = goes_on (refl, (refl, refl)) (grows_not s.times.moment _ _ refl)
+  pub step_moves : (s s' : LoopState N C J K H) → LoopStep p s s' → Moves p s s'
+  step_moves s s' (waits limit room found n times c keeper may done told kept) = keeps_still (λ last is. kept.holds last) refl kept.basis (inr (kept.told, refl))
+  step_moves s s' (hears_of_listener more is) = goes_on (refl, (refl, refl), refl) (grows_not s.times.moment _ _ refl)
+  step_moves s s' (hears_of j readable writable hung more place place' is here told) = goes_on (refl, (refl, refl), refl) (grows_not s.times.moment _ _ refl)
+  step_moves s s' (hears_of_none j readable writable hung more is none) = goes_on (refl, (refl, refl), refl) (grows_not s.times.moment _ _ refl)
   step_moves s s' (comes s'' told coming) = comes_moves s s'' coming
-  step_moves s s' (tries_again since barred later) = goes_on (refl, (refl, refl)) (grows_not s.times.moment _ _ refl)
+  step_moves s s' (tries_again since barred later) = goes_on (refl, (refl, refl), refl) (grows_not s.times.moment _ _ refl)
   step_moves s s' (reads j place s'' here readable unread may reading) = reads_moves j place s s'' reading
   step_moves s s' (writes j place s'' here writable unwritten kept may writing) = writes_moves j place s s'' writing
   step_moves s s' (closes j place s'' here taken cause closing) = closes_moves j place s s'' closing
-  step_moves s s' (reports notice told journal due done) = goes_on (refl, (refl, refl)) (grows_not s.times.moment _ _ refl)
-  step_moves s s' (puts_image keeper all kept moments short) =
-      keeps_still (λ last is. subst (λ (h : List Event). Keeps p.keeping.crashes h h s.keeper keeper) (sym (all last is)) kept) refl moments (inl (refl, refl))
-  step_moves s s' (no_image journal all long ago told) = goes_on (refl, (refl, refl)) (grows_not s.times.moment _ _ refl)
-  step_moves s s' (keeps keeper e unkept on undone kept moments) =
-      keeps_all unkept kept (kept_last s.course.journey.world on.world on.happens) (kept_history s.course.journey.world on.world on.happens) moments ((refl, refl), ap (λ (w : World). w.greatest) on.happens.kept)
+  step_moves s s' (reports notice told journal due done) = goes_on (refl, (refl, refl), refl) (grows_not s.times.moment _ _ refl)
+  step_moves s s' (puts_image keeper all kept basis short) =
+      keeps_still (λ last is. subst (λ (h : List Event). Keeps p.keeping.crashes h h s.keeper keeper) (sym (all last is)) kept) refl basis (inl (refl, refl))
+  step_moves s s' (no_image journal all long ago told) = goes_on (refl, (refl, refl), refl) (grows_not s.times.moment _ _ refl)
+  step_moves s s' (keeps keeper e unkept on undone kept basis) =
+      keeps_all unkept kept (kept_last s.progress.journey.world on.world on.happens) (kept_history s.progress.journey.world on.world on.happens) basis ((refl, refl), ap (λ (w : World). w.greatest) on.happens.kept, refl)
+
+  -- steps on from a state lead there
+  pub served_on : (first s s' : LoopState N C J K H) → Served p first s → Onward p s s' → Served p first s'
+  served_on first s s' served stays = served
+  served_on first s s' served (onward {s' = middle} on step) = goes (served_on first s middle served on) step
+
+  -- and from the first one on
+  pub served_onward : (first s : LoopState N C J K H) → Served p first s → Onward p first s
+  served_onward first s (begins is) = stays
+  served_onward first s (goes {s = before} served step) = onward (served_onward first before served) step
+
+  -- nothing but a write writes, and that only where all is kept
+  not_longer : (calls : List Call) (call : Call) → calls ≡ call ∷ calls → ⊥
+  not_longer calls call is = let more = ap length is in omega (arith, more)
+
+  comes_writes : (s s' : LoopState N C J K H) → AcceptsOne p s s' → IsWriteKept s s'
+  comes_writes s s' (opens j n e on within free done) = λ k room took is. absurd (cc)
+  comes_writes s s' (denies j n n' fault noted within free done refused closed noting) = λ k room took is. absurd (cc)
+  comes_writes s s' (finds_nobody j n done) = λ k room took is. absurd (cc)
+  comes_writes s s' (fails j n noted done noting) = λ k room took is. absurd (cc)
+  comes_writes s s' (asks n taken done) = λ k room took is. absurd (cc)
+
+  reads_writes : (j : ℕ) (place : Place) (s s' : LoopState N C J K H) → ReadsPlace p j place s s' → IsWriteKept s s'
+  reads_writes j place s s' (reading.hears bytes n progress place' some few done heard is) = λ k room took is. absurd (cc)
+  reads_writes j place s s' (reading.refuses bytes n fault progress some few done unheard) = λ k room took is. absurd (cc)
+  reads_writes j place s s' (reading.ends n e on done) = λ k room took is. absurd (cc)
+  reads_writes j place s s' (reading.ends_nothing n fault done refused) = λ k room took is. absurd (cc)
+  reads_writes j place s s' (reading.finds_nothing n done) = λ k room took is. absurd (cc)
+  reads_writes j place s s' (reading.fails n done) = λ k room took is. absurd (cc)
+
+  closes_writes : (j : ℕ) (place : Place) (s s' : LoopState N C J K H) → Closes p j place s s' → IsWriteKept s s'
+  closes_writes j place s s' (leaves n e on noted done noting) = λ k room took is. absurd (cc)
+
+  pub step_writes : (s s' : LoopState N C J K H) → LoopStep p s s' → IsWriteKept s s'
+  step_writes s s' (waits limit room found n times c keeper may done told kept) = λ k r took is. absurd (cc)
+  step_writes s s' (hears_of_listener more heard) = λ k room took is. absurd (not_longer s.calls _ is)
+  step_writes s s' (hears_of j readable writable hung more place place' heard here told) = λ k room took is. absurd (not_longer s.calls _ is)
+  step_writes s s' (hears_of_none j readable writable hung more heard none) = λ k room took is. absurd (not_longer s.calls _ is)
+  step_writes s s' (comes s'' told coming) = comes_writes s s'' coming
+  step_writes s s' (tries_again since barred later) = λ k room took is. absurd (not_longer s.calls _ is)
+  step_writes s s' (reads j place s'' here readable unread may reading) = reads_writes j place s s'' reading
+  step_writes s s' (writes j place s'' here writable unwritten kept may writing) = λ k room took is. kept
+  step_writes s s' (closes j place s'' here taken cause closing) = closes_writes j place s s'' closing
+  step_writes s s' (reports notice told journal due done) = λ k room took is. absurd (not_longer s.calls _ is)
+  step_writes s s' (puts_image keeper all kept basis short) = λ k room took is. absurd (not_longer s.calls _ is)
+  step_writes s s' (no_image journal all long ago told) = λ k room took is. absurd (not_longer s.calls _ is)
+  step_writes s s' (keeps keeper e unkept on undone kept basis) = λ k room took is. absurd (cc)
 
   -- what was kept is a front of what happened, wherever steps lead to
-  served_front : (first s : Scene N C J K H) → Served p first s → (kept : List Event) → s.course.journey.world.kept ≡ Some kept → IsFrontOf kept s.course.journey.world.history
-  served_front first s served kept is = reached_front p.hosting s.course.edge s.course.journey (served_answered p first s served).reached kept is
+  served_front : (first s : LoopState N C J K H) → Served p first s → (kept : List Event) → s.progress.journey.world.kept ≡ Some kept → IsFrontOf kept s.progress.journey.world.history
+  served_front first s served kept is = reached_front p.hosting s.progress.edge s.progress.journey (served_answered p first s served).reached kept is
 
-  moves_held : (s s' : Scene N C J K H) → Moves p s s' → KeeperHolds p s → KeeperHolds p s'
+  moves_held : (s s' : LoopState N C J K H) → Moves p s s' → KeeperHolds p s → KeeperHolds p s'
   moves_held s s' (goes_on same grows) held = λ kept is c left. held kept (sym grows.kept ∙ is) c (subst (λ k. p.keeping.crashes.may_leave k c) same.0 left)
-  moves_held s s' (keeps_all unkept kept last history moments still) held = λ now is c left.
-      let same : Some s.course.journey.world.history ≡ Some now = sym last ∙ is in
-      let e : s.course.journey.world.history ≡ now = cc in
+  moves_held s s' (keeps_all unkept kept last history basis still) held = λ now is c left.
+      let same : Some s.progress.journey.world.history ≡ Some now = sym last ∙ is in
+      let e : s.progress.journey.world.history ≡ now = cc in
       subst (p.keeping.crashes.stands_for c) e (kept.holds (held unkept.kept unkept.here) c left)
-  moves_held s s' (keeps_still last same moments still) held = λ now is c left.
-      let before : s.course.journey.world.kept ≡ Some now = ap (λ (w : World). w.kept) (sym same) ∙ is in
+  moves_held s s' (keeps_still last same basis still) held = λ now is c left.
+      let before : s.progress.journey.world.kept ≡ Some now = ap (λ (j : Journey H). j.world.kept) (sym same) ∙ is in
       (last now before).holds (held now before) c left
 
-  served_held : (first s : Scene N C J K H) → KeeperHolds p first → Served p first s → KeeperHolds p s
+  served_held : (first s : LoopState N C J K H) → KeeperHolds p first → Served p first s → KeeperHolds p s
   served_held first s held (begins is) = held
   served_held first s held (goes {s = before} served step) = moves_held before s (step_moves before s step) (served_held first before held served)
 
-  -- what is known on the way from a scene at which so much was kept
-  record Lasts (first s : Scene N C J K H) (before : List Event) (s' : Scene N C J K H) : Type 0 where
-    pub served : Served p first s'
-    pub on : Onward p s s'
-    pub later : p.keeping.crashes.moment s.keeper ≤ p.keeping.crashes.moment s'.keeper
-    pub durable : (c : List ℕ) → p.keeping.crashes.left_since s'.keeper (p.keeping.crashes.moment s.keeper) c → StandsBetween p s before s' c
-    pub kept : List Event
-    pub here : s'.course.journey.world.kept ≡ Some kept
-    pub from : IsFrontOf before kept
-    pub held : KeeperHolds p s'
+  moves_carries : (s s' : LoopState N C J K H) → ((kept : List Event) → s.progress.journey.world.kept ≡ Some kept → IsFrontOf kept s.progress.journey.world.history) → Moves p s s' → Carries s.progress.journey s'.progress.journey
+  moves_carries s s' fronts (goes_on same grows) = record { outset = same.2; front = grows.front; kept = λ before is. (before, grows.kept ∙ is, same_front before before refl) }
+  moves_carries s s' fronts (keeps_all unkept kept last history basis still) = record {
+    outset = still.2;
+    front = same_front _ _ history;
+    kept = λ before is. (s.progress.journey.world.history, last, fronts before is);
+  }
+  moves_carries s s' fronts (keeps_still last same basis still) = subst (Carries s.progress.journey) (sym same) (carries_all s.progress.journey)
 
-  -- what was kept at the last scene lies between
-  kept_between : (first s : Scene N C J K H) (before : List Event) (s' : Scene N C J K H) (l : Lasts first s before s') (kept : List Event) → s'.course.journey.world.kept ≡ Some kept → (c : List ℕ) →
-      p.keeping.crashes.stands_for c kept → StandsBetween p s before s' c
-  kept_between first s before s' l kept is c stands =
-      let same : Some l.kept ≡ Some kept = sym l.here ∙ is in
-      let e : l.kept ≡ kept = cc in
+  -- so it is wherever steps lead on
+  pub onward_carries : (first s s' : LoopState N C J K H) → Served p first s → Onward p s s' → Carries s.progress.journey s'.progress.journey
+  onward_carries first s s' served stays = carries_all s.progress.journey
+  onward_carries first s s' served (onward {s' = middle} on step) =
+      let one = onward_carries first s middle served on in
+      let two = moves_carries middle s' (served_front first middle (served_on first s middle served on)) (step_moves middle s' step) in
+      record {
+        outset = two.outset ∙ one.outset;
+        front = front_then s.progress.journey.world.history middle.progress.journey.world.history s'.progress.journey.world.history one.front two.front;
+        kept = λ before is. (let then = one.kept before is in let now = two.kept then.0 then.1 in (now.0, now.1, front_then before then.0 now.0 then.2 now.2));
+      }
+
+  -- what was kept at the last state lies between
+  kept_between : (first s : LoopState N C J K H) (before : List Event) (s' : LoopState N C J K H) → Served p first s → s.progress.journey.world.kept ≡ Some before → Onward p s s' →
+      (kept : List Event) → s'.progress.journey.world.kept ≡ Some kept → (c : List ℕ) → p.keeping.crashes.stands_for c kept → StandsBetween p s before s' c
+  kept_between first s before s' served at_s on kept is c stands =
+      let then = (onward_carries first s s' served on).kept before at_s in
+      let same : Some then.0 ≡ Some kept = sym then.1 ∙ is in
+      let e : then.0 ≡ kept = cc in
       record {
         at = s';
-        since = l.on;
+        since = on;
         until = stays;
         kept = kept;
         kept_there = is;
         stands = stands;
-        from = subst (IsFrontOf before) e l.from;
-        to = served_front first s' l.served kept is;
+        from = subst (IsFrontOf before) e then.2;
+        to = served_front first s' (served_on first s s' served on) kept is;
       }
 
   -- it still lies between one step later
-  between_on : (s : Scene N C J K H) (before : List Event) (s' s'' : Scene N C J K H) (c : List ℕ) → LoopStep p s' s'' → IsFrontOf s'.course.journey.world.history s''.course.journey.world.history →
+  between_on : (s : LoopState N C J K H) (before : List Event) (s' s'' : LoopState N C J K H) (c : List ℕ) → LoopStep p s' s'' → IsFrontOf s'.progress.journey.world.history s''.progress.journey.world.history →
       StandsBetween p s before s' c → StandsBetween p s before s'' c
   between_on s before s' s'' c step grows b = record {
     at = b.at;
@@ -205,141 +280,68 @@ module _ {N C J K H : Type 0} (p : Promises N C J K H) where
     kept_there = b.kept_there;
     stands = b.stands;
     from = b.from;
-    to = front_then b.kept s'.course.journey.world.history s''.course.journey.world.history b.to grows;
+    to = front_then b.kept s'.progress.journey.world.history s''.progress.journey.world.history b.to grows;
   }
-
-  lasts_on : (first s : Scene N C J K H) (before : List Event) (s' s'' : Scene N C J K H) → Lasts first s before s' → LoopStep p s' s'' → Moves p s' s'' → Lasts first s before s''
-  lasts_on first s before s' s'' l step (goes_on same grows) = record {
-    served = goes l.served step;
-    on = onward l.on step;
-    later = subst (λ k. p.keeping.crashes.moment s.keeper ≤ p.keeping.crashes.moment k) (sym same.0) l.later;
-    durable = λ c left. between_on s before s' s'' c step grows.front (l.durable c (subst (λ k. p.keeping.crashes.left_since k (p.keeping.crashes.moment s.keeper) c) same.0 left));
-    kept = l.kept;
-    here = grows.kept ∙ l.here;
-    from = l.from;
-    held = moves_held s' s'' (goes_on same grows) l.held;
-  }
-  lasts_on first s before s' s'' l step (keeps_all unkept kept last history moments still) =
-      let meanwhile = kept.meanwhile (l.held unkept.kept unkept.here) in
-      let grows : IsFrontOf s'.course.journey.world.history s''.course.journey.world.history = same_front _ _ history in
-      let front : IsFrontOf before s'.course.journey.world.history = front_then before l.kept s'.course.journey.world.history l.from (served_front first s' l.served l.kept l.here) in
-      record {
-        served = goes l.served step;
-        on = onward l.on step;
-        later = omega (arith, l.later, meanwhile.later);
-        durable = λ c left. elim (meanwhile.earlier (p.keeping.crashes.moment s.keeper) c l.later left) [
-          | inl then ↦ between_on s before s' s'' c step grows (l.durable c then)
-          | inr now ↦ elim now [
-            | inl old ↦ between_on s before s' s'' c step grows (kept_between first s before s' l unkept.kept unkept.here c old)
-            | inr new ↦ record { at = s''; since = onward l.on step; until = stays; kept = s'.course.journey.world.history; kept_there = last; stands = new; from = front; to = grows }
-          ]
-        ];
-        kept = s'.course.journey.world.history;
-        here = last;
-        from = front;
-        held = moves_held s' s'' (keeps_all unkept kept last history moments still) l.held;
-      }
-  lasts_on first s before s' s'' l step (keeps_still last same moments still) =
-      let meanwhile = (last l.kept l.here).meanwhile (l.held l.kept l.here) in
-      let grows : IsFrontOf s'.course.journey.world.history s''.course.journey.world.history = same_front _ _ (ap (λ (w : World). w.history) same) in
-      record {
-        served = goes l.served step;
-        on = onward l.on step;
-        later = omega (arith, l.later, meanwhile.later);
-        durable = λ c left. elim (meanwhile.earlier (p.keeping.crashes.moment s.keeper) c l.later left) [
-          | inl then ↦ between_on s before s' s'' c step grows (l.durable c then)
-          | inr now ↦ elim now [
-            | inl old ↦ between_on s before s' s'' c step grows (kept_between first s before s' l l.kept l.here c old)
-            | inr new ↦ between_on s before s' s'' c step grows (kept_between first s before s' l l.kept l.here c new)
-          ]
-        ];
-        kept = l.kept;
-        here = ap (λ (w : World). w.kept) same ∙ l.here;
-        from = l.from;
-        held = moves_held s' s'' (keeps_still last same moments still) l.held;
-      }
 
   -- closing keeps nothing
-  closes_keeper : (k : ℕ) (place : Place) (s s' : Scene N C J K H) → Closes p k place s s' → s'.keeper ≡ s.keeper
+  closes_keeper : (k : ℕ) (place : Place) (s s' : LoopState N C J K H) → Closes p k place s s' → s'.keeper ≡ s.keeper
   closes_keeper k place s s' (leaves n e on noted done noting) = refl
 
-  pub shuts_keeper : (s s' : Scene N C J K H) → Shuts p s s' → s'.keeper ≡ s.keeper
+  pub shuts_keeper : (s s' : LoopState N C J K H) → Shuts p s s' → s'.keeper ≡ s.keeper
   shuts_keeper s s' stops = refl
   shuts_keeper s s' (shuts {s = before} k place shut here taken closing) = closes_keeper k place before s' closing ∙ shuts_keeper s before shut
 
-  pub last_keeper : (s s' : Scene N C J K H) → TellsLast p s s' → s'.keeper ≡ s.keeper
+  pub last_keeper : (s s' : LoopState N C J K H) → TellsLast p s s' → s'.keeper ≡ s.keeper
   last_keeper s s' (reports_last report journal wanted tells done) = refl
   last_keeper s s' (tells_nothing unwanted) = refl
 
-  module _ (only_now : (keeper : K) (c : List ℕ) → p.keeping.crashes.left_since keeper (p.keeping.crashes.moment keeper) c → p.keeping.crashes.may_leave keeper c) (first : Scene N C J K H) (at_first : KeeperHolds p first) where
-    lasts : (s : Scene N C J K H) (before : List Event) (s' : Scene N C J K H) → s.course.journey.world.kept ≡ Some before → Served p first s → Onward p s s' → Lasts first s before s'
-    lasts s before s' is served stays =
-        let held = served_held first s at_first served in
-        record {
-          served = served;
-          on = stays;
-          later = omega arith;
-          durable = λ c left. record {
-            at = s;
-            since = stays;
-            until = stays;
-            kept = before;
-            kept_there = is;
-            stands = held before is c (only_now s.keeper c left);
-            from = same_front before before refl;
-            to = served_front first s served before is;
-          };
-          kept = before;
-          here = is;
-          from = same_front before before refl;
-          held = held;
-        }
-    lasts s before s' is served (onward {s' = middle} on step) = lasts_on first s before middle s' (lasts s before middle is served on) step (step_moves middle s' step)
+  module _ (only_now : (keeper : K) (c : List ℕ) → p.keeping.crashes.left_since keeper (p.keeping.crashes.moment keeper) c → p.keeping.crashes.may_leave keeper c) (first : LoopState N C J K H) (at_first : KeeperHolds p first)
+      (s : LoopState N C J K H) (before : List Event) (served : Served p first s) (is : s.progress.journey.world.kept ≡ Some before) where
+    -- the keeper holds what was kept wherever steps lead on
+    held_at : (s' : LoopState N C J K H) → Onward p s s' → KeeperHolds p s'
+    held_at s' on = served_held first s' at_first (served_on first s s' served on)
 
-    -- each crash leaves what was kept at some scene
-    pub served_durable : (s s' : Scene N C J K H) → Served p first s → Onward p s s' → IsDurable p s s'
-    served_durable s s' served on = λ kept is. (lasts s kept s' is served on).durable
+    step_leaves : (s' s'' : LoopState N C J K H) → Onward p s s' → Leaves p.keeping.crashes s.keeper s'.keeper (StandsBetween p s before s') → LoopStep p s' s'' → Moves p s' s'' →
+        Leaves p.keeping.crashes s.keeper s''.keeper (StandsBetween p s before s'')
+    step_leaves s' s'' on so_far step (goes_on same grows) = leaves_same p.keeping.crashes s.keeper s'.keeper s''.keeper _ _ so_far same.0 (λ c. between_on s before s' s'' c step grows.front)
+    step_leaves s' s'' on so_far step (keeps_all unkept kept last history basis still) =
+        let grows : IsFrontOf s'.progress.journey.world.history s''.progress.journey.world.history = same_front _ _ history in
+        leaves_either p.keeping.crashes s.keeper s'.keeper s''.keeper unkept.kept s'.progress.journey.world.history _ _ so_far (kept.meanwhile (held_at s' on unkept.kept unkept.here))
+        (λ c old. between_on s before s' s'' c step grows (kept_between first s before s' served is on unkept.kept unkept.here c old))
+        (λ c new. kept_between first s before s'' served is (onward on step) s'.progress.journey.world.history last c new)
+        (λ c. between_on s before s' s'' c step grows)
+    step_leaves s' s'' on so_far step (keeps_still last same basis still) =
+        let grows : IsFrontOf s'.progress.journey.world.history s''.progress.journey.world.history = same_front _ _ (ap (λ (j : Journey H). j.world.history) same) in
+        let now = (onward_carries first s s' served on).kept before is in
+        let stands : (c : List ℕ) → p.keeping.crashes.stands_for c now.0 → StandsBetween p s before s'' c = λ c old. between_on s before s' s'' c step grows (kept_between first s before s' served is on now.0 now.1 c old) in
+        leaves_either p.keeping.crashes s.keeper s'.keeper s''.keeper now.0 now.0 _ _ so_far ((last now.0 now.1).meanwhile (held_at s' on now.0 now.1)) stands stands
+        (λ c. between_on s before s' s'' c step grows)
 
-    fails_durable : (s last failed : Scene N C J K H) (fault : LoopFault) → Served p first s → Onward p s last → CannotGoOn p last fault failed → IsDurableToEnd p s last failed
-    fails_durable s last failed fault served on (no_wait limit room n may done) = λ kept is c left. inl (served_durable s last served on kept is c left)
-    fails_durable s last failed fault served on (no_time limit room found n c may done told) = λ kept is c left. inl (served_durable s last served on kept is c left)
-    fails_durable s last failed fault served on (no_more many) = λ kept is c left. inl (served_durable s last served on kept is c left)
-    fails_durable s last failed fault served on (no_moment limit room found n times c keeper may done told lost moments) = λ kept is c left.
-        let l = lasts s kept last is served on in
-        let meanwhile = (lost l.kept).meanwhile (l.held l.kept l.here) in
-        elim (meanwhile.earlier (p.keeping.crashes.moment s.keeper) c l.later left) [
-          | inl then ↦ inl (l.durable c then)
-          | inr now ↦ elim now [
-            | inl old ↦ inl (kept_between first s kept last l l.kept l.here c old)
-            | inr new ↦ inl (kept_between first s kept last l l.kept l.here c new)
-          ]
-        ]
-    fails_durable s last failed fault served on (not_kept keeper unkept undone lost moments) = λ kept is c left.
-        let l = lasts s kept last is served on in
-        let meanwhile = lost.meanwhile (l.held unkept.kept unkept.here) in
-        elim (meanwhile.earlier (p.keeping.crashes.moment s.keeper) c l.later left) [
-          | inl then ↦ inl (l.durable c then)
-          | inr now ↦ elim now [
-            | inl old ↦ inl (kept_between first s kept last l unkept.kept unkept.here c old)
-            | inr new ↦ inr new
-          ]
-        ]
-    fails_durable s last failed fault served on (not_imaged keeper all lost moments) = λ kept is c left.
-        let l = lasts s kept last is served on in
-        let e : l.kept ≡ last.course.journey.world.history = all l.kept l.here in
-        let held : Holds p.keeping.crashes last.keeper last.course.journey.world.history = subst (λ (h : List Event). Holds p.keeping.crashes last.keeper h) e (l.held l.kept l.here) in
-        let here : last.course.journey.world.kept ≡ Some last.course.journey.world.history = l.here ∙ ap Some e in
-        let meanwhile = lost.meanwhile held in
-        elim (meanwhile.earlier (p.keeping.crashes.moment s.keeper) c l.later left) [
-          | inl then ↦ inl (l.durable c then)
-          | inr now ↦ elim now [
-            | inl old ↦ inl (kept_between first s kept last l last.course.journey.world.history here c old)
-            | inr new ↦ inr new
-          ]
-        ]
+    -- each crash leaves what was kept at some state
+    pub leaves_between : (s' : LoopState N C J K H) → Onward p s s' → Leaves p.keeping.crashes s.keeper s'.keeper (StandsBetween p s before s')
+    leaves_between s' stays = leaves_now p.keeping.crashes only_now s.keeper _ (λ c left. kept_between first s before s served is stays before is c (held_at s stays before is c left))
+    leaves_between s' (onward {s' = middle} on step) = step_leaves middle s' on (leaves_between middle on) step (step_moves middle s' step)
 
-    -- and so it is up to the end
-    pub durable_to_end : (s last failed emptied end : Scene N C J K H) (fault : LoopFault) → Served p first s → Onward p s last → CannotGoOn p last fault failed → Shuts p failed emptied →
-        TellsLast p emptied end → IsDurableToEnd p s last end
-    durable_to_end s last failed emptied end fault served on failing shut told = λ kept is c left.
-        fails_durable s last failed fault served on failing kept is c (subst (λ k. p.keeping.crashes.left_since k (p.keeping.crashes.moment s.keeper) c) (last_keeper emptied end told ∙ shuts_keeper failed emptied shut) left)
+    -- where something failed then, it may also leave all that had happened
+    fails_leave : (last failed : LoopState N C J K H) (fault : LoopFault) → Onward p s last → CannotGoOn p last fault failed →
+        Leaves p.keeping.crashes s.keeper failed.keeper (λ c. StandsBetween p s before last c ⊎ p.keeping.crashes.stands_for c last.progress.journey.world.history)
+    fails_leave last failed fault on (no_wait limit room n may done) = leaves_same p.keeping.crashes s.keeper last.keeper last.keeper _ _ (leaves_between last on) refl (λ c. inl)
+    fails_leave last failed fault on (no_time limit room found n c may done told) = leaves_same p.keeping.crashes s.keeper last.keeper last.keeper _ _ (leaves_between last on) refl (λ c. inl)
+    fails_leave last failed fault on (no_more many) = leaves_same p.keeping.crashes s.keeper last.keeper last.keeper _ _ (leaves_between last on) refl (λ c. inl)
+    fails_leave last failed fault on (no_moment limit room found n times c keeper may done told lost basis) =
+        let now = (onward_carries first s last served on).kept before is in
+        leaves_either p.keeping.crashes s.keeper last.keeper keeper now.0 now.0 _ _ (leaves_between last on) ((lost now.0).meanwhile (held_at last on now.0 now.1))
+        (λ c old. inl (kept_between first s before last served is on now.0 now.1 c old)) (λ c old. inl (kept_between first s before last served is on now.0 now.1 c old)) (λ c. inl)
+    fails_leave last failed fault on (not_kept keeper unkept undone lost basis) =
+        leaves_either p.keeping.crashes s.keeper last.keeper keeper unkept.kept last.progress.journey.world.history _ _ (leaves_between last on) (lost.meanwhile (held_at last on unkept.kept unkept.here))
+        (λ c old. inl (kept_between first s before last served is on unkept.kept unkept.here c old)) (λ c. inr) (λ c. inl)
+    fails_leave last failed fault on (not_imaged keeper all lost basis) =
+        let now = (onward_carries first s last served on).kept before is in
+        let held : Holds p.keeping.crashes last.keeper last.progress.journey.world.history = subst (λ (h : List Event). Holds p.keeping.crashes last.keeper h) (all now.0 now.1) (held_at last on now.0 now.1) in
+        leaves_either p.keeping.crashes s.keeper last.keeper keeper last.progress.journey.world.history last.progress.journey.world.history _ _ (leaves_between last on) (lost.meanwhile held) (λ c. inr) (λ c. inr) (λ c. inl)
+
+    -- and so it does up to the end
+    pub leaves_to_end : (last failed emptied end : LoopState N C J K H) (fault : LoopFault) → Onward p s last → CannotGoOn p last fault failed → Shuts p failed emptied → TellsLast p emptied end →
+        Leaves p.keeping.crashes s.keeper end.keeper (λ c. StandsBetween p s before last c ⊎ p.keeping.crashes.stands_for c last.progress.journey.world.history)
+    leaves_to_end last failed emptied end fault on failing shut told =
+        leaves_same p.keeping.crashes s.keeper failed.keeper end.keeper _ _ (fails_leave last failed fault on failing) (last_keeper emptied end told ∙ shuts_keeper failed emptied shut) (λ c stands. stands)

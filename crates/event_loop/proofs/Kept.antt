@@ -13,7 +13,7 @@ use Rattle.http_edge.specs.Edges.{SeenEdge}
 use Rattle.http_edge.specs.Schedule.{World, KeepsHistory, TakesOutput, TakesNothing}
 use Rattle.http_edge.specs.Reached.{Reached, Journey}
 use Rattle.change_codec.specs.Keeping.{IsFrontOf}
-use Rattle.event_loop.specs.Scenes.{IsAllKept, IsUnkept}
+use Rattle.event_loop.specs.LoopStates.{IsAllKept, IsUnkept}
 
 -- FRONTS
 

@@ -8,11 +8,11 @@ use Rattle.event_loop.specs.declared.place.Place.{Place}
 use Rattle.event_loop.specs.declared.service.Service.{Service}
 use Rattle.event_loop.specs.declared.sockets.Ready.{Ready}
 use Rattle.event_loop.specs.declared.tools.Tools.{Tools}
-use Rattle.event_loop.specs.Courses.{known, IsReached}
+use Rattle.event_loop.specs.Progress.{known, IsReached}
 use Rattle.event_loop.specs.Places.{NeedsNoRead, NeedsNoWrite}
-use Rattle.event_loop.specs.Scenes.{Promises, Scene, IsAllKept}
+use Rattle.event_loop.specs.LoopStates.{Promises, LoopState, IsAllKept}
 use Rattle.event_loop.specs.Closing.{Closes, leaves}
-use Rattle.event_loop.specs.Deeds.{Reading, Writing, IsDone, done_since}
+use Rattle.event_loop.specs.Calls.{Reading, Writing, IsDone, done_since}
 use Rattle.event_loop.specs.Goes.{Past, DoneAfter, LeavesOthers, HoldsAt, LeadsToActs, LeadsToTidy, LeadsToRest, LeadsToSettled, LeadsToAccepts, GoesReading, GoesKept, GoesWriting, LeadsToKept, LeadsWriting, LeadsRound, LeadsWrong, StaysIdle, ActsAt, TidiesAt, IsHeardAt, IsRestedAt, IsRested, IsSettledAt, running, standing, to_read, to_write}
 use Rattle.event_loop.proofs.Others.{forgets_other}
 use Rattle.event_loop.proofs.Doing.{none_more, done_then, done_some}
@@ -21,15 +21,15 @@ use Rattle.event_loop.proofs.Resting.{none_left, unread_still, still_unread, unw
 
 module _ {N C J K H : Type 0} (p : Promises N C J K H) where
   -- what closes a connection leaves the others
-  pub closes_other : (k : ℕ) (place : Place) (s s' : Scene N C J K H) → Closes p k place s s' → (j : ℕ) → j ≢ k → known s'.course j ≡ known s.course j
-  closes_other k place s s' (leaves n e on noted done noting) j other = forgets_other s.course.journey.world on.world k j on.happens other
+  pub closes_other : (k : ℕ) (place : Place) (s s' : LoopState N C J K H) → Closes p k place s s' → (j : ℕ) → j ≢ k → known s'.progress j ≡ known s.progress j
+  closes_other k place s s' (leaves n e on noted done noting) j other = forgets_other s.progress.journey.world on.world k j on.happens other
 
   -- and nothing more is unkept
-  pub closes_kept : (k : ℕ) (place : Place) (s s' : Scene N C J K H) → Closes p k place s s' → IsAllKept s.course.journey.world → IsAllKept s'.course.journey.world
-  closes_kept k place s s' (leaves n e on noted done noting) all = all_kept_still s.course.journey.world on.world on.happens.still.kept on.happens.still.history all
+  pub closes_kept : (k : ℕ) (place : Place) (s s' : LoopState N C J K H) → Closes p k place s s' → IsAllKept s.progress.journey.world → IsAllKept s'.progress.journey.world
+  closes_kept k place s s' (leaves n e on noted done noting) all = all_kept_still s.progress.journey.world on.world on.happens.still.kept on.happens.still.history all
 
   -- and it is reached
-  pub closes_reached : (k : ℕ) (place : Place) (s s' : Scene N C J K H) → Closes p k place s s' → IsReached p.hosting s'.course
+  pub closes_reached : (k : ℕ) (place : Place) (s s' : LoopState N C J K H) → Closes p k place s s' → IsReached p.hosting s'.progress
   closes_reached k place s s' (leaves n e on noted done noting) = on.reached
 
   -- a write, and a close where it is over
@@ -63,7 +63,7 @@ module _ {N C J K H : Type 0} (p : Promises N C J K H) where
       z : TidiesAt p first k (standing (running c v) found y.goes.next) (running d w)
       z = two first found y.goes.next y.goes.served
 
-      tended_or_still : (IsDone (Reading k) y.goes.next.deeds ⊎ IsDone (Writing k) y.goes.next.deeds) ⊎ (HoldsAt k b past.journey.world NeedsNoRead × StaysIdle (to_write k) b past.journey.world c y.goes.next.journey.world)
+      tended_or_still : (IsDone (Reading k) y.goes.next.calls ⊎ IsDone (Writing k) y.goes.next.calls) ⊎ (HoldsAt k b past.journey.world NeedsNoRead × StaysIdle (to_write k) b past.journey.world c y.goes.next.journey.world)
       tended_or_still = elim heard [
         | inr read ↦ inl (inl (y.goes.done.keeps (Reading k) read))
         | inl unread ↦ elim y.acts [
@@ -72,18 +72,18 @@ module _ {N C J K H : Type 0} (p : Promises N C J K H) where
         ]
       ]
 
-      tended_some : IsDone (Reading k) y.goes.next.deeds ⊎ IsDone (Writing k) y.goes.next.deeds → 0 < done_since y.goes.next.deeds
-      tended_some (inl read) = done_some (Reading k) y.goes.next.deeds (λ e. absurd (cc)) read
-      tended_some (inr done) = done_some (Writing k) y.goes.next.deeds (λ e. absurd (cc)) done
+      tended_some : IsDone (Reading k) y.goes.next.calls ⊎ IsDone (Writing k) y.goes.next.calls → 0 < done_since y.goes.next.calls
+      tended_some (inl read) = done_some (Reading k) y.goes.next.calls (λ e. absurd (cc)) read
+      tended_some (inr done) = done_some (Writing k) y.goes.next.calls (λ e. absurd (cc)) done
 
-      written : HoldsAt k c y.goes.next.journey.world NeedsNoWrite ⊎ IsDone (Writing k) y.goes.next.deeds
+      written : HoldsAt k c y.goes.next.journey.world NeedsNoWrite ⊎ IsDone (Writing k) y.goes.next.calls
       written = elim y.acts [
         | inl still ↦ inl (unwritten_still k b c past.journey.world y.goes.next.journey.world still)
         | inr done ↦ inr done
       ]
 
   -- all places are read, what changed is kept, and all are written to
-  pub kept_then : (first : Scene N C J K H) (found : List Ready) (past : Past H) (a b c : Service) (s u v w : Tools N C J K H) →
+  pub kept_then : (first : LoopState N C J K H) (found : List Ready) (past : Past H) (a b c : Service) (s u v w : Tools N C J K H) →
       GoesReading p first 64 (standing (running a s) found past) (running b u) → LeadsToKept p u v → LeadsWriting p 64 (running b v) (running c w) → GoesWriting p first 64 (standing (running a s) found past) (running c w)
   kept_then first found past a b c s u v w read keep write = record {
     next = z.next;
@@ -93,7 +93,7 @@ module _ {N C J K H : Type 0} (p : Promises N C J K H) where
     heard = z.heard;
     unwritten = z.unwritten;
     kept = z.kept;
-    done = done_then past.deeds y.next.deeds z.next.deeds (done_then past.deeds read.next.deeds y.next.deeds read.done y.done) z.done;
+    done = done_then past.calls y.next.calls z.next.calls (done_then past.calls read.next.calls y.next.calls read.done y.done) z.done;
   }
     where
       y : GoesKept p first (standing (running b u) found read.next) v
@@ -113,7 +113,7 @@ module _ {N C J K H : Type 0} (p : Promises N C J K H) where
       record { next = y.next; served = y.served; settled = y.settled; done = done_then _ _ _ x.done y.done }
 
   pub nowhere : (f : List Ready) (a : Service) (t : Tools N C J K H) → LeadsToSettled p f (running a t) f (running a t)
-  nowhere f a t first past served settled = record { next = past; served = served; settled = settled; done = none_more past.deeds }
+  nowhere f a t first past served settled = record { next = past; served = served; settled = settled; done = none_more past.calls }
 
   -- and then it was tried to accept
   pub accepts_then : {P Q : Type 0} (a b c : Service) (t u v : Tools N C J K H) → LeadsToAccepts p P (running a t) (running b u) → LeadsToAccepts p ⊤ (running b u) (running c v) → LeadsToAccepts p Q (running a t) (running c v)
@@ -149,19 +149,19 @@ one_below k P below here j less =
     ]
 
 -- one place more is settled
-pub below_next : {H : Type 0} (k : ℕ) (service : Service) (past : Past H) (service' : Service) (past' : Past H) → LeavesOthers k service past.journey.world service' past'.journey.world → DoneAfter past.deeds past'.deeds →
+pub below_next : {H : Type 0} (k : ℕ) (service : Service) (past : Past H) (service' : Service) (past' : Past H) → LeavesOthers k service past.journey.world service' past'.journey.world → DoneAfter past.calls past'.calls →
     ((j : ℕ) → j < k → IsSettledAt j service past) → IsSettledAt k service' past' → (j : ℕ) → j < k + 1 → IsSettledAt j service' past'
 below_next k service past service' past' others done below =
     one_below k (λ j. IsSettledAt j service' past') (λ j less. settled_other k j service past service' past' others done (λ is. absurd (omega (arith, less, is))) (below j less))
 
 -- one place more is heard
-pub heard_next : {H : Type 0} (k : ℕ) (service : Service) (past : Past H) (service' : Service) (past' : Past H) → LeavesOthers k service past.journey.world service' past'.journey.world → DoneAfter past.deeds past'.deeds →
+pub heard_next : {H : Type 0} (k : ℕ) (service : Service) (past : Past H) (service' : Service) (past' : Past H) → LeavesOthers k service past.journey.world service' past'.journey.world → DoneAfter past.calls past'.calls →
     ((j : ℕ) → j < k → IsHeardAt j service past) → IsHeardAt k service' past' → (j : ℕ) → j < k + 1 → IsHeardAt j service' past'
 heard_next k service past service' past' others done below =
     one_below k (λ j. IsHeardAt j service' past') (λ j less. heard_other k j service past service' past' others done (λ is. absurd (omega (arith, less, is))) (below j less))
 
 -- what was done at a place, or nothing was to be done there
-pub acts_heard : {N C J K H : Type 0} (p : Promises N C J K H) (first : Scene N C J K H) (found : List Ready) (k : ℕ) (service : Service) (tools : Tools N C J K H) (past : Past H) (service' : Service) (tools' : Tools N C J K H) →
+pub acts_heard : {N C J K H : Type 0} (p : Promises N C J K H) (first : LoopState N C J K H) (found : List Ready) (k : ℕ) (service : Service) (tools : Tools N C J K H) (past : Past H) (service' : Service) (tools' : Tools N C J K H) →
     (x : ActsAt p first (to_read k) (standing (running service tools) found past) (running service' tools')) → IsHeardAt k service' x.goes.next
 acts_heard p first found k service tools past service' tools' x = elim x.acts [
   | inl still ↦ inl (still_unread k service service' past.journey.world x.goes.next.journey.world still)
@@ -176,7 +176,7 @@ rested_heard k service past rested none = inl (λ place here. (rested none place
 pub rested_settled : {H : Type 0} (k : ℕ) (service : Service) (past : Past H) → IsRestedAt k service past.journey.world → slice_get service.due k ≡ Some false → IsSettledAt k service past
 rested_settled k service past rested none = record {
   rested = rested;
-  turned = λ place here. rests_turned k place _ past.deeds (rested none place here);
+  turned = λ place here. rests_turned k place _ past.calls (rested none place here);
   active = λ due. absurd (not_both (sym none ∙ due));
 }
   where
@@ -195,7 +195,7 @@ rested_next k service world service' world' others due rested j less =
     not_both : Some false ≡ Some true → ⊥
     not_both e = absurd (cc)
 
--- each has its own task
+-- each has its own kind
 pub reading_other : (j k : ℕ) → k + 1 ≤ j → Reading j ≡ Reading k → ⊥
 reading_other j k from e = (let same : j ≡ k = cc in absurd (omega (arith, from, same)))
 

@@ -1,4 +1,4 @@
--- A connection is closed in the course of the loop.
+-- A connection is closed in the progress of the loop.
 use Rattle.std.proofs.Common.{◌≡◌, ◌≢◌, ◌⊎◌, inl, inr, ◌<◌, ◌≤◌, ℕ, List, Option, Some, [], length, refl, sym, ap, subst, arith}
 use Rattle.std.proofs.lemmas.Option.{slice_get_within}
 use Rattle.std.specs.Prelude.{slice_get, slice_set}
@@ -10,23 +10,23 @@ use Rattle.event_loop.specs.declared.service.Service.{Service}
 use Rattle.event_loop.specs.declared.sockets.Ready.{Ready}
 use Rattle.event_loop.specs.declared.tools.Tools.{Tools}
 use Rattle.event_loop.specs.declared.fault.LoopFault.{LoopFault}
-use Rattle.event_loop.specs.Courses.{IsReached}
-use Rattle.event_loop.specs.Deeds.{Accepting, done_since}
+use Rattle.event_loop.specs.Progress.{IsReached}
+use Rattle.event_loop.specs.Calls.{Accepting, done_since}
 use Rattle.event_loop.specs.Places.{IsOccupied}
-use Rattle.event_loop.specs.Scenes.{Promises, Scene}
+use Rattle.event_loop.specs.LoopStates.{Promises, LoopState}
 use Rattle.event_loop.specs.Closing.{AreWithin, Cause}
 use Rattle.event_loop.specs.Served as served
 use Rattle.event_loop.specs.Served.{IsIdle, IsPatient, MayWait, goes, closes}
 use Rattle.event_loop.specs.Ends.{CannotGoOn, no_wait, no_time, no_moment, not_kept, not_imaged, no_more}
 use Rattle.event_loop.specs.Goes as limited
-use Rattle.event_loop.specs.Goes.{Past, IsQuick, IsReported, IsTried, NobodyIsSilent, OnlyTells, FreesPlace, IsBusy, IsLimit, IsReadyToWait, IsKeptShort, LeadsAway, SettlesAll, AreAllSettled, MayRest, running, scene_of}
+use Rattle.event_loop.specs.Goes.{Past, IsQuick, IsReported, IsTried, NobodyIsSilent, OnlyTells, FreesPlace, IsBusy, IsLimit, IsReadyToWait, IsKeptShort, LeadsAway, SettlesAll, AreAllSettled, MayRest, running, state_of}
 use Rattle.event_loop.proofs.Doing.{closes_done, closes_some, done_some, none_more}
 use Rattle.event_loop.proofs.Answering.{served_answered}
 use Rattle.event_loop.proofs.Leading.{closes_other}
 use Rattle.event_loop.proofs.Putting.{put_within}
 use Rattle.event_loop.proofs.Resting.{put_others, put_settled, free_rests, all_settled, settled_then}
 
-is_idle : {N C J K H : Type 0} (service : Service) (tools : Tools N C J K H) (past : Past H) → length service.places ≡ 64 → AreAllSettled service past → MayRest service → IsIdle (scene_of (running service tools) [] past)
+is_idle : {N C J K H : Type 0} (service : Service) (tools : Tools N C J K H) (past : Past H) → length service.places ≡ 64 → AreAllSettled service past → MayRest service → IsIdle (state_of (running service tools) [] past)
 is_idle service tools past size settled rest = record { places = λ k place here. (settled k (below k place here)).rested (rest.due k (below k place here)) place here; queue = rest.queue }
   where
     below : (k : ℕ) (place : Place) → slice_get service.places k ≡ Some place → k < 64
@@ -39,7 +39,7 @@ frees_within k place service service' frees all =
 
 module _ {N C J K H : Type 0} (p : Promises N C J K H) where
   pub leaves_to : (k : _) (place : Place) (service : Service) (tools : Tools N C J K H) (service' : Service) (tools' : Tools N C J K H) → slice_get service.places k ≡ Some place → IsOccupied place.stage →
-      ((found : List Ready) (past : Past H) → Cause (scene_of (running service tools) found past) k place) → LeadsAway p k place (running service tools) (running service' tools') →
+      ((found : List Ready) (past : Past H) → Cause (state_of (running service tools) found past) k place) → LeadsAway p k place (running service tools) (running service' tools') →
       service'.places ≡ slice_set service.places k (record place { stage = Free }) → service'.due ≡ service.due → SettlesAll p (running service tools) (running service' tools')
   leaves_to k place service tools service' tools' here taken cause leads places due found first past served settled =
       let reached = (served_answered p first _ served).reached in
@@ -55,7 +55,7 @@ module _ {N C J K H : Type 0} (p : Promises N C J K H) where
         done = closes_done p k place _ _ away.closes;
       }
 
-  pub fails_reached : (s s' : Scene N C J K H) (fault : LoopFault) → CannotGoOn p s fault s' → IsReached p.hosting s.course → IsReached p.hosting s'.course
+  pub fails_reached : (s s' : LoopState N C J K H) (fault : LoopFault) → CannotGoOn p s fault s' → IsReached p.hosting s.progress → IsReached p.hosting s'.progress
   fails_reached s s' fault (no_wait limit room n may done) reached = reached
   fails_reached s s' fault (no_time limit room found n c may done told) reached = reached
   fails_reached s s' fault (no_moment limit room found n times c keeper may done told lost moments) reached = reached
@@ -64,19 +64,19 @@ module _ {N C J K H : Type 0} (p : Promises N C J K H) where
   fails_reached s s' fault (no_more many) reached = reached
 
 -- where something is noted to be due, something was done
-busy_some : {H : Type 0} (service : Service) (past : Past H) → IsReadyToWait service past → IsBusy service → 0 < done_since past.deeds
+busy_some : {H : Type 0} (service : Service) (past : Past H) → IsReadyToWait service past → IsBusy service → 0 < done_since past.calls
 busy_some service past ready (inl due) = (ready.settled due.k due.within).active due.here
-busy_some service past ready (inr told) = elim ready.queue [ inl not ↦ absurd (not told) | inr tried ↦ done_some Accepting past.deeds (λ e. absurd (cc)) tried ]
+busy_some service past ready (inr told) = elim ready.queue [ inl not ↦ absurd (not told) | inr tried ↦ done_some Accepting past.calls (λ e. absurd (cc)) tried ]
 
 is_patient : {N C J K H : Type 0} (service : Service) (tools : Tools N C J K H) (past : Past H) (limit : Option ℕ) → length service.places ≡ 64 → IsReadyToWait service past → IsLimit service limit →
-    IsPatient (scene_of (running service tools) [] past) limit
+    IsPatient (state_of (running service tools) [] past) limit
 is_patient service tools past limit size ready (limited.looks busy) = served.looks (busy_some service past ready busy)
 is_patient service tools past limit size ready (limited.rests rest) = served.rests (is_idle service tools past size ready.settled rest)
 is_patient service tools past limit size ready (limited.sleeps rest free unbarred) = served.sleeps (is_idle service tools past size ready.settled rest) free unbarred
 
 -- it may wait
 pub may_wait : {N C J K H : Type 0} (p : Promises N C J K H) (service : Service) (tools : Tools N C J K H) (past : Past H) (limit : Option ℕ) (room : ℕ) → length service.places ≡ 64 → IsReadyToWait service past → IsLimit service limit → 65 ≤ room → IsKeptShort p (running service tools) past.journey.world →
-    MayWait p (scene_of (running service tools) [] past) limit room
+    MayWait p (state_of (running service tools) [] past) limit room
 may_wait p service tools past limit room size ready is_limit roomy short = record {
   patient = is_patient service tools past limit size ready is_limit;
   fair = record { places = λ k place here. (let within = slice_get_within service.places k place here in (ready.settled k (omega (arith, size, within))).turned place here); queue = ready.queue };
@@ -91,7 +91,7 @@ pub ready_still : {H : Type 0} (service : Service) (past : Past H) (service' : S
 ready_still service past service' same ready =
     let still : Service = record service { refused = service'.refused } in
     subst (λ (s : Service). IsReadyToWait s past) (sym same) (record {
-      settled = settled_then service past still past refl refl refl (none_more past.deeds) ready.settled;
+      settled = settled_then service past still past refl refl refl (none_more past.calls) ready.settled;
       queue = ready.queue;
       quick = record { idle = ready.quick.idle; crowded = ready.quick.crowded; tried = ready.quick.tried; reported = ready.quick.reported };
     })

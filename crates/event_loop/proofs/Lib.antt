@@ -3,10 +3,12 @@ pub mod Others
 pub mod Telling
 pub mod Answering
 pub mod Doing
+pub mod Done
 pub mod Resting
 pub mod Leading
 pub mod Cutting
 pub mod Kept
+pub mod Lasting
 pub mod Fronts
 pub mod Leaving
 pub mod Moments

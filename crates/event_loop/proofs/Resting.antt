@@ -12,12 +12,12 @@ use Rattle.event_loop.specs.declared.place.Stage.TheVariants.{Free, Open, Ended,
 use Rattle.event_loop.specs.declared.service.Service.{Service}
 use Rattle.event_loop.specs.declared.sockets.Ready.{Ready}
 use Rattle.event_loop.specs.declared.tools.Tools.{Tools}
-use Rattle.event_loop.specs.Deeds.{Deed, Reading, Writing, done_since}
+use Rattle.event_loop.specs.Calls.{Call, Reading, Writing, done_since}
 use Rattle.event_loop.specs.Places.{IsOccupied, IsInService, MayRead, MayWrite, NeedsNoRead, NeedsNoWrite, IsOver, IsPlaceAtRest, broken, ended, dismissed}
-use Rattle.event_loop.specs.Scenes.{Promises, Scene}
+use Rattle.event_loop.specs.LoopStates.{Promises, LoopState}
 use Rattle.event_loop.specs.Coming.{fresh_place}
 use Rattle.event_loop.specs.Served.{HadTurn, Served}
-use Rattle.event_loop.specs.Goes.{Past, IsToldAs, DoneAfter, HoldsAt, IsHeardAt, IsSettledAt, AreAllSettled, StaysIdle, IsWorkLeft, a_read, a_write, IsLeftAt, LeavesOthers, IsRestedAt, IsRested, TidiesAt, running, standing, scene_of, to_read, to_write}
+use Rattle.event_loop.specs.Goes.{Past, IsToldAs, DoneAfter, HoldsAt, IsHeardAt, IsSettledAt, AreAllSettled, StaysIdle, IsWorkLeft, a_read, a_write, IsLeftAt, LeavesOthers, IsRestedAt, IsRested, TidiesAt, running, standing, state_of, to_read, to_write}
 use Rattle.event_loop.proofs.Putting.{set_other, set_same, same_some}
 use Rattle.event_loop.proofs.Doing.{none_more}
 
@@ -86,11 +86,11 @@ still_unread k a b w v still =
     subst (λ s. HoldsAt k s v NeedsNoRead) (sym still.service_is) (subst (λ x. HoldsAt k a x NeedsNoRead) (sym still.world_is) still.rests)
 
 -- what rests needs no turn
-pub rests_turned : (k : ℕ) (place : Place) (o : Option Connection) (deeds : List Deed) → IsPlaceAtRest place o → HadTurn k place o deeds
-rests_turned k place o deeds rests = record { read = inl rests.unread; written = inl rests.unwritten; goes_on = rests.goes_on }
+pub rests_turned : (k : ℕ) (place : Place) (o : Option Connection) (calls : List Call) → IsPlaceAtRest place o → HadTurn k place o calls
+rests_turned k place o calls rests = record { read = inl rests.unread; written = inl rests.unwritten; goes_on = rests.goes_on }
 
 -- what had its turn, had it
-turned_then : (k : ℕ) (place : Place) (o : Option Connection) (earlier later : List Deed) → DoneAfter earlier later → HadTurn k place o earlier → HadTurn k place o later
+turned_then : (k : ℕ) (place : Place) (o : Option Connection) (earlier later : List Call) → DoneAfter earlier later → HadTurn k place o earlier → HadTurn k place o later
 turned_then k place o earlier later done turn = record {
   read = elim turn.read [
     | inl unread ↦ inl unread
@@ -129,20 +129,20 @@ none_left k b c v u unread unwritten left =
     not_left (a_read readable may) here = unread left.place here readable may
 
 -- what was heard at another place is
-pub heard_other : {H : Type 0} (k j : ℕ) (service : Service) (past : Past H) (service' : Service) (past' : Past H) → LeavesOthers k service past.journey.world service' past'.journey.world → DoneAfter past.deeds past'.deeds →
+pub heard_other : {H : Type 0} (k j : ℕ) (service : Service) (past : Past H) (service' : Service) (past' : Past H) → LeavesOthers k service past.journey.world service' past'.journey.world → DoneAfter past.calls past'.calls →
     j ≢ k → IsHeardAt j service past → IsHeardAt j service' past'
 heard_other k j service past service' past' others done other (inl unread) =
     inl (λ place here. subst (λ o. NeedsNoRead place o) (sym (others.connections j other)) (unread place (sym (others.places j other) ∙ here)))
 heard_other k j service past service' past' others done other (inr read) = inr (done.keeps (Reading j) read)
 
 -- and what was settled there
-pub settled_other : {H : Type 0} (k j : ℕ) (service : Service) (past : Past H) (service' : Service) (past' : Past H) → LeavesOthers k service past.journey.world service' past'.journey.world → DoneAfter past.deeds past'.deeds →
+pub settled_other : {H : Type 0} (k j : ℕ) (service : Service) (past : Past H) (service' : Service) (past' : Past H) → LeavesOthers k service past.journey.world service' past'.journey.world → DoneAfter past.calls past'.calls →
     j ≢ k → IsSettledAt j service past → IsSettledAt j service' past'
 settled_other k j service past service' past' others done other settled = record {
   rested = rested_other k j service past.journey.world service' past'.journey.world others other settled.rested;
   turned = λ place here.
-      turned_then j place (connection_at past'.journey.world.connections j) past.deeds past'.deeds done
-      (subst (λ o. HadTurn j place o past.deeds) (sym (others.connections j other)) (settled.turned place (sym (others.places j other) ∙ here)));
+      turned_then j place (connection_at past'.journey.world.connections j) past.calls past'.calls done
+      (subst (λ o. HadTurn j place o past.calls) (sym (others.connections j other)) (settled.turned place (sym (others.places j other) ∙ here)));
   active = λ e. (let some = settled.active (sym (others.due j other) ∙ e) in omega (arith, some, done.grows));
 }
 
@@ -154,12 +154,12 @@ pub rested_kept : (service : Service) (world world' : World) → world'.connecti
 rested_kept service world world' same rested j less =
     rested_other (suc j) j service world service world' (others_kept j service world world' same) (λ is. absurd (omega (arith, is))) (rested j less)
 
-pub heard_kept : {H : Type 0} (service : Service) (past past' : Past H) → past'.journey.world.connections ≡ past.journey.world.connections → DoneAfter past.deeds past'.deeds → (j : ℕ) → IsHeardAt j service past → IsHeardAt j service past'
+pub heard_kept : {H : Type 0} (service : Service) (past past' : Past H) → past'.journey.world.connections ≡ past.journey.world.connections → DoneAfter past.calls past'.calls → (j : ℕ) → IsHeardAt j service past → IsHeardAt j service past'
 heard_kept service past past' same done j heard =
     heard_other (suc j) j service past service past' (others_kept j service past.journey.world past'.journey.world same) done (λ is. absurd (omega (arith, is))) heard
 
 -- where one place is settled and the others are, all are
-pub all_settled : {H : Type 0} (k : ℕ) (service : Service) (past : Past H) (service' : Service) (past' : Past H) → LeavesOthers k service past.journey.world service' past'.journey.world → DoneAfter past.deeds past'.deeds →
+pub all_settled : {H : Type 0} (k : ℕ) (service : Service) (past : Past H) (service' : Service) (past' : Past H) → LeavesOthers k service past.journey.world service' past'.journey.world → DoneAfter past.calls past'.calls →
     AreAllSettled service past → IsSettledAt k service' past' → AreAllSettled service' past'
 all_settled k service past service' past' others done settled here j less =
     elim (eqb_tells j k) [
@@ -169,7 +169,7 @@ all_settled k service past service' past' others done settled here j less =
 
 -- where more was done and no place changed, they are as settled
 pub settled_then : {H : Type 0} (service : Service) (past : Past H) (service' : Service) (past' : Past H) → service'.places ≡ service.places → service'.due ≡ service.due → past'.journey.world ≡ past.journey.world →
-    DoneAfter past.deeds past'.deeds → AreAllSettled service past → AreAllSettled service' past'
+    DoneAfter past.calls past'.calls → AreAllSettled service past → AreAllSettled service' past'
 settled_then service past service' past' places due world done settled j less =
     settled_other (suc j) j service past service' past'
     (record { places = λ i other. ap (λ l. slice_get l i) places; due = λ i other. ap (λ l. slice_get l i) due; connections = λ i other. ap (λ (w : World). connection_at w.connections i) world }) done
@@ -193,23 +193,23 @@ put_at_rest k service service' place world' put rests place' here =
     subst (λ q. IsPlaceAtRest q (connection_at world'.connections k)) (sym is) rests
 
 pub put_settled : {H : Type 0} (k : ℕ) (service service' : Service) (place : Place) (past' : Past H) → service'.places ≡ slice_set service.places k place →
-    IsPlaceAtRest place (connection_at past'.journey.world.connections k) → (slice_get service'.due k ≡ Some true → 0 < done_since past'.deeds) → IsSettledAt k service' past'
+    IsPlaceAtRest place (connection_at past'.journey.world.connections k) → (slice_get service'.due k ≡ Some true → 0 < done_since past'.calls) → IsSettledAt k service' past'
 put_settled k service service' place past' put rests active = record {
   rested = λ none place' here. put_at_rest k service service' place past'.journey.world put rests place' here;
-  turned = λ place' here. rests_turned k place' _ past'.deeds (put_at_rest k service service' place past'.journey.world put rests place' here);
+  turned = λ place' here. rests_turned k place' _ past'.calls (put_at_rest k service service' place past'.journey.world put rests place' here);
   active = active;
 }
 
 -- a connection that is not over stays, and it is noted whether something is due there
-pub stays_tidy : {N C J K H : Type 0} (p : Promises N C J K H) (first : Scene N C J K H) (found : List Ready) (k : ℕ) (service : Service) (tools : Tools N C J K H) (past : Past H) (place : Place) (due : List Bool) →
+pub stays_tidy : {N C J K H : Type 0} (p : Promises N C J K H) (first : LoopState N C J K H) (found : List Ready) (k : ℕ) (service : Service) (tools : Tools N C J K H) (past : Past H) (place : Place) (due : List Bool) →
     slice_get service.places k ≡ Some place → ¬ (IsOver place (connection_at past.journey.world.connections k)) → ((j : ℕ) → j ≢ k → slice_get due j ≡ slice_get service.due j) →
     (slice_get due k ≡ Some false → IsPlaceAtRest place (connection_at past.journey.world.connections k)) → (slice_get due k ≡ Some true → IsWorkLeft place (connection_at past.journey.world.connections k)) →
-    Served p first (scene_of (running service tools) found past) → TidiesAt p first k (standing (running service tools) found past) (running (record service { due = due }) tools)
+    Served p first (state_of (running service tools) found past) → TidiesAt p first k (standing (running service tools) found past) (running (record service { due = due }) tools)
 stays_tidy p first found k service tools past place due here goes_on others rests left h = record {
   goes = record {
     next = past;
     served = h;
-    done = none_more past.deeds;
+    done = none_more past.calls;
     others = record { places = λ j other. refl; due = others; connections = λ j other. refl };
     alone = λ other differs not. not;
     ready = λ was. was;

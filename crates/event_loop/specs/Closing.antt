@@ -8,11 +8,11 @@ use Rattle.event_loop.specs.declared.place.Place.{Place}
 use Rattle.event_loop.specs.declared.place.Stage.TheVariants.{Free}
 use Rattle.event_loop.specs.declared.queue.Queue.{Queue}
 use Rattle.event_loop.specs.declared.queue.Queue.TheVariants.{Told, Empty, Barred, Asked, Waits}
-use Rattle.event_loop.specs.Deeds as deed
-use Rattle.event_loop.specs.Courses.{known, led}
+use Rattle.event_loop.specs.Calls as call
+use Rattle.event_loop.specs.Progress.{known, led}
 use Rattle.event_loop.specs.Noting.{Noted, NotesEnd}
 use Rattle.event_loop.specs.Places.{IsOccupied, IsOver}
-use Rattle.event_loop.specs.Scenes.{Promises, Scene, with_deed, with_place}
+use Rattle.event_loop.specs.LoopStates.{Promises, LoopState, with_call, with_place}
 
 -- none at the places took no byte for longer
 abbrev pub IsSilentLongest : List Place → Place → Type 0
@@ -25,8 +25,8 @@ AreWithin limit times places = (k : ℕ) (place : Place) → slice_get places k 
 -- Why the connection at a place is closed: it is over; it took no byte of a reply for longer than the limit; or all places
 -- are taken, another connection waits, and it is silent longest, for longer than the other limit. Of the seconds that are
 -- counted the first may be short, so more are counted than the limit has.
-pub data Cause {N C J K H : Type 0} (s : Scene N C J K H) (k : ℕ) (place : Place) : Type 0 where
-  is_over : IsOver place (known s.course k) → Cause s k place
+pub data Cause {N C J K H : Type 0} (s : LoopState N C J K H) (k : ℕ) (place : Place) : Type 0 where
+  is_over : IsOver place (known s.progress k) → Cause s k place
   is_silent : s.limits.idle < s.times.steady - place.since → Cause s k place
   gives_way : s.queue ≡ Waits → s.limits.crowded < s.times.steady - place.since → IsSilentLongest s.places place → Cause s k place
 
@@ -39,8 +39,8 @@ freed_queue Asked = Empty
 freed_queue Waits = Told
 
 -- A connection is closed and forgotten, its fault is noted, and its place is free.
-pub data Closes {N C J K H : Type 0} (p : Promises N C J K H) (k : ℕ) (place : Place) (s : Scene N C J K H) : Scene N C J K H → Type 0 where
-  leaves : (n : N) (e : SeenEdge H) (on : GoesOn p.hosting e s.course.journey (Forgotten k)) (noted : Noted J) →
-      p.sockets.does s.sockets (deed.Closed k) n → NotesEnd p.journal place.stage s.times.steady s.noted noted →
-      Closes p k place s (record (with_place (with_deed s (deed.Closed k) n) k (record place { stage = Free }))
-      { course = led s.course on; noted = noted; queue = freed_queue s.queue })
+pub data Closes {N C J K H : Type 0} (p : Promises N C J K H) (k : ℕ) (place : Place) (s : LoopState N C J K H) : LoopState N C J K H → Type 0 where
+  leaves : (n : N) (e : SeenEdge H) (on : GoesOn p.hosting e s.progress.journey (Forgotten k)) (noted : Noted J) →
+      p.sockets.does s.sockets (call.Closed k) n → NotesEnd p.journal place.stage s.times.steady s.noted noted →
+      Closes p k place s (record (with_place (with_call s (call.Closed k) n) k (record place { stage = Free }))
+      { progress = led s.progress on; noted = noted; queue = freed_queue s.queue })

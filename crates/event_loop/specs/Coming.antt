@@ -1,5 +1,5 @@
 -- How connections come.
-use Rattle.std.specs.Prelude.{◌<◌, ℕ, true, false}
+use Rattle.std.specs.Prelude.{◌<◌, ◌+◌, ◌-◌, ◌^◌, ℕ, true, false, min}
 use Rattle.http_edge.specs.Schedule.{Opened}
 use Rattle.http_edge.specs.Edges.{SeenEdge}
 use Rattle.http_edge.specs.Reached.{GoesOn}
@@ -11,11 +11,11 @@ use Rattle.event_loop.specs.declared.place.Stage.TheVariants.{Open}
 use Rattle.event_loop.specs.declared.queue.Queue.{Queue}
 use Rattle.event_loop.specs.declared.queue.Queue.TheVariants.{Told, Empty, Barred, Asked, Waits}
 use Rattle.event_loop.specs.declared.sockets.Accepted.TheVariants.{Taken, Later, Failed}
-use Rattle.event_loop.specs.Deeds as deed
-use Rattle.event_loop.specs.Courses.{led}
+use Rattle.event_loop.specs.Calls as call
+use Rattle.event_loop.specs.Progress.{led}
 use Rattle.event_loop.specs.Noting.{Noted, NotesFault}
 use Rattle.event_loop.specs.Places.{IsFreeAt, AllTaken, places_limit}
-use Rattle.event_loop.specs.Scenes.{Promises, Scene, with_deed, with_place}
+use Rattle.event_loop.specs.LoopStates.{Promises, LoopState, with_call, with_place}
 
 -- a place whose connection came now, from which nothing was told to come yet
 abbrev pub fresh_place : ℕ → Place
@@ -29,19 +29,23 @@ told_queue (Barred since) = Barred since
 told_queue Asked = Waits
 told_queue Waits = Waits
 
+-- one connection more came, as far as can be counted
+abbrev pub one_more : ℕ → ℕ
+one_more count = min (count + 1) (2 ^ 64 - 1)
+
 -- Where somebody may wait, a connection is accepted, if there is a free place for it.
-pub data AcceptsOne {N C J K H : Type 0} (p : Promises N C J K H) (s : Scene N C J K H) : Scene N C J K H → Type 0 where
-  opens : (k : ℕ) (n : N) (e : SeenEdge H) (on : GoesOn p.hosting e s.course.journey (Opened k)) →
-      k < places_limit → IsFreeAt s.places k → p.sockets.does s.sockets (deed.Tried k Taken) n →
-      AcceptsOne p s (record (with_place (with_deed s (deed.Tried k Taken) n) k (fresh_place s.times.steady)) { course = led s.course on })
+pub data AcceptsOne {N C J K H : Type 0} (p : Promises N C J K H) (s : LoopState N C J K H) : LoopState N C J K H → Type 0 where
+  opens : (k : ℕ) (n : N) (e : SeenEdge H) (on : GoesOn p.hosting e s.progress.journey (Opened k)) →
+      k < places_limit → IsFreeAt s.places k → p.sockets.does s.sockets (call.Tried k Taken) n →
+      AcceptsOne p s (record (with_place (with_call s (call.Tried k Taken) n) k (fresh_place s.times.steady)) { progress = led s.progress on; accepted = one_more s.accepted })
   -- the edge refuses it, and it is closed at once
   denies : (k : ℕ) (n n' : N) (fault : EdgeFault) (noted : Noted J) → k < places_limit → IsFreeAt s.places k →
-      p.sockets.does s.sockets (deed.Tried k Taken) n → IsOpeningRefusal fault s.course.journey.world.connections k → p.sockets.does n (deed.Closed k) n' →
+      p.sockets.does s.sockets (call.Tried k Taken) n → IsOpeningRefusal fault s.progress.journey.world.connections k → p.sockets.does n (call.Closed k) n' →
       NotesFault p.journal (Refused fault) s.times.steady s.noted noted →
-      AcceptsOne p s (record (with_deed (with_deed s (deed.Tried k Taken) n) (deed.Closed k) n') { noted = noted })
-  finds_nobody : (k : ℕ) (n : N) → p.sockets.does s.sockets (deed.Tried k Later) n →
-      AcceptsOne p s (record (with_deed s (deed.Tried k Later) n) { queue = Empty })
-  fails : (k : ℕ) (n : N) (noted : Noted J) → p.sockets.does s.sockets (deed.Tried k Failed) n → NotesFault p.journal Accept s.times.steady s.noted noted →
-      AcceptsOne p s (record (with_deed s (deed.Tried k Failed) n) { queue = Barred s.times.steady; noted = noted })
+      AcceptsOne p s (record (with_call (with_call s (call.Tried k Taken) n) (call.Closed k) n') { noted = noted })
+  finds_nobody : (k : ℕ) (n : N) → p.sockets.does s.sockets (call.Tried k Later) n →
+      AcceptsOne p s (record (with_call s (call.Tried k Later) n) { queue = Empty })
+  fails : (k : ℕ) (n : N) (noted : Noted J) → p.sockets.does s.sockets (call.Tried k Failed) n → NotesFault p.journal Accept s.times.steady s.noted noted →
+      AcceptsOne p s (record (with_call s (call.Tried k Failed) n) { queue = Barred s.times.steady; noted = noted })
   -- all places are taken
-  asks : (n : N) → AllTaken s.places → p.sockets.does s.sockets deed.Asked n → AcceptsOne p s (record (with_deed s deed.Asked n) { queue = Asked })
+  asks : (n : N) → AllTaken s.places → p.sockets.does s.sockets call.Asked n → AcceptsOne p s (record (with_call s call.Asked n) { queue = Asked })

@@ -7,14 +7,15 @@ use Rattle.event_loop.specs.declared.fault.LoopFault.TheVariants.{Wait, Clock, K
 use Rattle.event_loop.specs.declared.limits.Limits.{Limits}
 use Rattle.event_loop.specs.declared.sockets.Ready.{Ready}
 use Rattle.event_loop.specs.declared.tools.Tools.{Tools}
-use Rattle.event_loop.specs.Deeds as deed
-use Rattle.event_loop.specs.Deeds.{Keeping, IsDone}
-use Rattle.change_codec.specs.Keeping.{HeldMeanwhile, KeepsNot, TellsMoments}
-use Rattle.event_loop.specs.Durable.{Onward, KeeperHolds, IsDurable, IsDurableToEnd, MomentIsHeld, MomentStays}
+use Rattle.event_loop.specs.Calls as call
+use Rattle.event_loop.specs.Calls.{Keeping, IsDone}
+use Rattle.event_loop.specs.Done.{HaveDone}
+use Rattle.change_codec.specs.Keeping.{HeldMeanwhile, KeepsBasis, KeepsNot, TellsBasis}
+use Rattle.event_loop.specs.Durable.{Onward, KeeperHolds, IsWriteKept, IsDurable, IsDurableToEnd, MomentIsHeld, MomentStays}
 use Rattle.event_loop.specs.Places.{AllFree}
-use Rattle.event_loop.specs.Scenes.{Promises, Scene, IsAllKept, IsUnkept, with_deed}
+use Rattle.event_loop.specs.LoopStates.{Promises, LoopState, IsAllKept, IsUnkept, with_call}
 use Rattle.event_loop.specs.Answered.{IsAllAnswered}
-use Rattle.event_loop.specs.Served.{IsFirst, MayWait, Served, Shuts, TellsLast}
+use Rattle.event_loop.specs.Served.{IsFirst, LoopStep, MayWait, Served, Shuts, TellsLast}
 
 -- so many rounds can be counted
 abbrev pub rounds_limit : ℕ
@@ -23,23 +24,23 @@ rounds_limit = 18446744073709551615
 -- why it goes on no more: a wait failed; behind a wait the clocks told nothing, or their moment could not be kept, and what it
 -- found was not looked at; what is unkept could not be kept; an image could not be put, and what was kept may be lost; or so
 -- many rounds were made as can be counted
-pub data CannotGoOn {N C J K H : Type 0} (p : Promises N C J K H) (s : Scene N C J K H) : LoopFault → Scene N C J K H → Type 0 where
-  no_wait : (limit : Option ℕ) (room : ℕ) (n : N) → MayWait p s limit room → p.sockets.does s.sockets (deed.WaitFailed limit room) n →
-      CannotGoOn p s Wait (with_deed s (deed.WaitFailed limit room) n)
+pub data CannotGoOn {N C J K H : Type 0} (p : Promises N C J K H) (s : LoopState N C J K H) : LoopFault → LoopState N C J K H → Type 0 where
+  no_wait : (limit : Option ℕ) (room : ℕ) (n : N) → MayWait p s limit room → p.sockets.does s.sockets (call.WaitFailed limit room) n →
+      CannotGoOn p s Wait (with_call s (call.WaitFailed limit room) n)
   no_time : (limit : Option ℕ) (room : ℕ) (found : List Ready) (n : N) (c : C) → MayWait p s limit room →
-      p.sockets.does s.sockets (deed.Waited limit room found) n → p.clocks.tells s.clocks None c →
-      CannotGoOn p s Clock (record (with_deed s (deed.Waited limit room found) n) { clocks = c; found = found })
+      p.sockets.does s.sockets (call.Waited limit room found) n → p.clocks.tells s.clocks None c →
+      CannotGoOn p s Clock (record (with_call s (call.Waited limit room found) n) { clocks = c; found = found })
   no_moment : (limit : Option ℕ) (room : ℕ) (found : List Ready) (n : N) (times : Times) (c : C) (keeper : K) → MayWait p s limit room →
-      p.sockets.does s.sockets (deed.Waited limit room found) n → p.clocks.tells s.clocks (Some times) c →
-      HeldMeanwhile p.keeping.crashes s.keeper keeper → TellsMoments p.keeping.crashes s.keeper keeper →
-      CannotGoOn p s Keep (record (with_deed s (deed.Waited limit room found) n) { clocks = c; keeper = keeper; found = found })
-  not_kept : (keeper : K) (unkept : IsUnkept s.course.journey.world) → ¬ (IsDone Keeping s.deeds) →
-      KeepsNot p.keeping.crashes unkept.kept s.course.journey.world.history s.keeper keeper → TellsMoments p.keeping.crashes s.keeper keeper →
+      p.sockets.does s.sockets (call.Waited limit room found) n → p.clocks.tells s.clocks (Some times) c →
+      HeldMeanwhile p.keeping.crashes s.keeper keeper → TellsBasis p.keeping.crashes s.keeper keeper →
+      CannotGoOn p s Keep (record (with_call s (call.Waited limit room found) n) { clocks = c; keeper = keeper; found = found })
+  not_kept : (keeper : K) (unkept : IsUnkept s.progress.journey.world) → ¬ (IsDone Keeping s.calls) →
+      KeepsNot p.keeping.crashes unkept.kept s.progress.journey.world.history s.keeper keeper → TellsBasis p.keeping.crashes s.keeper keeper →
       CannotGoOn p s Keep (record s { keeper = keeper })
-  not_imaged : (keeper : K) → IsAllKept s.course.journey.world →
-      KeepsNot p.keeping.crashes s.course.journey.world.history s.course.journey.world.history s.keeper keeper → TellsMoments p.keeping.crashes s.keeper keeper →
+  not_imaged : (keeper : K) → IsAllKept s.progress.journey.world →
+      KeepsNot p.keeping.crashes s.progress.journey.world.history s.progress.journey.world.history s.keeper keeper → TellsBasis p.keeping.crashes s.keeper keeper →
       CannotGoOn p s Keep (record s { keeper = keeper })
-  no_more : rounds_limit ≤ deed.waits s.deeds → CannotGoOn p s Rounds s
+  no_more : rounds_limit ≤ call.waits s.calls → CannotGoOn p s Rounds s
 
 -- what a loop begins with: its limits, its tools, and the journey that led to their edge
 pub record Beginning (N C J K H : Type 0) : Type 0 where
@@ -47,43 +48,47 @@ pub record Beginning (N C J K H : Type 0) : Type 0 where
   pub tools : Tools N C J K H
   pub journey : Journey H
 
--- the tools of a scene
-abbrev pub tools_at : {N C J K H : Type 0} → Scene N C J K H → Tools N C J K H
+-- the tools of a state
+abbrev pub tools_at : {N C J K H : Type 0} → LoopState N C J K H → Tools N C J K H
 tools_at s = record {
   sockets = s.sockets;
-  edge = s.course.edge;
+  edge = s.progress.edge;
   clocks = s.clocks;
-  generator = s.course.generator;
+  generator = s.progress.generator;
   journal = s.noted.journal;
   keeper = s.keeper;
 }
 
--- The clocks told the first times, and steps led on, whose every scene is answered, until something failed; then nothing
+-- The clocks told the first times, and steps led on, whose every state is answered, until something failed; then nothing
 -- was done but that each connection that was left was closed and forgotten, and all places are free, and that behind them,
--- where reports are wanted, there was one more. Where the keeper held at first what was kept, all that was kept is durable.
--- Behind the first wait the keeper holds the moment by which requests are answered, and each crash tells the greatest one by
--- which one was.
+-- where reports are wanted, there was one more. That is what the sockets did. With each write all that had happened was kept, and where the keeper held at
+-- first what was kept, all that was kept is durable. What crashes told at some state, each crash tells from then on. Behind
+-- the first wait that is the moment by which requests are answered, and each crash tells the greatest one by which one was.
 pub record HasServed {N C J K H : Type 0} (p : Promises N C J K H) (start : Beginning N C J K H) (fault : LoopFault) (tools' : Tools N C J K H) : Type 0 where
-  pub first : Scene N C J K H
+  pub first : LoopState N C J K H
   pub is_first : IsFirst p first
   pub limits_are : first.limits ≡ start.limits
-  pub journey_is : first.course.journey ≡ start.journey
+  pub journey_is : first.progress.journey ≡ start.journey
   pub told : p.clocks.tells start.tools.clocks (Some first.times) first.clocks
   pub tools_are : tools_at first ≡ record start.tools { clocks = first.clocks }
-  pub last : Scene N C J K H
+  pub last : LoopState N C J K H
   pub served : Served p first last
-  pub answered : (s : Scene N C J K H) → Served p first s → IsAllAnswered p s
-  pub durable : KeeperHolds p first → (s s' : Scene N C J K H) → Served p first s → Onward p s s' → IsDurable p s s'
-  pub moment : (s : Scene N C J K H) → Served p first s → 0 < deed.waits s.deeds → MomentIsHeld p s
-  pub moment_stays : (s s' : Scene N C J K H) → Served p first s → Onward p s s' → MomentStays p first s s'
-  pub failed : Scene N C J K H
+  pub answered : (s : LoopState N C J K H) → Served p first s → IsAllAnswered p s
+  pub kept : (s s' : LoopState N C J K H) → Served p first s → LoopStep p s s' → IsWriteKept s s'
+  pub durable : KeeperHolds p first → (s s' : LoopState N C J K H) → Served p first s → Onward p s s' → IsDurable p s s'
+  pub basis : (s s' : LoopState N C J K H) → Served p first s → Onward p s s' → KeepsBasis p.keeping.crashes s.keeper s'.keeper
+  pub moment : (s : LoopState N C J K H) → Served p first s → 0 < call.waits s.calls → MomentIsHeld p s
+  pub moment_stays : (s s' : LoopState N C J K H) → Served p first s → Onward p s s' → MomentStays p first s s'
+  pub failed : LoopState N C J K H
   pub fails : CannotGoOn p last fault failed
-  pub emptied : Scene N C J K H
+  pub emptied : LoopState N C J K H
   pub shuts : Shuts p failed emptied
-  pub end : Scene N C J K H
+  pub end : LoopState N C J K H
   pub tells_last : TellsLast p emptied end
-  pub durable_then : KeeperHolds p first → (s : Scene N C J K H) → Served p first s → Onward p s last → IsDurableToEnd p s last end
-  pub moment_stays_then : (s : Scene N C J K H) → Served p first s → Onward p s last → MomentStays p first s end
+  pub done : HaveDone p.sockets first.sockets end.calls end.sockets
+  pub durable_then : KeeperHolds p first → (s : LoopState N C J K H) → Served p first s → Onward p s last → IsDurableToEnd p s last end
+  pub basis_then : (s : LoopState N C J K H) → Served p first s → Onward p s last → TellsBasis p.keeping.crashes s.keeper end.keeper
+  pub moment_stays_then : (s : LoopState N C J K H) → Served p first s → Onward p s last → MomentStays p first s end
   pub free : AllFree end.places
   pub tools_are_then : tools' ≡ tools_at end
 

@@ -12,7 +12,7 @@ use Rattle.http_edge.specs.declared.fault.EdgeFault.TheVariants.{TooManyRequests
 use Rattle.http_edge.specs.Sources.{draws_for, draws_behind}
 use Rattle.http_edge.specs.Pieces.{IsBrought}
 use Rattle.http_edge.specs.contracts.chance.ChaCha20RngDrawSource.TheImpl as generators
-use Rattle.event_loop.specs.Courses.{Course, known, led}
+use Rattle.event_loop.specs.Progress.{Progress, known, led}
 
 -- where a piece completes too many requests, it is given in cuts of so many bytes
 abbrev pub cut_limit : ℕ
@@ -20,35 +20,35 @@ cut_limit = 512
 
 -- A piece was given to the edge: each request that it brings had the generator's next draws, where it wants some, and the
 -- generator stands behind them.
-pub record IsPieceGiven {H : Type 0} (hosting : Hosting H) (piece : Piece) (course : Course H) : Type 0 where
+pub record IsPieceGiven {H : Type 0} (hosting : Hosting H) (piece : Piece) (progress : Progress H) : Type 0 where
   pub edge : SeenEdge H
   pub generator : ChaCha
   pub messages : List Message
-  pub brought : IsBrought course.journey.world.connections piece messages
-  pub after : generator ≡ draws_behind generators.ghosts course.generator messages
-  pub on : PieceGoesOn hosting edge course.journey piece (draws_for generators.ghosts course.generator messages)
+  pub brought : IsBrought progress.journey.world.connections piece messages
+  pub after : generator ≡ draws_behind generators.ghosts progress.generator messages
+  pub on : PieceGoesOn hosting edge progress.journey piece (draws_for generators.ghosts progress.generator messages)
 
 -- the bytes of a piece are given in parts, one after another, none after the 400 of a faulty head
-pub data GivesPieces {H : Type 0} (hosting : Hosting H) (piece : Piece) (first : Course H) : List ℕ → Course H → Type 0 where
+pub data GivesPieces {H : Type 0} (hosting : Hosting H) (piece : Piece) (first : Progress H) : List ℕ → Progress H → Type 0 where
   nothing : GivesPieces hosting piece first [] first
-  gives : {bytes : List ℕ} {course : Course H} (part : List ℕ) → GivesPieces hosting piece first bytes course →
-      is_closing (known course piece.connection) ≡ false → (g : IsPieceGiven hosting (record piece { bytes = part }) course) →
-      GivesPieces hosting piece first (bytes ++ part) (record (led course g.on.on) { generator = g.generator })
+  gives : {bytes : List ℕ} {progress : Progress H} (part : List ℕ) → GivesPieces hosting piece first bytes progress →
+      is_closing (known progress piece.connection) ≡ false → (g : IsPieceGiven hosting (record piece { bytes = part }) progress) →
+      GivesPieces hosting piece first (bytes ++ part) (record (led progress g.on.on) { generator = g.generator })
 
 -- All its bytes were given, or the rest comes behind the 400 of a faulty head.
-pub record AreBytesHeard {H : Type 0} (hosting : Hosting H) (piece : Piece) (course course' : Course H) : Type 0 where
+pub record AreBytesHeard {H : Type 0} (hosting : Hosting H) (piece : Piece) (progress progress' : Progress H) : Type 0 where
   pub given : List ℕ
   pub rest : List ℕ
   pub all : piece.bytes ≡ given ++ rest
-  pub gives : GivesPieces hosting piece course given course'
-  pub over : (rest ≡ []) ⊎ (is_closing (known course' piece.connection) ≡ true)
+  pub gives : GivesPieces hosting piece progress given progress'
+  pub over : (rest ≡ []) ⊎ (is_closing (known progress' piece.connection) ≡ true)
 
 -- A front of them was given, and then a part was refused that is no longer cut. A refused part takes no draws.
-pub record IsUnheard {H : Type 0} (hosting : Hosting H) (piece : Piece) (fault : EdgeFault) (course course' : Course H) : Type 0 where
+pub record IsUnheard {H : Type 0} (hosting : Hosting H) (piece : Piece) (fault : EdgeFault) (progress progress' : Progress H) : Type 0 where
   pub given : List ℕ
   pub part : List ℕ
   pub rest : List ℕ
   pub all : piece.bytes ≡ given ++ (part ++ rest)
-  pub gives : GivesPieces hosting piece course given course'
-  pub refused : IsPieceRefusal fault course'.journey.world.connections piece.connection part None
+  pub gives : GivesPieces hosting piece progress given progress'
+  pub refused : IsPieceRefusal fault progress'.journey.world.connections piece.connection part None
   pub cut : fault ≡ TooManyRequests → length part ≤ cut_limit

@@ -14,10 +14,10 @@ use Rattle.event_loop.specs.declared.report.Report.{Report}
 use Rattle.event_loop.specs.declared.service.Service.{Service}
 use Rattle.event_loop.specs.declared.sockets.Ready.{Ready}
 use Rattle.event_loop.specs.declared.tools.Tools.{Tools}
-use Rattle.event_loop.specs.Deeds.{Deed, Task, Reading, Keeping, Writing, Accepting, IsDone, waits, done_since}
+use Rattle.event_loop.specs.Calls.{Call, CallKind, Reading, Keeping, Writing, Accepting, IsDone, waits, done_since}
 use Rattle.event_loop.specs.Noting.{Noted}
 use Rattle.event_loop.specs.Places.{IsOccupied, MayRead, MayWrite, NeedsNoRead, NeedsNoWrite, IsOver, IsPlaceAtRest, AllFree}
-use Rattle.event_loop.specs.Scenes.{Promises, Scene, IsAllKept}
+use Rattle.event_loop.specs.LoopStates.{Promises, LoopState, IsAllKept}
 use Rattle.event_loop.specs.Closing.{IsSilentLongest, AreWithin, Closes, freed_queue}
 use Rattle.event_loop.specs.Reporting.{Tells, is_long_ago}
 use Rattle.event_loop.specs.Served.{HadTurn, Served, Shuts, TellsLast}
@@ -41,7 +41,7 @@ running service tools = record { service = service; tools = tools }
 
 -- what was done so far, and the journey of its edge
 pub record Past (H : Type 0) : Type 0 where
-  pub deeds : List Deed
+  pub calls : List Call
   pub journey : Journey H
 
 -- where the loop stands: as it runs, with what the last wait found and was not looked at yet, and with what was done so far
@@ -53,13 +53,13 @@ pub record Standing (N C J K H : Type 0) : Type 0 where
 abbrev pub standing : {N C J K H : Type 0} → Running N C J K H → List Ready → Past H → Standing N C J K H
 standing now found past = record { now = now; found = found; past = past }
 
-abbrev pub scene_of : {N C J K H : Type 0} → Running N C J K H → List Ready → Past H → Scene N C J K H
-scene_of now found past = record {
+abbrev pub state_of : {N C J K H : Type 0} → Running N C J K H → List Ready → Past H → LoopState N C J K H
+state_of now found past = record {
   sockets = now.tools.sockets;
   clocks = now.tools.clocks;
   noted = noted_in now.tools.journal now.service.noted;
   keeper = now.tools.keeper;
-  course = record { edge = now.tools.edge; generator = now.tools.generator; journey = past.journey };
+  progress = record { edge = now.tools.edge; generator = now.tools.generator; journey = past.journey };
   limits = now.service.limits;
   places = now.service.places;
   found = found;
@@ -67,7 +67,9 @@ scene_of now found past = record {
   times = now.service.times;
   told = now.service.told;
   refused = now.service.refused;
-  deeds = past.deeds;
+  began = now.service.began;
+  accepted = now.service.accepted;
+  calls = past.calls;
 }
 
 -- something may be due at some place
@@ -95,11 +97,11 @@ pub data IsLimit (service : Service) : Option ℕ → Type 0 where
   rests : MayRest service → IsLimit service (Some 1000)
   sleeps : MayRest service → AllFree service.places → ((since : ℕ) → service.queue ≢ Barred since) → IsLimit service None
 
--- deeds were done after others, none of them a wait
-pub record DoneAfter (earlier later : List Deed) : Type 0 where
+-- calls were made after others, none of them a wait
+pub record DoneAfter (earlier later : List Call) : Type 0 where
   pub waits : waits later ≡ waits earlier
   pub grows : done_since earlier ≤ done_since later
-  pub keeps : (task : Task) → IsDone task earlier → IsDone task later
+  pub keeps : (kind : CallKind) → IsDone kind earlier → IsDone kind later
 
 -- AT ONE PLACE
 
@@ -116,32 +118,32 @@ pub record LeavesOthers (k : ℕ) (service : Service) (world : World) (service' 
   pub due : (j : ℕ) → j ≢ k → slice_get service'.due j ≡ slice_get service.due j
   pub connections : (j : ℕ) → j ≢ k → connection_at world'.connections j ≡ connection_at world.connections j
 
--- what must be so that a task is done: for a write nothing is unkept
-abbrev pub IsReadyFor : Task → World → Type 0
+-- what must be so that a call of the kind is made: for a write nothing is unkept
+abbrev pub IsReadyFor : CallKind → World → Type 0
 IsReadyFor (Writing k) world = IsAllKept world
-IsReadyFor task world = ⊤
+IsReadyFor kind world = ⊤
 
--- a task that may be to be done at a place, and when it needs not be done
+-- a kind of call that may be to be made at a place, and when it needs not be made
 pub record Duty : Type 1 where
   pub k : ℕ
-  pub task : Task
+  pub kind : CallKind
   pub rests : Place → Option Connection → Type 0
 
 abbrev pub to_read : ℕ → Duty
-to_read k = record { k = k; task = Reading k; rests = NeedsNoRead }
+to_read k = record { k = k; kind = Reading k; rests = NeedsNoRead }
 
 abbrev pub to_write : ℕ → Duty
-to_write k = record { k = k; task = Writing k; rests = NeedsNoWrite }
+to_write k = record { k = k; kind = Writing k; rests = NeedsNoWrite }
 
--- steps lead on, which touch one place alone, and do one task alone; what was ready for it stays ready
-pub record GoesAt {N C J K H : Type 0} (p : Promises N C J K H) (first : Scene N C J K H) (duty : Duty) (before : Standing N C J K H)
+-- steps lead on, which touch one place alone, and make calls of one kind alone; what was ready for it stays ready
+pub record GoesAt {N C J K H : Type 0} (p : Promises N C J K H) (first : LoopState N C J K H) (duty : Duty) (before : Standing N C J K H)
     (after : Running N C J K H) : Type 0 where
   pub next : Past H
-  pub served : Served p first (scene_of after before.found next)
-  pub done : DoneAfter before.past.deeds next.deeds
+  pub served : Served p first (state_of after before.found next)
+  pub done : DoneAfter before.past.calls next.calls
   pub others : LeavesOthers duty.k before.now.service before.past.journey.world after.service next.journey.world
-  pub ready : IsReadyFor duty.task before.past.journey.world → IsReadyFor duty.task next.journey.world
-  pub alone : (other : Task) → other ≢ duty.task → ¬ (IsDone other before.past.deeds) → ¬ (IsDone other next.deeds)
+  pub ready : IsReadyFor duty.kind before.past.journey.world → IsReadyFor duty.kind next.journey.world
+  pub alone : (other : CallKind) → other ≢ duty.kind → ¬ (IsDone other before.past.calls) → ¬ (IsDone other next.calls)
 
 -- it holds of what is known of the place, and of its connection
 abbrev pub HoldsAt : ℕ → Service → World → (Place → Option Connection → Type 0) → Type 0
@@ -153,18 +155,18 @@ pub record StaysIdle (duty : Duty) (service : Service) (world : World) (service'
   pub world_is : world' ≡ world
   pub rests : HoldsAt duty.k service world duty.rests
 
--- a task is done at one place, or nothing changed, since it is not to be done
-pub record ActsAt {N C J K H : Type 0} (p : Promises N C J K H) (first : Scene N C J K H) (duty : Duty) (before : Standing N C J K H)
+-- a call of the kind is made at one place, or nothing changed, since it is not to be made
+pub record ActsAt {N C J K H : Type 0} (p : Promises N C J K H) (first : LoopState N C J K H) (duty : Duty) (before : Standing N C J K H)
     (after : Running N C J K H) : Type 0 where
   pub goes : GoesAt p first duty before after
   pub due : after.service.due ≡ before.now.service.due
-  pub acts : StaysIdle duty before.now.service before.past.journey.world after.service goes.next.journey.world ⊎ IsDone duty.task goes.next.deeds
+  pub acts : StaysIdle duty before.now.service before.past.journey.world after.service goes.next.journey.world ⊎ IsDone duty.kind goes.next.calls
 
 -- so it is where it was not done since the last wait, and may be done
 abbrev pub LeadsToActs : {N C J K H : Type 0} → Promises N C J K H → Duty → Running N C J K H → Running N C J K H → Type 0
 LeadsToActs {N} {C} {J} {K} {H} p duty before after =
-    (first : Scene N C J K H) (found : List Ready) (past : Past H) → ¬ (IsDone duty.task past.deeds) → IsReadyFor duty.task past.journey.world →
-    Served p first (scene_of before found past) → ActsAt p first duty (standing before found past) after
+    (first : LoopState N C J K H) (found : List Ready) (past : Past H) → ¬ (IsDone duty.kind past.calls) → IsReadyFor duty.kind past.journey.world →
+    Served p first (state_of before found past) → ActsAt p first duty (standing before found past) after
 
 -- a read or a write is to be done
 pub data IsWorkLeft (place : Place) (connection : Option Connection) : Type 0 where
@@ -193,46 +195,46 @@ IsRestedAt k service world = slice_get service.due k ≡ Some false → HoldsAt 
 
 -- no read is to be done at the place, or one was done since the last wait
 abbrev pub IsHeardAt : {H : Type 0} → ℕ → Service → Past H → Type 0
-IsHeardAt k service past = HoldsAt k service past.journey.world NeedsNoRead ⊎ IsDone (Reading k) past.deeds
+IsHeardAt k service past = HoldsAt k service past.journey.world NeedsNoRead ⊎ IsDone (Reading k) past.calls
 
 -- the place had its turn, and where nothing is noted to be due, nothing is to be done there, and else something was done
 pub record IsSettledAt {H : Type 0} (k : ℕ) (service : Service) (past : Past H) : Type 0 where
   pub rested : IsRestedAt k service past.journey.world
-  pub turned : HoldsAt k service past.journey.world (λ place connection. HadTurn k place connection past.deeds)
-  pub active : slice_get service.due k ≡ Some true → 0 < done_since past.deeds
+  pub turned : HoldsAt k service past.journey.world (λ place connection. HadTurn k place connection past.calls)
+  pub active : slice_get service.due k ≡ Some true → 0 < done_since past.calls
 
 -- steps lead on, which touch one place alone, and it is settled
-pub record SettlesAt {N C J K H : Type 0} (p : Promises N C J K H) (first : Scene N C J K H) (k : ℕ) (before : Standing N C J K H)
+pub record SettlesAt {N C J K H : Type 0} (p : Promises N C J K H) (first : LoopState N C J K H) (k : ℕ) (before : Standing N C J K H)
     (after : Running N C J K H) : Type 0 where
   pub goes : GoesAt p first (to_write k) before after
   pub settled : IsSettledAt k after.service goes.next
 
 -- it is closed where it is over, and else it is noted whether something is due there
-pub record TidiesAt {N C J K H : Type 0} (p : Promises N C J K H) (first : Scene N C J K H) (k : ℕ) (before : Standing N C J K H)
+pub record TidiesAt {N C J K H : Type 0} (p : Promises N C J K H) (first : LoopState N C J K H) (k : ℕ) (before : Standing N C J K H)
     (after : Running N C J K H) : Type 0 where
   pub goes : GoesAt p first (to_write k) before after
   pub rested : IsRestedAt k after.service goes.next.journey.world
   pub turned : HoldsAt k before.now.service before.past.journey.world NeedsNoRead ⊎
-      (IsDone (Reading k) before.past.deeds ⊎ IsDone (Writing k) before.past.deeds) →
-      HoldsAt k before.now.service before.past.journey.world NeedsNoWrite ⊎ IsDone (Writing k) before.past.deeds →
-      HoldsAt k after.service goes.next.journey.world (λ place connection. HadTurn k place connection goes.next.deeds)
+      (IsDone (Reading k) before.past.calls ⊎ IsDone (Writing k) before.past.calls) →
+      HoldsAt k before.now.service before.past.journey.world NeedsNoWrite ⊎ IsDone (Writing k) before.past.calls →
+      HoldsAt k after.service goes.next.journey.world (λ place connection. HadTurn k place connection goes.next.calls)
   pub left : slice_get after.service.due k ≡ Some true → IsLeftAt k before.now.service before.past.journey.world
 
 abbrev pub LeadsToTidy : {N C J K H : Type 0} → Promises N C J K H → ℕ → Running N C J K H → Running N C J K H → Type 0
 LeadsToTidy {N} {C} {J} {K} {H} p k before after =
-    (first : Scene N C J K H) (found : List Ready) (past : Past H) → Served p first (scene_of before found past) →
+    (first : LoopState N C J K H) (found : List Ready) (past : Past H) → Served p first (state_of before found past) →
     TidiesAt p first k (standing before found past) after
 
 abbrev pub LeadsToRest : {N C J K H : Type 0} → Promises N C J K H → ℕ → Running N C J K H → Running N C J K H → Type 0
 LeadsToRest {N} {C} {J} {K} {H} p k before after =
-    (first : Scene N C J K H) (found : List Ready) (past : Past H) → IsHeardAt k before.service past → ¬ (IsDone (Writing k) past.deeds) →
-    IsAllKept past.journey.world → Served p first (scene_of before found past) → SettlesAt p first k (standing before found past) after
+    (first : LoopState N C J K H) (found : List Ready) (past : Past H) → IsHeardAt k before.service past → ¬ (IsDone (Writing k) past.calls) →
+    IsAllKept past.journey.world → Served p first (state_of before found past) → SettlesAt p first k (standing before found past) after
 
 -- a connection is closed, wherever the edge was reached
 pub record GoesAway {N C J K H : Type 0} (p : Promises N C J K H) (k : ℕ) (place : Place) (before : Standing N C J K H)
     (after : Running N C J K H) : Type 0 where
   pub next : Past H
-  pub closes : Closes p k place (scene_of before.now before.found before.past) (scene_of after before.found next)
+  pub closes : Closes p k place (state_of before.now before.found before.past) (state_of after before.found next)
 
 abbrev pub LeadsAway : {N C J K H : Type 0} → Promises N C J K H → ℕ → Place → Running N C J K H → Running N C J K H → Type 0
 LeadsAway {N} {C} {J} {K} {H} p k place before after =
@@ -255,16 +257,16 @@ abbrev pub AreAllSettled : {H : Type 0} → Service → Past H → Type 0
 AreAllSettled service past = (k : ℕ) → k < 64 → IsSettledAt k service past
 
 -- steps lead on, and all places are settled
-pub record GoesSettled {N C J K H : Type 0} (p : Promises N C J K H) (first : Scene N C J K H) (found : List Ready) (past : Past H)
+pub record GoesSettled {N C J K H : Type 0} (p : Promises N C J K H) (first : LoopState N C J K H) (found : List Ready) (past : Past H)
     (after : Running N C J K H) : Type 0 where
   pub next : Past H
-  pub served : Served p first (scene_of after found next)
+  pub served : Served p first (state_of after found next)
   pub settled : AreAllSettled after.service next
-  pub done : DoneAfter past.deeds next.deeds
+  pub done : DoneAfter past.calls next.calls
 
 abbrev pub LeadsToSettled : {N C J K H : Type 0} → Promises N C J K H → List Ready → Running N C J K H → List Ready → Running N C J K H → Type 0
 LeadsToSettled {N} {C} {J} {K} {H} p found before found' after =
-    (first : Scene N C J K H) (past : Past H) → Served p first (scene_of before found past) → AreAllSettled before.service past →
+    (first : LoopState N C J K H) (past : Past H) → Served p first (state_of before found past) → AreAllSettled before.service past →
     GoesSettled p first found' past after
 
 -- so they do whatever the last wait found and was not looked at yet
@@ -272,64 +274,64 @@ abbrev pub SettlesAll : {N C J K H : Type 0} → Promises N C J K H → Running 
 SettlesAll p before after = (found : List Ready) → LeadsToSettled p found before found after
 
 -- so they do, and where it is so then, it was tried to accept since the last wait
-pub record GoesAccepting {N C J K H : Type 0} (p : Promises N C J K H) (first : Scene N C J K H) (before : Standing N C J K H) (P : Type 0)
+pub record GoesAccepting {N C J K H : Type 0} (p : Promises N C J K H) (first : LoopState N C J K H) (before : Standing N C J K H) (P : Type 0)
     (after : Running N C J K H) : Type 0 where
   pub goes : GoesSettled p first before.found before.past after
-  pub tried : P → IsDone Accepting goes.next.deeds
+  pub tried : P → IsDone Accepting goes.next.calls
 
 abbrev pub LeadsToAccepts : {N C J K H : Type 0} → Promises N C J K H → Type 0 → Running N C J K H → Running N C J K H → Type 0
 LeadsToAccepts {N} {C} {J} {K} {H} p P before after =
-    (found : List Ready) (first : Scene N C J K H) (past : Past H) → Served p first (scene_of before found past) → AreAllSettled before.service past →
+    (found : List Ready) (first : LoopState N C J K H) (past : Past H) → Served p first (state_of before found past) → AreAllSettled before.service past →
     GoesAccepting p first (standing before found past) P after
 
 -- what was found ready is noted at its place
 abbrev pub LeadsToHearing : {N C J K H : Type 0} → Promises N C J K H → List Ready → Running N C J K H → List Ready → Running N C J K H → Type 0
 LeadsToHearing {N} {C} {J} {K} {H} p found before found' after =
-    (first : Scene N C J K H) (past : Past H) → Served p first (scene_of before found past) → IsRested before.service past.journey.world →
-    Served p first (scene_of after found' past) × IsRested after.service past.journey.world
+    (first : LoopState N C J K H) (past : Past H) → Served p first (state_of before found past) → IsRested before.service past.journey.world →
+    Served p first (state_of after found' past) × IsRested after.service past.journey.world
 
 -- so is the first of it
 abbrev pub HearsOf : {N C J K H : Type 0} → Promises N C J K H → Ready → Running N C J K H → Running N C J K H → Type 0
 HearsOf p ready before after = (more : List Ready) → LeadsToHearing p (ready ∷ more) before more after
 
 -- each place below i was read, where it may be; those from i on were not, none was written to, and nothing was kept
-pub record GoesReading {N C J K H : Type 0} (p : Promises N C J K H) (first : Scene N C J K H) (i : ℕ) (before : Standing N C J K H)
+pub record GoesReading {N C J K H : Type 0} (p : Promises N C J K H) (first : LoopState N C J K H) (i : ℕ) (before : Standing N C J K H)
     (after : Running N C J K H) : Type 0 where
   pub next : Past H
-  pub served : Served p first (scene_of after before.found next)
+  pub served : Served p first (state_of after before.found next)
   pub rested : IsRested after.service next.journey.world
   pub heard : (j : ℕ) → j < i → IsHeardAt j after.service next
-  pub unread : (j : ℕ) → i ≤ j → ¬ (IsDone (Reading j) next.deeds)
-  pub unwritten : (j : ℕ) → ¬ (IsDone (Writing j) next.deeds)
-  pub not_kept : ¬ (IsDone Keeping next.deeds)
-  pub done : DoneAfter before.past.deeds next.deeds
+  pub unread : (j : ℕ) → i ≤ j → ¬ (IsDone (Reading j) next.calls)
+  pub unwritten : (j : ℕ) → ¬ (IsDone (Writing j) next.calls)
+  pub not_kept : ¬ (IsDone Keeping next.calls)
+  pub done : DoneAfter before.past.calls next.calls
 
 abbrev pub LeadsReading : {N C J K H : Type 0} → Promises N C J K H → ℕ → Running N C J K H → Running N C J K H → Type 0
 LeadsReading {N} {C} {J} {K} {H} p i before after =
-    (first : Scene N C J K H) (found : List Ready) (past : Past H) → ((task : Task) → ¬ (IsDone task past.deeds)) → IsRested before.service past.journey.world →
-    Served p first (scene_of before found past) → GoesReading p first i (standing before found past) after
+    (first : LoopState N C J K H) (found : List Ready) (past : Past H) → ((kind : CallKind) → ¬ (IsDone kind past.calls)) → IsRested before.service past.journey.world →
+    Served p first (state_of before found past) → GoesReading p first i (standing before found past) after
 
 -- nothing is unkept, and all else is as it was
-pub record GoesKept {N C J K H : Type 0} (p : Promises N C J K H) (first : Scene N C J K H) (before : Standing N C J K H)
+pub record GoesKept {N C J K H : Type 0} (p : Promises N C J K H) (first : LoopState N C J K H) (before : Standing N C J K H)
     (tools' : Tools N C J K H) : Type 0 where
   pub next : Past H
-  pub served : Served p first (scene_of (running before.now.service tools') before.found next)
+  pub served : Served p first (state_of (running before.now.service tools') before.found next)
   pub kept : IsAllKept next.journey.world
   pub connections : next.journey.world.connections ≡ before.past.journey.world.connections
-  pub done : DoneAfter before.past.deeds next.deeds
-  pub alone : (other : Task) → other ≢ Keeping → ¬ (IsDone other before.past.deeds) → ¬ (IsDone other next.deeds)
+  pub done : DoneAfter before.past.calls next.calls
+  pub alone : (other : CallKind) → other ≢ Keeping → ¬ (IsDone other before.past.calls) → ¬ (IsDone other next.calls)
 
 abbrev pub LeadsToKept : {N C J K H : Type 0} → Promises N C J K H → Tools N C J K H → Tools N C J K H → Type 0
 LeadsToKept {N} {C} {J} {K} {H} p tools tools' =
-    (first : Scene N C J K H) (found : List Ready) (service : Service) (past : Past H) → ¬ (IsDone Keeping past.deeds) →
-    Served p first (scene_of (running service tools) found past) → GoesKept p first (standing (running service tools) found past) tools'
+    (first : LoopState N C J K H) (found : List Ready) (service : Service) (past : Past H) → ¬ (IsDone Keeping past.calls) →
+    Served p first (state_of (running service tools) found past) → GoesKept p first (standing (running service tools) found past) tools'
 
 -- or keeping failed
 abbrev pub LeadsToLoss : {N C J K H : Type 0} → Promises N C J K H → Tools N C J K H → LoopFault → Tools N C J K H → Type 0
 LeadsToLoss {N} {C} {J} {K} {H} p tools fault tools' =
-    (first : Scene N C J K H) (found : List Ready) (service : Service) (past : Past H) → ¬ (IsDone Keeping past.deeds) →
-    Served p first (scene_of (running service tools) found past) →
-    CannotGoOn p (scene_of (running service tools) found past) fault (scene_of (running service tools') found past)
+    (first : LoopState N C J K H) (found : List Ready) (service : Service) (past : Past H) → ¬ (IsDone Keeping past.calls) →
+    Served p first (state_of (running service tools) found past) →
+    CannotGoOn p (state_of (running service tools) found past) fault (state_of (running service tools') found past)
 
 -- where nothing is unkept, no more is kept than may be beside an image, or an image was refused less than a minute ago
 abbrev pub IsKeptShort : {N C J K H : Type 0} → Promises N C J K H → Running N C J K H → World → Type 0
@@ -338,32 +340,32 @@ IsKeptShort p now world = IsAllKept world → p.keeping.is_long now.tools.keeper
 -- wherever steps lead to, they lead on, and it is so
 abbrev pub LeadsToShort : {N C J K H : Type 0} → Promises N C J K H → Running N C J K H → Running N C J K H → Type 0
 LeadsToShort {N} {C} {J} {K} {H} p before after =
-    (first : Scene N C J K H) (found : List Ready) (past : Past H) → Served p first (scene_of before found past) →
-    Served p first (scene_of after found past) × IsKeptShort p after past.journey.world
+    (first : LoopState N C J K H) (found : List Ready) (past : Past H) → Served p first (state_of before found past) →
+    Served p first (state_of after found past) × IsKeptShort p after past.journey.world
 
 -- or the image could not be put
 abbrev pub LeadsToNoImage : {N C J K H : Type 0} → Promises N C J K H → Running N C J K H → LoopFault → Running N C J K H → Type 0
 LeadsToNoImage {N} {C} {J} {K} {H} p before fault after =
-    (first : Scene N C J K H) (found : List Ready) (past : Past H) → Served p first (scene_of before found past) →
-    CannotGoOn p (scene_of before found past) fault (scene_of after found past)
+    (first : LoopState N C J K H) (found : List Ready) (past : Past H) → Served p first (state_of before found past) →
+    CannotGoOn p (state_of before found past) fault (state_of after found past)
 
 -- each place below i is settled; those from i on were heard, and not written to; and nothing is unkept
-pub record GoesWriting {N C J K H : Type 0} (p : Promises N C J K H) (first : Scene N C J K H) (i : ℕ) (before : Standing N C J K H)
+pub record GoesWriting {N C J K H : Type 0} (p : Promises N C J K H) (first : LoopState N C J K H) (i : ℕ) (before : Standing N C J K H)
     (after : Running N C J K H) : Type 0 where
   pub next : Past H
-  pub served : Served p first (scene_of after before.found next)
+  pub served : Served p first (state_of after before.found next)
   pub below : (j : ℕ) → j < i → IsSettledAt j after.service next
   pub rested : (j : ℕ) → i ≤ j → j < 64 → IsRestedAt j after.service next.journey.world
   pub heard : (j : ℕ) → i ≤ j → j < 64 → IsHeardAt j after.service next
-  pub unwritten : (j : ℕ) → i ≤ j → ¬ (IsDone (Writing j) next.deeds)
+  pub unwritten : (j : ℕ) → i ≤ j → ¬ (IsDone (Writing j) next.calls)
   pub kept : IsAllKept next.journey.world
-  pub done : DoneAfter before.past.deeds next.deeds
+  pub done : DoneAfter before.past.calls next.calls
 
 abbrev pub LeadsWriting : {N C J K H : Type 0} → Promises N C J K H → ℕ → Running N C J K H → Running N C J K H → Type 0
 LeadsWriting {N} {C} {J} {K} {H} p i before after =
-    (first : Scene N C J K H) (found : List Ready) (past : Past H) → IsRested before.service past.journey.world →
-    ((j : ℕ) → j < 64 → IsHeardAt j before.service past) → ((j : ℕ) → ¬ (IsDone (Writing j) past.deeds)) → IsAllKept past.journey.world →
-    Served p first (scene_of before found past) → GoesWriting p first i (standing before found past) after
+    (first : LoopState N C J K H) (found : List Ready) (past : Past H) → IsRested before.service past.journey.world →
+    ((j : ℕ) → j < 64 → IsHeardAt j before.service past) → ((j : ℕ) → ¬ (IsDone (Writing j) past.calls)) → IsAllKept past.journey.world →
+    Served p first (state_of before found past) → GoesWriting p first i (standing before found past) after
 
 -- where an accept failed and was not tried again, it failed in this second
 abbrev pub IsTried : Service → Type 0
@@ -392,50 +394,50 @@ pub record IsQuick (service : Service) : Type 0 where
 -- all places are settled, and nobody is to be accepted, or it was tried since the last wait
 pub record IsReadyToWait {H : Type 0} (service : Service) (past : Past H) : Type 0 where
   pub settled : AreAllSettled service past
-  pub queue : service.queue ≢ Told ⊎ IsDone Accepting past.deeds
+  pub queue : service.queue ≢ Told ⊎ IsDone Accepting past.calls
   pub quick : IsQuick service
 
 -- steps lead through so many waits
-pub record GoesRound {N C J K H : Type 0} (p : Promises N C J K H) (first : Scene N C J K H) (count : ℕ) (past : Past H)
+pub record GoesRound {N C J K H : Type 0} (p : Promises N C J K H) (first : LoopState N C J K H) (count : ℕ) (past : Past H)
     (after : Running N C J K H) : Type 0 where
   pub next : Past H
-  pub served : Served p first (scene_of after [] next)
+  pub served : Served p first (state_of after [] next)
   pub ready : IsReadyToWait after.service next
-  pub waits_are : waits next.deeds ≡ waits past.deeds + count
+  pub waits_are : waits next.calls ≡ waits past.calls + count
 
 abbrev pub LeadsRound : {N C J K H : Type 0} → Promises N C J K H → ℕ → Running N C J K H → Running N C J K H → Type 0
 LeadsRound {N} {C} {J} {K} {H} p count before after =
-    (first : Scene N C J K H) (past : Past H) → Served p first (scene_of before [] past) → IsReadyToWait before.service past →
+    (first : LoopState N C J K H) (past : Past H) → Served p first (state_of before [] past) → IsReadyToWait before.service past →
     GoesRound p first count past after
 
--- steps lead to a scene where something fails
-pub record GoesWrong {N C J K H : Type 0} (p : Promises N C J K H) (first : Scene N C J K H) (fault : LoopFault) (after : Running N C J K H) : Type 0 where
-  pub last : Scene N C J K H
+-- steps lead to a state where something fails
+pub record GoesWrong {N C J K H : Type 0} (p : Promises N C J K H) (first : LoopState N C J K H) (fault : LoopFault) (after : Running N C J K H) : Type 0 where
+  pub last : LoopState N C J K H
   pub served : Served p first last
   pub found : List Ready
   pub next : Past H
-  pub fails : CannotGoOn p last fault (scene_of after found next)
+  pub fails : CannotGoOn p last fault (state_of after found next)
 
 abbrev pub LeadsWrong : {N C J K H : Type 0} → Promises N C J K H → LoopFault → Running N C J K H → Running N C J K H → Type 0
 LeadsWrong {N} {C} {J} {K} {H} p fault before after =
-    (first : Scene N C J K H) (past : Past H) → Served p first (scene_of before [] past) → IsReadyToWait before.service past →
+    (first : LoopState N C J K H) (past : Past H) → Served p first (state_of before [] past) → IsReadyToWait before.service past →
     GoesWrong p first fault after
 
 -- a report tells what is so now
 abbrev pub TellsNow : {N C J K H : Type 0} → Promises N C J K H → Running N C J K H → Report → Type 0
-TellsNow {N} {C} {J} {K} {H} p now report = (found : List Ready) (past : Past H) → Tells p (scene_of now found past) report
+TellsNow {N} {C} {J} {K} {H} p now report = (found : List Ready) (past : Past H) → Tells p (state_of now found past) report
 
 -- where reports are wanted, there is one more
 abbrev pub LeadsLast : {N C J K H : Type 0} → Promises N C J K H → Running N C J K H → Running N C J K H → Type 0
-LeadsLast {N} {C} {J} {K} {H} p before after = (found : List Ready) (past : Past H) → TellsLast p (scene_of before found past) (scene_of after found past)
+LeadsLast {N} {C} {J} {K} {H} p before after = (found : List Ready) (past : Past H) → TellsLast p (state_of before found past) (state_of after found past)
 
 -- connections that are left are closed
-pub record GoesShut {N C J K H : Type 0} (p : Promises N C J K H) (first : Scene N C J K H) (found : List Ready) (after : Running N C J K H) : Type 0 where
+pub record GoesShut {N C J K H : Type 0} (p : Promises N C J K H) (first : LoopState N C J K H) (found : List Ready) (after : Running N C J K H) : Type 0 where
   pub next : Past H
-  pub shuts : Shuts p first (scene_of after found next)
+  pub shuts : Shuts p first (state_of after found next)
   pub reached : Reached p.hosting after.tools.edge next.journey
 
 abbrev pub LeadsShut : {N C J K H : Type 0} → Promises N C J K H → Running N C J K H → Running N C J K H → Type 0
 LeadsShut {N} {C} {J} {K} {H} p before after =
-    (first : Scene N C J K H) (found : List Ready) (past : Past H) → Shuts p first (scene_of before found past) →
+    (first : LoopState N C J K H) (found : List Ready) (past : Past H) → Shuts p first (state_of before found past) →
     Reached p.hosting before.tools.edge past.journey → GoesShut p first found after

@@ -1,11 +1,12 @@
 -- What public clauses cite. docs/DEFINITIONS.md says what to read in which order.
 pub mod FaultTexts
-pub mod Deeds
+pub mod Calls
+pub mod Done
 pub mod Places
-pub mod Courses
+pub mod Progress
 pub mod Giving
 pub mod Noting
-pub mod Scenes
+pub mod LoopStates
 pub mod Coming
 pub mod Reading
 pub mod Writing

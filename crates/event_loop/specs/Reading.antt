@@ -8,12 +8,12 @@ use Rattle.http_edge.specs.declared.fault.EdgeFault.{EdgeFault}
 use Rattle.event_loop.specs.declared.fault.ConnectionFault.TheVariants.{Read, Refused}
 use Rattle.event_loop.specs.declared.place.Place.{Place}
 use Rattle.event_loop.specs.declared.place.Stage.TheVariants.{Ended, Broken}
-use Rattle.event_loop.specs.Deeds as deed
-use Rattle.event_loop.specs.Deeds.{Bytes, End, Nothing, Failed}
-use Rattle.event_loop.specs.Courses.{Course, led}
+use Rattle.event_loop.specs.Calls as call
+use Rattle.event_loop.specs.Calls.{Bytes, End, Nothing, Failed}
+use Rattle.event_loop.specs.Progress.{Progress, led}
 use Rattle.event_loop.specs.Giving.{AreBytesHeard, IsUnheard}
 use Rattle.event_loop.specs.Places.{read_limit}
-use Rattle.event_loop.specs.Scenes.{Promises, Scene, with_deed, with_place}
+use Rattle.event_loop.specs.LoopStates.{Promises, LoopState, with_call, with_place}
 
 -- a place from which so many bytes were read: fewer than there was room for are all, unless the peer sends no more
 abbrev pub read_place : Place → ℕ → Place
@@ -21,21 +21,21 @@ read_place place count = record place { readable = nat_le read_limit count || pl
 
 -- The connection at a place is read once, into a buffer of just so many bytes, and what came is given to the edge at the
 -- moment that the clocks told.
-pub data ReadsPlace {N C J K H : Type 0} (p : Promises N C J K H) (k : ℕ) (place : Place) (s : Scene N C J K H) : Scene N C J K H → Type 0 where
-  hears : (bytes : List ℕ) (n : N) (course : Course H) (place' : Place) → 0 < length bytes → length bytes ≤ read_limit →
-      p.sockets.does s.sockets (deed.Read k read_limit (Bytes bytes)) n → AreBytesHeard p.hosting (piece_of k bytes s.times.moment) s.course course →
+pub data ReadsPlace {N C J K H : Type 0} (p : Promises N C J K H) (k : ℕ) (place : Place) (s : LoopState N C J K H) : LoopState N C J K H → Type 0 where
+  hears : (bytes : List ℕ) (n : N) (progress : Progress H) (place' : Place) → 0 < length bytes → length bytes ≤ read_limit →
+      p.sockets.does s.sockets (call.Read k read_limit (Bytes bytes)) n → AreBytesHeard p.hosting (piece_of k bytes s.times.moment) s.progress progress →
       place' ≡ read_place place (length bytes) →
-      ReadsPlace p k place s (record (with_place (with_deed s (deed.Read k read_limit (Bytes bytes)) n) k place') { course = course })
-  refuses : (bytes : List ℕ) (n : N) (fault : EdgeFault) (course : Course H) → 0 < length bytes → length bytes ≤ read_limit →
-      p.sockets.does s.sockets (deed.Read k read_limit (Bytes bytes)) n → IsUnheard p.hosting (piece_of k bytes s.times.moment) fault s.course course →
+      ReadsPlace p k place s (record (with_place (with_call s (call.Read k read_limit (Bytes bytes)) n) k place') { progress = progress })
+  refuses : (bytes : List ℕ) (n : N) (fault : EdgeFault) (progress : Progress H) → 0 < length bytes → length bytes ≤ read_limit →
+      p.sockets.does s.sockets (call.Read k read_limit (Bytes bytes)) n → IsUnheard p.hosting (piece_of k bytes s.times.moment) fault s.progress progress →
       ReadsPlace p k place s
-      (record (with_place (with_deed s (deed.Read k read_limit (Bytes bytes)) n) k (record place { stage = Broken (Refused fault) })) { course = course })
-  ends : (n : N) (e : SeenEdge H) (on : GoesOn p.hosting e s.course.journey (HasEnded k)) → p.sockets.does s.sockets (deed.Read k read_limit End) n →
-      ReadsPlace p k place s (record (with_place (with_deed s (deed.Read k read_limit End) n) k (record place { stage = Ended })) { course = led s.course on })
-  ends_nothing : (n : N) (fault : EdgeFault) → p.sockets.does s.sockets (deed.Read k read_limit End) n →
-      IsEndingRefusal fault s.course.journey.world.connections k →
-      ReadsPlace p k place s (with_place (with_deed s (deed.Read k read_limit End) n) k (record place { stage = Broken (Refused fault) }))
-  finds_nothing : (n : N) → p.sockets.does s.sockets (deed.Read k read_limit Nothing) n →
-      ReadsPlace p k place s (with_place (with_deed s (deed.Read k read_limit Nothing) n) k (record place { readable = false }))
-  fails : (n : N) → p.sockets.does s.sockets (deed.Read k read_limit Failed) n →
-      ReadsPlace p k place s (with_place (with_deed s (deed.Read k read_limit Failed) n) k (record place { stage = Broken Read }))
+      (record (with_place (with_call s (call.Read k read_limit (Bytes bytes)) n) k (record place { stage = Broken (Refused fault) })) { progress = progress })
+  ends : (n : N) (e : SeenEdge H) (on : GoesOn p.hosting e s.progress.journey (HasEnded k)) → p.sockets.does s.sockets (call.Read k read_limit End) n →
+      ReadsPlace p k place s (record (with_place (with_call s (call.Read k read_limit End) n) k (record place { stage = Ended })) { progress = led s.progress on })
+  ends_nothing : (n : N) (fault : EdgeFault) → p.sockets.does s.sockets (call.Read k read_limit End) n →
+      IsEndingRefusal fault s.progress.journey.world.connections k →
+      ReadsPlace p k place s (with_place (with_call s (call.Read k read_limit End) n) k (record place { stage = Broken (Refused fault) }))
+  finds_nothing : (n : N) → p.sockets.does s.sockets (call.Read k read_limit Nothing) n →
+      ReadsPlace p k place s (with_place (with_call s (call.Read k read_limit Nothing) n) k (record place { readable = false }))
+  fails : (n : N) → p.sockets.does s.sockets (call.Read k read_limit Failed) n →
+      ReadsPlace p k place s (with_place (with_call s (call.Read k read_limit Failed) n) k (record place { stage = Broken Read }))

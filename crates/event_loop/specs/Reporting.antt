@@ -6,15 +6,19 @@ use Rattle.event_loop.specs.declared.report.Notice.{Notice}
 use Rattle.event_loop.specs.declared.report.Notice.TheVariants.{ImageRefused, Reported, StoreFull}
 use Rattle.event_loop.specs.declared.report.Report.{Report}
 use Rattle.event_loop.specs.Places.{open_count}
-use Rattle.event_loop.specs.Scenes.{Promises, Scene}
+use Rattle.event_loop.specs.LoopStates.{Promises, LoopState}
 
--- a report tells the greatest moment by which a request was answered, how many connections are there, and how much the server keeps
-pub record Tells {N C J K H : Type 0} (p : Promises N C J K H) (s : Scene N C J K H) (report : Report) : Type 0 where
-  pub moment : report.moment ≡ s.course.edge.server.greatest
+-- A report tells the greatest moment by which a request was answered, for how long it has served, how many connections are
+-- there and came, how much the server keeps, and how much its keeper keeps.
+pub record Tells {N C J K H : Type 0} (p : Promises N C J K H) (s : LoopState N C J K H) (report : Report) : Type 0 where
+  pub moment : report.moment ≡ s.progress.edge.server.greatest
+  pub seconds : report.seconds ≡ s.times.steady - s.began
   pub connections : report.«open» ≡ open_count s.places
-  pub records : report.records ≡ length s.course.edge.server.store.kept
-  pub consents : report.consents ≡ length s.course.edge.server.consents.masks
-  pub hooks : report.hooks ≡ length (p.hosting.names s.course.edge.server.host)
+  pub accepted : report.accepted ≡ s.accepted
+  pub records : report.records ≡ length s.progress.edge.server.store.kept
+  pub consents : report.consents ≡ length s.progress.edge.server.consents.masks
+  pub hooks : report.hooks ≡ length (p.hosting.names s.progress.edge.server.host)
+  pub state : report.state ≡ p.keeping.size s.keeper
 
 -- that was never, or so many seconds ago
 abbrev pub is_long_ago : Option ℕ → ℕ → ℕ → Bool
@@ -23,7 +27,7 @@ is_long_ago (Some last) now seconds = nat_le seconds (now - last)
 
 -- Where reports are wanted: of what the server does, once so many seconds have passed since the last one, and of a full store
 -- at most once a minute.
-pub data IsDue {N C J K H : Type 0} (p : Promises N C J K H) (s : Scene N C J K H) : Notice → LastTold → Type 0 where
+pub data IsDue {N C J K H : Type 0} (p : Promises N C J K H) (s : LoopState N C J K H) : Notice → LastTold → Type 0 where
   reported : (every : ℕ) (report : Report) → s.limits.report ≡ Some every → every ≤ s.times.steady - s.told.report → Tells p s report →
       IsDue p s (Reported report) (record s.told { report = s.times.steady })
   full : IsSome s.limits.report → is_long_ago s.told.full s.times.steady 60 ≡ true →

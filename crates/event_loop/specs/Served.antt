@@ -5,15 +5,15 @@ use Rattle.event_loop.specs.declared.place.Place.{Place}
 use Rattle.event_loop.specs.declared.queue.Queue.TheVariants.{Told, Empty, Barred, Waits}
 use Rattle.event_loop.specs.declared.sockets.Ready.{Ready}
 use Rattle.event_loop.specs.declared.sockets.Ready.TheVariants as ready
-use Rattle.event_loop.specs.Deeds as deed
-use Rattle.event_loop.specs.Deeds.{Deed, Reading, Keeping, Writing, Accepting, IsDone, done_since}
-use Rattle.event_loop.specs.Courses.{known, led, IsReached}
-use Rattle.change_codec.specs.Keeping.{Keeps, KeepsMoments}
+use Rattle.event_loop.specs.Calls as call
+use Rattle.event_loop.specs.Calls.{Call, Reading, Keeping, Writing, Accepting, IsDone, done_since}
+use Rattle.event_loop.specs.Progress.{known, led, IsReached}
+use Rattle.change_codec.specs.Keeping.{Keeps, KeepsBasis}
 use Rattle.http_edge.specs.Edges.{SeenEdge}
 use Rattle.http_edge.specs.Reached.{GoesOn}
 use Rattle.http_edge.specs.Schedule.{Connection, Kept}
 use Rattle.event_loop.specs.Places.{IsOccupied, MayRead, MayWrite, NeedsNoRead, NeedsNoWrite, IsOver, IsPlaceAtRest, AllFree, places_limit, ready_limit}
-use Rattle.event_loop.specs.Scenes.{Promises, Scene, IsAllKept, IsUnkept, with_deed, with_place}
+use Rattle.event_loop.specs.LoopStates.{Promises, LoopState, IsAllKept, IsUnkept, with_call, with_place}
 use Rattle.event_loop.specs.Coming.{AcceptsOne, told_queue}
 use Rattle.event_loop.specs.Reading.{ReadsPlace}
 use Rattle.event_loop.specs.Writing.{WritesPlace}
@@ -26,26 +26,26 @@ use Rattle.event_loop.specs.declared.report.Notice.TheVariants.{Reported}
 use Rattle.event_loop.specs.declared.report.Report.{Report}
 
 -- nothing is to be done now: at no place, and nobody is to be accepted
-pub record IsIdle {N C J K H : Type 0} (s : Scene N C J K H) : Type 0 where
-  pub places : (k : ℕ) (place : Place) → slice_get s.places k ≡ Some place → IsPlaceAtRest place (known s.course k)
+pub record IsIdle {N C J K H : Type 0} (s : LoopState N C J K H) : Type 0 where
+  pub places : (k : ℕ) (place : Place) → slice_get s.places k ≡ Some place → IsPlaceAtRest place (known s.progress k)
   pub queue : s.queue ≢ Told
 
 -- The place had its turn since the last wait: no read is to be done there, or one was done, or a write, which may have made
 -- room for one; no write is to be done, or one was done; and its connection is not over.
-pub record HadTurn (k : ℕ) (place : Place) (connection : Option Connection) (deeds : List Deed) : Type 0 where
-  pub read : NeedsNoRead place connection ⊎ (IsDone (Reading k) deeds ⊎ IsDone (Writing k) deeds)
-  pub written : NeedsNoWrite place connection ⊎ IsDone (Writing k) deeds
+pub record HadTurn (k : ℕ) (place : Place) (connection : Option Connection) (calls : List Call) : Type 0 where
+  pub read : NeedsNoRead place connection ⊎ (IsDone (Reading k) calls ⊎ IsDone (Writing k) calls)
+  pub written : NeedsNoWrite place connection ⊎ IsDone (Writing k) calls
   pub goes_on : ¬ (IsOver place connection)
 
 -- so did each place; and nobody is to be accepted, or it was tried
-pub record IsFair {N C J K H : Type 0} (s : Scene N C J K H) : Type 0 where
-  pub places : (k : ℕ) (place : Place) → slice_get s.places k ≡ Some place → HadTurn k place (known s.course k) s.deeds
-  pub queue : s.queue ≢ Told ⊎ IsDone Accepting s.deeds
+pub record IsFair {N C J K H : Type 0} (s : LoopState N C J K H) : Type 0 where
+  pub places : (k : ℕ) (place : Place) → slice_get s.places k ≡ Some place → HadTurn k place (known s.progress k) s.calls
+  pub queue : s.queue ≢ Told ⊎ IsDone Accepting s.calls
 
 -- As the clocks told last, nobody is silent for longer than the limit, nor, where another connection waits for a place, for
 -- longer than the other limit; where an accept failed and was not tried again, it failed in this second; and where reports
 -- are wanted, one was told in this second, or less than so many seconds ago.
-pub record IsPrompt {N C J K H : Type 0} (s : Scene N C J K H) : Type 0 where
+pub record IsPrompt {N C J K H : Type 0} (s : LoopState N C J K H) : Type 0 where
   pub idle : AreWithin s.limits.idle s.times s.places
   pub crowded : s.queue ≡ Waits → AreWithin s.limits.crowded s.times s.places
   pub tried : (since : ℕ) → s.queue ≡ Barred since → since ≡ s.times.steady
@@ -53,20 +53,20 @@ pub record IsPrompt {N C J K H : Type 0} (s : Scene N C J K H) : Type 0 where
 
 -- How long it waits, in milliseconds: not at all only where something was done since the last wait; else, where nothing is
 -- to be done, for a second, or, while no connection is there and no accept is to be tried again, for ever.
-pub data IsPatient {N C J K H : Type 0} (s : Scene N C J K H) : Option ℕ → Type 0 where
-  looks : 0 < done_since s.deeds → IsPatient s (Some 0)
+pub data IsPatient {N C J K H : Type 0} (s : LoopState N C J K H) : Option ℕ → Type 0 where
+  looks : 0 < done_since s.calls → IsPatient s (Some 0)
   rests : IsIdle s → IsPatient s (Some 1000)
   sleeps : IsIdle s → AllFree s.places → ((since : ℕ) → s.queue ≢ Barred since) → IsPatient s None
 
 -- It may wait so long now, with room for so much: all that the last wait found was looked at, and where nothing is unkept, no
 -- more is kept than may be beside an image, or an image was refused less than a minute ago.
-pub record MayWait {N C J K H : Type 0} (p : Promises N C J K H) (s : Scene N C J K H) (limit : Option ℕ) (room : ℕ) : Type 0 where
+pub record MayWait {N C J K H : Type 0} (p : Promises N C J K H) (s : LoopState N C J K H) (limit : Option ℕ) (room : ℕ) : Type 0 where
   pub patient : IsPatient s limit
   pub fair : IsFair s
   pub prompt : IsPrompt s
   pub heard : s.found ≡ []
   pub roomy : ready_limit ≤ room
-  pub short : IsAllKept s.course.journey.world → p.keeping.is_long s.keeper → is_long_ago s.refused s.times.steady 60 ≡ false
+  pub short : IsAllKept s.progress.journey.world → p.keeping.is_long s.keeper → is_long_ago s.refused s.times.steady 60 ≡ false
 
 -- the place, when its connection was found ready
 abbrev pub told_place : Place → Bool → Bool → Bool → Place
@@ -77,65 +77,67 @@ told_place place readable writable hung =
 -- for connections, the journal is told what is due, what is unkept is kept, or an image is put in the place of what is kept,
 -- or refused. Between two waits a place is read at most once, and written to at most once, and it is kept at most once.
 -- Nothing is written, and no image is put, while something is unkept.
-pub data LoopStep {N C J K H : Type 0} (p : Promises N C J K H) (s : Scene N C J K H) : Scene N C J K H → Type 0 where
+pub data LoopStep {N C J K H : Type 0} (p : Promises N C J K H) (s : LoopState N C J K H) : LoopState N C J K H → Type 0 where
   waits : (limit : Option ℕ) (room : ℕ) (found : List Ready) (n : N) (times : Times) (c : C) (keeper : K) → MayWait p s limit room →
-      p.sockets.does s.sockets (deed.Waited limit room found) n → p.clocks.tells s.clocks (Some times) c → KeepsTimes p.keeping.crashes times s.keeper keeper →
-      LoopStep p s (record (with_deed s (deed.Waited limit room found) n) { clocks = c; keeper = keeper; found = found; times = times })
+      p.sockets.does s.sockets (call.Waited limit room found) n → p.clocks.tells s.clocks (Some times) c → KeepsTimes p.keeping.crashes times s.keeper keeper →
+      LoopStep p s (record (with_call s (call.Waited limit room found) n) { clocks = c; keeper = keeper; found = found; times = times })
   hears_of_listener : (more : List Ready) → s.found ≡ ready.Listener ∷ more → LoopStep p s (record s { found = more; queue = told_queue s.queue })
   hears_of : (k : ℕ) (readable writable hung : Bool) (more : List Ready) (place place' : Place) → s.found ≡ ready.Connection k readable writable hung ∷ more →
       slice_get s.places k ≡ Some place → place' ≡ told_place place readable writable hung → LoopStep p s (record (with_place s k place') { found = more })
   hears_of_none : (k : ℕ) (readable writable hung : Bool) (more : List Ready) → s.found ≡ ready.Connection k readable writable hung ∷ more →
       slice_get s.places k ≡ None → LoopStep p s (record s { found = more })
-  comes : (s' : Scene N C J K H) → s.queue ≡ Told → AcceptsOne p s s' → LoopStep p s s'
+  comes : (s' : LoopState N C J K H) → s.queue ≡ Told → AcceptsOne p s s' → LoopStep p s s'
   -- in another second than an accept failed in, it is tried again
   tries_again : (since : ℕ) → s.queue ≡ Barred since → since ≢ s.times.steady → LoopStep p s (record s { queue = Told })
-  reads : (k : ℕ) (place : Place) (s' : Scene N C J K H) → slice_get s.places k ≡ Some place → place.readable ≡ true → ¬ (IsDone (Reading k) s.deeds) →
-      MayRead place (known s.course k) → ReadsPlace p k place s s' → LoopStep p s s'
-  writes : (k : ℕ) (place : Place) (s' : Scene N C J K H) → slice_get s.places k ≡ Some place → place.writable ≡ true → ¬ (IsDone (Writing k) s.deeds) →
-      IsAllKept s.course.journey.world → MayWrite place (known s.course k) → WritesPlace p k place s s' → LoopStep p s s'
-  closes : (k : ℕ) (place : Place) (s' : Scene N C J K H) → slice_get s.places k ≡ Some place → IsOccupied place.stage → Cause s k place →
+  reads : (k : ℕ) (place : Place) (s' : LoopState N C J K H) → slice_get s.places k ≡ Some place → place.readable ≡ true → ¬ (IsDone (Reading k) s.calls) →
+      MayRead place (known s.progress k) → ReadsPlace p k place s s' → LoopStep p s s'
+  writes : (k : ℕ) (place : Place) (s' : LoopState N C J K H) → slice_get s.places k ≡ Some place → place.writable ≡ true → ¬ (IsDone (Writing k) s.calls) →
+      IsAllKept s.progress.journey.world → MayWrite place (known s.progress k) → WritesPlace p k place s s' → LoopStep p s s'
+  closes : (k : ℕ) (place : Place) (s' : LoopState N C J K H) → slice_get s.places k ≡ Some place → IsOccupied place.stage → Cause s k place →
       Closes p k place s s' → LoopStep p s s'
   -- the journal alone is another
   reports : (notice : Notice) (told : LastTold) (journal : J) → IsDue p s notice told → p.journal.reports s.noted.journal notice journal →
       LoopStep p s (record s { noted = record s.noted { journal = journal }; told = told })
-  keeps : (keeper : K) (e : SeenEdge H) (unkept : IsUnkept s.course.journey.world) (on : GoesOn p.hosting e s.course.journey Kept) →
-      ¬ (IsDone Keeping s.deeds) → Keeps p.keeping.crashes unkept.kept s.course.journey.world.history s.keeper keeper →
-      KeepsMoments p.keeping.crashes s.keeper keeper →
-      LoopStep p s (record s { keeper = keeper; course = led s.course on; deeds = deed.Kept ∷ s.deeds })
+  keeps : (keeper : K) (e : SeenEdge H) (unkept : IsUnkept s.progress.journey.world) (on : GoesOn p.hosting e s.progress.journey Kept) →
+      ¬ (IsDone Keeping s.calls) → Keeps p.keeping.crashes unkept.kept s.progress.journey.world.history s.keeper keeper →
+      KeepsBasis p.keeping.crashes s.keeper keeper →
+      LoopStep p s (record s { keeper = keeper; progress = led s.progress on; calls = call.Kept ∷ s.calls })
   -- the keeper alone is another, which holds the same, and keeps no more than it may beside an image
-  puts_image : (keeper : K) → IsAllKept s.course.journey.world →
-      Keeps p.keeping.crashes s.course.journey.world.history s.course.journey.world.history s.keeper keeper → KeepsMoments p.keeping.crashes s.keeper keeper →
+  puts_image : (keeper : K) → IsAllKept s.progress.journey.world →
+      Keeps p.keeping.crashes s.progress.journey.world.history s.progress.journey.world.history s.keeper keeper → KeepsBasis p.keeping.crashes s.keeper keeper →
       ¬ (p.keeping.is_long keeper) → LoopStep p s (record s { keeper = keeper; refused = None })
   -- an image is refused, where it keeps more than that; it is tried again after a minute
-  no_image : (journal : J) → IsAllKept s.course.journey.world → p.keeping.is_long s.keeper → is_long_ago s.refused s.times.steady 60 ≡ true →
+  no_image : (journal : J) → IsAllKept s.progress.journey.world → p.keeping.is_long s.keeper → is_long_ago s.refused s.times.steady 60 ≡ true →
       TellsRefusal p.journal s.refused s.noted.journal journal →
       LoopStep p s (record s { refused = Some s.times.steady; noted = record s.noted { journal = journal } })
 
 -- At first no connection is there, none is known to wait, and nothing was done, and the edge is reached.
-pub record IsFirst {N C J K H : Type 0} (p : Promises N C J K H) (s : Scene N C J K H) : Type 0 where
+pub record IsFirst {N C J K H : Type 0} (p : Promises N C J K H) (s : LoopState N C J K H) : Type 0 where
   pub size : length s.places ≡ places_limit
   pub free : AllFree s.places
   pub found : s.found ≡ []
   pub noted : s.noted.last ≡ None
   pub told : s.told ≡ record { report = s.times.steady; full = None }
   pub refused : s.refused ≡ None
+  pub began : s.began ≡ s.times.steady
+  pub accepted : s.accepted ≡ 0
   pub queue : s.queue ≡ Empty
-  pub deeds : s.deeds ≡ []
-  pub reached : IsReached p.hosting s.course
+  pub calls : s.calls ≡ []
+  pub reached : IsReached p.hosting s.progress
 
--- Steps lead from the first scene to another.
-pub data Served {N C J K H : Type 0} (p : Promises N C J K H) (first : Scene N C J K H) : Scene N C J K H → Type 0 where
+-- Steps lead from the first state to another.
+pub data Served {N C J K H : Type 0} (p : Promises N C J K H) (first : LoopState N C J K H) : LoopState N C J K H → Type 0 where
   begins : IsFirst p first → Served p first first
-  goes : {s s' : Scene N C J K H} → Served p first s → LoopStep p s s' → Served p first s'
+  goes : {s s' : LoopState N C J K H} → Served p first s → LoopStep p s s' → Served p first s'
 
 -- Connections that are left are closed and forgotten, one after another.
-pub data Shuts {N C J K H : Type 0} (p : Promises N C J K H) (first : Scene N C J K H) : Scene N C J K H → Type 0 where
+pub data Shuts {N C J K H : Type 0} (p : Promises N C J K H) (first : LoopState N C J K H) : LoopState N C J K H → Type 0 where
   stops : Shuts p first first
-  shuts : {s s' : Scene N C J K H} (k : ℕ) (place : Place) → Shuts p first s → slice_get s.places k ≡ Some place → IsOccupied place.stage →
+  shuts : {s s' : LoopState N C J K H} (k : ℕ) (place : Place) → Shuts p first s → slice_get s.places k ≡ Some place → IsOccupied place.stage →
       Closes p k place s s' → Shuts p first s'
 
 -- Behind that, where reports are wanted, there is one more.
-pub data TellsLast {N C J K H : Type 0} (p : Promises N C J K H) (s : Scene N C J K H) : Scene N C J K H → Type 0 where
+pub data TellsLast {N C J K H : Type 0} (p : Promises N C J K H) (s : LoopState N C J K H) : LoopState N C J K H → Type 0 where
   reports_last : (report : Report) (journal : J) → IsSome s.limits.report → Tells p s report → p.journal.reports s.noted.journal (Reported report) journal →
       TellsLast p s (record s { noted = record s.noted { journal = journal } })
   tells_nothing : s.limits.report ≡ None → TellsLast p s s

@@ -4,7 +4,7 @@ ghost use Rattle.event_loop.specs.declared.queue.Queue.TheVariants.{Told, Waits}
 ghost use Rattle.event_loop.specs.Places.{IsFreeAt, AllTaken};
 ghost use Rattle.event_loop.specs.Closing.{AreWithin};
 ghost use Rattle.event_loop.specs.Goes.{IsTried, LeadsToAccepts, running};
-ghost use Rattle.event_loop.specs.Scenes.{promises};
+ghost use Rattle.event_loop.specs.LoopStates.{promises};
 ghost use Rattle.endpoints.specs.Keeping.{keeping};
 
 use crate::fault::ConnectionFault;

@@ -3,7 +3,7 @@ ghost use Rattle.std.specs.Prelude.{◌≡◌, true, false, Some, OnOk, IfErr};
 ghost use Rattle.event_loop.specs.Reporting.{TellsRefusal};
 ghost use Rattle.http_edge.specs.Reached.{InEach};
 ghost use Rattle.event_loop.specs.Goes.{LeadsToNoImage, LeadsToShort, running};
-ghost use Rattle.event_loop.specs.Scenes.{promises, IsAllKept, IsUnkept};
+ghost use Rattle.event_loop.specs.LoopStates.{promises, IsAllKept, IsUnkept};
 ghost use Rattle.endpoints.specs.Keeping.{keeping};
 
 use crate::fault::LoopFault;

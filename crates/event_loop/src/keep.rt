@@ -1,7 +1,7 @@
 //! Keeping what changed.
 ghost use Rattle.std.specs.Prelude.{OnOk, IfErr};
 ghost use Rattle.event_loop.specs.Goes.{LeadsToKept, LeadsToLoss};
-ghost use Rattle.event_loop.specs.Scenes.{promises};
+ghost use Rattle.event_loop.specs.LoopStates.{promises};
 ghost use Rattle.endpoints.specs.Keeping.{keeping};
 
 use crate::fault::LoopFault;

@@ -6,7 +6,7 @@ ghost use Rattle.event_loop.specs.Places.{AllFree, IsFreeAt, IsOccupied};
 ghost use Rattle.event_loop.specs.Closing.{AreWithin};
 ghost use Rattle.event_loop.specs.declared.queue.Queue.TheVariants.{Waits};
 ghost use Rattle.event_loop.specs.Goes.{NobodyIsSilent, IsLongestAt, IsTried, LeadsAway, LeadsShut, LeadsToTidy, running, SettlesAll, FreesPlace};
-ghost use Rattle.event_loop.specs.Scenes.{promises};
+ghost use Rattle.event_loop.specs.LoopStates.{promises};
 ghost use Rattle.endpoints.specs.Keeping.{keeping};
 
 use crate::clocks::{Clocks, Second};

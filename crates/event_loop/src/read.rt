@@ -4,10 +4,10 @@ ghost use Rattle.http_edge.specs.Pieces.{supplied};
 ghost use Rattle.http_edge.specs.Reached.{is_closing};
 ghost use Rattle.http_edge.specs.Schedule.{piece_of};
 ghost use Rattle.event_loop.specs.GivingParts.{LeadsToGiving, LeadsToRefusal};
-ghost use Rattle.event_loop.specs.Deeds.{Reading};
+ghost use Rattle.event_loop.specs.Calls.{Reading};
 ghost use Rattle.event_loop.specs.Places.{IsOccupied, MayRead};
 ghost use Rattle.event_loop.specs.Goes.{NobodyIsSilent, WhereKnown, LeadsToActs, running, to_read};
-ghost use Rattle.event_loop.specs.Scenes.{promises};
+ghost use Rattle.event_loop.specs.LoopStates.{promises};
 ghost use Rattle.endpoints.specs.Keeping.{keeping};
 
 use crate::fault::ConnectionFault;

@@ -27,7 +27,7 @@ pub struct Report {
     pub state: Option<u64>,
 }
 
-/// What the journal is told of a server that goes on.
+/// What the journal is told of a server that starts or goes on.
 #[derive(Clone, Copy)]
 pub enum Notice {
     /// What it has done so far, and what it keeps.
@@ -36,6 +36,12 @@ pub enum Notice {
     StoreFull,
     /// An image was refused: what is kept grows until one is put.
     ImageRefused,
+    /// So many bytes of an unfinished write stood behind what was kept, and were put beside the file.
+    SetAside(usize),
+    /// So many codes and tokens ended, which were beyond the registry.
+    Narrowed(usize),
+    /// What was kept is so many seconds ahead of the clock.
+    Ahead(u64),
 }
 
 /// When the journal was told last, in steady seconds.

@@ -1,7 +1,7 @@
 //! Serving connections.
 ghost use Rattle.event_loop.specs.Ends.{RunEnds};
 ghost use Rattle.event_loop.specs.Goes.{LeadsWrong, running};
-ghost use Rattle.event_loop.specs.Scenes.{promises};
+ghost use Rattle.event_loop.specs.LoopStates.{promises};
 ghost use Rattle.endpoints.specs.Keeping.{keeping};
 
 use crate::fault::LoopFault;

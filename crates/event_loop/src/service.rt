@@ -49,6 +49,8 @@ impl Service {
         ensures noted { result.noted ≡ None }
         ensures told { result.told ≡ record { report = times.steady; full = None } }
         ensures refused { result.refused ≡ None }
+        ensures began { result.began ≡ times.steady }
+        ensures accepted { result.accepted ≡ 0 }
     {
         let steady = times.steady;
         Service {

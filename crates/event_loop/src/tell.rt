@@ -3,7 +3,7 @@ ghost use Rattle.std.specs.Prelude.{◌≡◌, Some, IsSome};
 ghost use Rattle.event_loop.specs.Goes.{IsReported, LeadsLast, OnlyTells, running, SettlesAll, TellsNow};
 ghost use Rattle.event_loop.specs.Places.{open_count};
 ghost use Rattle.event_loop.specs.Reporting.{is_long_ago};
-ghost use Rattle.event_loop.specs.Scenes.{promises};
+ghost use Rattle.event_loop.specs.LoopStates.{promises};
 ghost use Rattle.endpoints.specs.Keeping.{keeping};
 
 use crate::limits::{MINUTE, PLACES};

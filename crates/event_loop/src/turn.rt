@@ -2,7 +2,7 @@
 ghost use Rattle.std.specs.Prelude.{◌≡◌, ◌≢◌, ◌<◌, ℕ, List, [], slice_get};
 ghost use Rattle.event_loop.specs.declared.sockets.Ready.{Ready};
 ghost use Rattle.event_loop.specs.Goes.{NobodyIsSilent, HearsOf, LeadsToHearing, LeadsReading, LeadsWriting, LeadsToRest, running};
-ghost use Rattle.event_loop.specs.Scenes.{promises};
+ghost use Rattle.event_loop.specs.LoopStates.{promises};
 ghost use Rattle.endpoints.specs.Keeping.{keeping};
 
 use crate::limits::PLACES;

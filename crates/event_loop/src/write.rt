@@ -1,8 +1,8 @@
 //! Writing output.
 ghost use Rattle.std.specs.Prelude.{◌≡◌, ◌<◌};
-ghost use Rattle.event_loop.specs.Deeds.{Writing};
+ghost use Rattle.event_loop.specs.Calls.{Writing};
 ghost use Rattle.event_loop.specs.Goes.{NobodyIsSilent, LeadsToActs, running, to_write};
-ghost use Rattle.event_loop.specs.Scenes.{promises};
+ghost use Rattle.event_loop.specs.LoopStates.{promises};
 ghost use Rattle.endpoints.specs.Keeping.{keeping};
 
 use crate::fault::ConnectionFault;

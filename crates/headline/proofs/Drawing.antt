@@ -12,7 +12,7 @@ use Rattle.messages.specs.declared.request.Draws.{Draws}
 use Rattle.answers.specs.Outcomes.{Outcome}
 use Rattle.endpoints.specs.Hosts.{says_with}
 use Rattle.endpoints.specs.Server.{Outset}
-use Rattle.http_edge.specs.Answers.{AnsweredRequest, AreAnswered, IsOutcomeOfRequest, changes_made, draws_in, marks_in}
+use Rattle.http_edge.specs.Answers.{AnsweredRequest, AreAnswered, IsOutcomeOfRequest, changes_made, draws_in, mishaps_in}
 use Rattle.http_edge.specs.Schedule.{AnsweredPiece, Happening, Opened, Came, HasEnded, Taken, Forgotten, Kept, Resumed, Happens, PieceComes, PiecePasses, Run, World, first_world}
 use Rattle.headline.specs.Drawn.{AreAmong, AreDrawn, digests_by}
 use Rattle.headline.specs.Occasions.{Occasion, outcome_of}
@@ -97,8 +97,8 @@ module _ {H : Type 0} (hosting : Hosting H) (outset : Outset H) where
   of_request m history request is =
       let occasion : Occasion = record {
         arrival = record { asked = request.asked; moment = m; draws = request.draws };
-        host = says_with hosting is.host request.mark.fault;
-        refused = request.mark.refused;
+        host = says_with hosting is.host request.mishap.fault;
+        refused = request.mishap.refused;
       } in
       subst (λ (o : Outcome). AreAmong (digests_given (map (event_at m) o.changes)) (digests_of request.draws)) (sym is.outcome_is)
       (drawn_once outset.rules history occasion m)
@@ -115,16 +115,16 @@ module _ {H : Type 0} (hosting : Hosting H) (outset : Outset H) where
       (of_request m history r answered.0) (of_requests m (with_changes history m r.outcome.changes) requests answered.1))
 
   -- the draws of the requests come first
-  their_draws : (requests : List AnsweredRequest) (left : List Draws) → take (length (marks_in requests)) (draws_in requests ++ left) ≡ draws_in requests
+  their_draws : (requests : List AnsweredRequest) (left : List Draws) → take (length (mishaps_in requests)) (draws_in requests ++ left) ≡ draws_in requests
   their_draws [] left = refl
   their_draws (r ∷ requests) left = ap (λ ds. r.draws ∷ ds) (their_draws requests left)
 
   of_piece : (old new : World) (came : AnsweredPiece) → PieceComes hosting outset old came new → (before : List (List ℕ)) →
       AreAmong (digests_given old.history) before → AreAmong (digests_given new.history) (before ++ digests_by (Came came))
   of_piece old new came comes before a =
-      let own : take (length came.marks) came.draws ≡ draws_in comes.requests =
-      ap (λ marks. take (length marks) came.draws) comes.marks
-      ∙ ap (take (length (marks_in comes.requests))) comes.draws ∙ their_draws comes.requests comes.left in
+      let own : take (length came.mishaps) came.draws ≡ draws_in comes.requests =
+      ap (λ mishaps. take (length mishaps) came.draws) comes.mishaps
+      ∙ ap (take (length (mishaps_in comes.requests))) comes.draws ∙ their_draws comes.requests comes.left in
       let more = map (event_at new.greatest) (changes_made comes.requests) in
       subst (λ ds. AreAmong ds (before ++ digests_by (Came came))) (sym (ap digests_given comes.history ∙ given_append old.history more))
       (among_both (digests_given old.history) (digests_given more) before (digests_by (Came came)) a

@@ -1,7 +1,7 @@
 -- Calls on an edge, and what came of them.
 use Rattle.std.specs.Prelude.{◌≡◌, ⊤, ℕ, List, [], ◌∷◌, Bool, length, take}
 use Rattle.hook_host.specs.declared.host.HookHost.{Ghosts as Hosting}
-use Rattle.http_edge.specs.Answers.{AnswerMark}
+use Rattle.http_edge.specs.Answers.{Mishap}
 use Rattle.http_edge.specs.Schedule.{World, Connection, Happening, Opened, Came, HasEnded, Taken, Forgotten, Happens, connection_at, piece_of, untaken}
 use Rattle.http_edge.specs.Reached.{Journey, led_on}
 use Rattle.http_edge.specs.Refusals.{IsEventRefusal}
@@ -17,7 +17,7 @@ use Rattle.headline.specs.declared.call.Upshot.TheVariants.{Done, Refused}
 abbrev pub IsHappening : EdgeCall → List ℕ → Happening → Type 0
 IsHappening (Event (event.Open c)) bytes e = e ≡ Opened c
 IsHappening (Event (event.Bytes c piece moment draws)) bytes e =
-    (marks : List AnswerMark) × (closes : Bool) × (e ≡ Came (record { piece = piece_of c piece.now moment; draws = draws.now; marks = marks; closes = closes }))
+    (mishaps : List Mishap) × (closes : Bool) × (e ≡ Came (record { piece = piece_of c piece.now moment; draws = draws.now; mishaps = mishaps; closes = closes }))
 IsHappening (Event (event.End c)) bytes e = e ≡ HasEnded c
 IsHappening (Take c most) bytes e = e ≡ Taken c (length bytes)
 IsHappening (Forget c) bytes e = e ≡ Forgotten c

@@ -10,7 +10,7 @@ use Rattle.http_edge.specs.Schedule.{Happening, Came, Resumed, Run, World, first
 -- the digests of the draws that were handed in for the requests that a piece completed, two each; and of the codes and tokens
 -- that were there already, where the server goes on from what was kept
 abbrev pub digests_by : Happening → List (List ℕ)
-digests_by (Came came) = flat_map (λ draws. sha256 draws.first ∷ sha256 draws.second ∷ []) (take (length came.marks) came.draws)
+digests_by (Came came) = flat_map (λ draws. sha256 draws.first ∷ sha256 draws.second ∷ []) (take (length came.mishaps) came.draws)
 digests_by (Resumed history greatest) = map (λ g. g.digest) (grants history)
 digests_by happening = []
 

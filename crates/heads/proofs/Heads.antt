@@ -1,9 +1,10 @@
 -- What the parser's answers say of the front of the bytes.
-use Rattle.std.proofs.Common.{◌≡◌, ◌≢◌, ◌⊎◌, ℕ, ◌+◌, ◌<◌, ◌≤◌, inl, inr, List, [], ◌∷◌, ◌++◌, Some, codes, zero, suc, get_or, length, take, drop, refl, sym, ap, ◌∙◌, arith, append-nil, length-append}
-use Rattle.std.proofs.lemmas.Str.{IsUtf8-from_ascii}
-use Rattle.std.proofs.lemmas.List.Elements.{All-nil, All-cons}
+use Rattle.std.proofs.Common.{◌≡◌, ◌≢◌, ◌⊎◌, ℕ, ◌+◌, ◌<◌, ◌≤◌, inl, inr, List, [], ◌∷◌, ◌++◌, Some, length, take, drop, false, refl, sym, ap, subst, ◌∙◌, arith, append_assoc, append-nil, length-append}
+use Rattle.std.specs.Prelude.{is_some, IsTrue, Option}
+use Rattle.std.proofs.lemmas.Bool.{ltb-true, lt-ltb}
 use Rattle.std.proofs.lemmas.List.{take_at, take-append-drop, take-append-le, length-take-le, length-take, length-drop, drop-drop, length-map}
-use Rattle.httparse.specs.Grammar.{is_token_byte, is_uri_byte, lf, IsField, IsRequestHead, RequestHead, print_request, ReadsRequest, HasNoRequest, NeverHasRequest, MayBecomeRequest, Field}
+use Rattle.httparse.specs.Ascii.{line_feed}
+use Rattle.httparse.specs.Grammar.{RequestHead, print_request, ReadsRequest, HasNoRequest, NeverHasRequest, MayBecomeRequest, Field}
 use Rattle.httparse.specs.Spans.{RequestOverflows, RequestExceeds, IsWithin, AreFieldsAt, header_bytes, name_and_value}
 use Rattle.httparse.specs.declared.Error.{Error}
 use Rattle.httparse.specs.declared.Error.TheVariants as error
@@ -13,11 +14,13 @@ use Rattle.httparse.proofs.GrammarLemmas.{request_unique, request_prefix_free, R
 use Rattle.heads.specs.Limits.{head_size_limit, field_line_limit, body_size_limit}
 use Rattle.heads.specs.Fields.{content_length, AreGoodFields}
 use Rattle.heads.specs.PlacesParts.{AreFieldsIn}
-use Rattle.heads.specs.declared.fields.FieldSpans.{FieldSpans}
-use Rattle.std.specs.Prelude.{is_some, IsTrue, Option}
-use Rattle.heads.specs.Message.{BeginsWithMessage, IsHopeless, MayTell, IsGood, head_fields}
-use Rattle.heads.specs.Waiting.{IsUnfinished, Wants}
+use Rattle.heads.specs.Message.{BeginsWithMessage, IsHopeless, MayTell, HasSpoilingLine, IsGood, head_fields}
+use Rattle.heads.specs.Waiting.{ends_line, still_waits, IsUnfinished, IsWaiting, Wants}
 use Rattle.heads.specs.ReadingLaws.{some_head, reads_head, same_some}
+use Rattle.heads.specs.WaitingLaws.{line_waits}
+use Rattle.heads.specs.declared.fields.FieldSpans.{FieldSpans}
+use Rattle.heads.specs.declared.waits.Waits.TheVariants.{ForLine, ForBytes}
+use Rattle.heads.proofs.Lines.{two_fronts, ended_before, head_ends, may_front, nothing_may}
 
 -- whatever error the parser answers
 hopeless_overflow : (bytes : List ℕ) → RequestOverflows field_line_limit bytes → IsHopeless bytes
@@ -67,56 +70,92 @@ faulty_error bytes e over invalid many = (hopeless_overflow bytes over, inr (by 
     by error.TooManyHeaders invalid many = inr (many refl)
     by error.Version invalid many = inl (invalid (λ is. absurd (cc)))
 
--- ---- more bytes are wanted
+-- ---- a rest waits
 
--- nothing follows
-no_more : (bytes more : List ℕ) → length (bytes ++ more) < length bytes + 1 → bytes ≡ bytes ++ more
-no_more bytes [] less = sym (append-nil bytes)
-no_more bytes (b ∷ more) less = (let n = length-append bytes (b ∷ more) in absurd (omega (arith, n, less)))
+still_bytes : (size count : ℕ) (more : List ℕ) → count + length more < size → IsTrue (still_waits (ForBytes size) count more)
+still_bytes size count more fewer = lt-ltb _ _ fewer
+
+bytes_wait : (size count : ℕ) (more : List ℕ) → IsTrue (still_waits (ForBytes size) count more) → count + length more < size
+bytes_wait size count more is = ltb-true _ _ is
+
+line_still : (count : ℕ) → count < head_size_limit → IsTrue (still_waits ForLine count [])
+line_still count fewer = rw (lt-ltb (count + 0) head_size_limit (omega (arith, fewer))) refl
+
+-- where a head stands, no line has spoiled it
+spoils_no_head : (bytes : List ℕ) (head : RequestHead) (rest : List ℕ) → ReadsRequest bytes head rest → ¬ (HasSpoilingLine bytes)
+spoils_no_head bytes head rest whole s =
+    let lines : List ℕ = s.before ++ line_feed ∷ [] in
+    let text : lines ++ s.after ≡ print_request head ++ rest = append_assoc s.before (10 ∷ []) s.after ∙ sym s.text ∙ whole.1 in
+    elim (two_fronts lines s.after (print_request head) rest text) [
+      | inl q ↦ s.spoiled.never (inl (q.0, head, (whole.0, sym q.1 ∙ sym (append-nil (print_request head)))))
+      | inr q ↦ s.spoiled.none head q.0 (whole.0, q.1)
+    ]
+
+-- with no line's end behind it there is no head
+no_head_more : (bytes more : List ℕ) → HasNoRequest bytes → ends_line more ≡ false → HasNoRequest (bytes ++ more)
+no_head_more bytes more none unended head rest reads =
+    let end = head_ends head in
+    let cut : bytes ++ more ≡ end.0 ++ line_feed ∷ rest = reads.1 ∙ ap (λ (l : List ℕ). l ++ rest) end.1 ∙ append_assoc end.0 (10 ∷ []) rest in
+    let before = ended_before bytes more end.0 rest unended cut in
+    none head before.0 (reads.0, before.1 ∙ sym (append_assoc end.0 (10 ∷ []) before.0) ∙ ap (λ (l : List ℕ). l ++ before.0) (sym end.1))
+
+-- nor has a line ended that spoils what may become one
+no_line_more : (bytes more : List ℕ) → MayBecomeRequest bytes → ends_line more ≡ false → ¬ (HasSpoilingLine (bytes ++ more))
+no_line_more bytes more may unended s =
+    let before = ended_before bytes more s.before s.after unended s.text in
+    let text : bytes ≡ (s.before ++ line_feed ∷ []) ++ before.0 = before.1 ∙ sym (append_assoc s.before (10 ∷ []) before.0) in
+    s.spoiled.never (may_front (s.before ++ line_feed ∷ []) before.0 (subst MayBecomeRequest text may))
+
+unfinished_head : (bytes more : List ℕ) → HasNoRequest bytes → MayBecomeRequest bytes → length bytes + length more < head_size_limit → ends_line more ≡ false
+    → IsUnfinished (bytes ++ more) ForLine
+unfinished_head bytes more none may fewer unended =
+    let no_head = no_head_more bytes more none unended in
+    let all = length-append bytes more in
+    record {
+      none = λ m rest b. no_head m.head (m.body ++ rest) (reads_head (bytes ++ more) m rest b);
+      untold = λ must. elim must [
+        | inl f ↦ no_head f.head f.after f.reads
+        | inr other ↦ elim other [ inl s ↦ no_line_more bytes more may unended s | inr l ↦ (let size = l.size in omega (arith, size, all, fewer)) ]
+      ];
+      short = omega (arith, all, fewer);
+      line = λ some none. refl;
+      message = λ head after size reads good body. absurd (no_head head after reads);
+    }
+
+-- nothing has a head
+no_head : HasNoRequest []
+no_head head after reads =
+    let some = some_head head in
+    let all = ap length reads.1 ∙ length-append (print_request head) after in
+    omega (arith, some, all)
+
+nothing_waits : IsWaiting [] (ForBytes 1)
+nothing_waits [] is =
+    let unfinished = unfinished_head [] [] no_head nothing_may (omega arith) refl in
+    record {
+      none = unfinished.none;
+      untold = unfinished.untold;
+      short = unfinished.short;
+      line = λ some none. absurd (omega (arith, some));
+      message = λ head after size reads good body. absurd (no_head head after reads);
+    }
+nothing_waits (b ∷ more) is = (let fewer = bytes_wait 1 0 (b ∷ more) is in absurd (omega (arith, fewer)))
 
 -- no head yet, and fewer bytes than a head may have
-pub wants_head : (bytes : List ℕ) → length bytes < head_size_limit → HasNoRequest bytes → MayBecomeRequest bytes → Wants bytes (length bytes + 1)
-wants_head bytes short none may =
-    let unfinished : IsUnfinished bytes (length bytes + 1) = record {
-      none = λ m rest b. none m.head (m.body ++ rest) (reads_head bytes m rest b);
-      untold = λ must. elim must [
-        | inl f ↦ none f.head f.after f.reads
-        | inr other ↦ elim other [ inl r ↦ r.never may | inr l ↦ (let size = l.size in omega (arith, size, short)) ]
-      ];
-      short = omega (arith, short);
-      message = λ head after size reads good body. absurd (none head after reads);
-    } in
-    record { fewer = omega arith; waiting = λ more less. rw (← no_more bytes more less) unfinished }
-
--- the least request
-abbrev least : RequestHead
-least = record { blank = []; method = codes "A"; target = codes "/"; minor = 1; line_end = lf; fields = []; last = lf }
-
-slash : (i : ℕ) → get_or (codes "/") i 0 < 128
-slash zero = omega arith
-slash (suc i) = omega arith
-
-is_head : IsRequestHead least
-unfolding is_token_byte
-is_head = record {
-  method = (omega arith, All-cons (λ x. IsTrue (is_token_byte x)) 65 [] refl (All-nil (λ x. IsTrue (is_token_byte x))));
-  target = (omega arith, All-cons (λ x. IsTrue (is_uri_byte x)) 47 [] refl (All-nil (λ x. IsTrue (is_uri_byte x))));
-  target_text = IsUtf8-from_ascii (codes "/") slash;
-  minor = omega arith;
-  fields = All-nil IsField;
+pub wants_head : (bytes : List ℕ) → length bytes < head_size_limit → HasNoRequest bytes → MayBecomeRequest bytes → Wants bytes ForLine
+wants_head bytes short none may = record {
+  now = line_still (length bytes) short;
+  waiting = λ more is. (let parts = line_waits (length bytes) more is in unfinished_head bytes more none may parts.0 parts.1);
 }
 
 -- nothing yet
-pub wants_first : (bytes : List ℕ) → length bytes ≡ 0 → Wants bytes 1
-wants_first [] e =
-    wants_head [] (omega arith)
-    (λ head after reads. (let some = some_head head in let all = ap length reads.1 ∙ length-append (print_request head) after in omega (arith, some, all)))
-    (inl (print_request least, least, (is_head, sym (append-nil (print_request least)))))
+pub wants_first : (bytes : List ℕ) → length bytes ≡ 0 → Wants bytes (ForBytes 1)
+wants_first [] e = record { now = refl; waiting = nothing_waits }
 wants_first (b ∷ bytes) e = absurd (omega (arith, e))
 
 -- a good head, and not its whole body
 module _ (head : RequestHead) (size : ℕ) (good : IsGood head) (body : content_length (head_fields head) ≡ Some size) (small : size ≤ body_size_limit) where
-  unfinished_body : (bytes after : List ℕ) → ReadsRequest bytes head after → length bytes < length (print_request head) + size → IsUnfinished bytes (length (print_request head) + size)
+  unfinished_body : (bytes after : List ℕ) → ReadsRequest bytes head after → length bytes < length (print_request head) + size → IsUnfinished bytes (ForBytes (length (print_request head) + size))
   unfinished_body bytes after whole short = record {
     none = λ m rest b.
         let same = request_unique bytes head m.head after (m.body ++ rest) whole (reads_head bytes m rest b) in
@@ -126,19 +165,23 @@ module _ (head : RequestHead) (size : ℕ) (good : IsGood head) (body : content_
         omega (arith, long, all, behind, short);
     untold = λ must. elim must [
       | inl f ↦ f.faulty (rw (request_unique bytes head f.head after f.after whole f.reads).0 at good)
-      | inr other ↦ elim other [ inl r ↦ r.none head after whole | inr l ↦ l.none head after whole good ]
+      | inr other ↦ elim other [ inl s ↦ spoils_no_head bytes head after whole s | inr l ↦ l.none head after whole good ]
     ];
     short = (let most = good.size in omega (arith, most, short, small));
+    line = λ some none. absurd (none head after whole);
     message = λ other behind n reads fine is.
         let same = request_unique bytes head other after behind whole reads in
         let long : size ≡ n = same_some _ _ (sym body ∙ ap (λ h. content_length (head_fields h)) same.0 ∙ is) in
-        ap (λ h. length (print_request h) + size) same.0 ∙ ap (λ k. length (print_request other) + k) long;
+        ap (λ h. ForBytes (length (print_request h) + size)) same.0 ∙ ap (λ k. ForBytes (length (print_request other) + k)) long;
   }
 
-  pub wants_body : (bytes after : List ℕ) → ReadsRequest bytes head after → length bytes < length (print_request head) + size → Wants bytes (length (print_request head) + size)
+  pub wants_body : (bytes after : List ℕ) → ReadsRequest bytes head after → length bytes < length (print_request head) + size → Wants bytes (ForBytes (length (print_request head) + size))
   wants_body bytes after whole short = record {
-    fewer = short;
-    waiting = λ more less. unfinished_body (bytes ++ more) (after ++ more) (ReadsRequest-append bytes head after more whole) less;
+    now = still_bytes (length (print_request head) + size) (length bytes) [] (omega (arith, short));
+    waiting = λ more is.
+        let fewer = bytes_wait (length (print_request head) + size) (length bytes) more is in
+        let all = length-append bytes more in
+        unfinished_body (bytes ++ more) (after ++ more) (ReadsRequest-append bytes head after more whole) (omega (arith, fewer, all));
   }
 
 -- ---- a whole message

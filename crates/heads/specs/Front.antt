@@ -35,5 +35,5 @@ pub record IsWholeAt (bytes : List ℕ) (found : Found) (m : Message) : Type 0 w
 -- a whole message; or more bytes are wanted; or none can help
 abbrev pub IsFront : List ℕ → Front → Type 0
 IsFront bytes (Whole found) = IsFoundWithin bytes found × ((m : Message) × IsWholeAt bytes found m)
-IsFront bytes (More wanted) = Wants bytes wanted
+IsFront bytes (More waits) = Wants bytes waits
 IsFront bytes Faulty = IsHopeless bytes × MayTell bytes

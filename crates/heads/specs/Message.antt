@@ -1,5 +1,6 @@
 -- A stream of bytes as requests and a rest (RFC 9112, section 2), over the grammar of `httparse`.
 use Rattle.std.specs.Prelude.{◌≡◌, ℕ, ◌≤◌, ◌⊎◌, List, [], ◌∷◌, ◌++◌, length, map, Some, codes}
+use Rattle.httparse.specs.Ascii.{line_feed}
 use Rattle.httparse.specs.Grammar.{RequestHead, print_request, IsRequestHead, ReadsRequest, HasNoRequest, NeverHasRequest, MayBecomeRequest}
 use Rattle.httparse.specs.Spans.{name_and_value, RequestExceeds}
 use Rattle.messages.specs.Asked.{Asked}
@@ -54,10 +55,17 @@ pub record BeginsFaulty (bytes : List ℕ) : Type 0 where
   pub reads : ReadsRequest bytes head after
   pub faulty : ¬ (IsGood head)
 
--- no bytes can follow that make a head of the front; a target is judged at its end
+-- no bytes can follow that make a head of these; a target is judged at its end
 pub record CannotBecomeHead (bytes : List ℕ) : Type 0 where
   pub none : HasNoRequest bytes
   pub never : ¬ (MayBecomeRequest bytes)
+
+-- a line has ended with which the bytes cannot become a head
+pub record HasSpoilingLine (bytes : List ℕ) : Type 0 where
+  pub before : List ℕ
+  pub after : List ℕ
+  pub text : bytes ≡ before ++ line_feed ∷ after
+  pub spoiled : CannotBecomeHead (before ++ line_feed ∷ [])
 
 -- as many bytes as a head may have, and no good head at their front
 pub record IsHeadTooLong (bytes : List ℕ) : Type 0 where
@@ -66,7 +74,7 @@ pub record IsHeadTooLong (bytes : List ℕ) : Type 0 where
 
 -- a faulty head has to be told at the latest now
 abbrev pub MustTell : List ℕ → Type 0
-MustTell bytes = BeginsFaulty bytes ⊎ (CannotBecomeHead bytes ⊎ IsHeadTooLong bytes)
+MustTell bytes = BeginsFaulty bytes ⊎ (HasSpoilingLine bytes ⊎ IsHeadTooLong bytes)
 
 -- more lines than a head may have, before its end came
 abbrev pub HasTooManyLines : List ℕ → Type 0

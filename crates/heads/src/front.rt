@@ -11,6 +11,7 @@ ghost use Rattle.heads.specs.Front.{IsFront, IsFoundWithin, IsWholeAt};
 
 use crate::fields::{FieldSpans, read_fields};
 use crate::limits::{FIELD_LINE_LIMIT, HEAD_SIZE_LIMIT};
+use crate::waits::Waits;
 use httparse::Status;
 use httparse::spans::{EMPTY_HEADER_SPAN, HeaderSpan, RequestSpans, Span, parse_request};
 use messages::Request;
@@ -32,9 +33,9 @@ pub struct Found {
 pub enum Front {
     /// A whole request.
     Whole(Found),
-    /// No request yet, nor with any more bytes that leave fewer than `wanted`. Once the head has come, that is the
-    /// length of the request, so that its head need not be read again for each piece of its body.
-    More { wanted: usize },
+    /// No request yet, nor while it still waits. So its head need not be read again for each piece of a line or of the
+    /// body.
+    More { waits: Waits },
     /// No request, whatever follows.
     Faulty,
 }
@@ -60,7 +61,9 @@ pub fn front_of(bytes: &[u8], index: usize, first: Front) -> Front
         return first;
     }
     if bytes.is_empty() {
-        return Front::More { wanted: 1 };
+        return Front::More {
+            waits: Waits::ForBytes(1),
+        };
     }
     read_front(bytes)
 }
@@ -99,7 +102,9 @@ fn after_head(bytes: &[u8], headers: &[HeaderSpan], head: RequestSpans) -> Front
     };
     let end = head.len + fields.body_length;
     if end > bytes.len() {
-        return Front::More { wanted: end };
+        return Front::More {
+            waits: Waits::ForBytes(end),
+        };
     }
     Front::Whole(Found { head, fields, end })
 }
@@ -112,7 +117,7 @@ fn without_head(bytes: &[u8]) -> Front
 {
     if bytes.len() < HEAD_SIZE_LIMIT {
         Front::More {
-            wanted: bytes.len() + 1,
+            waits: Waits::ForLine,
         }
     } else {
         Front::Faulty

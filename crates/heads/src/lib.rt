@@ -7,6 +7,7 @@ mod fields;
 mod front;
 mod limits;
 mod scan;
+mod waits;
 
 pub use fields::FieldSpans;
 pub use front::{Found, Front, front_of, lend, read_front};
@@ -15,3 +16,4 @@ pub use limits::{
     limits_are_the_defined_ones,
 };
 pub use scan::{Scan, scan_behind};
+pub use waits::Waits;

@@ -4,6 +4,7 @@ ghost use Rattle.heads.specs.Front.{IsFront};
 ghost use Rattle.heads.specs.Scan.{IsScan};
 
 use crate::front::{Front, front_of};
+use crate::waits::Waits;
 
 /// What bytes have: whole requests, and a rest.
 #[derive(Clone, Copy, Debug)]
@@ -14,9 +15,9 @@ pub struct Scan {
     pub end: usize,
     /// Whether the rest is no request, whatever follows.
     pub faulty: bool,
-    /// How many bytes the rest must have before anything of it need be read again: whatever comes behind it, with fewer
-    /// there is no whole request, and no faulty head that has to be told. 0 where the rest is faulty.
-    pub wanted: usize,
+    /// What the rest waits for before anything of it need be read again: while it still waits, there is no whole request,
+    /// and no faulty head that has to be told. A faulty rest waits for 0 bytes.
+    pub waits: Waits,
 }
 
 /// Reads through all the requests at the front of the bytes, the head of each once. What stands at their front was read
@@ -33,12 +34,12 @@ pub fn scan_behind(bytes: &[u8], first: Front) -> Scan
                 count += 1;
                 end += found.end;
             }
-            Front::More { wanted } => {
+            Front::More { waits } => {
                 return Scan {
                     count,
                     end,
                     faulty: false,
-                    wanted,
+                    waits,
                 };
             }
             Front::Faulty => {
@@ -46,7 +47,7 @@ pub fn scan_behind(bytes: &[u8], first: Front) -> Scan
                     count,
                     end,
                     faulty: true,
-                    wanted: 0,
+                    waits: Waits::ForBytes(0),
                 };
             }
         }

@@ -1,3 +1,2 @@
 pub mod Ways
 mod HexReading
-mod Refusing

@@ -1,11 +1,9 @@
 -- What the commands about hooks answer.
-use Rattle.std.specs.Prelude.{◌≡◌, ◌≢◌, ◌⊎◌, ℕ, List, ◌++◌, codes, Option, None, Some, Result, Ok, Err, ⊤}
-use Rattle.std.specs.String.{string_bytes}
+use Rattle.std.specs.Prelude.{◌≡◌, ◌⊎◌, ℕ, List, Option, None, Some, Result, Ok, Err, ⊤}
 use Rattle.insn.specs.declared.instruction.Insn.{Insn as Instruction}
 use Rattle.encoding.specs.Spelling.{Spells}
-use Rattle.hook_commands.specs.Tracing.{IsTraceTold}
-use Rattle.insn.specs.declared.fault.InsnFault.TheVariants as insn
-use Rattle.insn.specs.declared.verify_fault.VerifyFault.TheVariants as verify
+use Rattle.machine.specs.declared.trace.Trace.{Trace}
+use Rattle.machine.specs.Trace.{IsTrace}
 use Rattle.hook_commands.specs.declared.command.HookCommand.{HookCommand}
 use Rattle.hook_commands.specs.declared.command.HookCommand.TheVariants as commands
 use Rattle.hook_commands.specs.declared.answer.HookAnswer.{HookAnswer}
@@ -20,7 +18,6 @@ use Rattle.hook_commands.specs.Assembly.{IsAssembledAs}
 use Rattle.hook_commands.specs.File.{File, IsCheckedOn, IsListedAs}
 use Rattle.hook_commands.specs.HexText.{IsHexOf, IsNoHex}
 use Rattle.hook_commands.specs.Judge.{IsJudged, asked_in}
-use Rattle.hook_commands.specs.Printed.{judged_text}
 use Rattle.hook_commands.specs.Telling.{IsAskedAs, IsExplainedOn, IsListedWithSlotsAs}
 
 -- a hook's code and a record, both as hex text, are judged so
@@ -38,13 +35,13 @@ IsRunOn code_hex record_hex (Ok answer) = ⊥
 IsRunOn code_hex record_hex (Err BadArguments) = IsNoHex code_hex
 IsRunOn code_hex record_hex (Err BadRecord) =
     ((code : List ℕ) × IsHexOf code_hex code × IsNoHex record_hex) ⊎ IsJudgedText code_hex record_hex (Err judge.BadRecord)
-IsRunOn code_hex record_hex (Err (Insn fault)) = (fault ≢ insn.Memory) × IsJudgedText code_hex record_hex (Err (judge.Insn fault))
-IsRunOn code_hex record_hex (Err (Verify fault)) = (fault ≢ verify.Memory) × IsJudgedText code_hex record_hex (Err (judge.Verify fault))
+IsRunOn code_hex record_hex (Err (Insn fault)) = IsJudgedText code_hex record_hex (Err (judge.Insn fault))
+IsRunOn code_hex record_hex (Err (Verify fault)) = IsJudgedText code_hex record_hex (Err (judge.Verify fault))
 IsRunOn code_hex record_hex (Err OutOfMemory) = ⊤
 IsRunOn code_hex record_hex (Err fault) = ⊥
 
--- the steps of a program's run on a record: those of the program that a hook's code spells, both as hex text
-pub record AreStepsOf (code_hex record_hex steps : List ℕ) : Type 0 where
+-- the steps of the run, on a record, of the program that a hook's code spells, both as hex text
+pub record IsTraceOf (code_hex record_hex : List ℕ) (trace : Trace) : Type 0 where
   pub code : List ℕ
   pub bytes : List ℕ
   pub code_spelled : IsHexOf code_hex code
@@ -53,19 +50,13 @@ pub record AreStepsOf (code_hex record_hex steps : List ℕ) : Type 0 where
   pub spelled : Spells code program
   pub asked : Asked
   pub asks : asked_in bytes ≡ Some asked
-  pub told : IsTraceTold asked.layout program bytes steps
-
--- the text tells the steps of a run, and then how it is judged
-pub record IsTracedText (code_hex record_hex text : List ℕ) : Type 0 where
-  pub judged : Judged
-  pub is_judged : IsJudgedText code_hex record_hex (Ok judged)
-  pub steps : List ℕ
-  pub are_steps : AreStepsOf code_hex record_hex steps
-  pub whole : text ≡ steps ++ judged_text judged ++ codes "\n"
+  pub after : List ℕ
+  pub run : IsTrace asked.layout program bytes trace after
 
 -- what `run --trace` answers: where `run` has no answer it has none, for the same reason
 abbrev pub IsTracedOn : List ℕ → List ℕ → Result HookAnswer HookCommandFault → Type 0
-IsTracedOn code_hex record_hex (Ok (answers.Listing text)) = IsTracedText code_hex record_hex (string_bytes text)
+IsTracedOn code_hex record_hex (Ok (answers.Traced trace judged)) =
+    IsTraceOf code_hex record_hex trace × IsJudgedText code_hex record_hex (Ok judged)
 IsTracedOn code_hex record_hex (Ok answer) = ⊥
 IsTracedOn code_hex record_hex (Err fault) = IsRunOn code_hex record_hex (Err fault)
 

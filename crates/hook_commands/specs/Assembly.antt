@@ -1,12 +1,11 @@
 -- What `asm` answers to a file.
-use Rattle.std.specs.Prelude.{◌≡◌, ◌≢◌, ◌⊎◌, ⊤, ℕ, List, Result, Ok, Err}
+use Rattle.std.specs.Prelude.{◌≡◌, ◌⊎◌, ⊤, ℕ, List, Result, Ok, Err}
 use Rattle.std.specs.String.{string_bytes}
 use Rattle.hex.specs.Hex.{encode_lower}
 use Rattle.insn.specs.declared.instruction.Insn.{Insn}
 use Rattle.encoding.specs.Spelling.{Spells}
 use Rattle.assembly.specs.Text.{Text}
 use Rattle.assembler.specs.declared.fault.AsmFault.{AsmFault}
-use Rattle.assembler.specs.declared.fault.AsmFault.TheVariants as asm
 use Rattle.assembler.specs.Faults.{FirstTextFault}
 use Rattle.hook_commands.specs.declared.answer.HookAnswer.{HookAnswer}
 use Rattle.hook_commands.specs.declared.answer.HookAnswer.TheVariants as answers
@@ -32,7 +31,7 @@ pub record HasTextFault (file : File) (fault : AsmFault) : Type 0 where
 
 -- why the text of a file says no program, where it is one
 abbrev pub SaysNoProgram : File → HookCommandFault → Type 0
-SaysNoProgram file (faults.Text fault) = (fault ≢ asm.Memory) × HasTextFault file fault
+SaysNoProgram file (faults.Text fault) = HasTextFault file fault
 SaysNoProgram file faults.OutOfMemory = ⊤
 SaysNoProgram file fault = ⊥
 

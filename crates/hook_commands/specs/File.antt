@@ -1,12 +1,10 @@
 -- What the commands answer to a file. A file is its bytes, and nothing where it cannot be read.
-use Rattle.std.specs.Prelude.{◌≡◌, ◌≢◌, ◌⊎◌, ⊤, ℕ, List, length, Option, Some, None, IsSomeAnd, IsUtf8, Result, Ok, Err}
+use Rattle.std.specs.Prelude.{◌≡◌, ◌⊎◌, ⊤, ℕ, List, length, Option, Some, None, IsSomeAnd, IsUtf8, Result, Ok, Err}
 use Rattle.std.specs.String.{string_bytes}
 use Rattle.insn.specs.declared.instruction.Insn.{Insn}
 use Rattle.insn.specs.declared.layout.Layout.{Layout}
 use Rattle.insn.specs.declared.fault.InsnFault.{InsnFault}
-use Rattle.insn.specs.declared.fault.InsnFault.TheVariants as insn
 use Rattle.insn.specs.declared.verify_fault.VerifyFault.{VerifyFault}
-use Rattle.insn.specs.declared.verify_fault.VerifyFault.TheVariants as verify
 use Rattle.encoding.specs.Spelling.{FirstInsnFault, Spells}
 use Rattle.assembly.specs.Text.{canonical_text}
 use Rattle.hook_commands.specs.declared.answer.HookAnswer.{HookAnswer}
@@ -14,8 +12,7 @@ use Rattle.hook_commands.specs.declared.answer.HookAnswer.TheVariants as answers
 use Rattle.hook_commands.specs.declared.fault.HookCommandFault.{HookCommandFault}
 use Rattle.hook_commands.specs.declared.fault.HookCommandFault.TheVariants as faults
 use Rattle.hook_commands.specs.HexText.{IsHexOf, IsNoHex}
-use Rattle.hook_commands.specs.Verdict.{IsTakenProgram}
-use Rattle.verifier.specs.Verdicts.{IsVerdict}
+use Rattle.hook_commands.specs.Verdict.{IsTakenProgram, IsTurnedAway}
 
 abbrev pub File : Type 0
 File = Option (List ℕ)
@@ -53,7 +50,7 @@ pub record HoldsFault (file : File) (fault : InsnFault) : Type 0 where
 abbrev pub HoldsNoProgram : List ℕ → File → HookCommandFault → Type 0
 HoldsNoProgram path file (faults.CannotRead named) = (file ≡ None) × (named.now ≡ path)
 HoldsNoProgram path file faults.BadArguments = IsSomeAnd file IsNoHex
-HoldsNoProgram path file (faults.Insn fault) = (fault ≢ insn.Memory) × HoldsFault file fault
+HoldsNoProgram path file (faults.Insn fault) = HoldsFault file fault
 HoldsNoProgram path file faults.OutOfMemory = ⊤
 HoldsNoProgram path file fault = ⊥
 
@@ -84,11 +81,11 @@ pub record IsAcceptedOn (layout : Layout) (file : File) (count : ℕ) : Type 0 w
 pub record IsRefusedOn (layout : Layout) (file : File) (fault : VerifyFault) : Type 0 where
   pub program : List Insn
   pub held : HoldsProgram file program
-  pub refused : IsVerdict layout program fault
+  pub refused : IsTurnedAway layout program fault
 
 -- why the program of a file is not accepted, where it holds one
 abbrev pub IsFileNotAccepted : Layout → File → HookCommandFault → Type 0
-IsFileNotAccepted layout file (faults.Verify fault) = (fault ≢ verify.Memory) × IsRefusedOn layout file fault
+IsFileNotAccepted layout file (faults.Verify fault) = IsRefusedOn layout file fault
 IsFileNotAccepted layout file faults.OutOfMemory = ⊤
 IsFileNotAccepted layout file fault = ⊥
 

@@ -1,11 +1,10 @@
 -- What a hook's bytes do with a record's: the layers that both cross, one below the other.
-use Rattle.std.specs.Prelude.{◌≡◌, ℕ, ◌==◌, if◌then◌else◌, List, ◌++◌, codes, length, take, Option, Some, None, Result, Ok, Err}
+use Rattle.std.specs.Prelude.{◌≡◌, ℕ, ◌==◌, if◌then◌else◌, List, length, take, Option, Some, None, Result, Ok, Err}
 use Rattle.std.specs.Option.{option_map}
 use Rattle.insn.specs.declared.instruction.Insn.{Insn}
 use Rattle.insn.specs.declared.fault.InsnFault.{InsnFault}
 use Rattle.insn.specs.declared.verify_fault.VerifyFault.{VerifyFault}
 use Rattle.insn.specs.declared.layout.Layout.TheVariants.{V1, V2}
-use Rattle.insn.specs.FaultTexts.{at_slot, insn_fault_text, verify_fault_text}
 use Rattle.encoding.specs.Spelling.{FirstInsnFault, Spells}
 use Rattle.insn.specs.Step.{IsExit}
 use Rattle.insn.specs.Values.{record_size}
@@ -65,9 +64,3 @@ IsJudged code bytes (Err faults.BadRecord) = asked_in bytes ≡ None
 IsJudged code bytes (Err (faults.Insn fault)) = IsNoProgram code bytes fault
 IsJudged code bytes (Err (faults.Verify fault)) = IsRefused code bytes fault
 IsJudged code bytes (Err (faults.Stuck slot)) = ⊥
-
-abbrev pub judge_fault_text : JudgeFault → List ℕ
-judge_fault_text faults.BadRecord = codes "BadRecord"
-judge_fault_text (faults.Insn fault) = codes "Insn " ++ insn_fault_text fault
-judge_fault_text (faults.Verify fault) = codes "Verify " ++ verify_fault_text fault
-judge_fault_text (faults.Stuck slot) = at_slot (codes "Stuck") slot

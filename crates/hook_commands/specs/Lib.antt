@@ -2,17 +2,14 @@
 pub mod Answers
 pub mod Asking
 pub mod Assembly
-pub mod BytesText
+pub mod BytesTold
 pub mod Explanations
-pub mod Faults
 pub mod File
 pub mod HexText
 pub mod Judge
-pub mod KnownText
 pub mod Printed
 pub mod Reading
 pub mod Telling
-pub mod Tracing
 pub mod Verdict
 pub mod Ways
 -- What only the contracts of this crate's own parts and their proofs cite.

@@ -7,7 +7,7 @@ use Rattle.hook_record.specs.declared.Ask.{Ask}
 use Rattle.hook_commands.specs.declared.asking.AskWords.{AskWords}
 use Rattle.hook_commands.specs.Asking.{SayAsk, record_hex}
 use Rattle.hook_commands.specs.Explanations.{IsExplanation}
-use Rattle.lister.specs.Slots.{slotted_text}
+use Rattle.lister.specs.Slots.{slot_lines}
 use Rattle.hook_commands.specs.declared.answer.HookAnswer.{HookAnswer}
 use Rattle.hook_commands.specs.declared.answer.HookAnswer.TheVariants as answers
 use Rattle.hook_commands.specs.declared.fault.HookCommandFault.{HookCommandFault}
@@ -29,14 +29,10 @@ HoldsNoToldProgram path file fault = HoldsNoProgram path file fault
 
 -- ---- `list --slots`
 
--- the text is that of the file's program, with its slots
-pub record IsListingWithSlots (file : File) (text : List ℕ) : Type 0 where
-  pub program : List Insn
-  pub held : HoldsProgram file program
-  pub listed : text ≡ slotted_text program
-
+-- the file's program is listed with its slots
 abbrev pub IsListedWithSlotsAs : List ℕ → File → Result HookAnswer HookCommandFault → Type 0
-IsListedWithSlotsAs path file (Ok (answers.Listing text)) = IsListingWithSlots file (string_bytes text)
+IsListedWithSlotsAs path file (Ok (answers.Slots lines)) =
+    (program : List Insn) × HoldsProgram file program × (lines.items ≡ slot_lines program)
 IsListedWithSlotsAs path file (Ok answer) = ⊥
 IsListedWithSlotsAs path file (Err fault) = HoldsNoToldProgram path file fault
 

@@ -1,8 +1,6 @@
 -- The way to a slot of a program: the jumps by which control comes there from slot 0, where it goes on from each slot as the
 -- verifier's walk did.
-use Rattle.std.specs.Prelude.{◌≡◌, ◌==◌, ◌&&◌, not, if◌then◌else◌, ℕ, ◌+◌, Bool, true, ℤ, pos, negsuc, List, [], ◌∷◌, ◌++◌, codes, Option, Some, None, option_and_then, slice_index_or, Vec}
-use Rattle.std.specs.Fmt.{decimal}
-use Rattle.std.specs.List.{flat_map}
+use Rattle.std.specs.Prelude.{◌≡◌, ◌⊎◌, ◌==◌, ◌&&◌, not, if◌then◌else◌, ℕ, ◌+◌, Bool, true, ℤ, pos, negsuc, List, [], ◌∷◌, Option, Some, None, IfSome, IsSomeAnd, option_and_then, slice_index_or, Vec}
 use Rattle.std.specs.Option.{option_map}
 use Rattle.std.specs.declared.alloc.Global.{Global}
 use Rattle.insn.specs.declared.instruction.Insn.{Insn}
@@ -13,6 +11,7 @@ use Rattle.insn.specs.Program.{begins_at}
 use Rattle.verifier.specs.declared.walk.Onward.{Onward}
 use Rattle.verifier.specs.Waits.{nowhere}
 use Rattle.hook_commands.specs.declared.way.Hop.{Hop}
+use Rattle.hook_commands.specs.declared.way.Way.{Way}
 
 -- ---- where control goes
 
@@ -84,30 +83,19 @@ IsWayFound roads slot (Some way) = Leads roads 0 way slot
 abbrev pub hops_of : Option (Vec Hop Global) → Option (List Hop)
 hops_of way = option_map (λ hops. hops.items) way
 
--- ---- texts
+-- ---- what is told of a way
 
-abbrev pub hop_text : Hop → List ℕ
-hop_text hop = codes ", " ++ decimal hop.from ++ codes " jumps to " ++ decimal hop.to
+-- the jumps of a way that is told
+abbrev pub told_hops : Option Way → Option (List Hop)
+told_hops told = option_map (λ way. way.hops.items) told
 
--- that nothing writes a register, if there is one
-abbrev pub unwritten_text : Option RegNo → List ℕ
-unwritten_text None = []
-unwritten_text (Some r) = codes ": nothing writes r" ++ decimal (reg_number r)
+-- any way to a slot is told, which leaves no register unwritten that is named
+pub record IsAnyWay (roads : Roads) (slot : ℕ) (told : Option Way) : Type 0 where
+  pub never : IsWayFound roads slot None
+  pub found : IsWayFound (record roads { unwritten = None }) slot (told_hops told)
+  pub unnamed : IfSome told (λ way. way.unwritten ≡ None)
 
-abbrev pub way_text : Option RegNo → List Hop → List ℕ
-way_text unwritten hops = codes "from slot 0" ++ flat_map hop_text hops ++ unwritten_text unwritten ++ codes "\n"
-
--- the line of any way that is found; none where there is none
-abbrev pub found_text : Option (List Hop) → List ℕ
-found_text None = []
-found_text (Some way) = way_text None way
-
--- a text tells the way that is found, or else any way to a slot
-abbrev pub TellsFound : Roads → ℕ → Option (List Hop) → List ℕ → Type 0
-TellsFound roads slot (Some way) text = text ≡ way_text roads.unwritten way
-TellsFound roads slot None text =
-    (any : Option (List Hop)) × IsWayFound (record roads { unwritten = None }) slot any × (text ≡ found_text any)
-
--- a text tells a way to a slot, one that leaves a register unwritten where there is such a way
-abbrev pub TellsWay : Roads → ℕ → List ℕ → Type 0
-TellsWay roads slot text = (found : Option (List Hop)) × IsWayFound roads slot found × TellsFound roads slot found text
+-- a way to a slot is told, one that leaves a register unwritten where there is such a way
+abbrev pub IsToldWay : Roads → ℕ → Option Way → Type 0
+IsToldWay roads slot told =
+    IsSomeAnd told (λ way. (way.unwritten ≡ roads.unwritten) × IsWayFound roads slot (Some way.hops.items)) ⊎ IsAnyWay roads slot told

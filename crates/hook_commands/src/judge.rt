@@ -1,8 +1,8 @@
 //! What a hook answers to a record: its bytes are decoded, verified and run, and what the run leaves narrows the grant.
 
-ghost use Rattle.std.specs.Prelude.{◌≡◌, ◌≢◌, ℕ, length, Some, IfSome, Err};
+ghost use Rattle.std.specs.Prelude.{◌≡◌, ◌≢◌, ℕ, length, IfSome, Err};
 ghost use Rattle.insn.specs.Values.{record_size};
-ghost use Rattle.hook_commands.specs.Judge.{asked_in, judge_fault_text, IsAnswer, IsJudged};
+ghost use Rattle.hook_commands.specs.Judge.{asked_in, IsAnswer, IsJudged};
 
 use encoding::decode;
 use flat_machine::run;
@@ -11,7 +11,6 @@ use insn::fault::InsnFault;
 use insn::layout::Layout;
 use insn::verify_fault::VerifyFault;
 use std::alloc::Global;
-use std::fmt::{self, Display, Formatter, Write};
 use verifier::verified::{Verified, verify};
 
 /// How long the longest record is.
@@ -68,19 +67,6 @@ pub enum JudgeFault {
     Verify(VerifyFault),
     /// The run is stuck at this slot. Reserved: the run of an accepted program never is.
     Stuck(usize),
-}
-
-impl Display for JudgeFault {
-    ghost output = { λ fault. Some (judge_fault_text fault) };
-
-    fn fmt<W: Write>(&self, f: &mut Formatter<W>) -> fmt::Result {
-        match self {
-            JudgeFault::BadRecord => write!(f, "BadRecord"),
-            JudgeFault::Insn(fault) => write!(f, "Insn {fault}"),
-            JudgeFault::Verify(fault) => write!(f, "Verify {fault}"),
-            JudgeFault::Stuck(slot) => write!(f, "Stuck({slot})"),
-        }
-    }
 }
 
 /// Runs a verified program on a copy of a record, and narrows what the record asks by what the run leaves.

@@ -1,19 +1,19 @@
 //! The commands that try a hook: what each answers, by values alone.
 //!
 //! `command` has them as one enum, with a function for each in `commands`; `answer` is what they answer, and `fault` why
-//! one has no answer, each with the text that it is printed as. `judge` takes a hook's bytes and a record's through the
-//! layers below, and `hex_text` reads hex as arguments and files have it. No word of a command line, no file and no status
-//! is known here.
+//! one has no answer. Each is a value that has all that is told, and its `Display` spells it. `judge` takes a hook's bytes
+//! and a record's through the layers below, and `hex_text` reads hex as arguments and files have it. No word of a command
+//! line, no file and no status is known here.
 //!
 //! `why` tells what `verifier::explain` finds, with what the manual says of a fault; `reading` names the registers that
-//! an instruction reads, `known_text` tells what is known of one, and `bytes_text` what is known of the stack's bytes that
-//! a load reads; `way` finds the jumps that lead to an instruction. `trace` tells the steps of a run, and `asking` makes
+//! an instruction reads, `known_text` spells what is known of one, and `bytes_told` tells of the stack's bytes that a load
+//! reads; `way` finds the jumps that lead to an instruction. `trace` spells the steps of a run, and `asking` makes
 //! the record that a run is tried on.
 #![tactic(auto)]
 
 pub mod answer;
 mod asking;
-mod bytes_text;
+mod bytes_told;
 pub mod command;
 mod commands;
 pub mod fault;

@@ -1,16 +1,13 @@
 //! The way to a slot: by which jumps control can come there from slot 0, going on from each slot as the walk did.
 
 ghost use Rattle.std.specs.Prelude.{◌≡◌, ◌<◌, ◌≤◌, ◌^◌, Some, None, IfOk, length, slice_index_or};
-ghost use Rattle.std.specs.Option.{option_copied};
-ghost use Rattle.std.specs.String.{string_bytes};
 ghost use Rattle.insn.specs.Program.{places, slot_count, SLOT_LIMIT};
-ghost use Rattle.hook_commands.specs.Ways.{goes_past, hop_text, hops_of, jump_target, onward_at, roads_of, unwritten_text, way_text, IsWayFound, TellsWay};
+ghost use Rattle.hook_commands.specs.Ways.{goes_past, hops_of, jump_target, onward_at, roads_of, IsToldWay, IsWayFound};
 ghost use Rattle.hook_commands.specs.WaySteps.{step_of, target_past, targets_of, where_led, AreWaySteps};
 
 use insn::instruction::Insn;
 use insn::program::Program;
 use insn::register::RegNo;
-use machine::trace::written_by;
 use std::alloc::{AllocError, Global};
 use std::fmt::{self, Display, Formatter, Write};
 use verifier::Onward;
@@ -50,7 +47,7 @@ fn onward_at(onward: &[Onward], slot: usize) -> Onward
 fn goes_past(unwritten: Option<RegNo>, onward: Onward, insn: Insn) -> bool
     ensures { result ≡ goes_past unwritten onward insn }
 {
-    let leaves = match (unwritten, written_by(insn)) {
+    let leaves = match (unwritten, insn.written_by()) {
         (Some(register), Some(written)) => written.number() != register.number(),
         _ => true,
     };
@@ -196,68 +193,48 @@ pub fn way_to(
     Ok(Some(hops))
 }
 
-/// A jump of a way.
-#[derive(Clone, Copy)]
-struct HopWords(Hop);
-
-impl Display for HopWords {
-    ghost output = { λ words. Some (hop_text words.0) };
-
-    fn fmt<W: Write>(&self, f: &mut Formatter<W>) -> fmt::Result {
-        let (from, to) = (self.0.from, self.0.to);
-        write!(f, ", {from} jumps to {to}")
-    }
+/// A way to a slot, as it is told.
+#[derive(Drop)]
+pub struct Way {
+    /// Its jumps, in order.
+    pub hops: Vec<Hop>,
+    /// The register that nothing on it writes, if one is told.
+    pub unwritten: Option<RegNo>,
 }
 
-/// That nothing writes a register, if there is one.
-#[derive(Clone, Copy)]
-struct Unwritten(Option<RegNo>);
-
-impl Display for Unwritten {
-    ghost output = { λ unwritten. Some (unwritten_text unwritten.0) };
-
+impl Display for Way {
     fn fmt<W: Write>(&self, f: &mut Formatter<W>) -> fmt::Result {
-        match self.0 {
-            Some(register) => {
-                let number = register.number();
-                write!(f, ": nothing writes r{number}")
-            }
-            None => Ok(()),
+        write!(f, "from slot 0")?;
+        for hop in &self.hops {
+            let Hop { from, to } = *hop;
+            write!(f, ", {from} jumps to {to}")?;
         }
+        if let Some(register) = self.unwritten {
+            let number = register.number();
+            write!(f, ": nothing writes r{number}")?;
+        }
+        write!(f, "\n")
     }
 }
 
-/// The line of a way on which nothing writes a register, if there is one.
-fn way_told(alloc: Global, unwritten: Option<RegNo>, hops: &[Hop]) -> Result<String, AllocError>
-    ensures { IfOk result (λ text. string_bytes text ≡ way_text unwritten hops.now) }
-{
-    let mut text = String::new(alloc);
-    write!(text, "from slot 0")?;
-    for hop in hops {
-        let words = HopWords(*hop);
-        write!(text, "{words}")?;
-    }
-    let end = Unwritten(unwritten);
-    write!(text, "{end}\n")?;
-    Ok(text)
-}
-
-/// The line of a way to a slot that the walk went: of one on which nothing writes a register, where one is named and there
-/// is such a way, and else of any; nothing where no way leads there. It fails only where memory is refused.
-pub fn way_to_told(
+/// The way to a slot that is told: one that the walk went and on which nothing writes a register, where one is named and
+/// there is such a way, and else any that the walk went; none where no way leads there. It fails only where memory is
+/// refused.
+pub fn told_way(
     alloc: Global,
     program: &Program,
     onward: &[Onward],
     unwritten: Option<RegNo>,
     slot: usize,
-) -> Result<String, AllocError>
-    ensures { IfOk result (λ text. TellsWay (roads_of program.now onward.now unwritten) slot (string_bytes text)) }
+) -> Result<Option<Way>, AllocError>
+    ensures { IfOk result (IsToldWay (roads_of program.now onward.now unwritten) slot) }
 {
     if let Some(hops) = way_to(alloc, program, onward, unwritten, slot)? {
-        return way_told(alloc, unwritten, &hops);
+        return Ok(Some(Way { hops, unwritten }));
     }
-    match way_to(alloc, program, onward, None, slot)? {
-        Some(hops) => way_told(alloc, None, &hops),
-        None => Ok(String::new(alloc)),
-    }
+    let hops = way_to(alloc, program, onward, None, slot)?;
+    Ok(hops.map(|hops| Way {
+        hops,
+        unwritten: None,
+    }))
 }

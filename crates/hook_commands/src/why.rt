@@ -1,15 +1,14 @@
-//! Why a program is refused, in words.
+//! What is told of a program that is looked at: why it is refused, or which slots nothing reaches.
 
-ghost use Rattle.std.specs.Prelude.{◌≡◌, Some, IfOk};
+ghost use Rattle.std.specs.Prelude.{◌≡◌, IfOk};
 ghost use Rattle.std.specs.Option.{option_copied};
-ghost use Rattle.std.specs.String.{string_bytes};
-ghost use Rattle.hook_commands.specs.Explanations.{acceptance_text, fault_name as spec_fault_name, head_text, line_text, reads_text, seen_text, slots_text, unset_among, unset_read, IsExplanation, IsHelp, IsLookTold, IsRefusalTold};
+ghost use Rattle.hook_commands.specs.Explanations.{fault_name as spec_fault_name, read_of, unset_among, IsExplanation, IsHelp, IsRefusalTold};
 
 use crate::answer::HookAnswer;
-use crate::bytes_text::bytes_told;
+use crate::bytes_told::{BytesTold, bytes_told};
 use crate::known_text::KnownText;
 use crate::reading::{left_read, right_read};
-use crate::way::way_to_told;
+use crate::way::{Way, told_way};
 use insn::instruction::Insn;
 use insn::layout::Layout;
 use insn::program::Program;
@@ -21,6 +20,62 @@ use std::alloc::{AllocError, Global};
 use std::fmt::{self, Display, Formatter, Write};
 use verifier::Known;
 use verifier::explain::{Finding, Refusal, explain};
+
+/// A register that an instruction reads, and what is known of it.
+#[derive(Clone, Copy)]
+pub struct ReadRegister {
+    pub register: RegNo,
+    pub known: Reg,
+}
+
+impl Display for ReadRegister {
+    fn fmt<W: Write>(&self, f: &mut Formatter<W>) -> fmt::Result {
+        let (number, known) = (self.register.number(), KnownText(self.known));
+        write!(f, "r{number}: {known}\n")
+    }
+}
+
+/// What is told of a refusal by the walk.
+#[derive(Drop)]
+pub struct RefusalTold {
+    /// The fault.
+    pub fault: VerifyFault,
+    /// The slot of the instruction that is refused.
+    pub slot: usize,
+    /// That instruction.
+    pub insn: Insn,
+    /// What is known of the register that it reads and that stands first in it.
+    pub left: Option<ReadRegister>,
+    /// What is known of the one that stands second.
+    pub right: Option<ReadRegister>,
+    /// What is known of the bytes of the stack that it reads.
+    pub bytes: Vec<BytesTold>,
+    /// A way that leads there.
+    pub way: Option<Way>,
+    /// What the manual says of the fault.
+    pub help: &'static str,
+}
+
+impl Display for RefusalTold {
+    fn fmt<W: Write>(&self, f: &mut Formatter<W>) -> fmt::Result {
+        let (fault, slot, line) = (self.fault, self.slot, Line(self.insn));
+        write!(f, "refused {fault}\n{slot}: {line}")?;
+        if let Some(left) = self.left {
+            write!(f, "{left}")?;
+        }
+        if let Some(right) = self.right {
+            write!(f, "{right}")?;
+        }
+        for bytes in &self.bytes {
+            write!(f, "{bytes}")?;
+        }
+        if let Some(way) = &self.way {
+            write!(f, "{way}")?;
+        }
+        let help = self.help;
+        write!(f, "\n{help}")
+    }
+}
 
 /// The name by which a fault is explained.
 fn fault_name(fault: VerifyFault) -> &'static str
@@ -53,157 +108,54 @@ fn help_on(fault: VerifyFault) -> &'static str
     }
 }
 
-/// The line that tells what is known of a register that is read; none where none is read.
-#[derive(Clone, Copy)]
-struct ReadLine<'k> {
-    known: &'k Known,
-    register: Option<RegNo>,
-}
-
-impl<'k> Display for ReadLine<'k> {
-    ghost output = { λ line. Some (line_text line) };
-
-    fn fmt<W: Write>(&self, f: &mut Formatter<W>) -> fmt::Result {
-        match self.register {
-            Some(register) => {
-                let (number, known) = (register.number(), KnownText(self.known.register(register)));
-                write!(f, "r{number}: {known}\n")
-            }
-            None => Ok(()),
-        }
-    }
-}
-
-/// The fault of a refusal, and its instruction behind the slot.
-#[derive(Clone, Copy)]
-struct Head {
-    fault: VerifyFault,
-    slot: usize,
-    insn: Insn,
-}
-
-impl Display for Head {
-    ghost output = { λ head. Some (head_text head.fault head.slot head.insn) };
-
-    fn fmt<W: Write>(&self, f: &mut Formatter<W>) -> fmt::Result {
-        let (fault, slot, line) = (self.fault, self.slot, Line(self.insn));
-        write!(f, "refused {fault}\n{slot}: {line}")
-    }
-}
-
-/// The lines of two registers that are read.
-#[derive(Clone, Copy)]
-struct Reads<'k> {
-    left: ReadLine<'k>,
-    right: ReadLine<'k>,
-}
-
-impl<'k> Display for Reads<'k> {
-    ghost output = { λ reads. Some (reads_text reads.left reads.right) };
-
-    fn fmt<W: Write>(&self, f: &mut Formatter<W>) -> fmt::Result {
-        let (left, right) = (self.left, self.right);
-        write!(f, "{left}{right}")
-    }
-}
-
-/// What was seen before a refused instruction: what is known of the registers and of the bytes that it reads, and the
-/// way that leads there.
-#[derive(Clone, Copy)]
-struct Seen<'k> {
-    reads: Reads<'k>,
-    bytes: &'k str,
-    way: &'k str,
-}
-
-impl<'k> Display for Seen<'k> {
-    ghost output = { λ s. Some (seen_text (reads_text s.reads.left s.reads.right) s.bytes.now s.way.now) };
-
-    fn fmt<W: Write>(&self, f: &mut Formatter<W>) -> fmt::Result {
-        let (reads, bytes, way) = (self.reads, self.bytes, self.way);
-        write!(f, "{reads}{bytes}{way}")
-    }
-}
-
-/// A line for each slot that no way reaches.
-fn slots_told(alloc: Global, slots: &[usize]) -> Result<String, AllocError>
-    ensures { IfOk result (λ text. string_bytes text ≡ slots_text slots.now) }
-{
-    let mut text = String::new(alloc);
-    for slot in slots {
-        write!(text, "no way reaches slot {slot}\n")?;
-    }
-    Ok(text)
-}
-
-/// What is told of an acceptance: how many instructions there are, and the lines of the slots that no way reaches.
-fn acceptance_told(alloc: Global, count: usize, slots: &[usize]) -> Result<String, AllocError>
-    ensures { IfOk result (λ text. string_bytes text ≡ acceptance_text count slots.now) }
-{
-    let lines = slots_told(alloc, slots)?;
-    let mut text = String::new(alloc);
-    write!(text, "accepted {count}\n{lines}")?;
-    Ok(text)
-}
-
-/// What is told of a refusal by the first look: the fault, and how to mend it.
-fn look_told(alloc: Global, fault: VerifyFault) -> Result<String, AllocError>
-    ensures { IfOk result (λ text. IsLookTold fault (string_bytes text)) }
-{
-    let help = help_on(fault);
-    let mut text = String::new(alloc);
-    write!(text, "refused {fault}\n\n{help}")?;
-    Ok(text)
-}
-
-/// The register, if it is unset.
-fn unset_among(known: &Known, register: Option<RegNo>) -> Option<RegNo>
-    ensures { result ≡ unset_among known.now register }
+/// What is known of a register that is read, if one is.
+fn read_of(known: &Known, register: Option<RegNo>) -> Option<ReadRegister>
+    ensures { result ≡ read_of known.now register }
 {
     let register = register?;
-    match known.register(register) {
+    Some(ReadRegister {
+        register,
+        known: known.register(register),
+    })
+}
+
+/// The register that is read, if it is unset.
+fn unset_among(read: Option<ReadRegister>) -> Option<RegNo>
+    ensures { result ≡ unset_among read }
+{
+    let ReadRegister { register, known } = read?;
+    match known {
         Reg::Unset => Some(register),
         Reg::Number(_) | Reg::Record(_) | Reg::Stack(_) => None,
     }
 }
 
-/// The first register that an instruction reads and that is unset.
-fn unset_read(known: &Known, insn: Insn) -> Option<RegNo>
-    ensures { result ≡ unset_read known.now insn }
-{
-    unset_among(known, left_read(insn)).or(unset_among(known, right_read(insn)))
-}
-
-/// What is told of a refusal by the walk: the fault and the instruction, what was seen before it, and how to mend it.
+/// What is told of a refusal by the walk: the fault and the instruction, what is known of what it reads, a way that leads
+/// there, on which nothing writes the first register that it finds unset, and what the manual says.
 fn refusal_told(
     alloc: Global,
     program: &Program,
     layout: Layout,
     refusal: &Refusal,
-) -> Result<String, AllocError>
-    ensures { IfOk result (λ text. IsRefusalTold layout program.now refusal.now (string_bytes text)) }
+) -> Result<RefusalTold, AllocError>
+    ensures { IfOk result (IsRefusalTold layout program.now refusal.now) }
 {
     let (fault, slot, insn) = (refusal.fault, refusal.slot, refusal.insn);
+    let left = read_of(&refusal.known, left_read(insn));
+    let right = read_of(&refusal.known, right_read(insn));
+    let unset = unset_among(left).or(unset_among(right));
     let bytes = bytes_told(alloc, layout, &refusal.known, insn)?;
-    let unset = unset_read(&refusal.known, insn);
-    let way = way_to_told(alloc, program, &refusal.onward, unset, slot)?;
-    let left = ReadLine {
-        known: &refusal.known,
-        register: left_read(insn),
-    };
-    let right = ReadLine {
-        known: &refusal.known,
-        register: right_read(insn),
-    };
-    let seen = Seen {
-        reads: Reads { left, right },
-        bytes: bytes.as_str(),
-        way: way.as_str(),
-    };
-    let (head, help) = (Head { fault, slot, insn }, help_on(fault));
-    let mut text = String::new(alloc);
-    write!(text, "{head}{seen}\n{help}")?;
-    Ok(text)
+    let way = told_way(alloc, program, &refusal.onward, unset, slot)?;
+    Ok(RefusalTold {
+        fault,
+        slot,
+        insn,
+        left,
+        right,
+        bytes,
+        way,
+        help: help_on(fault),
+    })
 }
 
 /// What is found of a program, told at length: the fault that `verify` has, what is known where it is refused, the way
@@ -216,13 +168,15 @@ pub fn explanation(
     ensures { IfOk result (IsExplanation layout program.now) }
 {
     match explain(alloc, program, layout)? {
-        Finding::Accepted(slots) => Ok(HookAnswer::Listing(acceptance_told(
-            alloc,
-            program.len(),
-            &slots,
-        )?)),
-        Finding::Looked(fault) => Ok(HookAnswer::Refusal(look_told(alloc, fault)?)),
-        Finding::Refused(refusal) => Ok(HookAnswer::Refusal(refusal_told(
+        Finding::Accepted(unreached) => Ok(HookAnswer::Reached {
+            count: program.len(),
+            unreached,
+        }),
+        Finding::Looked(fault) => Ok(HookAnswer::Looked {
+            fault,
+            help: help_on(fault),
+        }),
+        Finding::Refused(refusal) => Ok(HookAnswer::Refused(refusal_told(
             alloc, program, layout, &refusal,
         )?)),
     }

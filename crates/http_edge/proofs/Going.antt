@@ -10,7 +10,7 @@ use Rattle.endpoints.specs.BoundedLaws.{tokens_keep_their_bounds}
 use Rattle.endpoints.specs.Server.{SeenServer, Outset, FitsServer, AreUnkept, NowNotes}
 use Rattle.heads.specs.Message.{Message}
 use Rattle.heads.specs.ReadingLaws.{messages_cut, nothing_has_none}
-use Rattle.http_edge.specs.Answers.{AnsweredRequest, changes_made, draws_in, marks_in, replies_of}
+use Rattle.http_edge.specs.Answers.{AnsweredRequest, changes_made, draws_in, mishaps_in, replies_of}
 use Rattle.http_edge.specs.Schedule.{World, Connection, Piece, AnsweredPiece, Happening, Opened, Came, HasEnded, Taken, Forgotten, Kept, Happens, Run, ended, has_stream_ended, is_closing_phase, first_world, resumed, fresh, heard, with_connection, without_connection, moment_after, faulty_if}
 use Rattle.http_edge.specs.Lanes.{SeenLane, lane_at, ShowsConnection, ShowsConnections}
 use Rattle.http_edge.specs.LanesParts.{with_lane, without_lane, fresh_lane}
@@ -186,10 +186,10 @@ on_passed hosting sources edge edge' piece lane source source' same lanes here c
   leads = λ journey reached.
       let at = shows_here edge.lanes journey.world.connections piece.connection lane reached.shows here in
       record {
-        marks = [];
+        mishaps = [];
         closes = false;
         on = goes_on hosting edge edge' journey journey.world.connections _ reached same (shows_as _ _ _ lanes reached.shows)
-            (short, inr (record { before = at.0; here = at.1; is_closing = sym at.2.phase ∙ closing; no_marks = refl; no_more = refl; same = refl }));
+            (short, inr (record { before = at.0; here = at.1; is_closing = sym at.2.phase ∙ closing; no_mishaps = refl; no_more = refl; same = refl }));
       };
   source_is = undrawn;
 }
@@ -239,7 +239,7 @@ leads_heard hosting sources edge edge' piece lane lane' source source' here is_o
     let m = moment_after world.greatest piece.moment messages in
     let k' = heard k piece.bytes messages served.requests closes in
     let world' : World = record { connections = with_connection c k' world.connections; greatest = m; history = with_changes world.history m (changes_made served.requests); kept = world.kept } in
-    let came : AnsweredPiece = record { piece = piece; draws = draws_for sources source messages; marks = marks_in served.requests; closes = closes } in
+    let came : AnsweredPiece = record { piece = piece; draws = draws_for sources source messages; mishaps = mishaps_in served.requests; closes = closes } in
     let happens : Happens hosting journey.outset world (Came came) world' = (
       short,
       inl (record {
@@ -254,7 +254,7 @@ leads_heard hosting sources edge edge' piece lane lane' source source' here is_o
         asked = served.asked;
         left = [];
         draws = served.draws ∙ sym (append-nil (draws_in served.requests));
-        marks = refl;
+        mishaps = refl;
         answered = served.answered;
         may_tell = hears.read.may_tell;
         must_tell = hears.read.must_tell;
@@ -267,7 +267,7 @@ leads_heard hosting sources edge edge' piece lane lane' source source' here is_o
     let shown : ShowsConnection lane' k' =
     shows_heard lane lane' k piece.bytes messages served.requests hears.middle closes opened shows hears.number_is hears.read (hears.phase_is ∙ ap (λ (p : Phase). cond closes Closing p) is_open) hears.output_is served.output_is in
     record {
-      marks = marks_in served.requests;
+      mishaps = mishaps_in served.requests;
       closes = closes;
       on = record {
         world = world';

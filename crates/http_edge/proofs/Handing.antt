@@ -5,7 +5,7 @@ use Rattle.hook_host.specs.declared.host.HookHost.{Ghosts as Hosting}
 use Rattle.messages.specs.declared.request.Draws.{Draws}
 use Rattle.endpoints.specs.Server.{Outset}
 use Rattle.heads.specs.Message.{Message}
-use Rattle.http_edge.specs.Answers.{AnswerMark, draws_in}
+use Rattle.http_edge.specs.Answers.{Mishap, draws_in}
 use Rattle.http_edge.specs.Schedule.{World, Piece, Came, Happens, PieceComes, PiecePasses, first_world}
 use Rattle.http_edge.specs.Edges.{SeenEdge}
 use Rattle.http_edge.specs.Reached.{Journey, Reached, PieceGoesOn, PieceLeads}
@@ -21,10 +21,10 @@ list_draws [] (x ∷ messages) enough = absurd (omega (arith, enough))
 list_draws (d ∷ draws) (x ∷ messages) enough = ap (λ (ds : List Draws). d ∷ ds) (list_draws draws messages (omega (arith, enough)))
 
 module _ {H : Type 0} (hosting : Hosting H) (piece : Piece) (draws more : List Draws) where
-  comes_beside : (outset : Outset H) (old new : World) (marks : List AnswerMark) (closes : Bool) →
-      PieceComes hosting outset old (record { piece = piece; draws = draws; marks = marks; closes = closes }) new →
-      PieceComes hosting outset old (record { piece = piece; draws = draws ++ more; marks = marks; closes = closes }) new
-  comes_beside outset old new marks closes comes = record {
+  comes_beside : (outset : Outset H) (old new : World) (mishaps : List Mishap) (closes : Bool) →
+      PieceComes hosting outset old (record { piece = piece; draws = draws; mishaps = mishaps; closes = closes }) new →
+      PieceComes hosting outset old (record { piece = piece; draws = draws ++ more; mishaps = mishaps; closes = closes }) new
+  comes_beside outset old new mishaps closes comes = record {
     before = comes.before;
     here = comes.here;
     is_open = comes.is_open;
@@ -36,7 +36,7 @@ module _ {H : Type 0} (hosting : Hosting H) (piece : Piece) (draws more : List D
     asked = comes.asked;
     left = comes.left ++ more;
     draws = ap (λ (ds : List Draws). ds ++ more) comes.draws ∙ append_assoc (draws_in comes.requests) comes.left more;
-    marks = comes.marks;
+    mishaps = comes.mishaps;
     answered = comes.answered;
     may_tell = comes.may_tell;
     must_tell = comes.must_tell;
@@ -46,25 +46,25 @@ module _ {H : Type 0} (hosting : Hosting H) (piece : Piece) (draws more : List D
     connections = comes.connections;
   }
 
-  passes_beside : (old new : World) (marks : List AnswerMark) (closes : Bool) → PiecePasses old (record { piece = piece; draws = draws; marks = marks; closes = closes }) new →
-      PiecePasses old (record { piece = piece; draws = draws ++ more; marks = marks; closes = closes }) new
-  passes_beside old new marks closes passes =
-      record { before = passes.before; here = passes.here; is_closing = passes.is_closing; no_marks = passes.no_marks; no_more = passes.no_more; same = passes.same }
+  passes_beside : (old new : World) (mishaps : List Mishap) (closes : Bool) → PiecePasses old (record { piece = piece; draws = draws; mishaps = mishaps; closes = closes }) new →
+      PiecePasses old (record { piece = piece; draws = draws ++ more; mishaps = mishaps; closes = closes }) new
+  passes_beside old new mishaps closes passes =
+      record { before = passes.before; here = passes.here; is_closing = passes.is_closing; no_mishaps = passes.no_mishaps; no_more = passes.no_more; same = passes.same }
 
   -- a piece that leads on with some draws does so with more
   leads_beside : (edge edge' : SeenEdge H) (journey : Journey H) → Reached hosting edge journey →
       PieceGoesOn hosting edge' journey piece draws → PieceGoesOn hosting edge' journey piece (draws ++ more)
   leads_beside edge edge' journey reached goes =
       let on = goes.on in
-      let happens : Happens hosting journey.outset journey.world (Came (record { piece = piece; draws = draws ++ more; marks = goes.marks; closes = goes.closes })) on.world = (
+      let happens : Happens hosting journey.outset journey.world (Came (record { piece = piece; draws = draws ++ more; mishaps = goes.mishaps; closes = goes.closes })) on.world = (
         on.happens.0,
         elim on.happens.1 [
-          | inl comes ↦ inl (comes_beside journey.outset journey.world on.world goes.marks goes.closes comes)
-          | inr passes ↦ inr (passes_beside journey.world on.world goes.marks goes.closes passes)
+          | inl comes ↦ inl (comes_beside journey.outset journey.world on.world goes.mishaps goes.closes comes)
+          | inr passes ↦ inr (passes_beside journey.world on.world goes.mishaps goes.closes passes)
         ],
       ) in
       record {
-        marks = goes.marks;
+        mishaps = goes.mishaps;
         closes = goes.closes;
         on = record {
           world = on.world;

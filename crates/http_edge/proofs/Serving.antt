@@ -71,7 +71,7 @@ served_more hosting before server server' output out g moment messages draws rs 
       moment = m;
       draws = d;
     }) (asked_of_message message) in
-    let r : AnsweredRequest = record { asked = asked_of_message message; draws = d; mark = record { refused = step.0; fault = step.1 }; outcome = o } in
+    let r : AnsweredRequest = record { asked = asked_of_message message; draws = d; mishap = record { refused = step.0; fault = step.1 }; outcome = o } in
     let done : IsStep hosting (record { server = server; outset = before.outset; history = h; moment = m }) o reply server' = rw later at step.3 in
     let is : IsOutcomeOfRequest hosting before.outset m h r = record { host = server.host; comes = fits.hosts; fault = step.2; outcome_is = refl; after = server'.host; changes = done.hosts } in
     let joined = changes_join before.history m (changes_made rs) o.changes ∙ ap (with_changes before.history m) (sym (changes_push rs r)) in

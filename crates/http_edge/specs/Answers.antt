@@ -13,9 +13,9 @@ use Rattle.endpoints.specs.Replies.{request_outcome, hook_change}
 use Rattle.endpoints.specs.Server.{Outset}
 use Rattle.heads.specs.Message.{Message, asked_of_message}
 
--- what is free in the answer to a request: whether memory was refused for it at its endpoint, and the fault, if any, that the host had
+-- what may go wrong in the answer to a request: whether memory was refused for it at its endpoint, and the fault, if any, that the host had
 -- for the change that it asks for
-pub record AnswerMark : Type 0 where
+pub record Mishap : Type 0 where
   pub refused : Bool
   pub fault : Option HookFault
 
@@ -23,7 +23,7 @@ pub record AnswerMark : Type 0 where
 pub record AnsweredRequest : Type 0 where
   pub asked : Asked
   pub draws : Draws
-  pub mark : AnswerMark
+  pub mishap : Mishap
   pub outcome : Outcome
 
 -- The request has its outcome at the history, by what a host says that comes of the first one by that history. By the outcome's
@@ -32,11 +32,11 @@ pub record IsOutcomeOfRequest {H : Type 0} (hosting : Hosting H) (outset : Outse
     Type 0 where
   pub host : H
   pub comes : HostRun hosting outset.first history host
-  pub fault : IsHostFault hosting host (hook_change request.asked) request.mark.fault
-  pub outcome_is : request.outcome ≡ request_outcome request.mark.refused (record {
+  pub fault : IsHostFault hosting host (hook_change request.asked) request.mishap.fault
+  pub outcome_is : request.outcome ≡ request_outcome request.mishap.refused (record {
     rules = outset.rules;
     history = history;
-    host = says_with hosting host request.mark.fault;
+    host = says_with hosting host request.mishap.fault;
     moment = m;
     draws = request.draws;
   }) request.asked
@@ -53,12 +53,12 @@ AreAnswered hosting outset m history (request ∷ requests) =
 abbrev pub AreAskedBy : List Message → List AnsweredRequest → Type 0
 AreAskedBy messages requests = map (λ r. r.asked) requests ≡ map asked_of_message messages
 
--- their draws, and their marks
+-- their draws, and their mishaps
 abbrev pub draws_in : List AnsweredRequest → List Draws
 draws_in requests = map (λ r. r.draws) requests
 
-abbrev pub marks_in : List AnsweredRequest → List AnswerMark
-marks_in requests = map (λ r. r.mark) requests
+abbrev pub mishaps_in : List AnsweredRequest → List Mishap
+mishaps_in requests = map (λ r. r.mishap) requests
 
 -- all that the requests change
 abbrev pub changes_made : List AnsweredRequest → List Change

@@ -17,5 +17,6 @@ pub mod FaultTexts
 -- What only the contracts of this crate's own parts and their proofs cite.
 pub mod LanesParts
 pub mod PlacesParts
+pub mod Rests
 pub mod Heard
 pub mod EdgesParts

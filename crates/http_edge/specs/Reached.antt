@@ -6,7 +6,7 @@ use Rattle.messages.specs.declared.request.Draws.{Draws}
 use Rattle.endpoints.specs.Server.{SeenServer, Outset, FitsServer, Notes}
 use Rattle.heads.specs.Message.{Messages}
 use Rattle.endpoints.specs.Bounded.{IsBounded}
-use Rattle.http_edge.specs.Answers.{AnswerMark}
+use Rattle.http_edge.specs.Answers.{Mishap}
 use Rattle.http_edge.specs.Schedule.{World, Connection, Piece, Happening, Came, Resumed, Happens, Run, is_closing_phase, first_world, resumed}
 use Rattle.http_edge.specs.Lanes.{ShowsConnections}
 use Rattle.http_edge.specs.Edges.{SeenEdge}
@@ -66,13 +66,13 @@ pub record GoesOn {H : Type 0} (hosting : Hosting H) (edge : SeenEdge H) (journe
 abbrev pub HappeningLeads : {H : Type 0} → Hosting H → SeenEdge H → SeenEdge H → Happening → Type 0
 HappeningLeads hosting old new e = (journey : Journey _) → Reached hosting old journey → GoesOn hosting new journey e
 
--- a piece with some marks leads on
+-- a piece with some mishaps leads on
 pub record PieceGoesOn {H : Type 0} (hosting : Hosting H) (edge : SeenEdge H) (journey : Journey H) (piece : Piece) (draws : List Draws) : Type 0 where
-  pub marks : List AnswerMark
+  pub mishaps : List Mishap
   pub closes : Bool
-  pub on : GoesOn hosting edge journey (Came (record { piece = piece; draws = draws; marks = marks; closes = closes }))
+  pub on : GoesOn hosting edge journey (Came (record { piece = piece; draws = draws; mishaps = mishaps; closes = closes }))
 
--- wherever the one edge was reached, the piece leads to the other, with some marks
+-- wherever the one edge was reached, the piece leads to the other, with some mishaps
 abbrev pub PieceLeads : {H : Type 0} → Hosting H → SeenEdge H → SeenEdge H → Piece → List Draws → Type 0
 PieceLeads hosting old new piece draws = (journey : Journey _) → Reached hosting old journey → PieceGoesOn hosting new journey piece draws
 

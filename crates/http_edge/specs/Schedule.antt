@@ -9,7 +9,7 @@ use Rattle.endpoints.specs.Bounded.{AllRight}
 use Rattle.endpoints.specs.Server.{Outset}
 use Rattle.heads.specs.Message.{Message, Messages, IsHopeless, MustTell, MayTell}
 use Rattle.http_edge.specs.Limits.{connection_limit, piece_limit, request_limit}
-use Rattle.http_edge.specs.Answers.{AnswerMark, AnsweredRequest, AreAnswered, AreAskedBy, draws_in, marks_in, changes_made, replies_of}
+use Rattle.http_edge.specs.Answers.{Mishap, AnsweredRequest, AreAnswered, AreAskedBy, draws_in, mishaps_in, changes_made, replies_of}
 use Rattle.http_edge.specs.declared.lane.Phase.{Phase}
 use Rattle.http_edge.specs.declared.lane.Phase.TheVariants.{Open, Closing, Ended, Closed}
 
@@ -22,12 +22,12 @@ pub record Piece : Type 0 where
 abbrev pub piece_of : ℕ → List ℕ → ℕ → Piece
 piece_of c bytes moment = record { connection = c; bytes = bytes; moment = moment }
 
--- a piece that was answered: with draws for the requests that it completed, and with what was free, which is a mark for each
+-- a piece that was answered: with draws for the requests that it completed, and with what was free, which is a mishap for each
 -- of these, and whether the 400 of a faulty head was given
 pub record AnsweredPiece : Type 0 where
   pub piece : Piece
   pub draws : List Draws
-  pub marks : List AnswerMark
+  pub mishaps : List Mishap
   pub closes : Bool
 
 -- an accepted event
@@ -145,7 +145,7 @@ pub record PieceComes {H : Type 0} (hosting : Hosting H) (outset : Outset H) (ol
   -- draws may be left
   pub left : List Draws
   pub draws : came.draws ≡ draws_in requests ++ left
-  pub marks : came.marks ≡ marks_in requests
+  pub mishaps : came.mishaps ≡ mishaps_in requests
   pub answered : AreAnswered hosting outset new.greatest old.history requests
   -- a faulty head is told of only where nothing good can come and it may be, and at the latest where it must be
   pub may_tell : came.closes ≡ true → IsHopeless rest × MayTell rest
@@ -167,7 +167,7 @@ pub record PiecePasses (old : World) (came : AnsweredPiece) (new : World) : Type
   pub before : Connection
   pub here : connection_at old.connections came.piece.connection ≡ Some before
   pub is_closing : before.phase ≡ Closing
-  pub no_marks : came.marks ≡ []
+  pub no_mishaps : came.mishaps ≡ []
   pub no_more : came.closes ≡ false
   pub same : new ≡ old
 

@@ -4,6 +4,7 @@ ghost use Rattle.heads.specs.Scan.{IsScan};
 ghost use Rattle.http_edge.specs.Limits.{piece_limit, request_limit, room_to_hear};
 ghost use Rattle.http_edge.specs.Schedule.{faulty_if};
 ghost use Rattle.http_edge.specs.Supply.{Suffices};
+ghost use Rattle.http_edge.specs.Rests.{seen_rest};
 ghost use Rattle.http_edge.specs.Heard.{IsHeard, IsHearingRefusal, timed_bytes, hearing, reply_room};
 ghost use Rattle.http_edge.specs.declared.lane.Phase.TheVariants.{Closing};
 ghost use Rattle.http_edge.specs.declared.fault.EdgeFault.TheVariants.{Memory};
@@ -60,14 +61,14 @@ fn make_room<S: DrawSource>(output: &mut Vec<u8>, scan: &Scan, source: &S) -> Re
 // Keeps what was not read, and nothing behind a faulty head.
 fn keep_rest(rest: &mut Rest, bytes: &[u8], scan: &Scan) -> Result<(), AllocError>
     requires { IsScan bytes.now scan.now }
-    ensures ok { OnOk result (rest.new ≡ (if scan.now.faulty then [] else drop scan.now.end bytes.now)) }
+    ensures ok { OnOk result (rest.new ≡ seen_rest (if scan.now.faulty then [] else drop scan.now.end bytes.now) scan.now.waits) }
     ensures err { OnErr result (rest.new ≡ rest.old) }
 {
     if scan.faulty {
         rest.clear();
         return Ok(());
     }
-    rest.replace(&bytes[scan.end..], scan.wanted)
+    rest.replace(&bytes[scan.end..], scan.waits)
 }
 
 fn tell(output: &mut Vec<u8>, faulty: bool)
@@ -124,8 +125,8 @@ fn answer_bytes<H: HookHost, S: DrawSource>(
     Ok(())
 }
 
-/// Reads the lane's rest and the piece, and answers the requests in them. The two lie together in `work` meanwhile, which has
-/// room for them and is empty before and after. After a faulty head was told of the lane is closing.
+/// Reads the lane's rest and the piece, and answers the requests in them. Where there is a rest, the two lie together in `work`
+/// meanwhile, which has room for them and is empty before and after. After a faulty head was told of the lane is closing.
 pub(crate) fn hear<H: HookHost, S: DrawSource>(
     server: &mut Server<H>,
     work: &mut Vec<u8>,
@@ -151,6 +152,9 @@ pub(crate) fn hear<H: HookHost, S: DrawSource>(
     };
     if waits {
         return Ok(());
+    }
+    if lane.rest.is_empty() {
+        return answer_bytes(server, piece, lane, moment, source);
     }
     put(work, lane.rest.as_slice());
     put(work, piece);

@@ -66,5 +66,5 @@ impl Model for Lane {
 
     ghost Value = { SeenLane };
 
-    ghost view = { λ l. record { number = l.number; phase = l.phase; rest = l.rest; output = l.output.items } };
+    ghost view = { λ l. record { number = l.number; phase = l.phase; rest = l.rest.bytes; output = l.output.items } };
 }

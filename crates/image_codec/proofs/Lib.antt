@@ -1,5 +1,1 @@
-pub mod Lists
 pub mod Loops
-pub mod Chains
-pub mod Fields
-pub mod Images

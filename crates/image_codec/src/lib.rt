@@ -20,14 +20,11 @@
 //! the scope (wide). A token takes 72 bytes, or 80 where a code opened its family.
 #![tactic(auto)]
 
-mod decoding;
-mod encoding;
+mod counting;
 mod image;
 mod laws;
+mod whole;
 
-pub use change_codec::{ChangeFault, DecodeFault, EncodeFault};
-pub use consent::KeptConsent;
-pub use decoding::{decode, decode_rules};
-pub use encoding::{encode, encode_rules};
 pub use image::{ClientRules, Image, KeptHook, Rules};
-pub use laws::{bytes_spell_one_image, bytes_tell_one_rules, facts_say_what_is_kept};
+pub use laws::{bytes_spell_one_image, bytes_tell_one_rules};
+pub use whole::{decode, decode_rules, encode, encode_rules};

@@ -23,14 +23,11 @@ pub mod FirstLook
 pub mod Refusals
 pub mod FaultTexts
 pub mod PossibleStates
--- Working definitions of proofs, which say of parts what Outcomes says of the whole, and laws, each proved: a reader may skip them.
-pub mod Workings
-pub mod Tests
+-- Laws, each proved: a reader may skip them.
 pub mod WordLaws
 pub mod SlotLaws
 pub mod MemoryLaws
 pub mod PointerLaws
 pub mod StateLaws
-pub mod FaultLaws
 pub mod OutcomeLaws
 pub mod RunLaws

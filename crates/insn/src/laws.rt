@@ -9,8 +9,6 @@ ghost use Rattle.insn.specs.declared.state.Cell.{Cell};
 ghost use Rattle.insn.specs.declared.state.Pointer.{Pointer};
 ghost use Rattle.insn.specs.declared.state.Value.TheVariants.{Address};
 ghost use Rattle.insn.specs.Outcomes.{effect, fault_at};
-ghost use Rattle.insn.specs.Tests.{first_of, tests_of};
-ghost use Rattle.insn.specs.Workings.{done_by};
 ghost use Rattle.insn.specs.FirstLook.{written_by};
 ghost use Rattle.insn.specs.Memory.{parts_of, value_in};
 ghost use Rattle.insn.specs.Instruction.{Fits};
@@ -36,13 +34,6 @@ pub fn runs_reach_states()
 pub fn faults_are_named()
     ensures { (layout : Layout) (i : Insn) (s : State) → written_by i ≢ Some R10 →
         effect layout i s ≡ None ↔ IsSome (fault_at layout i s) }
-{}
-
-/// The working definitions of proofs are the two halves of outcomes: what is done of an instruction is its effect, and the
-/// first of its tests that fails is its fault.
-pub fn working_definitions_are_outcomes()
-    ensures { (layout : Layout) (i : Insn) (s : State) →
-        (done_by layout i s ≡ effect layout i s) × (first_of (tests_of layout i s) ≡ fault_at layout i s) }
 {}
 
 /// A run has one end: one exit, or one place at which it is stuck.

@@ -10,8 +10,7 @@ use Rattle.insn.specs.declared.operation.Width.TheVariants.{W64}
 use Rattle.insn.specs.declared.operation.BinOp.{BinOp}
 use Rattle.insn.specs.declared.operation.BinOp.TheVariants.{Add, Sub, Mov}
 use Rattle.insn.specs.declared.operation.UnOp.{UnOp}
-use Rattle.range.specs.Domain.{unary_result}
-use Rattle.insn.specs.Word.{word_result}
+use Rattle.insn.specs.Word.{unary_result, word_result}
 use Rattle.known_bits.specs.declared.bits.KnownBits.{KnownBits}
 use Rattle.known_bits.specs.Members.{HasBits}
 use Rattle.known_bits.specs.Exact.{Gives, IsExact, IsExactImage, carry}

@@ -5,8 +5,7 @@ use Rattle.insn.specs.declared.operation.Width.{Width}
 use Rattle.insn.specs.declared.operation.BinOp.{BinOp}
 use Rattle.insn.specs.declared.operation.BinOp.TheVariants.{Add, Sub, Mul, Div, Sdiv, Or, And, Lsh, Rsh, Mod, Smod, Xor, Mov, Arsh}
 use Rattle.insn.specs.declared.operation.UnOp.{UnOp}
-use Rattle.insn.specs.Word.{word_result}
-use Rattle.range.specs.Domain.{unary_result}
+use Rattle.insn.specs.Word.{unary_result, word_result}
 use Rattle.known_bits.specs.declared.bits.KnownBits.{KnownBits}
 use Rattle.known_bits.specs.Members.{HasBits}
 

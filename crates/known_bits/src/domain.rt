@@ -3,7 +3,8 @@
 ghost use Rattle.std.specs.Prelude.{◌≡◌, ℕ, IsTrue, IsNone, IfSome};
 ghost use Rattle.range.specs.Conditions.{says_equal};
 ghost use Rattle.range.specs.Sets.{AreWithin};
-ghost use Rattle.range.specs.Domain.{IsJoin, IsRefined, IsSingle, IsSoundResult, IsSingleResult, IsSoundImage, IsSingleImage, unary_result};
+ghost use Rattle.insn.specs.Word.{unary_result};
+ghost use Rattle.range.specs.Domain.{IsJoin, IsRefined, IsSingle, IsSoundResult, IsSingleResult, IsSoundImage, IsSingleImage};
 
 use crate::bits::KnownBits;
 use insn::operation::{BinOp, Cond, UnOp, Width};

@@ -1,4 +1,5 @@
 pub mod Numbers
+pub mod Passing
 pub mod Writing
 pub mod Runs
 pub mod Telling

@@ -1,16 +1,14 @@
 -- Where a run is, where the code keeps the rest of the program in place of a slot.
-use Rattle.std.proofs.Common.{◌≡◌, ℕ, ◌+◌, ◌-◌, ◌≤◌, ◌<◌, ℤ, List, [], ◌∷◌, length, take, drop, get_or, Option, Some, None, refl, sym, ap, ◌∙◌, arith}
+use Rattle.std.proofs.Common.{◌≡◌, ℕ, ◌+◌, ◌-◌, ◌≤◌, ◌<◌, ℤ, List, [], ◌∷◌, length, take, drop, get_or, Some, None, refl, sym, ap, arith}
 use Rattle.insn.specs.declared.instruction.Insn.{Insn}
 use Rattle.insn.specs.declared.layout.Layout.{Layout}
 use Rattle.insn.specs.Instruction.{slots_of}
 use Rattle.insn.specs.Program.{begins_at, places, slot_count}
 use Rattle.insn.specs.SlotLaws.{slots_of_bounds}
 use Rattle.insn.specs.Values.{State, Config, entry}
-use Rattle.insn.specs.Effects.{Effect, Falls, Jumps, Exits}
+use Rattle.insn.specs.Effects.{Falls, Jumps, Exits}
 use Rattle.insn.specs.Jumps.{target}
 use Rattle.insn.specs.Outcomes.{effect}
-use Rattle.insn.specs.OutcomeLaws.{effect_is_done}
-use Rattle.insn.specs.Workings.{done_by}
 use Rattle.insn.specs.Step.{IsStuckAt, Reaches, IsExit, IsStuck}
 use Rattle.insn.specs.RunLaws.{StandsAt, begins_here, begins_nowhere, stands_behind, stands_further, stands_inside, target_along, first_rest, step_falls, step_jumps, stuck_effect, stuck_jump, exits_here, stuck_past, run_goes_on}
 
@@ -56,33 +54,30 @@ module _ {layout : Layout} {program : List Insn} {bytes : List ℕ} {slot n : �
   stuck : (left : State) → IsStuckAt layout program here → left ≡ s → IsStuck layout program bytes slot left.bytes
   stuck left at same = record { before = n; last = here; reached = h.reached; stuck = at; place = refl; left = ap (λ (x : State). x.bytes) (sym same) }
 
-  does : {e : Option Effect} → done_by layout first s ≡ e → effect layout first s ≡ e
-  does is = effect_is_done layout first s ∙ is
+  pub stuck_here : (left : State) → effect layout first s ≡ None → left ≡ s → IsStuck layout program bytes slot left.bytes
+  stuck_here left e same = stuck left (stuck_effect layout program slot s first begins e) same
 
-  pub stuck_here : (left : State) → done_by layout first s ≡ None → left ≡ s → IsStuck layout program bytes slot left.bytes
-  stuck_here left e same = stuck left (stuck_effect layout program slot s first begins (does e)) same
-
-  pub jumps_nowhere : (k : ℤ) (left : State) → done_by layout first s ≡ Some (Jumps k left) → left ≡ s → None ≡ target others 0 k → IsStuck layout program bytes slot left.bytes
+  pub jumps_nowhere : (k : ℤ) (left : State) → effect layout first s ≡ Some (Jumps k left) → left ≡ s → None ≡ target others 0 k → IsStuck layout program bytes slot left.bytes
   jumps_nowhere k left e same t =
       let none : target program (slot + slots_of first) k ≡ None = rw (target_along program (slot + slots_of first) others k behind, ← t) refl in
-      stuck left (stuck_jump layout program slot s first begins k left (does e) none) same
+      stuck left (stuck_jump layout program slot s first begins k left e none) same
 
-  pub exits : (r0 : ℕ) (left : State) → done_by layout first s ≡ Some (Exits r0) → left ≡ s → IsExit layout program bytes r0 (n + 1) left.bytes
+  pub exits : (r0 : ℕ) (left : State) → effect layout first s ≡ Some (Exits r0) → left ≡ s → IsExit layout program bytes r0 (n + 1) left.bytes
   exits r0 left e same =
-      record { before = n; last = here; counted = refl; reached = h.reached; exits = exits_here layout program slot s first begins r0 (does e); left = ap (λ (x : State). x.bytes) (sym same) }
+      record { before = n; last = here; counted = refl; reached = h.reached; exits = exits_here layout program slot s first begins r0 e; left = ap (λ (x : State). x.bytes) (sym same) }
 
-  pub falls : (s' : State) → done_by layout first s ≡ Some (Falls s') → IsAt layout program bytes (slot + slots_of first) (n + 1) others s'
+  pub falls : (s' : State) → effect layout first s ≡ Some (Falls s') → IsAt layout program bytes (slot + slots_of first) (n + 1) others s'
   falls s' e = record {
     stands = behind;
     few = let b = slots_of_bounds first in omega (arith, h.few);
-    reached = run_goes_on layout program bytes n here (record { slot = slot + slots_of first; state = s' }) h.reached (step_falls layout program slot s first begins s' (does e));
+    reached = run_goes_on layout program bytes n here (record { slot = slot + slots_of first; state = s' }) h.reached (step_falls layout program slot s first begins s' e);
   }
 
-  pub jumps : (k : ℤ) (s' : State) (passed : ℕ) (there : List Insn) → done_by layout first s ≡ Some (Jumps k s') → Some passed ≡ target others 0 k → places there ≡ drop passed (places others) → IsAt layout program bytes (slot + slots_of first + passed) (n + 1) there s'
+  pub jumps : (k : ℤ) (s' : State) (passed : ℕ) (there : List Insn) → effect layout first s ≡ Some (Jumps k s') → Some passed ≡ target others 0 k → places there ≡ drop passed (places others) → IsAt layout program bytes (slot + slots_of first + passed) (n + 1) there s'
   jumps k s' passed there e t p =
       let to : target program (slot + slots_of first) k ≡ Some (slot + slots_of first + passed) = rw (target_along program (slot + slots_of first) others k behind, ← t) refl in
       record {
         stands = stands_further program (slot + slots_of first) passed others there behind p;
         few = let b = slots_of_bounds first in omega (arith, h.few);
-        reached = run_goes_on layout program bytes n here (record { slot = slot + slots_of first + passed; state = s' }) h.reached (step_jumps layout program slot s first begins k s' (slot + slots_of first + passed) (does e) to);
+        reached = run_goes_on layout program bytes n here (record { slot = slot + slots_of first + passed; state = s' }) h.reached (step_jumps layout program slot s first begins k s' (slot + slots_of first + passed) e to);
       }

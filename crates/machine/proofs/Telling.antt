@@ -9,8 +9,7 @@ use Rattle.insn.specs.Program.{places}
 use Rattle.insn.specs.Values.{◌>>=◌, State, Config, start}
 use Rattle.insn.specs.Effects.{Falls, Jumps, Exits}
 use Rattle.insn.specs.Jumps.{target}
-use Rattle.insn.specs.OutcomeLaws.{effect_is_done}
-use Rattle.insn.specs.Workings.{done_by}
+use Rattle.insn.specs.Outcomes.{effect}
 use Rattle.insn.specs.Step.{steps, Reaches, IsExit}
 use Rattle.machine.specs.declared.trace.Traced.{Traced}
 use Rattle.machine.specs.Trace.{AreSteps, traced_at, written_value}
@@ -59,22 +58,22 @@ module _ (layout : Layout) (program : List Insn) (bytes : List ℕ) (slot : ℕ)
   more t after e is = rw e (one_told layout program bytes told t (record { slot = slot; state = s }) h.so_far h.at.reached is)
 
   -- goes on behind the instruction
-  pub told_falls : (s' : State) (after : List Traced) → done_by layout now s ≡ Some (Falls s') → after ≡ told ++ record { slot = slot; insn = now; written = written_value now s'.registers } ∷ [] → IsToldAt layout program bytes (slot + slots_of now) later s' after
+  pub told_falls : (s' : State) (after : List Traced) → effect layout now s ≡ Some (Falls s') → after ≡ told ++ record { slot = slot; insn = now; written = written_value now s'.registers } ∷ [] → IsToldAt layout program bytes (slot + slots_of now) later s' after
   told_falls s' after e is = record {
     at = rw (← longer _ after is) (falls d some h.at s' e);
-    so_far = more _ after is (rw (begins d some h.at, effect_is_done layout now s, e) refl);
+    so_far = more _ after is (rw (begins d some h.at, e) refl);
   }
 
   -- goes on where a jump leads
-  pub told_jumps : (k : ℤ) (s' : State) (passed : ℕ) (there : List Insn) (after : List Traced) → done_by layout now s ≡ Some (Jumps k s') → Some passed ≡ target later 0 k → places there ≡ drop passed (places later)
+  pub told_jumps : (k : ℤ) (s' : State) (passed : ℕ) (there : List Insn) (after : List Traced) → effect layout now s ≡ Some (Jumps k s') → Some passed ≡ target later 0 k → places there ≡ drop passed (places later)
       → after ≡ told ++ record { slot = slot; insn = now; written = None } ∷ [] → IsToldAt layout program bytes (slot + slots_of now + passed) there s' after
   told_jumps k s' passed there after e t p is = record {
     at = rw (← longer _ after is) (jumps d some h.at k s' passed there e t p);
-    so_far = more _ after is (rw (begins d some h.at, effect_is_done layout now s, e) refl);
+    so_far = more _ after is (rw (begins d some h.at, e) refl);
   }
 
   -- the exit is told, and is the last
-  pub told_exits : (r0 : ℕ) (left : State) (after : List Traced) → done_by layout now s ≡ Some (Exits r0) → left ≡ s → after ≡ told ++ record { slot = slot; insn = now; written = None } ∷ []
+  pub told_exits : (r0 : ℕ) (left : State) (after : List Traced) → effect layout now s ≡ Some (Exits r0) → left ≡ s → after ≡ told ++ record { slot = slot; insn = now; written = None } ∷ []
       → IsExit layout program bytes r0 (length after) left.bytes × AreSteps layout program bytes after
   told_exits r0 left after e same is =
-      (rw (← longer _ after is) (exits d some h.at r0 left e same), more _ after is (rw (begins d some h.at, effect_is_done layout now s, e) refl))
+      (rw (← longer _ after is) (exits d some h.at r0 left e same), more _ after is (rw (begins d some h.at, e) refl))

@@ -1,15 +1,19 @@
 //! Where accesses lie, and what bytes of the record hold.
 
 ghost use Rattle.std.specs.Prelude.{◌≡◌, ◌+◌, ◌≤◌, length, map, IfSome};
+ghost use Rattle.std.specs.Option.{option_map};
+ghost use Rattle.insn.specs.Instruction.{size_bytes};
 ghost use Rattle.insn.specs.Memory.{is_writable as spec_writable, may_hold as spec_may_hold, value_in, within};
+ghost use Rattle.insn.specs.Outcomes.{access_place as spec_place, passed};
+ghost use Rattle.insn.specs.Values.{at as spec_at, region_size};
 
 use crate::cells::{cells_from, value};
 use insn::layout::Layout;
 use insn::operation::Size;
-use insn::state::{Cell, Region, Value};
+use insn::state::{Cell, Pointer, Region, Value};
 
 /// Where some bytes from a place on begin, where all lie below a size.
-pub fn within_size(size: usize, place: i64, count: usize) -> Option<usize>
+fn within_size(size: usize, place: i64, count: usize) -> Option<usize>
     requires { count ≤ 8 }
     ensures value { result ≡ within size place count }
     ensures inside { IfSome result (λ at. at + count ≤ size) }
@@ -19,6 +23,15 @@ pub fn within_size(size: usize, place: i64, count: usize) -> Option<usize>
     }
     let at = place as usize;
     if at + count <= size { Some(at) } else { None }
+}
+
+/// Where an access begins, so far behind a pointer or before it, where all its bytes lie in the pointer's region.
+pub fn access_place(layout: Layout, pointer: Pointer, offset: i16, size: Size) -> Option<usize>
+    ensures value { option_map (spec_at pointer.region) result ≡ passed (spec_place layout (Value.Address pointer) offset size) }
+    ensures inside { IfSome result (λ first. first + size_bytes size ≤ region_size layout pointer.region) }
+{
+    let place = i64::from(pointer.offset) + i64::from(offset);
+    within_size(pointer.region.size(layout), place, size.bytes())
 }
 
 /// What some bytes spell.

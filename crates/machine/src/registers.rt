@@ -2,7 +2,6 @@
 
 ghost use Rattle.std.specs.Prelude.{◌≡◌, [], None, Some, false, if◌then◌else◌};
 ghost use Rattle.insn.specs.Values.{entry, set_register, value_of};
-ghost use Rattle.insn.specs.Workings.{number_of};
 
 use insn::register::RegNo;
 use insn::state::{Pointer, Region, STACK_SIZE, Value};
@@ -46,16 +45,6 @@ impl Registers {
         ensures { result ≡ value_of self.now register }
     {
         self.values[register.number()]
-    }
-
-    /// The number that a register holds.
-    pub fn number(&self, register: RegNo) -> Option<u64>
-        ensures { result ≡ number_of self.now register }
-    {
-        match self.get(register)? {
-            Value::Number(number) => Some(number),
-            Value::Address(_) => None,
-        }
     }
 
     /// Sets a register, but R10. Says whether it did.

@@ -1,7 +1,6 @@
 //! Runs, told step by step.
 
 ghost use Rattle.std.specs.Prelude.{◌≡◌, IfOk, length};
-ghost use Rattle.insn.specs.FirstLook.{written_by as spec_written_by};
 ghost use Rattle.insn.specs.Values.{record_size};
 ghost use Rattle.machine.specs.Trace.{written_value, IsTrace};
 
@@ -12,7 +11,6 @@ use insn::instruction::Insn;
 use insn::layout::Layout;
 use insn::places::target;
 use insn::program::Program;
-use insn::register::RegNo;
 use insn::state::Value;
 use std::alloc::{AllocError, Global};
 
@@ -36,40 +34,11 @@ pub struct Trace {
     pub outcome: Outcome,
 }
 
-/// The register that an instruction writes.
-pub fn written_by(insn: Insn) -> Option<RegNo>
-    ensures { result ≡ spec_written_by insn }
-{
-    match insn {
-        Insn::Alu64Imm { dst, .. }
-        | Insn::Alu64Reg { dst, .. }
-        | Insn::Alu32Imm { dst, .. }
-        | Insn::Alu32Reg { dst, .. }
-        | Insn::Divide { dst, .. }
-        | Insn::Remainder { dst, .. }
-        | Insn::Negate { dst, .. }
-        | Insn::MoveSigned { dst, .. }
-        | Insn::SwapBytes { dst, .. }
-        | Insn::LoadWide { dst, .. }
-        | Insn::Load { dst, .. }
-        | Insn::LoadSigned { dst, .. } => Some(dst),
-        Insn::StoreReg { .. }
-        | Insn::StoreImm { .. }
-        | Insn::Jump { .. }
-        | Insn::JumpLong { .. }
-        | Insn::Jump64IfImm { .. }
-        | Insn::Jump64IfReg { .. }
-        | Insn::Jump32IfImm { .. }
-        | Insn::Jump32IfReg { .. }
-        | Insn::Exit => None,
-    }
-}
-
 /// What the register holds that an instruction wrote.
 fn written(registers: &Registers, insn: Insn) -> Option<Value>
     ensures { result ≡ written_value insn registers.now }
 {
-    match written_by(insn) {
+    match insn.written_by() {
         Some(register) => registers.get(register),
         None => None,
     }

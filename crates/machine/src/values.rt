@@ -1,22 +1,14 @@
 //! Operations on values: words and pointers.
 
 ghost use Rattle.std.specs.Prelude.{◌≡◌};
-ghost use Rattle.insn.specs.Memory.{place_of};
 ghost use Rattle.insn.specs.Effects.{word_of};
 ghost use Rattle.insn.specs.Arithmetic.{moved_pointer as spec_moved};
-ghost use Rattle.insn.specs.Workings.{result_of};
+ghost use Rattle.insn.specs.Outcomes.{operation_result as spec_result, passed};
 
 use insn::layout::Layout;
 use insn::operation::{BinOp, Width};
 use insn::state::{Pointer, Value};
 use word::alu;
-
-/// The place so far behind a pointer, or before it.
-pub fn place(pointer: Pointer, offset: i16) -> i64
-    ensures { result ≡ place_of pointer offset }
-{
-    i64::from(pointer.offset) + i64::from(offset)
-}
 
 /// A number that an instruction holds, as a word.
 pub fn immediate(imm: i32) -> Value
@@ -39,13 +31,19 @@ fn moved_pointer(layout: Layout, pointer: Pointer, to: u64) -> Option<Value>
     }
 }
 
-/// The result of an operation on two values, where it has one.
-pub fn on_values(layout: Layout, width: Width, op: BinOp, a: Value, b: Value) -> Option<Value>
-    ensures { result ≡ result_of layout width op a b }
+/// The result of an operation on what its left operand and its right one hold, where it has one.
+pub fn operation_result(
+    layout: Layout,
+    width: Width,
+    op: BinOp,
+    left: Option<Value>,
+    right: Option<Value>,
+) -> Option<Value>
+    ensures { result ≡ passed (spec_result layout width op left right) }
 {
-    match (width, op, a, b) {
+    match (width, op, left?, right?) {
         (_, _, Value::Number(a), Value::Number(b)) => Some(Value::Number(alu(width, op, a, b))),
-        (Width::W64, BinOp::Mov, Value::Number(_), Value::Address(_)) => Some(b),
+        (Width::W64, BinOp::Mov, Value::Number(_), Value::Address(_)) => right,
         (Width::W64, BinOp::Add, Value::Address(p), Value::Number(n))
         | (Width::W64, BinOp::Add, Value::Number(n), Value::Address(p)) => {
             moved_pointer(layout, p, u64::from(p.offset).wrapping_add(n))

@@ -7,7 +7,7 @@ use Rattle.clients.specs.RegistryRecord.{RegistryRecord}
 use Rattle.narrowing.specs.LeftKept.{kept_left}
 use Rattle.token_store.specs.Image.{as_kept, kept_record}
 use Rattle.token_store.specs.Kept.{Kept}
-use Rattle.token_store.specs.declared.image.KeptRecord.{KeptRecord}
+use Rattle.consent.specs.declared.kept_record.KeptRecord.{KeptRecord}
 
 module _ (rules : RegistryRecord) (moment : ℕ) where
   abbrev left : List Kept → List Kept

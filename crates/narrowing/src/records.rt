@@ -11,8 +11,7 @@ ghost use Rattle.token_store.specs.Fits.{FitsHistory};
 ghost use Rattle.token_store.specs.Image.{as_kept, kept_record};
 
 use clients::Registry;
-use consent::{ClientNo, Moment, ScopeSet, TokenKind};
-use token_store::{KeptKind, KeptRecord};
+use consent::{ClientNo, KeptKind, KeptRecord, Moment, ScopeSet, TokenKind};
 
 // What the client may be allowed.
 fn allowed_to(rules: &Registry, client: ClientNo) -> ScopeSet

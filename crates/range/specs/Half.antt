@@ -7,11 +7,10 @@ use Rattle.insn.specs.declared.operation.BinOp.{BinOp}
 use Rattle.insn.specs.declared.operation.BinOp.TheVariants.{Add, Sub, Mul, Div, Sdiv, Or, And, Lsh, Rsh, Mod, Smod, Xor, Mov, Arsh}
 use Rattle.insn.specs.declared.operation.UnOp.{UnOp}
 use Rattle.insn.specs.declared.operation.UnOp.TheVariants.{Neg, Swap, Extend}
-use Rattle.insn.specs.Word.{word_holds, word_result}
+use Rattle.insn.specs.Word.{unary_result, word_holds, word_result}
 use Rattle.insn.specs.declared.operation.Cond.{Cond}
 use Rattle.range.specs.Conditions.{OrdersSigned}
 use Rattle.range.specs.Sets.{IsLeastRefined}
-use Rattle.range.specs.Domain.{unary_result}
 use Rattle.range.specs.declared.signed.SRange.{SRange}
 use Rattle.range.specs.declared.half.HalfRange.{HalfRange}
 

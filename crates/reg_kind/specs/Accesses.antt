@@ -1,36 +1,26 @@
 -- Where an access of some bytes behind a register's pointer begins, and why it is refused.
-use Rattle.std.specs.Prelude.{◌≡◌, ◌≢◌, ℕ, ◌+◌, ◌-◌, ◌≤◌, ◌&&◌, nat_le, ℤ, Bool, true, false, List, [], ◌∷◌, Option, Some, None, is_none, Result, Ok, Err}
+use Rattle.std.specs.Prelude.{◌≡◌, ℕ, ◌+◌, ◌-◌, ◌≤◌, ◌&&◌, nat_le, ℤ, Bool, true, Option, Some, None, Result, Ok, Err, IfOk}
 use Rattle.insn.specs.declared.operation.Size.{Size}
 use Rattle.insn.specs.declared.layout.Layout.{Layout}
 use Rattle.insn.specs.declared.state.Region.{Region}
 use Rattle.insn.specs.declared.state.Region.TheVariants.{Record as InRecord, Stack as InStack}
 use Rattle.insn.specs.declared.state.Value.{Value}
-use Rattle.insn.specs.declared.state.Value.TheVariants.{Number as IsNumber, Address}
+use Rattle.insn.specs.declared.state.Pointer.{Pointer}
 use Rattle.insn.specs.declared.verify_fault.WalkFault.{WalkFault}
-use Rattle.insn.specs.declared.verify_fault.WalkFault.TheVariants.{FallsOff, UnsetRegister, OutOfRegion, PointerMisuse}
+use Rattle.insn.specs.declared.verify_fault.WalkFault.TheVariants.{UnsetRegister, OutOfRegion, PointerMisuse}
 use Rattle.insn.specs.Instruction.{size_bytes}
 use Rattle.insn.specs.Values.{region_size, writable_from, writable_to}
-use Rattle.insn.specs.Memory.{place_of, within, is_writable}
-use Rattle.insn.specs.Tests.{Test, ◌otherwise◌, first_of}
+use Rattle.insn.specs.Outcomes.{Tested, access_place, and_then, held}
 use Rattle.reg_kind.specs.declared.reg.Reg.{Reg}
 use Rattle.reg_kind.specs.declared.reg.Reg.TheVariants.{Unset, Number, Record, Stack}
 use Rattle.reg_kind.specs.declared.span.Span.{Span}
 use Rattle.reg_kind.specs.declared.place.Place.{Place}
 use Rattle.reg_kind.specs.Spans.{span_raised}
-use Rattle.reg_kind.specs.Fits.{RegFits, SpanFits}
+use Rattle.reg_kind.specs.Fits.{RegFits, SpanFits, IsRight, StaysIn}
 
--- bytes from a place on are those that lie so far behind a pointer
-abbrev pub BeginsAt : Bool → Layout → ℤ → ℕ → Place → Option Value → Type 0
-BeginsAt exact layout offset n place None = ⊥
-BeginsAt exact layout offset n place (Some (IsNumber x)) = ⊥
-BeginsAt exact layout offset n place (Some (Address p)) =
-    (p.region ≡ place.region) × (at : ℕ) × (within (region_size layout p.region) (place_of p offset) n ≡ Some at) × SpanFits exact place.span at
-
--- the tests of an access: a pointer, behind which all its bytes lie in the region
-abbrev pub access_tests : Layout → Option Value → ℤ → ℕ → List Test
-access_tests layout None offset n = (true otherwise UnsetRegister) ∷ []
-access_tests layout (Some (IsNumber a)) offset n = (true otherwise PointerMisuse) ∷ []
-access_tests layout (Some (Address p)) offset n = (is_none (within (region_size layout p.region) (place_of p offset) n) otherwise OutOfRegion) ∷ []
+-- a pointer is at a place
+abbrev pub IsAt : Bool → Place → Pointer → Type 0
+IsAt exact place p = (p.region ≡ place.region) × SpanFits exact place.span p.offset
 
 -- where n bytes behind the offsets of a span begin; refused where an end of it leaves the region
 abbrev pub place_at : Region → Option Span → Result Place WalkFault
@@ -55,15 +45,16 @@ is_span_writable layout InStack span n = true
 abbrev pub is_place_writable : Layout → Place → ℕ → Bool
 is_place_writable layout place n = is_span_writable layout place.region place.span n
 
--- where the answer is yes, n bytes at each offset may be written; at a shape's one offset they may exactly then
-pub record IsWriteTest (layout : Layout) (place : Place) (n : ℕ) (answer : Bool) : Type 0 where
-  pub all : answer ≡ true → (at : ℕ) → SpanFits false place.span at → is_writable layout place.region at n ≡ true
-  pub one : (at : ℕ) → SpanFits true place.span at → is_writable layout place.region at n ≡ answer
+-- all bytes at a place lie in its region
+abbrev pub AreInside : Layout → Size → Place → Type 0
+AreInside layout size place = place.span.greatest + size_bytes size ≤ region_size layout place.region
+
+-- where an access of what a register holds begins
+abbrev pub accessed : Layout → Option Value → ℤ → Size → Tested Pointer
+accessed layout o offset size = and_then (held o) (λ base. access_place layout base offset size)
 
 -- an answer is right for every value that a register may hold
-abbrev pub IsAccess : Layout → Reg → ℤ → Size → Result Place WalkFault → Type 0
-IsAccess layout r offset size (Ok place) =
-    (place.span.greatest + size_bytes size ≤ region_size layout place.region)
-    × ((exact : Bool) (v : Option Value) → RegFits exact r v → BeginsAt exact layout offset (size_bytes size) place v)
-IsAccess layout r offset size (Err fault) =
-    (fault ≢ FallsOff) × ((v : Option Value) → RegFits true r v → first_of (access_tests layout v offset (size_bytes size)) ≡ Some fault)
+pub record IsAccess (layout : Layout) (r : Reg) (offset : ℤ) (size : Size) (answer : Result Place WalkFault) : Type 0 where
+  pub stays : StaysIn answer
+  pub inside : IfOk answer (AreInside layout size)
+  pub right : (exact : Bool) (v : Option Value) → RegFits exact r v → IsRight (IsAt exact) exact answer (accessed layout v offset size)

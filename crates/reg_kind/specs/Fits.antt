@@ -1,10 +1,13 @@
 -- What is known of a register, and what it holds.
 -- Read with `exact`, it is said of shapes: the register holds the one thing that is described, but for the amounts of numbers.
-use Rattle.std.specs.Prelude.{◌≡◌, ℕ, ◌≤◌, ◌&&◌, nat_le, Bool, true, false, Option, Some, None, min, max}
+use Rattle.std.specs.Prelude.{◌≡◌, ◌≢◌, ℕ, ◌≤◌, ◌&&◌, nat_le, Bool, true, false, Option, Some, None, Result, Ok, Err, min, max}
 use Rattle.insn.specs.declared.state.Region.{Region}
 use Rattle.insn.specs.declared.state.Region.TheVariants.{Record as InRecord, Stack as InStack}
 use Rattle.insn.specs.declared.state.Value.{Value}
 use Rattle.insn.specs.declared.state.Value.TheVariants.{Number as IsNumber, Address}
+use Rattle.insn.specs.declared.verify_fault.WalkFault.{WalkFault}
+use Rattle.insn.specs.declared.verify_fault.WalkFault.TheVariants.{FallsOff}
+use Rattle.insn.specs.Outcomes.{Tested, Passes, failed}
 use Rattle.scalar.specs.declared.scalar.Scalar.{Scalar}
 use Rattle.scalar.specs.Members.{InScalar, LiesInEachJoin}
 use Rattle.scalar.specs.Narrowed.{Answer, AreNarrowed, HaveAnswer}
@@ -44,10 +47,18 @@ RegFits exact (Number a) (Some v) = ValueFits exact (Number a) v
 RegFits exact (Record a) (Some v) = ValueFits exact (Record a) v
 RegFits exact (Stack a) (Some v) = ValueFits exact (Stack a) v
 
--- there is a value, and it is what is known
-abbrev pub HasFit : Bool → Reg → Option Value → Type 0
-HasFit exact r None = ⊥
-HasFit exact r (Some v) = ValueFits exact r v
+-- What is said is right of what comes of a part of an instruction: it passes with what fits. Where a shape is refused, it fails
+-- with the fault that is said.
+abbrev pub IsRight : {A B : Type 0} → (A → B → Type 0) → Bool → Result A WalkFault → Tested B → Type 0
+IsRight Fit exact (Ok a) (Passes b) = Fit a b
+IsRight Fit exact (Ok a) t = ⊥
+IsRight Fit true (Err fault) t = failed t ≡ Some fault
+IsRight Fit false (Err fault) t = Unit {0}
+
+-- a part of an instruction does not go on past a program's last slot
+abbrev pub StaysIn : {A : Type 0} → Result A WalkFault → Type 0
+StaysIn (Ok a) = Unit {0}
+StaysIn (Err fault) = fault ≢ FallsOff
 
 -- a pointer into a region
 abbrev pub pointer_to : Region → Span → Reg

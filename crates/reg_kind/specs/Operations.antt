@@ -1,5 +1,5 @@
 -- What an operation on two registers gives, and why it is refused.
-use Rattle.std.specs.Prelude.{◌≡◌, ◌≢◌, ◌⊎◌, Bool, true, false, Option, Some, None, Result, Ok, Err}
+use Rattle.std.specs.Prelude.{◌≡◌, Option, Some, None, Result, Ok, Err}
 use Rattle.insn.specs.declared.operation.Width.{Width}
 use Rattle.insn.specs.declared.operation.Width.TheVariants.{W32, W64}
 use Rattle.insn.specs.declared.operation.BinOp.{BinOp}
@@ -9,58 +9,23 @@ use Rattle.insn.specs.declared.layout.Layout.{Layout}
 use Rattle.insn.specs.declared.state.Region.{Region}
 use Rattle.insn.specs.declared.state.Region.TheVariants.{Record as InRecord, Stack as InStack}
 use Rattle.insn.specs.declared.state.Value.{Value}
-use Rattle.insn.specs.declared.state.Value.TheVariants.{Number as IsNumber, Address}
+use Rattle.insn.specs.declared.state.Value.TheVariants.{Number as IsNumber}
 use Rattle.insn.specs.declared.verify_fault.WalkFault.{WalkFault}
-use Rattle.insn.specs.declared.verify_fault.WalkFault.TheVariants.{FallsOff, UnsetRegister, PointerMisuse, PointerRange}
-use Rattle.insn.specs.Values.{◌>>=◌, number_in, region_size}
-use Rattle.insn.specs.Workings.{result_of}
-use Rattle.insn.specs.Tests.{first_of, number_tests, operation_tests}
-use Rattle.range.specs.Domain.{unary_result, IsSoundResult, IsSoundImage, IsSingleResult, IsSingleImage}
+use Rattle.insn.specs.declared.verify_fault.WalkFault.TheVariants.{UnsetRegister, PointerMisuse, PointerRange}
+use Rattle.insn.specs.Values.{region_size}
+use Rattle.range.specs.Domain.{IsSoundResult, IsSoundImage, IsSingleResult, IsSingleImage}
 use Rattle.scalar.specs.declared.scalar.Scalar.{Scalar}
 use Rattle.scalar.specs.Members.{InScalar, ShowsOne}
 use Rattle.reg_kind.specs.declared.span.Span.{Span}
 use Rattle.reg_kind.specs.declared.reg.Reg.{Reg}
 use Rattle.reg_kind.specs.declared.reg.Reg.TheVariants.{Unset, Number, Record, Stack}
 use Rattle.reg_kind.specs.Spans.{IsShifted, span_difference, span_sum}
-use Rattle.reg_kind.specs.Fits.{RegFits, HasFit, pointer_to}
-
--- the left operand of an operation, which a move doesn't read
-abbrev pub LeftFits : Bool → BinOp → Reg → Option Value → Type 0
-LeftFits exact Mov a v = v ≡ Some (IsNumber 0)
-LeftFits exact op a v = RegFits exact a v
-
-abbrev pub IsNoPointer : Option Value → Type 0
-IsNoPointer (Some (Address p)) = ⊥
-IsNoPointer o = Unit {0}
-
--- the operation moves no pointer
-abbrev pub MovesNone : Width → BinOp → Option Value → Option Value → Type 0
-MovesNone W64 Add v u = IsNoPointer v × IsNoPointer u
-MovesNone W64 Sub v u = IsNoPointer v × IsNoPointer u
-MovesNone w op v u = Unit {0}
+use Rattle.reg_kind.specs.Fits.{pointer_to}
 
 -- a number that is known alone
 abbrev pub IsKnownNumber : Reg → Option Value → Type 0
 IsKnownNumber (Number a) (Some (IsNumber n)) = ShowsOne a n
 IsKnownNumber r o = ⊥
-
--- where it moves a pointer, a shape has kept the amount of the right operand
-abbrev pub KeepsAmount : Bool → Width → BinOp → Reg → Option Value → Option Value → Type 0
-KeepsAmount true w op b v u = MovesNone w op v u ⊎ IsKnownNumber b u
-KeepsAmount false w op b v u = Unit {0}
-
--- values that two registers may hold as operands
-pub record AreOperands (exact : Bool) (w : Width) (op : BinOp) (a b : Reg) (v u : Option Value) : Type 0 where
-  pub left : LeftFits exact op a v
-  pub right : RegFits exact b u
-  pub amount : KeepsAmount exact w op b v u
-
--- an answer is right for all operands: their result is what it says, and the first test of a refused shape that fails is this one
-abbrev pub IsResult : Layout → Width → BinOp → Reg → Reg → Result Reg WalkFault → Type 0
-IsResult layout w op a b (Ok c) =
-    (exact : Bool) (v u : Option Value) → AreOperands exact w op a b v u → HasFit exact c (v >>= λ x. u >>= λ y. result_of layout w op x y)
-IsResult layout w op a b (Err fault) =
-    (fault ≢ FallsOff) × ((v u : Option Value) → AreOperands true w op a b v u → first_of (operation_tests layout w op v u) ≡ Some fault)
 
 -- a pointer moved to a span, or refused where there is none
 abbrev pub in_region : Region → Option Span → Result Reg WalkFault
@@ -133,23 +98,9 @@ number_in_reg (Number a) otherwise = Ok a
 number_in_reg (Record span) otherwise = Err otherwise
 number_in_reg (Stack span) otherwise = Err otherwise
 
--- a refusal is by the first test that fails of a shape
-abbrev pub IsNumberOf : Reg → WalkFault → Result Scalar WalkFault → Type 0
-IsNumberOf a otherwise (Ok n) = a ≡ Number n
-IsNumberOf a otherwise (Err fault) = (v : Option Value) → RegFits true a v → first_of (number_tests v otherwise) ≡ Some fault
-
 -- what an operation on one number gives by the kind of its operand
 abbrev pub IsKindImage : UnOp → Width → Reg → Result Reg WalkFault → Type 0
 IsKindImage op w Unset r = r ≡ Err UnsetRegister
 IsKindImage op w (Number a) r = (c : Scalar) × (r ≡ Ok (Number c)) × IsSoundImage InScalar op w a c × IsSingleImage ShowsOne op w a c
 IsKindImage op w (Record span) r = r ≡ Err PointerMisuse
 IsKindImage op w (Stack span) r = r ≡ Err PointerMisuse
-
--- the result of such an operation on what a register holds
-abbrev pub image_of : UnOp → Width → Option Value → Option Value
-image_of op w v = v >>= number_in >>= λ n. Some (IsNumber (unary_result op w n))
-
--- the answer is right for every value that the register may hold, and a refusal is by the first test that fails of a shape
-abbrev pub IsImage : UnOp → Width → Reg → Result Reg WalkFault → Type 0
-IsImage op w a (Ok c) = (exact : Bool) (v : Option Value) → RegFits exact a v → HasFit exact c (image_of op w v)
-IsImage op w a (Err fault) = (fault ≢ FallsOff) × ((v : Option Value) → RegFits true a v → first_of (number_tests v PointerMisuse) ≡ Some fault)

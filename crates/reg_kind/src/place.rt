@@ -2,7 +2,7 @@
 
 ghost use Rattle.std.specs.Prelude.{◌≡◌};
 ghost use Rattle.insn.specs.Instruction.{size_bytes};
-ghost use Rattle.reg_kind.specs.Accesses.{is_place_writable, place_in, IsWriteTest};
+ghost use Rattle.reg_kind.specs.Accesses.{is_place_writable, place_in};
 
 use crate::span::Span;
 use insn::layout::Layout;
@@ -36,8 +36,7 @@ impl Place {
 
     /// Whether all bytes of such a store may be written: those of the record within its two bounds alone.
     pub fn is_writable(self, layout: Layout, size: Size) -> bool
-        ensures value { result ≡ is_place_writable layout self (size_bytes size) }
-        ensures right { IsWriteTest layout self (size_bytes size) result }
+        ensures { result ≡ is_place_writable layout self (size_bytes size) }
     {
         match self.region {
             Region::Record => {

@@ -3,7 +3,7 @@
 ghost use Rattle.std.specs.Prelude.{◌≡◌, Some, IfSome, IsTrue};
 ghost use Rattle.insn.specs.declared.state.Value.TheVariants.{Number as IsNumber};
 ghost use Rattle.reg_kind.specs.Fits.{IsKindCover, IsRegJoin, IsKindJoin, IsKindRefined, IsRegRefined};
-ghost use Rattle.reg_kind.specs.Operations.{copy_of, in_region, IsComputed, IsDifference, IsKindResult, IsKnownNumber, IsPointerDifference, IsPointerSum, IsRegSum, IsNumberOf, IsResult, IsImage, IsKindImage, number_in_reg};
+ghost use Rattle.reg_kind.specs.Operations.{copy_of, in_region, IsComputed, IsDifference, IsKindResult, IsKnownNumber, IsPointerDifference, IsPointerSum, IsRegSum, IsKindImage};
 ghost use Rattle.reg_kind.specs.Accesses.{IsAccess, place_behind};
 ghost use Rattle.insn.specs.Instruction.{size_bytes};
 ghost use Rattle.insn.specs.declared.operation.BinOp.TheVariants.{Add, Sub};
@@ -37,18 +37,6 @@ impl Reg {
         ensures { IsKnownNumber result (Some (IsNumber n)) }
     {
         Reg::Number(Scalar::exact(n))
-    }
-
-    /// The numbers that it holds, where it holds one.
-    pub fn number(self, otherwise: WalkFault) -> Result<Scalar, WalkFault>
-        ensures kinds { result ≡ number_in_reg self otherwise }
-        ensures right { IsNumberOf self otherwise result }
-    {
-        match self {
-            Reg::Unset => Err(WalkFault::UnsetRegister),
-            Reg::Number(n) => Ok(n),
-            Reg::Record(_) | Reg::Stack(_) => Err(otherwise),
-        }
     }
 
     /// What is known where either is.
@@ -158,8 +146,7 @@ impl Reg {
 
     /// What an operation gives. A move doesn't look at its left operand.
     pub fn apply(layout: Layout, op: BinOp, width: Width, a: Reg, b: Reg) -> Result<Reg, WalkFault>
-        ensures kinds { IsKindResult layout width op a b result }
-        ensures right { IsResult layout width op a b result }
+        ensures { IsKindResult layout width op a b result }
     {
         match (width, op) {
             (Width::W64, BinOp::Mov) => b.copied(),
@@ -175,8 +162,7 @@ impl Reg {
 
     /// What an operation on one number gives.
     pub fn unary(op: UnOp, width: Width, a: Reg) -> Result<Reg, WalkFault>
-        ensures kinds { IsKindImage op width a result }
-        ensures right { IsImage op width a result }
+        ensures { IsKindImage op width a result }
     {
         match a {
             Reg::Unset => Err(WalkFault::UnsetRegister),

@@ -5,7 +5,7 @@ use Rattle.std.proofs.lemmas.Bool.{false≢true}
 use Rattle.messages.specs.declared.request.Draws.{Draws}
 use Rattle.heads.specs.Message.{Messages}
 use Rattle.heads.specs.ReadingLaws.{nothing_has_none}
-use Rattle.http_edge.specs.Answers.{AnswerMark, replies_of}
+use Rattle.http_edge.specs.Answers.{Mishap, replies_of}
 use Rattle.http_edge.specs.Schedule.{ended, World, Connection, AnsweredPiece, Happening, Opened, Came, HasEnded, Taken, PieceComes, PiecePasses, Opens, StreamEnds, TakesOutput, connection_at, fresh, heard, piece_of, untaken, faulty_if}
 use Rattle.http_edge.specs.Edges.{SeenEdge, output_of}
 use Rattle.http_edge.specs.Reached.{Journey, Reached, GoesOn, HappeningLeads, PieceLeads, is_closing, led_on}
@@ -94,20 +94,20 @@ module _ {H S : Type 0} (t : StreamService H S) (journey : Journey H) (s0 : S) w
       PieceLeads t.hosting e e' (piece_of t.connection piece moment) draws → Now e' s'
   on_heard e e' s s' piece moment draws x attentive done leads =
       let on = leads (led_on journey x.events x.world) x.reached in
-      elim on.on.happens.1 [ inl comes ↦ by_coming on.marks on.closes on.on comes | inr passes ↦ absurd (not_passed on.marks on.closes on.on.world passes) ]
+      elim on.on.happens.1 [ inl comes ↦ by_coming on.mishaps on.closes on.on comes | inr passes ↦ absurd (not_passed on.mishaps on.closes on.on.world passes) ]
     where
-      came : List AnswerMark → Bool → AnsweredPiece
-      came marks told = record { piece = piece_of t.connection piece moment; draws = draws; marks = marks; closes = told }
+      came : List Mishap → Bool → AnsweredPiece
+      came mishaps told = record { piece = piece_of t.connection piece moment; draws = draws; mishaps = mishaps; closes = told }
 
-      not_passed : (marks : List AnswerMark) (told : Bool) (new : World) → PiecePasses x.world (came marks told) new → ⊥
-      not_passed marks told new passes =
+      not_passed : (mishaps : List Mishap) (told : Bool) (new : World) → PiecePasses x.world (came mishaps told) new → ⊥
+      not_passed mishaps told new passes =
           let stays : false ≡ is_closing (connection_at x.world.connections t.connection) = attentive.stays (led_on journey x.events x.world) x.reached in
           let closing : is_closing (connection_at x.world.connections t.connection) ≡ true = rw (passes.here, passes.is_closing) refl in
           false≢true (stays ∙ closing)
 
-      by_coming : (marks : List AnswerMark) (told : Bool) (on : GoesOn t.hosting e' (led_on journey x.events x.world) (Came (came marks told))) →
-          PieceComes t.hosting journey.outset x.world (came marks told) on.world → Now e' s'
-      by_coming marks told on comes =
+      by_coming : (mishaps : List Mishap) (told : Bool) (on : GoesOn t.hosting e' (led_on journey x.events x.world) (Came (came mishaps told))) →
+          PieceComes t.hosting journey.outset x.world (came mishaps told) on.world → Now e' s'
+      by_coming mishaps told on comes =
           let k = comes.before in
           let same : x.connection ≡ k = same_connection x.connection k (sym x.here ∙ comes.here) in
           let within : k.taken ≤ length k.output = (shown e.lanes x.world.connections t.connection k x.reached.shows comes.here).0 in
@@ -118,7 +118,7 @@ module _ {H S : Type 0} (t : StreamService H S) (journey : Journey H) (s0 : S) w
             heard = x.heard ++ piece;
             written = x.written;
             carries = receives piece x.carries done;
-            events = x.events ++ Came (came marks told) ∷ [];
+            events = x.events ++ Came (came mishaps told) ∷ [];
             world = on.world;
             reached = one_more e' x.events x.world on.world _ on.reached;
             connection = k';

@@ -1,7 +1,6 @@
 -- What is refused is refused by the machine too: in some cells that are what is known, at some place of the span, with the fault that is named.
 use Rattle.std.proofs.Common.{◌≡◌, ◌≢◌, ◌⊎◌, ℕ, suc, ◌+◌, ◌-◌, ◌*◌, ◌/◌, ◌%◌, ◌<◌, ◌≤◌, true, false, List, [], ◌∷◌, length, take, drop, get_or, Some, refl, sym, ap, ◌∙◌, subst, arith, inl, inr}
 use Rattle.std.proofs.lemmas.Bool.{cases_eq, cases_lt}
-use Rattle.std.specs.Prelude.{is_none}
 use Rattle.std.specs.List.{list_any}
 use Rattle.insn.specs.declared.layout.Layout.{Layout}
 use Rattle.insn.specs.declared.operation.Size.{Size}
@@ -14,9 +13,9 @@ use Rattle.insn.specs.declared.state.Cell.TheVariants as cell
 use Rattle.insn.specs.declared.verify_fault.WalkFault.{WalkFault}
 use Rattle.insn.specs.declared.verify_fault.WalkFault.TheVariants.{UnsetByte, PointerMisuse}
 use Rattle.insn.specs.Instruction.{size_bytes}
-use Rattle.insn.specs.Values.{State}
-use Rattle.insn.specs.Memory.{may_hold, value_in, written, is_unset}
-use Rattle.insn.specs.Tests.{first_of, read_tests, write_tests}
+use Rattle.insn.specs.Values.{State, at}
+use Rattle.insn.specs.Memory.{written, is_unset}
+use Rattle.insn.specs.Outcomes.{failed, stored_state, value_at}
 use Rattle.reg_kind.specs.declared.span.Span.{Span}
 use Rattle.reg_kind.specs.declared.reg.Reg.{Reg}
 use Rattle.reg_kind.specs.declared.reg.Reg.TheVariants as reg
@@ -31,17 +30,17 @@ use Rattle.stack_state.specs.Fits.{BlockFits, MarkFits, StackFits, block_at, blo
 use Rattle.stack_state.specs.Blocks.{IsNotWhole}
 use Rattle.stack_state.specs.Accesses.{HoldsNone, IsLoadFault, IsTouched, IsWholePlace}
 use Rattle.stack_state.proofs.Written.{length-part, length-written, part_item, part_kept, written_at, written_else}
-use Rattle.stack_state.proofs.Spelled.{IsByte, IsPart, NoPointer, none_unset, some_unset, torn_holds_none}
+use Rattle.stack_state.proofs.Spelled.{IsByte, IsPart, NoPointer, none_fails, none_unset, some_unset, torn_holds_none, unset_fails}
 use Rattle.stack_state.proofs.Marks.{apart_fits, byte_or_part, mark_fits}
-use Rattle.stack_state.proofs.Loads.{first_fails, only_eight, second_fails, size_some}
-use Rattle.stack_state.proofs.Stores.{no_place, second_named}
+use Rattle.stack_state.proofs.Loads.{only_eight, size_some}
+use Rattle.stack_state.proofs.Stores.{may_not, no_place}
 
 -- ---- stores
 
 pub record FailsStore (layout : Layout) (span : Span) (size : Size) (value : Reg) (fault : WalkFault) : Type 0 where
-  pub at : ℕ
-  pub place : SpanFits false span at
-  pub fails : (v : Value) → ValueFits false value v → first_of (write_tests layout InStack size v (Some at)) ≡ Some fault
+  pub from : ℕ
+  pub place : SpanFits false span from
+  pub fails : (s : State) (v : Value) → ValueFits false value v → failed (stored_state layout s (at InStack from) size v) ≡ Some fault
 
 -- a place of a span at which eight bytes are not whole
 record IsOdd (span : Span) (size : Size) : Type 0 where
@@ -60,20 +59,19 @@ odd_place span size le apart =
     ]
 
 pub store_seen : (layout : Layout) (span : Span) (size : Size) (value : Reg) → span.least ≤ span.greatest → ¬ IsWholePlace span size → value_mark value ≡ Part → FailsStore layout span size value PointerMisuse
-store_seen layout span size value le apart part = record { at = odd.at; place = odd.place; fails = λ v fits. by value v part fits } where
+store_seen layout span size value le apart part = record { from = odd.at; place = odd.place; fails = λ s v fits. by s value v part fits } where
   odd : IsOdd span size
   odd = odd_place span size le apart
 
-  pointer : (p : Pointer) → first_of (write_tests layout InStack size (Address p) (Some odd.at)) ≡ Some PointerMisuse
-  pointer p = second_named (may_hold InStack odd.at size (Address p)) (no_place (span_from odd.at odd.at) size odd.at p odd.apart refl refl)
+  pointer : (s : State) (p : Pointer) → failed (stored_state layout s (at InStack odd.at) size (Address p)) ≡ Some PointerMisuse
+  pointer s p = may_not layout s odd.at size p (no_place (span_from odd.at odd.at) size odd.at p odd.apart refl refl)
 
-  by : (value : Reg) (v : Value) → value_mark value ≡ Part → ValueFits false value v → first_of (write_tests layout InStack size v (Some odd.at)) ≡ Some PointerMisuse
-  by reg.Unset v part fits = absurd cc
-  by (reg.Number a) v part fits = absurd cc
-  by (reg.Record s) (Number n) part fits = absurd fits
-  by (reg.Stack s) (Number n) part fits = absurd fits
-  by (reg.Record s) (Address p) part fits = pointer p
-  by (reg.Stack s) (Address p) part fits = pointer p
+  by : (s : State) (value : Reg) (v : Value) → value_mark value ≡ Part → ValueFits false value v → failed (stored_state layout s (at InStack odd.at) size v) ≡ Some PointerMisuse
+  by s value (Address p) part fits = pointer s p
+  by s reg.Unset (Number n) part fits = absurd cc
+  by s (reg.Number a) (Number n) part fits = absurd cc
+  by s (reg.Record t) (Number n) part fits = absurd fits
+  by s (reg.Stack t) (Number n) part fits = absurd fits
 
 -- ---- cells of which one is changed
 
@@ -138,10 +136,10 @@ module _ (stack : Stack) (cells : List Cell) (k : ℕ) (c : Cell) (inside : k < 
 
 pub record FailsLoad (stack : Stack) (span : Span) (size : Size) (s : State) (fault : WalkFault) : Type 0 where
   pub cells : List Cell
-  pub at : ℕ
+  pub from : ℕ
   pub fits : StackFits false stack cells
-  pub place : SpanFits false span at
-  pub fails : first_of (read_tests (record s { stack = cells }) InStack (size_bytes size) (Some at)) ≡ Some fault
+  pub place : SpanFits false span from
+  pub fails : failed (value_at (record s { stack = cells }) (at InStack from) size) ≡ Some fault
 
 -- a place of a span at which a load touches a byte
 record IsTouching (span : Span) (n k : ℕ) : Type 0 where
@@ -173,10 +171,10 @@ module _ (stack : Stack) (span : Span) (size : Size) (s : State) (inside : span.
   unset_seen : (k : ℕ) → IsTouched span size k → mark_at stack k ≡ Unset → StackFits false stack s.stack → FailsLoad stack span size s UnsetByte
   unset_seen k touch mark fits = record {
     cells = cells;
-    at = t.at;
+    from = t.at;
     fits = changed;
     place = t.place;
-    fails = first_fails (list_any is_unset read) (is_none (value_in read)) any;
+    fails = unset_fails read any;
   } where
     t : IsTouching span (size_bytes size) k
     t = touching span (size_bytes size) k (size_some size).0 some touch.least touch.greatest
@@ -210,10 +208,10 @@ module _ (stack : Stack) (span : Span) (size : Size) (s : State) (inside : span.
         → (size_bytes size ≡ 8 → at % 8 ≡ 0 → NoPointer (take (size_bytes size) (drop at cells))) → FailsLoad stack span size s PointerMisuse
     torn_seen cells at k fits place below above mark lost = record {
       cells = cells;
-      at = at;
+      from = at;
       fits = fits;
       place = place;
-      fails = second_fails (list_any is_unset read) (is_none (value_in read)) (none_unset read no_unset) (ap is_none (torn_holds_none at read (record { known = λ j lt. known j (let l = long in omega arith); part = part; lost = λ e. lost (sym long ∙ e) })));
+      fails = none_fails read (none_unset read no_unset) (torn_holds_none at read (record { known = λ j lt. known j (let l = long in omega arith); part = part; lost = λ e. lost (sym long ∙ e) }));
     } where
       read : List Cell
       read = take (size_bytes size) (drop at cells)

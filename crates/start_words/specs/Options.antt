@@ -49,6 +49,14 @@ abbrev pub ◌>>=◌ : {A B E : Type 0} → Result A E → (A → Result B E) �
 Ok x >>= next = next x
 Err e >>= next = Err e
 
+-- the seconds of a year: by so many a clock may be ahead of a state, unless one that is farther ahead is accepted
+abbrev pub year : ℕ
+year = 31536000
+
+abbrev pub clock_limit : FarClock → Option ℕ
+clock_limit clocks.Refused = Some year
+clock_limit clocks.Accepted = None
+
 -- ---- one option
 
 -- the option of a name

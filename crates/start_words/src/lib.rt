@@ -9,6 +9,6 @@ mod words;
 
 pub use fault::{StartFault, WordFault};
 pub use number::number_said;
-pub use option::{FarClock, HookFile};
+pub use option::HookFile;
 pub use options::Options;
 pub use words::StartWords;

@@ -3,7 +3,7 @@
 ghost use Rattle.std.specs.Prelude.{◌≡◌, option_map};
 ghost use Rattle.std.specs.Option.{option_copied};
 ghost use Rattle.std.specs.Str.{bytes_eq};
-ghost use Rattle.start_words.specs.Options.{above_0, accepts_clock, hook_in, hook_said, option_named, path_in};
+ghost use Rattle.start_words.specs.Options.{above_0, accepts_clock, clock_limit, hook_in, hook_said, option_named, path_in};
 
 use crate::number::number_said;
 use insn::layout::Layout;
@@ -26,6 +26,21 @@ pub enum FarClock {
     Refused,
     /// It is taken as it is.
     Accepted,
+}
+
+/// A clock that is more seconds ahead of a state is far ahead: those of a year.
+const YEAR: u64 = 31_536_000;
+
+impl FarClock {
+    /// By how many seconds a clock may be ahead of a state, where that is limited.
+    pub(crate) fn limit(self) -> Option<u64>
+        ensures { result ≡ clock_limit self }
+    {
+        match self {
+            FarClock::Refused => Some(YEAR),
+            FarClock::Accepted => None,
+        }
+    }
 }
 
 /// An option that has a value.

@@ -2,7 +2,7 @@
 
 ghost use Rattle.std.specs.Prelude.{◌≡◌, ◌∷◌, ◌++◌, [], Ok, Err, OnOk, IfOk, IfErr, IfSome, IfNone, map, string_bytes, unwrap_or, option_map, length, ◌≤◌};
 ghost use Rattle.std.specs.Option.{option_copied};
-ghost use Rattle.start_words.specs.Options.{bad_words, blamed, by_place, hook_said, is_option, IsWhyRefused, lone_fault, nothing_said, once, options_after, options_in, placed_after, with_clock, with_option};
+ghost use Rattle.start_words.specs.Options.{bad_words, blamed, by_place, clock_limit, hook_said, is_option, IsWhyRefused, lone_fault, nothing_said, once, options_after, options_in, placed_after, with_clock, with_option};
 ghost use Rattle.start_words.specs.declared.fault.StartFault.TheVariants.{Memory};
 
 use crate::fault::{StartFault, WordFault};
@@ -118,11 +118,11 @@ impl<'w> Options<'w> {
         self.state
     }
 
-    /// What comes of a clock that is far ahead of the moment that the state has.
-    pub fn clock(&self) -> FarClock
-        ensures { result ≡ self.now.clock }
+    /// By how many seconds the clock may be ahead of the moment that the state has, where that is limited.
+    pub fn ahead(&self) -> Option<u64>
+        ensures { result ≡ clock_limit self.now.clock }
     {
-        self.clock
+        self.clock.limit()
     }
 
     /// The hooks, in their order.

@@ -6,13 +6,15 @@ use Rattle.consent.specs.History.{Event}
 use Rattle.consent.specs.declared.kept_consent.KeptConsent.{KeptConsent}
 use Rattle.endpoints.specs.Server.{Outset, outset_of}
 use Rattle.hook_host.specs.declared.host.HookHost.{Ghosts as Hosting}
-use Rattle.image_codec.specs.Facts.{ImageFact, RulesFact, record_fact}
-use Rattle.image_codec.specs.Kept.{kept_told}
-use Rattle.image_codec.specs.KeptLaws.{all_same}
+use Rattle.change_codec.specs.Rules.{RulesFact}
+use Rattle.consent.specs.RecordFacts.{record_fact}
+use Rattle.image_codec.specs.Facts.{ImageFact}
+use Rattle.token_store.specs.Image.{kept_told}
+use Rattle.token_store.specs.ImageLaws.{all_same}
 use Rattle.token_store.specs.Fits.{FitsHistory, FitsStore}
 use Rattle.token_store.specs.Image.{as_kept}
 use Rattle.token_store.specs.Kept.{Kept}
-use Rattle.token_store.specs.declared.image.KeptRecord.{KeptRecord}
+use Rattle.consent.specs.declared.kept_record.KeptRecord.{KeptRecord}
 use Rattle.state_account.specs.Accounts.{IsAccountOf, IsImageIn, IsOfTelling, IsOfBatches, TellIfAny, fault_in}
 use Rattle.state_file.specs.Resuming.{FitsRestored, IsOfChanges, RefusesImage}
 use Rattle.state_file.specs.Standing.{IsImageOf}

@@ -5,7 +5,8 @@ use Rattle.clients.specs.RegistryRecord.{RegistryRecord}
 use Rattle.endpoints.specs.Widening.{IsWider}
 use Rattle.endpoints.specs.Server.{outset_of}
 use Rattle.hook_host.specs.declared.host.HookHost.{Ghosts as Hosting}
-use Rattle.image_codec.specs.Facts.{ImageFact, RulesFact}
+use Rattle.change_codec.specs.Rules.{RulesFact}
+use Rattle.image_codec.specs.Facts.{ImageFact}
 use Rattle.state_file.specs.Resuming.{AnswersFor, OfEachHistory}
 use Rattle.state_file.specs.Standing.{IsImageOf, IsMomentTold, until_of}
 use Rattle.state_file.specs.Telling.{IsOfRules, TellsRules, rules_of}

@@ -132,10 +132,6 @@ noted_none : (unkept : Option (List DatedFact)) → AreUnkept unkept None [] →
 noted_none None notes = refl
 noted_none (Some facts) notes = absurd notes
 
--- what does not begin with a byte 2 is no image
-pub begins_2 : (batches behind : List (List ℕ)) (image : ImageFact) → HaveNoImage batches → BeginWithImage batches image behind → ⊥
-begins_2 batches behind image none begin = has_image batches behind image none begin.1
-
 module _ {H : Type 0} (hosting : Hosting H) (outset : Outset H) where
   -- a server that is made of the first batch
   pub begins_made : (batches later : List (List ℕ)) (batch : List ℕ) (read : ImageFact) (restored : Restored H) → batches ≡ batch ∷ later → ImageFits read → batch ≡ image_spelling read →
@@ -149,11 +145,3 @@ module _ {H : Type 0} (hosting : Hosting H) (outset : Outset H) where
     where
       of : (image : ImageFact) (behind : List (List ℕ)) → (later ≡ behind) × (read ≡ image) → (later ≡ behind) × IsMadeOf hosting image outset restored
       of image behind same = (same.0, subst (λ (i : ImageFact). IsMadeOf hosting i outset restored) same.1 made)
-
-  -- a new server, where none is an image
-  pub begins_anew : (batches : List (List ℕ)) (restored : Restored H) → HaveNoImage batches → FitsRestored hosting restored outset [] → restored.moment ≡ 0 → AreUnkept restored.server.unkept None [] → BeginsByBatches hosting outset batches batches restored
-  begins_anew batches restored none fits moment notes = record {
-    anew = λ _. (refl, fits, moment);
-    of_image = λ image behind begin. absurd (begins_2 batches behind image none begin);
-    unnoted = noted_none restored.server.unkept notes;
-  }

@@ -11,7 +11,8 @@ use Rattle.consent.specs.declared.grant.TokenKind.{TokenKind}
 use Rattle.consent.specs.declared.grant.TokenKind.TheVariants.{Access, Refresh}
 use Rattle.endpoints.specs.Bounded.{token_life_limit}
 use Rattle.endpoints.specs.Widening.{AreWider, IsWider}
-use Rattle.image_codec.specs.Facts.{ClientFact, client_fact}
+use Rattle.change_codec.specs.Rules.{ClientFact}
+use Rattle.image_codec.specs.Facts.{client_fact}
 use Rattle.image_codec.specs.declared.image.ClientRules.{ClientRules}
 use Rattle.state_file.specs.Comparing.{AreAsWide, client_names, first_moved, first_narrowed}
 use Rattle.state_file.specs.Telling.{client_told, rules_of}

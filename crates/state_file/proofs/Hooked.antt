@@ -5,7 +5,8 @@ use Rattle.consent.specs.History.{Event, Change, Grant, event_at, grant_at, with
 use Rattle.consent.specs.Changes.{issued_with, family_ended}
 use Rattle.consent.specs.declared.change.NewToken.{NewToken}
 use Rattle.change_codec.specs.Happened.{Happened, meaning_of}
-use Rattle.change_codec.specs.Spelling.{DatedFact, Fact, Consented, CodeGiven, IssuedAlone, Issued, Spent, FamilyEnded, HookSet, HookGone}
+use Rattle.consent.specs.Facts.{Fact, Consented, CodeGiven, IssuedAlone, Issued, Spent, FamilyEnded, HookSet, HookGone}
+use Rattle.change_codec.specs.Spelling.{DatedFact}
 use Rattle.image_codec.specs.Facts.{HookFact}
 use Rattle.state_file.specs.Hooks.{hooks_behind, hooks_by, hooks_with, hooks_after, hooks_set_in}
 

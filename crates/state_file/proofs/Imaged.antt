@@ -9,13 +9,14 @@ use Rattle.endpoints.specs.Restoring.{AreOf}
 use Rattle.endpoints.specs.Server.{SeenServer, FitsServer, Outset, outset_of}
 use Rattle.endpoints.specs.Layouts.{layout_of}
 use Rattle.hook_host.specs.declared.host.HookHost.{Ghosts as Hosting}
-use Rattle.image_codec.specs.Facts.{HookFact, ImageFact, record_fact}
-use Rattle.image_codec.specs.Kept.{kept_told}
-use Rattle.image_codec.specs.KeptLaws.{all_same}
+use Rattle.consent.specs.RecordFacts.{record_fact}
+use Rattle.image_codec.specs.Facts.{HookFact, ImageFact}
+use Rattle.token_store.specs.Image.{kept_told}
+use Rattle.token_store.specs.ImageLaws.{all_same}
 use Rattle.token_store.specs.Fits.{FitsHistory, FitsStore}
 use Rattle.token_store.specs.Image.{as_kept}
 use Rattle.token_store.specs.Kept.{Kept}
-use Rattle.token_store.specs.declared.image.KeptRecord.{KeptRecord}
+use Rattle.consent.specs.declared.kept_record.KeptRecord.{KeptRecord}
 use Rattle.state_file.specs.Renewing.{IsImageFor}
 use Rattle.state_file.specs.Resuming.{Installs, IsMadeOf}
 use Rattle.state_file.specs.declared.restored.Restored.{Restored}

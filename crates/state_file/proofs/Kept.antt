@@ -1,24 +1,46 @@
--- What a state file keeps when other batches are put in the place of its own: also those that have one more.
-use Rattle.std.proofs.Common.{◌≡◌, ◌⊎◌, ◌≤◌, inl, inr, ℕ, List, [], ◌∷◌, ◌++◌, refl, sym, ap, ◌∙◌, subst, arith}
+-- What a keeper holds when other batches are put in the place of its file's: also those that have one more.
+use Rattle.std.proofs.Common.{◌≡◌, ◌⊎◌, ◌≤◌, inl, inr, ℕ, List, [], ◌∷◌, ◌++◌, Option, refl, sym, ap, ◌∙◌, subst, arith}
 use Rattle.batch_file.specs.Crashes.{LeavesOnly}
 use Rattle.batch_file.specs.Frames.{recovered, IsOldOrNew, IsOnDisk}
+use Rattle.batch_file.specs.declared.appending.BatchFault.{BatchFault}
 use Rattle.batch_file.specs.declared.appending.BatchFile.{BatchFile}
 use Rattle.batch_file.specs.declared.device.Device.{Ghosts as Device}
 use Rattle.consent.specs.History.{Event}
-use Rattle.change_codec.specs.Keeping.{Holds, HoldsMoment, Keeps, KeepsMoments, KeepsNot, LeavesEither, StandsForEither, TellsMoments}
+use Rattle.change_codec.specs.Keeping.{Basis, Until, Rules, Holds, HoldsBasis, Keeps, KeepsBasis, KeepsNot, LeavesEither, StandsForEither, TellsBasis}
 use Rattle.change_codec.specs.Happened.{Happened}
+use Rattle.change_codec.specs.Rules.{RulesFact}
 use Rattle.change_codec.specs.Spelling.{DatedFact, HaveSpelling, batch_spelling}
-use Rattle.image_codec.specs.Facts.{RulesFact}
-use Rattle.state_file.specs.Knowing.{file_crashes}
+use Rattle.state_file.specs.Knowing.{LeftTells, SeenKeeper, TellBasis, file_crashes}
 use Rattle.state_file.specs.Standing.{StandFor, until_of}
-use Rattle.state_file.specs.StandingLaws.{AreTold-changes, StandFor-joined}
-use Rattle.state_file.specs.Telling.{KeepRules, Tell, last_rules}
+use Rattle.state_file.specs.StandingLaws.{AreTold-changes, StandFor-joined, until_of-more}
+use Rattle.state_file.specs.Telling.{Tell, last_rules}
 use Rattle.state_file.specs.TellingLaws.{last_rules-push}
 
+-- what the old batches tell, the new ones do
+abbrev pub TellOn : List (List ℕ) → List (List ℕ) → Type 0
+TellOn old new = (basis : Basis) → TellBasis old basis → TellBasis new basis
+
+pub tell_on : (old new : List (List ℕ)) → until_of old ≤ until_of new → ((rules : RulesFact) → Tell old rules → Tell new rules) → TellOn old new
+tell_on old new le leads (Until moment) told = omega arith
+tell_on old new le leads (Rules rules) told = leads rules told
+
+abbrev pub keeper_of : {D : Type 0} → BatchFile D → Option BatchFault → SeenKeeper D
+keeper_of file fault = record { file = file; fault = fault }
+
 module _ {D : Type 0} (device : Device D) where
+  -- a crash meanwhile left a file of the old batches, or of these
+  abbrev pub LeavesOldOr : SeenKeeper D → SeenKeeper D → List (List ℕ) → Type 0
+  LeavesOldOr old new batches =
+      LeavesOnly device.moment device.left_since old.file.device new.file.device (IsOldOrNew (recovered (device.seen old.file.device)) batches)
+
+  -- and it has these then
+  pub record HasNow (old new : SeenKeeper D) (batches : List (List ℕ)) : Type 0 where
+    pub leaves : LeavesOldOr old new batches
+    pub settled : IsOnDisk device.seen device.may_leave device.faults new.file
+    pub are : recovered (device.seen new.file.device) ≡ batches
+
   -- what was left meanwhile stands for the one history or for the other
-  leaves_either : (old new : BatchFile D) (batches : List (List ℕ)) (before after : List Event) →
-      LeavesOnly device.moment device.left_since old.device new.device (IsOldOrNew (recovered (device.seen old.device)) batches) →
+  leaves_either : (old new : SeenKeeper D) (batches : List (List ℕ)) (before after : List Event) → LeavesOldOr old new batches →
       StandFor batches after → Holds (file_crashes device) old before → LeavesEither (file_crashes device) before after old new
   leaves_either old new batches before after leaves then holds = record {
     later = leaves.later;
@@ -26,70 +48,56 @@ module _ {D : Type 0} (device : Device D) where
     earlier = λ t c le left. by t c (leaves.before t c le left);
   }
     where
-      each : (c : List ℕ) → IsOldOrNew (recovered (device.seen old.device)) batches c → StandsForEither (file_crashes device) before after c
-      each c (inl same) = inl (subst (λ (bs : List (List ℕ)). StandFor bs before) (sym same) (holds (device.seen old.device) (inr refl)))
+      each : (c : List ℕ) → IsOldOrNew (recovered (device.seen old.file.device)) batches c → StandsForEither (file_crashes device) before after c
+      each c (inl same) = inl (subst (λ (bs : List (List ℕ)). StandFor bs before) (sym same) (holds (device.seen old.file.device) (inr refl)))
       each c (inr now) = inr (subst (λ (bs : List (List ℕ)). StandFor bs after) (sym now) then)
 
-      by : (t : ℕ) (c : List ℕ) → device.left_since old.device t c ⊎ IsOldOrNew (recovered (device.seen old.device)) batches c →
-          device.left_since old.device t c ⊎ StandsForEither (file_crashes device) before after c
+      by : (t : ℕ) (c : List ℕ) → device.left_since old.file.device t c ⊎ IsOldOrNew (recovered (device.seen old.file.device)) batches c →
+          device.left_since old.file.device t c ⊎ StandsForEither (file_crashes device) before after c
       by t c (inl was) = inl was
       by t c (inr is) = inr (each c is)
 
-  pub keeps_not : (old new : BatchFile D) (batches : List (List ℕ)) (before after : List Event) →
-      LeavesOnly device.moment device.left_since old.device new.device (IsOldOrNew (recovered (device.seen old.device)) batches) →
-      (StandFor (recovered (device.seen old.device)) before → StandFor batches after) → KeepsNot (file_crashes device) before after old new
+  pub keeps_not : (old new : SeenKeeper D) (batches : List (List ℕ)) (before after : List Event) → LeavesOldOr old new batches →
+      (StandFor (recovered (device.seen old.file.device)) before → StandFor batches after) → KeepsNot (file_crashes device) before after old new
   keeps_not old new batches before after leaves leads =
-      record { meanwhile = λ holds. leaves_either old new batches before after leaves (leads (holds (device.seen old.device) (inr refl))) holds }
+      record { meanwhile = λ holds. leaves_either old new batches before after leaves (leads (holds (device.seen old.file.device) (inr refl))) holds }
 
   -- what is true of all that a crash may leave
-  of_all : (new : BatchFile D) (batches : List (List ℕ)) (P : List (List ℕ) → Type 0) → IsOnDisk device.seen device.may_leave device.faults new →
-      recovered (device.seen new.device) ≡ batches → P batches → (c : List ℕ) → device.may_leave new.device c ⊎ (c ≡ device.seen new.device) → P (recovered c)
-  of_all new batches P settled are is c (inl left) = subst P (sym (ap recovered (settled.durable c left) ∙ are)) is
-  of_all new batches P settled are is c (inr same) = subst P (sym (ap recovered same ∙ are)) is
+  of_all : (old new : SeenKeeper D) (batches : List (List ℕ)) (P : List (List ℕ) → Type 0) → HasNow old new batches → P batches →
+      (c : List ℕ) → device.may_leave new.file.device c ⊎ (c ≡ device.seen new.file.device) → P (recovered c)
+  of_all old new batches P now is c (inl left) = subst P (sym (ap recovered (now.settled.durable c left) ∙ now.are)) is
+  of_all old new batches P now is c (inr same) = subst P (sym (ap recovered same ∙ now.are)) is
 
-  pub keeps : (old new : BatchFile D) (batches : List (List ℕ)) (before after : List Event) →
-      LeavesOnly device.moment device.left_since old.device new.device (IsOldOrNew (recovered (device.seen old.device)) batches) →
-      IsOnDisk device.seen device.may_leave device.faults new → recovered (device.seen new.device) ≡ batches →
-      (StandFor (recovered (device.seen old.device)) before → StandFor batches after) → Keeps (file_crashes device) before after old new
-  keeps old new batches before after leaves settled are leads = record {
-    holds = λ holds. of_all new batches (λ bs. StandFor bs after) settled are (leads (holds (device.seen old.device) (inr refl)));
-    meanwhile = (keeps_not old new batches before after leaves leads).meanwhile;
+  pub keeps : (old new : SeenKeeper D) (batches : List (List ℕ)) (before after : List Event) → HasNow old new batches →
+      (StandFor (recovered (device.seen old.file.device)) before → StandFor batches after) → Keeps (file_crashes device) before after old new
+  keeps old new batches before after now leads = record {
+    holds = λ holds. of_all old new batches (λ bs. StandFor bs after) now (leads (holds (device.seen old.file.device) (inr refl)));
+    meanwhile = (keeps_not old new batches before after now.leaves leads).meanwhile;
   }
 
-  -- and it tells the rules that were told
-  pub keeps_rules : (old new : BatchFile D) (batches : List (List ℕ)) → IsOnDisk device.seen device.may_leave device.faults new → recovered (device.seen new.device) ≡ batches →
-      ((rules : RulesFact) → Tell (recovered (device.seen old.device)) rules → Tell batches rules) → KeepRules device.seen device.may_leave old new
-  keeps_rules old new batches settled are leads rules leaves =
-      of_all new batches (λ bs. Tell bs rules) settled are (leads rules (leaves (device.seen old.device) (inr refl)))
+  -- WHAT IS TOLD
 
-  -- MOMENTS
-
-  pub tells_moments : (old new : BatchFile D) (batches : List (List ℕ)) →
-      LeavesOnly device.moment device.left_since old.device new.device (IsOldOrNew (recovered (device.seen old.device)) batches) →
-      until_of (recovered (device.seen old.device)) ≤ until_of batches → TellsMoments (file_crashes device) old new
-  tells_moments old new batches leaves le = record {
+  pub tells_basis : (old new : SeenKeeper D) (batches : List (List ℕ)) → LeavesOldOr old new batches →
+      TellOn (recovered (device.seen old.file.device)) batches → TellsBasis (file_crashes device) old new
+  tells_basis old new batches leaves on = record {
     later = leaves.later;
-    earlier = λ m t c holds early left. by m t c (holds (device.seen old.device) (inr refl)) (leaves.before t c early left);
+    earlier = λ basis t c holds early left. by basis t c (holds (device.seen old.file.device) (inr refl)) (leaves.before t c early left);
   }
     where
-      by : (m t : ℕ) (c : List ℕ) → m ≤ until_of (recovered (device.seen old.device)) →
-          device.left_since old.device t c ⊎ IsOldOrNew (recovered (device.seen old.device)) batches c → device.left_since old.device t c ⊎ (m ≤ until_of (recovered c))
-      by m t c told (inl was) = inl was
-      by m t c told (inr (inl same)) = inr (subst (λ (bs : List (List ℕ)). m ≤ until_of bs) (sym same) told)
-      by m t c told (inr (inr now)) = inr (subst (λ (bs : List (List ℕ)). m ≤ until_of bs) (sym now) (omega arith))
+      by : (basis : Basis) (t : ℕ) (c : List ℕ) → TellBasis (recovered (device.seen old.file.device)) basis →
+          device.left_since old.file.device t c ⊎ IsOldOrNew (recovered (device.seen old.file.device)) batches c → device.left_since old.file.device t c ⊎ LeftTells c basis
+      by basis t c told (inl was) = inl was
+      by basis t c told (inr (inl same)) = inr (subst (λ (bs : List (List ℕ)). TellBasis bs basis) (sym same) told)
+      by basis t c told (inr (inr now)) = inr (subst (λ (bs : List (List ℕ)). TellBasis bs basis) (sym now) (on basis told))
 
-  -- all that a crash may leave tells a moment that the batches tell
-  pub holds_moment : (new : BatchFile D) (batches : List (List ℕ)) (m : ℕ) → IsOnDisk device.seen device.may_leave device.faults new →
-      recovered (device.seen new.device) ≡ batches → m ≤ until_of batches → HoldsMoment (file_crashes device) new m
-  holds_moment new batches m settled are le = of_all new batches (λ bs. m ≤ until_of bs) settled are le
+  -- all that a crash may leave tells what the batches tell
+  pub holds_basis : (old new : SeenKeeper D) (batches : List (List ℕ)) (basis : Basis) → HasNow old new batches → TellBasis batches basis → HoldsBasis (file_crashes device) new basis
+  holds_basis old new batches basis now told = of_all old new batches (λ bs. TellBasis bs basis) now told
 
-  pub keeps_moments : (old new : BatchFile D) (batches : List (List ℕ)) →
-      LeavesOnly device.moment device.left_since old.device new.device (IsOldOrNew (recovered (device.seen old.device)) batches) →
-      IsOnDisk device.seen device.may_leave device.faults new → recovered (device.seen new.device) ≡ batches →
-      until_of (recovered (device.seen old.device)) ≤ until_of batches → KeepsMoments (file_crashes device) old new
-  keeps_moments old new batches leaves settled are le = record {
-    holds = λ m holds. (let told = holds (device.seen old.device) (inr refl) in holds_moment new batches m settled are (omega (arith, told, le)));
-    meanwhile = tells_moments old new batches leaves le;
+  pub keeps_basis : (old new : SeenKeeper D) (batches : List (List ℕ)) → HasNow old new batches → TellOn (recovered (device.seen old.file.device)) batches → KeepsBasis (file_crashes device) old new
+  keeps_basis old new batches now on = record {
+    holds = λ basis holds. holds_basis old new batches basis now (on basis (holds (device.seen old.file.device) (inr refl)));
+    meanwhile = tells_basis old new batches now.leaves on;
   }
 
 -- A BATCH OF CHANGES MORE
@@ -100,7 +108,6 @@ changes_stand batches batch facts before after is fits happened stands =
     subst (λ (b : List ℕ). StandFor (batches ++ b ∷ []) after) (sym is)
     (StandFor-joined batches (batch_spelling facts ∷ []) before after facts stands (AreTold-changes facts fits) happened)
 
-pub changes_tell : (batches : List (List ℕ)) (batch : List ℕ) (facts : List DatedFact) → batch ≡ batch_spelling facts →
-    (rules : RulesFact) → Tell batches rules → Tell (batches ++ batch ∷ []) rules
-changes_tell batches batch facts is rules tell =
-    (tell.0, ap (λ (b : List ℕ). last_rules (batches ++ b ∷ [])) is ∙ last_rules-push batches (batch_spelling facts) ∙ tell.1, tell.2)
+pub changes_tell : (batches : List (List ℕ)) (batch : List ℕ) (facts : List DatedFact) → batch ≡ batch_spelling facts → TellOn batches (batches ++ batch ∷ [])
+changes_tell batches batch facts is = tell_on batches (batches ++ batch ∷ []) (until_of-more batches (batch ∷ []))
+    (λ rules tell. (tell.0, ap (λ (b : List ℕ). last_rules (batches ++ b ∷ [])) is ∙ last_rules-push batches (batch_spelling facts) ∙ tell.1, tell.2))

@@ -1,13 +1,14 @@
 -- What is known of a file's batches once there is one more, or once an image stands there.
 use Rattle.std.proofs.Common.{◌≡◌, ◌<◌, ◌≤◌, ◌^◌, inl, inr, ℕ, List, [], ◌∷◌, ◌++◌, length, Bool, true, false, Option, Some, None, refl, sym, ap, ◌∙◌, subst, append-nil, arith}
 use Rattle.std.specs.Prelude.{IfSome, max, ◌==◌, if◌then◌else◌}
-use Rattle.change_codec.proofs.Batches.{one_list}
+use Rattle.change_codec.specs.SpellingLaws.{one_list}
 use Rattle.change_codec.specs.Happened.{Happened}
 use Rattle.change_codec.specs.HappenedLaws.{Happened-split}
 use Rattle.change_codec.specs.Spelling.{DatedFact, HaveSpelling, batch_spelling}
 use Rattle.consent.specs.History.{Event}
-use Rattle.image_codec.proofs.Images.{one_image}
-use Rattle.image_codec.specs.Facts.{HookFact, ImageFact, RulesFact}
+use Rattle.image_codec.specs.SpellingLaws.{one_image}
+use Rattle.change_codec.specs.Rules.{RulesFact}
+use Rattle.image_codec.specs.Facts.{HookFact, ImageFact}
 use Rattle.image_codec.specs.Spelling.{ImageFits, image_spelling, rules_spelling}
 use Rattle.state_file.specs.Hooks.{AreBehind, hooks_behind, hooks_set_in}
 use Rattle.state_file.specs.Knowing.{IsKnown, image_size}

@@ -1,5 +1,5 @@
 -- A start, from the file's changes up to the batches of the new file.
-use Rattle.std.proofs.Common.{◌≡◌, ◌≤◌, ◌∙◌, inl, inr, ℕ, List, [], ◌∷◌, Option, None, Some, refl, sym, ap, subst, arith}
+use Rattle.std.proofs.Common.{◌≡◌, ◌≤◌, ◌^◌, ◌∙◌, inl, inr, ℕ, List, [], ◌∷◌, length, Option, None, Some, refl, sym, ap, subst, arith}
 use Rattle.std.specs.Prelude.{max, unwrap_or, option_map}
 use Rattle.batch_file.specs.Frames.{recovered}
 use Rattle.consent.specs.History.{Event}
@@ -7,9 +7,9 @@ use Rattle.change_codec.specs.Happened.{Happened}
 use Rattle.change_codec.specs.Spelling.{DatedFact, batch_spelling}
 use Rattle.endpoints.specs.Server.{SeenServer, FitsServer, Notes, NowNotes, AreUnkept, Outset}
 use Rattle.hook_host.specs.declared.host.HookHost.{Ghosts as Hosting}
-use Rattle.image_codec.specs.Facts.{RulesFact}
+use Rattle.change_codec.specs.Rules.{RulesFact}
 use Rattle.state_file.specs.Hooks.{AreSet, with_hooks}
-use Rattle.state_file.specs.Making.{MakesFrom, Made, OnBytes, RefusesMaking}
+use Rattle.state_file.specs.Making.{AreTooLong, MakesFrom, Made, OnBytes, RefusesMaking}
 use Rattle.state_file.specs.MakingParts.{AreAdded, AreToldBehind, IsUnadded, StandInFor}
 use Rattle.state_file.specs.Resuming.{FitsRestored, Sets}
 use Rattle.state_file.specs.Standing.{StandFor, until_of}
@@ -59,26 +59,27 @@ noted_leads None before after notes = absurd notes
 noted_leads (Some facts) before after notes = (notes, refl)
 
 -- why it is not added
-pub unadded : {H : Type 0} (hosting : Hosting H) (on : OnBytes H) (fault : StateFault) → IsUnadded fault → RefusesMaking hosting on fault
-unadded hosting on state.Memory is = inl tt
-unadded hosting on state.Full is = inr (inr refl)
-unadded hosting on state.NotState is = absurd is
-unadded hosting on (state.Version version) is = absurd is
-unadded hosting on (state.Damaged number) is = absurd is
-unadded hosting on (state.Unplaced reason) is = absurd is
-unadded hosting on (state.Device reason) is = absurd is
-unadded hosting on state.TooLong is = absurd is
-unadded hosting on state.NoRules is = absurd is
-unadded hosting on (state.Spelling fault) is = absurd is
-unadded hosting on (state.ScopeMoved name) is = absurd is
-unadded hosting on state.OwnerMoved is = absurd is
-unadded hosting on (state.ClientMoved name) is = absurd is
-unadded hosting on (state.ClientNarrowed name) is = absurd is
-unadded hosting on state.LifeNarrowed is = absurd is
-unadded hosting on (state.Follows fault) is = absurd is
-unadded hosting on (state.Image fault) is = absurd is
-unadded hosting on (state.HookDiffers name) is = absurd is
-unadded hosting on (state.Hook name fault) is = absurd is
+pub unadded : {H : Type 0} (hosting : Hosting H) (on : OnBytes H) (facts : List DatedFact) (fault : StateFault) → (2 ^ 32 ≤ length (batch_spelling facts) → AreTooLong hosting on) →
+    IsUnadded facts fault → RefusesMaking hosting on fault
+unadded hosting on facts state.Memory long is = inl tt
+unadded hosting on facts state.Full long is = inr (inr (refl, long is))
+unadded hosting on facts state.NotState long is = absurd is
+unadded hosting on facts (state.Version version) long is = absurd is
+unadded hosting on facts (state.Damaged number) long is = absurd is
+unadded hosting on facts (state.Unplaced reason) long is = absurd is
+unadded hosting on facts (state.Device reason) long is = absurd is
+unadded hosting on facts state.TooLong long is = absurd is
+unadded hosting on facts state.NoRules long is = absurd is
+unadded hosting on facts (state.Spelling fault) long is = absurd is
+unadded hosting on facts (state.ScopeMoved name) long is = absurd is
+unadded hosting on facts state.OwnerMoved long is = absurd is
+unadded hosting on facts (state.ClientMoved name) long is = absurd is
+unadded hosting on facts (state.ClientNarrowed name) long is = absurd is
+unadded hosting on facts state.LifeNarrowed long is = absurd is
+unadded hosting on facts (state.Follows fault) long is = absurd is
+unadded hosting on facts (state.Image fault) long is = absurd is
+unadded hosting on facts (state.HookDiffers name) long is = absurd is
+unadded hosting on facts (state.Hook name fault) long is = absurd is
 
 -- A WHOLE START
 

@@ -6,7 +6,8 @@ use Rattle.std.proofs.lemmas.Bool.{ne_eqb}
 use Rattle.std.proofs.lemmas.List.{map_push}
 use Rattle.clients.specs.ClientRecord.{ClientRecord}
 use Rattle.clients.specs.Clients.{client_at}
-use Rattle.image_codec.specs.Facts.{ClientFact, client_fact}
+use Rattle.change_codec.specs.Rules.{ClientFact}
+use Rattle.image_codec.specs.Facts.{client_fact}
 use Rattle.image_codec.specs.declared.image.ClientRules.{ClientRules}
 use Rattle.state_file.specs.Telling.{client_told}
 

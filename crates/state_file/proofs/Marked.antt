@@ -5,12 +5,13 @@ use Rattle.std.proofs.lemmas.Bool.{eqb-true, lt-ltb, ltb-true}
 use Rattle.std.proofs.lemmas.Nat.{from_be_bytes-to_be_bytes_8}
 use Rattle.std.specs.Int.{w64, from_be_bytes, to_be_bytes}
 use Rattle.consent.specs.History.{Event}
-use Rattle.image_codec.specs.Facts.{ImageFact, RulesFact}
+use Rattle.image_codec.specs.Facts.{ImageFact}
 use Rattle.image_codec.specs.Spelling.{ImageFits, image_spelling}
 use Rattle.state_file.specs.Standing.{AreTold, IsImageOf, StandFor, mark, mark_in, marks, until_of}
-use Rattle.state_file.specs.StandingLaws.{AreTold-mark, StandFor-beside, StandFor-image, until_of-append}
+use Rattle.state_file.specs.StandingLaws.{AreTold-mark, StandFor-beside, StandFor-image, until_of-append, until_of-more}
 use Rattle.state_file.specs.Telling.{Tell, last_rules}
 use Rattle.state_file.specs.TellingLaws.{last_rules-push}
+use Rattle.state_file.proofs.Kept.{TellOn, tell_on}
 
 by_value : (bytes : List ℕ) (n : ℕ) → (length bytes == 8) ≡ true → from_be_bytes w64 bytes ≡ n → n < 2 ^ 63 → mark_in (3 ∷ bytes) ≡ Some n
 by_value bytes n long is less = let below = lt-ltb n (2 ^ 63) less in rw (long, is, below) refl
@@ -60,10 +61,10 @@ pub mark_stands : (batches : List (List ℕ)) (batch : List ℕ) (until : ℕ) (
 mark_stands batches batch until history is less stands =
     subst (λ (b : List ℕ). StandFor (batches ++ b ∷ []) history) (sym is) (StandFor-beside batches (mark until ∷ []) history (AreTold-mark until (is_mark until less)) stands)
 
--- and tell the same rules
-pub mark_tells : (batches : List (List ℕ)) (batch : List ℕ) (until : ℕ) → batch ≡ mark until → (rules : RulesFact) → Tell batches rules → Tell (batches ++ batch ∷ []) rules
-mark_tells batches batch until is rules tell =
-    (tell.0, ap (λ (b : List ℕ). last_rules (batches ++ b ∷ [])) is ∙ last_rules-push batches (mark until) ∙ tell.1, tell.2)
+-- and tell what they told
+pub mark_tells : (batches : List (List ℕ)) (batch : List ℕ) (until : ℕ) → batch ≡ mark until → TellOn batches (batches ++ batch ∷ [])
+mark_tells batches batch until is = tell_on batches (batches ++ batch ∷ []) (until_of-more batches (batch ∷ []))
+    (λ rules tell. (tell.0, ap (λ (b : List ℕ). last_rules (batches ++ b ∷ [])) is ∙ last_rules-push batches (mark until) ∙ tell.1, tell.2))
 
 -- AN IMAGE, AND THE MARK OF A MOMENT
 

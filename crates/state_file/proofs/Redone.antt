@@ -10,7 +10,8 @@ use Rattle.endpoints.specs.Bounded.{AllRight}
 use Rattle.endpoints.specs.Server.{FitsServer}
 use Rattle.endpoints.specs.Redo as again
 use Rattle.endpoints.specs.Steps.{Reaches}
-use Rattle.change_codec.specs.Spelling.{DatedFact, HaveSpelling, batch_spelling, fact_of}
+use Rattle.consent.specs.Facts.{fact_of}
+use Rattle.change_codec.specs.Spelling.{DatedFact, HaveSpelling, batch_spelling}
 use Rattle.change_codec.specs.Happened.{dated}
 use Rattle.change_codec.specs.HappenedLaws.{Happened-split, meaning_of-told}
 use Rattle.state_file.specs.Standing.{AreTold, IsTold, last_moment}

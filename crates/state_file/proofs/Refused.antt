@@ -14,7 +14,8 @@ use Rattle.endpoints.specs.declared.redo.RedoFault.{RedoFault}
 use Rattle.endpoints.specs.declared.redo.RedoFault.TheVariants as redoing
 use Rattle.hook_host.specs.declared.fault.HookFault.{HookFault}
 use Rattle.hook_host.specs.declared.host.HookHost.{Ghosts as Hosting}
-use Rattle.image_codec.specs.Facts.{HookFact, ImageFact, RulesFact, hook_fact}
+use Rattle.change_codec.specs.Rules.{RulesFact}
+use Rattle.image_codec.specs.Facts.{HookFact, ImageFact, hook_fact}
 use Rattle.image_codec.specs.Spelling.{ImageFits, image_spelling, rules_spelling}
 use Rattle.image_codec.specs.declared.image.KeptHook.{KeptHook}
 use Rattle.state_file.specs.Comparing.{AreNarrower, IsUnread, IsUnwritten, RefuseBeside, RefuseRules, TakesRules}

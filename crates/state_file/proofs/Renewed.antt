@@ -9,8 +9,9 @@ use Rattle.endpoints.specs.Server.{SeenServer}
 use Rattle.endpoints.specs.declared.image_keeper.ImageFault.{ImageFault}
 use Rattle.endpoints.specs.declared.image_keeper.ImageFault.TheVariants.{TooLong}
 use Rattle.hook_host.specs.declared.host.HookHost.{Ghosts as Hosting}
-use Rattle.image_codec.proofs.Images.{one_rules}
-use Rattle.image_codec.specs.Facts.{HookFact, ImageFact, RulesFact}
+use Rattle.image_codec.specs.SpellingLaws.{one_rules, rules_of_fitting}
+use Rattle.change_codec.specs.Rules.{RulesFact}
+use Rattle.image_codec.specs.Facts.{HookFact, ImageFact}
 use Rattle.image_codec.specs.Spelling.{RulesFit, image_spelling}
 use Rattle.state_file.specs.Hooks.{hooks_set_in}
 use Rattle.state_file.specs.Knowing.{IsKnown, IsLong}
@@ -18,13 +19,14 @@ use Rattle.state_file.specs.Renewing.{HasTooMuch, IsUnspelled, SpellImage}
 use Rattle.state_file.specs.Standing.{StandFor, mark, marks, until_of}
 use Rattle.state_file.specs.Telling.{Tell, TellsIn}
 use Rattle.state_file.specs.declared.keeper.Known.{Known}
+use Rattle.state_file.proofs.Kept.{TellOn, tell_on}
 use Rattle.state_file.proofs.Known.{known_image}
 use Rattle.state_file.proofs.Marked.{StandFor-image_marked, Tell-image, until_of-image, until_of-less}
 
 -- rules that are told fit
 fit_told : (batch : List ℕ) (told : RulesFact) → TellsIn batch told → RulesFit told
 fit_told batch told (inl alone) = alone.0
-fit_told batch told (inr of) = subst RulesFit of.2 of.1.0
+fit_told batch told (inr of) = subst RulesFit of.2 (rules_of_fitting of.0 of.1)
 
 -- AN IMAGE OF THE SERVER THAT IS SPELLED, AND A MARK
 
@@ -58,13 +60,17 @@ module _ {H : Type 0} (hosting : Hosting H) (server : SeenServer H) (hooks : Lis
   -- and tell the rules that these tell
   pub image_tells : IsKnown old known → (told : RulesFact) → Tell old told → Tell new told
   image_tells is_known told tell =
-      let same : of.spell.image.rules ≡ told = one_rules of.spell.image.rules told of.spell.fits.0 (fit_told tell.0 told tell.2) (sym of.spell.rules_are ∙ is_known.rules_are told tell) in
+      let same : of.spell.image.rules ≡ told = one_rules of.spell.image.rules told (rules_of_fitting of.spell.image of.spell.fits) (fit_told tell.0 told tell.2) (sym of.spell.rules_are ∙ is_known.rules_are told tell) in
       subst (λ (bs : List (List ℕ)). Tell bs told) (sym spelled)
       (subst (λ (r : RulesFact). Tell (image_spelling of.spell.image ∷ marks known.until) r) same (Tell-image of.spell.image known.until of.spell.fits))
 
   -- and the moment
   pub image_until : IsKnown old known → until_of new ≡ until_of old
   image_until is_known = ap until_of spelled ∙ until_of-image of.spell.image known.until of.less ∙ is_known.until_is
+
+  -- and so whatever these tell
+  pub image_on : IsKnown old known → TellOn old new
+  image_on is_known = tell_on old new (let same = image_until is_known in omega (arith, same)) (image_tells is_known)
 
   -- what is known of them
   pub image_known : known.hooks ≡ Some hooks → (now : Known) → now.rules ≡ known.rules → now.hooks ≡ known.hooks → now.until ≡ known.until → now.image ≡ length of.bytes → IsKnown new now

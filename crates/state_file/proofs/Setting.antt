@@ -9,7 +9,8 @@ use Rattle.consent.specs.History.{Change as happens}
 use Rattle.consent.specs.declared.change.Changes.{Changes}
 use Rattle.change_codec.specs.Happened.{Happened, all_dated}
 use Rattle.change_codec.specs.HappenedLaws.{Happened-joined}
-use Rattle.change_codec.specs.Spelling.{DatedFact, HookSet}
+use Rattle.consent.specs.Facts.{HookSet}
+use Rattle.change_codec.specs.Spelling.{DatedFact}
 use Rattle.endpoints.specs.Noting.{with_notes}
 use Rattle.endpoints.specs.Server.{SeenServer, FitsServer, Notes, NowNotes, AreUnkept, AreNoted, Outset}
 use Rattle.hook_host.specs.declared.host.HookHost.{Ghosts as Hosting}

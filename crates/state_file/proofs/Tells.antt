@@ -1,13 +1,12 @@
 -- A state file in which rules are told.
 use Rattle.std.proofs.Common.{◌≡◌, ◌↔◌, inl, inr, length, ℕ, zero, suc, List, [], ◌∷◌, ◌++◌, Bool, true, false, Option, None, Some, refl, sym, ap, ◌∙◌, subst, arith}
 use Rattle.std.specs.Prelude.{max}
-use Rattle.std.specs.List.{AllByRecursion}
 use Rattle.std.specs.Option.{option_or}
 use Rattle.consent.specs.History.{Event}
-use Rattle.change_codec.specs.Spelling.{FitsFourBytes, IsText}
-use Rattle.image_codec.proofs.Images.{one_rules}
-use Rattle.image_codec.specs.Facts.{ClientFact, ImageFact, RulesFact}
-use Rattle.image_codec.specs.Spelling.{ClientFits, ImageFits, RulesCount, RulesFit, image_spelling, rules_fields, rules_spelling}
+use Rattle.image_codec.specs.SpellingLaws.{one_rules}
+use Rattle.change_codec.specs.Rules.{RulesFact}
+use Rattle.image_codec.specs.Facts.{ImageFact}
+use Rattle.image_codec.specs.Spelling.{ImageFits, RulesFit, image_spelling, rules_fields, rules_spelling}
 use Rattle.state_file.specs.MakingParts.{AreToldBehind}
 use Rattle.state_file.specs.Standing.{StandFor, until_of}
 use Rattle.state_file.specs.StandingLaws.{AreTold-rules, StandFor-beside, until_of-append}
@@ -68,17 +67,6 @@ pub one_of_rules : (batch : List ℕ) (read : RulesFact) → batch ≡ rules_spe
     (others : RulesFact) → TellsIn batch others → others ≡ read
 one_of_rules batch read is one others (inl alone) = one others alone.0 alone.1
 one_of_rules batch read is one others (inr of) = let e = sym is ∙ of.3 in absurd cc
-
--- what fits can be counted
-each_counts : {A : Type 0} (P Q : A → Type 0) → ((x : A) → P x → Q x) → (xs : List A) → AllByRecursion P xs → AllByRecursion Q xs
-each_counts P Q weaker [] all = tt
-each_counts P Q weaker (x ∷ xs) all = (weaker x all.0, each_counts P Q weaker xs all.1)
-
-pub fit_counts : (rules : RulesFact) → RulesFit rules → RulesCount rules
-fit_counts rules fit = (
-  (fit.0.0, each_counts IsText (λ name. FitsFourBytes (length name)) (λ name text. text.1) rules.scopes fit.0.1),
-  (fit.2.0, each_counts ClientFits (λ (c : ClientFact). FitsFourBytes (length c.name)) (λ c client. client.0.1) rules.clients fit.2.1),
-)
 
 -- rules of one spelling are the same
 pub told_spelled : (batch : List ℕ) (told now : RulesFact) → TellsIn batch told → RulesFit told → RulesFit now → ((others : RulesFact) → TellsIn batch others → others ≡ told) →

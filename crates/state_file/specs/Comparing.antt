@@ -1,10 +1,10 @@
 -- When a registry's rules are as wide as those that a file tells, and where they first are not.
 use Rattle.std.specs.Prelude.{◌≡◌, ◌≤◌, ◌<◌, ◌^◌, ◌⊎◌, ℕ, zero, suc, List, [], ◌∷◌, length, map, Option, None, Some, if◌then◌else◌, string_bytes}
 use Rattle.std.specs.Str.{bytes_eq}
-use Rattle.change_codec.specs.declared.fault.ChangeFault.{ChangeFault}
+use Rattle.wire.specs.declared.fault.Fault.{Fault}
 use Rattle.consent.specs.History.{is_within}
-use Rattle.image_codec.specs.Facts.{ClientFact, RulesFact}
-use Rattle.image_codec.specs.Reading.{image_reading, rules_reading}
+use Rattle.change_codec.specs.Rules.{ClientFact, RulesFact}
+use Rattle.image_codec.specs.Spelling.{image_reading, rules_reading}
 use Rattle.image_codec.specs.Spelling.{RulesCount, rules_spelling}
 use Rattle.std.specs.Prelude.{Err}
 use Rattle.state_file.specs.Telling.{last_rules, Tell, TellsIn, BeginWithRules}
@@ -73,7 +73,7 @@ IsUnwritten bytes Memory = Unit {0}
 IsUnwritten bytes _ = ⊥
 
 -- the bytes that should tell rules spell none: no image where they begin with a byte 2, and else no rules alone
-abbrev pub IsMisspelled : List ℕ → ChangeFault → Type 0
+abbrev pub IsMisspelled : List ℕ → Fault → Type 0
 IsMisspelled (suc (suc zero) ∷ fields) fault = image_reading (2 ∷ fields) ≡ Err fault
 IsMisspelled batch fault = rules_reading batch ≡ Err fault
 

@@ -1,12 +1,12 @@
 -- How faults are printed.
 use Rattle.std.specs.Prelude.{ℕ, List, codes, decimal, ◌++◌, string_bytes}
-use Rattle.change_codec.specs.FaultTexts.{change_fault_text}
+use Rattle.wire.specs.FaultTexts.{fault_text}
 use Rattle.endpoints.specs.FaultTexts.{redo_fault_text}
 use Rattle.hook_host.specs.Faults.{hook_fault_text}
-use Rattle.change_codec.specs.declared.fault.DecodeFault.{DecodeFault}
-use Rattle.change_codec.specs.declared.fault.DecodeFault.TheVariants as decoding
-use Rattle.change_codec.specs.declared.fault.EncodeFault.{EncodeFault}
-use Rattle.change_codec.specs.declared.fault.EncodeFault.TheVariants as encoding
+use Rattle.wire.specs.declared.fault.DecodeFault.{DecodeFault}
+use Rattle.wire.specs.declared.fault.DecodeFault.TheVariants as decoding
+use Rattle.wire.specs.declared.fault.EncodeFault.{EncodeFault}
+use Rattle.wire.specs.declared.fault.EncodeFault.TheVariants as encoding
 use Rattle.batch_file.specs.FaultTexts.{system_fault_text}
 use Rattle.batch_file.specs.declared.device.ReplaceFault.{ReplaceFault}
 use Rattle.batch_file.specs.declared.device.ReplaceFault.TheVariants as replacing
@@ -32,7 +32,7 @@ state_fault_text (state.Device reason) = codes "Device: " ++ system_fault_text r
 state_fault_text state.Full = codes "Full"
 state_fault_text state.TooLong = codes "TooLong"
 state_fault_text state.NoRules = codes "NoRules"
-state_fault_text (state.Spelling fault) = codes "Spelling " ++ change_fault_text fault
+state_fault_text (state.Spelling fault) = codes "Spelling " ++ fault_text fault
 state_fault_text (state.ScopeMoved name) = codes "ScopeMoved " ++ string_bytes name
 state_fault_text state.OwnerMoved = codes "OwnerMoved"
 state_fault_text (state.ClientMoved name) = codes "ClientMoved " ++ string_bytes name

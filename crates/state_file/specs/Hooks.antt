@@ -3,7 +3,8 @@ use Rattle.std.specs.Prelude.{◌≡◌, ◌++◌, ℕ, List, [], ◌∷◌, Opt
 use Rattle.std.specs.Str.{bytes_eq}
 use Rattle.consent.specs.History.{Event, Change, with_change}
 use Rattle.consent.specs.History.{Change as happens}
-use Rattle.change_codec.specs.Spelling.{DatedFact, Fact, HaveSpelling, HookSet, HookGone, batch_spelling}
+use Rattle.consent.specs.Facts.{Fact, HookSet, HookGone}
+use Rattle.change_codec.specs.Spelling.{DatedFact, HaveSpelling, batch_spelling}
 use Rattle.image_codec.specs.Facts.{HookFact}
 
 -- the hook of the name

@@ -1,21 +1,36 @@
 -- What a keeper knows of its file.
-use Rattle.std.specs.Prelude.{◌≡◌, ◌⊎◌, ◌<◌, ◌^◌, ◌/◌, ℕ, List, [], ◌∷◌, length, IfSome, if◌then◌else◌}
+use Rattle.std.specs.Prelude.{◌≡◌, ◌⊎◌, ◌<◌, ◌≤◌, ◌^◌, ◌/◌, ℕ, List, [], ◌∷◌, length, Option, IfSome, if◌then◌else◌}
 use Rattle.batch_file.specs.Frames.{recovered}
+use Rattle.batch_file.specs.declared.appending.BatchFault.{BatchFault}
 use Rattle.batch_file.specs.declared.appending.BatchFile.{BatchFile}
 use Rattle.batch_file.specs.declared.device.Device.{Ghosts as Device}
-use Rattle.change_codec.specs.Keeping.{Crashes, crashes}
+use Rattle.change_codec.specs.Keeping.{Basis, Until, Rules, Crashes, crashes}
 use Rattle.consent.specs.History.{Event}
-use Rattle.image_codec.specs.Facts.{RulesFact}
+use Rattle.change_codec.specs.Rules.{RulesFact}
 use Rattle.image_codec.specs.Spelling.{rules_spelling}
 use Rattle.state_file.specs.Hooks.{hooks_set_in}
 use Rattle.state_file.specs.Standing.{StandFor, StandsFor, begins_image, until_of}
 use Rattle.state_file.specs.Telling.{Tell}
 use Rattle.state_file.specs.declared.keeper.Known.{Known}
 
--- what crashes leave of a file of batches on the device
-abbrev pub file_crashes : {D : Type 0} → Device D → Crashes (BatchFile D)
+-- a keeper as it is seen: its file, and why it keeps nothing more, if it does not
+pub record SeenKeeper (D : Type 0) : Type 0 where
+  pub file : BatchFile D
+  pub fault : Option BatchFault
+
+-- the batches tell the moment, or a later one; or they tell the rules
+abbrev pub TellBasis : List (List ℕ) → Basis → Type 0
+TellBasis batches (Until moment) = moment ≤ until_of batches
+TellBasis batches (Rules rules) = Tell batches rules
+
+-- so do the bytes of a file, by their batches
+abbrev pub LeftTells : List ℕ → Basis → Type 0
+LeftTells left basis = TellBasis (recovered left) basis
+
+-- what crashes leave of a keeper of a file on the device
+abbrev pub file_crashes : {D : Type 0} → Device D → Crashes (SeenKeeper D)
 file_crashes device =
-    crashes StandsFor (λ left. until_of (recovered left)) (λ f c. device.may_leave f.device c ⊎ (c ≡ device.seen f.device)) (λ f. device.moment f.device) (λ f. device.left_since f.device)
+    crashes StandsFor LeftTells (λ k c. device.may_leave k.file.device c ⊎ (c ≡ device.seen k.file.device)) (λ k. device.moment k.file.device) (λ k. device.left_since k.file.device)
 
 -- how many bytes the image has that the batches begin with, if they do
 abbrev pub image_size : List (List ℕ) → ℕ

@@ -4,6 +4,7 @@ pub mod Telling
 pub mod Comparing
 pub mod Hooks
 pub mod Resuming
+pub mod Runs
 pub mod Making
 pub mod Starting
 pub mod FaultTexts
@@ -16,3 +17,4 @@ pub mod StandingLaws
 pub mod TellingLaws
 pub mod ResumingLaws
 pub mod ReplayingLaws
+pub mod RunLaws

@@ -1,6 +1,7 @@
 -- What a server is started with on the bytes of a state file, before anything is written.
-use Rattle.std.specs.Prelude.{◌≡◌, ◌≤◌, ◌⊎◌, ◌+◌, ℕ, List}
+use Rattle.std.specs.Prelude.{◌≡◌, ◌≤◌, ◌⊎◌, ◌+◌, ◌^◌, ℕ, List, [], length, Some, unwrap_or}
 use Rattle.batch_file.specs.Frames.{frames_size, recovered, torn_of}
+use Rattle.change_codec.specs.Spelling.{batch_spelling}
 use Rattle.consent.specs.History.{Event}
 use Rattle.endpoints.specs.Server.{Outset, SeenServer}
 use Rattle.hook_host.specs.declared.host.HookHost.{Ghosts as Hosting}
@@ -8,9 +9,10 @@ use Rattle.image_codec.specs.Facts.{HookFact}
 use Rattle.state_file.specs.Hooks.{AreSet, with_hooks}
 use Rattle.state_file.specs.Knowing.{IsLong, image_size}
 use Rattle.state_file.specs.Renewing.{HasTooMuch}
-use Rattle.state_file.specs.Resuming.{AnswersFor, OfEachHistory, RefusesResume, RefusesSome, ServesOn}
+use Rattle.state_file.specs.Resuming.{AnswersFor, OfEachHistory, RefusesResume, RefusesSome, ServesOn, Sets}
 use Rattle.state_file.specs.Standing.{IsMomentTold, StandFor, until_of}
 use Rattle.state_file.specs.Telling.{Tell, rules_of}
+use Rattle.state_file.specs.declared.restored.Restored.{Restored}
 use Rattle.state_file.specs.declared.fault.StateFault.{StateFault}
 use Rattle.state_file.specs.declared.fault.StateFault.TheVariants as state
 
@@ -59,8 +61,18 @@ pub record Makes {H : Type 0} (hosting : Hosting H) (on : OnBytes H) (made : Mad
   pub short : AreKeptShort hosting made.server made.batches
   pub torn_is : made.torn ≡ torn_of on.bytes
 
+-- The hooks are too long to be told: they are set on a server that is made of the bytes, and what it notes then takes 2^32 bytes
+-- or more.
+pub record AreTooLong {H : Type 0} (hosting : Hosting H) (on : OnBytes H) : Type 0 where
+  pub old : Restored H
+  pub answers : AnswersFor hosting on.bytes on.outset old
+  pub nothing : old.server.unkept ≡ Some []
+  pub new : Restored H
+  pub set : Sets hosting old on.hooks new
+  pub long : 2 ^ 32 ≤ length (batch_spelling (unwrap_or new.server.unkept []))
+
 -- why nothing is made: for the file, or for a hook, once a server was made of the file; or the hooks are too long to be told
 abbrev pub RefusesMaking : {H : Type 0} → Hosting H → OnBytes H → StateFault → Type 0
 RefusesMaking hosting on fault =
     RefusesResume on.bytes (rules_of on.outset.rules) fault ⊎ RefusesSome hosting (AnswersFor hosting on.bytes on.outset) on.hooks fault
-    ⊎ (fault ≡ state.Full)
+    ⊎ ((fault ≡ state.Full) × AreTooLong hosting on)

@@ -1,10 +1,10 @@
 -- Beside Making: only the contracts of this crate's own parts and their proofs cite this, no public clause.
-use Rattle.std.specs.Prelude.{◌≡◌, ◌⊎◌, ◌++◌, ℕ, List, [], ◌∷◌}
+use Rattle.std.specs.Prelude.{◌≡◌, ◌⊎◌, ◌≤◌, ◌^◌, ◌++◌, ℕ, List, [], ◌∷◌, length}
 use Rattle.change_codec.specs.Spelling.{DatedFact, HaveSpelling, batch_spelling}
 use Rattle.endpoints.specs.Imaging.{OfFitted}
 use Rattle.endpoints.specs.Server.{SeenServer}
 use Rattle.hook_host.specs.declared.host.HookHost.{Ghosts as Hosting}
-use Rattle.image_codec.specs.Facts.{RulesFact}
+use Rattle.change_codec.specs.Rules.{RulesFact}
 use Rattle.image_codec.specs.Spelling.{RulesFit, rules_spelling}
 use Rattle.state_file.specs.Standing.{StandFor, until_of}
 use Rattle.state_file.specs.Telling.{Tell}
@@ -21,10 +21,10 @@ abbrev pub AreAdded : List DatedFact → List (List ℕ) → List (List ℕ) →
 AreAdded facts old new = ((facts ≡ []) × (new ≡ old)) ⊎ (HaveSpelling facts × (new ≡ old ++ batch_spelling facts ∷ []))
 
 -- why they do not: memory was refused, or they are too long
-abbrev pub IsUnadded : StateFault → Type 0
-IsUnadded state.Memory = Unit {0}
-IsUnadded state.Full = Unit {0}
-IsUnadded _ = ⊥
+abbrev pub IsUnadded : List DatedFact → StateFault → Type 0
+IsUnadded facts state.Memory = Unit {0}
+IsUnadded facts state.Full = 2 ^ 32 ≤ length (batch_spelling facts)
+IsUnadded facts _ = ⊥
 
 -- The new batches may stand in for the old ones: they tell the same rules and the same moment, and stand for each history that
 -- the server fits, if the old ones do.

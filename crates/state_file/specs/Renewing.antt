@@ -1,7 +1,5 @@
 -- When an image is put in the place of a state file's batches.
 use Rattle.std.specs.Prelude.{◌≡◌, ◌⊎◌, ◌≤◌, ◌^◌, ℕ, List, length}
-use Rattle.batch_file.specs.Frames.{recovered}
-use Rattle.batch_file.specs.declared.appending.BatchFile.{BatchFile}
 use Rattle.endpoints.specs.Server.{SeenServer}
 use Rattle.hook_host.specs.declared.host.HookHost.{Ghosts as Hosting}
 use Rattle.image_codec.specs.Facts.{HookFact, ImageFact}
@@ -10,7 +8,6 @@ use Rattle.endpoints.specs.Imaging.{OfFitted}
 use Rattle.endpoints.specs.declared.image_keeper.ImageFault.{ImageFault}
 use Rattle.endpoints.specs.declared.image_keeper.ImageFault.TheVariants.{Memory, TooLong, Unwritten, Failed}
 use Rattle.state_file.specs.Hooks.{hooks_set_in}
-use Rattle.state_file.specs.Knowing.{IsLongFile}
 use Rattle.state_file.specs.Standing.{IsImageOf, StandFor}
 
 -- the image is one of each history that the server fits and that sets these hooks
@@ -41,7 +38,3 @@ IsUnspelled hosting server hooks Failed = ⊥
 abbrev pub HasTooMuch : {H : Type 0} → Hosting H → SeenServer H → List (List ℕ) → Type 0
 HasTooMuch hosting server batches =
     (image : ImageFact) × OfFitted hosting server (λ history. StandFor batches history → IsImageOf image history) × IsTooLarge image
-
--- the file is no longer than it may be, unless an image of the server is too large
-abbrev pub IsKeptShort : {H D : Type 0} → Hosting H → (D → List ℕ) → SeenServer H → BatchFile D → Type 0
-IsKeptShort hosting seen server file = (¬ IsLongFile seen file) ⊎ HasTooMuch hosting server (recovered (seen file.device))

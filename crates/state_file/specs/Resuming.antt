@@ -12,7 +12,8 @@ use Rattle.endpoints.specs.Hosts.{HostRun}
 use Rattle.endpoints.specs.Server.{SeenServer, Outset, FitsServer, Notes, AreNoted}
 use Rattle.endpoints.specs.Layouts.{layout_of}
 use Rattle.hook_host.specs.declared.host.HookHost.{Ghosts as Hosting}
-use Rattle.image_codec.specs.Facts.{RulesFact, HookFact, ImageFact}
+use Rattle.change_codec.specs.Rules.{RulesFact}
+use Rattle.image_codec.specs.Facts.{HookFact, ImageFact}
 use Rattle.state_file.specs.Comparing.{RefuseRules, TakesRules}
 use Rattle.state_file.specs.Hooks.{AreSet, hooks_behind, hooks_set_in, hook_named, with_hooks}
 use Rattle.state_file.specs.Standing.{AreTold, BeginWithImage, IsImageOf, StandsFor, begins_image, last_moment}

@@ -8,7 +8,7 @@ use Rattle.consent.specs.History.{Event}
 use Rattle.change_codec.specs.Spelling.{DatedFact, HaveSpelling, batch_spelling}
 use Rattle.change_codec.specs.Happened.{Happened}
 use Rattle.image_codec.specs.Facts.{ImageFact}
-use Rattle.image_codec.specs.Kept.{kept_told}
+use Rattle.token_store.specs.Image.{kept_told}
 use Rattle.image_codec.specs.Spelling.{ImageFits, image_spelling}
 use Rattle.token_store.specs.Fits.{FitsHistory}
 use Rattle.state_file.specs.Hooks.{hooks_set_in}

@@ -58,17 +58,6 @@ StandFor-joined batches more before after facts stands told happened = record {
   happened = Happened-joined stands.base before after stands.facts facts stands.happened happened;
 }
 
--- so it is of a file's bytes
-pub StandsFor-more : (left now : List ℕ) (before after : List Event) (more : List DatedFact) → StandsFor left before →
-    HaveSpelling more → recovered now ≡ recovered left ++ batch_spelling more ∷ [] → Happened before more after → StandsFor now after
-StandsFor-more left now before after more stands fits are happened =
-    subst (λ (batches : List (List ℕ)). StandFor batches after) (sym are)
-    (StandFor-joined (recovered left) (batch_spelling more ∷ []) before after more stands (AreTold-changes more fits) happened)
-
--- the same batches stand for the same
-pub StandsFor-same : (left now : List ℕ) (history : List Event) → recovered now ≡ recovered left → StandsFor left history → StandsFor now history
-StandsFor-same left now history same stands = subst (λ (batches : List (List ℕ)). StandFor batches history) (sym same) stands
-
 -- batches without changes more, as rules or marks
 pub StandFor-beside : (batches more : List (List ℕ)) (history : List Event) → AreTold more [] → StandFor batches history → StandFor (batches ++ more) history
 StandFor-beside batches more history told stands = StandFor-joined batches more history history [] stands told refl
@@ -94,11 +83,6 @@ StandFor-image image more history fits told is = record {
   told = told;
   happened = refl;
 }
-
-pub StandsFor-image : (left : List ℕ) (image : ImageFact) (history : List Event) → recovered left ≡ image_spelling image ∷ [] → ImageFits image →
-    IsImageOf image history → StandsFor left history
-StandsFor-image left image history are fits is =
-    subst (λ (batches : List (List ℕ)). StandFor batches history) (sym are) (StandFor-image image [] history fits refl is)
 
 -- MARKS
 

@@ -2,10 +2,10 @@
 use Rattle.std.specs.Prelude.{◌≡◌, ◌⊎◌, ℕ, zero, suc, List, [], ◌∷◌, length, map, Option, None, Some}
 use Rattle.std.specs.Option.{option_or}
 use Rattle.batch_file.specs.Frames.{recovered}
-use Rattle.batch_file.specs.declared.appending.BatchFile.{BatchFile}
 use Rattle.clients.specs.ClientRecord.{ClientRecord}
 use Rattle.clients.specs.RegistryRecord.{RegistryRecord}
-use Rattle.image_codec.specs.Facts.{ClientFact, RulesFact, ImageFact}
+use Rattle.change_codec.specs.Rules.{ClientFact, RulesFact}
+use Rattle.image_codec.specs.Facts.{ImageFact}
 use Rattle.image_codec.specs.Spelling.{RulesFit, ImageFits, rules_spelling, image_spelling}
 
 -- what is told of a client
@@ -50,14 +50,6 @@ Tell batches rules = (batch : List ℕ) × (last_rules batches ≡ Some batch) �
 -- so it is of the batches that the bytes stand for
 abbrev pub TellsRules : List ℕ → RulesFact → Type 0
 TellsRules left rules = Tell (recovered left) rules
-
--- so it is of the file, and of all that a crash may leave of it
-abbrev pub LeavesRules : {D : Type 0} → (D → List ℕ) → (D → List ℕ → Type 0) → BatchFile D → RulesFact → Type 0
-LeavesRules seen may_leave file rules = (c : List ℕ) → may_leave file.device c ⊎ (c ≡ seen file.device) → TellsRules c rules
-
--- what rules the one file tells, the other does
-abbrev pub KeepRules : {D : Type 0} → (D → List ℕ) → (D → List ℕ → Type 0) → BatchFile D → BatchFile D → Type 0
-KeepRules seen may_leave old new = (rules : RulesFact) → LeavesRules seen may_leave old rules → LeavesRules seen may_leave new rules
 
 -- the first batch, if there is one, tells rules
 abbrev pub BeginWithRules : List (List ℕ) → Type 0

@@ -4,9 +4,10 @@ use Rattle.std.specs.Prelude.{Ok, Err}
 use Rattle.std.specs.Option.{option_or}
 use Rattle.batch_file.specs.Frames.{recovered}
 use Rattle.change_codec.specs.Spelling.{DatedFact, batch_spelling}
-use Rattle.change_codec.specs.declared.fault.ChangeFault.{ChangeFault}
-use Rattle.image_codec.proofs.Images.{image_reading_again, one_image, one_rules, rules_reading_again}
-use Rattle.image_codec.specs.Facts.{ImageFact, RulesFact}
+use Rattle.wire.specs.declared.fault.Fault.{Fault}
+use Rattle.image_codec.specs.SpellingLaws.{image_reading_again, one_image, one_rules, rules_reading_again}
+use Rattle.change_codec.specs.Rules.{RulesFact}
+use Rattle.image_codec.specs.Facts.{ImageFact}
 use Rattle.image_codec.specs.Spelling.{ImageFits, RulesFit, image_spelling, rules_spelling}
 use Rattle.state_file.specs.Comparing.{IsMisspelled}
 use Rattle.state_file.specs.Telling.{rules_in, last_rules, Tell, TellsIn, TellsRules}
@@ -24,24 +25,6 @@ pub last_rules-push : (batches : List (List ℕ)) (batch : List ℕ) → last_ru
 last_rules-push [] batch = sym (or_none (rules_in batch))
 last_rules-push (b ∷ batches) batch =
     ap (λ (o : Option (List ℕ)). option_or o (rules_in b)) (last_rules-push batches batch) ∙ or_assoc (rules_in batch) (last_rules batches) (rules_in b)
-
--- a batch of changes more, which tells no rules
-pub TellsRules-more : (left now : List ℕ) (more : List DatedFact) (rules : RulesFact) → recovered now ≡ recovered left ++ batch_spelling more ∷ [] →
-    TellsRules left rules → TellsRules now rules
-TellsRules-more left now more rules are tells =
-    (tells.0, ap last_rules are ∙ last_rules-push (recovered left) (batch_spelling more) ∙ tells.1, tells.2)
-
--- a batch of rules more
-pub TellsRules-told : (left now : List ℕ) (rules : RulesFact) → RulesFit rules → recovered now ≡ recovered left ++ rules_spelling rules ∷ [] → TellsRules now rules
-TellsRules-told left now rules fit are = (rules_spelling rules, ap last_rules are ∙ last_rules-push (recovered left) (rules_spelling rules), inl (fit, refl))
-
--- the same batches
-pub TellsRules-same : (left now : List ℕ) (rules : RulesFact) → recovered now ≡ recovered left → TellsRules left rules → TellsRules now rules
-TellsRules-same left now rules same tells = (tells.0, ap last_rules same ∙ tells.1, tells.2)
-
--- an image alone
-pub TellsRules-image : (left : List ℕ) (image : ImageFact) → recovered left ≡ image_spelling image ∷ [] → ImageFits image → TellsRules left image.rules
-TellsRules-image left image are fits = (image_spelling image, ap last_rules are, inr (image, fits, refl, refl))
 
 -- the last batch that tells rules tells them
 pub tell_in : (batches : List (List ℕ)) (batch : List ℕ) (told : RulesFact) → last_rules batches ≡ Some batch → Tell batches told → TellsIn batch told
@@ -62,7 +45,7 @@ pub tell_one : (batches : List (List ℕ)) (some others : RulesFact) → Tell ba
 tell_one batches some others a b = tells_one a.0 some others a.2 (tell_in batches a.0 others a.1 b)
 
 -- what spells no rules tells none
-pub tells_none : (batch : List ℕ) (fault : ChangeFault) (told : RulesFact) → IsMisspelled batch fault → TellsIn batch told → ⊥
+pub tells_none : (batch : List ℕ) (fault : Fault) (told : RulesFact) → IsMisspelled batch fault → TellsIn batch told → ⊥
 tells_none batch fault told is (inl of) =
     let read = subst (λ (b : List ℕ). IsMisspelled b fault) of.1 is in
     let e : Err fault ≡ Ok told = sym read ∙ rules_reading_again told of.0 in

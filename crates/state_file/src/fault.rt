@@ -8,11 +8,11 @@ use batch_file::device::ReplaceFault;
 use batch_file::frames::AddFault;
 use batch_file::framing::ReadFault;
 use batch_file::system::SystemFault;
-use change_codec::{ChangeFault, DecodeFault, EncodeFault};
 use endpoints::{RedoFault, RestoreFault};
 use hook_host::HookFault;
 use std::alloc::{AllocError, AllocFailed};
 use std::fmt::{self, Display, Formatter, Write};
+use wire::{DecodeFault, EncodeFault, Fault};
 
 /// Why a server is not started on a state file.
 #[derive(Debug, Drop)]
@@ -37,7 +37,7 @@ pub enum StateFault {
     /// The first batch does not tell rules.
     NoRules,
     /// A batch spells no dated changes, no rules and no image.
-    Spelling(ChangeFault),
+    Spelling(Fault),
     /// The scope of this name has another place in the registry, or none.
     ScopeMoved(String),
     /// The registry has fewer owners.

@@ -1,7 +1,8 @@
 //! The hooks that the changes of a state file set.
 
 ghost use Rattle.std.specs.Prelude.{◌≡◌, ◌↔◌, ◌++◌, ◌∷◌, [], List, Some, IsTrue, IfOk, IfSome, OnOk, map, option_copied};
-ghost use Rattle.change_codec.specs.Spelling.{dated_facts, fact_of};
+ghost use Rattle.consent.specs.Facts.{fact_of};
+ghost use Rattle.change_codec.specs.Spelling.{dated_facts};
 ghost use Rattle.image_codec.specs.Facts.{HookFact, hook_fact};
 ghost use Rattle.state_file.specs.Hooks.{AreBehind, hooks_behind, hooks_by, hook_named, without_hook};
 

@@ -46,12 +46,11 @@ pub struct StateKeeper<D: Device> {
 impl<D: Device> Model for StateKeeper<D> {
     ghost use Rattle.std.specs.Prelude.{IsNone};
     ghost use Rattle.batch_file.specs.Frames.{IsOnDisk, recovered};
-    ghost use Rattle.batch_file.specs.declared.appending.BatchFile.{BatchFile};
-    ghost use Rattle.state_file.specs.Knowing.{IsKnown};
+    ghost use Rattle.state_file.specs.Knowing.{IsKnown, SeenKeeper};
 
-    ghost Value = { BatchFile D };
+    ghost Value = { SeenKeeper D };
 
-    ghost view = { λ keeper. keeper.file };
+    ghost view = { λ keeper. record { file = keeper.file; fault = keeper.fault } };
 
     ghost invariant = { λ keeper. IsNone keeper.fault →
         IsOnDisk D.seen D.may_leave D.faults keeper.file × IsKnown (recovered (D.seen keeper.file.device)) keeper.known };
@@ -67,17 +66,17 @@ fn marked(now: Moment) -> Moment
 }
 
 impl<D: Device> StateKeeper<D> {
-    ghost use Rattle.std.specs.Prelude.{◌≡◌, OnOk, OnErr};
+    ghost use Rattle.std.specs.Prelude.{◌≡◌, None, OnOk, OnErr};
     ghost use Rattle.batch_file.specs.Frames.{IsOnDisk, recovered};
-    ghost use Rattle.change_codec.specs.Keeping.{HeldMeanwhile, HoldsMoment, HoldsStill, KeepsEach, KeepsMoments, KeepsNone, TellsMoments};
+    ghost use Rattle.change_codec.specs.Keeping.{Until, HeldMeanwhile, HoldsBasis, HoldsStill, KeepsBasis, KeepsEach, KeepsNone, TellsBasis};
     ghost use Rattle.state_file.specs.Knowing.{IsKnown, file_crashes};
-    ghost use Rattle.state_file.specs.Telling.{KeepRules};
 
     /// One over a file of which all is on the disk, and of which this is known.
     pub(crate) fn new(alloc: Global, file: BatchFile<D>, known: Known) -> StateKeeper<D>
         requires settled { IsOnDisk D.seen D.may_leave D.faults file }
         requires known { IsKnown (recovered (D.seen file.device)) known }
-        ensures { result ≡ file }
+        ensures file { result.file ≡ file }
+        ensures unfailed { result.fault ≡ None }
     {
         StateKeeper {
             file,
@@ -88,18 +87,25 @@ impl<D: Device> StateKeeper<D> {
     }
 
     /// Why it keeps nothing more, if it does not.
-    pub fn fault(&self) -> Option<BatchFault> {
+    pub fn fault(&self) -> Option<BatchFault>
+        ensures { result ≡ self.now.fault }
+    {
         self.fault
+    }
+
+    /// The device of its file.
+    pub fn into_device(self) -> D
+        ensures { result ≡ self.file.device }
+    {
+        self.file.device
     }
 
     /// Keeps dated changes, all of them or none.
     pub fn keep_all(&mut self, batch: &Batch) -> Result<(), KeepFault>
         ensures kept { OnOk result (KeepsEach (file_crashes D.Device) batch.now.facts self.old self.new) }
         ensures lost { OnErr result (KeepsNone (file_crashes D.Device) batch.now.facts self.old self.new) }
-        ensures moments { OnOk result (KeepsMoments (file_crashes D.Device) self.old self.new) }
-        ensures meanwhile { TellsMoments (file_crashes D.Device) self.old self.new }
-        // The rules that are told stay.
-        ensures told { OnOk result (KeepRules D.seen D.may_leave self.old self.new) }
+        ensures basis { OnOk result (KeepsBasis (file_crashes D.Device) self.old self.new) }
+        ensures meanwhile { TellsBasis (file_crashes D.Device) self.old self.new }
     {
         if self.fault.is_some() {
             return Err(KeepFault::Failed);
@@ -118,10 +124,9 @@ impl<D: Device> StateKeeper<D> {
     pub(crate) fn keep_mark(&mut self, now: Moment) -> Result<(), KeepFault>
         ensures kept { OnOk result (HoldsStill (file_crashes D.Device) self.old self.new) }
         ensures lost { OnErr result (HeldMeanwhile (file_crashes D.Device) self.old self.new) }
-        ensures moment { OnOk result (HoldsMoment (file_crashes D.Device) self.new now) }
-        ensures moments { OnOk result (KeepsMoments (file_crashes D.Device) self.old self.new) }
-        ensures meanwhile { TellsMoments (file_crashes D.Device) self.old self.new }
-        ensures told { OnOk result (KeepRules D.seen D.may_leave self.old self.new) }
+        ensures told { OnOk result (HoldsBasis (file_crashes D.Device) self.new (Until now)) }
+        ensures basis { OnOk result (KeepsBasis (file_crashes D.Device) self.old self.new) }
+        ensures meanwhile { TellsBasis (file_crashes D.Device) self.old self.new }
     {
         if self.fault.is_some() {
             return Err(KeepFault::Failed);
@@ -144,22 +149,25 @@ impl<D: Device> StateKeeper<D> {
 }
 
 impl<D: Device> Keeper for StateKeeper<D> {
-    ghost use Rattle.std.specs.Prelude.{◌≡◌, ◌⊎◌};
+    ghost use Rattle.std.specs.Prelude.{◌≡◌, ◌⊎◌, ◌+◌, ◌-◌, ◌^◌, Some, min};
     ghost use Rattle.std.proofs.Common.{inl};
-    ghost use Rattle.batch_file.specs.Frames.{recovered};
-    ghost use Rattle.state_file.specs.Standing.{StandsFor, until_of};
+    ghost use Rattle.state_file.specs.Knowing.{LeftTells};
+    ghost use Rattle.state_file.specs.Standing.{StandsFor};
 
     ghost stands_for = { StandsFor };
 
-    ghost until = { λ left. until_of (recovered left) };
+    ghost tells = { LeftTells };
 
-    ghost may_leave = { λ f c. D.may_leave f.device c ⊎ (c ≡ D.seen f.device) };
+    ghost may_leave = { λ k c. D.may_leave k.file.device c ⊎ (c ≡ D.seen k.file.device) };
 
-    ghost moment = { λ f. D.moment f.device };
+    ghost moment = { λ k. D.moment k.file.device };
 
-    ghost left_since = { λ f. D.left_since f.device };
+    ghost left_since = { λ k. D.left_since k.file.device };
 
-    ghost only_now = { λ f c left. inl (D.only_now f.device c left) };
+    // With the closed latch behind the last frame.
+    ghost size_of = { λ k. Some (min (k.file.end + 1) (2 ^ 64 - 1)) };
+
+    ghost only_now = { λ k c left. inl (D.only_now k.file.device c left) };
 
     fn keep(&mut self, batch: &Batch) -> Result<(), KeepFault> {
         self.keep_all(batch)
@@ -169,7 +177,6 @@ impl<D: Device> Keeper for StateKeeper<D> {
         self.keep_mark(now)
     }
 
-    // With the closed latch behind the last frame.
     fn size(&self) -> Option<u64> {
         Some((self.file.end as u64).saturating_add(1))
     }
@@ -178,7 +185,7 @@ impl<D: Device> Keeper for StateKeeper<D> {
 impl<D: Device> ImageKeeper for StateKeeper<D> {
     ghost use Rattle.state_file.specs.Knowing.{IsLongFile};
 
-    ghost is_long = { λ f. IsLongFile D.seen f };
+    ghost is_long = { λ k. IsLongFile D.seen k.file };
 
     fn put_image<H: HookHost>(&mut self, server: &Server<H>) -> Result<(), ImageFault> {
         self.shorten(server)

@@ -34,5 +34,5 @@ pub use preparing::{Prepared, prepare};
 pub use redoing::redo_all;
 pub use restored::Restored;
 pub use rules::registry_rules;
-pub use starting::{NotStarted, Started, start_on};
+pub use starting::{NotStarted, Started};
 pub use telling::{Spelled, last_rules, rules_behind, tells_rules, told_rules};

@@ -61,7 +61,7 @@ fn add_noted<H: HookHost>(
     ensures same { NowNotes server.old server.new server.new.unkept }
     ensures unkept { OnOk result (server.new.unkept ≡ option_map (λ facts. []) server.old.unkept) }
     ensures added { OnOk result (AreAdded (unwrap_or server.old.unkept []) frames.old frames.new) }
-    ensures refused { IfErr result IsUnadded }
+    ensures refused { IfErr result (IsUnadded (unwrap_or server.old.unkept [])) }
 {
     let Some(batch) = server.unkept() else {
         return Ok(());

@@ -8,10 +8,11 @@ ghost use Rattle.state_file.specs.Resuming.{IsOfChanges, RedoesDated, RedoesBatc
 use crate::fault::StateFault;
 use crate::marks::mark_in;
 use crate::restored::Restored;
-use change_codec::{ChangeFault, DatedChange, decode};
+use change_codec::{DatedChange, decode};
 use endpoints::RedoFault;
 use hook_host::HookHost;
 use std::alloc::Global;
+use wire::Fault;
 
 #[tactic(auto, using(crate::proofs::Redone::redoes_none))]
 fn redo<H: HookHost>(restored: &mut Restored<H>, changes: &[DatedChange]) -> Result<(), RedoFault>
@@ -29,7 +30,7 @@ fn check_mark(batch: &[u8]) -> Result<(), StateFault>
 {
     match mark_in(batch) {
         Some(_) => Ok(()),
-        None => Err(StateFault::Spelling(ChangeFault::Moment)),
+        None => Err(StateFault::Spelling(Fault::Moment)),
     }
 }
 

@@ -4,10 +4,9 @@ ghost use Rattle.std.specs.Prelude.{◌≡◌, ◌≢◌, ◌<◌, ◌^◌, true
 ghost use Rattle.batch_file.specs.Frames.{recovered};
 ghost use Rattle.endpoints.specs.Imaging.{KeepsImage, KeepsNoImage};
 ghost use Rattle.endpoints.specs.declared.image_keeper.ImageFault.TheVariants.{TooLong, Failed};
-ghost use Rattle.change_codec.specs.Keeping.{KeepsMoments, TellsMoments};
+ghost use Rattle.change_codec.specs.Keeping.{KeepsBasis, TellsBasis};
 ghost use Rattle.state_file.specs.Knowing.{IsLong, IsLongFile, file_crashes};
 ghost use Rattle.state_file.specs.Renewing.{HasTooMuch, IsUnspelled, SpellImage};
-ghost use Rattle.state_file.specs.Telling.{KeepRules};
 
 use crate::hooks::SetHooks;
 use crate::imaging::image_of;
@@ -17,8 +16,9 @@ use batch_file::appending::BatchFault;
 use batch_file::device::{Device, ReplaceFault};
 use endpoints::{ImageFault, Server};
 use hook_host::HookHost;
-use image_codec::{EncodeFault, decode_rules, encode};
+use image_codec::{decode_rules, encode};
 use std::alloc::Global;
+use wire::EncodeFault;
 
 /// A file of fewer bytes is left as it is.
 const SMALL: usize = 1 << 20;
@@ -62,14 +62,13 @@ impl<D: Device> StateKeeper<D> {
     /// of all that it has. Where it is not known whether they stand there, the keeper keeps nothing more.
     pub(crate) fn shorten<H: HookHost>(&mut self, server: &Server<H>) -> Result<(), ImageFault>
         ensures kept { OnOk result (KeepsImage H.HookHost (file_crashes D.Device) server.now self.old self.new) }
-        ensures moments { OnOk result (KeepsMoments (file_crashes D.Device) self.old self.new) }
-        ensures meanwhile { TellsMoments (file_crashes D.Device) self.old self.new }
-        ensures told { OnOk result (KeepRules D.seen D.may_leave self.old self.new) }
-        ensures short { OnOk result (¬ (IsLongFile D.seen self.new)) }
-        ensures left { OnOk result (¬ (IsLongFile D.seen self.old) → self.new ≡ self.old) }
-        ensures refused { IfErr result (λ fault. fault ≢ Failed → IsLongFile D.seen self.old) }
+        ensures basis { OnOk result (KeepsBasis (file_crashes D.Device) self.old self.new) }
+        ensures meanwhile { TellsBasis (file_crashes D.Device) self.old self.new }
+        ensures short { OnOk result (¬ (IsLongFile D.seen self.new.file)) }
+        ensures left { OnOk result (¬ (IsLongFile D.seen self.old.file) → self.new ≡ self.old) }
+        ensures refused { IfErr result (λ fault. fault ≢ Failed → IsLongFile D.seen self.old.file) }
         ensures same { IfErr result (λ fault. fault ≢ Failed → self.new ≡ self.old) }
-        ensures too_much { IsErrOf result TooLong → HasTooMuch H.HookHost server.now (recovered (D.seen self.old.device)) }
+        ensures too_much { IsErrOf result TooLong → HasTooMuch H.HookHost server.now (recovered (D.seen self.old.file.device)) }
         ensures failed { IsErrOf result Failed →
             KeepsNoImage H.HookHost (file_crashes D.Device) server.now self.old self.new }
     {

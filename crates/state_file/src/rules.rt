@@ -42,6 +42,7 @@ fn first_clients(
 }
 
 /// The rules of a registry. Their texts lie in it.
+#[tactic(auto, unfolding(image_codec::specs::Formats::rules_format))]
 pub fn registry_rules(alloc: Global, registry: &Registry) -> Result<Rules<'_>, StateFault>
     ensures rules { IfOk result (λ rules. rules_fact rules ≡ rules_of registry.now) }
     ensures refused { IfErr result (IsUntold (rules_of registry.now)) }

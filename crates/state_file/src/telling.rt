@@ -2,7 +2,8 @@
 
 ghost use Rattle.std.specs.Prelude.{◌++◌, ◌∷◌, [], ◌≡◌, ◌↔◌, Some, true, false, IsTrue, IfOk, IfErr, OnOk, option_copied};
 ghost use Rattle.batch_file.specs.Frames.{lists};
-ghost use Rattle.image_codec.specs.Facts.{RulesFact, rules_fact};
+ghost use Rattle.change_codec.specs.Rules.{RulesFact};
+ghost use Rattle.image_codec.specs.Facts.{rules_fact};
 ghost use Rattle.image_codec.specs.Spelling.{RulesCount, RulesFit, rules_spelling};
 ghost use Rattle.state_file.specs.Comparing.{AreAsWide, IsUnread, IsUnwritten, RefuseBeside, RefuseRules, TakesRules};
 ghost use Rattle.state_file.specs.Telling.{BeginWithRules, Tell, TellsIn, last_rules, rules_in, rules_of};
@@ -13,8 +14,9 @@ use crate::fault::StateFault;
 use crate::rules::registry_rules;
 use batch_file::frames::{AddFault, Frames};
 use clients::Registry;
-use image_codec::{EncodeFault, Image, Rules, decode, decode_rules, encode_rules};
+use image_codec::{Image, Rules, decode, decode_rules, encode_rules};
 use std::alloc::Global;
+use wire::EncodeFault;
 
 /// Rules as they are told.
 #[derive(Drop)]
@@ -60,6 +62,7 @@ pub fn last_rules(batches: &[Vec<u8>]) -> Option<&[u8]>
 }
 
 /// The rules that a batch tells.
+#[tactic(auto, using(image_codec::specs::SpellingLaws::rules_of_fitting))]
 pub fn told_rules(alloc: Global, batch: &[u8]) -> Result<Rules<'_>, StateFault>
     ensures told { IfOk result (λ rules. TellsIn batch.now (rules_fact rules)) }
     ensures one { IfOk result (λ rules. (others : RulesFact) → TellsIn batch.now others → others ≡ rules_fact rules) }
@@ -95,6 +98,7 @@ fn are_spelled(alloc: Global, rules: &Rules<'_>, bytes: &[u8]) -> Result<bool, S
 }
 
 /// Tests whether rules are as wide as those that a batch tells, and says whether it tells just these.
+#[tactic(auto, using(image_codec::specs::SpellingLaws::fit_counts))]
 fn tells_as(alloc: Global, batch: &[u8], now: &Rules<'_>, bytes: &[u8]) -> Result<bool, StateFault>
     requires spelled { bytes.now ≡ rules_spelling (rules_fact now.now) }
     requires fit { RulesFit (rules_fact now.now) }

@@ -4,7 +4,7 @@ use Rattle.std.proofs.lemmas.Bool.{eqb-true}
 use Rattle.std.proofs.lemmas.Grind.{flat_map-append}
 use Rattle.std.proofs.lemmas.List.{append-nil}
 use Rattle.std.specs.List.{flat_map, list_any}
-use Rattle.image_codec.specs.Facts.{RecordFact}
+use Rattle.consent.specs.RecordFacts.{RecordFact}
 use Rattle.state_listing.specs.Lines.{firsts}
 
 -- a family is among those that were seen

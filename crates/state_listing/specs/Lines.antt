@@ -5,7 +5,9 @@ use Rattle.consent.specs.Versions.{version_number}
 use Rattle.consent.specs.declared.grant.TokenKind.TheVariants.{Access, Refresh}
 use Rattle.consent.specs.declared.kept_consent.KeptConsent.{KeptConsent}
 use Rattle.hex.specs.Hex.{encode_lower}
-use Rattle.image_codec.specs.Facts.{ClientFact, Code, HookFact, ImageFact, KindFact, RecordFact, RulesFact, Token as TokenFact}
+use Rattle.change_codec.specs.Rules.{ClientFact, RulesFact}
+use Rattle.consent.specs.RecordFacts.{Code, KindFact, RecordFact, Token as TokenFact}
+use Rattle.image_codec.specs.Facts.{HookFact, ImageFact}
 use Rattle.json.specs.Print.{print}
 use Rattle.json.specs.Token.{Token, begin_array, begin_object, boolean, end_array, end_object, key, number, string}
 use Rattle.params.specs.Scope.{names_in_mask}

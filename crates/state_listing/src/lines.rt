@@ -1,16 +1,16 @@
 //! All lines of a state file.
 
 ghost use Rattle.std.specs.Prelude.{◌≡◌, ◌++◌, [], ◌∷◌, IfOk, OnOk, flat_map, map};
-ghost use Rattle.image_codec.specs.Facts.{hook_fact, image_fact, record_fact, rules_fact};
+ghost use Rattle.consent.specs.RecordFacts.{record_fact};
+ghost use Rattle.image_codec.specs.Facts.{hook_fact, image_fact, rules_fact};
 ghost use Rattle.state_listing.specs.Lines.{consent_line, family_line, firsts, hook_line, listing_text, token_line};
 
 use crate::facts::FileFacts;
 use crate::rows::{push_consent, push_family, push_file, push_hook, push_token};
-use consent::KeptConsent;
+use consent::{KeptConsent, KeptRecord};
 use image_codec::{Image, KeptHook, Rules};
 use std::alloc::{AllocError, Global};
 use std::collections::BTreeSet;
-use token_store::KeptRecord;
 
 // A line for each consent.
 fn push_consents(

@@ -1,7 +1,7 @@
 -- A file whose rules are not read is not narrowed.
 use Rattle.std.proofs.Common.{◌≡◌, ◌↔◌, List, ℕ, true, false, Some}
 use Rattle.std.specs.Prelude.{IfOk, IsTrue}
-use Rattle.image_codec.specs.Facts.{RulesFact}
+use Rattle.change_codec.specs.Rules.{RulesFact}
 use Rattle.state_file.specs.Comparing.{IsUnread}
 use Rattle.state_file.specs.Telling.{last_rules}
 use Rattle.state_file.specs.TellingLaws.{tell_in, tells_none}

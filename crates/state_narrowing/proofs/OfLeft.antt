@@ -3,8 +3,8 @@ use Rattle.std.proofs.Common.{◌≡◌, ◌⊎◌, ◌<◌, ◌^◌, inl, inr, 
 use Rattle.std.specs.Prelude.{◌==◌, if◌then◌else◌, is_some, slice_get, map, Result, Ok, Err, IfOk, IfErr}
 use Rattle.std.specs.Str.{bytes_eq}
 use Rattle.batch_file.specs.Frames.{recovered}
-use Rattle.change_codec.specs.declared.fault.EncodeFault.{EncodeFault}
-use Rattle.change_codec.specs.declared.fault.EncodeFault.TheVariants as encoding
+use Rattle.wire.specs.declared.fault.EncodeFault.{EncodeFault}
+use Rattle.wire.specs.declared.fault.EncodeFault.TheVariants as encoding
 use Rattle.clients.specs.ClientRecord.{ClientRecord}
 use Rattle.clients.specs.RegistryRecord.{RegistryRecord}
 use Rattle.consent.specs.Consents.{FitsConsents, kept_consents}
@@ -13,9 +13,11 @@ use Rattle.consent.specs.History.Change.{Consented, CodeGiven, Issued, Spent, Fa
 use Rattle.consent.specs.declared.kept_consent.KeptConsent.{KeptConsent}
 use Rattle.endpoints.specs.Bounded.{AllRight}
 use Rattle.hook_host.specs.declared.host.HookHost.{Ghosts as Hosting}
-use Rattle.image_codec.specs.Facts.{ClientFact, HookFact, ImageFact, RulesFact, record_fact}
-use Rattle.image_codec.specs.Kept.{kept_told}
-use Rattle.image_codec.specs.KeptLaws.{all_same}
+use Rattle.change_codec.specs.Rules.{ClientFact, RulesFact}
+use Rattle.consent.specs.RecordFacts.{record_fact}
+use Rattle.image_codec.specs.Facts.{HookFact, ImageFact}
+use Rattle.token_store.specs.Image.{kept_told}
+use Rattle.token_store.specs.ImageLaws.{all_same}
 use Rattle.image_codec.specs.Spelling.{image_spelling}
 use Rattle.narrowing.specs.Left.{KeepsClients, ended_count, is_beyond_rules, left_of, left_under, life_under, scope_under}
 use Rattle.narrowing.specs.LeftLaws.{fits_consents_left, left_events}
@@ -23,7 +25,7 @@ use Rattle.narrowing.specs.RightLaws.{all_right-left, host_run-left}
 use Rattle.token_store.specs.Fits.{FitsHistory}
 use Rattle.token_store.specs.Image.{as_kept}
 use Rattle.token_store.specs.Kept.{Kept}
-use Rattle.token_store.specs.declared.image.KeptRecord.{KeptRecord}
+use Rattle.consent.specs.declared.kept_record.KeptRecord.{KeptRecord}
 use Rattle.state_account.specs.Accounts.{IsAccountOf, IsImageIn, TellIfAny}
 use Rattle.state_file.specs.Comparing.{KeepClients, client_names, first_moved}
 use Rattle.state_file.specs.FaultTexts.{of_encoding}

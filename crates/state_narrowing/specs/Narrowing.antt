@@ -6,7 +6,8 @@ use Rattle.clients.specs.RegistryRecord.{RegistryRecord}
 use Rattle.consent.specs.History.{Event}
 use Rattle.endpoints.specs.Hosts.{HostRun}
 use Rattle.hook_host.specs.declared.host.HookHost.{Ghosts as Hosting}
-use Rattle.image_codec.specs.Facts.{ImageFact, RulesFact}
+use Rattle.change_codec.specs.Rules.{RulesFact}
+use Rattle.image_codec.specs.Facts.{ImageFact}
 use Rattle.narrowing.specs.Left.{ended_count, left_under}
 use Rattle.state_file.specs.Comparing.{AreAsWide, IsUntold, KeepClients}
 use Rattle.state_file.specs.Resuming.{OfEachHistory, WasRight}

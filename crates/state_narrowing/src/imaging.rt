@@ -1,7 +1,8 @@
 //! The image of what is left of a state file under a registry.
 
 ghost use Rattle.std.specs.Prelude.{◌≡◌, ◌⊎◌, ◌<◌, ◌^◌, ℕ, List, IfOk, IfErr, length, map};
-ghost use Rattle.image_codec.specs.Facts.{image_fact, record_fact};
+ghost use Rattle.consent.specs.RecordFacts.{record_fact};
+ghost use Rattle.image_codec.specs.Facts.{image_fact};
 ghost use Rattle.narrowing.specs.Left.{FitsLeft};
 ghost use Rattle.token_store.specs.Image.{as_kept};
 ghost use Rattle.state_account.specs.Accounts.{RefusesAccount};

@@ -1,7 +1,7 @@
 -- The families of records that a store is made of, under the store's numbers.
 use Rattle.std.specs.Prelude.{◌≡◌, ℕ, List, [], ◌∷◌, true, Option, Some, is_some, unwrap_or, map, nat_eq}
 use Rattle.std.specs.Map.{lookup}
-use Rattle.token_store.specs.declared.image.KeptRecord.{KeptRecord}
+use Rattle.consent.specs.declared.kept_record.KeptRecord.{KeptRecord}
 use Rattle.token_store.specs.declared.record.Shared.{Shared}
 use Rattle.token_store.specs.Kept.{Kept}
 use Rattle.token_store.specs.Image.{as_kept}

@@ -3,47 +3,50 @@ use Rattle.std.specs.Prelude.{◌≤◌, ℕ, List, [], option_map, map, count_b
 use Rattle.consent.specs.declared.grant.Kind.{Kind}
 use Rattle.consent.specs.declared.grant.Kind.TheVariants as kind
 use Rattle.consent.specs.History.{is_named}
-use Rattle.token_store.specs.declared.image.KeptKind.{KeptKind}
-use Rattle.token_store.specs.declared.image.KeptKind.TheVariants.{Code, Token}
-use Rattle.token_store.specs.declared.image.KeptRecord.{KeptRecord}
+use Rattle.consent.specs.RecordFacts.{KindFact, Code, Token, RecordFact, record_fact}
+use Rattle.consent.specs.declared.kept_record.KeptRecord.{KeptRecord}
 use Rattle.token_store.specs.Kept.{Kept}
 use Rattle.token_store.specs.Records.{terms_by}
 
-abbrev pub kind_kept : KeptKind → Kind
-kind_kept (Code owner redirect challenge) = kind.Code
-kind_kept (Token token) = kind.Token token
+abbrev pub kind_told : KindFact → Kind
+kind_told (Code owner redirect challenge) = kind.Code
+kind_told (Token token) = kind.Token token
 
-abbrev pub owner_kept : ℕ → KeptKind → ℕ
-owner_kept owner (Code o redirect challenge) = o
-owner_kept owner (Token token) = owner
+abbrev pub owner_told : ℕ → KindFact → ℕ
+owner_told owner (Code o redirect challenge) = o
+owner_told owner (Token token) = owner
 
-abbrev pub redirect_kept : KeptKind → List ℕ
-redirect_kept (Code owner redirect challenge) = redirect.now
-redirect_kept (Token token) = []
+abbrev pub redirect_told : KindFact → List ℕ
+redirect_told (Code owner redirect challenge) = redirect
+redirect_told (Token token) = []
 
-abbrev pub challenge_kept : KeptKind → List ℕ
-challenge_kept (Code owner redirect challenge) = challenge.now
-challenge_kept (Token token) = []
+abbrev pub challenge_told : KindFact → List ℕ
+challenge_told (Code owner redirect challenge) = challenge
+challenge_told (Token token) = []
+
+-- what is kept, from what is said of it
+abbrev pub kept_told : RecordFact → Kept
+kept_told f = record {
+  grant = record {
+    digest = f.digest;
+    kind = kind_told f.kind;
+    family = f.family;
+    client = f.client;
+    owner = owner_told f.owner f.kind;
+    scope = f.scope;
+    moment = f.moment;
+    life = f.life;
+    redirect = redirect_told f.kind;
+    challenge = challenge_told f.kind;
+  };
+  terms = option_map (terms_by f.client f.owner) f.code_scope;
+  spent = f.spent;
+  ended = f.ended;
+}
 
 -- what the record says is kept
 abbrev pub kept_record : KeptRecord → Kept
-kept_record r = record {
-  grant = record {
-    digest = r.digest;
-    kind = kind_kept r.kind;
-    family = r.family;
-    client = r.client;
-    owner = owner_kept r.owner r.kind;
-    scope = r.scope;
-    moment = r.moment;
-    life = r.life;
-    redirect = redirect_kept r.kind;
-    challenge = challenge_kept r.kind;
-  };
-  terms = option_map (terms_by r.client r.owner) r.code_scope;
-  spent = r.spent;
-  ended = r.ended;
-}
+kept_record r = kept_told (record_fact r)
 
 -- what the records say is kept
 abbrev pub as_kept : List KeptRecord → List Kept

@@ -3,7 +3,7 @@ use Rattle.std.specs.Prelude.{◌≡◌, ◌+◌, ◌⊎◌, ℕ, List, Bool, tr
 use Rattle.std.specs.Str.{bytes_eq}
 use Rattle.std.specs.Map.{lookup}
 use Rattle.consent.specs.History.{is_named}
-use Rattle.token_store.specs.declared.image.KeptRecord.{KeptRecord}
+use Rattle.consent.specs.declared.kept_record.KeptRecord.{KeptRecord}
 use Rattle.token_store.specs.declared.record.Record.{Record}
 use Rattle.token_store.specs.declared.record.Shared.{Shared}
 use Rattle.token_store.specs.Kept.{Kept, kept_at}

@@ -16,3 +16,4 @@ pub mod ImageParts
 pub mod Homes
 -- Laws, each proved: a reader may skip them.
 pub mod FitsLaws
+pub mod ImageLaws

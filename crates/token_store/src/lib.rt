@@ -11,6 +11,7 @@ mod expiring;
 mod fault;
 mod found;
 mod image;
+mod laws;
 mod record;
 mod reserving;
 mod restoring;
@@ -19,6 +20,6 @@ mod tables;
 
 pub use fault::StoreFault;
 pub use found::Found;
-pub use image::{KeptKind, KeptRecord};
+pub use laws::facts_say_what_is_kept;
 pub use restoring::RestoreFault;
 pub use store::Store;

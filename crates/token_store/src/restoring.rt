@@ -12,10 +12,10 @@ ghost use Rattle.token_store.specs.Image.{as_kept, HasDigestTwice};
 ghost use Rattle.token_store.specs.ImageParts.{FindsAtMost, IsRestored, IsSecond, is_unexpired_record};
 ghost use Rattle.token_store.specs.Homes.{AreHomes, HasHome, AllHome, HasGrown, HomesStay, as_numbered};
 
-use crate::image::KeptRecord;
+use crate::image::{is_of, is_unexpired, record_of, shared_by};
 use crate::record::Record;
 use crate::tables::{Tables, enter};
-use consent::{Digest, Moment, RECORD_LIMIT};
+use consent::{Digest, KeptRecord, Moment, RECORD_LIMIT};
 use std::alloc::{AllocError, Global};
 use std::collections::HashMap;
 
@@ -36,7 +36,7 @@ pub enum RestoreFault {
 fn unexpired_count(records: &[KeptRecord<'_>], moment: Moment) -> usize
     ensures { result ≡ count_by (is_unexpired_record moment) records.now }
 {
-    records.iter().filter(|it| it.is_unexpired(moment)).count()
+    records.iter().filter(|it| is_unexpired(it, moment)).count()
 }
 
 impl Tables {
@@ -80,16 +80,16 @@ impl Tables {
         ensures full { IsErrOf result RestoreFault.Full → ⊥ }
         ensures twice { IsErrOf result RestoreFault.DigestTwice → ⊥ }
     {
-        if !kept.is_unexpired(moment) {
+        if !is_unexpired(kept, moment) {
             return Ok(());
         }
         if let Some(number) = numbers.get(&kept.family) {
             return match self.families.get(*number) {
-                Some(shared) if kept.is_of(shared) => Ok(()),
+                Some(shared) if is_of(kept, shared) => Ok(()),
                 _ => Err(RestoreFault::FamilyDiffers),
             };
         }
-        let Ok(number) = self.open_family(kept.shared()) else {
+        let Ok(number) = self.open_family(shared_by(kept)) else {
             return Err(RestoreFault::Memory);
         };
         let Ok(_) = numbers.insert(kept.family, number) else {
@@ -137,7 +137,7 @@ impl Tables {
         ensures full { IsErrOf result RestoreFault.Full → ⊥ }
         ensures twice { IsErrOf result RestoreFault.DigestTwice → IsSecond self.old.records.entries moment kept.now }
     {
-        if !kept.is_unexpired(moment) {
+        if !is_unexpired(kept, moment) {
             return Ok(());
         }
         if self.records.contains_key(&kept.digest) {
@@ -146,7 +146,7 @@ impl Tables {
         let Some(number) = numbers.get(&kept.family) else {
             return Err(RestoreFault::FamilyDiffers);
         };
-        let Ok(record) = kept.record(alloc, *number) else {
+        let Ok(record) = record_of(alloc, kept, *number) else {
             return Err(RestoreFault::Memory);
         };
         let Ok(()) = self.put_new(alloc, &kept.digest, record) else {

@@ -7,10 +7,9 @@ ghost use Rattle.consent.specs.Seen.{seen_at};
 
 use crate::fault::StoreFault;
 use crate::found::Found;
-use crate::image::KeptRecord;
 use crate::restoring::RestoreFault;
 use crate::tables::Tables;
-use consent::{Changes, Digest, Moment, ScopeSet};
+use consent::{Changes, Digest, KeptRecord, Moment, ScopeSet};
 use std::alloc::{AllocError, Global};
 use std::marker::Model;
 

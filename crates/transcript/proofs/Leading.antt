@@ -60,17 +60,17 @@ run_on hosting old middle new lines line opened opened' before step = λ outset 
         let on = leads (record { outset = outset; schedule = run.schedule; world = run.world }) run.reached in
         record {
           schedule = run.schedule ++ Opened c ∷ [];
-          stand_for = stand_on lines run.schedule line (Opened c) run.stand_for (record { statement = Opens c; states = states; marks = []; closes = false; event_is = refl });
+          stand_for = stand_on lines run.schedule line (Opened c) run.stand_for (record { statement = Opens c; states = states; mishaps = []; closes = false; event_is = refl });
           world = on.world;
           reached = on.reached;
           opened_are = opened_are ∙ ap (λ (o : List ℕ). o ++ c ∷ []) run.opened_are ∙ sym (opened_on run.schedule (Opened c));
         }
     by_statement outset run (Brings c moment draws piece) states leads opened_are =
         let on = leads (record { outset = outset; schedule = run.schedule; world = run.world }) run.reached in
-        let e = Came (record { piece = piece_of c piece moment; draws = draws; marks = on.marks; closes = on.closes }) in
+        let e = Came (record { piece = piece_of c piece moment; draws = draws; mishaps = on.mishaps; closes = on.closes }) in
         record {
           schedule = run.schedule ++ e ∷ [];
-          stand_for = stand_on lines run.schedule line e run.stand_for (record { statement = Brings c moment draws piece; states = states; marks = on.marks; closes = on.closes; event_is = refl });
+          stand_for = stand_on lines run.schedule line e run.stand_for (record { statement = Brings c moment draws piece; states = states; mishaps = on.mishaps; closes = on.closes; event_is = refl });
           world = on.on.world;
           reached = on.on.reached;
           opened_are = opened_are ∙ ap (λ (o : List ℕ). o ++ []) run.opened_are ∙ sym (opened_on run.schedule e);
@@ -79,7 +79,7 @@ run_on hosting old middle new lines line opened opened' before step = λ outset 
         let on = leads (record { outset = outset; schedule = run.schedule; world = run.world }) run.reached in
         record {
           schedule = run.schedule ++ HasEnded c ∷ [];
-          stand_for = stand_on lines run.schedule line (HasEnded c) run.stand_for (record { statement = Ends c; states = states; marks = []; closes = false; event_is = refl });
+          stand_for = stand_on lines run.schedule line (HasEnded c) run.stand_for (record { statement = Ends c; states = states; mishaps = []; closes = false; event_is = refl });
           world = on.world;
           reached = on.reached;
           opened_are = opened_are ∙ ap (λ (o : List ℕ). o ++ []) run.opened_are ∙ sym (opened_on run.schedule (HasEnded c));

@@ -4,7 +4,7 @@ use Rattle.std.specs.List.{AllByRecursion}
 use Rattle.std.proofs.lemmas.Bool.Decides.{nat_tests}
 use Rattle.hook_host.specs.declared.host.HookHost.{Ghosts as Hosting}
 use Rattle.endpoints.specs.Server.{Outset}
-use Rattle.http_edge.specs.Answers.{AnswerMark}
+use Rattle.http_edge.specs.Answers.{Mishap}
 use Rattle.http_edge.specs.Schedule.{ended, World, Connection, Happening, Opened, Came, HasEnded, Taken, Forgotten, Kept, Resumed, PieceComes, PiecePasses, Happens, Run, first_world, fresh, heard, connection_at, with_connection}
 use Rattle.http_edge.specs.Lanes.{SeenLane, lane_at, output_in, ShowsConnections}
 use Rattle.http_edge.specs.Edges.{SeenEdge}
@@ -102,13 +102,13 @@ IsStated (Forgotten c) = ⊥
 IsStated Kept = ⊥
 IsStated (Resumed history greatest) = ⊥
 
-all_stated : (statement : Statement) (marks : List AnswerMark) (closes : Bool) → IsStated (happening statement marks closes)
-all_stated (Opens c) marks closes = tt
-all_stated (Brings c moment draws piece) marks closes = tt
-all_stated (Ends c) marks closes = tt
+all_stated : (statement : Statement) (mishaps : List Mishap) (closes : Bool) → IsStated (happening statement mishaps closes)
+all_stated (Opens c) mishaps closes = tt
+all_stated (Brings c moment draws piece) mishaps closes = tt
+all_stated (Ends c) mishaps closes = tt
 
 is_stated : (line : List ℕ) (e : Happening) → LineStandsFor line e → IsStated e
-is_stated line e stands = subst IsStated (sym stands.event_is) (all_stated stands.statement stands.marks stands.closes)
+is_stated line e stands = subst IsStated (sym stands.event_is) (all_stated stands.statement stands.mishaps stands.closes)
 
 happens_whole : {H : Type 0} (hosting : Hosting H) (outset : Outset H) (old new : World) (line : List ℕ) (e : Happening) (ns : List ℕ) → LineStandsFor line e
     → Happens hosting outset old e new → AreWhole old.connections ns → AreWhole new.connections (ns ++ opened_at e)

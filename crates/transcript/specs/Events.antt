@@ -1,24 +1,24 @@
 -- What the lines of a transcript stand for.
 use Rattle.std.specs.Prelude.{◌≡◌, ℕ, List, [], ◌∷◌, Bool, Some, length, ⊤}
-use Rattle.http_edge.specs.Answers.{AnswerMark}
+use Rattle.http_edge.specs.Answers.{Mishap}
 use Rattle.http_edge.specs.Schedule.{Connection, Happening, Opened, Came, HasEnded, piece_of}
 use Rattle.http_edge.specs.Refusals.{IsOpeningRefusal, IsPieceRefusal, IsEndingRefusal}
 use Rattle.http_edge.specs.declared.fault.EdgeFault.{EdgeFault}
 use Rattle.transcript.specs.Lines.{Statement, Opens, Brings, Ends, States}
 
 -- the event that a statement is, with what was free in it
-abbrev pub happening : Statement → List AnswerMark → Bool → Happening
-happening (Opens c) marks closes = Opened c
-happening (Brings c moment draws piece) marks closes = Came (record { piece = piece_of c piece moment; draws = draws; marks = marks; closes = closes })
-happening (Ends c) marks closes = HasEnded c
+abbrev pub happening : Statement → List Mishap → Bool → Happening
+happening (Opens c) mishaps closes = Opened c
+happening (Brings c moment draws piece) mishaps closes = Came (record { piece = piece_of c piece moment; draws = draws; mishaps = mishaps; closes = closes })
+happening (Ends c) mishaps closes = HasEnded c
 
 -- a line stands for an event
 pub record LineStandsFor (line : List ℕ) (event : Happening) : Type 0 where
   pub statement : Statement
   pub states : States line statement
-  pub marks : List AnswerMark
+  pub mishaps : List Mishap
   pub closes : Bool
-  pub event_is : event ≡ happening statement marks closes
+  pub event_is : event ≡ happening statement mishaps closes
 
 -- each line stands for the event at its place
 abbrev pub StandFor : List (List ℕ) → List Happening → Type 0

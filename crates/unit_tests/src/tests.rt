@@ -1,6 +1,7 @@
 //! Tests over the layers of both halves, each by the public calls of its crate.
 
 mod calls;
+mod disk;
 mod drawn_requests;
 mod drawn_store;
 mod draws;

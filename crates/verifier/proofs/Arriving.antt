@@ -1,30 +1,28 @@
 -- What is known at the slot that a walk has come to holds of each run that comes there.
-use Rattle.std.proofs.Common.{◌≡◌, ◌≢◌, ℕ, zero, suc, ◌+◌, ◌-◌, ◌<◌, ◌≤◌, false, List, [], length, take, drop, Option, Some, None, Result, Ok, Err, IfOk, refl, sym, ap, ◌∙◌, arith, get_or, set, inl, inr, ◌⊎◌}
+use Rattle.std.proofs.Common.{◌≡◌, ℕ, zero, suc, ◌+◌, ◌-◌, ◌<◌, ◌≤◌, false, List, [], length, take, drop, Option, Some, None, refl, sym, ap, ◌∙◌, arith, get_or, set, inl, inr, ◌⊎◌}
 use Rattle.std.proofs.lemmas.Bool.{cases_eq, cases_lt}
 use Rattle.std.specs.Prelude.{All}
 use Rattle.std.proofs.lemmas.List.{get_or-set_other, get_or-set_same, length-set}
 use Rattle.std.proofs.lemmas.List.Elements.{All-push}
-use Rattle.std.specs.declared.alloc.AllocError.{AllocError}
 use Rattle.insn.specs.declared.instruction.Insn.{Insn}
 use Rattle.insn.specs.declared.layout.Layout.{Layout}
-use Rattle.insn.specs.declared.verify_fault.VerifyFault.{VerifyFault}
-use Rattle.insn.specs.declared.verify_fault.VerifyFault.TheVariants.{Memory}
-use Rattle.insn.specs.Refusals.{look_verdict}
+use Rattle.insn.specs.declared.verify_fault.WalkFault.{WalkFault}
+use Rattle.insn.specs.Refusals.{look_verdict, walk_fault_at}
 use Rattle.insn.specs.Instruction.{slots_of}
 use Rattle.insn.specs.Program.{slot_count}
 use Rattle.insn.specs.RunLaws.{exit_ends}
 use Rattle.insn.specs.Step.{Reaches, step, steps}
 use Rattle.insn.specs.Values.{◌>>=◌, Config, IsRecord, start}
 use Rattle.verifier.specs.declared.known.Known.{Known}
-use Rattle.verifier.specs.declared.explain.Finding.{Finding}
-use Rattle.verifier.specs.declared.explain.Finding.TheVariants.{Accepted, Looked, Refused}
-use Rattle.verifier.specs.Findings.{AreToldOnward, IsAcceptance, IsKnownAt, IsWalkFinding, NoneComesTo}
-use Rattle.verifier.specs.FindingsParts.{IsNoted, IsRefusedWith, TellsOnward}
+use Rattle.verifier.specs.declared.explain.Refusal.{Refusal}
+use Rattle.verifier.specs.declared.walk.Upshot.TheVariants.{Passed, Refused}
+use Rattle.verifier.specs.Findings.{AreToldOnward, IsAcceptance, IsExplained, IsKnownAt, NoneComesTo}
 use Rattle.verifier.specs.Fits.{StateFits}
 use Rattle.verifier.specs.declared.walk.Onward.{Onward}
-use Rattle.verifier.specs.Waits.{GoesOn, IsBegun, IsRefusedHere, IsVisited, nowhere}
-use Rattle.verifier.proofs.Straight.{later, same_reached}
-use Rattle.verifier.proofs.Walks.{Ended, Standing, Walked, Walking, begins_walking, came_here, ends_walking, one_more, refusal_of, slot_inside, walked_here}
+use Rattle.verifier.specs.Waits.{IsBegun, IsRefusedHere, nowhere}
+use Rattle.verifier.specs.WaitsParts.{IsNoted, IsVisit}
+use Rattle.verifier.proofs.Forward.{later, same_reached}
+use Rattle.verifier.proofs.Walks.{Ended, Standing, Walked, Walking, begins_walking, came_here, ends_passed, ends_walking, one_more, refusal_of, slot_inside, walked_here}
 use Rattle.verifier.proofs.Ways.{behind_it}
 
 -- what waits at a slot fits a state
@@ -98,20 +96,17 @@ module _ (layout : Layout) (program : List Insn) (slot : ℕ) (rest : List Insn)
       let q : Some known ≡ Some k.0 = k.1 in
       let same : known ≡ k.0 = cc in rw same k.2
 
--- it has told where walks go on from the instructions before a slot
-pub record Telling (layout : Layout) (program : List Insn) (slot : ℕ) (onward : List Onward) : Type 0 where
+-- what the loop keeps: no run has come to the slots that it notes, and it has told where walks go on from those before
+pub record Exploring (layout : Layout) (program : List Insn) (slot : ℕ) (rest : List Insn) (w : List (Option Known)) (unreached : List ℕ) (onward : List Onward) : Type 0 where
+  pub walking : Walking layout program slot rest w
+  pub none : All (NoneComesTo layout program) unreached
   pub long : length onward ≡ slot_count program
   pub told : AreToldOnward layout program slot onward
 
--- what the loop keeps
-pub record Exploring (layout : Layout) (program : List Insn) (slot : ℕ) (rest : List Insn) (w : List (Option Known)) (unreached : List ℕ) : Type 0 where
-  pub walking : Walking layout program slot rest w
-  pub none : All (NoneComesTo layout program) unreached
+pub begins_exploring : (layout : Layout) (program : List Insn) (w : List (Option Known)) (onward : List Onward) → 1 ≤ slot_count program → look_verdict program ≡ None → IsBegun (slot_count program) w → length onward ≡ slot_count program → Exploring layout program 0 program w [] onward
+begins_exploring layout program w onward some none b long = record { walking = begins_walking layout program w some none b; none = λ k d lt. absurd (omega arith); long = long; told = λ k i lt begins. absurd (omega arith) }
 
-pub begins_exploring : (layout : Layout) (program : List Insn) (w : List (Option Known)) → 1 ≤ slot_count program → look_verdict program ≡ None → IsBegun (slot_count program) w → Exploring layout program 0 program w []
-begins_exploring layout program w some none b = record { walking = begins_walking layout program w some none b; none = λ k d lt. absurd (omega arith) }
-
-module _ (layout : Layout) (program : List Insn) (slot : ℕ) (rest : List Insn) (w : List (Option Known)) (d : Insn) (some : 1 ≤ length rest) (unreached : List ℕ) (h : Exploring layout program slot rest w unreached) where
+module _ (layout : Layout) (program : List Insn) (slot : ℕ) (rest : List Insn) (w : List (Option Known)) (d : Insn) (some : 1 ≤ length rest) (unreached : List ℕ) (onward : List Onward) (h : Exploring layout program slot rest w unreached onward) where
   abbrev pub now : Insn
   now = get_or rest 0 d
 
@@ -125,52 +120,42 @@ module _ (layout : Layout) (program : List Insn) (slot : ℕ) (rest : List Insn)
   noted None after here n = rw n (All-push (NoneComesTo layout program) unreached slot h.none (none_comes layout program slot rest w h.walking.walked here))
   noted (Some known) after here n = rw n h.none
 
-  pub one_explored : (w' : List (Option Known)) (o : Option Known) (after : List ℕ) → IsVisited layout now slot w w' → o ≡ get_or w slot None → IsNoted slot o unreached after → Exploring layout program (slot + slots_of now) others w' after
-  one_explored w' o after v here n = record { walking = one_more layout program slot rest w d some h.walking w' v; none = noted o after (sym here) n }
+  pub told_inside : slot < length onward
+  told_inside = omega (arith, slot_inside layout program slot rest w d some h.walking, h.long)
 
-  pub told_inside : (onward : List Onward) → Telling layout program slot onward → slot < length onward
-  told_inside onward t = omega (arith, slot_inside layout program slot rest w d some h.walking, t.long)
-
-  pub one_told : (onward : List Onward) (here : Onward) → GoesOn layout now (get_or w slot None) here → Telling layout program slot onward → Telling layout program (slot + slots_of now) (set onward slot here)
-  one_told onward here goes t = record {
-    long = length-set onward slot here ∙ t.long;
+  pub one_explored : (w' : List (Option Known)) (here : Onward) (after : List ℕ) → IsVisit layout now slot w w' (Passed here) → IsNoted slot (get_or w slot None) unreached after → Exploring layout program (slot + slots_of now) others w' after (set onward slot here)
+  one_explored w' here after v n = record {
+    walking = one_more layout program slot rest w d some h.walking w' v.0;
+    none = noted (get_or w slot None) after refl n;
+    long = length-set onward slot here ∙ h.long;
     told = λ k i lt begins.
         elim (cases_eq k slot) [
           | inl same ↦
-              let there : get_or (set onward slot here) slot nowhere ≡ here = get_or-set_same onward slot here nowhere (told_inside onward t) in
-              rw (same, there) (record { insn = now; rest = others; waiting = w; walked = came_here layout program slot rest w d some h.walking; goes = goes })
+              let there : get_or (set onward slot here) slot nowhere ≡ here = get_or-set_same onward slot here nowhere told_inside in
+              rw (same, there) (record { insn = now; rest = others; waiting = w; walked = came_here layout program slot rest w d some h.walking; goes = v.1 })
           | inr other ↦
               elim (cases_lt slot k) [
                 | inl less ↦ absurd (omega (arith, behind_it program slot k now i others (walked_here layout program slot rest w d some h.walking).stands begins less))
-                | inr ge ↦ rw (get_or-set_other onward slot k here nowhere other) (t.told k i (omega arith) begins)
+                | inr ge ↦ rw (get_or-set_other onward slot k here nowhere other) (h.told k i (omega arith) begins)
               ]
         ];
   }
 
-  module _ (fault : VerifyFault) (o : Option Known) (onward : List Onward) (here : o ≡ get_or w slot None) (why : fault ≢ Memory → IsRefusedHere layout now slot w fault) (t : Telling layout program slot onward) where
-    told : (finding : Finding) → IsRefusedWith fault slot now o finding → TellsOnward onward finding → IsWalkFinding layout program finding
-    told (Accepted slots) r g = absurd r
-    told (Looked other) r g = absurd r
-    told (Refused refusal) r g =
-        let faults : refusal.fault ≡ fault = r.1 in
-        let here_is : IsRefusedHere layout now slot w refusal.fault = rw faults (why r.0) in
-        let slots : refusal.slot ≡ slot = r.2 in
-        let waits : get_or w slot None ≡ Some refusal.known.value = sym here ∙ r.4 in
-        let waited : get_or w slot None ≡ Some here_is.known = here_is.taken.here in
-        let same : refusal.known.value ≡ here_is.known = cc in
-        let is = refusal_of layout program slot rest w d some h.walking refusal.fault here_is in
-        record {
-          refused = is.0;
-          slot = slots ∙ sym is.1;
-          insn = r.3 ∙ sym is.2;
-          waits = same ∙ sym is.3;
-          known = rw slots (known_comes layout program slot rest w h.walking.walked refusal.known.value waits);
-          onward = rw (slots, g) t.told;
-        }
+  pub refused_told : (w' : List (Option Known)) (refusal : Refusal) (fault : WalkFault) → IsVisit layout now slot w w' (Refused fault refusal.known) → refusal.fault ≡ walk_fault_at fault slot → refusal.slot ≡ slot → refusal.insn ≡ now → refusal.onward.items ≡ onward → IsExplained layout program refusal
+  refused_told w' refusal fault v faults slots insns onwards =
+      let here : IsRefusedHere layout now slot w refusal.fault = rw faults v.0 in
+      let waits : get_or w slot None ≡ Some refusal.known.value = v.0.taken.here ∙ ap Some v.1 in
+      let waited : get_or w slot None ≡ Some here.known = here.taken.here in
+      let same : refusal.known.value ≡ here.known = cc in
+      let is = refusal_of layout program slot rest w d some h.walking refusal.fault here in
+      record {
+        refused = is.0;
+        slot = slots ∙ sym is.1;
+        insn = insns ∙ sym is.2;
+        waits = same ∙ sym is.3;
+        known = rw slots (known_comes layout program slot rest w h.walking.walked refusal.known.value waits);
+        onward = rw (slots, onwards) h.told;
+      }
 
-    pub refused_told : (r : Result Finding AllocError) → IfOk r (IsRefusedWith fault slot now o) → IfOk r (TellsOnward onward) → IfOk r (IsWalkFinding layout program)
-    refused_told (Ok finding) r g = told finding r g
-    refused_told (Err e) r g = tt
-
-pub ends_exploring : (layout : Layout) (program : List Insn) (slot : ℕ) (rest : List Insn) (w : List (Option Known)) (unreached : List ℕ) → length rest < 1 → Exploring layout program slot rest w unreached → IsAcceptance layout program unreached
-ends_exploring layout program slot rest w unreached none h = record { safe = ends_walking layout program slot rest w none h.walking; unreached = h.none }
+pub ends_exploring : (layout : Layout) (program : List Insn) (slot : ℕ) (rest : List Insn) (w : List (Option Known)) (unreached : List ℕ) (onward : List Onward) → length rest < 1 → Exploring layout program slot rest w unreached onward → IsAcceptance layout program unreached
+ends_exploring layout program slot rest w unreached onward none h = record { safe = ends_walking layout program slot rest w none h.walking; passed = ends_passed layout program slot rest w none h.walking; unreached = h.none }

@@ -4,9 +4,12 @@ use Rattle.std.specs.Prelude.{nat_le}
 use Rattle.std.specs.Int.{w64, cast_unsigned}
 use Rattle.std.proofs.lemmas.List.{get_or-set_other, get_or-set_same}
 use Rattle.insn.specs.declared.instruction.Insn.{Insn}
-use Rattle.insn.specs.declared.instruction.Insn.TheVariants as insn
+use Rattle.insn.specs.declared.instruction.Operand.TheVariants.{Reg, Imm}
+use Rattle.insn.specs.declared.action.Action.{Action}
+use Rattle.insn.specs.declared.action.Action.TheVariants.{Operate}
+use Rattle.insn.specs.declared.verify_fault.WalkFault.TheVariants.{PointerRange}
+use Rattle.insn.specs.declared.operation.BinOp.{BinOp}
 use Rattle.insn.specs.declared.layout.Layout.{Layout}
-use Rattle.insn.specs.declared.operation.AluOp.TheVariants as alu
 use Rattle.insn.specs.declared.operation.BinOp.TheVariants.{Add, Mov}
 use Rattle.insn.specs.declared.operation.Width.{Width}
 use Rattle.insn.specs.declared.operation.Width.TheVariants.{W32, W64}
@@ -16,16 +19,16 @@ use Rattle.insn.specs.declared.state.Value.{Value}
 use Rattle.insn.specs.declared.state.Value.TheVariants.{Number, Address}
 use Rattle.insn.specs.Instruction.{reg_number}
 use Rattle.insn.specs.Arithmetic.{moved_pointer}
-use Rattle.insn.specs.Values.{◌>>=◌, State, at, only_if, region_size, value_of}
+use Rattle.insn.specs.Values.{State, at, only_if, region_size, value_of}
 use Rattle.insn.specs.declared.state.Pointer.{Pointer}
 use Rattle.reg_kind.specs.declared.reg.Reg.{Reg as Kind}
 use Rattle.reg_kind.specs.declared.reg.Reg.TheVariants as kind
 use Rattle.reg_kind.specs.Fits.{RegFits}
-use Rattle.insn.specs.Effects.{Effect, Exits, Falls, Jumps, sets, word_of}
-use Rattle.insn.specs.Outcomes.{effect}
-use Rattle.insn.specs.OutcomeLaws.{effect_is_done}
+use Rattle.insn.specs.Effects.{Effect, Exits, Falls, Jumps, word_of}
+use Rattle.insn.specs.FirstLook.{register_written_by}
+use Rattle.insn.specs.Meaning.{action_of}
+use Rattle.insn.specs.Outcomes.{action_outcome, and_then, effect, operation_result, or_fault, passed, put}
 use Rattle.insn.specs.Word.{int_width, word_result, wrapped}
-use Rattle.insn.specs.Workings.{done_by, result_of}
 use Rattle.verifier.specs.Shapes.{effects, shape_of}
 use Rattle.verifier.specs.declared.known.Flow.{Flow}
 use Rattle.verifier.specs.declared.known.Flow.TheVariants.{Branch, Exit, Jump, Next}
@@ -69,8 +72,8 @@ raised_is register w imm (Some link) made e = record { link = link; was = refl; 
 
 -- ---- the state behind an instruction
 
-set_after : (s t : State) (dst : RegNo) (v : Value) → dst ≢ R10 → sets s dst v ≡ Some (Falls t) → t.registers ≡ set s.registers (reg_number dst) (Some v)
-set_after s t dst v other e = let both = sym (set_to s dst v other) ∙ e in ap (λ (x : State). x.registers) (same_state (record s { registers = set s.registers (reg_number dst) (Some v) }) t both) ∙ refl where
+set_after : (s t : State) (dst : RegNo) (v : Value) → dst ≢ R10 → passed (put s dst v) ≡ Some (Falls t) → t.registers ≡ set s.registers (reg_number dst) (Some v)
+set_after s t dst v other e = let both = ap passed (sym (set_to s dst v other)) ∙ e in ap (λ (x : State). x.registers) (same_state (record s { registers = set s.registers (reg_number dst) (Some v) }) t both) where
   same_state : (x y : State) → Some (Falls x) ≡ Some (Falls y) → y ≡ x
   same_state x y e = cc
 
@@ -108,46 +111,52 @@ module _ (layout : Layout) (links : Links) (s t : State) (long : length s.regist
       → ((n : ℕ) → v ≡ Number n → (m : ℕ) → value_of s.registers src ≡ Some (Number m) → wrapped (int_width w) n ≡ wrapped (int_width w) (m + 0)) → LinkHolds (Some made.1) (reg_number made.0) t.registers
   copy_made dst src w v made l set_there is = rw l.is (copy_holds s t dst v long set_there src w l.other is)
 
+  abbrev Does : Action → Type 0
+  Does action = passed (action_outcome layout action s) ≡ Some (Falls t)
+
+  abbrev Gave : Width → BinOp → RegNo → Option Value → Option Value → Type 0
+  Gave w op dst left right = passed (and_then (operation_result layout w op left right) (put s dst)) ≡ Some (Falls t)
+
   -- a sum in 64 and in 32 bits
-  sum_64 : (dst : RegNo) (imm : ℤ) (made : RegNo × Link) → dst ≢ R10 → IsRaised dst W64 imm (link_at links (reg_number dst)) made → done_by layout (insn.Alu64Imm alu.Add dst imm) s ≡ Some (Falls t) → LinkHolds (Some made.1) (reg_number made.0) t.registers
+  sum_64 : (dst : RegNo) (imm : ℤ) (made : RegNo × Link) → dst ≢ R10 → IsRaised dst W64 imm (link_at links (reg_number dst)) made → Does (Operate W64 Add dst (Imm imm)) → LinkHolds (Some made.1) (reg_number made.0) t.registers
   sum_64 dst imm made other r done = by (value_of s.registers dst) refl done where
-    by : (o : Option Value) → value_of s.registers dst ≡ o → (o >>= λ a. result_of layout W64 Add a (word_of imm) >>= λ v. sets s dst v) ≡ Some (Falls t) → LinkHolds (Some made.1) (reg_number made.0) t.registers
+    by : (o : Option Value) → value_of s.registers dst ≡ o → Gave W64 Add dst o (Some (word_of imm)) → LinkHolds (Some made.1) (reg_number made.0) t.registers
     by None e d = absurd cc
     by (Some (Number m)) e d = sum_made dst W64 imm (Number (word_result W64 Add m (cast_unsigned w64 imm))) made r (set_after s t dst (Number (word_result W64 Add m (cast_unsigned w64 imm))) other d) (λ n q. (m, e, cc))
-    by (Some (Address p)) e d = moved (result_of layout W64 Add (Address p) (word_of imm)) refl d where
-      moved : (o : Option Value) → result_of layout W64 Add (Address p) (word_of imm) ≡ o → (o >>= λ v. sets s dst v) ≡ Some (Falls t) → LinkHolds (Some made.1) (reg_number made.0) t.registers
+    by (Some (Address p)) e d = moved (moved_pointer layout p ((p.offset + cast_unsigned w64 imm) % 2 ^ 64)) refl d where
+      moved : (o : Option Value) → moved_pointer layout p ((p.offset + cast_unsigned w64 imm) % 2 ^ 64) ≡ o → passed (and_then (or_fault o PointerRange) (put s dst)) ≡ Some (Falls t) → LinkHolds (Some made.1) (reg_number made.0) t.registers
       moved None q d = absurd cc
       moved (Some (Address x)) q d = sum_made dst W64 imm (Address x) made r (set_after s t dst (Address x) other d) (λ n q. absurd cc)
       moved (Some (Number x)) q d = absurd (no_moved_number layout p ((p.offset + cast_unsigned w64 imm) % 2 ^ 64) x q)
 
-  sum_32 : (dst : RegNo) (imm : ℤ) (made : RegNo × Link) → dst ≢ R10 → IsRaised dst W32 imm (link_at links (reg_number dst)) made → done_by layout (insn.Alu32Imm alu.Add dst imm) s ≡ Some (Falls t) → LinkHolds (Some made.1) (reg_number made.0) t.registers
+  sum_32 : (dst : RegNo) (imm : ℤ) (made : RegNo × Link) → dst ≢ R10 → IsRaised dst W32 imm (link_at links (reg_number dst)) made → Does (Operate W32 Add dst (Imm imm)) → LinkHolds (Some made.1) (reg_number made.0) t.registers
   sum_32 dst imm made other r done = by (value_of s.registers dst) refl done where
-    by : (o : Option Value) → value_of s.registers dst ≡ o → (o >>= λ a. result_of layout W32 Add a (word_of imm) >>= λ v. sets s dst v) ≡ Some (Falls t) → LinkHolds (Some made.1) (reg_number made.0) t.registers
+    by : (o : Option Value) → value_of s.registers dst ≡ o → Gave W32 Add dst o (Some (word_of imm)) → LinkHolds (Some made.1) (reg_number made.0) t.registers
     by None e d = absurd cc
     by (Some (Number m)) e d = sum_made dst W32 imm (Number (word_result W32 Add m (cast_unsigned w64 imm))) made r (set_after s t dst (Number (word_result W32 Add m (cast_unsigned w64 imm))) other d) (λ n q. (m, e, cc))
     by (Some (Address p)) e d = absurd cc
 
-  copy_64 : (dst src : RegNo) (made : RegNo × Link) → dst ≢ R10 → IsLinkOf dst (copied src W64) made → done_by layout (insn.Alu64Reg alu.Mov dst src) s ≡ Some (Falls t) → LinkHolds (Some made.1) (reg_number made.0) t.registers
+  copy_64 : (dst src : RegNo) (made : RegNo × Link) → dst ≢ R10 → IsLinkOf dst (copied src W64) made → Does (Operate W64 Mov dst (Reg src)) → LinkHolds (Some made.1) (reg_number made.0) t.registers
   copy_64 dst src made other l done = by (value_of s.registers src) refl done where
-    by : (o : Option Value) → value_of s.registers src ≡ o → (o >>= λ b. result_of layout W64 Mov (Number 0) b >>= λ v. sets s dst v) ≡ Some (Falls t) → LinkHolds (Some made.1) (reg_number made.0) t.registers
+    by : (o : Option Value) → value_of s.registers src ≡ o → Gave W64 Mov dst (Some (Number 0)) o → LinkHolds (Some made.1) (reg_number made.0) t.registers
     by None e d = absurd cc
     by (Some (Number m)) e d = copy_made dst src W64 (Number m) made l (set_after s t dst (Number m) other d) (λ n q k at. let n_is : m ≡ n = cc in let both : Some (Number m) ≡ Some (Number k) = sym e ∙ at in let k_is : m ≡ k = cc in omega arith)
     by (Some (Address p)) e d = copy_made dst src W64 (Address p) made l (set_after s t dst (Address p) other d) (λ n q k at. absurd cc)
 
-  copy_32 : (dst src : RegNo) (made : RegNo × Link) → dst ≢ R10 → IsLinkOf dst (copied src W32) made → done_by layout (insn.Alu32Reg alu.Mov dst src) s ≡ Some (Falls t) → LinkHolds (Some made.1) (reg_number made.0) t.registers
+  copy_32 : (dst src : RegNo) (made : RegNo × Link) → dst ≢ R10 → IsLinkOf dst (copied src W32) made → Does (Operate W32 Mov dst (Reg src)) → LinkHolds (Some made.1) (reg_number made.0) t.registers
   copy_32 dst src made other l done = by (value_of s.registers src) refl done where
-    by : (o : Option Value) → value_of s.registers src ≡ o → (o >>= λ b. result_of layout W32 Mov (Number 0) b >>= λ v. sets s dst v) ≡ Some (Falls t) → LinkHolds (Some made.1) (reg_number made.0) t.registers
+    by : (o : Option Value) → value_of s.registers src ≡ o → Gave W32 Mov dst (Some (Number 0)) o → LinkHolds (Some made.1) (reg_number made.0) t.registers
     by None e d = absurd cc
     by (Some (Number m)) e d = copy_made dst src W32 (Number (m % 2 ^ 32)) made l (set_after s t dst (Number (m % 2 ^ 32)) other d) (λ n q k at. let n_is : m % 2 ^ 32 ≡ n = cc in let both : Some (Number m) ≡ Some (Number k) = sym e ∙ at in let k_is : m ≡ k = cc in omega arith)
     by (Some (Address p)) e d = absurd cc
 
   -- the link that an instruction makes holds behind it
-  pub made_holds : (i : Insn) (made : RegNo × Link) → WritesNoR10 i → link_made links i ≡ Some made → done_by layout i s ≡ Some (Falls t) → LinkHolds (Some made.1) (reg_number made.0) t.registers
-  made_holds (insn.Alu64Imm alu.Add dst imm) made other e done = sum_64 dst imm made (λ q. other (ap Some q)) (raised_is dst W64 imm (link_at links (reg_number dst)) made e) done
-  made_holds (insn.Alu32Imm alu.Add dst imm) made other e done = sum_32 dst imm made (λ q. other (ap Some q)) (raised_is dst W32 imm (link_at links (reg_number dst)) made e) done
-  made_holds (insn.Alu64Reg alu.Mov dst src) made other e done = copy_64 dst src made (λ q. other (ap Some q)) (link_is dst (copied src W64) made e) done
-  made_holds (insn.Alu32Reg alu.Mov dst src) made other e done = copy_32 dst src made (λ q. other (ap Some q)) (link_is dst (copied src W32) made e) done
-  made_holds i made other e done = absurd cc
+  pub made_holds : (action : Action) (made : RegNo × Link) → register_written_by action ≢ Some R10 → link_made links action ≡ Some made → Does action → LinkHolds (Some made.1) (reg_number made.0) t.registers
+  made_holds (Operate W64 Add dst (Imm imm)) made other e done = sum_64 dst imm made (λ q. other (ap Some q)) (raised_is dst W64 imm (link_at links (reg_number dst)) made e) done
+  made_holds (Operate W32 Add dst (Imm imm)) made other e done = sum_32 dst imm made (λ q. other (ap Some q)) (raised_is dst W32 imm (link_at links (reg_number dst)) made e) done
+  made_holds (Operate W64 Mov dst (Reg src)) made other e done = copy_64 dst src made (λ q. other (ap Some q)) (link_is dst (copied src W64) made e) done
+  made_holds (Operate W32 Mov dst (Reg src)) made other e done = copy_32 dst src made (λ q. other (ap Some q)) (link_is dst (copied src W32) made e) done
+  made_holds action made other e done = absurd cc
 
 -- ---- what is known behind an instruction
 
@@ -160,7 +169,7 @@ same_fits x layout a b s registers stack links f = record {
   links = links;
 }
 
-module _ (layout : Layout) (i : Insn) (old between new : Known) (linked : IsLinked i old between new) where
+module _ (layout : Layout) (i : Insn) (old between new : Known) (linked : IsLinked (action_of i) old between new) where
   flow_is : (flow : Flow) (es : List Effect) → FlowIs layout between flow es → FlowIs layout new flow es
   flow_is Next (Falls s ∷ []) h = same_fits true layout between new (shape_of s) linked.registers linked.stack tt h
   flow_is (Jump d) (Jumps e s ∷ []) h = (h.0, same_fits true layout between new (shape_of s) linked.registers linked.stack tt h.1)
@@ -169,14 +178,14 @@ module _ (layout : Layout) (i : Insn) (old between new : Known) (linked : IsLink
   flow_is flow es h = absurd h
 
   -- where no link is made
-  module _ (none : link_made old.links i ≡ None) where
+  module _ (none : link_made old.links (action_of i) ≡ None) where
     same_links : new.links ≡ between.links
     same_links = subst (λ (o : Option (RegNo × Link)). AreMade o between.links new.links) none linked.links
 
     to : (s : State) → StateFits false layout between s → StateFits false layout new s
     to s f = same_fits false layout between new s linked.registers linked.stack (links_same false between.links new.links s.registers same_links f.links) f
 
-    flow_fits : (flow : Flow) (o : Option Effect) → FlowFits layout between flow o → FlowFits layout new flow o
+    flow_fits : (flow : Flow) (o : Option Effect) → FlowFits false layout between flow o → FlowFits false layout new flow o
     flow_fits Next (Some (Falls s)) h = to s h
     flow_fits (Jump d) (Some (Jumps e s)) h = (h.0, to s h.1)
     flow_fits (Branch d test) (Some (Falls s)) h = (h.0, to s h.1)
@@ -185,38 +194,32 @@ module _ (layout : Layout) (i : Insn) (old between new : Known) (linked : IsLink
     flow_fits flow o h = absurd h
 
   -- where one is
-  module _ (made : RegNo × Link) (is : link_made old.links i ≡ Some made) (other : WritesNoR10 i) where
-    made_fits : (s : State) (o : Option Effect) → StateFits false layout old s → done_by layout i s ≡ o → FlowFits layout between Next o → FlowFits layout new Next o
+  module _ (made : RegNo × Link) (is : link_made old.links (action_of i) ≡ Some made) (other : WritesNoR10 i) where
+    made_fits : (s : State) (o : Option Effect) → StateFits false layout old s → effect layout i s ≡ o → FlowFits false layout between Next o → FlowFits false layout new Next o
     made_fits s None f done h = h
     made_fits s (Some (Jumps e t)) f done h = h
     made_fits s (Some (Exits r0)) f done h = h
     made_fits s (Some (Falls t)) f done h =
-        let holds = made_holds layout old.links s t f.long f.links i made other is done in
+        let holds = made_holds layout old.links s t f.long f.links (action_of i) made other is done in
         let are : AreMade (Some made) between.links new.links = subst (λ (o : Option (RegNo × Link)). AreMade o between.links new.links) is linked.links in
         same_fits false layout between new t linked.registers linked.stack (made_too between.links new.links t.registers made are holds h.links) h
 
-pub made_next : (layout : Layout) (links : Links) (i : Insn) (made : RegNo × Link) (old between : Known) (flow : Flow) → link_made links i ≡ Some made → LeavesRow layout i old between (Ok flow) → flow ≡ Next
-made_next layout links (insn.Alu64Imm op dst imm) made old between Next e row = refl
-made_next layout links (insn.Alu64Reg op dst src) made old between Next e row = refl
-made_next layout links (insn.Alu32Imm op dst imm) made old between Next e row = refl
-made_next layout links (insn.Alu32Reg op dst src) made old between Next e row = refl
-made_next layout links (insn.Alu64Imm op dst imm) made old between flow e row = absurd row
-made_next layout links (insn.Alu64Reg op dst src) made old between flow e row = absurd row
-made_next layout links (insn.Alu32Imm op dst imm) made old between flow e row = absurd row
-made_next layout links (insn.Alu32Reg op dst src) made old between flow e row = absurd row
-made_next layout links i made old between flow e row = absurd cc
+made_next : (layout : Layout) (links : Links) (action : Action) (made : RegNo × Link) (old between : Known) (flow : Flow) → link_made links action ≡ Some made → LeavesRow layout action old between (Ok flow) → flow ≡ Next
+made_next layout links (Operate w op dst operand) made old between Next e row = refl
+made_next layout links (Operate w op dst operand) made old between flow e row = absurd row
+made_next layout links action made old between flow e row = absurd cc
 
 -- what follows an instruction follows it with its link
-pub with_link : (layout : Layout) (i : Insn) (old between new : Known) (flow : Flow) → WritesNoR10 i → IsLinked i old between new → LeavesRow layout i old between (Ok flow)
+pub with_link : (layout : Layout) (i : Insn) (old between new : Known) (flow : Flow) → WritesNoR10 i → IsLinked (action_of i) old between new → LeavesRow layout (action_of i) old between (Ok flow)
     → Follows layout i old between flow → Follows layout i old new flow
 with_link layout i old between new flow other linked row h = record {
   own = h.own;
-  states = λ s f. by (link_made old.links i) refl s f;
+  states = λ s f. by (link_made old.links (action_of i)) refl s f;
   shape = λ s plain f. flow_is layout i old between new linked flow (effects layout i s) (h.shape s plain f);
 } where
-  by : (o : Option (RegNo × Link)) → link_made old.links i ≡ o → (s : State) → StateFits false layout old s → FlowFits layout new flow (effect layout i s)
+  by : (o : Option (RegNo × Link)) → link_made old.links (action_of i) ≡ o → (s : State) → StateFits false layout old s → FlowFits false layout new flow (effect layout i s)
   by None e s f = flow_fits layout i old between new linked e flow (effect layout i s) (h.states s f)
   by (Some made) e s f =
-      let next = made_next layout old.links i made old between flow e row in
-      let there : FlowFits layout between Next (effect layout i s) = subst (λ (x : Flow). FlowFits layout between x (effect layout i s)) next (h.states s f) in
-      subst (λ (x : Flow). FlowFits layout new x (effect layout i s)) (sym next) (made_fits layout i old between new linked made e other s (effect layout i s) f (sym (effect_is_done layout i s)) there)
+      let next = made_next layout old.links (action_of i) made old between flow e row in
+      let there : FlowFits false layout between Next (effect layout i s) = subst (λ (x : Flow). FlowFits false layout between x (effect layout i s)) next (h.states s f) in
+      subst (λ (x : Flow). FlowFits false layout new x (effect layout i s)) (sym next) (made_fits layout i old between new linked made e other s (effect layout i s) f refl there)

@@ -4,12 +4,13 @@ use Rattle.insn.specs.declared.layout.Layout.{Layout}
 use Rattle.insn.specs.declared.register.RegNo.{RegNo}
 use Rattle.insn.specs.declared.register.RegNo.TheVariants.{R0}
 use Rattle.insn.specs.declared.instruction.Insn.{Insn}
-use Rattle.insn.specs.declared.instruction.Insn.TheVariants as insn
+use Rattle.insn.specs.declared.action.Action.{Action}
+use Rattle.insn.specs.declared.action.Action.TheVariants.{Operate, Convert, LoadWord, LoadFrom, StoreAt, Go, Branch, End}
+use Rattle.std.specs.Prelude.{if◌then◌else◌}
 use Rattle.insn.specs.declared.instruction.Operand.{Operand}
 use Rattle.insn.specs.declared.instruction.Operand.TheVariants.{Reg, Imm}
 use Rattle.insn.specs.declared.operation.BinOp.{BinOp}
 use Rattle.insn.specs.declared.operation.BinOp.TheVariants.{Add, Sub, Mov}
-use Rattle.insn.specs.declared.operation.UnOp.TheVariants.{Extend, Neg, Swap}
 use Rattle.insn.specs.declared.operation.Width.{Width}
 use Rattle.insn.specs.declared.operation.Width.TheVariants.{W32, W64}
 use Rattle.insn.specs.declared.state.Pointer.{Pointer}
@@ -19,12 +20,12 @@ use Rattle.insn.specs.declared.state.Value.{Value}
 use Rattle.insn.specs.declared.state.Value.TheVariants.{Number, Address}
 use Rattle.insn.specs.declared.verify_fault.WalkFault.{WalkFault}
 use Rattle.insn.specs.declared.verify_fault.WalkFault.TheVariants.{ExitsWithPointer, PointerMisuse, PointerRange, UnsetRegister}
-use Rattle.insn.specs.Instruction.{division_of, extended_bits, extended_width, operation_of, remainder_of}
+use Rattle.insn.specs.Meaning.{action_of}
+use Rattle.insn.specs.Word.{unary_result, word_holds}
 use Rattle.insn.specs.Values.{State, value_of}
-use Rattle.insn.specs.Effects.{operand_value}
+use Rattle.insn.specs.Effects.{Exits, Falls, Jumps, operand_value}
 use Rattle.insn.specs.Arithmetic.{defined_result, left_operand}
-use Rattle.insn.specs.Tests.{Test as Check, first_of, operated_tests, operation_tests, result_tests, tests_of}
-use Rattle.insn.specs.OutcomeLaws.{fault_is_first}
+use Rattle.insn.specs.Outcomes.{Tested, Passes, action_outcome, and_then, comparison, failed, number_held, operation_result, put}
 use Rattle.reg_kind.specs.declared.reg.Reg.{Reg as Kind}
 use Rattle.reg_kind.specs.declared.reg.Reg.TheVariants as kind
 use Rattle.reg_kind.specs.declared.span.Span.{Span}
@@ -34,10 +35,10 @@ use Rattle.verifier.specs.declared.known.Known.{Known}
 use Rattle.verifier.specs.declared.known.Flow.{Flow}
 use Rattle.verifier.specs.Fits.{StateFits}
 use Rattle.verifier.specs.Follows.{IsOperand, reg_of}
-use Rattle.verifier.specs.Kinds.{CanFail, Computes, LeavesRow, IsSeen, flow_where}
-use Rattle.verifier.proofs.Accesses.{set_holds}
-use Rattle.verifier.proofs.Branches.{number_alone}
-use Rattle.verifier.proofs.Seen.{Sees, changed, compare_seen, image_refused, loads_seen, number_seen, signed_seen, stores_seen, there, unset_or_not, unset_there}
+use Rattle.verifier.specs.Kinds.{CanFail, LeavesRow, flow_where}
+use Rattle.verifier.proofs.Outcomes.{set_holds, unset_or_not}
+use Rattle.verifier.proofs.Parts.{Gives, converts_put, given_by, loads_put}
+use Rattle.verifier.proofs.Seen.{Sees, changed, compare_seen, extended_seen, image_refused, number_seen, sees_then, stores_seen, there, unset_there}
 use Rattle.verifier.proofs.States.{reg_fits}
 use Rattle.verifier.proofs.Steps.{operand_fits}
 
@@ -93,7 +94,7 @@ no_right layout w Mov plain n q = absurd (plain refl)
 no_right layout w op plain n q = refl
 
 computed_both : (layout : Layout) (w : Width) (op : BinOp) (a b : Kind) (v u : Value) (fault : WalkFault) → IsPlain w op → ValueFits false a v → ValueFits false b u → IsComputed w op a b (Err fault)
-    → first_of (result_tests (defined_result layout w op v u)) ≡ Some fault
+    → failed (operation_result layout w op (Some v) (Some u)) ≡ Some fault
 computed_both layout w op kind.Unset b v u fault plain x y h = absurd x
 computed_both layout w op (kind.Number a) kind.Unset v u fault plain x y h = absurd y
 computed_both layout w op (kind.Record a) kind.Unset v u fault plain x y h = absurd y
@@ -121,7 +122,7 @@ moved_range fault g (Some span) range e = cc
 
 -- two pointers are not added, and none is taken from anything
 sum_both : (layout : Layout) (a b : Kind) (v u : Value) (fault : WalkFault) → fault ≢ PointerRange → ValueFits false a v → ValueFits false b u → IsRegSum layout a b (Err fault)
-    → first_of (result_tests (defined_result layout W64 Add v u)) ≡ Some fault
+    → failed (operation_result layout W64 Add (Some v) (Some u)) ≡ Some fault
 sum_both layout kind.Unset b v u fault range x y h = absurd x
 sum_both layout (kind.Number a) kind.Unset v u fault range x y h = absurd y
 sum_both layout (kind.Record a) kind.Unset v u fault range x y h = absurd y
@@ -149,7 +150,7 @@ taken_pointer layout (Number n) q = refl
 taken_pointer layout (Address p) q = refl
 
 difference_both : (layout : Layout) (a b : Kind) (v u : Value) (fault : WalkFault) → fault ≢ PointerRange → ValueFits false a v → ValueFits false b u → IsDifference layout a b (Err fault)
-    → first_of (result_tests (defined_result layout W64 Sub v u)) ≡ Some fault
+    → failed (operation_result layout W64 Sub (Some v) (Some u)) ≡ Some fault
 difference_both layout kind.Unset b v u fault range x y h = absurd x
 difference_both layout (kind.Number a) kind.Unset v u fault range x y h = absurd y
 difference_both layout (kind.Record a) kind.Unset v u fault range x y h = absurd y
@@ -171,7 +172,7 @@ difference_both layout (kind.Stack a) (kind.Record b) v (Address q) fault range 
 difference_both layout (kind.Stack a) (kind.Stack b) v (Address q) fault range x y h = let same : PointerMisuse ≡ fault = cc in rw taken_pointer (ap Some same)
 
 both_set : (layout : Layout) (w : Width) (op : BinOp) (a b : Kind) (v u : Value) (fault : WalkFault) → op ≢ Mov → fault ≢ PointerRange → ValueFits false a v → ValueFits false b u → IsKindResult layout w op a b (Err fault)
-    → first_of (result_tests (defined_result layout w op v u)) ≡ Some fault
+    → failed (operation_result layout w op (Some v) (Some u)) ≡ Some fault
 both_set layout w Mov a b v u fault other range x y h = absurd (other refl)
 both_set layout W64 Add a b v u fault other range x y h = sum_both layout a b v u fault range x y h
 both_set layout W64 Sub a b v u fault other range x y h = difference_both layout a b v u fault range x y h
@@ -179,7 +180,7 @@ both_set layout W32 op a b v u fault other range x y h = computed_both layout W3
 both_set layout W64 op a b v u fault other range x y h = computed_both layout W64 op a b v u fault other x y h
 
 -- a move to a register doesn't look at it
-move_set : (layout : Layout) (w : Width) (a b : Kind) (u : Value) (fault : WalkFault) → ValueFits false b u → IsKindResult layout w Mov a b (Err fault) → first_of (result_tests (defined_result layout w Mov (Number 0) u)) ≡ Some fault
+move_set : (layout : Layout) (w : Width) (a b : Kind) (u : Value) (fault : WalkFault) → ValueFits false b u → IsKindResult layout w Mov a b (Err fault) → failed (operation_result layout w Mov (Some (Number 0)) (Some u)) ≡ Some fault
 move_set layout w a kind.Unset u fault y h = absurd y
 move_set layout W64 a (kind.Number b) u fault y h = absurd cc
 move_set layout W64 a (kind.Record b) u fault y h = absurd cc
@@ -198,19 +199,19 @@ mov_or_not : (op : BinOp) → (op ≡ Mov) ⊎ (op ≢ Mov)
 mov_or_not Mov = inl refl
 mov_or_not op = inr (λ e. cc)
 
-unset_right : (layout : Layout) (w : Width) (op : BinOp) (o : Option Value) → first_of (operation_tests layout w op o None) ≡ Some UnsetRegister
+unset_right : (layout : Layout) (w : Width) (op : BinOp) (o : Option Value) → failed (operation_result layout w op o None) ≡ Some UnsetRegister
 unset_right layout w op None = refl
 unset_right layout w op (Some v) = refl
 
 module _ (layout : Layout) (old : Known) (s : State) (f : StateFits false layout old s) (w : Width) (op : BinOp) (dst : RegNo) where
-  abbrev operate_at : Operand → State → List Check
-  operate_at operand t = operated_tests layout t w op dst (operand_value t operand)
+  abbrev operate_at : Operand → State → Tested Value
+  operate_at operand t = given_by layout (Operate w op dst operand) t
 
   operand_unset : (operand : Operand) (right : Kind) → IsOperand old operand right → right ≡ kind.Unset → Sees layout old (operate_at operand) UnsetRegister
   operand_unset (Reg src) right is e = record { state = changed s src None s.stack; fits = unset_there layout old s f src (sym is ∙ e); fails = rw (there layout old s f src None) (unset_right layout w op (left_operand op (changed s src None s.stack) dst)) }
   operand_unset (Imm imm) right is e = absurd (subst (λ (k : Kind). IsOperand old (Imm imm) k) e is)
 
-  operate_seen : (operand : Operand) (fault : WalkFault) → fault ≢ PointerRange → Computes layout old (record { width = w; op = op; dst = dst; operand = operand }) (Err fault) → Sees layout old (operate_at operand) fault
+  operate_seen : (operand : Operand) (fault : WalkFault) → fault ≢ PointerRange → Gives layout old (Operate w op dst operand) (Err fault) → Sees layout old (operate_at operand) fault
   operate_seen operand fault range h = by (unset_or_not h.0) where
     value : h.0 ≢ kind.Unset → (u : Value) × (operand_value s operand ≡ Some u) × ValueFits false h.0 u
     value set = set_holds false h.0 (operand_value s operand) set (operand_fits false layout old s operand h.0 f h.1)
@@ -241,32 +242,23 @@ flow_refused (Ok a) flow fault e = absurd cc
 flow_refused (Err wrong) flow fault e = let same : wrong ≡ fault = cc in ap Err same
 
 module _ (layout : Layout) (old new : Known) (fault : WalkFault) (s : State) (f : StateFits false layout old s) where
-  seen : (i : Insn) (tests : State → List Check) → ((t : State) → first_of (tests t) ≡ first_of (tests_of layout i t)) → Sees layout old tests fault → IsSeen layout i old fault
-  seen i tests same x = record { state = x.state; fits = x.fits; fails = fault_is_first layout i x.state ∙ sym (same x.state) ∙ x.fails }
+  received : (action : Action) (dst : RegNo) → ((t : State) → action_outcome layout action t ≡ and_then (given_by layout action t) (put t dst)) → Sees layout old (given_by layout action) fault → Sees layout old (action_outcome layout action) fault
+  received action dst puts x = sees_then layout old (given_by layout action) (action_outcome layout action) (λ t. put t dst) fault puts x
 
-  pub outcome_seen : (i : Insn) → fault ≢ PointerRange → LeavesRow layout i old new (Err fault) → IsSeen layout i old fault
-  outcome_seen (insn.Alu64Imm op dst imm) range h = seen (insn.Alu64Imm op dst imm) _ (λ t. refl) (operate_seen layout old s f W64 (operation_of op) dst (Imm imm) fault range h.0)
-  outcome_seen (insn.Alu64Reg op dst src) range h = seen (insn.Alu64Reg op dst src) _ (λ t. refl) (operate_seen layout old s f W64 (operation_of op) dst (Reg src) fault range h.0)
-  outcome_seen (insn.Alu32Imm op dst imm) range h = seen (insn.Alu32Imm op dst imm) _ (λ t. refl) (operate_seen layout old s f W32 (operation_of op) dst (Imm imm) fault range h.0)
-  outcome_seen (insn.Alu32Reg op dst src) range h = seen (insn.Alu32Reg op dst src) _ (λ t. refl) (operate_seen layout old s f W32 (operation_of op) dst (Reg src) fault range h.0)
-  outcome_seen (insn.Divide w sign dst operand) range h = seen (insn.Divide w sign dst operand) _ (λ t. refl) (operate_seen layout old s f w (division_of sign) dst operand fault range h.0)
-  outcome_seen (insn.Remainder w sign dst operand) range h = seen (insn.Remainder w sign dst operand) _ (λ t. refl) (operate_seen layout old s f w (remainder_of sign) dst operand fault range h.0)
-  outcome_seen (insn.Negate w dst) range h = seen (insn.Negate w dst) _ (λ t. refl) (number_seen layout old s f dst PointerMisuse fault (image_refused layout old s f Neg w (reg_of old dst) fault h.0))
-  outcome_seen (insn.MoveSigned x dst src) range h = seen (insn.MoveSigned x dst src) _ (λ t. refl) (number_seen layout old s f src PointerMisuse fault (image_refused layout old s f (Extend (extended_bits x)) (extended_width x) (reg_of old src) fault h.0))
-  outcome_seen (insn.SwapBytes by bits dst) range h = seen (insn.SwapBytes by bits dst) _ (λ t. refl) (number_seen layout old s f dst PointerMisuse fault (image_refused layout old s f (Swap by bits) W64 (reg_of old dst) fault h.0))
-  outcome_seen (insn.LoadWide dst n) range h = absurd h.0
-  outcome_seen (insn.Load size dst src offset) range h = seen (insn.Load size dst src offset) _ (λ t. refl) (loads_seen layout old s f size src offset fault h.0)
-  outcome_seen (insn.LoadSigned size dst src offset) range h = seen (insn.LoadSigned size dst src offset) _ (λ t. refl) (signed_seen layout old s f size src offset fault h.0)
-  outcome_seen (insn.StoreReg size dst src offset) range h = seen (insn.StoreReg size dst src offset) _ (λ t. refl) (stores_seen layout old s f size dst offset (Reg src) fault new h)
-  outcome_seen (insn.StoreImm size dst offset imm) range h = seen (insn.StoreImm size dst offset imm) _ (λ t. refl) (stores_seen layout old s f size dst offset (Imm imm) fault new h)
-  outcome_seen (insn.Jump offset) range h = let e = h.0 in absurd cc
-  outcome_seen (insn.JumpLong offset) range h = let e = h.0 in absurd cc
-  outcome_seen (insn.Jump64IfImm cond dst offset imm) range h = seen (insn.Jump64IfImm cond dst offset imm) _ (λ t. sym (number_alone (value_of t.registers dst) _)) (compare_seen layout old s f dst (Imm imm) h.0 h.1 fault (flow_refused _ _ fault h.2.0))
-  outcome_seen (insn.Jump64IfReg cond dst src offset) range h = seen (insn.Jump64IfReg cond dst src offset) _ (λ t. refl) (compare_seen layout old s f dst (Reg src) h.0 h.1 fault (flow_refused _ _ fault h.2.0))
-  outcome_seen (insn.Jump32IfImm cond dst offset imm) range h = seen (insn.Jump32IfImm cond dst offset imm) _ (λ t. sym (number_alone (value_of t.registers dst) _)) (compare_seen layout old s f dst (Imm imm) h.0 h.1 fault (flow_refused _ _ fault h.2.0))
-  outcome_seen (insn.Jump32IfReg cond dst src offset) range h = seen (insn.Jump32IfReg cond dst src offset) _ (λ t. refl) (compare_seen layout old s f dst (Reg src) h.0 h.1 fault (flow_refused _ _ fault h.2.0))
-  outcome_seen insn.Exit range h = seen insn.Exit _ (λ t. refl) (number_seen layout old s f R0 ExitsWithPointer fault (flow_refused _ _ fault h.0))
+  action_seen : (action : Action) → fault ≢ PointerRange → LeavesRow layout action old new (Err fault) → Sees layout old (action_outcome layout action) fault
+  action_seen (Operate w op dst operand) range h = received (Operate w op dst operand) dst (λ t. refl) (operate_seen layout old s f w op dst operand fault range h.0)
+  action_seen (Convert w op dst src) range h =
+      received (Convert w op dst src) dst (converts_put layout w op dst src)
+      (sees_then layout old (λ t. number_held (value_of t.registers src) PointerMisuse) (given_by layout (Convert w op dst src)) (λ t n. Passes (Number (unary_result op w n))) fault (λ t. refl)
+      (number_seen layout old s f src PointerMisuse fault (image_refused layout old s f op w (reg_of old src) fault h.0)))
+  action_seen (LoadWord dst n) range h = absurd h.0
+  action_seen (LoadFrom size extension dst src offset) range h = received (LoadFrom size extension dst src offset) dst (loads_put layout size extension dst src offset) (extended_seen layout old s f size extension dst src offset fault h.0)
+  action_seen (StoreAt size dst offset operand) range h = stores_seen layout old s f size dst offset operand fault new h
+  action_seen (Go offset) range h = let e = h.0 in absurd cc
+  action_seen (Branch w cond dst operand offset) range h =
+      sees_then layout old (λ t. comparison (value_of t.registers dst) (operand_value t operand)) (action_outcome layout (Branch w cond dst operand offset)) (λ t both. if word_holds w cond both.0 both.1 then Passes (Jumps offset t) else Passes (Falls t)) fault (λ t. refl)
+      (compare_seen layout old s f dst operand h.0 h.1 fault (flow_refused _ _ fault h.2.0))
+  action_seen End range h = sees_then layout old (λ t. number_held (value_of t.registers R0) ExitsWithPointer) (action_outcome layout End) (λ t r0. Passes (Exits r0)) fault (λ t. refl) (number_seen layout old s f R0 ExitsWithPointer fault (flow_refused _ _ fault h.0))
 
-pub result_seen : (layout : Layout) (i : Insn) (old new : Known) (r : Result Flow WalkFault) → LeavesRow layout i old new r → IfErr r (λ fault. CanFail layout i old fault)
-result_seen layout i old new (Ok flow) h = tt
-result_seen layout i old new (Err fault) h = λ range s f. outcome_seen layout old new fault s f i range h
+pub row_seen : (layout : Layout) (i : Insn) (old new : Known) (fault : WalkFault) → LeavesRow layout (action_of i) old new (Err fault) → CanFail layout i old fault
+row_seen layout i old new fault h = λ range s f. let x = action_seen layout old new fault s f (action_of i) range h in record { state = x.state; fits = x.fits; fails = x.fails }

@@ -11,10 +11,11 @@ use Rattle.insn.specs.declared.instruction.Operand.{Operand}
 use Rattle.insn.specs.declared.instruction.Operand.TheVariants.{Reg, Imm}
 use Rattle.insn.specs.declared.operation.Size.{Size}
 use Rattle.insn.specs.declared.operation.Size.TheVariants.{One, Two, Four, Eight}
-use Rattle.insn.specs.declared.operation.SignedSize.{SignedSize}
-use Rattle.insn.specs.declared.operation.SignedSize.TheVariants as signed
+use Rattle.insn.specs.declared.operation.ExtendBits.{ExtendBits}
 use Rattle.insn.specs.declared.operation.UnOp.{UnOp}
+use Rattle.insn.specs.declared.operation.UnOp.TheVariants.{Extend}
 use Rattle.insn.specs.declared.operation.Width.{Width}
+use Rattle.insn.specs.declared.operation.Width.TheVariants.{W64}
 use Rattle.insn.specs.declared.state.Region.{Region}
 use Rattle.insn.specs.declared.state.Region.TheVariants as region
 use Rattle.insn.specs.declared.state.Pointer.{Pointer}
@@ -23,17 +24,18 @@ use Rattle.insn.specs.declared.state.Value.TheVariants.{Number, Address}
 use Rattle.insn.specs.declared.state.Cell.{Cell}
 use Rattle.insn.specs.declared.verify_fault.WalkFault.{WalkFault}
 use Rattle.insn.specs.declared.verify_fault.WalkFault.TheVariants.{OutOfRegion, PointerMisuse, ReadOnlyField, UnsetRegister}
-use Rattle.insn.specs.Instruction.{read_size, reg_number, size_bytes}
+use Rattle.insn.specs.Instruction.{reg_number, size_bytes}
 use Rattle.insn.specs.Values.{State, at, region_size, value_of, writable_from, writable_to}
 use Rattle.insn.specs.Memory.{is_writable, within}
-use Rattle.insn.specs.Effects.{operand_value}
-use Rattle.insn.specs.Tests.{Test as Check, comparison_tests, first_of, load_tests, number_tests, store_tests, write_tests}
+use Rattle.insn.specs.Effects.{Effect, Falls, operand_value}
+use Rattle.insn.specs.Outcomes.{Tested, Passes, Fails, WritesR10, access_place, action_outcome, and_then, comparison, extended, failed, number_held, stored_state}
+use Rattle.insn.specs.declared.action.Action.TheVariants.{LoadFrom, StoreAt}
 use Rattle.scalar.specs.declared.scalar.Scalar.{Scalar}
 use Rattle.reg_kind.specs.declared.reg.Reg.{Reg as Kind}
 use Rattle.reg_kind.specs.declared.reg.Reg.TheVariants as kind
 use Rattle.reg_kind.specs.declared.span.Span.{Span}
 use Rattle.reg_kind.specs.declared.place.Place.{Place}
-use Rattle.reg_kind.specs.Fits.{RegFits, SpanFits, ValueFits, pointer_to}
+use Rattle.reg_kind.specs.Fits.{IsRight, RegFits, SpanFits, ValueFits, pointer_to}
 use Rattle.reg_kind.specs.Spans.{span_between, span_from, span_raised}
 use Rattle.reg_kind.specs.Accesses.{is_span_writable, place_at, place_behind, place_in}
 use Rattle.reg_kind.specs.Operations.{IsKindImage, number_in_reg}
@@ -44,11 +46,14 @@ use Rattle.verifier.specs.declared.known.Known.{Known}
 use Rattle.verifier.specs.declared.known.Flow.TheVariants.{Next}
 use Rattle.verifier.specs.Fits.{StateFits}
 use Rattle.verifier.specs.Follows.{IsOperand, comparison_of, reg_of}
-use Rattle.verifier.specs.Kinds.{Extends, GivenAt, Loads, LoadsSigned, StoredAt, StoredOf, StoredWhere, Stores, flow_where, kept_in_record, put_at}
-use Rattle.verifier.proofs.Accesses.{set_holds}
+use Rattle.verifier.specs.Kinds.{Extends, GivenAt, LeavesRow, StoredAt, StoredOf, StoredWhere, flow_where, kept_in_record, put_at}
+use Rattle.verifier.proofs.Accesses.{no_value}
+use Rattle.verifier.proofs.Branches.{unset_compared}
+use Rattle.verifier.proofs.Outcomes.{of_err, of_ok, set_holds, unset_or_not}
+use Rattle.verifier.proofs.Parts.{Gives, fails_then, given_by, loaded_by}
 use Rattle.verifier.proofs.Linked.{IsNoNumber, changed_holds}
 use Rattle.verifier.proofs.States.{reg_below, reg_fits}
-use Rattle.verifier.proofs.Steps.{operand_fits}
+use Rattle.verifier.proofs.Steps.{loaded_right, operand_fits}
 
 -- ---- places
 
@@ -126,33 +131,17 @@ few_bytes layout region.Stack Two = omega arith
 few_bytes layout region.Stack Four = omega arith
 few_bytes layout region.Stack Eight = omega arith
 
--- ---- values that are stored
-
-pub unset_or_not : (k : Kind) → (k ≡ kind.Unset) ⊎ (k ≢ kind.Unset)
-unset_or_not kind.Unset = inl refl
-unset_or_not (kind.Number a) = inr (λ e. cc)
-unset_or_not (kind.Record a) = inr (λ e. cc)
-unset_or_not (kind.Stack a) = inr (λ e. cc)
-
-pub of_err : (layout : Layout) (size : Size) (wrong : WalkFault) (value : Kind) (r : Result Unit WalkFault) (old new : Known) → value ≢ kind.Unset → StoredOf layout (put_at size value (Err wrong)) r old new → r ≡ Err wrong
-of_err layout size wrong kind.Unset r old new set h = absurd (set refl)
-of_err layout size wrong (kind.Number a) r old new set h = h.0
-of_err layout size wrong (kind.Record a) r old new set h = h.0
-of_err layout size wrong (kind.Stack a) r old new set h = h.0
-
-pub of_ok : (layout : Layout) (size : Size) (place : Place) (value : Kind) (r : Result Unit WalkFault) (old new : Known) → value ≢ kind.Unset → StoredOf layout (put_at size value (Ok place)) r old new → StoredAt layout (record { size = size; place = place; value = value }) r old new
-of_ok layout size place kind.Unset r old new set h = absurd (set refl)
-of_ok layout size place (kind.Number a) r old new set h = h
-of_ok layout size place (kind.Record a) r old new set h = h
-of_ok layout size place (kind.Stack a) r old new set h = h
-
 -- ---- states of which a register is changed
 
 -- the first test that fails in some state that is what is known
-pub record Sees (layout : Layout) (old : Known) (tests : State → List Check) (fault : WalkFault) : Type 0 where
+pub record Sees {A : Type 0} (layout : Layout) (old : Known) (tests : State → Tested A) (fault : WalkFault) : Type 0 where
   pub state : State
   pub fits : StateFits false layout old state
-  pub fails : first_of (tests state) ≡ Some fault
+  pub fails : failed (tests state) ≡ Some fault
+
+-- what fails is not gone on from
+pub sees_then : {A B : Type 0} (layout : Layout) (old : Known) (tests : State → Tested A) (whole : State → Tested B) (k : State → A → Tested B) (fault : WalkFault) → ((t : State) → whole t ≡ and_then (tests t) (k t)) → Sees layout old tests fault → Sees layout old whole fault
+sees_then layout old tests whole k fault same x = record { state = x.state; fits = x.fits; fails = rw same (fails_then (tests x.state) (k x.state) fault x.fails) }
 
 abbrev pub changed : State → RegNo → Option Value → List Cell → State
 changed s r o cells = record s { registers = set s.registers (reg_number r) o; stack = cells }
@@ -212,9 +201,9 @@ module _ (layout : Layout) (old : Known) (s : State) (f : StateFits false layout
 
   -- ---- numbers that are wanted
 
-  pub number_seen : (r : RegNo) (name fault : WalkFault) → number_in_reg (reg_of old r) name ≡ Err fault → Sees layout old (λ t. number_tests (value_of t.registers r) name) fault
+  pub number_seen : (r : RegNo) (name fault : WalkFault) → number_in_reg (reg_of old r) name ≡ Err fault → Sees layout old (λ t. number_held (value_of t.registers r) name) fault
   number_seen r name fault h = by (reg_of old r) refl h where
-    by : (k : Kind) → reg_of old r ≡ k → number_in_reg k name ≡ Err fault → Sees layout old (λ t. number_tests (value_of t.registers r) name) fault
+    by : (k : Kind) → reg_of old r ≡ k → number_in_reg k name ≡ Err fault → Sees layout old (λ t. number_held (value_of t.registers r) name) fault
     by kind.Unset e h = let is : UnsetRegister ≡ fault = cc in record { state = changed s r None s.stack; fits = unset_there r e; fails = rw there (ap Some is) }
     by (kind.Number a) e h = absurd cc
     by (kind.Record span) e h = let is : name ≡ fault = cc in let p = is_pointer r region.Record span e in record { state = s; fits = f; fails = rw p.1 (ap Some is) }
@@ -229,8 +218,8 @@ module _ (layout : Layout) (old : Known) (s : State) (f : StateFits false layout
   -- ---- loads
 
   module _ (size : Size) (src : RegNo) (offset : ℤ) where
-    abbrev read_at : State → List Check
-    read_at t = load_tests layout t (value_of t.registers src) offset (size_bytes size)
+    abbrev pub read_at : State → Tested Value
+    read_at t = loaded_by layout t src offset size
 
     load_outside : (g : Region) (span : Span) (o : ℕ) → reg_of old src ≡ pointer_to g span → SpanFits false span o → within (region_size layout g) (pos o +ℤ offset) (size_bytes size) ≡ None → Sees layout old read_at OutOfRegion
     load_outside g span o e h out = record { state = changed s src (Some (Address (at g o))) s.stack; fits = pointer_there src g span o s.stack e h f.stack; fails = rw (there, out) refl }
@@ -239,13 +228,13 @@ module _ (layout : Layout) (old : Known) (s : State) (f : StateFits false layout
     load_stack span t fault e ends given = record {
       state = changed s src (Some (Address (at region.Stack c.from))) x.cells;
       fits = pointer_there src region.Stack span c.from x.cells e c.inside x.fits;
-      fails = rw (there, c.comes, within_at 512 (size_bytes size) x.at (let i = ends.inside in let p = x.place.1 in omega arith)) x.fails;
+      fails = rw (there, c.comes, within_at 512 (size_bytes size) x.from (let i = ends.inside in let p = x.place.1 in omega arith)) x.fails;
     } where
       x : FailsLoad old.stack t size s fault
       x = load_seen old.stack t size s ends.inside (ends_ordered span t offset (ordered src region.Stack span e) ends.least ends.greatest) fault given.0 given.1 f.stack
 
-      c : ComesTo span offset x.at
-      c = comes_to span t offset x.at ends.least ends.greatest x.place
+      c : ComesTo span offset x.from
+      c = comes_to span t offset x.from ends.least ends.greatest x.place
 
     load_pointer : (g : Region) (span : Span) (fault : WalkFault) → reg_of old src ≡ pointer_to g span → GivenAt old size (place_in layout g span offset (size_bytes size)) (Err fault) → Sees layout old read_at fault
     load_pointer g span fault e h = by (span_raised (region_size layout g - size_bytes size) span offset offset) refl h where
@@ -265,7 +254,7 @@ module _ (layout : Layout) (old : Known) (s : State) (f : StateFits false layout
           ])
       by (Some t) q h = within_stack g t e (inside_of (region_size layout g) (size_bytes size) (pos span.least +ℤ offset) (pos span.greatest +ℤ offset) t (few_bytes layout g size) q) h
 
-    pub loads_seen : (fault : WalkFault) → Loads layout old (record { size = size; src = src; offset = offset }) (Err fault) → Sees layout old read_at fault
+    pub loads_seen : (fault : WalkFault) → GivenAt old size (place_behind layout (reg_of old src) offset (size_bytes size)) (Err fault) → Sees layout old read_at fault
     loads_seen fault h = by (reg_of old src) refl h where
       by : (k : Kind) → reg_of old src ≡ k → GivenAt old size (place_behind layout k offset (size_bytes size)) (Err fault) → Sees layout old read_at fault
       by kind.Unset e h = let is : UnsetRegister ≡ fault = cc in record { state = changed s src None s.stack; fits = unset_there src e; fails = rw there (ap Some is) }
@@ -273,36 +262,32 @@ module _ (layout : Layout) (old : Known) (s : State) (f : StateFits false layout
       by (kind.Record span) e h = load_pointer region.Record span fault e h
       by (kind.Stack span) e h = load_pointer region.Stack span fault e h
 
-  -- fewer than eight bytes give numbers
-  given_number : (size : SignedSize) (place : Result Place WalkFault) (k : Kind) → GivenAt old (read_size size) place (Ok k) → (a : Scalar) × (k ≡ kind.Number a)
-  given_number size (Err fault) k h = absurd cc
-  given_number size (Ok place) k h = by size place.region h where
-    short : (size : SignedSize) → read_size size ≡ Eight → ⊥
-    short signed.One e = cc
-    short signed.Two e = cc
-    short signed.Four e = cc
+  -- a pointer is not extended
+  extend_fails : (bits : ExtendBits) (number : Kind) (fault : WalkFault) (t : Tested Value) → IsKindImage (Extend bits) W64 number (Err fault) → IsRight (ValueFits false) false (Ok number) t → failed (and_then t (extended (Some bits))) ≡ Some fault
+  extend_fails bits number fault (Fails named) h right = absurd right
+  extend_fails bits number fault WritesR10 h right = absurd right
+  extend_fails bits kind.Unset fault (Passes v) h right = absurd right
+  extend_fails bits (kind.Number a) fault (Passes v) h right = let e = h.1 in absurd cc
+  extend_fails bits (kind.Record span) fault (Passes (Number n)) h right = absurd right
+  extend_fails bits (kind.Stack span) fault (Passes (Number n)) h right = absurd right
+  extend_fails bits (kind.Record span) fault (Passes (Address p)) h right = let same : PointerMisuse ≡ fault = cc in ap Some same
+  extend_fails bits (kind.Stack span) fault (Passes (Address p)) h right = let same : PointerMisuse ≡ fault = cc in ap Some same
 
-    by : (size : SignedSize) (g : Region) → GivenAt old (read_size size) (Ok (record { region = g; span = place.span })) (Ok k) → (a : Scalar) × (k ≡ kind.Number a)
-    by size region.Record h = h
-    by size region.Stack (inl whole) = absurd (short size whole.place.eight)
-    by size region.Stack (inr bytes) = bytes.2
+  pub extended_seen : (size : Size) (extension : Option ExtendBits) (dst src : RegNo) (offset : ℤ) (fault : WalkFault) → Gives layout old (LoadFrom size extension dst src offset) (Err fault) → Sees layout old (given_by layout (LoadFrom size extension dst src offset)) fault
+  extended_seen size extension dst src offset fault h = by extension h.0 h.1 h.2 where
+    wrong : (extension : Option ExtendBits) (named : WalkFault) → GivenAt old size (place_behind layout (reg_of old src) offset (size_bytes size)) (Err named) → named ≡ fault → Sees layout old (given_by layout (LoadFrom size extension dst src offset)) fault
+    wrong extension named g same = sees_then layout old (read_at size src offset) (given_by layout (LoadFrom size extension dst src offset)) (λ t. extended extension) fault (λ t. refl) (rw same at (loads_seen size src offset named g))
 
-  pub signed_seen : (size : SignedSize) (src : RegNo) (offset : ℤ) (fault : WalkFault) → LoadsSigned layout old size (record { size = read_size size; src = src; offset = offset }) (Err fault) → Sees layout old (λ t. load_tests layout t (value_of t.registers src) offset (size_bytes (read_size size))) fault
-  signed_seen size src offset fault h = by h.0 h.1 h.2 where
-    by : (number : Result Kind WalkFault) → Loads layout old (record { size = read_size size; src = src; offset = offset }) number → Extends size number (Err fault) → Sees layout old (λ t. load_tests layout t (value_of t.registers src) offset (size_bytes (read_size size))) fault
-    by (Err wrong) loads x = let is : wrong ≡ fault = cc in rw (← is) (loads_seen (read_size size) src offset wrong loads)
-    by (Ok k) loads x =
-        let a = given_number size (place_behind layout (reg_of old src) offset (size_bytes (read_size size))) k loads in
-        let image = rw a.1 at x in
-        let e = image.1 in
-        absurd cc
+    by : (extension : Option ExtendBits) (given : Result Kind WalkFault) → GivenAt old size (place_behind layout (reg_of old src) offset (size_bytes size)) given → Extends extension given (Err fault) → Sees layout old (given_by layout (LoadFrom size extension dst src offset)) fault
+    by extension (Err named) g x = wrong extension named g (same extension x) where
+      same : (extension : Option ExtendBits) → Extends extension (Err named) (Err fault) → named ≡ fault
+      same None x = cc
+      same (Some bits) x = cc
+    by None (Ok number) g x = absurd cc
+    by (Some bits) (Ok number) g x =
+        record { state = s; fits = f; fails = extend_fails bits number fault (loaded_by layout s src offset size) x ((loaded_right layout old size src offset (Ok number) g).right false s f) }
 
   -- ---- stores
-
-  no_value : (size : Size) (offset : ℤ) (o : Option Value) → first_of (store_tests layout o None size offset) ≡ Some UnsetRegister
-  no_value size offset None = refl
-  no_value size offset (Some (Number n)) = refl
-  no_value size offset (Some (Address p)) = refl
 
   unwritable_end : (t : Span) (n : ℕ) → is_span_writable layout region.Record t n ≡ false → (is_writable layout region.Record t.least n ≡ false) ⊎ (is_writable layout region.Record t.greatest n ≡ false)
   unwritable_end t n e =
@@ -337,17 +322,17 @@ module _ (layout : Layout) (old : Known) (s : State) (f : StateFits false layout
       ]
 
   -- a pointer is no number of the record
-  record_misuse : (size : Size) (k : ℕ) (value : Kind) (v : Value) (fault : WalkFault) → value ≢ kind.Unset → is_writable layout region.Record k (size_bytes size) ≡ true → Err fault ≡ kept_in_record value → ValueFits false value v → first_of (write_tests layout region.Record size v (Some k)) ≡ Some fault
-  record_misuse size k kind.Unset v fault set w e h = absurd (set refl)
-  record_misuse size k (kind.Number a) v fault set w e h = absurd cc
-  record_misuse size k (kind.Record span) (Number n) fault set w e h = absurd h
-  record_misuse size k (kind.Stack span) (Number n) fault set w e h = absurd h
-  record_misuse size k (kind.Record span) (Address p) fault set w e h = let is : PointerMisuse ≡ fault = cc in rw w (ap Some is)
-  record_misuse size k (kind.Stack span) (Address p) fault set w e h = let is : PointerMisuse ≡ fault = cc in rw w (ap Some is)
+  record_misuse : (size : Size) (k : ℕ) (value : Kind) (v : Value) (fault : WalkFault) (t : State) → value ≢ kind.Unset → is_writable layout region.Record k (size_bytes size) ≡ true → Err fault ≡ kept_in_record value → ValueFits false value v → failed (stored_state layout t (at region.Record k) size v) ≡ Some fault
+  record_misuse size k kind.Unset v fault t set w e h = absurd (set refl)
+  record_misuse size k (kind.Number a) v fault t set w e h = absurd cc
+  record_misuse size k (kind.Record span) (Number n) fault t set w e h = absurd h
+  record_misuse size k (kind.Stack span) (Number n) fault t set w e h = absurd h
+  record_misuse size k (kind.Record span) (Address p) fault t set w e h = let is : PointerMisuse ≡ fault = cc in rw w (ap Some is)
+  record_misuse size k (kind.Stack span) (Address p) fault t set w e h = let is : PointerMisuse ≡ fault = cc in rw w (ap Some is)
 
   module _ (size : Size) (dst : RegNo) (offset : ℤ) (operand : Operand) where
-    abbrev write_at : State → List Check
-    write_at t = store_tests layout (value_of t.registers dst) (operand_value t operand) size offset
+    abbrev write_at : State → Tested Effect
+    write_at t = action_outcome layout (StoreAt size dst offset operand) t
 
     module _ (value : Kind) (is : IsOperand old operand value) (set : value ≢ kind.Unset) where
       -- a value that is known not to be unset is there in each state that fits
@@ -361,11 +346,11 @@ module _ (layout : Layout) (old : Known) (s : State) (f : StateFits false layout
           record { state = changed s dst (Some (Address (at g o))) s.stack; fits = fits; fails = rw (there, v.1, out) refl }
 
       store_fails : (g : Region) (span : Span) (k : ℕ) (fault : WalkFault) → reg_of old dst ≡ pointer_to g span → ComesTo span offset k → k + size_bytes size ≤ region_size layout g
-          → ((v : Value) → ValueFits false value v → first_of (write_tests layout g size v (Some k)) ≡ Some fault) → Sees layout old write_at fault
+          → ((t : State) (v : Value) → ValueFits false value v → failed (stored_state layout t (at g k) size v) ≡ Some fault) → Sees layout old write_at fault
       store_fails g span k fault e c inside h =
           let fits = pointer_there dst g span c.from s.stack e c.inside f.stack in
           let v = value_there (changed s dst (Some (Address (at g c.from))) s.stack) fits in
-          record { state = changed s dst (Some (Address (at g c.from))) s.stack; fits = fits; fails = rw (there, v.1, c.comes, within_at (region_size layout g) (size_bytes size) k inside) (h v.0 v.2) }
+          record { state = changed s dst (Some (Address (at g c.from))) s.stack; fits = fits; fails = rw (there, v.1, c.comes, within_at (region_size layout g) (size_bytes size) k inside) (fails_then (stored_state layout (changed s dst (Some (Address (at g c.from))) s.stack) (at g k) size v.0) (λ u. Passes (Falls u)) fault (h (changed s dst (Some (Address (at g c.from))) s.stack) v.0 v.2)) }
 
       store_inside : (g : Region) (span t : Span) (fault : WalkFault) (new : Known) → reg_of old dst ≡ pointer_to g span → HasEnds (region_size layout g) (size_bytes size) (pos span.least +ℤ offset) (pos span.greatest +ℤ offset) t
           → (b : Bool) → is_span_writable layout g t (size_bytes size) ≡ b → StoredWhere b (record { size = size; place = record { region = g; span = t }; value = value }) (Err fault) old new → Sees layout old write_at fault
@@ -374,19 +359,19 @@ module _ (layout : Layout) (old : Known) (s : State) (f : StateFits false layout
           let same : ReadOnlyField ≡ fault = let x = h.0 in cc in
           let le = ends_ordered span t offset (ordered dst region.Record span e) ends.least ends.greatest in
           elim (unwritable_end t (size_bytes size) q) [
-            | inl shut ↦ store_fails region.Record span t.least fault e (comes_to span t offset t.least ends.least ends.greatest (omega arith, le)) ends.begins (λ v k. rw shut (ap Some same))
-            | inr shut ↦ store_fails region.Record span t.greatest fault e (comes_to span t offset t.greatest ends.least ends.greatest (le, omega arith)) ends.inside (λ v k. rw shut (ap Some same))
+            | inl shut ↦ store_fails region.Record span t.least fault e (comes_to span t offset t.least ends.least ends.greatest (omega arith, le)) ends.begins (λ t v k. rw shut (ap Some same))
+            | inr shut ↦ store_fails region.Record span t.greatest fault e (comes_to span t offset t.greatest ends.least ends.greatest (le, omega arith)) ends.inside (λ t v k. rw shut (ap Some same))
           ]
       store_inside region.Record span t fault new e ends true q h =
           let le = ends_ordered span t offset (ordered dst region.Record span e) ends.least ends.greatest in
-          store_fails region.Record span t.least fault e (comes_to span t offset t.least ends.least ends.greatest (omega arith, le)) ends.begins (λ v k. record_misuse size t.least value v fault set (writable_first t (size_bytes size) le q) h.0 k)
+          store_fails region.Record span t.least fault e (comes_to span t offset t.least ends.least ends.greatest (omega arith, le)) ends.begins (λ u v k. record_misuse size t.least value v fault u set (writable_first t (size_bytes size) le q) h.0 k)
       store_inside region.Stack span t fault new e ends true q h =
           let le = ends_ordered span t offset (ordered dst region.Stack span e) ends.least ends.greatest in
           let stored : IsStored t size value (Err fault) old.stack new.stack = h.1 in
           let x : FailsStore layout t size value PointerMisuse = store_seen layout t size value le stored.1 stored.2 in
           let p = x.place in
           let i = ends.inside in
-          store_fails region.Stack span x.at fault e (comes_to span t offset x.at ends.least ends.greatest x.place) (let q = p.1 in omega arith) (λ v k. x.fails v k ∙ ap Some (sym stored.0))
+          store_fails region.Stack span x.from fault e (comes_to span t offset x.from ends.least ends.greatest x.place) (let q = p.1 in omega arith) (λ u v k. x.fails u v k ∙ ap Some (sym stored.0))
 
       store_pointer : (g : Region) (span : Span) (fault : WalkFault) (new : Known) → reg_of old dst ≡ pointer_to g span → StoredOf layout (put_at size value (place_in layout g span offset (size_bytes size))) (Err fault) old new → Sees layout old write_at fault
       store_pointer g span fault new e h = by (span_raised (region_size layout g - size_bytes size) span offset offset) refl h where
@@ -422,17 +407,21 @@ module _ (layout : Layout) (old : Known) (s : State) (f : StateFits false layout
         by (kind.Stack span) e h = store_pointer region.Stack span fault new e h
 
   value_unset : (size : Size) (dst : RegNo) (offset : ℤ) (operand : Operand) (value : Kind) → IsOperand old operand value → value ≡ kind.Unset → Sees layout old (write_at size dst offset operand) UnsetRegister
-  value_unset size dst offset (Reg src) value is e = record { state = changed s src None s.stack; fits = unset_there src (sym is ∙ e); fails = rw (there src None) (no_value size offset (get_or (set s.registers (reg_number src) None) (reg_number dst) None)) }
+  value_unset size dst offset (Reg src) value is e = record {
+    state = changed s src None s.stack;
+    fits = unset_there src (sym is ∙ e);
+    fails = rw (there src None) (no_value layout (get_or (set s.registers (reg_number src) None) (reg_number dst) None) (λ base v. and_then (access_place layout base offset size) (λ p. and_then (stored_state layout (changed s src None s.stack) p size v) (λ u. Passes (Falls u)))));
+  }
   value_unset size dst offset (Imm imm) value is e = absurd (subst (λ (k : Kind). IsOperand old (Imm imm) k) e is)
 
-  pub stores_seen : (size : Size) (dst : RegNo) (offset : ℤ) (operand : Operand) (fault : WalkFault) (new : Known) → Stores layout (record { size = size; dst = dst; offset = offset; operand = operand }) old new (Err fault) → Sees layout old (write_at size dst offset operand) fault
-  stores_seen size dst offset operand fault new h = by h.1 h.3 h.4 where
+  pub stores_seen : (size : Size) (dst : RegNo) (offset : ℤ) (operand : Operand) (fault : WalkFault) (new : Known) → LeavesRow layout (StoreAt size dst offset operand) old new (Err fault) → Sees layout old (write_at size dst offset operand) fault
+  stores_seen size dst offset operand fault new h = by h.2.0 h.2.1 h.2.2 where
     told : (wrong : WalkFault) → StoredOf layout (put_at size h.0 (place_behind layout (reg_of old dst) offset (size_bytes size))) (Err wrong) old new → (h.0 ≡ kind.Unset) ⊎ (h.0 ≢ kind.Unset) → Sees layout old (write_at size dst offset operand) wrong
-    told wrong b (inr set) = set_seen size dst offset operand h.0 h.2 set wrong new b
+    told wrong b (inr set) = set_seen size dst offset operand h.0 h.1 set wrong new b
     told wrong b (inl unset) =
         let x : Err wrong ≡ Err UnsetRegister = (rw unset at b).0 in
         let same : UnsetRegister ≡ wrong = cc in
-        rw (← same) (value_unset size dst offset operand h.0 h.2 unset)
+        rw (← same) (value_unset size dst offset operand h.0 h.1 unset)
 
     by : (done : Result Unit WalkFault) → StoredOf layout (put_at size h.0 (place_behind layout (reg_of old dst) offset (size_bytes size))) done old new → Err fault ≡ flow_where done Next → Sees layout old (write_at size dst offset operand) fault
     by (Ok done) b e = absurd cc
@@ -440,11 +429,7 @@ module _ (layout : Layout) (old : Known) (s : State) (f : StateFits false layout
 
   -- ---- comparisons
 
-  no_right : (o : Option Value) → first_of (comparison_tests o None) ≡ Some UnsetRegister
-  no_right None = refl
-  no_right (Some v) = refl
-
-  both_there : (a b : Kind) (v u : Value) (fault : WalkFault) → ValueFits false a v → ValueFits false b u → comparison_of a b ≡ Err fault → first_of (comparison_tests (Some v) (Some u)) ≡ Some fault
+  both_there : (a b : Kind) (v u : Value) (fault : WalkFault) → ValueFits false a v → ValueFits false b u → comparison_of a b ≡ Err fault → failed (comparison (Some v) (Some u)) ≡ Some fault
   both_there kind.Unset b v u fault x y e = absurd x
   both_there (kind.Number a) kind.Unset v u fault x y e = absurd y
   both_there (kind.Record a) kind.Unset v u fault x y e = absurd y
@@ -466,12 +451,12 @@ module _ (layout : Layout) (old : Known) (s : State) (f : StateFits false layout
   both_there (kind.Stack a) (kind.Stack b) (Address p) u fault x y e = let same : PointerMisuse ≡ fault = cc in ap Some same
 
   module _ (dst : RegNo) where
-    abbrev compare_at : Operand → State → List Check
-    compare_at operand t = comparison_tests (value_of t.registers dst) (operand_value t operand)
+    abbrev compare_at : Operand → State → Tested (ℕ × ℕ)
+    compare_at operand t = comparison (value_of t.registers dst) (operand_value t operand)
 
-    right_unset : (operand : Operand) (right : Kind) → IsOperand old operand right → right ≡ kind.Unset → Sees layout old (compare_at operand) UnsetRegister
-    right_unset (Reg src) right is e = record { state = changed s src None s.stack; fits = unset_there src (sym is ∙ e); fails = rw (there src None) (no_right (get_or (set s.registers (reg_number src) None) (reg_number dst) None)) }
-    right_unset (Imm imm) right is e = absurd (subst (λ (k : Kind). IsOperand old (Imm imm) k) e is)
+    unset_operand : (operand : Operand) (right : Kind) → IsOperand old operand right → right ≡ kind.Unset → Sees layout old (compare_at operand) UnsetRegister
+    unset_operand (Reg src) right is e = record { state = changed s src None s.stack; fits = unset_there src (sym is ∙ e); fails = rw (there src None) (unset_compared (get_or (set s.registers (reg_number src) None) (reg_number dst) None)) }
+    unset_operand (Imm imm) right is e = absurd (subst (λ (k : Kind). IsOperand old (Imm imm) k) e is)
 
     pub compare_seen : (operand : Operand) (right : Kind) → IsOperand old operand right → (fault : WalkFault) → comparison_of (reg_of old dst) right ≡ Err fault → Sees layout old (compare_at operand) fault
     compare_seen operand right is fault e = by (unset_or_not (reg_of old dst)) (unset_or_not right) where
@@ -486,7 +471,7 @@ module _ (layout : Layout) (old : Known) (s : State) (f : StateFits false layout
           let g = rw q at e in
           let same : UnsetRegister ≡ fault = cc in
           record { state = changed s dst None s.stack; fits = unset_there dst q; fails = rw (there dst None) (ap Some same) }
-      by (inr set) (inl r) = let same = right_named (reg_of old dst) right r e in rw (← same) (right_unset operand right is r)
+      by (inr set) (inl r) = let same = right_named (reg_of old dst) right r e in rw (← same) (unset_operand operand right is r)
       by (inr set) (inr other) =
           let v = set_holds false (reg_of old dst) (value_of s.registers dst) set (reg_fits false layout old s dst f) in
           let u = set_holds false right (operand_value s operand) other (operand_fits false layout old s operand right f is) in

@@ -126,7 +126,7 @@ module _ (stack : Stack) (cells : List Cell) (span : Span) (size : Size) (at : �
       let same : at + (k - at) ≡ k = omega arith in
       shows.bytes k byte.n (omega arith) (ap (λ (i : ℕ). get_or cells i cell.Unset) (sym same) ∙ sym (part_item cells at (size_bytes size) (k - at) cell.Unset (omega arith)) ∙ byte.is)
 
-  number_shown : (n : ℕ) (r : Result Kind WalkFault) → value_in (take (size_bytes size) (drop at cells)) ≡ Some (Number n) → IfErr r (λ f. IsLoadFault stack span size f) → IfOk r (λ value. HoldsWhole stack span size value ⊎ IsNumberReg value) → IsShown r (Number n)
+  number_shown : (n : ℕ) (r : Result Kind WalkFault) → value_in (take (size_bytes size) (drop at cells)) ≡ Some (Number n) → IfErr r (λ f. IsLoadFault stack span size f) → IfOk r (λ value. HoldsWhole stack span size value ⊎ IsNumberReg size value) → IsShown r (Number n)
   number_shown n (Ok value) e err (inr num) = record { value = value; is = refl; fits = rw num.1 tt }
   number_shown n (Ok value) e err (inl whole) =
       let first : mark_at stack at ≡ mark.Byte = bytes_known n e at (record { least = let p : span.least ≡ at = place.0 in omega arith; greatest = let p : span.greatest ≡ at = place.1 in omega (arith, size_some size) }) in
@@ -163,7 +163,7 @@ module _ (stack : Stack) (cells : List Cell) (span : Span) (size : Size) (at : �
 -- a load of a shape whose tests pass is answered with what it gives
 pub shows_load : (stack : Stack) (cells : List Cell) (span : Span) (size : Size) (at : ℕ) (v : Value) (r : Result Kind WalkFault) → StackShows stack cells → SpanFits true span at → at + size_bytes size ≤ 512
     → value_in (take (size_bytes size) (drop at cells)) ≡ Some v → IfErr r (λ f. IsLoadFault stack span size f) → ((value : Kind) → HoldsWhole stack span size value → r ≡ Ok value)
-    → IfOk r (λ value. HoldsWhole stack span size value ⊎ IsNumberReg value) → IsShown r v
+    → IfOk r (λ value. HoldsWhole stack span size value ⊎ IsNumberReg size value) → IsShown r v
 shows_load stack cells span size at (Number n) r shows place inside e err whole kinds = number_shown stack cells span size at shows place inside n r e err kinds
 shows_load stack cells span size at (Address p) r shows place inside e err whole kinds = pointer_shown stack cells span size at shows place inside p r (parts_only (take (size_bytes size) (drop at cells)) p e) whole
 

@@ -21,9 +21,8 @@ use Rattle.insn.specs.Effects.{Effect}
 use Rattle.insn.specs.Step.{lead}
 use Rattle.insn.specs.Values.{Config, State, record_size, start}
 use Rattle.verifier.specs.Follows.{WritesNoR10}
-use Rattle.verifier.specs.TypedPrograms.{IsNeverStuck, UniformIsTyped}
-use Rattle.verifier.specs.Typing.{GoesTyped, HasTyping, IsNoMoreThan, MayCome}
-use Rattle.verifier.proofs.Straight.{begins_inside, lead_forward}
+use Rattle.verifier.specs.Typing.{GoesTyped, HasTyping, IsNeverStuck, IsNoMoreThan, MayCome, UniformIsTyped}
+use Rattle.verifier.proofs.Forward.{begins_inside, lead_forward}
 use Rattle.verifier.proofs.Ways.{behind_it, no_effects, none_first, none_verdict, writes_low}
 
 -- ---- configurations among some

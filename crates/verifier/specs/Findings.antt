@@ -13,7 +13,7 @@ use Rattle.verifier.specs.declared.explain.Finding.TheVariants.{Accepted, Looked
 use Rattle.verifier.specs.Fits.{StateFits}
 use Rattle.verifier.specs.declared.walk.Onward.{Onward}
 use Rattle.verifier.specs.Verdicts.{IsRefusal}
-use Rattle.verifier.specs.Waits.{HasGoneOn, nowhere}
+use Rattle.verifier.specs.Waits.{HasGoneOn, HasPassed, nowhere}
 
 -- whatever the record is, a run that comes to a slot does so in a state of which this is known
 abbrev pub IsKnownAt : Layout → List Insn → ℕ → Known → Type 0
@@ -41,9 +41,10 @@ pub record IsExplained (layout : Layout) (program : List Insn) (refusal : Refusa
   pub known : IsKnownAt layout program refusal.slot refusal.known.value
   pub onward : AreToldOnward layout program refusal.slot refusal.onward.items
 
--- a program is accepted, and no run comes to these slots
+-- a program is accepted: the walk has come to its end. No run comes to these slots
 pub record IsAcceptance (layout : Layout) (program : List Insn) (slots : List ℕ) : Type 0 where
   pub safe : Safe layout program
+  pub passed : HasPassed layout program
   pub unreached : All (NoneComesTo layout program) slots
 
 -- what the walk finds

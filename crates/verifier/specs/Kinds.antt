@@ -1,25 +1,26 @@
 -- What an instruction leaves of what is known, and why it is refused: a table by the kinds of what is known before it.
 -- Nothing is changed but what is said here.
-use Rattle.std.specs.Prelude.{◌≡◌, ◌≢◌, ℕ, ℤ, Bool, true, false, length, slice_set, Some, Result, Ok, Err}
+use Rattle.std.specs.Prelude.{◌≡◌, ◌≢◌, ℕ, Bool, true, false, length, slice_set, Option, Some, None, Result, Ok, Err}
 use Rattle.insn.specs.declared.register.RegNo.{RegNo}
 use Rattle.insn.specs.declared.register.RegNo.TheVariants.{R0}
 use Rattle.insn.specs.declared.instruction.Insn.{Insn}
-use Rattle.insn.specs.declared.instruction.Insn.TheVariants as insn
 use Rattle.insn.specs.declared.instruction.Operand.{Operand}
-use Rattle.insn.specs.declared.instruction.Operand.TheVariants.{Reg, Imm}
+use Rattle.insn.specs.declared.action.Action.{Action}
+use Rattle.insn.specs.declared.action.Action.TheVariants.{Operate, Convert, LoadWord, LoadFrom, StoreAt, Go, Branch, End}
 use Rattle.insn.specs.declared.layout.Layout.{Layout}
-use Rattle.insn.specs.declared.operation.BinOp.{BinOp}
-use Rattle.insn.specs.declared.operation.SignedSize.{SignedSize}
+use Rattle.insn.specs.declared.operation.Cond.{Cond}
+use Rattle.insn.specs.declared.operation.ExtendBits.{ExtendBits}
 use Rattle.insn.specs.declared.operation.Size.{Size}
-use Rattle.insn.specs.declared.operation.UnOp.TheVariants.{Extend, Neg, Swap}
+use Rattle.insn.specs.declared.operation.UnOp.TheVariants.{Extend}
 use Rattle.insn.specs.declared.operation.Width.{Width}
-use Rattle.insn.specs.declared.operation.Width.TheVariants.{W32, W64}
+use Rattle.insn.specs.declared.operation.Width.TheVariants.{W64}
 use Rattle.insn.specs.declared.state.Region.{Region}
 use Rattle.insn.specs.declared.state.Region.TheVariants as region
 use Rattle.insn.specs.declared.state.Value.TheVariants.{Number}
 use Rattle.insn.specs.declared.verify_fault.WalkFault.{WalkFault}
 use Rattle.insn.specs.declared.verify_fault.WalkFault.TheVariants.{ExitsWithPointer, PointerMisuse, PointerRange, ReadOnlyField, UnsetRegister}
-use Rattle.insn.specs.Instruction.{division_of, extended_bits, extended_width, operation_of, read_bits, read_size, reg_number, remainder_of, size_bytes}
+use Rattle.insn.specs.Instruction.{reg_number, size_bytes}
+use Rattle.insn.specs.Meaning.{action_of}
 use Rattle.insn.specs.Values.{State}
 use Rattle.insn.specs.Outcomes.{fault_at}
 use Rattle.reg_kind.specs.declared.place.Place.{Place}
@@ -32,9 +33,9 @@ use Rattle.stack_state.specs.Accesses.{IsGiven, IsNumberReg, IsStored}
 use Rattle.verifier.specs.declared.known.Known.{Known}
 use Rattle.verifier.specs.declared.known.Test.{Test}
 use Rattle.verifier.specs.declared.known.Flow.{Flow}
-use Rattle.verifier.specs.declared.known.Flow.TheVariants.{Next, Jump, Branch, Exit}
+use Rattle.verifier.specs.declared.known.Flow.TheVariants as flow
 use Rattle.verifier.specs.Fits.{StateFits}
-use Rattle.verifier.specs.Follows.{IsFaulty, IsOperand, comparison_of, reg_of}
+use Rattle.verifier.specs.Follows.{Follows, IsFaulty, IsOperand, comparison_of, reg_of}
 use Rattle.verifier.specs.Links.{AreLeft, AreMade, link_made}
 
 -- ---- what a register receives
@@ -48,20 +49,13 @@ pub record IsSet (dst : RegNo) (value : Kind) (old new : Known) : Type 0 where
 
 -- what is given goes to a register; where nothing is given, nothing is changed
 abbrev pub Receives : RegNo → (Result Kind WalkFault → Type 0) → Known → Known → Result Flow WalkFault → Type 0
-Receives dst IsMade old new (Ok Next) = (value : Kind) × IsMade (Ok value) × IsSet dst value old new
-Receives dst IsMade old new (Ok flow) = ⊥
+Receives dst IsMade old new (Ok flow.Next) = (value : Kind) × IsMade (Ok value) × IsSet dst value old new
+Receives dst IsMade old new (Ok f) = ⊥
 Receives dst IsMade old new (Err fault) = IsMade (Err fault) × (new ≡ old)
 
--- an operation on a register and an operand
-pub record Operation : Type 0 where
-  pub width : Width
-  pub op : BinOp
-  pub dst : RegNo
-  pub operand : Operand
-
--- what an operation gives
-abbrev pub Computes : Layout → Known → Operation → Result Kind WalkFault → Type 0
-Computes layout old o r = (right : Kind) × IsOperand old o.operand right × IsKindResult layout o.width o.op (reg_of old o.dst) right r
+-- something is so of what is known of an operand
+abbrev pub OfOperand : Known → Operand → (Kind → Type 0) → Type 0
+OfOperand old operand IsSo = (value : Kind) × IsOperand old operand value × IsSo value
 
 abbrev pub IsWide : ℕ → Result Kind WalkFault → Type 0
 IsWide n (Ok value) = IsKnownNumber value (Some (Number n))
@@ -69,7 +63,7 @@ IsWide n (Err fault) = ⊥
 
 -- what a load gives of a region: of the record a number, of the stack what is known there
 abbrev pub GivenIn : Known → Size → Region → Span → Result Kind WalkFault → Type 0
-GivenIn old size region.Record span (Ok value) = IsNumberReg value
+GivenIn old size region.Record span (Ok value) = IsNumberReg size value
 GivenIn old size region.Record span (Err fault) = ⊥
 GivenIn old size region.Stack span r = IsGiven old.stack span size r
 
@@ -77,22 +71,14 @@ abbrev pub GivenAt : Known → Size → Result Place WalkFault → Result Kind W
 GivenAt old size (Err fault) r = r ≡ Err fault
 GivenAt old size (Ok place) r = GivenIn old size place.region place.span r
 
--- a load of some bytes so far behind a register
-pub record Loading : Type 0 where
-  pub size : Size
-  pub src : RegNo
-  pub offset : ℤ
+-- a number that is loaded is extended, if bits are named
+abbrev pub Extends : Option ExtendBits → Result Kind WalkFault → Result Kind WalkFault → Type 0
+Extends None given r = r ≡ given
+Extends (Some bits) (Err fault) r = r ≡ Err fault
+Extends (Some bits) (Ok number) r = IsKindImage (Extend bits) W64 number r
 
-abbrev pub Loads : Layout → Known → Loading → Result Kind WalkFault → Type 0
-Loads layout old load r = GivenAt old load.size (place_behind layout (reg_of old load.src) load.offset (size_bytes load.size)) r
-
--- a number that is loaded is extended
-abbrev pub Extends : SignedSize → Result Kind WalkFault → Result Kind WalkFault → Type 0
-Extends size (Err fault) r = r ≡ Err fault
-Extends size (Ok number) r = IsKindImage (Extend (read_bits size)) W64 number r
-
-abbrev pub LoadsSigned : Layout → Known → SignedSize → Loading → Result Kind WalkFault → Type 0
-LoadsSigned layout old size load r = (number : Result Kind WalkFault) × Loads layout old load number × Extends size number r
+abbrev pub Loads : Known → Size → Option ExtendBits → Result Place WalkFault → Result Kind WalkFault → Type 0
+Loads old size extension place r = (given : Result Kind WalkFault) × GivenAt old size place given × Extends extension given r
 
 -- ---- stores
 
@@ -109,7 +95,8 @@ pub record Put : Type 0 where
 
 abbrev pub StoredIn : Region → Put → Result Unit WalkFault → Known → Known → Type 0
 StoredIn region.Record put r old new = (r ≡ kept_in_record put.value) × (new ≡ old)
-StoredIn region.Stack put r old new = (new.registers ≡ old.registers) × IsStored put.place.span put.size put.value r old.stack new.stack
+StoredIn region.Stack put r old new =
+    (new.registers ≡ old.registers) × IsStored put.place.span put.size put.value r old.stack new.stack × (new.links ≡ old.links)
 
 -- a store at bytes that may be written, or may not
 abbrev pub StoredWhere : Bool → Put → Result Unit WalkFault → Known → Known → Type 0
@@ -133,78 +120,46 @@ StoredOf layout (Ok put) r old new = StoredAt layout put r old new
 
 -- a flow that follows where nothing is wrong
 abbrev pub flow_where : {A : Type 0} → Result A WalkFault → Flow → Result Flow WalkFault
-flow_where (Ok a) flow = Ok flow
-flow_where (Err fault) flow = Err fault
+flow_where (Ok a) f = Ok f
+flow_where (Err fault) f = Err fault
 
--- a store of some bytes of an operand so far behind a register
-pub record Storing : Type 0 where
-  pub size : Size
-  pub dst : RegNo
-  pub offset : ℤ
-  pub operand : Operand
+-- what a conditional jump tests
+abbrev pub test_of : Width → Cond → RegNo → Operand → Test
+test_of w cond left right = record { cond = cond; width = w; left = left; right = right }
 
-abbrev pub Stores : Layout → Storing → Known → Known → Result Flow WalkFault → Type 0
-Stores layout store old new r =
-    (value : Kind) × (done : Result Unit WalkFault) × IsOperand old store.operand value
-    × StoredOf layout (put_at store.size value (place_behind layout (reg_of old store.dst) store.offset (size_bytes store.size))) done old new ×
-    (r ≡ flow_where done Next)
+abbrev pub Stores : Layout → Result Put WalkFault → Known → Known → Result Flow WalkFault → Type 0
+Stores layout put old new r = (done : Result Unit WalkFault) × StoredOf layout put done old new × (r ≡ flow_where done flow.Next)
 
 -- nothing is changed
 abbrev pub Passes : Result Flow WalkFault → Known → Known → Result Flow WalkFault → Type 0
 Passes flow old new r = (r ≡ flow) × (new ≡ old)
 
-abbrev pub Compares : Test → ℤ → Known → Known → Result Flow WalkFault → Type 0
-Compares test offset old new r =
-    (right : Kind) × IsOperand old test.right right × Passes (flow_where (comparison_of (reg_of old test.left) right) (Branch offset test)) old new r
-
 -- ---- instructions
 
-abbrev pub LeavesRow : Layout → Insn → Known → Known → Result Flow WalkFault → Type 0
-LeavesRow layout (insn.Alu64Imm op dst imm) old new r =
-    Receives dst (Computes layout old (record { width = W64; op = operation_of op; dst = dst; operand = Imm imm })) old new r
-LeavesRow layout (insn.Alu64Reg op dst src) old new r =
-    Receives dst (Computes layout old (record { width = W64; op = operation_of op; dst = dst; operand = Reg src })) old new r
-LeavesRow layout (insn.Alu32Imm op dst imm) old new r =
-    Receives dst (Computes layout old (record { width = W32; op = operation_of op; dst = dst; operand = Imm imm })) old new r
-LeavesRow layout (insn.Alu32Reg op dst src) old new r =
-    Receives dst (Computes layout old (record { width = W32; op = operation_of op; dst = dst; operand = Reg src })) old new r
-LeavesRow layout (insn.Divide w sign dst operand) old new r =
-    Receives dst (Computes layout old (record { width = w; op = division_of sign; dst = dst; operand = operand })) old new r
-LeavesRow layout (insn.Remainder w sign dst operand) old new r =
-    Receives dst (Computes layout old (record { width = w; op = remainder_of sign; dst = dst; operand = operand })) old new r
-LeavesRow layout (insn.Negate w dst) old new r = Receives dst (IsKindImage Neg w (reg_of old dst)) old new r
-LeavesRow layout (insn.MoveSigned x dst src) old new r = Receives dst (IsKindImage (Extend (extended_bits x)) (extended_width x) (reg_of old src)) old new r
-LeavesRow layout (insn.SwapBytes by bits dst) old new r = Receives dst (IsKindImage (Swap by bits) W64 (reg_of old dst)) old new r
-LeavesRow layout (insn.LoadWide dst n) old new r = Receives dst (IsWide n) old new r
-LeavesRow layout (insn.Load size dst src offset) old new r = Receives dst (Loads layout old (record { size = size; src = src; offset = offset })) old new r
-LeavesRow layout (insn.LoadSigned size dst src offset) old new r =
-    Receives dst (LoadsSigned layout old size (record { size = read_size size; src = src; offset = offset })) old new r
-LeavesRow layout (insn.StoreReg size dst src offset) old new r =
-    Stores layout (record { size = size; dst = dst; offset = offset; operand = Reg src }) old new r
-LeavesRow layout (insn.StoreImm size dst offset imm) old new r =
-    Stores layout (record { size = size; dst = dst; offset = offset; operand = Imm imm }) old new r
-LeavesRow layout (insn.Jump offset) old new r = Passes (Ok (Jump offset)) old new r
-LeavesRow layout (insn.JumpLong offset) old new r = Passes (Ok (Jump offset)) old new r
-LeavesRow layout (insn.Jump64IfImm cond dst offset imm) old new r =
-    Compares (record { cond = cond; width = W64; left = dst; right = Imm imm }) offset old new r
-LeavesRow layout (insn.Jump64IfReg cond dst src offset) old new r =
-    Compares (record { cond = cond; width = W64; left = dst; right = Reg src }) offset old new r
-LeavesRow layout (insn.Jump32IfImm cond dst offset imm) old new r =
-    Compares (record { cond = cond; width = W32; left = dst; right = Imm imm }) offset old new r
-LeavesRow layout (insn.Jump32IfReg cond dst src offset) old new r =
-    Compares (record { cond = cond; width = W32; left = dst; right = Reg src }) offset old new r
-LeavesRow layout insn.Exit old new r = Passes (flow_where (number_in_reg (reg_of old R0) ExitsWithPointer) Exit) old new r
+abbrev pub LeavesRow : Layout → Action → Known → Known → Result Flow WalkFault → Type 0
+LeavesRow layout (Operate w op dst operand) old new r =
+    Receives dst (λ given. OfOperand old operand (λ right. IsKindResult layout w op (reg_of old dst) right given)) old new r
+LeavesRow layout (Convert w op dst src) old new r = Receives dst (IsKindImage op w (reg_of old src)) old new r
+LeavesRow layout (LoadWord dst n) old new r = Receives dst (IsWide n) old new r
+LeavesRow layout (LoadFrom size extension dst src offset) old new r =
+    Receives dst (Loads old size extension (place_behind layout (reg_of old src) offset (size_bytes size))) old new r
+LeavesRow layout (StoreAt size dst offset operand) old new r =
+    OfOperand old operand (λ value. Stores layout (put_at size value (place_behind layout (reg_of old dst) offset (size_bytes size))) old new r)
+LeavesRow layout (Go offset) old new r = Passes (Ok (flow.Jump offset)) old new r
+LeavesRow layout (Branch w cond dst operand offset) old new r =
+    OfOperand old operand (λ right. Passes (flow_where (comparison_of (reg_of old dst) right) (flow.Branch offset (test_of w cond dst operand))) old new r)
+LeavesRow layout End old new r = Passes (flow_where (number_in_reg (reg_of old R0) ExitsWithPointer) flow.Exit) old new r
 
 -- the link that an instruction makes is there, and all else stays
-pub record IsLinked (i : Insn) (old between new : Known) : Type 0 where
+pub record IsLinked (action : Action) (old between new : Known) : Type 0 where
   pub registers : new.registers ≡ between.registers
   pub stack : new.stack ≡ between.stack
-  pub links : AreMade (link_made old.links i) between.links new.links
+  pub links : AreMade (link_made old.links action) between.links new.links
 
 -- a row of the table, and then the instruction's link
 abbrev pub LeavesKnown : Layout → Insn → Known → Known → Result Flow WalkFault → Type 0
-LeavesKnown layout i old new (Ok flow) = (between : Known) × LeavesRow layout i old between (Ok flow) × IsLinked i old between new
-LeavesKnown layout i old new (Err fault) = LeavesRow layout i old new (Err fault)
+LeavesKnown layout i old new (Ok flow) = (between : Known) × LeavesRow layout (action_of i) old between (Ok flow) × IsLinked (action_of i) old between new
+LeavesKnown layout i old new (Err fault) = LeavesRow layout (action_of i) old new (Err fault)
 
 -- ---- refusals
 
@@ -219,9 +174,10 @@ pub record IsSeen (layout : Layout) (i : Insn) (known : Known) (fault : WalkFaul
 abbrev pub CanFail : Layout → Insn → Known → WalkFault → Type 0
 CanFail layout i known fault = fault ≢ PointerRange → (s : State) → StateFits false layout known s → IsSeen layout i known fault
 
--- why an instruction is refused: by a row of the table, and by the first test that fails
-pub record IsRefusedFor (layout : Layout) (i : Insn) (known : Known) (fault : WalkFault) : Type 0 where
-  pub faulty : IsFaulty layout i known fault
-  pub after : Known
-  pub row : LeavesKnown layout i known after (Err fault)
-  pub seen : CanFail layout i known fault
+-- ---- what rows come to
+
+-- a row is sound: a flow is what follows the instruction, and a fault is the first test that fails, in the one shape that is known
+-- and, but for a pointer that is moved, in some state
+abbrev pub IsSoundRow : Layout → Insn → Known → Known → Result Flow WalkFault → Type 0
+IsSoundRow layout i old new (Ok flow) = Follows layout i old new flow
+IsSoundRow layout i old new (Err fault) = IsFaulty layout i old fault × CanFail layout i old fault

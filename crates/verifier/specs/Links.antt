@@ -2,11 +2,12 @@
 use Rattle.std.specs.Prelude.{◌≡◌, ◌⊎◌, ℕ, ◌+◌, ◌<◌, ◌==◌, ◌||◌, ℤ, List, slice_index_or, Bool, true, false, if◌then◌else◌, Option, Some, None}
 use Rattle.std.specs.Int.{w64, cast_unsigned}
 use Rattle.insn.specs.declared.register.RegNo.{RegNo}
-use Rattle.insn.specs.declared.operation.AluOp.TheVariants.{Add, Mov}
+use Rattle.insn.specs.declared.operation.BinOp.TheVariants.{Add, Mov}
 use Rattle.insn.specs.declared.operation.Width.{Width}
 use Rattle.insn.specs.declared.operation.Width.TheVariants.{W32, W64}
-use Rattle.insn.specs.declared.instruction.Insn.{Insn}
-use Rattle.insn.specs.declared.instruction.Insn.TheVariants.{Alu64Imm, Alu64Reg, Alu32Imm, Alu32Reg}
+use Rattle.insn.specs.declared.instruction.Operand.TheVariants.{Reg, Imm}
+use Rattle.insn.specs.declared.action.Action.{Action}
+use Rattle.insn.specs.declared.action.Action.TheVariants.{Operate}
 use Rattle.insn.specs.declared.state.Value.{Value}
 use Rattle.insn.specs.declared.state.Value.TheVariants.{Number}
 use Rattle.insn.specs.Instruction.{reg_number}
@@ -72,12 +73,10 @@ raised_of register width imm None = None
 raised_of register width imm (Some link) = link_of register (raised width imm link)
 
 -- the link that an instruction makes
-abbrev pub link_made : Links → Insn → Option (RegNo × Link)
-link_made links (Alu64Reg Mov dst src) = link_of dst (copied src W64)
-link_made links (Alu32Reg Mov dst src) = link_of dst (copied src W32)
-link_made links (Alu64Imm Add dst imm) = raised_of dst W64 imm (link_at links (reg_number dst))
-link_made links (Alu32Imm Add dst imm) = raised_of dst W32 imm (link_at links (reg_number dst))
-link_made links i = None
+abbrev pub link_made : Links → Action → Option (RegNo × Link)
+link_made links (Operate w Mov dst (Reg src)) = link_of dst (copied src w)
+link_made links (Operate w Add dst (Imm imm)) = raised_of dst w imm (link_at links (reg_number dst))
+link_made links action = None
 
 -- a link is there, and all others stay
 abbrev pub AreMade : Option (RegNo × Link) → Links → Links → Type 0

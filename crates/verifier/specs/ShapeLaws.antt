@@ -1,25 +1,23 @@
--- Laws of shapes: they have the faults of their states, and lead where these lead.
-use Rattle.std.proofs.Common.{◌≡◌, ℕ, ◌+◌, ◌*◌, Bool, true, false, ℤ, List, [], ◌∷◌, map, take, drop, Option, Some, None, refl, ap, ◌∙◌}
-use Rattle.std.specs.Prelude.{◌&&◌, ◌==◌, is_none}
+-- Laws of shapes: what comes of an instruction in a state and in its shape is the same, but for amounts.
+use Rattle.std.proofs.Common.{◌≡◌, ℕ, zero, suc, ◌+◌, ◌*◌, ◌/◌, Bool, true, false, ℤ, List, [], ◌∷◌, ◌++◌, length, map, take, drop, set, Option, Some, None, refl, sym, ap, ◌∙◌}
+use Rattle.std.specs.Prelude.{nat_le, not, if◌then◌else◌, ◌&&◌, ◌==◌}
 use Rattle.std.specs.List.{list_any}
 use Rattle.std.specs.Option.{option_map}
 use Rattle.std.specs.Int.{w64, cast_unsigned}
-use Rattle.std.proofs.lemmas.List.{drop-map, take-map}
+use Rattle.std.proofs.lemmas.List.{drop-map, length-map, map-append, map-set, take-map}
 use Rattle.std.proofs.Math.ListN.{get_or-map}
 use Rattle.insn.specs.declared.register.RegNo.{RegNo}
 use Rattle.insn.specs.declared.register.RegNo.TheVariants.{R0}
 use Rattle.insn.specs.declared.operation.Width.{Width}
 use Rattle.insn.specs.declared.operation.Width.TheVariants.{W32, W64}
-use Rattle.insn.specs.declared.operation.Signedness.{Signedness}
-use Rattle.insn.specs.declared.operation.Signedness.TheVariants.{Unsigned, Signed}
-use Rattle.insn.specs.declared.operation.AluOp.{AluOp}
-use Rattle.insn.specs.declared.operation.AluOp.TheVariants as alu
 use Rattle.insn.specs.declared.operation.BinOp.{BinOp}
-use Rattle.insn.specs.declared.operation.BinOp.TheVariants.{Add, Sub, Div, Sdiv, Mod, Smod, Mov}
+use Rattle.insn.specs.declared.operation.BinOp.TheVariants.{Add, Sub, Mov}
+use Rattle.insn.specs.declared.operation.Cond.{Cond}
+use Rattle.insn.specs.declared.operation.ExtendBits.{ExtendBits}
 use Rattle.insn.specs.declared.operation.Size.{Size}
+use Rattle.insn.specs.declared.instruction.Operand.{Operand}
 use Rattle.insn.specs.declared.instruction.Operand.TheVariants.{Reg, Imm}
 use Rattle.insn.specs.declared.instruction.Insn.{Insn}
-use Rattle.insn.specs.declared.instruction.Insn.TheVariants.{Alu64Imm, Alu64Reg, Alu32Imm, Alu32Reg, Divide, Remainder, Negate, MoveSigned, SwapBytes, LoadWide, Load, LoadSigned, StoreReg, StoreImm, Jump, JumpLong, Jump64IfImm, Jump64IfReg, Jump32IfImm, Jump32IfReg, Exit}
 use Rattle.insn.specs.declared.layout.Layout.{Layout}
 use Rattle.insn.specs.declared.state.Region.{Region}
 use Rattle.insn.specs.declared.state.Region.TheVariants.{Record, Stack}
@@ -29,24 +27,172 @@ use Rattle.insn.specs.declared.state.Value.TheVariants.{Number, Address}
 use Rattle.insn.specs.declared.state.Cell.{Cell}
 use Rattle.insn.specs.declared.state.Cell.TheVariants.{Unset, Byte, Part}
 use Rattle.insn.specs.declared.verify_fault.WalkFault.{WalkFault}
-use Rattle.insn.specs.declared.verify_fault.WalkFault.TheVariants.{PointerMisuse, ExitsWithPointer}
-use Rattle.insn.specs.Instruction.{division_of, operation_of, reg_number, remainder_of, read_size, size_bytes}
-use Rattle.insn.specs.Values.{only_if, State, cells_of, region_size, value_of}
-use Rattle.insn.specs.Memory.{are_parts, cells_at, may_hold, number_spelled, place_of, same_pointer, value_in, within, is_unset}
-use Rattle.insn.specs.Effects.{word_of}
+use Rattle.insn.specs.declared.verify_fault.WalkFault.TheVariants.{PointerMisuse, PointerRange, ReadOnlyField, ExitsWithPointer, UnsetByte}
+use Rattle.insn.specs.Instruction.{reg_number, size_bytes}
+use Rattle.insn.specs.Values.{only_if, State, cells_of, value_of}
+use Rattle.insn.specs.Memory.{are_parts, cells_at, is_unset, is_writable, low_bytes, may_hold, number_spelled, parts_of, same_pointer, value_in, with_number, with_value, written}
+use Rattle.insn.specs.Word.{unary_result, word_holds}
+use Rattle.insn.specs.Effects.{Effect, Falls, Jumps, Exits, operand_value, word_of}
 use Rattle.insn.specs.Arithmetic.{defined_result, left_operand}
-use Rattle.verifier.specs.Shapes.{NoMovedPointer, blank_cell, blank_value, shape_of}
-use Rattle.insn.specs.Tests.{comparison_tests, first_of, load_tests, number_tests, operated_tests, operation_tests, read_tests, result_tests, store_tests, tests_of, write_tests}
-use Rattle.insn.specs.Outcomes.{fault_at}
-use Rattle.insn.specs.OutcomeLaws.{fault_is_first}
+use Rattle.insn.specs.declared.action.Action.{Action}
+use Rattle.insn.specs.declared.action.Action.TheVariants.{Operate, Convert, LoadWord, LoadFrom, StoreAt, Go, Branch, End}
+use Rattle.insn.specs.Meaning.{action_of}
+use Rattle.insn.specs.Outcomes.{Tested, Passes, Fails, WritesR10, access_place, action_outcome, all_set, and_then, comparison, extended, failed, fault_at, held, loaded, number, number_held, operation_result, or_fault, outcome, passed, passes_if, put, settable, stored_state, value_at}
+use Rattle.verifier.specs.Shapes.{MovesNone, NoMovedPointer, blank_cell, blank_value, shape_of}
+
+-- ---- what comes of a test, seen through a function
+
+abbrev pub seen : {A B : Type 0} → (A → B) → Tested A → Tested B
+seen f (Passes x) = Passes (f x)
+seen f (Fails fault) = Fails fault
+seen f WritesR10 = WritesR10
+
+-- what looks the same goes on so, where what comes next does
+pub go_on : {A B C D : Type 0} (f : A → B) (g : C → D) (t u : Tested A) (k l : A → Tested C) → seen f t ≡ seen f u → ((x y : A) → f x ≡ f y → seen g (k x) ≡ seen g (l y)) → seen g (and_then t k) ≡ seen g (and_then u l)
+go_on f g (Passes x) (Passes y) k l e next = next x y cc
+go_on f g (Fails a) (Fails b) k l e next = cc
+go_on f g WritesR10 WritesR10 k l e next = refl
+go_on f g (Passes x) (Fails b) k l e next = absurd cc
+go_on f g (Passes x) WritesR10 k l e next = absurd cc
+go_on f g (Fails a) (Passes y) k l e next = absurd cc
+go_on f g (Fails a) WritesR10 k l e next = absurd cc
+go_on f g WritesR10 (Passes y) k l e next = absurd cc
+go_on f g WritesR10 (Fails b) k l e next = absurd cc
+
+pub failed-seen : {A B : Type 0} (f : A → B) (t : Tested A) → failed (seen f t) ≡ failed t
+failed-seen f (Passes x) = refl
+failed-seen f (Fails fault) = refl
+failed-seen f WritesR10 = refl
+
+pub passed-seen : {A B : Type 0} (f : A → B) (t : Tested A) → passed (seen f t) ≡ option_map f (passed t)
+passed-seen f (Passes x) = refl
+passed-seen f (Fails fault) = refl
+passed-seen f WritesR10 = refl
 
 -- ---- what a shape holds
 
 abbrev pub blank : Option Value → Option Value
 blank = option_map blank_value
 
+pub value_twice : (v : Value) → blank_value (blank_value v) ≡ blank_value v
+value_twice (Number n) = refl
+value_twice (Address p) = refl
+
+blank_twice : (o : Option Value) → blank (blank o) ≡ blank o
+blank_twice None = refl
+blank_twice (Some v) = ap Some (value_twice v)
+
+abbrev pub no_amount : ℕ → ℕ
+no_amount b = 0
+
+cell_twice : (c : Cell) → blank_cell (blank_cell c) ≡ blank_cell c
+cell_twice Unset = refl
+cell_twice (Byte b) = refl
+cell_twice (Part p k) = refl
+
+map_twice : {A : Type 0} (f : A → A) → ((x : A) → f (f x) ≡ f x) → (xs : List A) → map f (map f xs) ≡ map f xs
+map_twice f twice [] = refl
+map_twice f twice (x ∷ xs) = rw (twice x, map_twice f twice xs) refl
+
+abbrev pub state_with : List (Option Value) → List ℕ → List Cell → State
+state_with r b c = record { registers = r; bytes = b; stack = c }
+
+same_state : {r q : List (Option Value)} {b d : List ℕ} {s t : List Cell} → r ≡ q → b ≡ d → s ≡ t → state_with r b s ≡ state_with q d t
+same_state e f g = rw (e, f, g) refl
+
+registers_twice : (s : State) → map blank (map blank s.registers) ≡ map blank s.registers
+registers_twice s = map_twice blank blank_twice s.registers
+
+bytes_twice : (s : State) → map no_amount (map no_amount s.bytes) ≡ map no_amount s.bytes
+bytes_twice s = map_twice no_amount (λ b. refl) s.bytes
+
+stack_twice : (s : State) → map blank_cell (map blank_cell s.stack) ≡ map blank_cell s.stack
+stack_twice s = map_twice blank_cell cell_twice s.stack
+
+-- a shape is its own shape
+pub shape_twice : (s : State) → shape_of (shape_of s) ≡ shape_of s
+shape_twice s = same_state (registers_twice s) (bytes_twice s) (stack_twice s)
+
 pub shape_value : (s : State) (r : RegNo) → value_of (shape_of s).registers r ≡ blank (value_of s.registers r)
 shape_value s r = get_or-map (option_map blank_value) s.registers (reg_number r) None
+
+left-shape : (op : BinOp) (s : State) (r : RegNo) → left_operand op (shape_of s) r ≡ blank (left_operand op s r)
+left-shape Mov s r = refl
+left-shape op s r = shape_value s r
+
+-- ---- values that are wanted
+
+held-shape : (o : Option Value) → seen blank_value (held (blank o)) ≡ seen blank_value (held o)
+held-shape None = refl
+held-shape (Some v) = ap Passes (value_twice v)
+
+-- an operand of a shape is that of the state, or the same number
+operand-shape : (s : State) (operand : Operand) → blank (operand_value (shape_of s) operand) ≡ blank (operand_value s operand)
+operand-shape s (Reg r) = ap blank (shape_value s r) ∙ blank_twice (value_of s.registers r)
+operand-shape s (Imm imm) = refl
+
+held-alike : (o q : Option Value) → blank o ≡ blank q → seen blank_value (held o) ≡ seen blank_value (held q)
+held-alike o q e = sym (held-shape o) ∙ ap (λ (x : Option Value). seen blank_value (held x)) e ∙ held-shape q
+
+register-alike : (s : State) (r : RegNo) → seen blank_value (held (value_of (shape_of s).registers r)) ≡ seen blank_value (held (value_of s.registers r))
+register-alike s r = held-alike (value_of (shape_of s).registers r) (value_of s.registers r) (operand-shape s (Reg r))
+
+-- what is the same but for an amount is a number in both or neither
+number-alike : (v u : Value) (fault : WalkFault) → blank_value v ≡ blank_value u → seen no_amount (number v fault) ≡ seen no_amount (number u fault)
+number-alike (Number a) (Number b) fault e = refl
+number-alike (Number a) (Address q) fault e = absurd cc
+number-alike (Address p) (Number b) fault e = absurd cc
+number-alike (Address p) (Address q) fault e = refl
+
+number_held-alike : (s : State) (r : RegNo) (fault : WalkFault) → seen no_amount (number_held (value_of (shape_of s).registers r) fault) ≡ seen no_amount (number_held (value_of s.registers r) fault)
+number_held-alike s r fault = go_on blank_value no_amount _ _ (λ v. number v fault) (λ v. number v fault) (register-alike s r) (λ v u e. number-alike v u fault e)
+
+-- ---- operations
+
+-- the operation moves no pointer by a register
+abbrev pub Unmoved : Width → BinOp → Value → Value → Type 0
+Unmoved W64 Add (Address p) b = ⊥
+Unmoved W64 Add a (Address q) = ⊥
+Unmoved W64 Sub (Address p) b = ⊥
+Unmoved W64 Sub a (Address q) = ⊥
+Unmoved w op a b = Unit {0}
+
+abbrev blank_result : Option (Option Value) → Option (Option Value)
+blank_result = option_map blank
+
+-- the left operand may lose its amount, beside a number, and both may where no pointer is moved
+result-left : (layout : Layout) (w : Width) (op : BinOp) (a : Value) (n : ℕ) → blank_result (defined_result layout w op (blank_value a) (Number n)) ≡ blank_result (defined_result layout w op a (Number n))
+result-left layout w op (Number a) n = refl
+result-left layout w op (Address p) n = refl
+
+result-both : (layout : Layout) (w : Width) (op : BinOp) (a b : Value) → Unmoved w op a b → blank_result (defined_result layout w op (blank_value a) (blank_value b)) ≡ blank_result (defined_result layout w op a b)
+result-both layout w op (Number a) (Number b) h = refl
+result-both layout W64 Add (Address p) b h = absurd h
+result-both layout W64 Add (Number a) (Address q) h = absurd h
+result-both layout W64 Sub (Address p) b h = absurd h
+result-both layout W64 Sub (Number a) (Address q) h = absurd h
+result-both layout w op a b h = refl
+
+range-alike : (d e : Option (Option Value)) → blank_result d ≡ blank_result e → seen blank_value (and_then (or_fault d PointerMisuse) (λ r. or_fault r PointerRange)) ≡ seen blank_value (and_then (or_fault e PointerMisuse) (λ r. or_fault r PointerRange))
+range-alike None None h = refl
+range-alike None (Some x) h = absurd cc
+range-alike (Some x) None h = absurd cc
+range-alike (Some None) (Some None) h = refl
+range-alike (Some None) (Some (Some v)) h = absurd cc
+range-alike (Some (Some v)) (Some None) h = absurd cc
+range-alike (Some (Some v)) (Some (Some u)) h = cc
+
+module _ (layout : Layout) (w : Width) (op : BinOp) where
+  number-operand : (left : Option Value) (n : ℕ) → seen blank_value (operation_result layout w op (blank left) (Some (Number n))) ≡ seen blank_value (operation_result layout w op left (Some (Number n)))
+  number-operand None n = refl
+  number-operand (Some x) n = range-alike _ _ (result-left layout w op x n)
+
+  register-operand : (left right : Option Value) → ((x y : Value) → left ≡ Some x → right ≡ Some y → Unmoved w op x y) → seen blank_value (operation_result layout w op (blank left) (blank right)) ≡ seen blank_value (operation_result layout w op left right)
+  register-operand None right still = refl
+  register-operand (Some x) None still = refl
+  register-operand (Some x) (Some y) still = range-alike _ _ (result-both layout w op x y (still x y refl refl))
+
+-- ---- loads
 
 shape_cells : (s : State) (region : Region) → cells_of (shape_of s) region ≡ map blank_cell (cells_of s region)
 shape_cells s Stack = refl
@@ -55,7 +201,7 @@ shape_cells s Record = bytes s.bytes where
   bytes [] = refl
   bytes (b ∷ bs) = ap (λ (cells : List Cell). Byte 0 ∷ cells) (bytes bs)
 
-pub shape_cells_at : (s : State) (region : Region) (at n : ℕ) → cells_at (shape_of s) region at n ≡ map blank_cell (cells_at s region at n)
+shape_cells_at : (s : State) (region : Region) (at n : ℕ) → cells_at (shape_of s) region at n ≡ map blank_cell (cells_at s region at n)
 shape_cells_at s region at n =
     ap (λ (cells : List Cell). take n (drop at cells)) (shape_cells s region) ∙ ap (take n) (drop-map blank_cell at (cells_of s region)) ∙ take-map blank_cell n (drop at (cells_of s region))
 
@@ -81,7 +227,7 @@ zero_spelled (Byte b ∷ cells) = ap (option_map (λ n. 0 + 256 * n)) (zero_spel
   by None = refl
   by (Some n) = refl
 
-pub value_in-blank : (cells : List Cell) → value_in (map blank_cell cells) ≡ blank (value_in cells)
+value_in-blank : (cells : List Cell) → value_in (map blank_cell cells) ≡ blank (value_in cells)
 value_in-blank [] = refl
 value_in-blank (Unset ∷ cells) = refl
 value_in-blank (Byte b ∷ cells) = ap (option_map Number) (zero_spelled (Byte b ∷ cells)) ∙ by (number_spelled (Byte b ∷ cells)) where
@@ -93,203 +239,159 @@ value_in-blank (Part p k ∷ cells) = ap (λ (b : Bool). only_if b (Some (Addres
   by true = refl
   by false = refl
 
--- ---- the tests of a shape
+-- the place of an access is that of the state
+place-alike : (layout : Layout) (v u : Value) (offset : ℤ) (size : Size) → blank_value v ≡ blank_value u → access_place layout v offset size ≡ access_place layout u offset size
+place-alike layout (Number a) (Number b) offset size e = refl
+place-alike layout (Number a) (Address q) offset size e = absurd cc
+place-alike layout (Address p) (Number b) offset size e = absurd cc
+place-alike layout (Address p) (Address q) offset size e = let same : p ≡ q = cc in rw same refl
 
--- the result without its amount, of operands of which one or both have lost theirs
-abbrev pub blank_result : Option (Option Value) → Option (Option Value)
-blank_result = option_map blank
+same_seen : {A B : Type 0} (f : A → B) {t u : Tested A} → t ≡ u → seen f t ≡ seen f u
+same_seen f e = ap (seen f) e
 
-pub same_result_tests : (d e : Option (Option Value)) → blank_result d ≡ blank_result e → result_tests d ≡ result_tests e
-same_result_tests None None h = refl
-same_result_tests None (Some x) h = absurd cc
-same_result_tests (Some x) None h = absurd cc
-same_result_tests (Some None) (Some None) h = refl
-same_result_tests (Some None) (Some (Some v)) h = absurd cc
-same_result_tests (Some (Some v)) (Some None) h = absurd cc
-same_result_tests (Some (Some v)) (Some (Some u)) h = refl
+read-alike : (cells : List Cell) → seen blank_value (and_then (all_set (map blank_cell cells)) (λ c. or_fault (value_in c) PointerMisuse)) ≡ seen blank_value (and_then (all_set cells) (λ c. or_fault (value_in c) PointerMisuse))
+read-alike cells = rw unset-blank (by (list_any is_unset cells)) where
+  or_misuse : (o : Option Value) → seen blank_value (or_fault (blank o) PointerMisuse) ≡ seen blank_value (or_fault o PointerMisuse)
+  or_misuse None = refl
+  or_misuse (Some v) = ap Passes (value_twice v)
 
--- a left operand may lose its amount
-result-left : (layout : Layout) (w : Width) (op : BinOp) (a : Value) (n : ℕ) → blank_result (defined_result layout w op (blank_value a) (Number n)) ≡ blank_result (defined_result layout w op a (Number n))
-result-left layout w op (Number a) n = refl
-result-left layout w op (Address p) n = refl
+  by : (b : Bool) → seen blank_value (and_then (passes_if (not b) (map blank_cell cells) UnsetByte) (λ c. or_fault (value_in c) PointerMisuse)) ≡ seen blank_value (and_then (passes_if (not b) cells UnsetByte) (λ c. or_fault (value_in c) PointerMisuse))
+  by true = refl
+  by false = ap (λ (o : Option Value). seen blank_value (or_fault o PointerMisuse)) (value_in-blank cells) ∙ or_misuse (value_in cells)
 
--- no pointer is moved by a register
-abbrev pub Unmoved : Width → BinOp → Value → Value → Type 0
-Unmoved W64 Add (Address p) b = ⊥
-Unmoved W64 Add a (Address q) = ⊥
-Unmoved W64 Sub (Address p) b = ⊥
-Unmoved W64 Sub a (Address q) = ⊥
-Unmoved w op a b = Unit {0}
+value_at-shape : (s : State) (p q : Pointer) (size : Size) → p ≡ q → seen blank_value (value_at (shape_of s) p size) ≡ seen blank_value (value_at s q size)
+value_at-shape s p q size same =
+    ap (λ (r : Pointer). seen blank_value (value_at (shape_of s) r size)) same ∙ ap (λ (cells : List Cell). seen blank_value (and_then (all_set cells) (λ c. or_fault (value_in c) PointerMisuse))) (shape_cells_at s q.region q.offset (size_bytes size)) ∙ read-alike (cells_at s q.region q.offset (size_bytes size))
 
--- then both operands may lose theirs
-result-both : (layout : Layout) (w : Width) (op : BinOp) (a b : Value) → Unmoved w op a b → blank_result (defined_result layout w op (blank_value a) (blank_value b)) ≡ blank_result (defined_result layout w op a b)
-result-both layout w op (Number a) (Number b) h = refl
-result-both layout W64 Add (Address p) b h = absurd h
-result-both layout W64 Add (Number a) (Address q) h = absurd h
-result-both layout W64 Sub (Address p) b h = absurd h
-result-both layout W64 Sub (Number a) (Address q) h = absurd h
-result-both layout w op a b h = refl
+loaded-alike : (layout : Layout) (s : State) (v u : Value) (offset : ℤ) (size : Size) → blank_value v ≡ blank_value u → seen blank_value (loaded layout (shape_of s) v offset size) ≡ seen blank_value (loaded layout s u offset size)
+loaded-alike layout s v u offset size e = go_on (λ (p : Pointer). p) blank_value _ _ _ _ (same_seen (λ p. p) (place-alike layout v u offset size e)) (λ p q same. value_at-shape s p q size same)
 
--- operands whose results have the same shape: of a register in a state and in its shape, or of a number that an instruction holds
-abbrev pub Alike : Layout → Width → BinOp → Option Value → Option Value → Option Value → Type 0
-Alike layout w op left None None = Unit {0}
-Alike layout w op left (Some y) (Some z) = (x : Value) → left ≡ Some x → blank_result (defined_result layout w op (blank_value x) z) ≡ blank_result (defined_result layout w op x y)
-Alike layout w op left o q = ⊥
+extended-alike : (extension : Option ExtendBits) (v u : Value) → blank_value v ≡ blank_value u → seen blank_value (extended extension v) ≡ seen blank_value (extended extension u)
+extended-alike None v u e = ap Passes e
+extended-alike (Some bits) v u e = go_on no_amount blank_value _ _ _ _ (number-alike v u PointerMisuse e) (λ a b q. refl)
 
-pub imm_alike : (layout : Layout) (w : Width) (op : BinOp) (left : Option Value) (n : ℕ) → Alike layout w op left (Some (Number n)) (Some (Number n))
-imm_alike layout w op left n x e = result-left layout w op x n
+-- ---- stores
 
-reg_alike : (layout : Layout) (w : Width) (op : BinOp) (left right : Option Value) → ((x y : Value) → left ≡ Some x → right ≡ Some y → Unmoved w op x y) → Alike layout w op left right (blank right)
-reg_alike layout w op left None h = tt
-reg_alike layout w op left (Some y) h = λ x e. result-both layout w op x y (h x y e refl)
+map-written : {A B : Type 0} (f : A → B) (xs ys : List A) (at : ℕ) → map f (written xs at ys) ≡ written (map f xs) at (map f ys)
+map-written {A} {B} f xs ys at =
+    map-append f (take at xs) (ys ++ drop (at + length ys) xs) ∙ ap (λ (l : List B). map f (take at xs) ++ l) (map-append f ys (drop (at + length ys) xs))
+    ∙ ap (λ (l : List B). l ++ (map f ys ++ map f (drop (at + length ys) xs))) (sym (take-map f at xs)) ∙ ap (λ (l : List B). take at (map f xs) ++ (map f ys ++ l)) (sym (drop-map f (at + length ys) xs))
+    ∙ ap (λ (k : ℕ). take at (map f xs) ++ (map f ys ++ drop (at + k) (map f xs))) (sym (length-map ys f))
 
-operation_tests-alike : (layout : Layout) (w : Width) (op : BinOp) (left o q : Option Value) → Alike layout w op left o q → operation_tests layout w op (blank left) q ≡ operation_tests layout w op left o
-operation_tests-alike layout w op None o q h = refl
-operation_tests-alike layout w op (Some x) None None h = refl
-operation_tests-alike layout w op (Some x) (Some y) (Some z) h = same_result_tests (defined_result layout w op (blank_value x) z) (defined_result layout w op x y) (h x refl)
-operation_tests-alike layout w op (Some x) None (Some z) h = absurd h
-operation_tests-alike layout w op (Some x) (Some y) None h = absurd h
+-- items that are written into a list and into its image look the same there
+written-alike : {A : Type 0} (f : A → A) → ((x : A) → f (f x) ≡ f x) → (xs ys zs : List A) (at : ℕ) → map f ys ≡ map f zs → map f (written (map f xs) at ys) ≡ map f (written xs at zs)
+written-alike {A} f twice xs ys zs at e =
+    map-written f (map f xs) ys at ∙ ap (λ (l : List A). written l at (map f ys)) (map_twice f twice xs) ∙ ap (written (map f xs) at) e ∙ sym (map-written f xs zs at)
 
-pub left-shape : (op : BinOp) (s : State) (r : RegNo) → left_operand op (shape_of s) r ≡ blank (left_operand op s r)
-left-shape Mov s r = refl
-left-shape op s r = shape_value s r
+zero_bytes : (n a b : ℕ) → map no_amount (low_bytes n a) ≡ map no_amount (low_bytes n b)
+zero_bytes zero a b = refl
+zero_bytes (suc n) a b = ap (λ (l : List ℕ). 0 ∷ l) (zero_bytes n (a / 256) (b / 256))
 
-operated_tests-shape : (layout : Layout) (s : State) (w : Width) (op : BinOp) (dst : RegNo) (o q : Option Value) → Alike layout w op (left_operand op s dst) o q → operated_tests layout (shape_of s) w op dst q ≡ operated_tests layout s w op dst o
-operated_tests-shape layout s w op dst o q h =
-    ap (λ (left : Option Value). operation_tests layout w op left q) (left-shape op s dst) ∙ operation_tests-alike layout w op (left_operand op s dst) o q h
+zero_cells : (n a b : ℕ) → map blank_cell (map Byte (low_bytes n a)) ≡ map blank_cell (map Byte (low_bytes n b))
+zero_cells zero a b = refl
+zero_cells (suc n) a b = ap (λ (l : List Cell). Byte 0 ∷ l) (zero_cells n (a / 256) (b / 256))
 
-number_tests-blank : (o : Option Value) (name : WalkFault) → number_tests (blank o) name ≡ number_tests o name
-number_tests-blank None name = refl
-number_tests-blank (Some (Number n)) name = refl
-number_tests-blank (Some (Address p)) name = refl
+number-written : (s : State) (region : Region) (at n a b : ℕ) → shape_of (with_number (shape_of s) region at n a) ≡ shape_of (with_number s region at n b)
+number-written s Record at n a b = same_state (registers_twice s) (written-alike no_amount (λ k. refl) s.bytes (low_bytes n a) (low_bytes n b) at (zero_bytes n a b)) (stack_twice s)
+number-written s Stack at n a b = same_state (registers_twice s) (bytes_twice s) (written-alike blank_cell cell_twice s.stack (map Byte (low_bytes n a)) (map Byte (low_bytes n b)) at (zero_cells n a b))
 
-number_tests-shape : (s : State) (r : RegNo) (name : WalkFault) → number_tests (value_of (shape_of s).registers r) name ≡ number_tests (value_of s.registers r) name
-number_tests-shape s r name = ap (λ (o : Option Value). number_tests o name) (shape_value s r) ∙ number_tests-blank (value_of s.registers r) name
+module _ (layout : Layout) (s : State) (p : Pointer) (size : Size) where
+  passes-alike : (b : Bool) (t u : State) (fault : WalkFault) → shape_of t ≡ shape_of u → seen shape_of (passes_if b t fault) ≡ seen shape_of (passes_if b u fault)
+  passes-alike true t u fault e = ap Passes e
+  passes-alike false t u fault e = refl
 
-comparison_tests-blank : (o q : Option Value) → comparison_tests (blank o) (blank q) ≡ comparison_tests o q
-comparison_tests-blank None q = refl
-comparison_tests-blank (Some a) None = refl
-comparison_tests-blank (Some (Number a)) (Some (Number b)) = refl
-comparison_tests-blank (Some (Number a)) (Some (Address q)) = refl
-comparison_tests-blank (Some (Address p)) (Some (Number b)) = refl
-comparison_tests-blank (Some (Address p)) (Some (Address q)) = refl
+  stored-alike : (v u : Value) → blank_value v ≡ blank_value u → seen shape_of (stored_state layout (shape_of s) p size v) ≡ seen shape_of (stored_state layout s p size u)
+  stored-alike v u e = by (is_writable layout p.region p.offset (size_bytes size)) where
+    written : (v u : Value) → blank_value v ≡ blank_value u → seen shape_of (passes_if (may_hold p.region p.offset size v) (with_value (shape_of s) p.region p.offset size v) PointerMisuse) ≡ seen shape_of (passes_if (may_hold p.region p.offset size u) (with_value s p.region p.offset size u) PointerMisuse)
+    written (Number a) (Number b) e = ap Passes (number-written s p.region p.offset (size_bytes size) a b)
+    written (Number a) (Address q) e = absurd cc
+    written (Address q) (Number b) e = absurd cc
+    written (Address q) (Address r) e =
+        let same : q ≡ r = cc in
+        rw same (passes-alike (may_hold p.region p.offset size (Address r)) _ _ PointerMisuse (same_state (registers_twice s) (bytes_twice s) (written-alike blank_cell cell_twice s.stack (parts_of r) (parts_of r) p.offset refl)))
 
-comparison_tests-shape : (s : State) (r q : RegNo) → comparison_tests (value_of (shape_of s).registers r) (value_of (shape_of s).registers q) ≡ comparison_tests (value_of s.registers r) (value_of s.registers q)
-comparison_tests-shape s r q =
-    ap (λ (o : Option Value). comparison_tests o (value_of (shape_of s).registers q)) (shape_value s r) ∙ ap (comparison_tests (blank (value_of s.registers r))) (shape_value s q)
-    ∙ comparison_tests-blank (value_of s.registers r) (value_of s.registers q)
+    by : (b : Bool) → seen shape_of (if b then passes_if (may_hold p.region p.offset size v) (with_value (shape_of s) p.region p.offset size v) PointerMisuse else Fails ReadOnlyField)
+        ≡ seen shape_of (if b then passes_if (may_hold p.region p.offset size u) (with_value s p.region p.offset size u) PointerMisuse else Fails ReadOnlyField)
+    by true = written v u e
+    by false = refl
 
-is_none-blank : (o : Option Value) → is_none (blank o) ≡ is_none o
-is_none-blank None = refl
-is_none-blank (Some v) = refl
+stored-there : (layout : Layout) (s : State) (p q : Pointer) (size : Size) (v u : Value) → p ≡ q → blank_value v ≡ blank_value u → seen shape_of (stored_state layout (shape_of s) p size v) ≡ seen shape_of (stored_state layout s q size u)
+stored-there layout s p q size v u same e = ap (λ (r : Pointer). seen shape_of (stored_state layout (shape_of s) r size v)) same ∙ stored-alike layout s q size v u e
 
-read_tests-shape : (s : State) (region : Region) (n : ℕ) (o : Option ℕ) → read_tests (shape_of s) region n o ≡ read_tests s region n o
-read_tests-shape s region n None = refl
-read_tests-shape s region n (Some at) =
-    let same = shape_cells_at s region at n in
-    let cells = cells_at s region at n in
-    let first : list_any is_unset (cells_at (shape_of s) region at n) ≡ list_any is_unset cells = ap (list_any is_unset) same ∙ unset-blank cells in
-    let second : is_none (value_in (cells_at (shape_of s) region at n)) ≡ is_none (value_in cells) = ap (λ (l : List Cell). is_none (value_in l)) same ∙ ap is_none (value_in-blank cells) ∙ is_none-blank (value_in cells) in
-    rw (first, second) refl
+-- ---- instructions
 
-load_tests-blank : (layout : Layout) (s : State) (o : Option Value) (offset : ℤ) (n : ℕ) → load_tests layout (shape_of s) (blank o) offset n ≡ load_tests layout s o offset n
-load_tests-blank layout s None offset n = refl
-load_tests-blank layout s (Some (Number a)) offset n = refl
-load_tests-blank layout s (Some (Address p)) offset n = read_tests-shape s p.region n (within (region_size layout p.region) (place_of p offset) n)
+-- what an effect leads to, without its amounts
+abbrev pub blank_effect : Effect → Effect
+blank_effect (Falls s) = Falls (shape_of s)
+blank_effect (Jumps d s) = Jumps d (shape_of s)
+blank_effect (Exits r0) = Exits 0
 
-load_tests-shape : (layout : Layout) (s : State) (r : RegNo) (offset : ℤ) (n : ℕ) → load_tests layout (shape_of s) (value_of (shape_of s).registers r) offset n ≡ load_tests layout s (value_of s.registers r) offset n
-load_tests-shape layout s r offset n = ap (λ (o : Option Value). load_tests layout (shape_of s) o offset n) (shape_value s r) ∙ load_tests-blank layout s (value_of s.registers r) offset n
+put-alike : (s : State) (r : RegNo) (v u : Value) → blank_value v ≡ blank_value u → seen blank_effect (put (shape_of s) r v) ≡ seen blank_effect (put s r u)
+put-alike s r v u e = by (nat_le (reg_number r) 9) where
+  registers : map blank (set (map blank s.registers) (reg_number r) (Some v)) ≡ map blank (set s.registers (reg_number r) (Some u))
+  registers =
+      map-set blank (map blank s.registers) (reg_number r) (Some v) ∙ ap (λ (l : List (Option Value)). set l (reg_number r) (Some (blank_value v))) (registers_twice s)
+      ∙ ap (λ (w : Value). set (map blank s.registers) (reg_number r) (Some w)) e ∙ sym (map-set blank s.registers (reg_number r) (Some u))
 
-pub may_hold-blank : (region : Region) (at : ℕ) (size : Size) (v : Value) → may_hold region at size (blank_value v) ≡ may_hold region at size v
-may_hold-blank region at size (Number n) = refl
-may_hold-blank region at size (Address p) = refl
+  by : (b : Bool) → seen blank_effect (and_then (settable (only_if b (Some (set (map blank s.registers) (reg_number r) (Some v))))) (λ l. Passes (Falls (record (shape_of s) { registers = l }))))
+      ≡ seen blank_effect (and_then (settable (only_if b (Some (set s.registers (reg_number r) (Some u))))) (λ l. Passes (Falls (record s { registers = l }))))
+  by true = ap (λ (t : State). Passes (Falls t)) (same_state registers (bytes_twice s) (stack_twice s))
+  by false = refl
 
-write_tests-blank : (layout : Layout) (region : Region) (size : Size) (v : Value) (o : Option ℕ) → write_tests layout region size (blank_value v) o ≡ write_tests layout region size v o
-write_tests-blank layout region size v None = refl
-write_tests-blank layout region size v (Some at) = rw (may_hold-blank region at size v) refl
+unmoved : (w : Width) (op : BinOp) (s : State) (dst src : RegNo) → MovesNone (Operate w op dst (Reg src)) s → (x y : Value) → left_operand op s dst ≡ Some x → value_of s.registers src ≡ Some y → Unmoved w op x y
+unmoved W64 Add s dst src h (Address p) y e f = absurd (h.0 (p, e))
+unmoved W64 Add s dst src h (Number a) (Address q) e f = absurd (h.1 (q, f))
+unmoved W64 Sub s dst src h (Address p) y e f = absurd (h.0 (p, e))
+unmoved W64 Sub s dst src h (Number a) (Address q) e f = absurd (h.1 (q, f))
+unmoved w op s dst src h x y e f = tt
 
-store_tests-blank : (layout : Layout) (o q : Option Value) (size : Size) (offset : ℤ) → store_tests layout (blank o) (blank q) size offset ≡ store_tests layout o q size offset
-store_tests-blank layout None q size offset = refl
-store_tests-blank layout (Some (Number a)) None size offset = refl
-store_tests-blank layout (Some (Address p)) None size offset = refl
-store_tests-blank layout (Some (Number a)) (Some v) size offset = refl
-store_tests-blank layout (Some (Address p)) (Some v) size offset = write_tests-blank layout p.region size v (within (region_size layout p.region) (place_of p offset) (size_bytes size))
+operated-shape : (layout : Layout) (w : Width) (op : BinOp) (s : State) (dst : RegNo) (operand : Operand) → MovesNone (Operate w op dst operand) s
+    → seen blank_value (operation_result layout w op (left_operand op (shape_of s) dst) (operand_value (shape_of s) operand)) ≡ seen blank_value (operation_result layout w op (left_operand op s dst) (operand_value s operand))
+operated-shape layout w op s dst (Imm imm) h = rw left-shape (number-operand layout w op (left_operand op s dst) (cast_unsigned w64 imm))
+operated-shape layout w op s dst (Reg src) h = rw (left-shape, shape_value s src) (register-operand layout w op (left_operand op s dst) (value_of s.registers src) (unmoved w op s dst src h))
 
--- of a number that is stored the amount is not looked at
-store_tests-amount : (layout : Layout) (o : Option Value) (n : ℕ) (size : Size) (offset : ℤ) → store_tests layout o (Some (Number n)) size offset ≡ store_tests layout o (Some (Number 0)) size offset
-store_tests-amount layout None n size offset = refl
-store_tests-amount layout (Some (Number a)) n size offset = refl
-store_tests-amount layout (Some (Address p)) n size offset = by (within (region_size layout p.region) (place_of p offset) (size_bytes size)) where
-  by : (o : Option ℕ) → write_tests layout p.region size (Number n) o ≡ write_tests layout p.region size (Number 0) o
-  by None = refl
-  by (Some at) = refl
+-- that a comparison is made does not hang on amounts
+abbrev any_numbers : ℕ × ℕ → Unit {0}
+any_numbers both = tt
 
--- ---- the registers of an operation
+numbers-alike : (v u x y : Value) → blank_value v ≡ blank_value u → blank_value x ≡ blank_value y
+    → seen any_numbers (and_then (number v PointerMisuse) (λ a. and_then (number x PointerMisuse) (λ b. Passes (a, b)))) ≡ seen any_numbers (and_then (number u PointerMisuse) (λ a. and_then (number y PointerMisuse) (λ b. Passes (a, b))))
+numbers-alike v u x y e f = go_on no_amount any_numbers _ _ _ _ (number-alike v u PointerMisuse e) (λ a c p. go_on no_amount any_numbers _ _ _ _ (number-alike x y PointerMisuse f) (λ b d q. refl))
 
-pub unmoved_sum : (op : AluOp) (s : State) (dst src : RegNo) → NoMovedPointer (Alu64Reg op dst src) s → (x y : Value) → left_operand (operation_of op) s dst ≡ Some x → value_of s.registers src ≡ Some y → Unmoved W64 (operation_of op) x y
-unmoved_sum alu.Add s dst src h (Address p) y e f = absurd (h.0 (p, e))
-unmoved_sum alu.Add s dst src h (Number a) (Address q) e f = absurd (h.1 (q, f))
-unmoved_sum alu.Add s dst src h (Number a) (Number b) e f = tt
-unmoved_sum alu.Sub s dst src h (Address p) y e f = absurd (h.0 (p, e))
-unmoved_sum alu.Sub s dst src h (Number a) (Address q) e f = absurd (h.1 (q, f))
-unmoved_sum alu.Sub s dst src h (Number a) (Number b) e f = tt
-unmoved_sum op s dst src h x y e f = tt
+compared-shape : (s : State) (dst : RegNo) (operand : Operand) → seen any_numbers (comparison (value_of (shape_of s).registers dst) (operand_value (shape_of s) operand)) ≡ seen any_numbers (comparison (value_of s.registers dst) (operand_value s operand))
+compared-shape s dst operand =
+    go_on blank_value any_numbers _ _ _ _ (register-alike s dst) (λ v u e.
+    go_on blank_value any_numbers _ _ _ _ (held-alike (operand_value (shape_of s) operand) (operand_value s operand) (operand-shape s operand)) (λ x y f. numbers-alike v u x y e f))
 
-pub unmoved_quotient : (w : Width) (signedness : Signedness) (x y : Value) → Unmoved w (division_of signedness) x y
-unmoved_quotient w Unsigned x y = by w where
-  by : (w : Width) → Unmoved w Div x y
-  by W32 = tt
-  by W64 = tt
-unmoved_quotient w Signed x y = by w where
-  by : (w : Width) → Unmoved w Sdiv x y
-  by W32 = tt
-  by W64 = tt
+-- what a shape shows of an effect: of a conditional jump not which way it goes
+abbrev pub shown_of : Action → Effect → Effect
+shown_of (Branch w cond dst operand offset) e = Exits 0
+shown_of action e = blank_effect e
 
-pub unmoved_remainder : (w : Width) (signedness : Signedness) (x y : Value) → Unmoved w (remainder_of signedness) x y
-unmoved_remainder w Unsigned x y = by w where
-  by : (w : Width) → Unmoved w Mod x y
-  by W32 = tt
-  by W64 = tt
-unmoved_remainder w Signed x y = by w where
-  by : (w : Width) → Unmoved w Smod x y
-  by W32 = tt
-  by W64 = tt
-
--- a register's value in a state and in its shape
-pub register_alike : (layout : Layout) (s : State) (w : Width) (op : BinOp) (left : Option Value) (src : RegNo) → ((x y : Value) → left ≡ Some x → value_of s.registers src ≡ Some y → Unmoved w op x y)
-    → Alike layout w op left (value_of s.registers src) (value_of (shape_of s).registers src)
-register_alike layout s w op left src h = rw (shape_value s src) (reg_alike layout w op left (value_of s.registers src) h)
-
--- the tests of an instruction at a shape
-pub tests-shape : (layout : Layout) (i : Insn) (s : State) → NoMovedPointer i s → tests_of layout i (shape_of s) ≡ tests_of layout i s
-tests-shape layout (Alu64Imm op dst imm) s h = operated_tests-shape layout s W64 (operation_of op) dst (Some (word_of imm)) (Some (word_of imm)) (imm_alike layout W64 (operation_of op) (left_operand (operation_of op) s dst) (cast_unsigned w64 imm))
-tests-shape layout (Alu64Reg op dst src) s h = operated_tests-shape layout s W64 (operation_of op) dst (value_of s.registers src) (value_of (shape_of s).registers src) (register_alike layout s W64 (operation_of op) (left_operand (operation_of op) s dst) src (unmoved_sum op s dst src h))
-tests-shape layout (Alu32Imm op dst imm) s h = operated_tests-shape layout s W32 (operation_of op) dst (Some (word_of imm)) (Some (word_of imm)) (imm_alike layout W32 (operation_of op) (left_operand (operation_of op) s dst) (cast_unsigned w64 imm))
-tests-shape layout (Alu32Reg op dst src) s h = operated_tests-shape layout s W32 (operation_of op) dst (value_of s.registers src) (value_of (shape_of s).registers src) (register_alike layout s W32 (operation_of op) (left_operand (operation_of op) s dst) src (λ x y e f. tt))
-tests-shape layout (Divide width signedness dst (Imm imm)) s h = operated_tests-shape layout s width (division_of signedness) dst (Some (word_of imm)) (Some (word_of imm)) (imm_alike layout width (division_of signedness) (left_operand (division_of signedness) s dst) (cast_unsigned w64 imm))
-tests-shape layout (Divide width signedness dst (Reg src)) s h = operated_tests-shape layout s width (division_of signedness) dst (value_of s.registers src) (value_of (shape_of s).registers src) (register_alike layout s width (division_of signedness) (left_operand (division_of signedness) s dst) src (λ x y e f. unmoved_quotient width signedness x y))
-tests-shape layout (Remainder width signedness dst (Imm imm)) s h = operated_tests-shape layout s width (remainder_of signedness) dst (Some (word_of imm)) (Some (word_of imm)) (imm_alike layout width (remainder_of signedness) (left_operand (remainder_of signedness) s dst) (cast_unsigned w64 imm))
-tests-shape layout (Remainder width signedness dst (Reg src)) s h = operated_tests-shape layout s width (remainder_of signedness) dst (value_of s.registers src) (value_of (shape_of s).registers src) (register_alike layout s width (remainder_of signedness) (left_operand (remainder_of signedness) s dst) src (λ x y e f. unmoved_remainder width signedness x y))
-tests-shape layout (Negate width dst) s h = number_tests-shape s dst PointerMisuse
-tests-shape layout (MoveSigned extension dst src) s h = number_tests-shape s src PointerMisuse
-tests-shape layout (SwapBytes kind bits dst) s h = number_tests-shape s dst PointerMisuse
-tests-shape layout (LoadWide dst value) s h = refl
-tests-shape layout (Load size dst src offset) s h = load_tests-shape layout s src offset (size_bytes size)
-tests-shape layout (LoadSigned size dst src offset) s h = load_tests-shape layout s src offset (size_bytes (read_size size))
-tests-shape layout (StoreReg size dst src offset) s h =
-    ap (λ (o : Option Value). store_tests layout o (value_of (shape_of s).registers src) size offset) (shape_value s dst) ∙ ap (λ (o : Option Value). store_tests layout (blank (value_of s.registers dst)) o size offset) (shape_value s src)
-    ∙ store_tests-blank layout (value_of s.registers dst) (value_of s.registers src) size offset
-tests-shape layout (StoreImm size dst offset imm) s h =
-    store_tests-amount layout (value_of (shape_of s).registers dst) (cast_unsigned w64 imm) size offset ∙ ap (λ (o : Option Value). store_tests layout o (Some (Number 0)) size offset) (shape_value s dst)
-    ∙ store_tests-blank layout (value_of s.registers dst) (Some (word_of imm)) size offset
-tests-shape layout (Jump offset) s h = refl
-tests-shape layout (JumpLong offset) s h = refl
-tests-shape layout (Jump64IfImm cond dst offset imm) s h = number_tests-shape s dst PointerMisuse
-tests-shape layout (Jump64IfReg cond dst src offset) s h = comparison_tests-shape s dst src
-tests-shape layout (Jump32IfImm cond dst offset imm) s h = number_tests-shape s dst PointerMisuse
-tests-shape layout (Jump32IfReg cond dst src offset) s h = comparison_tests-shape s dst src
-tests-shape layout Exit s h = number_tests-shape s R0 ExitsWithPointer
+-- what comes of an instruction at a shape is what comes of it in the state, but for amounts
+pub outcome-shape : (layout : Layout) (action : Action) (s : State) → MovesNone action s → seen (shown_of action) (action_outcome layout action (shape_of s)) ≡ seen (shown_of action) (action_outcome layout action s)
+outcome-shape layout (Operate w op dst operand) s h = go_on blank_value blank_effect _ _ _ _ (operated-shape layout w op s dst operand h) (put-alike s dst)
+outcome-shape layout (Convert w op dst src) s h = go_on no_amount blank_effect _ _ _ _ (number_held-alike s src PointerMisuse) (λ a b e. put-alike s dst (Number (unary_result op w a)) (Number (unary_result op w b)) refl)
+outcome-shape layout (LoadWord dst n) s h = put-alike s dst (Number n) (Number n) refl
+outcome-shape layout (LoadFrom size extension dst src offset) s h =
+    go_on blank_value blank_effect _ _ _ _ (register-alike s src) (λ v u e.
+    go_on blank_value blank_effect _ _ _ _ (loaded-alike layout s v u offset size e) (λ x y f.
+    go_on blank_value blank_effect _ _ _ _ (extended-alike extension x y f) (put-alike s dst)))
+outcome-shape layout (StoreAt size dst offset operand) s h =
+    go_on blank_value blank_effect _ _ _ _ (register-alike s dst) (λ v u e.
+    go_on blank_value blank_effect _ _ _ _ (held-alike (operand_value (shape_of s) operand) (operand_value s operand) (operand-shape s operand)) (λ x y f.
+    go_on (λ (p : Pointer). p) blank_effect _ _ _ _ (same_seen (λ p. p) (place-alike layout v u offset size e)) (λ p q same.
+    go_on shape_of blank_effect _ _ _ _ (stored-there layout s p q size x y same f) (λ t r g. ap (λ (z : State). Passes (Falls z)) g))))
+outcome-shape layout (Go offset) s h = ap (λ (t : State). Passes (Jumps offset t)) (shape_twice s)
+outcome-shape layout (Branch w cond dst operand offset) s h = go_on any_numbers (λ (e : Effect). Exits 0) _ _ _ _ (compared-shape s dst operand) (λ x y e. either (word_holds w cond x.0 x.1) (word_holds w cond y.0 y.1)) where
+  either : (a b : Bool) → seen (λ (e : Effect). Exits 0) (if a then Passes (Jumps offset (shape_of s)) else Passes (Falls (shape_of s))) ≡ seen (λ (e : Effect). Exits 0) (if b then Passes (Jumps offset s) else Passes (Falls s))
+  either true true = refl
+  either true false = refl
+  either false true = refl
+  either false false = refl
+outcome-shape layout End s h = go_on no_amount blank_effect _ _ _ _ (number_held-alike s R0 ExitsWithPointer) (λ a b e. refl)
 
 -- a state and its shape have the same fault
 pub same_fault : (layout : Layout) (i : Insn) (s : State) → NoMovedPointer i s → fault_at layout i (shape_of s) ≡ fault_at layout i s
-same_fault layout i s h = rw (fault_is_first layout i (shape_of s), fault_is_first layout i s) (ap first_of (tests-shape layout i s h))
+same_fault layout i s h =
+    sym (failed-seen (shown_of (action_of i)) (outcome layout i (shape_of s))) ∙ ap failed (outcome-shape layout (action_of i) s h) ∙ failed-seen (shown_of (action_of i)) (outcome layout i s)

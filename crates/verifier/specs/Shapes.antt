@@ -3,9 +3,10 @@ use Rattle.std.specs.Prelude.{◌≡◌, ℕ, zero, suc, ◌+◌, ℤ, List, [],
 use Rattle.std.specs.Option.{option_map}
 use Rattle.std.specs.List.{filter_map}
 use Rattle.insn.specs.declared.register.RegNo.{RegNo}
-use Rattle.insn.specs.declared.operation.AluOp.TheVariants.{Add, Sub}
+use Rattle.insn.specs.declared.operation.BinOp.TheVariants.{Add, Sub}
+use Rattle.insn.specs.declared.operation.Width.TheVariants.{W64}
+use Rattle.insn.specs.declared.instruction.Operand.TheVariants.{Reg}
 use Rattle.insn.specs.declared.instruction.Insn.{Insn}
-use Rattle.insn.specs.declared.instruction.Insn.TheVariants.{Alu64Reg}
 use Rattle.insn.specs.declared.layout.Layout.{Layout}
 use Rattle.insn.specs.declared.state.Pointer.{Pointer}
 use Rattle.insn.specs.declared.state.Value.{Value}
@@ -16,7 +17,9 @@ use Rattle.insn.specs.Instruction.{slots_of}
 use Rattle.insn.specs.Program.{begins_at}
 use Rattle.insn.specs.Values.{State, Config, value_of, record_size, start}
 use Rattle.insn.specs.Effects.{Effect, Falls, Jumps}
-use Rattle.insn.specs.Meaning.{Action, Branch, action_of}
+use Rattle.insn.specs.declared.action.Action.{Action}
+use Rattle.insn.specs.declared.action.Action.TheVariants.{Operate, Branch}
+use Rattle.insn.specs.Meaning.{action_of}
 use Rattle.insn.specs.Outcomes.{effect}
 use Rattle.insn.specs.Step.{Reaches, lead, exit_at}
 
@@ -70,11 +73,14 @@ OnWay layout program (suc n) c = (from : Config) × OnWay layout program n from 
 abbrev pub IsPointer : State → RegNo → Type 0
 IsPointer s r = (p : Pointer) × (value_of s.registers r ≡ Some (Address p))
 
--- the instruction neither adds a register to a pointer nor takes one from it
+-- what is to be done neither adds a register to a pointer nor takes one from it
+abbrev pub MovesNone : Action → State → Type 0
+MovesNone (Operate W64 Add dst (Reg src)) s = ¬ IsPointer s dst × ¬ IsPointer s src
+MovesNone (Operate W64 Sub dst (Reg src)) s = ¬ IsPointer s dst × ¬ IsPointer s src
+MovesNone action s = Unit {0}
+
 abbrev pub NoMovedPointer : Insn → State → Type 0
-NoMovedPointer (Alu64Reg Add dst src) s = ¬ IsPointer s dst × ¬ IsPointer s src
-NoMovedPointer (Alu64Reg Sub dst src) s = ¬ IsPointer s dst × ¬ IsPointer s src
-NoMovedPointer i s = Unit {0}
+NoMovedPointer i s = MovesNone (action_of i) s
 
 -- on no way a register is added to a pointer, or taken from one
 abbrev pub MovesNoPointer : Layout → List Insn → Type 0

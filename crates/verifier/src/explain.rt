@@ -1,14 +1,14 @@
-//! What a look at a program finds, told at length.
+//! What a look at a program finds, told at length: one walk, in order of slots.
 
-ghost use Rattle.std.specs.Prelude.{◌≡◌, IfOk, IsOk};
+ghost use Rattle.std.specs.Prelude.{◌≡◌, ◌<◌, IfOk, IsErr, IsOk, None, length, slice_index_or};
 ghost use Rattle.insn.specs.Refusals.{look_verdict};
 ghost use Rattle.verifier.specs.Findings.{IsFinding, IsWalkFinding};
-ghost use Rattle.verifier.specs.FindingsParts.{IsNoted, IsRefusedWith, TellsOnward};
 ghost use Rattle.verifier.specs.Follows.{reg_of};
+ghost use Rattle.verifier.specs.WaitsParts.{IsNoted};
 
 use crate::first_look::first_look;
 use crate::known::Known;
-use crate::walk::{NOWHERE, Onward, Waiting, visit};
+use crate::walk::{NOWHERE, Onward, Upshot, Waiting, visit};
 use insn::instruction::Insn;
 use insn::layout::Layout;
 use insn::program::Program;
@@ -60,42 +60,20 @@ impl Known {
     }
 }
 
-/// What is found where an instruction is refused. `known` is what was known before it, and `onward` where the walk went.
-fn refused(
-    alloc: Global,
-    fault: VerifyFault,
-    slot: usize,
-    insn: Insn,
-    known: Option<Known>,
-    onward: Vec<Onward>,
-) -> Result<Finding, AllocError>
-    ensures with { IfOk result (IsRefusedWith fault slot insn known) }
-    ensures onward { IfOk result (TellsOnward onward.items) }
+/// Adds a slot to those that no way reaches, where nothing waits there.
+fn note(unreached: &mut Vec<usize>, slot: usize, waiting: &Waiting) -> Result<(), AllocError>
+    requires { slot < length waiting.now }
+    ensures { IsOk result → IsNoted slot (slice_index_or waiting.now slot None) unreached.old.items unreached.new.items }
 {
-    match (fault, known) {
-        (VerifyFault::Memory, _) | (_, None) => Err(AllocError),
-        (fault, Some(known)) => Ok(Finding::Refused(Refusal {
-            fault,
-            slot,
-            insn,
-            known: Box::new(alloc, known)?,
-            onward,
-        })),
-    }
-}
-
-/// Adds a slot to those that no way reaches, where nothing was known there.
-fn note(unreached: &mut Vec<usize>, slot: usize, known: &Option<Known>) -> Result<(), AllocError>
-    ensures { IsOk result → IsNoted slot known.now unreached.old.items unreached.new.items }
-{
-    if known.is_none() {
+    if !waiting.is_reached(slot) {
         unreached.push(slot)?;
     }
     Ok(())
 }
 
-/// What the walk finds in a program in which the first look finds no fault.
-fn walked(alloc: Global, program: &Program, layout: Layout) -> Result<Finding, AllocError>
+/// What the walk finds in a program in which the first look finds no fault: in order, over the instructions that some
+/// way may reach.
+fn walk(alloc: Global, program: &Program, layout: Layout) -> Result<Finding, AllocError>
     requires { look_verdict program.now ≡ None }
     ensures { IfOk result (IsWalkFinding layout program.now) }
 {
@@ -106,24 +84,42 @@ fn walked(alloc: Global, program: &Program, layout: Layout) -> Result<Finding, A
     let mut onward = vec![in alloc; NOWHERE; slots]?;
     let mut slot = 0;
     while let [insn, after @ ..] = rest {
-        let known = waiting.at(slot);
-        match visit(&mut waiting, layout, *insn, slot, slots) {
-            Ok(here) => onward[slot] = here,
-            Err(fault) => return refused(alloc, fault, slot, *insn, known, onward),
+        note(&mut unreached, slot, &waiting)?;
+        match visit(&mut waiting, layout, *insn, slot, slots)? {
+            Upshot::Passed(here) => onward[slot] = here,
+            Upshot::Refused(fault, known) => {
+                let fault = fault.at(slot);
+                let insn = *insn;
+                return Ok(Finding::Refused(Refusal {
+                    fault,
+                    slot,
+                    insn,
+                    known,
+                    onward,
+                }));
+            }
         }
-        note(&mut unreached, slot, &known)?;
         slot += insn.slots();
         rest = after;
     }
     Ok(Finding::Accepted(unreached))
 }
 
-/// What `verify` finds in a program, and why: the same looks, in the same order. It fails only where memory is refused.
-pub fn explain(alloc: Global, program: &Program, layout: Layout) -> Result<Finding, AllocError>
-    ensures { IfOk result (IsFinding layout program.now) }
+/// What both looks find: the fault of the first one, and where it finds none, what the walk finds. It fails only where
+/// memory is refused.
+pub(crate) fn look(alloc: Global, program: &Program, layout: Layout) -> Result<Finding, AllocError>
+    ensures finding { IfOk result (IsFinding layout program.now) }
+    ensures memory { IsErr result → look_verdict program.now ≡ None }
 {
     match first_look(program) {
         Some(fault) => Ok(Finding::Looked(fault)),
-        None => walked(alloc, program, layout),
+        None => walk(alloc, program, layout),
     }
+}
+
+/// What `verify` finds in a program, and why: the same looks. It fails only where memory is refused.
+pub fn explain(alloc: Global, program: &Program, layout: Layout) -> Result<Finding, AllocError>
+    ensures { IfOk result (IsFinding layout program.now) }
+{
+    look(alloc, program, layout)
 }

@@ -1,14 +1,19 @@
 //! Laws of shapes and ways, and of typings: which programs have them.
 
-ghost use Rattle.std.specs.Prelude.{◌≡◌, ◌↔◌, ℕ, List, Some, Contains};
+ghost use Rattle.std.specs.Prelude.{◌≡◌, ◌↔◌, ℕ, List, Result, Some, Contains};
 ghost use Rattle.insn.specs.declared.instruction.Insn.{Insn};
 ghost use Rattle.insn.specs.declared.layout.Layout.{Layout};
+ghost use Rattle.insn.specs.declared.verify_fault.WalkFault.{WalkFault};
 ghost use Rattle.insn.specs.Outcomes.{fault_at};
 ghost use Rattle.insn.specs.Program.{begins_at};
 ghost use Rattle.insn.specs.Step.{step};
 ghost use Rattle.insn.specs.Values.{Config, IsRecord, State};
+ghost use Rattle.verifier.specs.declared.known.Flow.{Flow};
+ghost use Rattle.verifier.specs.declared.known.Known.{Known};
+ghost use Rattle.verifier.specs.Follows.{WritesNoR10};
+ghost use Rattle.verifier.specs.Kinds.{IsSoundRow, LeavesKnown};
 ghost use Rattle.verifier.specs.Shapes.{shape_config, shape_of, ways, HasNoBranch, IsRunShape, MovesNoPointer, NoMovedPointer, OnWay};
-ghost use Rattle.verifier.specs.TypedPrograms.{IsTypedThoughNotUniform, UniformIsTyped, dead_register};
+ghost use Rattle.verifier.specs.Typing.{UniformIsTyped};
 
 /// A state and its shape have the same fault, where no pointer is moved by a register.
 #[tactic(auto, using(crate::specs::ShapeLaws::same_fault))]
@@ -37,8 +42,9 @@ pub fn uniform_programs_have_typings()
     ensures { (layout : Layout) (program : List Insn) → UniformIsTyped layout program }
 {}
 
-/// A program that leaves a number in a register on one way and a pointer on another, behind which nothing reads it, has
-/// a typing, and is not uniform.
-pub fn dead_registers_may_differ()
-    ensures { (layout : Layout) → IsTypedThoughNotUniform layout dead_register }
+/// What the table of instructions says is sound: what follows by it follows in every state that is what is known, and
+/// in the one shape; what it refuses fails there.
+pub fn rows_are_sound()
+    ensures { (layout : Layout) (i : Insn) (old new : Known) (r : Result Flow WalkFault) →
+        WritesNoR10 i → LeavesKnown layout i old new r → IsSoundRow layout i old new r }
 {}

@@ -6,8 +6,9 @@ ghost use Rattle.verifier.specs.Links.{AreLeft, AreLinksJoined, AreMade, IsLinkJ
 ghost use Rattle.verifier.specs.LinksParts.{AreNumbersRefined, IsLinkRefined};
 ghost use Rattle.verifier.specs.Learnt.{AreLinkNarrowed, IsLinkNarrowed};
 
-use insn::instruction::Insn;
-use insn::operation::{AluOp, BinOp, Cond, Width};
+use insn::action::Action;
+use insn::instruction::Operand;
+use insn::operation::{BinOp, Cond, Width};
 use insn::register::RegNo;
 use range::domain::Domain;
 use reg_kind::Reg;
@@ -193,30 +194,16 @@ impl Links {
     }
 
     /// The link that an instruction makes.
-    pub(crate) fn made(&self, insn: Insn) -> Option<(RegNo, Link)>
-        ensures { result ≡ link_made self.now insn }
+    pub(crate) fn made(&self, action: Action) -> Option<(RegNo, Link)>
+        ensures { result ≡ link_made self.now action }
     {
-        match insn {
-            Insn::Alu64Reg {
-                op: AluOp::Mov,
-                dst,
-                src,
-            } => Link::copied(src, Width::W64).of_register(dst),
-            Insn::Alu32Reg {
-                op: AluOp::Mov,
-                dst,
-                src,
-            } => Link::copied(src, Width::W32).of_register(dst),
-            Insn::Alu64Imm {
-                op: AluOp::Add,
-                dst,
-                imm,
-            } => self.raised(dst, Width::W64, imm),
-            Insn::Alu32Imm {
-                op: AluOp::Add,
-                dst,
-                imm,
-            } => self.raised(dst, Width::W32, imm),
+        match action {
+            Action::Operate(width, BinOp::Mov, dst, Operand::Reg(src)) => {
+                Link::copied(src, width).of_register(dst)
+            }
+            Action::Operate(width, BinOp::Add, dst, Operand::Imm(imm)) => {
+                self.raised(dst, width, imm)
+            }
             _ => None,
         }
     }

@@ -11,4 +11,4 @@ mod width;
 pub use bits32::{alu32, holds32, neg32};
 pub use bits64::{alu64, holds64, neg64};
 pub use conversion::{extend, swap};
-pub use width::{alu, holds, neg};
+pub use width::{alu, holds, neg, unary};

@@ -1,11 +1,12 @@
 //! Operations on words, in the width that an instruction names.
 
 ghost use Rattle.std.specs.Prelude.{◌≡◌};
-ghost use Rattle.insn.specs.Word.{word_holds, word_negated, word_result};
+ghost use Rattle.insn.specs.Word.{unary_result, word_holds, word_negated, word_result};
 
 use crate::bits32::{alu32, holds32, neg32};
 use crate::bits64::{alu64, holds64, neg64};
-use insn::operation::{BinOp, Cond, Width};
+use crate::conversion::{extend, swap};
+use insn::operation::{BinOp, Cond, UnOp, Width};
 
 /// The result of an operation (RFC 9669, section 4.1).
 pub fn alu(width: Width, op: BinOp, a: u64, b: u64) -> u64
@@ -24,6 +25,17 @@ pub fn neg(width: Width, a: u64) -> u64
     match width {
         Width::W32 => neg32(a),
         Width::W64 => neg64(a),
+    }
+}
+
+/// The result of an operation on one word (RFC 9669, sections 4.1 and 4.2).
+pub fn unary(op: UnOp, width: Width, a: u64) -> u64
+    ensures { result ≡ unary_result op width a }
+{
+    match op {
+        UnOp::Neg => neg(width, a),
+        UnOp::Swap(kind, bits) => swap(kind, bits, a),
+        UnOp::Extend(bits) => extend(width, bits, a),
     }
 }
 

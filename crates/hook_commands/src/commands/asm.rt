@@ -23,7 +23,7 @@ pub fn assembled<'w>(
     };
     let program = match assemble(alloc, text) {
         Ok(program) => program,
-        Err(fault) => return Err(HookCommandFault::from(fault)),
+        Err(fault) => return Err(HookCommandFault::Text(fault)),
     };
     let code = encode(alloc, &program)?;
     let hex = hex::encode(alloc, code)?;

@@ -26,7 +26,7 @@ pub fn check<'w>(
     let program = program_in(alloc, path, file)?;
     match verify(alloc, program, layout) {
         Ok(verified) => Ok(HookAnswer::Accepted(verified.program().len())),
-        Err((_, fault)) => Err(HookCommandFault::from(fault)),
+        Err((_, fault)) => Err(HookCommandFault::Verify(fault)),
     }
 }
 

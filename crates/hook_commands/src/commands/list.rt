@@ -9,7 +9,7 @@ use crate::answer::HookAnswer;
 use crate::commands::program_file::program_in;
 use crate::commands::told_file::told_program_in;
 use crate::fault::HookCommandFault;
-use lister::{list, list_slots};
+use lister::{list, slot_lines};
 use std::alloc::Global;
 
 /// The canonical text of the program whose hex stands in a file.
@@ -25,7 +25,7 @@ pub fn listing<'w>(
     Ok(HookAnswer::Listing(text))
 }
 
-/// The canonical text of the program whose hex stands in a file, with its slots.
+/// The instructions of the program whose hex stands in a file, behind their slots.
 pub fn listing_with_slots<'w>(
     alloc: Global,
     path: &'w str,
@@ -34,6 +34,6 @@ pub fn listing_with_slots<'w>(
     ensures { IsListedWithSlotsAs path.now (option_copied file.entry) result }
 {
     let program = told_program_in(alloc, path, file)?;
-    let text = list_slots(alloc, &program)?;
-    Ok(HookAnswer::Listing(text))
+    let lines = slot_lines(alloc, &program)?;
+    Ok(HookAnswer::Slots(lines))
 }

@@ -27,6 +27,6 @@ pub fn program_in<'w>(
     };
     match decode(alloc, &code) {
         Ok(program) => Ok(program),
-        Err(fault) => Err(HookCommandFault::from(fault)),
+        Err(fault) => Err(HookCommandFault::Insn(fault)),
     }
 }

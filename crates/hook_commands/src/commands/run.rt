@@ -7,10 +7,9 @@ use crate::answer::HookAnswer;
 use crate::fault::HookCommandFault;
 use crate::hex_text::bytes_of_hex;
 use crate::judge::{Asked, JudgeFault, Judged, judge};
-use crate::trace::trace_told;
 use encoding::decode;
+use machine::trace::run_traced;
 use std::alloc::Global;
-use std::fmt::Write;
 
 /// What the hook of some code answers to a record, both as hex text. The code's text is tested first.
 pub fn run(
@@ -29,8 +28,8 @@ pub fn run(
     match judge(alloc, &code, &record) {
         Ok(judged) => Ok(HookAnswer::Judged(judged)),
         Err(JudgeFault::BadRecord) => Err(HookCommandFault::BadRecord),
-        Err(JudgeFault::Insn(fault)) => Err(HookCommandFault::from(fault)),
-        Err(JudgeFault::Verify(fault)) => Err(HookCommandFault::from(fault)),
+        Err(JudgeFault::Insn(fault)) => Err(HookCommandFault::Insn(fault)),
+        Err(JudgeFault::Verify(fault)) => Err(HookCommandFault::Verify(fault)),
         Err(JudgeFault::Stuck(_)) => unreachable!(),
     }
 }
@@ -56,11 +55,10 @@ fn with_steps(
     };
     let program = match decode(alloc, &code) {
         Ok(program) => program,
-        Err(fault) => return Err(HookCommandFault::from(fault)),
+        Err(fault) => return Err(HookCommandFault::Insn(fault)),
     };
-    let mut text = trace_told(alloc, &program, asked.layout, &mut record)?;
-    write!(text, "{judged}\n")?;
-    Ok(HookAnswer::Listing(text))
+    let trace = run_traced(alloc, &program, asked.layout, &mut record)?;
+    Ok(HookAnswer::Traced { trace, judged })
 }
 
 /// What the hook of some code answers to a record, as `run` has it, behind the steps of its run.

@@ -1,9 +1,9 @@
 //! The operations of a machine on low halves between bounds.
 
 ghost use Rattle.std.specs.Prelude.{◌≡◌, ◌<◌, ◌^◌, ◌↔◌, ℕ, IsTrue, bit_and, true};
-ghost use Rattle.insn.specs.Word.{word_extended, word_result};
+ghost use Rattle.insn.specs.Word.{unary_result, word_extended, word_result};
 ghost use Rattle.range.specs.Conditions.{HasAnswer, says_equal};
-ghost use Rattle.range.specs.Domain.{unary_result, IsSoundResult, IsSoundImage, IsJoin, IsRefined};
+ghost use Rattle.range.specs.Domain.{IsSoundResult, IsSoundImage, IsJoin, IsRefined};
 ghost use Rattle.range.specs.Sets.{AreWithin, IsLeastJoin};
 
 use crate::domain::Domain;

@@ -1,7 +1,8 @@
 //! Sums, differences, shifts and sign extensions of signed words between bounds.
 
 ghost use Rattle.std.specs.Prelude.{◌≡◌, ◌≤ℤ◌, ℕ, pos};
-ghost use Rattle.range.specs.Domain.{unary_result, IsSoundImage, IsSoundResult};
+ghost use Rattle.insn.specs.Word.{unary_result};
+ghost use Rattle.range.specs.Domain.{IsSoundImage, IsSoundResult};
 ghost use Rattle.range.specs.WidthsParts.{extended_half};
 
 use crate::domain::Domain;

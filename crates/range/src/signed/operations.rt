@@ -2,7 +2,8 @@
 
 ghost use Rattle.std.specs.Prelude.{◌≡◌, ◌<◌, ◌^◌, ◌↔◌, ℕ, IsTrue};
 ghost use Rattle.range.specs.Conditions.{HasAnswer, OrdersSigned};
-ghost use Rattle.range.specs.Domain.{unary_result, IsSoundResult, IsSoundImage, IsSingle, IsSingleResult, IsSingleImage, IsJoin, IsRefined};
+ghost use Rattle.insn.specs.Word.{unary_result};
+ghost use Rattle.range.specs.Domain.{IsSoundResult, IsSoundImage, IsSingle, IsSingleResult, IsSingleImage, IsJoin, IsRefined};
 ghost use Rattle.range.specs.Sets.{AreWithin, IsLeastJoin, IsLeastRefined};
 
 use crate::condition::meant;

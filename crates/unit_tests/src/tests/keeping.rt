@@ -108,17 +108,19 @@ struct Patient<'t> {
 }
 
 impl Keeper for Patient<'_> {
-    ghost use Rattle.std.specs.Prelude.{⊤};
+    ghost use Rattle.std.specs.Prelude.{⊤, None};
 
     ghost stands_for = { λ _ _. ⊤ };
 
-    ghost until = { λ _. 0 };
+    ghost tells = { λ _ _. ⊤ };
 
     ghost may_leave = { λ _ _. ⊥ };
 
     ghost moment = { λ _. 0 };
 
     ghost left_since = { λ _ _ _. ⊥ };
+
+    ghost size_of = { λ _. None };
 
     fn keep_moment(&mut self, _now: Moment) -> Result<(), KeepFault> {
         self.moments = self.moments.saturating_add(1);
@@ -137,6 +139,10 @@ impl Keeper for Patient<'_> {
         };
         self.kept.set(self.changes.len());
         Ok(())
+    }
+
+    fn size(&self) -> Option<u64> {
+        None
     }
 
     ghost only_now = { λ keeper c left. left };
@@ -233,11 +239,11 @@ struct Refusing<'t> {
 }
 
 impl Keeper for Refusing<'_> {
-    ghost use Rattle.std.specs.Prelude.{⊤};
+    ghost use Rattle.std.specs.Prelude.{⊤, None};
 
     ghost stands_for = { λ _ _. ⊤ };
 
-    ghost until = { λ _. 0 };
+    ghost tells = { λ _ _. ⊤ };
 
     ghost may_leave = { λ _ _. ⊥ };
 
@@ -245,12 +251,18 @@ impl Keeper for Refusing<'_> {
 
     ghost left_since = { λ _ _ _. ⊥ };
 
+    ghost size_of = { λ _. None };
+
     fn keep_moment(&mut self, _now: Moment) -> Result<(), KeepFault> {
         Ok(())
     }
 
     fn keep(&mut self, _batch: &Batch) -> Result<(), KeepFault> {
         Ok(())
+    }
+
+    fn size(&self) -> Option<u64> {
+        None
     }
 
     ghost only_now = { λ keeper c left. left };

@@ -1,6 +1,6 @@
 use Rattle.std.proofs.Common.{[]}
 use Rattle.image_codec.specs.Facts.{image_fact}
-use Rattle.commands.specs.RunLaws.{was_run}
+use Rattle.state_file.specs.RunLaws.{was_run}
 use Rattle.commands.proofs.state.lines_of.Goals as goal
 
 pub returns : goal.returns
@@ -11,7 +11,7 @@ returns c =
     let is = c.in_ok-image.ensures bytes [] of in
     record {
       image = image;
-      each = λ history stands was ran. is.each history stands was (was_run bytes history ran);
+      each = λ history lived. is.each history lived.stands lived.right (was_run bytes history lived);
       told = is.told;
       text_is = rw (of.batches, of.torn) at c.in_ok-text.ensures;
     }

@@ -1,10 +1,10 @@
 use Rattle.std.proofs.Common.{◌∷◌, [], refl}
-use Rattle.event_loop.specs.Deeds as deed
+use Rattle.event_loop.specs.Calls as call
 use Rattle.http_edge.specs.Schedule.{Kept}
 use Rattle.http_edge.specs.Reached.{led_on}
 use Rattle.event_loop.specs.Served.{goes, keeps}
 use Rattle.event_loop.specs.Ends.{not_kept}
-use Rattle.event_loop.specs.Scenes.{promises}
+use Rattle.event_loop.specs.LoopStates.{promises}
 use Rattle.endpoints.specs.Keeping.{keeping}
 use Rattle.event_loop.proofs.Answering.{served_answered}
 use Rattle.event_loop.proofs.Doing.{none_more, kept_more, not_another}
@@ -19,7 +19,7 @@ returns-in_default-clause-kept g c = λ first found service past undone h.
       served = h;
       kept = none_unkept past.journey.world (c.in_default.ensures.unkept past.journey reached);
       connections = refl;
-      done = none_more past.deeds;
+      done = none_more past.calls;
       alone = λ other differs not. not;
     }
 
@@ -32,7 +32,7 @@ returns-then-is_empty-clause-kept g c = λ first found service past undone h.
       served = h;
       kept = nothing_unkept past.journey.world batch.facts (c.is_empty.ensures.0 c.if-is_empty.true) (c.in-Some.ensures.unkept past.journey reached);
       connections = refl;
-      done = none_more past.deeds;
+      done = none_more past.calls;
       alone = λ other differs not. not;
     }
 
@@ -54,10 +54,10 @@ returns-clause-kept g c = λ first found service past undone h.
     let unkept = something_unkept past.journey.world facts some noted in
     let on = c.forget_unkept.ensures.kept past.journey reached in
     record {
-      next = record { deeds = deed.Kept ∷ past.deeds; journey = led_on past.journey (Kept ∷ []) on.world };
-      served = goes h (keeps c.keep.new.self c.forget_unkept.new.self unkept on undone (c.in-Ok.ensures.kept unkept.kept past.journey.world.history (unkept_happened past.journey.world facts some noted)) c.in-Ok.ensures.moments);
+      next = record { calls = call.Kept ∷ past.calls; journey = led_on past.journey (Kept ∷ []) on.world };
+      served = goes h (keeps c.keep.new.self c.forget_unkept.new.self unkept on undone (c.in-Ok.ensures.kept unkept.kept past.journey.world.history (unkept_happened past.journey.world facts some noted)) c.in-Ok.ensures.basis);
       kept = all_kept_now past.journey.world on.world on.happens;
       connections = kept_connections past.journey.world on.world on.happens;
-      done = kept_more past.deeds;
-      alone = λ other differs not. not_another deed.Keeping other past.deeds differs not;
+      done = kept_more past.calls;
+      alone = λ other differs not. not_another call.Keeping other past.calls differs not;
     }

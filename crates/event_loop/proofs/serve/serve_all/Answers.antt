@@ -4,16 +4,19 @@ use Rattle.event_loop.specs.declared.report.LastTold.{LastTold}
 use Rattle.event_loop.specs.declared.queue.Queue.TheVariants.{Told, Empty, Barred}
 use Rattle.event_loop.specs.Places.{IsOccupied}
 use Rattle.event_loop.specs.Closing.{AreWithin}
-use Rattle.event_loop.specs.Scenes.{Scene, promises}
+use Rattle.event_loop.specs.LoopStates.{LoopState, promises}
 use Rattle.endpoints.specs.Keeping.{keeping}
 use Rattle.event_loop.specs.Served.{IsFirst, begins, stops}
-use Rattle.event_loop.specs.Goes.{Past, IsReadyToWait, running, scene_of}
+use Rattle.event_loop.specs.Durable.{Onward}
+use Rattle.change_codec.specs.Keeping.{TellsBasis}
+use Rattle.event_loop.specs.Goes.{Past, IsReadyToWait, running, state_of}
 use Rattle.event_loop.proofs.Answering.{served_answered}
+use Rattle.event_loop.proofs.Done.{done_to_end}
 use Rattle.event_loop.proofs.Resting.{free_rests}
 use Rattle.event_loop.proofs.Leading.{rested_settled}
-use Rattle.event_loop.proofs.Fronts.{served_durable, durable_to_end}
+use Rattle.event_loop.proofs.Fronts.{leaves_between, leaves_to_end, step_writes}
 use Rattle.event_loop.proofs.Leaving.{fails_reached}
-use Rattle.event_loop.proofs.Moments.{served_moment, moment_stays, moment_to_end}
+use Rattle.event_loop.proofs.Moments.{basis_to_end, moment_stays, onward_basis, served_moment}
 use Rattle.event_loop.proofs.serve.serve_all.Goals as goal
 
 pub returns-in_default : goal.returns-in_default
@@ -22,10 +25,10 @@ returns-in_default g c = λ journey reached. inr (record { is_clock = refl; cloc
 pub returns : goal.returns
 returns g c = λ journey reached.
     let p = promises g.N.Sockets g.C.Clocks g.J.Journal (keeping g.K.Keeper g.K.ImageKeeper) g.H.HookHost in
-    let past : Past g.row.H.Denot = record { deeds = []; journey = journey } in
-    let first : Scene g.row.N.Denot g.row.C.Denot g.row.J.Denot g.row.K.Denot g.row.H.Denot = scene_of (running c.new-service.result (record c.args.tools.now { clocks = c.read.new.self })) [] past in
+    let past : Past g.row.H.Denot = record { calls = []; journey = journey } in
+    let first : LoopState g.row.N.Denot g.row.C.Denot g.row.J.Denot g.row.K.Denot g.row.H.Denot = state_of (running c.new-service.result (record c.args.tools.now { clocks = c.read.new.self })) [] past in
     let is_first : IsFirst p first =
-    record { size = c.new-service.ensures.size; free = c.new-service.ensures.free; found = refl; noted = c.new-service.ensures.noted; told = c.new-service.ensures.told ∙ sym (ap (λ (t : Times). record { report = t.steady; full = None }) c.new-service.ensures.times); refused = c.new-service.ensures.refused; queue = c.new-service.ensures.queue; deeds = refl; reached = reached } in
+    record { size = c.new-service.ensures.size; free = c.new-service.ensures.free; found = refl; noted = c.new-service.ensures.noted; told = c.new-service.ensures.told ∙ sym (ap (λ (t : Times). record { report = t.steady; full = None }) c.new-service.ensures.times); refused = c.new-service.ensures.refused; began = c.new-service.ensures.began ∙ sym (ap (λ (t : Times). t.steady) c.new-service.ensures.times); accepted = c.new-service.ensures.accepted; queue = c.new-service.ensures.queue; calls = refl; reached = reached } in
     let nobody : (limit : ℕ) → AreWithin limit c.new-service.result.times c.new-service.result.places = λ limit k place here taken. absurd (subst IsOccupied (c.new-service.ensures.free k place here) taken) in
     let ready : IsReadyToWait c.new-service.result past = record {
       settled = λ k less. rested_settled k c.new-service.result past (λ none place here. free_rests place _ (c.new-service.ensures.free k place here)) (c.new-service.ensures.due k less);
@@ -33,10 +36,14 @@ returns g c = λ journey reached.
       quick = record { idle = nobody _; crowded = λ waits. nobody _; tried = λ since barred. (let not : Empty ≡ Barred since = sym c.new-service.ensures.queue ∙ barred in absurd (cc)); reported = λ every wanted. inl (ap (λ (l : LastTold). l.report) is_first.told) };
     } in
     let wrong = c.rounds-fault.ensures first past (begins is_first) ready in
-    let failed = scene_of (running c.rounds-fault.new.self c.rounds-fault.new.tools) wrong.found wrong.next in
+    let failed = state_of (running c.rounds-fault.new.self c.rounds-fault.new.tools) wrong.found wrong.next in
     let last_reached = (served_answered p first wrong.last wrong.served).reached in
     let shut = c.leave_all.ensures.shut failed wrong.found wrong.next stops (fails_reached p wrong.last failed _ wrong.fails last_reached) in
     let told = c.tell_last.ensures wrong.found shut.next in
+    let emptied : LoopState g.row.N.Denot g.row.C.Denot g.row.J.Denot g.row.K.Denot g.row.H.Denot = state_of (running c.leave_all.new.self c.leave_all.new.tools) wrong.found shut.next in
+    let end : LoopState g.row.N.Denot g.row.C.Denot g.row.J.Denot g.row.K.Denot g.row.H.Denot = state_of (running c.leave_all.new.self c.tell_last.new.tools) wrong.found shut.next in
+    let to_end : (s : LoopState g.row.N.Denot g.row.C.Denot g.row.J.Denot g.row.K.Denot g.row.H.Denot) → Onward p s wrong.last → TellsBasis p.keeping.crashes s.keeper end.keeper =
+    λ s on. basis_to_end p s wrong.last failed emptied end c.rounds-fault.result on wrong.fails shut.shuts told in
     inl (record {
       first = first;
       is_first = is_first;
@@ -47,17 +54,21 @@ returns g c = λ journey reached.
       last = wrong.last;
       served = wrong.served;
       answered = λ s. served_answered p first s;
-      durable = λ held. served_durable p g.met.K.Keeper.only_now first held;
+      kept = λ s s' served. step_writes p s s';
+      durable = λ held s s' served on before is. leaves_between p g.met.K.Keeper.only_now first held s before served is s' on;
+      basis = λ s s' served. onward_basis p s s';
       moment = served_moment p first;
-      moment_stays = moment_stays p g.met.K.Keeper.only_now first;
+      moment_stays = λ s s' served on. moment_stays p g.met.K.Keeper.only_now first s s' served (onward_basis p s s' on).meanwhile;
       failed = failed;
       fails = wrong.fails;
-      emptied = scene_of (running c.leave_all.new.self c.leave_all.new.tools) wrong.found shut.next;
+      emptied = emptied;
       shuts = shut.shuts;
-      end = scene_of (running c.leave_all.new.self c.tell_last.new.tools) wrong.found shut.next;
+      end = end;
       tells_last = told;
-      durable_then = λ held s served on. durable_to_end p g.met.K.Keeper.only_now first held s wrong.last failed _ _ _ served on wrong.fails shut.shuts told;
-      moment_stays_then = λ s served on. moment_to_end p g.met.K.Keeper.only_now first s wrong.last failed _ _ _ served on wrong.fails shut.shuts told;
+      done = done_to_end p first wrong.last failed emptied end c.rounds-fault.result wrong.served wrong.fails shut.shuts told;
+      durable_then = λ held s served on before is. leaves_to_end p g.met.K.Keeper.only_now first held s before served is wrong.last failed emptied end c.rounds-fault.result on wrong.fails shut.shuts told;
+      basis_then = λ s served. to_end s;
+      moment_stays_then = λ s served on. moment_stays p g.met.K.Keeper.only_now first s end served (to_end s on);
       free = c.leave_all.ensures.free;
       tools_are_then = refl;
     })

@@ -5,7 +5,7 @@ use Rattle.heads.specs.Message.{Message, BeginsWithMessage, IsHopeless, MayTell}
 use Rattle.heads.specs.Waiting.{Wants}
 use Rattle.heads.specs.Front.{IsFoundWithin, IsWholeAt}
 use Rattle.heads.specs.ReadingLaws.{reads_push, hopeless_has_none}
-use Rattle.heads.specs.WaitingLaws.{waits_for_nothing, waiting_unfinished}
+use Rattle.heads.specs.WaitingLaws.{waits_for_nothing, wants_unfinished}
 use Rattle.heads.proofs.scan.scan_behind.Goals as goal
 
 tail_is : (n : ℕ) (bytes : List ℕ) → take (length bytes - n) (drop n bytes) ≡ drop n bytes
@@ -43,9 +43,9 @@ pub returns-in-More : goal.returns-in-More
 returns-in-More c =
     let bytes = c.args.bytes.now in
     let end = c.requests.end in
-    let wanted = c.in-More.wanted in
-    let wants : Wants (drop end bytes) wanted = rw (← tail_is end bytes) c.in-More.ensures in
-    let unfinished = waiting_unfinished (drop end bytes) wanted wants.waiting wants.fewer in
+    let waits = c.in-More.waits in
+    let wants : Wants (drop end bytes) waits = rw (← tail_is end bytes) c.in-More.ensures in
+    let unfinished = wants_unfinished (drop end bytes) waits wants in
     let before = c.requests.invariant in
     record {
       messages = before.messages;

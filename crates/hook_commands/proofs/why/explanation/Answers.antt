@@ -1,11 +1,5 @@
-use Rattle.std.proofs.Common.{refl}
-use Rattle.verifier.specs.declared.explain.Finding.TheVariants.{Accepted}
 use Rattle.hook_commands.proofs.why.explanation.Goals as goal
 
-pub returns-in_ok-acceptance_told-in-Accepted : goal.returns-in_ok-acceptance_told-in-Accepted
-returns-in_ok-acceptance_told-in-Accepted c = record {
-  found = Accepted c.in-Accepted.slots;
-  is = rw c.in-Accepted.is at c.in_ok-slots.ensures;
-  kind = refl;
-  told = rw (c.len.ensures, c.deref.ensures.value) at c.in_ok-acceptance_told-in-Accepted.ensures;
-}
+pub returns-in_ok-refusal_told-in-Refused : goal.returns-in_ok-refusal_told-in-Refused
+returns-in_ok-refusal_told-in-Refused c =
+    (c.in-Refused.refusal, rw c.in-Refused.is at c.in_ok-unreached.ensures, c.in_ok-refusal_told-in-Refused.ensures)

@@ -1,5 +1,6 @@
-use Rattle.std.proofs.Common.{rules, ◌≡◌, ℕ, List, drop, ◌∙◌, arith}
+use Rattle.std.proofs.Common.{rules, ◌≡◌, ℕ, List, drop, ap, ◌∙◌, arith}
 use Rattle.heads.specs.Scan.{IsScan}
+use Rattle.http_edge.specs.Rests.{SeenRest}
 use Rattle.http_edge.specs.Heard.{AreFirst, ServesMessages, drawn_for, first_requests, replying}
 use Rattle.http_edge.proofs.Supplying.{suffices_for}
 use Rattle.http_edge.proofs.hearing.answer_bytes.Goals as goal
@@ -22,7 +23,7 @@ returns-clause-heard g c =
         rest = drop scan.end bytes;
         reads = all.reads;
         few = omega (arith, count, few);
-        kept_is = c.in-Ok.ensures.ok;
+        kept_is = ap (λ (r : SeenRest). r.bytes) c.in-Ok.ensures.ok;
         may_tell = λ e. (all.hopeless e, all.may e);
         must_tell = all.must;
       };

@@ -1,4 +1,4 @@
-use Rattle.image_codec.proofs.Images.{one_image}
+use Rattle.image_codec.specs.SpellingLaws.{one_image}
 use Rattle.image_codec.proofs.laws.bytes_spell_one_image.Goals as goal
 
 pub returns : goal.returns

@@ -1,4 +1,4 @@
-use Rattle.image_codec.proofs.Images.{one_rules}
+use Rattle.image_codec.specs.SpellingLaws.{one_rules}
 use Rattle.image_codec.proofs.laws.bytes_tell_one_rules.Goals as goal
 
 pub returns : goal.returns

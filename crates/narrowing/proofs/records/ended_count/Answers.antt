@@ -2,7 +2,7 @@ use Rattle.std.proofs.Common.{◌∙◌, ap, List}
 use Rattle.std.specs.Prelude.{count_by}
 use Rattle.std.proofs.lemmas.List.{take_all}
 use Rattle.token_store.specs.Image.{as_kept}
-use Rattle.token_store.specs.declared.image.KeptRecord.{KeptRecord}
+use Rattle.consent.specs.declared.kept_record.KeptRecord.{KeptRecord}
 use Rattle.narrowing.specs.EndedParts.{ends_kept}
 use Rattle.narrowing.specs.KeptLaws.{ended_count-kept}
 use Rattle.narrowing.proofs.records.ended_count.Goals as goal

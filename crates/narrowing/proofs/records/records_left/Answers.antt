@@ -6,7 +6,7 @@ use Rattle.narrowing.specs.KeptLaws.{fits_history-left}
 use Rattle.token_store.specs.Fits.{FitsHistory}
 use Rattle.token_store.specs.Image.{as_kept}
 use Rattle.token_store.specs.Kept.{Kept}
-use Rattle.token_store.specs.declared.image.KeptRecord.{KeptRecord}
+use Rattle.consent.specs.declared.kept_record.KeptRecord.{KeptRecord}
 use Rattle.narrowing.proofs.records.records_left.Goals.{in-Some, in_default}
 use Rattle.narrowing.proofs.records.records_left.Goals as goal
 

@@ -1,7 +1,7 @@
 use Rattle.std.proofs.Common.{rules, ◌≡◌, Err, sym, subst}
 use Rattle.std.specs.Prelude.{IfErr}
 use Rattle.batch_file.specs.Frames.{lists}
-use Rattle.change_codec.specs.FieldLaws.{ok_is}
+use Rattle.wire.specs.Format.{ok_is}
 use Rattle.endpoints.specs.Server.{outset_of}
 use Rattle.image_codec.specs.Facts.{image_fact}
 use Rattle.state_file.specs.Resuming.{RefusesImage}

@@ -1,15 +1,16 @@
-use Rattle.std.proofs.Common.{rules, ◌≡◌, inl, inr, ℕ, [], Err, Some, map, refl, sym, subst, arith}
+use Rattle.std.proofs.Common.{rules, ◌≡◌, ◌≤◌, ◌^◌, inl, inr, ℕ, [], length, Err, Some, map, ap, refl, sym, subst, arith}
 use Rattle.std.specs.Prelude.{IfErr, unwrap_or}
 use Rattle.batch_file.specs.Frames.{recovered}
+use Rattle.change_codec.specs.Spelling.{batch_spelling}
 use Rattle.endpoints.specs.Server.{NowNotes, outset_of}
 use Rattle.image_codec.specs.Facts.{hook_fact}
-use Rattle.state_file.specs.Making.{RefusesMaking, on_bytes}
+use Rattle.state_file.specs.Making.{AreTooLong, RefusesMaking, on_bytes}
 use Rattle.state_file.specs.Resuming.{AnswersFor}
 use Rattle.state_file.specs.ResumingLaws.{right_now}
 use Rattle.state_file.specs.Standing.{IsMomentTold}
 use Rattle.state_file.specs.Telling.{rules_of}
 use Rattle.state_file.specs.declared.fault.StateFault.{StateFault}
-use Rattle.state_file.proofs.LedOn.{LeadOn, lead_tell, lead_until, makes_from, noting_fits}
+use Rattle.state_file.proofs.LedOn.{LeadOn, lead_tell, lead_until, makes_from, noting_fits, unadded}
 use Rattle.state_file.proofs.preparing.prepare.Goals as goal
 
 pub returns-in_err-set_hooks-clause-refused : goal.returns-in_err-set_hooks-clause-refused
@@ -23,6 +24,28 @@ returns-in_err-set_hooks-clause-refused g c =
     let is : c.from_residual-in_err-set_hooks.result ≡ Err c.in_err-set_hooks.field-0.0 = search rules in
     let P : StateFault → Type 0 = RefusesMaking g.H.HookHost (on_bytes bytes (outset_of registry c.args.host) (map hook_fact c.args.hooks.now)) in
     subst (λ r. IfErr r P) (sym is) (inr (inl (record restored { server = c.begin_noting.new.self }, answers, c.in_err-set_hooks.ensures.refused)))
+
+pub returns-in_err-add_noted-clause-refused : goal.returns-in_err-add_noted-clause-refused
+returns-in_err-add_noted-clause-refused g c =
+    let hosting = g.H.HookHost in
+    let restored = c.in_ok-restored.field-0.restored in
+    let registry = c.args.registry in
+    let bytes = c.args.bytes.now in
+    let on = on_bytes bytes (outset_of registry c.args.host) (map hook_fact c.args.hooks.now) in
+    let set = c.set_hooks.new.self in
+    let begins = subst (λ unkept. NowNotes restored.server c.begin_noting.new.self (Some (unwrap_or unkept []))) c.in_ok-restored.ensures.unnoted c.in_ok-begin_noting.ensures.noting in
+    let long : 2 ^ 32 ≤ length (batch_spelling (unwrap_or set.server.unkept [])) → AreTooLong hosting on =
+    λ many. record {
+      old = record restored { server = c.begin_noting.new.self };
+      answers = λ history stands right run. noting_fits hosting restored c.begin_noting.new.self (outset_of registry c.args.host) history begins (c.in_ok-restored.ensures.answers history stands right run);
+      nothing = ap (λ s. s.unkept) begins;
+      new = set;
+      set = c.in_ok-set_hooks.ensures.set;
+      long = many;
+    } in
+    let is : c.from_residual-in_err-add_noted.result ≡ Err c.in_err-add_noted.field-0.0 = search rules in
+    subst (λ r. IfErr r (RefusesMaking hosting on)) (sym is)
+    (unadded hosting on (unwrap_or set.server.unkept []) c.in_err-add_noted.field-0.0 long c.in_err-add_noted.ensures.refused)
 
 pub returns-clause-makes : goal.returns-clause-makes
 returns-clause-makes g c =

@@ -1,6 +1,6 @@
 use Rattle.std.proofs.Common.{◌≡◌, List, subst}
 use Rattle.change_codec.specs.declared.dated.DatedChange.{DatedChange}
-use Rattle.change_codec.specs.FieldLaws.{ok_is}
+use Rattle.wire.specs.Format.{ok_is}
 use Rattle.change_codec.specs.Spelling.{DatedFact, HaveSpelling, dated_facts, batch_spelling}
 use Rattle.state_file.specs.Resuming.{RedoesDated}
 use Rattle.state_file.proofs.Redone.{redoes_batch}

@@ -1,5 +1,5 @@
 use Rattle.std.proofs.Common.{◌∙◌, inl, inr, length, Err, sym, ap, arith}
-use Rattle.change_codec.specs.declared.fault.EncodeFault.{EncodeFault}
+use Rattle.wire.specs.declared.fault.EncodeFault.{EncodeFault}
 use Rattle.image_codec.specs.Facts.{image_fact}
 use Rattle.image_codec.specs.Spelling.{rules_spelling}
 use Rattle.state_file.proofs.renewing.spelled_image.Goals as goal

@@ -1,7 +1,7 @@
 use Rattle.std.proofs.Common.{◌↔◌, subst}
 use Rattle.std.specs.Prelude.{IsTrue}
 use Rattle.batch_file.specs.Frames.{lists}
-use Rattle.image_codec.specs.Facts.{RulesFact}
+use Rattle.change_codec.specs.Rules.{RulesFact}
 use Rattle.state_file.specs.Comparing.{TakesRules}
 use Rattle.state_file.specs.Telling.{Tell}
 use Rattle.state_file.proofs.telling.rules_behind.Goals as goal

@@ -1,7 +1,13 @@
-use Rattle.std.proofs.Common.{◌∙◌, sym}
+use Rattle.std.proofs.Common.{◌∙◌, sym, subst}
+use Rattle.change_codec.specs.Rules.{RulesFact}
 use Rattle.image_codec.specs.Facts.{rules_fact}
+use Rattle.state_file.specs.Comparing.{AreAsWide}
 use Rattle.state_file.proofs.Tells.{told_spelled}
 use Rattle.state_file.proofs.telling.tells_as.Goals as goal
+
+pub returns-clause-wide : goal.returns-clause-wide
+returns-clause-wide c = λ others tells.
+    subst (λ (r : RulesFact). AreAsWide r (rules_fact c.args.now.now)) (sym (c.in_ok-told.ensures.one others tells)) c.in_ok-compare.ensures.wide
 
 pub returns-clause-told : goal.returns-clause-told
 returns-clause-told c =

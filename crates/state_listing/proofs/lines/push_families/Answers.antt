@@ -4,7 +4,8 @@ use Rattle.std.proofs.lemmas.List.{map_push, take_more}
 use Rattle.std.specs.BTreeSet.{contains}
 use Rattle.std.specs.List.{flat_map}
 use Rattle.std.specs.Ordering.{nat_cmp}
-use Rattle.image_codec.specs.Facts.{RecordFact, record_fact, rules_fact}
+use Rattle.consent.specs.RecordFacts.{RecordFact, record_fact}
+use Rattle.image_codec.specs.Facts.{rules_fact}
 use Rattle.state_listing.specs.Lines.{family_line, firsts}
 use Rattle.state_listing.proofs.Families.{families, is_seen, seen_more, told_again, told_first}
 use Rattle.state_listing.proofs.lines.push_families.Goals.{then-branch+in_ok-push_family, else-branch}

@@ -2,7 +2,8 @@ use Rattle.std.proofs.Common.{◌≡◌, ◌++◌, ℕ, [], map, take}
 use Rattle.std.specs.List.{flat_map}
 use Rattle.std.specs.BTreeSet.{contains}
 use Rattle.std.specs.Ordering.{nat_cmp}
-use Rattle.image_codec.specs.Facts.{record_fact, rules_fact}
+use Rattle.consent.specs.RecordFacts.{record_fact}
+use Rattle.image_codec.specs.Facts.{rules_fact}
 use Rattle.state_listing.specs.Lines.{family_line, firsts}
 use Rattle.state_listing.proofs.Families.{families, is_seen}
 use Rattle.state_listing.proofs.lines.push_families.Given as goal

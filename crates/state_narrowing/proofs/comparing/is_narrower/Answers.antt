@@ -1,10 +1,31 @@
-use Rattle.std.proofs.Common.{◌≡◌, ◌↔◌, Some, sym, subst}
+use Rattle.std.proofs.Common.{◌≡◌, ◌↔◌, ℕ, List, Bool, Result, Ok, Err, Some, sym, subst, ◌∙◌}
 use Rattle.std.specs.Prelude.{IfOk, IsTrue}
+use Rattle.change_codec.specs.Rules.{RulesFact}
+use Rattle.image_codec.specs.Facts.{rules_fact}
+use Rattle.state_file.specs.declared.fault.StateFault.{StateFault}
 use Rattle.batch_file.specs.Frames.{lists}
-use Rattle.state_file.specs.Telling.{last_rules, rules_of}
-use Rattle.state_narrowing.specs.Narrowing.{AreNarrower}
+use Rattle.state_file.specs.Telling.{TellsIn, last_rules, rules_of}
+use Rattle.state_narrowing.specs.Narrowing.{AreLess, AreNarrower}
 use Rattle.state_narrowing.proofs.Less.{unread}
 use Rattle.state_narrowing.proofs.comparing.is_narrower.Goals as goal
+
+-- the batch tells the rules and no others
+beside : (batches : List (List ℕ)) (batch : List ℕ) (told now : RulesFact) (r : Result Bool StateFault) → last_rules batches ≡ Some batch → TellsIn batch told →
+    ((others : RulesFact) → TellsIn batch others → others ≡ told) → IfOk r (λ less. IsTrue less ↔ AreLess told now) → IfOk r (λ narrower. IsTrue narrower ↔ AreNarrower batches now)
+beside batches batch told now (Err fault) at tells one exact = tt
+beside batches batch told now (Ok less) at tells one exact = (
+  λ yes. record { told = told; tells = (batch, at, tells); less = exact.0 yes },
+  λ narrower.
+    let same : Some narrower.tells.0 ≡ Some batch = sym narrower.tells.1 ∙ at in
+    let here : narrower.tells.0 ≡ batch = cc in
+    exact.1 (subst (λ (r : RulesFact). AreLess r now) (one narrower.told (subst (λ (b : List ℕ). TellsIn b narrower.told) here narrower.tells.2)) narrower.less),
+)
+
+pub returns-clause-exact : goal.returns-clause-exact
+returns-clause-exact c =
+    subst (λ (now : RulesFact). IfOk c.are_less.result (λ narrower. IsTrue narrower ↔ AreNarrower (lists c.args.batches.now) now)) c.in_ok-now.ensures.rules
+    (beside (lists c.args.batches.now) c.in-Some.batch.now (rules_fact c.in-Ok.told) (rules_fact c.in_ok-now.now) c.are_less.result
+    (sym c.in-Some.ensures) c.in-Ok.ensures.told c.in-Ok.ensures.one c.are_less.ensures.exact)
 
 pub returns-in-Err-clause-exact : goal.returns-in-Err-clause-exact
 returns-in-Err-clause-exact c =

@@ -2,7 +2,7 @@ use Rattle.std.proofs.Common.{rules, inr, ◌≡◌, ◌⊎◌, List, Err, refl,
 use Rattle.image_codec.specs.Facts.{ImageFact, image_fact}
 use Rattle.token_store.specs.Fits.{FitsHistory}
 use Rattle.token_store.specs.Image.{as_kept}
-use Rattle.token_store.specs.declared.image.KeptRecord.{KeptRecord}
+use Rattle.consent.specs.declared.kept_record.KeptRecord.{KeptRecord}
 use Rattle.state_file.specs.FaultTexts.{of_encoding}
 use Rattle.state_narrowing.specs.Narrowing.{IsUnreadable, RefusesNarrowing}
 use Rattle.state_narrowing.proofs.OfLeft.{counted_image, of_encoding_refuses, right_image}

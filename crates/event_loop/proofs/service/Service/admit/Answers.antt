@@ -4,12 +4,12 @@ use Rattle.http_edge.specs.Reached.{led_on}
 use Rattle.std.specs.Prelude.{slice_set}
 use Rattle.event_loop.specs.declared.service.Service.{Service}
 use Rattle.event_loop.specs.declared.sockets.Accepted.TheVariants as accepted
-use Rattle.event_loop.specs.Deeds as deed
+use Rattle.event_loop.specs.Calls as call
 use Rattle.event_loop.specs.Places.{IsPlaceAtRest}
 use Rattle.event_loop.specs.Coming.{opens, denies, finds_nobody, fails, fresh_place}
 use Rattle.event_loop.specs.Served.{goes, comes}
 use Rattle.event_loop.specs.Goes.{Past, noted_in}
-use Rattle.event_loop.specs.Scenes.{promises}
+use Rattle.event_loop.specs.LoopStates.{promises}
 use Rattle.endpoints.specs.Keeping.{keeping}
 use Rattle.event_loop.proofs.Doing.{one_more, done_then}
 use Rattle.event_loop.specs.declared.queue.Queue.TheVariants.{Told, Barred, Waits}
@@ -28,16 +28,16 @@ returns-in-Ok-clause-leads g c = λ found first past h settled.
     let on = rw c.new.ensures at (c.in-Ok.ensures.done past.journey reached) in
     let here : connection_at on.world.connections k ≡ Some (fresh k) = opened_here past.journey.world on.world k on.happens in
     let rests : IsPlaceAtRest place (connection_at on.world.connections k) = subst (λ o. IsPlaceAtRest place o) (sym here) (fresh_rests c.args.self.now.times.steady (fresh k) refl refl) in
-    let next : Past g.row.H.Denot = record { deeds = deed.Tried k accepted.Taken ∷ past.deeds; journey = led_on past.journey (Opened k ∷ []) on.world } in
+    let next : Past g.row.H.Denot = record { calls = call.Tried k accepted.Taken ∷ past.calls; journey = led_on past.journey (Opened k ∷ []) on.world } in
     let service : Service = record c.args.self.now { places = slice_set c.args.self.now.places k place; accepted = c.saturating_add-self.result } in
     record {
       goes = record {
         next = next;
-        served = goes h (comes _ c.requires.told (opens k c.accept.new.self c.event.new.self on c.requires.bound c.requires.free c.in-Taken.ensures));
+        served = rw c.saturating_add-self.ensures (goes h (comes _ c.requires.told (opens k c.accept.new.self c.event.new.self on c.requires.bound c.requires.free c.in-Taken.ensures)));
         settled =
             all_settled k c.args.self.now past service next (put_others k c.args.self.now service place past.journey.world on.world refl (λ j other. refl) (λ j other. opens_other past.journey.world on.world k j on.happens other))
-            (one_more _ _ refl refl (λ task t. inr t)) settled (put_settled k c.args.self.now service place next refl rests (λ e. omega arith));
-        done = one_more _ _ refl refl (λ task t. inr t);
+            (one_more _ _ refl refl (λ kind t. inr t)) settled (put_settled k c.args.self.now service place next refl rests (λ e. omega arith));
+        done = one_more _ _ refl refl (λ kind t. inr t);
       };
       tried = λ _. inl refl;
     }
@@ -50,26 +50,26 @@ returns-in-Err-clause-leads g c = λ found first past h settled.
     rw c.in-Err.ensures.err
     (record {
       goes = record {
-        next = record past { deeds = deed.Closed k ∷ deed.Tried k accepted.Taken ∷ past.deeds };
+        next = record past { calls = call.Closed k ∷ call.Tried k accepted.Taken ∷ past.calls };
         served =
             goes h
             (comes _ c.requires.told
             (denies k c.accept.new.self c.close.new.self c.in-Err.fault (noted_in c.note.new.journal c.note.new.noted) c.requires.bound c.requires.free c.in-Taken.ensures refused c.close.ensures c.note.ensures));
-        settled = settled_then c.args.self.now past _ _ refl refl refl (done_then _ (deed.Tried k accepted.Taken ∷ past.deeds) _ (one_more _ _ refl refl (λ task t. inr t)) (one_more _ _ refl refl (λ task t. inr t))) settled;
-        done = done_then _ (deed.Tried k accepted.Taken ∷ past.deeds) _ (one_more _ _ refl refl (λ task t. inr t)) (one_more _ _ refl refl (λ task t. inr t));
+        settled = settled_then c.args.self.now past _ _ refl refl refl (done_then _ (call.Tried k accepted.Taken ∷ past.calls) _ (one_more _ _ refl refl (λ kind t. inr t)) (one_more _ _ refl refl (λ kind t. inr t))) settled;
+        done = done_then _ (call.Tried k accepted.Taken ∷ past.calls) _ (one_more _ _ refl refl (λ kind t. inr t)) (one_more _ _ refl refl (λ kind t. inr t));
       };
       tried = λ _. inr (inl refl);
     })
 
 pub returns-in-Later-clause-leads : goal.returns-in-Later-clause-leads
 returns-in-Later-clause-leads g c = λ found first past h settled. record {
-  goes = record { next = record past { deeds = deed.Tried c.args.k accepted.Later ∷ past.deeds }; served = goes h (comes _ c.requires.told (finds_nobody c.args.k c.accept.new.self c.in-Later.ensures)); settled = settled_then c.args.self.now past _ _ refl refl refl (one_more _ _ refl refl (λ task t. inr t)) settled; done = one_more _ _ refl refl (λ task t. inr t) };
+  goes = record { next = record past { calls = call.Tried c.args.k accepted.Later ∷ past.calls }; served = goes h (comes _ c.requires.told (finds_nobody c.args.k c.accept.new.self c.in-Later.ensures)); settled = settled_then c.args.self.now past _ _ refl refl refl (one_more _ _ refl refl (λ kind t. inr t)) settled; done = one_more _ _ refl refl (λ kind t. inr t) };
   tried = λ _. inl refl;
 }
 
 pub returns-in-Failed-clause-leads : goal.returns-in-Failed-clause-leads
 returns-in-Failed-clause-leads g c = λ found first past h settled. record {
-  goes = record { next = record past { deeds = deed.Tried c.args.k accepted.Failed ∷ past.deeds }; served = goes h (comes _ c.requires.told (fails c.args.k c.accept.new.self (noted_in c.note-in-Failed.new.journal c.note-in-Failed.new.noted) c.in-Failed.ensures c.note-in-Failed.ensures)); settled = settled_then c.args.self.now past _ _ refl refl refl (one_more _ _ refl refl (λ task t. inr t)) settled; done = one_more _ _ refl refl (λ task t. inr t) };
+  goes = record { next = record past { calls = call.Tried c.args.k accepted.Failed ∷ past.calls }; served = goes h (comes _ c.requires.told (fails c.args.k c.accept.new.self (noted_in c.note-in-Failed.new.journal c.note-in-Failed.new.noted) c.in-Failed.ensures c.note-in-Failed.ensures)); settled = settled_then c.args.self.now past _ _ refl refl refl (one_more _ _ refl refl (λ kind t. inr t)) settled; done = one_more _ _ refl refl (λ kind t. inr t) };
   tried = λ _. inl refl;
 }
 

@@ -1,6 +1,6 @@
 use Rattle.std.proofs.Common.{◌∷◌, []}
 use Rattle.http_edge.specs.Schedule.{Forgotten}
-use Rattle.event_loop.specs.Deeds as deed
+use Rattle.event_loop.specs.Calls as call
 use Rattle.http_edge.specs.Reached.{led_on}
 use Rattle.event_loop.specs.Goes.{noted_in}
 use Rattle.event_loop.specs.Closing.{leaves}
@@ -11,6 +11,6 @@ returns-clause-away g c = λ found past reached.
     let on = rw c.new.ensures at (c.forget.ensures.forgotten past.journey reached) in
     rw c.freed-self.ensures
     (record {
-      next = record { deeds = deed.Closed c.args.k ∷ past.deeds; journey = led_on past.journey (Forgotten c.args.k ∷ []) on.world };
+      next = record { calls = call.Closed c.args.k ∷ past.calls; journey = led_on past.journey (Forgotten c.args.k ∷ []) on.world };
       closes = leaves c.close.new.self c.forget.new.self on (noted_in c.note_end.new.journal c.note_end.new.noted) c.close.ensures c.note_end.ensures;
     })

@@ -7,7 +7,7 @@ use Rattle.event_loop.specs.Places.{IsOccupied}
 use Rattle.event_loop.proofs.Putting.{same_some, set_same, set_other}
 use Rattle.event_loop.specs.declared.service.Service.{Service}
 use Rattle.event_loop.specs.Closing.{is_silent}
-use Rattle.event_loop.specs.Scenes.{promises}
+use Rattle.event_loop.specs.LoopStates.{promises}
 use Rattle.endpoints.specs.Keeping.{keeping}
 use Rattle.event_loop.proofs.Leading.{nowhere}
 use Rattle.event_loop.proofs.Leaving.{leaves_to}

@@ -6,7 +6,7 @@ use Rattle.std.specs.Prelude.{slice_set}
 use Rattle.event_loop.specs.declared.place.Stage.TheVariants.{Free}
 use Rattle.event_loop.specs.declared.queue.Queue.TheVariants.{Told, Waits}
 use Rattle.event_loop.specs.Closing.{AreWithin, IsSilentLongest, gives_way, freed_queue}
-use Rattle.event_loop.specs.Scenes.{promises}
+use Rattle.event_loop.specs.LoopStates.{promises}
 use Rattle.endpoints.specs.Keeping.{keeping}
 use Rattle.event_loop.proofs.Leaving.{leaves_to}
 use Rattle.event_loop.proofs.Putting.{same_some, put_within}

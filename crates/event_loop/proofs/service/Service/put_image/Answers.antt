@@ -5,8 +5,8 @@ use Rattle.endpoints.specs.Server.{SeenServer, FitsServer}
 use Rattle.event_loop.specs.declared.service.Service.{Service}
 use Rattle.event_loop.specs.Ends.{not_imaged}
 use Rattle.event_loop.specs.Reporting.{is_long_ago}
-use Rattle.event_loop.specs.Goes.{running, scene_of}
-use Rattle.event_loop.specs.Scenes.{promises, IsAllKept}
+use Rattle.event_loop.specs.Goes.{running, state_of}
+use Rattle.event_loop.specs.LoopStates.{promises, IsAllKept}
 use Rattle.event_loop.specs.Served.{Served, goes, no_image, puts_image}
 use Rattle.endpoints.specs.Keeping.{keeping}
 use Rattle.event_loop.proofs.Answering.{served_answered}
@@ -30,7 +30,7 @@ returns-in_default-clause-put g c = λ first found past h.
     let all : IsAllKept past.journey.world = c.is_all_kept.ensures.kept kept past.journey reached in
     let fits : FitsServer g.H.HookHost c.server.result.now past.journey.outset past.journey.world.history past.journey.world.greatest =
     subst (λ (s : SeenServer g.row.H.Denot). FitsServer g.H.HookHost s past.journey.outset past.journey.world.history past.journey.world.greatest) (sym c.server.ensures) reached.server in
-    (goes h (puts_image c.put_image.new.self all (c.in_default.ensures.kept past.journey.outset past.journey.world.history past.journey.world.greatest fits) c.in_default.ensures.moments c.in_default.ensures.short), λ still long. absurd (c.in_default.ensures.short long))
+    (goes h (puts_image c.put_image.new.self all (c.in_default.ensures.kept past.journey.outset past.journey.world.history past.journey.world.greatest fits) c.in_default.ensures.basis c.in_default.ensures.short), λ still long. absurd (c.in_default.ensures.short long))
 
 pub returns-in-Failed-clause-failed : goal.returns-in-Failed-clause-failed
 returns-in-Failed-clause-failed g c = λ first found past h.
@@ -50,7 +50,7 @@ returns-in_default-fault-clause-put g c = λ first found past h.
     let ago : is_long_ago c.args.self.now.refused c.args.self.now.times.steady 60 ≡ true = sym c.is_long_ago.ensures ∙ c.if-not-is_long_ago.false in
     let long = c.in-Err.ensures.refused c.in_default-fault.not-Failed in
     let same = c.in-Err.ensures.same c.in_default-fault.not-Failed in
-    let S : Service → g.row.K.Denot → Type 0 = λ service keeper. Served p first (scene_of (running service (record c.args.tools.now { journal = c.note_refusal.new.journal; keeper = keeper })) found past) in
+    let S : Service → g.row.K.Denot → Type 0 = λ service keeper. Served p first (state_of (running service (record c.args.tools.now { journal = c.note_refusal.new.journal; keeper = keeper })) found past) in
     let gone : S (record c.args.self.now { refused = Some c.args.self.now.times.steady }) c.args.tools.now.keeper = goes h (no_image c.note_refusal.new.journal all long ago c.note_refusal.ensures.told) in (
       subst (λ service. S service c.put_image.new.self) (sym c.note_refusal.ensures.refused) (subst (S (record c.args.self.now { refused = Some c.args.self.now.times.steady })) (sym same) gone),
       λ still long. subst (λ (service : Service). is_long_ago service.refused service.times.steady 60 ≡ false) (sym c.note_refusal.ensures.refused) (just_now c.args.self.now.times.steady),

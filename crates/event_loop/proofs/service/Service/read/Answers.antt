@@ -1,7 +1,7 @@
 use Rattle.std.proofs.Common.{refl, sym, subst, ◌∙◌, inl}
 use Rattle.http_edge.specs.Schedule.{connection_at}
 use Rattle.event_loop.specs.Places.{NeedsNoRead}
-use Rattle.event_loop.specs.Scenes.{promises}
+use Rattle.event_loop.specs.LoopStates.{promises}
 use Rattle.endpoints.specs.Keeping.{keeping}
 use Rattle.event_loop.proofs.Answering.{served_answered}
 use Rattle.event_loop.proofs.Doing.{none_more}
@@ -11,7 +11,7 @@ use Rattle.event_loop.proofs.service.Service.read.Goals as goal
 
 pub returns-else-may_read-clause-acts : goal.returns-else-may_read-clause-acts
 returns-else-may_read-clause-acts g c = λ first found past undone ready h. record {
-  goes = record { next = past; served = h; done = none_more past.deeds; others = no_others c.args.k c.args.self.now past.journey.world; alone = λ other differs not. not; ready = λ was. was };
+  goes = record { next = past; served = h; done = none_more past.calls; others = no_others c.args.k c.args.self.now past.journey.world; alone = λ other differs not. not; ready = λ was. was };
   due = refl;
   acts = inl (record {
     service_is = refl;

@@ -2,7 +2,7 @@ use Rattle.std.proofs.Common.{arith, ◌≡◌, inl, inr, refl, Some, ap, subst,
 use Rattle.std.proofs.lemmas.Bool.{cases_lt}
 use Rattle.std.specs.Prelude.{slice_get}
 use Rattle.event_loop.specs.Goes.{IsHeardAt}
-use Rattle.event_loop.specs.Scenes.{promises}
+use Rattle.event_loop.specs.LoopStates.{promises}
 use Rattle.endpoints.specs.Keeping.{keeping}
 use Rattle.event_loop.proofs.Doing.{none_more, done_then}
 use Rattle.event_loop.proofs.Leading.{one_below, heard_next, acts_heard, rested_next, rested_heard, reading_other}
@@ -12,7 +12,7 @@ pub loop-k-init : goal.loop-k-init
 loop-k-init g c = record {
   due = refl;
   reads = λ first found past undone rested h.
-      record { next = past; served = h; rested = rested; heard = λ j less. absurd (omega (arith, less)); unread = λ j from. undone _; unwritten = λ j. undone _; not_kept = undone _; done = none_more past.deeds };
+      record { next = past; served = h; rested = rested; heard = λ j less. absurd (omega (arith, less)); unread = λ j from. undone _; unwritten = λ j. undone _; not_kept = undone _; done = none_more past.calls };
   within = λ all. all;
 }
 

@@ -1,6 +1,6 @@
 use Rattle.std.proofs.Common.{◌≡◌}
 use Rattle.event_loop.specs.Goes.{NobodyIsSilent, LeadsReading, running}
-use Rattle.event_loop.specs.Scenes.{promises}
+use Rattle.event_loop.specs.LoopStates.{promises}
 use Rattle.endpoints.specs.Keeping.{keeping}
 use Rattle.event_loop.proofs.service.Service.read_all.Given as goal
 

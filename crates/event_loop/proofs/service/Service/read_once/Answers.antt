@@ -3,12 +3,12 @@ use Rattle.http_edge.specs.Schedule.{HasEnded, piece_of}
 use Rattle.http_edge.specs.Reached.{led_on}
 use Rattle.event_loop.specs.declared.fault.ConnectionFault.TheVariants.{Read, Refused}
 use Rattle.event_loop.specs.declared.place.Stage.TheVariants.{Ended, Broken}
-use Rattle.event_loop.specs.Deeds as deed
-use Rattle.event_loop.specs.Deeds.{Reading}
+use Rattle.event_loop.specs.Calls as call
+use Rattle.event_loop.specs.Calls.{Reading}
 use Rattle.event_loop.specs.Places.{read_limit}
 use Rattle.event_loop.specs.Reading.{hears, refuses, ends, ends_nothing, finds_nothing, fails, read_place}
 use Rattle.event_loop.specs.Served.{goes, reads}
-use Rattle.event_loop.specs.Scenes.{promises}
+use Rattle.event_loop.specs.LoopStates.{promises}
 use Rattle.endpoints.specs.Keeping.{keeping}
 use Rattle.event_loop.proofs.Others.{ends_other}
 use Rattle.event_loop.proofs.Telling.{gives_other}
@@ -28,16 +28,16 @@ returns-in-Ok-clause-acts g c = λ first found past undone ready h.
     let given = rw c.new-connection.ensures at (c.in-Ok.ensures.heard past.journey reached) in
     record {
       goes = record {
-        next = record { deeds = deed.Read c.args.k read_limit (deed.Bytes bytes) ∷ past.deeds; journey = given.journey };
+        next = record { calls = call.Read c.args.k read_limit (call.Bytes bytes) ∷ past.calls; journey = given.journey };
         served =
             goes h
             (reads c.args.k c.args.place _ c.requires.here c.requires.readable undone (c.requires.may past.journey reached)
-            (hears bytes c.read.new.self _ c.read-in-Ok.result (subst (λ n. 0 < n) (sym size) c.in-Bytes.ensures.within.0) (omega (arith, size, c.in-Bytes.ensures.within)) (subst (λ n. g.N.Sockets.does c.args.tools.now.sockets (deed.Read c.args.k n (deed.Bytes bytes)) c.read.new.self) room c.in-Bytes.ensures.done) given.heard (c.read-in-Ok.ensures ∙ ap (read_place c.args.place) (sym size))));
+            (hears bytes c.read.new.self _ c.read-in-Ok.result (subst (λ n. 0 < n) (sym size) c.in-Bytes.ensures.within.0) (omega (arith, size, c.in-Bytes.ensures.within)) (subst (λ n. g.N.Sockets.does c.args.tools.now.sockets (call.Read c.args.k n (call.Bytes bytes)) c.read.new.self) room c.in-Bytes.ensures.done) given.heard (c.read-in-Ok.ensures ∙ ap (read_place c.args.place) (sym size))));
         others =
             put_others c.args.k c.args.self.now _ c.read-in-Ok.result past.journey.world given.journey.world refl (λ j other. refl)
             (λ j other. gives_other g.H.HookHost (piece_of c.args.k bytes c.args.self.now.times.moment) j _ given.heard.given _ given.heard.gives other);
-        done = one_more _ _ refl refl (λ task t. inr t);
-        alone = λ other differs not. not_another (Reading c.args.k) other past.deeds differs not;
+        done = one_more _ _ refl refl (λ kind t. inr t);
+        alone = λ other differs not. not_another (Reading c.args.k) other past.calls differs not;
         ready = λ was. tt;
       };
       due = refl;
@@ -54,16 +54,16 @@ returns-in-Err-clause-acts g c = λ first found past undone ready h.
     let some = rw c.new-connection.ensures at (c.in-Err.ensures.unheard past.journey reached) in
     record {
       goes = record {
-        next = record { deeds = deed.Read c.args.k read_limit (deed.Bytes bytes) ∷ past.deeds; journey = some.journey };
+        next = record { calls = call.Read c.args.k read_limit (call.Bytes bytes) ∷ past.calls; journey = some.journey };
         served =
             goes h
             (reads c.args.k c.args.place _ c.requires.here c.requires.readable undone (c.requires.may past.journey reached)
-            (refuses bytes c.read.new.self c.in-Err.fault _ (subst (λ n. 0 < n) (sym size) c.in-Bytes.ensures.within.0) (omega (arith, size, c.in-Bytes.ensures.within)) (subst (λ n. g.N.Sockets.does c.args.tools.now.sockets (deed.Read c.args.k n (deed.Bytes bytes)) c.read.new.self) room c.in-Bytes.ensures.done) some.unheard));
+            (refuses bytes c.read.new.self c.in-Err.fault _ (subst (λ n. 0 < n) (sym size) c.in-Bytes.ensures.within.0) (omega (arith, size, c.in-Bytes.ensures.within)) (subst (λ n. g.N.Sockets.does c.args.tools.now.sockets (call.Read c.args.k n (call.Bytes bytes)) c.read.new.self) room c.in-Bytes.ensures.done) some.unheard));
         others =
             put_others c.args.k c.args.self.now _ (record c.args.place { stage = Broken (Refused c.in-Err.fault) }) past.journey.world some.journey.world refl (λ j other. refl)
             (λ j other. gives_other g.H.HookHost (piece_of c.args.k bytes c.args.self.now.times.moment) j _ some.unheard.given _ some.unheard.gives other);
-        done = one_more _ _ refl refl (λ task t. inr t);
-        alone = λ other differs not. not_another (Reading c.args.k) other past.deeds differs not;
+        done = one_more _ _ refl refl (λ kind t. inr t);
+        alone = λ other differs not. not_another (Reading c.args.k) other past.calls differs not;
         ready = λ was. tt;
       };
       due = refl;
@@ -77,16 +77,16 @@ returns-in-Ok-event-clause-acts g c = λ first found past undone ready h.
     let on = rw c.new-connection.ensures at (c.in-Ok-event.ensures.done past.journey reached) in
     record {
       goes = record {
-        next = record { deeds = deed.Read c.args.k read_limit deed.End ∷ past.deeds; journey = led_on past.journey (HasEnded c.args.k ∷ []) on.world };
+        next = record { calls = call.Read c.args.k read_limit call.End ∷ past.calls; journey = led_on past.journey (HasEnded c.args.k ∷ []) on.world };
         served =
             goes h
             (reads c.args.k c.args.place _ c.requires.here c.requires.readable undone (c.requires.may past.journey reached)
-            (ends c.read.new.self c.event.new.self on (subst (λ n. g.N.Sockets.does c.args.tools.now.sockets (deed.Read c.args.k n deed.End) c.read.new.self) room c.in-End.ensures.done)));
+            (ends c.read.new.self c.event.new.self on (subst (λ n. g.N.Sockets.does c.args.tools.now.sockets (call.Read c.args.k n call.End) c.read.new.self) room c.in-End.ensures.done)));
         others =
             put_others c.args.k c.args.self.now _ (record c.args.place { stage = Ended }) past.journey.world on.world refl (λ j other. refl)
             (λ j other. ends_other past.journey.world on.world c.args.k j on.happens other);
-        done = one_more _ _ refl refl (λ task t. inr t);
-        alone = λ other differs not. not_another (Reading c.args.k) other past.deeds differs not;
+        done = one_more _ _ refl refl (λ kind t. inr t);
+        alone = λ other differs not. not_another (Reading c.args.k) other past.calls differs not;
         ready = λ was. tt;
       };
       due = refl;
@@ -99,14 +99,14 @@ returns-in-Later-clause-acts g c = λ first found past undone ready h.
     let reached = (served_answered (promises g.N.Sockets g.C.Clocks g.J.Journal (keeping g.K.Keeper g.K.ImageKeeper) g.H.HookHost) first _ h).reached in
     record {
       goes = record {
-        next = record past { deeds = deed.Read c.args.k read_limit deed.Nothing ∷ past.deeds };
+        next = record past { calls = call.Read c.args.k read_limit call.Nothing ∷ past.calls };
         served =
             goes h
             (reads c.args.k c.args.place _ c.requires.here c.requires.readable undone (c.requires.may past.journey reached)
-            (finds_nothing c.read.new.self (subst (λ n. g.N.Sockets.does c.args.tools.now.sockets (deed.Read c.args.k n deed.Nothing) c.read.new.self) room c.in-Later.ensures.done)));
+            (finds_nothing c.read.new.self (subst (λ n. g.N.Sockets.does c.args.tools.now.sockets (call.Read c.args.k n call.Nothing) c.read.new.self) room c.in-Later.ensures.done)));
         others = put_others c.args.k c.args.self.now _ (record c.args.place { readable = false }) past.journey.world past.journey.world refl (λ j other. refl) (λ j other. refl);
-        done = one_more _ _ refl refl (λ task t. inr t);
-        alone = λ other differs not. not_another (Reading c.args.k) other past.deeds differs not;
+        done = one_more _ _ refl refl (λ kind t. inr t);
+        alone = λ other differs not. not_another (Reading c.args.k) other past.calls differs not;
         ready = λ was. tt;
       };
       due = refl;
@@ -119,14 +119,14 @@ returns-in-Failed-clause-acts g c = λ first found past undone ready h.
     let reached = (served_answered (promises g.N.Sockets g.C.Clocks g.J.Journal (keeping g.K.Keeper g.K.ImageKeeper) g.H.HookHost) first _ h).reached in
     record {
       goes = record {
-        next = record past { deeds = deed.Read c.args.k read_limit deed.Failed ∷ past.deeds };
+        next = record past { calls = call.Read c.args.k read_limit call.Failed ∷ past.calls };
         served =
             goes h
             (reads c.args.k c.args.place _ c.requires.here c.requires.readable undone (c.requires.may past.journey reached)
-            (fails c.read.new.self (subst (λ n. g.N.Sockets.does c.args.tools.now.sockets (deed.Read c.args.k n deed.Failed) c.read.new.self) room c.in-Failed.ensures.done)));
+            (fails c.read.new.self (subst (λ n. g.N.Sockets.does c.args.tools.now.sockets (call.Read c.args.k n call.Failed) c.read.new.self) room c.in-Failed.ensures.done)));
         others = put_others c.args.k c.args.self.now _ (record c.args.place { stage = Broken Read }) past.journey.world past.journey.world refl (λ j other. refl) (λ j other. refl);
-        done = one_more _ _ refl refl (λ task t. inr t);
-        alone = λ other differs not. not_another (Reading c.args.k) other past.deeds differs not;
+        done = one_more _ _ refl refl (λ kind t. inr t);
+        alone = λ other differs not. not_another (Reading c.args.k) other past.calls differs not;
         ready = λ was. tt;
       };
       due = refl;
@@ -142,14 +142,14 @@ returns-in-Err-event-clause-acts g c = λ first found past undone ready h.
     rw c.in-Err-event.ensures.err
     (record {
       goes = record {
-        next = record past { deeds = deed.Read c.args.k read_limit deed.End ∷ past.deeds };
+        next = record past { calls = call.Read c.args.k read_limit call.End ∷ past.calls };
         served =
             goes h
             (reads c.args.k c.args.place _ c.requires.here c.requires.readable undone (c.requires.may past.journey reached)
-            (ends_nothing c.read.new.self fault (subst (λ n. g.N.Sockets.does c.args.tools.now.sockets (deed.Read c.args.k n deed.End) c.read.new.self) room c.in-End.ensures.done) refused));
+            (ends_nothing c.read.new.self fault (subst (λ n. g.N.Sockets.does c.args.tools.now.sockets (call.Read c.args.k n call.End) c.read.new.self) room c.in-End.ensures.done) refused));
         others = put_others c.args.k c.args.self.now _ (record c.args.place { stage = Broken (Refused fault) }) past.journey.world past.journey.world refl (λ j other. refl) (λ j other. refl);
-        done = one_more _ _ refl refl (λ task t. inr t);
-        alone = λ other differs not. not_another (Reading c.args.k) other past.deeds differs not;
+        done = one_more _ _ refl refl (λ kind t. inr t);
+        alone = λ other differs not. not_another (Reading c.args.k) other past.calls differs not;
         ready = λ was. tt;
       };
       due = refl;

@@ -2,12 +2,12 @@ use Rattle.std.proofs.Common.{rules, add-one, ap, ◌≤◌, ◌∷◌, take, ar
 use Rattle.event_loop.specs.declared.limits.Limits.{Limits}
 use Rattle.event_loop.specs.declared.service.Service.{Service}
 use Rattle.event_loop.specs.Closing.{AreWithin}
-use Rattle.event_loop.specs.Deeds as deed
-use Rattle.event_loop.specs.Deeds.{Accepting, IsDone}
+use Rattle.event_loop.specs.Calls as call
+use Rattle.event_loop.specs.Calls.{Accepting, IsDone}
 use Rattle.event_loop.specs.Served.{goes, waits}
 use Rattle.event_loop.specs.Ends.{no_wait, no_time, no_moment}
-use Rattle.event_loop.specs.Goes.{Past, running, scene_of}
-use Rattle.event_loop.specs.Scenes.{promises}
+use Rattle.event_loop.specs.Goes.{Past, running, state_of}
+use Rattle.event_loop.specs.LoopStates.{promises}
 use Rattle.endpoints.specs.Keeping.{keeping}
 use Rattle.event_loop.proofs.Leading.{to_then, kept_then}
 use Rattle.event_loop.proofs.Leaving.{may_wait, quick_told, ready_still, told_or_not}
@@ -23,10 +23,10 @@ returns-in_default-wait-clause-wrong g c = λ first past begun was_ready.
     let size : length c.put_image.new.self.places ≡ 64 = ap (λ (s : Service). length s.places) c.in_default.ensures.same ∙ before in
     let room : 65 ≤ length c.wait.new.found = search (rules, arith, c.requires.room) in
     record {
-      last = scene_of (running c.put_image.new.self c.put_image.new.tools) [] past;
+      last = state_of (running c.put_image.new.self c.put_image.new.tools) [] past;
       served = h;
       found = [];
-      next = record past { deeds = deed.WaitFailed c.wait_limit-limit.result (length c.wait.new.found) ∷ past.deeds };
+      next = record past { calls = call.WaitFailed c.wait_limit-limit.result (length c.wait.new.found) ∷ past.calls };
       fails = no_wait c.wait_limit-limit.result (length c.wait.new.found) c.wait.new.self (may_wait (promises g.N.Sockets g.C.Clocks g.J.Journal (keeping g.K.Keeper g.K.ImageKeeper) g.H.HookHost) c.put_image.new.self c.put_image.new.tools past _ _ size ready c.wait_limit-limit.ensures room put.1) c.in_default-wait.ensures.done;
     }
 
@@ -41,10 +41,10 @@ returns-in_default-read-clause-wrong g c = λ first past begun was_ready.
     let room : 65 ≤ length c.wait.new.found = search (rules, arith, c.requires.room) in
     let may = may_wait (promises g.N.Sockets g.C.Clocks g.J.Journal (keeping g.K.Keeper g.K.ImageKeeper) g.H.HookHost) c.put_image.new.self c.put_image.new.tools past c.wait_limit-limit.result (length c.wait.new.found) size ready c.wait_limit-limit.ensures room put.1 in
     record {
-      last = scene_of (running c.put_image.new.self c.put_image.new.tools) [] past;
+      last = state_of (running c.put_image.new.self c.put_image.new.tools) [] past;
       served = h;
       found = heard;
-      next = record past { deeds = deed.Waited c.wait_limit-limit.result (length c.wait.new.found) heard ∷ past.deeds };
+      next = record past { calls = call.Waited c.wait_limit-limit.result (length c.wait.new.found) heard ∷ past.calls };
       fails = no_time c.wait_limit-limit.result (length c.wait.new.found) heard c.wait.new.self c.read.new.self may c.in-Some.ensures.done c.in_default-read.ensures;
     }
 
@@ -59,10 +59,10 @@ returns-in_default-keep_moment-clause-wrong g c = λ first past begun was_ready.
     let room : 65 ≤ length c.wait.new.found = search (rules, arith, c.requires.room) in
     let may = may_wait (promises g.N.Sockets g.C.Clocks g.J.Journal (keeping g.K.Keeper g.K.ImageKeeper) g.H.HookHost) c.put_image.new.self c.put_image.new.tools past c.wait_limit-limit.result (length c.wait.new.found) size ready c.wait_limit-limit.ensures room put.1 in
     record {
-      last = scene_of (running c.put_image.new.self c.put_image.new.tools) [] past;
+      last = state_of (running c.put_image.new.self c.put_image.new.tools) [] past;
       served = h;
       found = heard;
-      next = record past { deeds = deed.Waited c.wait_limit-limit.result (length c.wait.new.found) heard ∷ past.deeds };
+      next = record past { calls = call.Waited c.wait_limit-limit.result (length c.wait.new.found) heard ∷ past.calls };
       fails = no_moment c.wait_limit-limit.result (length c.wait.new.found) heard c.wait.new.self c.in-Some-read.times c.read.new.self c.keep_moment.new.self may c.in-Some.ensures.done c.in-Some-read.ensures c.in_default-keep_moment.ensures.lost c.keep_moment.ensures.meanwhile;
     }
 
@@ -76,12 +76,12 @@ returns-in-Err-keep_all-clause-wrong g c = λ first past begun was_ready.
     let size : length c.put_image.new.self.places ≡ 64 = ap (λ (s : Service). length s.places) c.in_default.ensures.same ∙ before in
     let room : 65 ≤ length c.wait.new.found = search (rules, arith, c.requires.room) in
     let may = may_wait (promises g.N.Sockets g.C.Clocks g.J.Journal (keeping g.K.Keeper g.K.ImageKeeper) g.H.HookHost) c.put_image.new.self c.put_image.new.tools past c.wait_limit-limit.result (length c.wait.new.found) size ready c.wait_limit-limit.ensures room put.1 in
-    let waited = goes h (waits c.wait_limit-limit.result (length c.wait.new.found) heard c.wait.new.self c.in-Some-read.times c.read.new.self c.keep_moment.new.self may c.in-Some.ensures.done c.in-Some-read.ensures (record { holds = c.in-Ok.ensures.kept; moments = c.in-Ok.ensures.moments; told = c.in-Ok.ensures.told })) in
-    let since : Past g.row.H.Denot = record past { deeds = deed.Waited c.wait_limit-limit.result (length c.wait.new.found) heard ∷ past.deeds } in
+    let waited = goes h (waits c.wait_limit-limit.result (length c.wait.new.found) heard c.wait.new.self c.in-Some-read.times c.read.new.self c.keep_moment.new.self may c.in-Some.ensures.done c.in-Some-read.ensures (record { holds = c.in-Ok.ensures.kept; basis = c.in-Ok.ensures.basis; told = c.in-Ok.ensures.told })) in
+    let since : Past g.row.H.Denot = record past { calls = call.Waited c.wait_limit-limit.result (length c.wait.new.found) heard ∷ past.calls } in
     let told = c.hear_all.ensures.hears first since waited (λ k less. (ready.settled k less).rested) in
-    let read = c.read_all.ensures.reads first [] since (λ task is. is) told.1 told.0 in
+    let read = c.read_all.ensures.reads first [] since (λ kind is. is) told.1 told.0 in
     record {
-      last = scene_of (running c.read_all.new.self c.read_all.new.tools) [] read.next;
+      last = state_of (running c.read_all.new.self c.read_all.new.tools) [] read.next;
       served = read.served;
       found = [];
       next = read.next;
@@ -99,10 +99,10 @@ returns-clause-goes g c = λ first past begun was_ready.
     let size : length c.put_image.new.self.places ≡ 64 = ap (λ (s : Service). length s.places) c.in_default.ensures.same ∙ before in
     let room : 65 ≤ length c.wait.new.found = search (rules, arith, c.requires.room) in
     let may = may_wait (promises g.N.Sockets g.C.Clocks g.J.Journal (keeping g.K.Keeper g.K.ImageKeeper) g.H.HookHost) c.put_image.new.self c.put_image.new.tools past c.wait_limit-limit.result (length c.wait.new.found) size ready c.wait_limit-limit.ensures room put.1 in
-    let waited = goes h (waits c.wait_limit-limit.result (length c.wait.new.found) heard c.wait.new.self c.in-Some-read.times c.read.new.self c.keep_moment.new.self may c.in-Some.ensures.done c.in-Some-read.ensures (record { holds = c.in-Ok.ensures.kept; moments = c.in-Ok.ensures.moments; told = c.in-Ok.ensures.told })) in
-    let since : Past g.row.H.Denot = record past { deeds = deed.Waited c.wait_limit-limit.result (length c.wait.new.found) heard ∷ past.deeds } in
+    let waited = goes h (waits c.wait_limit-limit.result (length c.wait.new.found) heard c.wait.new.self c.in-Some-read.times c.read.new.self c.keep_moment.new.self may c.in-Some.ensures.done c.in-Some-read.ensures (record { holds = c.in-Ok.ensures.kept; basis = c.in-Ok.ensures.basis; told = c.in-Ok.ensures.told })) in
+    let since : Past g.row.H.Denot = record past { calls = call.Waited c.wait_limit-limit.result (length c.wait.new.found) heard ∷ past.calls } in
     let told = c.hear_all.ensures.hears first since waited (λ k less. (ready.settled k less).rested) in
-    let read = c.read_all.ensures.reads first [] since (λ task is. is) told.1 told.0 in
+    let read = c.read_all.ensures.reads first [] since (λ kind is. is) told.1 told.0 in
     let written = kept_then p first [] since _ c.read_all.new.self c.write_all.new.self _ c.read_all.new.tools c.keep_all.new.tools c.write_all.new.tools read c.in_default-keep_all.ensures.kept c.write_all.ensures.writes in
     let on = to_then p [] [] [] _ _ _ _ _ _ (c.tidy.ensures.leads []) (c.make_room.ensures.leads []) first written.next written.served written.below in
     let admitted = c.admit_all.ensures.leads [] first on.next on.served on.settled in
@@ -115,7 +115,7 @@ returns-clause-goes g c = λ first past begun was_ready.
       served = last.served;
       ready = record {
         settled = last.settled;
-        queue = told_or_not {P = IsDone Accepting last.next.deeds} c.tell.new.self.queue (λ told. last.done.keeps Accepting (admitted.tried (sym queue ∙ told)));
+        queue = told_or_not {P = IsDone Accepting last.next.calls} c.tell.new.self.queue (λ told. last.done.keeps Accepting (admitted.tried (sym queue ∙ told)));
         quick =
             quick_told c.admit_all.new.self c.tell.new.self c.tell.ensures.rest
             (subst (λ (l : Limits). AreWithin l.idle c.admit_all.new.self.times c.admit_all.new.self.places) (sym (c.admit_all.ensures.limits ∙ c.make_room.ensures.limits))
@@ -125,9 +125,9 @@ returns-clause-goes g c = λ first past begun was_ready.
             (c.admit_all.ensures.within _ (c.make_room.ensures.crowded (c.admit_all.ensures.waits waits))))
             (c.admit_all.ensures.tried (c.make_room.ensures.tried c.tidy.ensures.tried)) c.tell.ensures.reported;
       };
-      waits_are = last.done.waits ∙ admitted.goes.done.waits ∙ on.done.waits ∙ written.done.waits ∙ sym (add-one (deed.waits past.deeds));
+      waits_are = last.done.waits ∙ admitted.goes.done.waits ∙ on.done.waits ∙ written.done.waits ∙ sym (add-one (call.waits past.calls));
     }
 
 pub returns-in-Err-clause-wrong : goal.returns-in-Err-clause-wrong
 returns-in-Err-clause-wrong g c = λ first past h ready.
-    record { last = scene_of (running c.args.self.now c.args.tools.now) [] past; served = h; found = []; next = past; fails = c.in-Err.ensures.failed first [] past h }
+    record { last = state_of (running c.args.self.now c.args.tools.now) [] past; served = h; found = []; next = past; fails = c.in-Err.ensures.failed first [] past h }

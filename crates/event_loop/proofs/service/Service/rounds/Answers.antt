@@ -1,7 +1,7 @@
 use Rattle.std.proofs.Common.{[], arith}
 use Rattle.event_loop.specs.Ends.{no_more}
-use Rattle.event_loop.specs.Goes.{running, scene_of}
-use Rattle.event_loop.specs.Scenes.{promises}
+use Rattle.event_loop.specs.Goes.{running, state_of}
+use Rattle.event_loop.specs.LoopStates.{promises}
 use Rattle.endpoints.specs.Keeping.{keeping}
 use Rattle.event_loop.proofs.Leading.{no_round, round_then, then_wrong}
 use Rattle.event_loop.proofs.service.Service.rounds.Goals as goal
@@ -20,4 +20,4 @@ loop-nth-preserved g c =
 pub returns : goal.returns
 returns g c = λ first past h ready.
     let all = c.loop-nth.invariant first past h ready in
-    record { last = scene_of (running c.loop-nth.self c.loop-nth.tools) [] all.next; served = all.served; found = []; next = all.next; fails = no_more (omega (arith, all.waits_are, c.loop-nth-test.false)) }
+    record { last = state_of (running c.loop-nth.self c.loop-nth.tools) [] all.next; served = all.served; found = []; next = all.next; fails = no_more (omega (arith, all.waits_are, c.loop-nth-test.false)) }

@@ -3,7 +3,7 @@ use Rattle.std.specs.Prelude.{slice_get}
 use Rattle.event_loop.specs.declared.place.Place.{Place}
 use Rattle.event_loop.specs.Places.{IsOccupied}
 use Rattle.event_loop.specs.Goes.{SettlesAll, running}
-use Rattle.event_loop.specs.Scenes.{promises}
+use Rattle.event_loop.specs.LoopStates.{promises}
 use Rattle.endpoints.specs.Keeping.{keeping}
 use Rattle.event_loop.proofs.service.Service.sweep.Given as goal
 

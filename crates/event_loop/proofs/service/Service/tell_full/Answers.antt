@@ -1,7 +1,7 @@
 use Rattle.std.proofs.Common.{refl, sym, ◌∙◌}
 use Rattle.event_loop.specs.Reporting.{full}
 use Rattle.event_loop.specs.Served.{goes, reports}
-use Rattle.event_loop.specs.Scenes.{promises}
+use Rattle.event_loop.specs.LoopStates.{promises}
 use Rattle.endpoints.specs.Keeping.{keeping}
 use Rattle.event_loop.proofs.Doing.{none_more}
 use Rattle.event_loop.proofs.Leading.{nowhere}
@@ -15,14 +15,14 @@ pub returns-then-not-is_long_ago-clause-leads : goal.returns-then-not-is_long_ag
 returns-then-not-is_long_ago-clause-leads g c = λ found first past h settled. record {
   next = past;
   served = h;
-  settled = settled_then c.args.self.now past _ past refl refl refl (none_more past.deeds) settled;
-  done = none_more past.deeds;
+  settled = settled_then c.args.self.now past _ past refl refl refl (none_more past.calls) settled;
+  done = none_more past.calls;
 }
 
 pub returns-clause-leads : goal.returns-clause-leads
 returns-clause-leads g c = λ found first past h settled. record {
   next = past;
   served = goes h (reports _ _ c.report.new.self (full c.requires.wanted (sym c.is_long_ago.ensures ∙ c.if-not-is_long_ago.false)) c.report.ensures);
-  settled = settled_then c.args.self.now past _ past refl refl refl (none_more past.deeds) settled;
-  done = none_more past.deeds;
+  settled = settled_then c.args.self.now past _ past refl refl refl (none_more past.calls) settled;
+  done = none_more past.calls;
 }

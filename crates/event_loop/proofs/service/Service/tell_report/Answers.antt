@@ -1,7 +1,7 @@
 use Rattle.std.proofs.Common.{◌≤◌, ◌-◌, arith, refl}
 use Rattle.event_loop.specs.Reporting.{reported}
 use Rattle.event_loop.specs.Served.{goes, reports}
-use Rattle.event_loop.specs.Scenes.{promises}
+use Rattle.event_loop.specs.LoopStates.{promises}
 use Rattle.endpoints.specs.Keeping.{keeping}
 use Rattle.event_loop.proofs.Doing.{none_more}
 use Rattle.event_loop.proofs.Leading.{nowhere}
@@ -17,6 +17,6 @@ returns-clause-leads g c = λ found first past h settled.
     record {
       next = past;
       served = goes h (reports _ _ c.report.new.self (reported c.args.every c.report_now-report.result c.requires.wanted due (c.report_now-report.ensures found past)) c.report.ensures);
-      settled = settled_then c.args.self.now past _ past refl refl refl (none_more past.deeds) settled;
-      done = none_more past.deeds;
+      settled = settled_then c.args.self.now past _ past refl refl refl (none_more past.calls) settled;
+      done = none_more past.calls;
     }

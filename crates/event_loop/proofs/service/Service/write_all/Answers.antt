@@ -18,7 +18,7 @@ loop-k-init g c = record {
     heard = λ j from less. heard j less;
     unwritten = λ j from. unwritten j;
     kept = kept;
-    done = none_more past.deeds;
+    done = none_more past.calls;
   };
   within = λ all. all;
 }

@@ -1,7 +1,7 @@
 use Rattle.std.proofs.Common.{◌≡◌, ◌≤◌, ◌<◌, ℕ, Some, false}
 use Rattle.std.specs.Prelude.{slice_get}
 use Rattle.event_loop.specs.Goes.{NobodyIsSilent, LeadsWriting, running}
-use Rattle.event_loop.specs.Scenes.{promises}
+use Rattle.event_loop.specs.LoopStates.{promises}
 use Rattle.endpoints.specs.Keeping.{keeping}
 use Rattle.event_loop.proofs.service.Service.write_all.Given as goal
 

@@ -1,5 +1,5 @@
 use Rattle.std.proofs.Common.{◌≡◌, sym, ◌∙◌, arith}
-use Rattle.range.specs.Domain.{unary_result}
+use Rattle.insn.specs.Word.{unary_result}
 use Rattle.known_bits.proofs.Witnesses.{IsKnown}
 use Rattle.known_bits.proofs.Results.{member_of_single, single_value, no_mask, only_exact}
 use Rattle.known_bits.proofs.domain.KnownBitsDomain.unary.Goals as goal

@@ -1,5 +1,5 @@
 use Rattle.std.proofs.Common.{◌≡◌, ◌∙◌, refl}
-use Rattle.change_codec.specs.FieldLaws.{ok_is}
+use Rattle.wire.specs.Format.{ok_is}
 use Rattle.image_codec.specs.Facts.{rules_fact}
 use Rattle.state_file.specs.Telling.{rules_of}
 use Rattle.state_account.proofs.Accounted.{image_in, imaged}

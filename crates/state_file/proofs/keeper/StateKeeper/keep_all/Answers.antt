@@ -1,15 +1,12 @@
 use Rattle.std.proofs.Common.{◌≡◌, ◌∙◌, Option, Some, List, [], ◌∷◌, ◌++◌, ℕ, refl, sym, subst}
 use Rattle.std.specs.Prelude.{IfSome}
 use Rattle.batch_file.specs.Frames.{recovered}
-use Rattle.batch_file.specs.declared.appending.BatchFile.{BatchFile}
-use Rattle.change_codec.specs.Keeping.{Keeps, KeepsMoments, KeepsNot, TellsMoments}
+use Rattle.change_codec.specs.Keeping.{Keeps, KeepsBasis, KeepsNot, TellsBasis}
 use Rattle.image_codec.specs.Facts.{HookFact}
 use Rattle.state_file.specs.Hooks.{AreBehind}
-use Rattle.state_file.specs.Knowing.{IsKnown, file_crashes}
-use Rattle.state_file.specs.StandingLaws.{until_of-more}
-use Rattle.state_file.specs.Telling.{KeepRules}
+use Rattle.state_file.specs.Knowing.{IsKnown, SeenKeeper, file_crashes}
 use Rattle.state_file.specs.declared.keeper.Known.{Known}
-use Rattle.state_file.proofs.Kept.{changes_stand, changes_tell, keeps, keeps_moments, keeps_not, keeps_rules, tells_moments}
+use Rattle.state_file.proofs.Kept.{HasNow, changes_stand, changes_tell, keeper_of, keeps, keeps_basis, keeps_not, tells_basis}
 use Rattle.state_file.proofs.Known.{known_changes}
 use Rattle.state_file.proofs.keeper.StateKeeper.keep_all.Goals as goal
 
@@ -30,45 +27,38 @@ invariant_of-self g c = λ none.
 pub returns-in-Ok-clause-kept : goal.returns-in-Ok-clause-kept
 returns-in-Ok-clause-kept g c before after happened =
     let was = recovered (g.D.Device.seen c.self.inside.file.device) in
-    let P : BatchFile g.row.D.Denot → Type 0 = λ old. Keeps (file_crashes g.D.Device) before after old c.append.new.self in
-    subst P c.self.view_is
-    (keeps g.D.Device c.self.inside.file c.append.new.self (was ++ c.bytes-2.result.now ∷ []) before after c.in-Ok.ensures.any_moment c.in-Ok.ensures.settled c.in-Ok.ensures.added
+    let old = keeper_of c.self.inside.file c.self.inside.fault in
+    let new = keeper_of c.append.new.self c.self.inside.fault in
+    let now : HasNow g.D.Device old new (was ++ c.bytes-2.result.now ∷ []) = record { leaves = c.in-Ok.ensures.any_moment; settled = c.in-Ok.ensures.settled; are = c.in-Ok.ensures.added } in
+    subst (λ (k : SeenKeeper g.row.D.Denot). Keeps (file_crashes g.D.Device) before after k new) c.self.view_is
+    (keeps g.D.Device old new (was ++ c.bytes-2.result.now ∷ []) before after now
     (changes_stand was c.bytes-2.result.now c.args.batch.now.facts before after c.bytes-2.ensures.spelled c.bytes-2.ensures.fits happened))
 
-pub returns-in-Ok-clause-moments : goal.returns-in-Ok-clause-moments
-returns-in-Ok-clause-moments g c =
+pub returns-in-Ok-clause-basis : goal.returns-in-Ok-clause-basis
+returns-in-Ok-clause-basis g c =
     let was = recovered (g.D.Device.seen c.self.inside.file.device) in
-    let P : BatchFile g.row.D.Denot → Type 0 = λ old. KeepsMoments (file_crashes g.D.Device) old c.append.new.self in
-    subst P c.self.view_is
-    (keeps_moments g.D.Device c.self.inside.file c.append.new.self (was ++ c.bytes-2.result.now ∷ []) c.in-Ok.ensures.any_moment c.in-Ok.ensures.settled c.in-Ok.ensures.added
-    (until_of-more was (c.bytes-2.result.now ∷ [])))
+    let old = keeper_of c.self.inside.file c.self.inside.fault in
+    let new = keeper_of c.append.new.self c.self.inside.fault in
+    let now : HasNow g.D.Device old new (was ++ c.bytes-2.result.now ∷ []) = record { leaves = c.in-Ok.ensures.any_moment; settled = c.in-Ok.ensures.settled; are = c.in-Ok.ensures.added } in
+    subst (λ (k : SeenKeeper g.row.D.Denot). KeepsBasis (file_crashes g.D.Device) k new) c.self.view_is
+    (keeps_basis g.D.Device old new (was ++ c.bytes-2.result.now ∷ []) now (changes_tell was c.bytes-2.result.now c.args.batch.now.facts c.bytes-2.ensures.spelled))
 
 pub returns-in-Ok-clause-meanwhile : goal.returns-in-Ok-clause-meanwhile
-returns-in-Ok-clause-meanwhile g c =
-    let was = recovered (g.D.Device.seen c.self.inside.file.device) in
-    let P : BatchFile g.row.D.Denot → Type 0 = λ old. TellsMoments (file_crashes g.D.Device) old c.append.new.self in
-    subst P c.self.view_is
-    (tells_moments g.D.Device c.self.inside.file c.append.new.self (was ++ c.bytes-2.result.now ∷ []) c.in-Ok.ensures.any_moment (until_of-more was (c.bytes-2.result.now ∷ [])))
-
-pub returns-in-Ok-clause-told : goal.returns-in-Ok-clause-told
-returns-in-Ok-clause-told g c =
-    let was = recovered (g.D.Device.seen c.self.inside.file.device) in
-    let P : BatchFile g.row.D.Denot → Type 0 = λ old. KeepRules g.D.Device.seen g.D.Device.may_leave old c.append.new.self in
-    subst P c.self.view_is
-    (keeps_rules g.D.Device c.self.inside.file c.append.new.self (was ++ c.bytes-2.result.now ∷ []) c.in-Ok.ensures.settled c.in-Ok.ensures.added
-    (changes_tell was c.bytes-2.result.now c.args.batch.now.facts c.bytes-2.ensures.spelled))
+returns-in-Ok-clause-meanwhile g c = (returns-in-Ok-clause-basis g c).meanwhile
 
 pub returns-in-Err-clause-lost : goal.returns-in-Err-clause-lost
 returns-in-Err-clause-lost g c before after happened =
     let was = recovered (g.D.Device.seen c.self.inside.file.device) in
-    let P : BatchFile g.row.D.Denot → Type 0 = λ old. KeepsNot (file_crashes g.D.Device) before after old c.append.new.self in
-    subst P c.self.view_is
-    (keeps_not g.D.Device c.self.inside.file c.append.new.self (was ++ c.bytes-2.result.now ∷ []) before after c.in-Err.ensures.any_moment
+    let old = keeper_of c.self.inside.file c.self.inside.fault in
+    let new = keeper_of c.append.new.self (Some c.in-Err.fault) in
+    subst (λ (k : SeenKeeper g.row.D.Denot). KeepsNot (file_crashes g.D.Device) before after k new) c.self.view_is
+    (keeps_not g.D.Device old new (was ++ c.bytes-2.result.now ∷ []) before after c.in-Err.ensures.any_moment
     (changes_stand was c.bytes-2.result.now c.args.batch.now.facts before after c.bytes-2.ensures.spelled c.bytes-2.ensures.fits happened))
 
 pub returns-in-Err-clause-meanwhile : goal.returns-in-Err-clause-meanwhile
 returns-in-Err-clause-meanwhile g c =
     let was = recovered (g.D.Device.seen c.self.inside.file.device) in
-    let P : BatchFile g.row.D.Denot → Type 0 = λ old. TellsMoments (file_crashes g.D.Device) old c.append.new.self in
-    subst P c.self.view_is
-    (tells_moments g.D.Device c.self.inside.file c.append.new.self (was ++ c.bytes-2.result.now ∷ []) c.in-Err.ensures.any_moment (until_of-more was (c.bytes-2.result.now ∷ [])))
+    let old = keeper_of c.self.inside.file c.self.inside.fault in
+    let new = keeper_of c.append.new.self (Some c.in-Err.fault) in
+    subst (λ (k : SeenKeeper g.row.D.Denot). TellsBasis (file_crashes g.D.Device) k new) c.self.view_is
+    (tells_basis g.D.Device old new (was ++ c.bytes-2.result.now ∷ []) c.in-Err.ensures.any_moment (changes_tell was c.bytes-2.result.now c.args.batch.now.facts c.bytes-2.ensures.spelled))

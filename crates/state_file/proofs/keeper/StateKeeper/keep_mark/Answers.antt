@@ -1,12 +1,9 @@
-use Rattle.std.proofs.Common.{arith, List, [], ◌∷◌, ◌++◌, ℕ, refl, sym, subst}
+use Rattle.std.proofs.Common.{arith, List, [], ◌∷◌, ◌++◌, ℕ, Some, refl, sym, subst}
 use Rattle.batch_file.specs.Frames.{recovered}
-use Rattle.batch_file.specs.declared.appending.BatchFile.{BatchFile}
-use Rattle.change_codec.specs.Keeping.{Keeps, KeepsMoments, KeepsNot, TellsMoments}
-use Rattle.state_file.specs.Knowing.{IsKnown, file_crashes}
-use Rattle.state_file.specs.StandingLaws.{until_of-more}
-use Rattle.state_file.specs.Telling.{KeepRules}
+use Rattle.change_codec.specs.Keeping.{Keeps, KeepsBasis, KeepsNot, TellsBasis, Until}
+use Rattle.state_file.specs.Knowing.{IsKnown, SeenKeeper, file_crashes}
 use Rattle.state_file.specs.declared.keeper.Known.{Known}
-use Rattle.state_file.proofs.Kept.{holds_moment, keeps, keeps_moments, keeps_not, keeps_rules, tells_moments}
+use Rattle.state_file.proofs.Kept.{HasNow, holds_basis, keeper_of, keeps, keeps_basis, keeps_not, tells_basis}
 use Rattle.state_file.proofs.Known.{known_mark}
 use Rattle.state_file.proofs.Marked.{mark_stands, mark_tells, mark_until}
 use Rattle.state_file.proofs.keeper.StateKeeper.keep_mark.Goals as goal
@@ -24,51 +21,45 @@ invariant_of-self g c = λ none.
 pub returns-in-Ok-clause-kept : goal.returns-in-Ok-clause-kept
 returns-in-Ok-clause-kept g c history =
     let was = recovered (g.D.Device.seen c.self.inside.file.device) in
-    let P : BatchFile g.row.D.Denot → Type 0 = λ old. Keeps (file_crashes g.D.Device) history history old c.append.new.self in
-    subst P c.self.view_is
-    (keeps g.D.Device c.self.inside.file c.append.new.self (was ++ c.mark.result ∷ []) history history c.in-Ok.ensures.any_moment c.in-Ok.ensures.settled c.in-Ok.ensures.added
-    (mark_stands was c.mark.result c.marked-until.result history c.mark.ensures c.marked-until.ensures.in_range))
+    let old = keeper_of c.self.inside.file c.self.inside.fault in
+    let new = keeper_of c.append.new.self c.self.inside.fault in
+    let now : HasNow g.D.Device old new (was ++ c.mark.result ∷ []) = record { leaves = c.in-Ok.ensures.any_moment; settled = c.in-Ok.ensures.settled; are = c.in-Ok.ensures.added } in
+    subst (λ (k : SeenKeeper g.row.D.Denot). Keeps (file_crashes g.D.Device) history history k new) c.self.view_is
+    (keeps g.D.Device old new (was ++ c.mark.result ∷ []) history history now (mark_stands was c.mark.result c.marked-until.result history c.mark.ensures c.marked-until.ensures.in_range))
 
-pub returns-in-Ok-clause-moments : goal.returns-in-Ok-clause-moments
-returns-in-Ok-clause-moments g c =
+pub returns-in-Ok-clause-basis : goal.returns-in-Ok-clause-basis
+returns-in-Ok-clause-basis g c =
     let was = recovered (g.D.Device.seen c.self.inside.file.device) in
-    let P : BatchFile g.row.D.Denot → Type 0 = λ old. KeepsMoments (file_crashes g.D.Device) old c.append.new.self in
-    subst P c.self.view_is
-    (keeps_moments g.D.Device c.self.inside.file c.append.new.self (was ++ c.mark.result ∷ []) c.in-Ok.ensures.any_moment c.in-Ok.ensures.settled c.in-Ok.ensures.added
-    (until_of-more was (c.mark.result ∷ [])))
+    let old = keeper_of c.self.inside.file c.self.inside.fault in
+    let new = keeper_of c.append.new.self c.self.inside.fault in
+    let now : HasNow g.D.Device old new (was ++ c.mark.result ∷ []) = record { leaves = c.in-Ok.ensures.any_moment; settled = c.in-Ok.ensures.settled; are = c.in-Ok.ensures.added } in
+    subst (λ (k : SeenKeeper g.row.D.Denot). KeepsBasis (file_crashes g.D.Device) k new) c.self.view_is
+    (keeps_basis g.D.Device old new (was ++ c.mark.result ∷ []) now (mark_tells was c.mark.result c.marked-until.result c.mark.ensures))
 
 pub returns-in-Ok-clause-meanwhile : goal.returns-in-Ok-clause-meanwhile
-returns-in-Ok-clause-meanwhile g c =
-    let was = recovered (g.D.Device.seen c.self.inside.file.device) in
-    let P : BatchFile g.row.D.Denot → Type 0 = λ old. TellsMoments (file_crashes g.D.Device) old c.append.new.self in
-    subst P c.self.view_is
-    (tells_moments g.D.Device c.self.inside.file c.append.new.self (was ++ c.mark.result ∷ []) c.in-Ok.ensures.any_moment (until_of-more was (c.mark.result ∷ [])))
-
-pub returns-in-Ok-clause-told : goal.returns-in-Ok-clause-told
-returns-in-Ok-clause-told g c =
-    let was = recovered (g.D.Device.seen c.self.inside.file.device) in
-    let P : BatchFile g.row.D.Denot → Type 0 = λ old. KeepRules g.D.Device.seen g.D.Device.may_leave old c.append.new.self in
-    subst P c.self.view_is
-    (keeps_rules g.D.Device c.self.inside.file c.append.new.self (was ++ c.mark.result ∷ []) c.in-Ok.ensures.settled c.in-Ok.ensures.added
-    (mark_tells was c.mark.result c.marked-until.result c.mark.ensures))
+returns-in-Ok-clause-meanwhile g c = (returns-in-Ok-clause-basis g c).meanwhile
 
 pub returns-in-Err-clause-lost : goal.returns-in-Err-clause-lost
 returns-in-Err-clause-lost g c history =
     let was = recovered (g.D.Device.seen c.self.inside.file.device) in
-    let P : BatchFile g.row.D.Denot → Type 0 = λ old. KeepsNot (file_crashes g.D.Device) history history old c.append.new.self in
-    subst P c.self.view_is
-    (keeps_not g.D.Device c.self.inside.file c.append.new.self (was ++ c.mark.result ∷ []) history history c.in-Err.ensures.any_moment
-    (mark_stands was c.mark.result c.marked-until.result history c.mark.ensures c.marked-until.ensures.in_range))
+    let old = keeper_of c.self.inside.file c.self.inside.fault in
+    let new = keeper_of c.append.new.self (Some c.in-Err.refused) in
+    subst (λ (k : SeenKeeper g.row.D.Denot). KeepsNot (file_crashes g.D.Device) history history k new) c.self.view_is
+    (keeps_not g.D.Device old new (was ++ c.mark.result ∷ []) history history c.in-Err.ensures.any_moment (mark_stands was c.mark.result c.marked-until.result history c.mark.ensures c.marked-until.ensures.in_range))
 
 pub returns-in-Err-clause-meanwhile : goal.returns-in-Err-clause-meanwhile
 returns-in-Err-clause-meanwhile g c =
     let was = recovered (g.D.Device.seen c.self.inside.file.device) in
-    let P : BatchFile g.row.D.Denot → Type 0 = λ old. TellsMoments (file_crashes g.D.Device) old c.append.new.self in
-    subst P c.self.view_is
-    (tells_moments g.D.Device c.self.inside.file c.append.new.self (was ++ c.mark.result ∷ []) c.in-Err.ensures.any_moment (until_of-more was (c.mark.result ∷ [])))
+    let old = keeper_of c.self.inside.file c.self.inside.fault in
+    let new = keeper_of c.append.new.self (Some c.in-Err.refused) in
+    subst (λ (k : SeenKeeper g.row.D.Denot). TellsBasis (file_crashes g.D.Device) k new) c.self.view_is
+    (tells_basis g.D.Device old new (was ++ c.mark.result ∷ []) c.in-Err.ensures.any_moment (mark_tells was c.mark.result c.marked-until.result c.mark.ensures))
 
-pub returns-in-Ok-clause-moment : goal.returns-in-Ok-clause-moment
-returns-in-Ok-clause-moment g c =
+pub returns-in-Ok-clause-told : goal.returns-in-Ok-clause-told
+returns-in-Ok-clause-told g c =
     let was = recovered (g.D.Device.seen c.self.inside.file.device) in
+    let old = keeper_of c.self.inside.file c.self.inside.fault in
+    let new = keeper_of c.append.new.self c.self.inside.fault in
+    let now : HasNow g.D.Device old new (was ++ c.mark.result ∷ []) = record { leaves = c.in-Ok.ensures.any_moment; settled = c.in-Ok.ensures.settled; are = c.in-Ok.ensures.added } in
     let told = mark_until was c.mark.result c.marked-until.result c.mark.ensures c.marked-until.ensures.in_range in
-    holds_moment g.D.Device c.append.new.self (was ++ c.mark.result ∷ []) c.args.now c.in-Ok.ensures.settled c.in-Ok.ensures.added (let le = c.marked-until.ensures.later in omega (arith, told, le))
+    holds_basis g.D.Device old new (was ++ c.mark.result ∷ []) (Until c.args.now) now (let le = c.marked-until.ensures.later in omega (arith, told, le))

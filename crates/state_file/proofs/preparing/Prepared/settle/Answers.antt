@@ -3,6 +3,7 @@ use Rattle.batch_file.specs.Crashes.{LeavesOnly}
 use Rattle.batch_file.specs.declared.appending.BatchFile.{BatchFile}
 use Rattle.state_file.specs.Making.{Made, end_of}
 use Rattle.state_file.specs.Starting.{IsOldOr, IsPutOn}
+use Rattle.state_file.proofs.Kept.{keeper_of}
 use Rattle.state_file.proofs.Put.{old_or, put_on}
 use Rattle.state_file.proofs.preparing.Prepared.settle.Goals as goal
 
@@ -12,8 +13,8 @@ returns-in-Ok-clause-put g c =
     let end : c.in-Ok.file.end ≡ end_of frames = (let e = c.in-Ok.ensures.end in omega (arith, e)) in
     let P : Made g.row.H.Denot → Type 0 = λ made. IsPutOn g.D.Device made.batches c.args.device c.new.result in
     subst P c.self.view_is
-    (subst (λ (f : BatchFile g.row.D.Denot). IsPutOn g.D.Device frames c.args.device f) (sym c.new.ensures)
-    (put_on g.D.Device c.args.device c.in-Ok.file frames c.in-Ok.ensures.placed c.in-Ok.ensures.settled.durable end c.in-Ok.ensures.any_moment))
+    (subst (λ (f : BatchFile g.row.D.Denot). IsPutOn g.D.Device frames c.args.device (keeper_of f c.new.result.fault)) (sym c.new.ensures.file)
+    (put_on g.D.Device c.args.device (keeper_of c.in-Ok.file c.new.result.fault) frames c.in-Ok.ensures.placed c.in-Ok.ensures.settled.durable end c.new.ensures.unfailed c.in-Ok.ensures.any_moment))
 
 pub returns-in-Err-clause-lost : goal.returns-in-Err-clause-lost
 returns-in-Err-clause-lost g c =

@@ -2,7 +2,8 @@ use Rattle.std.proofs.Common.{◌∙◌, List, map, refl, sym, ap, subst}
 use Rattle.consent.specs.Consents.{FitsConsents, kept_consents}
 use Rattle.consent.specs.declared.kept_consent.KeptConsent.{KeptConsent}
 use Rattle.endpoints.specs.Server.{outset_of}
-use Rattle.image_codec.specs.Facts.{HookFact, hook_fact, image_fact, record_fact}
+use Rattle.consent.specs.RecordFacts.{record_fact}
+use Rattle.image_codec.specs.Facts.{HookFact, hook_fact, image_fact}
 use Rattle.state_file.specs.Resuming.{Installs}
 use Rattle.state_file.proofs.Imaged.{made_of}
 use Rattle.state_file.proofs.restored.Restored.of_image.Goals as goal

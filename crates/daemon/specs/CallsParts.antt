@@ -1,0 +1,15 @@
+-- Beside Calls: only the contracts of this crate's own parts and their proofs cite this, no public clause.
+use Rattle.event_loop.specs.Calls.{Asked, Closed, Tried, read_call, wait_call, write_call}
+use Rattle.daemon.specs.Calls.{Logged, Did, Told}
+use Rattle.daemon.specs.declared.call_log.SystemCall.{SystemCall}
+use Rattle.daemon.specs.declared.call_log.SystemCall.TheVariants as made
+
+-- the call that a program makes
+abbrev pub call_made : SystemCall → Logged
+call_made (made.Wait limit count found) = Did (wait_call limit count found.now)
+call_made made.Ask = Did Asked
+call_made (made.Accept place came) = Did (Tried place came)
+call_made (made.Read place came buffer) = Did (read_call came place buffer.now)
+call_made (made.Write place took bytes) = Did (write_call took place bytes.now)
+call_made (made.Close place) = Did (Closed place)
+call_made (made.Look times) = Told times.now

@@ -1,0 +1,83 @@
+-- What comes of a server that is started on the machine.
+use Rattle.std.specs.Prelude.{◌≡◌, ℕ, List, [], Option}
+use Rattle.std.specs.declared.fs.File.{File}
+use Rattle.batch_file.specs.Calls.{only_opened}
+use Rattle.batch_file.specs.declared.device.Device.{Ghosts as Device}
+use Rattle.batch_file.specs.declared.disk_file.DiskFile.{DiskFile}
+use Rattle.batch_file.specs.declared.disk_file.Opened.{Opened}
+use Rattle.clients.specs.RegistryRecord.{RegistryRecord}
+use Rattle.endpoints.specs.Server.{outset_of}
+use Rattle.event_loop.specs.LoopStates.{promises}
+use Rattle.event_loop.specs.declared.clocks.Clocks.{Ghosts as Clocks}
+use Rattle.event_loop.specs.declared.journal.Journal.{Ghosts as Journal}
+use Rattle.event_loop.specs.declared.limits.Limits.{Limits}
+use Rattle.event_loop.specs.declared.sockets.Sockets.{Ghosts as Sockets}
+use Rattle.hook_chain.specs.Chains.{Named}
+use Rattle.hook_chain.specs.contracts.chain.ChainHookHost.TheImpl as chain
+use Rattle.image_codec.specs.Facts.{HookFact}
+use Rattle.lifetime.specs.Anew.{IsLifeAnew, keeping_nothing}
+use Rattle.lifetime.specs.Given.{given, life_promises}
+use Rattle.lifetime.specs.Lives.{IsLife}
+use Rattle.lifetime.specs.declared.means.Means.{Means}
+use Rattle.daemon.specs.Noting.{NotesCall, NotesTimes}
+use Rattle.daemon.specs.declared.line_journal.LineJournal.{LineJournal}
+use Rattle.daemon.specs.declared.machine_clocks.MachineClocks.{MachineClocks}
+use Rattle.daemon.specs.declared.sockets.MachineSockets.{MachineSockets}
+use Rattle.daemon.specs.declared.starting.Lived.{Lived}
+use Rattle.daemon.specs.declared.starting.Served.{Served}
+
+-- the machine's sockets note all that they do, and its clocks all that they tell
+abbrev pub noting_sockets : Sockets MachineSockets
+noting_sockets = record { does = NotesCall }
+
+abbrev pub noting_clocks : {R : Type 0} → Clocks (MachineClocks R)
+noting_clocks = record { tells = NotesTimes }
+
+-- at first they have noted nothing; and these are the limits
+pub record IsFresh {R J : Type 0} (means : Means MachineSockets (MachineClocks R) J) (limits : Limits) (ahead : Option ℕ) : Type 0 where
+  pub undone : means.sockets.log.calls ≡ []
+  pub untold : means.clocks.log.calls ≡ []
+  pub limits_are : means.limits ≡ limits
+  pub ahead_is : means.ahead ≡ ahead
+
+-- ANEW
+
+-- what a server is started with: its registry, its hooks as they stand in their chain, and its limits
+pub record HandedAnew : Type 0 where
+  pub registry : RegistryRecord
+  pub hooks : List Named
+  pub limits : Limits
+
+abbrev pub handed_anew : RegistryRecord → List Named → Limits → HandedAnew
+handed_anew registry hooks limits = record { registry = registry; hooks = hooks; limits = limits }
+
+-- over the machine's sockets and clocks, and with some journal, it lived until it could not go on
+pub record ServesAnew {R E : Type 0} (journal : Journal (LineJournal E)) (handed : HandedAnew) (served : Served R) : Type 0 where
+  pub means : Means MachineSockets (MachineClocks R) (LineJournal E)
+  pub fresh : IsFresh means handed.limits means.ahead
+  pub lines : LineJournal E
+  pub life : IsLifeAnew (promises noting_sockets noting_clocks journal keeping_nothing chain.ghosts) (outset_of handed.registry handed.hooks) means
+      (record { fault = served.fault; sockets = served.sockets; clocks = served.clocks; journal = lines })
+
+-- ON THE FILE OF ITS STATE
+
+-- what a server is started with: its registry, the code of each hook, its limits, and how far the clock may be ahead
+pub record HandedOn : Type 0 where
+  pub registry : RegistryRecord
+  pub hooks : List HookFact
+  pub limits : Limits
+  pub ahead : Option ℕ
+
+abbrev pub handed_on : RegistryRecord → List HookFact → Limits → Option ℕ → HandedOn
+handed_on registry hooks limits ahead = record { registry = registry; hooks = hooks; limits = limits; ahead = ahead }
+
+-- the file was opened, and asked for nothing else, and over it, the machine's sockets and clocks, and with some journal, the
+-- server lived
+pub record LivesOn {R E : Type 0} (disk : Device (DiskFile R File)) (journal : Journal (LineJournal E)) (handed : HandedOn) (lived : Lived R) : Type 0 where
+  pub opened : Opened R File
+  pub is_opened : opened.device.log.calls ≡ only_opened opened.bytes.items
+  pub means : Means MachineSockets (MachineClocks R) (LineJournal E)
+  pub fresh : IsFresh means handed.limits handed.ahead
+  pub lines : LineJournal E
+  pub life : IsLife (life_promises disk noting_sockets noting_clocks journal) (given opened.device opened.bytes.items handed.registry handed.hooks means)
+      (record { end = lived.end; device = lived.device; sockets = lived.sockets; clocks = lived.clocks; journal = lines })

@@ -1,6 +1,0 @@
-use Rattle.std.proofs.Common.{◌≡◌}
-use Rattle.hook_commands.specs.BytesText.{are_unset}
-use Rattle.hook_commands.proofs.bytes_text.are_unset.Given as goal
-
-abbrev pub invariant-loop-byte : goal.invariant-loop-byte
-invariant-loop-byte l = l.unset ≡ are_unset l.stack l.from l.byte

@@ -1,0 +1,7 @@
+mod Carrying
+mod Heirs
+mod Lasting
+mod Living
+mod Losing
+mod Planning
+mod Telling

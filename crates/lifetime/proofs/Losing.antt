@@ -1,0 +1,104 @@
+-- What a crash leaves of a life that was begun, and of its loop.
+use Rattle.std.proofs.Common.{◌≡◌, ⊎_elim, inl, inr, ℕ, List, [], ◌∷◌, ◌++◌, Option, None, Some, refl, sym, subst, arith}
+use Rattle.batch_file.specs.Frames.{recovered}
+use Rattle.change_codec.specs.HappenedLaws.{Happened-front}
+use Rattle.change_codec.specs.Keeping.{IsFrontOf}
+use Rattle.change_codec.specs.Spelling.{DatedFact}
+use Rattle.clients.specs.RegistryRecord.{RegistryRecord}
+use Rattle.consent.specs.History.{Event}
+use Rattle.endpoints.specs.Bounded.{AllRight}
+use Rattle.endpoints.specs.Hosts.{HostRun}
+use Rattle.endpoints.specs.Server.{AreUnkept}
+use Rattle.hook_chain.specs.Chains.{Named}
+use Rattle.hook_chain.specs.contracts.chain.ChainHookHost.TheImpl as chain
+use Rattle.state_file.specs.Standing.{StandFor, StandsFor}
+use Rattle.state_file.specs.Starting.{IsOldOr}
+use Rattle.state_file.specs.Telling.{Tell, TellsRules, rules_of}
+use Rattle.lifetime.specs.Given.{Given, LifePromises}
+use Rattle.lifetime.specs.Lives.{IsWhole, Leaves, LosesNothing}
+use Rattle.lifetime.proofs.Carrying.{front_then, same_front}
+
+-- FRONTS
+
+before_right : (rules : RegistryRecord) (start front more : List Event) → AllRight rules start (front ++ more) → AllRight rules start front
+before_right rules start [] more right = tt
+before_right rules start (e ∷ front) more right = (right.0, before_right rules (start ++ e ∷ []) front more right.1)
+
+front_right : (rules : RegistryRecord) (front all : List Event) → IsFrontOf front all → AllRight rules [] all → AllRight rules [] front
+front_right rules front all is right = before_right rules [] front is.0 (subst (λ (h : List Event). AllRight rules [] h) is.1 right)
+
+before_ran : (first now : List Named) (front more : List Event) → HostRun chain.ghosts first (front ++ more) now → (mid : List Named) × HostRun chain.ghosts first front mid
+before_ran first now [] more ran = (first, refl)
+before_ran first now (e ∷ front) more ran = let rest = before_ran ran.0 now front more ran.2 in (rest.0, (ran.0, ran.1, rest.1))
+
+front_ran : (front all : List Event) (host : List Named) → IsFrontOf front all → HostRun chain.ghosts [] all host → (mid : List Named) × HostRun chain.ghosts [] front mid
+front_ran front all host is ran = before_ran [] host front is.0 (subst (λ (h : List Event). HostRun chain.ghosts [] h host) is.1 ran)
+
+-- what was kept is a front of what happened
+pub front_noted : (unkept : Option (List DatedFact)) (kept history : List Event) → AreUnkept unkept (Some kept) history → IsFrontOf kept history
+front_noted unkept kept history noted = elim unkept as (λ u. AreUnkept u (Some kept) history → IsFrontOf kept history) [
+  | None ↦ (λ none. absurd none)
+  | Some facts ↦ (λ happened. Happened-front kept history facts happened)
+] noted
+
+-- WHAT IS WHOLE
+
+-- what is left is whole where it stands for a front of what was right and was run
+pub whole_by : (rules : RegistryRecord) (before history all : List Event) (host : List Named) (c : List ℕ) → IsFrontOf before history → IsFrontOf history all → StandsFor c history →
+    TellsRules c (rules_of rules) → AllRight rules [] all → HostRun chain.ghosts [] all host → IsWhole rules before all c
+whole_by rules before history all host c from to stands told right ran =
+    let mid = front_ran history all host to ran in
+    record { history = history; from = from; to = to; stands = stands; told = told; right = front_right rules history all to right; host = mid.0; ran = mid.1 }
+
+-- where more happens, it is whole still
+whole_more : (rules : RegistryRecord) (before all more : List Event) (c : List ℕ) → IsFrontOf all more → IsWhole rules before all c → IsWhole rules before more c
+whole_more rules before all more c front whole = record {
+  history = whole.history;
+  from = whole.from;
+  to = front_then whole.history all more whole.to front;
+  stands = whole.stands;
+  told = whole.told;
+  right = whole.right;
+  host = whole.host;
+  ran = whole.ran;
+}
+
+-- batches that stand for a history and tell the rules under which it is right
+pub record Bears (rules : RegistryRecord) (batches : List (List ℕ)) (history : List Event) : Type 0 where
+  pub stand : StandFor batches history
+  pub tell : Tell batches (rules_of rules)
+  pub right : AllRight rules [] history
+  pub host : List Named
+  pub ran : HostRun chain.ghosts [] history host
+
+pub whole_batches : (rules : RegistryRecord) (batches : List (List ℕ)) (history : List Event) (c : List ℕ) → Bears rules batches history → recovered c ≡ batches → IsWhole rules history history c
+whole_batches rules batches history c bears same =
+    whole_by rules history history history bears.host c (same_front history history refl) (same_front history history refl)
+    (subst (λ (bs : List (List ℕ)). StandFor bs history) (sym same) bears.stand) (subst (λ (bs : List (List ℕ)). Tell bs (rules_of rules)) (sym same) bears.tell)
+    bears.right bears.ran
+
+module _ {D N C J : Type 0} (p : LifePromises D N C J) where
+  -- CRASHES, ONE RUN AFTER THE OTHER
+
+  pub leaves_map : (old new : D) (P Q : List ℕ → Type 0) → ((c : List ℕ) → P c → Q c) → Leaves p old new P → Leaves p old new Q
+  leaves_map old new P Q f leaves = record {
+    later = leaves.later;
+    each = λ c left. f c (leaves.each c left);
+    before = λ t c le left. ⊎_elim inl (λ is. inr (f c is)) (leaves.before t c le left);
+  }
+
+  pub leaves_then : (a b c : D) (P : List ℕ → Type 0) → Leaves p a b P → Leaves p b c P → Leaves p a c P
+  leaves_then a b c P one two = record {
+    later = omega (arith, one.later, two.later);
+    each = λ x left. ⊎_elim (one.each x) (λ is. is) (two.before (p.device.moment a) x one.later left);
+    before = λ t x le left. ⊎_elim (one.before t x le) inr (two.before t x (omega (arith, le, one.later)) left);
+  }
+
+  module _ (given : Given D N C J) (before : List Event) where
+    -- what was left before the life stays; what has the batches is whole
+    pub old_or_loses : (device : D) (batches : List (List ℕ)) → Bears given.registry batches before → Leaves p given.device device (IsOldOr p.device given.device batches) →
+        LosesNothing p given device before before
+    old_or_loses device batches bears = leaves_map given.device device _ _ (λ c. ⊎_elim inl (λ same. inr (whole_batches given.registry batches before c bears same)))
+
+    pub more_loses : (device : D) (all : List Event) → IsFrontOf before all → LosesNothing p given device before before → LosesNothing p given device before all
+    more_loses device all front = leaves_map given.device device _ _ (λ c. ⊎_elim inl (λ whole. inr (whole_more given.registry before before all c front whole)))

@@ -1,0 +1,70 @@
+-- What a start makes of the bytes of a state file, by what the calls say.
+use Rattle.std.proofs.Common.{◌≡◌, ◌≤◌, ◌↔◌, ◌∙◌, inl, inr, ℕ, List, [], Option, None, Some, subst}
+use Rattle.std.specs.Prelude.{IsSome}
+use Rattle.batch_file.specs.Frames.{recovered, torn_of}
+use Rattle.clients.specs.RegistryRecord.{RegistryRecord}
+use Rattle.hook_chain.specs.contracts.chain.ChainHookHost.TheImpl as chain
+use Rattle.image_codec.specs.Facts.{HookFact}
+use Rattle.narrowing.specs.Left.{left_under}
+use Rattle.state_file.specs.Making.{Makes, RefusesMaking}
+use Rattle.state_file.specs.declared.fault.StateFault.{StateFault}
+use Rattle.state_file.specs.declared.fault.StateFault.TheVariants as state
+use Rattle.state_file.specs.Standing.{until_of}
+use Rattle.state_file.specs.RunLaws.{was_run}
+use Rattle.state_file.specs.Runs.{WasLived}
+use Rattle.state_file.specs.Telling.{rules_of}
+use Rattle.state_narrowing.specs.Narrowing.{HasLeftOfEach, IsNarrower}
+use Rattle.state_narrowing.specs.declared.narrowed.Narrowed.{Narrowed}
+use Rattle.lifetime.specs.Plans.{IsPlanOf, RefusesPlan, bytes_under, start_of}
+use Rattle.lifetime.specs.declared.plan.Plan.{Plan}
+
+-- nothing is left out
+abbrev pub unnarrowed : Option Narrowed
+unnarrowed = None
+
+-- where they are not narrowed
+pub plan_whole : (rules : RegistryRecord) (hooks : List HookFact) (bytes : List ℕ) (plan : Plan) →
+    Makes chain.ghosts (start_of rules hooks bytes) plan.prepared → plan.ended ≡ None → plan.torn.items ≡ plan.prepared.torn →
+    (IsSome unnarrowed ↔ IsNarrower bytes (rules_of rules)) → IsPlanOf rules hooks bytes plan
+plan_whole rules hooks bytes plan makes none torn exact = record {
+  narrowed = unnarrowed;
+  ended = none;
+  narrower = exact;
+  left = tt;
+  makes = λ history lived. makes.each history lived.stands lived.right (was_run bytes history lived);
+  tell = makes.tell;
+  until = makes.kept;
+  later = makes.later;
+  moment_is = makes.moment_is;
+  torn_is = torn ∙ makes.torn_is;
+}
+
+-- where they are
+pub plan_narrowed : (rules : RegistryRecord) (hooks : List HookFact) (bytes : List ℕ) (plan : Plan) (narrowed : Narrowed) →
+    Makes chain.ghosts (start_of rules hooks narrowed.bytes.items) plan.prepared → plan.ended ≡ Some narrowed.ended → plan.torn.items ≡ torn_of bytes →
+    (IsSome (Some narrowed) ↔ IsNarrower bytes (rules_of rules)) → HasLeftOfEach chain.ghosts [] bytes rules narrowed →
+    until_of (recovered narrowed.bytes.items) ≡ until_of (recovered bytes) → IsPlanOf rules hooks bytes plan
+plan_narrowed rules hooks bytes plan narrowed makes ended torn exact left same = record {
+  narrowed = Some narrowed;
+  ended = ended;
+  narrower = exact;
+  left = λ history lived. left history lived.stands lived.right (was_run bytes history lived);
+  makes = λ history lived. (
+      let on = (left history lived.stands lived.right (was_run bytes history lived)).goes_on in
+      let on_lived : WasLived narrowed.bytes.items (left_under rules history) = record { stands = on.stands; right = on.right; ran = inr (on.host, on.ran) } in
+      let made = makes.each (left_under rules history) on.stands on.right (was_run narrowed.bytes.items (left_under rules history) on_lived) in
+      record { serves = made.serves; set = made.set; stands = made.stands });
+  tell = makes.tell;
+  until = subst (λ (until : ℕ). until ≤ until_of plan.prepared.batches) same makes.kept;
+  later = subst (λ (until : ℕ). until ≤ plan.prepared.moment) same makes.later;
+  moment_is = makes.moment_is;
+  torn_is = torn;
+}
+
+-- why there is no plan
+pub no_memory : (rules : RegistryRecord) (hooks : List HookFact) (bytes : List ℕ) (fault : StateFault) → fault ≡ state.Memory → RefusesPlan rules hooks bytes fault
+no_memory rules hooks bytes fault is = inl is
+
+pub not_made : (rules : RegistryRecord) (hooks : List HookFact) (bytes : List ℕ) (narrowed : Option Narrowed) (fault : StateFault) →
+    RefusesMaking chain.ghosts (start_of rules hooks (bytes_under bytes narrowed)) fault → RefusesPlan rules hooks bytes fault
+not_made rules hooks bytes narrowed fault refuses = inr (inr (narrowed, refuses))

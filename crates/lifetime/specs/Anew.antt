@@ -1,0 +1,26 @@
+-- A server that is started without a file of its state, and keeps nothing.
+use Rattle.std.specs.Prelude.{List}
+use Rattle.change_codec.specs.contracts.keeper.NoKeeperKeeper.TheImpl as no_keeper
+use Rattle.change_codec.specs.declared.keeper.NoKeeper.{NoKeeper}
+use Rattle.endpoints.specs.Keeping.{Keeping, keeping}
+use Rattle.endpoints.specs.Server.{Outset}
+use Rattle.endpoints.specs.contracts.image_keeper.NoKeeperImageKeeper.TheImpl as no_imaging
+use Rattle.event_loop.specs.LoopStates.{Promises}
+use Rattle.hook_chain.specs.Chains.{Named}
+use Rattle.http_edge.specs.Reached.{new_journey}
+use Rattle.lifetime.specs.Serving.{Serves}
+use Rattle.lifetime.specs.declared.means.Means.{Means}
+use Rattle.lifetime.specs.declared.serving.AnewEnd.{AnewEnd}
+use Rattle.lifetime.specs.declared.serving.Ending.{Ending}
+
+-- nothing is kept
+abbrev pub keeping_nothing : Keeping NoKeeper
+keeping_nothing = keeping no_keeper.ghosts (record { is_long = no_imaging.ghosts.is_long })
+
+-- It begins with these rules and this host, and gives back what it was handed, as that is left.
+pub data IsLifeAnew {N C J : Type 0} (p : Promises N C J NoKeeper (List Named)) (outset : Outset (List Named)) (means : Means N C J) :
+    AnewEnd N C J → Type 0 where
+  -- the server served until it could not go on
+  has_stopped : (keeper : NoKeeper) (ending : Ending N C J NoKeeper) → Serves p (new_journey outset) means keeper ending →
+      IsLifeAnew p outset means
+      (record { fault = ending.fault; sockets = ending.tools.sockets; clocks = ending.tools.clocks; journal = ending.tools.journal })

@@ -1,0 +1,12 @@
+-- What public clauses cite. docs/DEFINITIONS.md says what to read in which order.
+pub mod Clocks
+pub mod Plans
+pub mod Given
+pub mod Starts
+pub mod Serving
+pub mod Lives
+pub mod Openings
+pub mod Found
+pub mod Anew
+-- What only the contracts of this crate's own parts and their proofs cite.
+pub mod LivesParts

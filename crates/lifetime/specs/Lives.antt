@@ -1,0 +1,129 @@
+-- One life of a server on the file of its state.
+use Rattle.std.specs.Prelude.{◌≡◌, ◌⊎◌, ℕ, List, [], None, Some}
+use Rattle.batch_file.specs.Crashes.{LeavesOnly}
+use Rattle.clients.specs.RegistryRecord.{RegistryRecord}
+use Rattle.consent.specs.History.{Event}
+use Rattle.change_codec.specs.Keeping.{IsFrontOf}
+use Rattle.endpoints.specs.Bounded.{AllRight, IsBounded}
+use Rattle.endpoints.specs.Hosts.{HostRun}
+use Rattle.endpoints.specs.Server.{outset_of}
+use Rattle.event_loop.specs.Durable.{Onward}
+use Rattle.event_loop.specs.Ends.{Beginning, HasServed, ServesNothing}
+use Rattle.event_loop.specs.Served.{Served}
+use Rattle.hook_chain.specs.Chains.{Named}
+use Rattle.hook_chain.specs.contracts.chain.ChainHookHost.TheImpl as chain
+use Rattle.http_edge.specs.Edges.{SeenEdge}
+use Rattle.http_edge.specs.Reached.{Reached, resumed_journey}
+use Rattle.state_file.specs.Knowing.{SeenKeeper}
+use Rattle.state_file.specs.Runs.{OfEachRun}
+use Rattle.state_file.specs.Standing.{StandsFor}
+use Rattle.state_file.specs.Starting.{IsOfDisk, IsUntouched}
+use Rattle.state_file.specs.Telling.{TellsRules, rules_of}
+use Rattle.state_file.specs.declared.fault.StateFault.{StateFault}
+use Rattle.lifetime.specs.Given.{Given, LifePromises, LifeState, in_loop, life_of}
+use Rattle.lifetime.specs.Plans.{RefusesPlan, begun_from}
+use Rattle.lifetime.specs.Serving.{tools_of}
+use Rattle.lifetime.specs.Starts.{Begun, LooksAt, MayReport, Outlook, Settles, too_far_at, torn_notices}
+use Rattle.lifetime.specs.declared.life.Life.{Life}
+use Rattle.lifetime.specs.declared.life.LifeEnd.TheVariants as ends
+use Rattle.lifetime.specs.declared.means.Means.{Means}
+use Rattle.lifetime.specs.declared.serving.Ending.{Ending}
+
+-- WHAT A CRASH LEAVES
+
+-- What a crash left stands for a history that has all of `before`, and nothing that is not in `all`. It tells the rules, under
+-- which that history is right, and a chain of hooks came through it: so another life may begin on what is left.
+pub record IsWhole (rules : RegistryRecord) (before all : List Event) (left : List ℕ) : Type 0 where
+  pub history : List Event
+  pub from : IsFrontOf before history
+  pub to : IsFrontOf history all
+  pub stands : StandsFor left history
+  pub told : TellsRules left (rules_of rules)
+  pub right : AllRight rules [] history
+  pub host : List Named
+  pub ran : HostRun chain.ghosts [] history host
+
+-- a crash at some moment from the old device's on, up to the new one's, leaves what is so
+abbrev pub Leaves : {D N C J : Type 0} → LifePromises D N C J → D → D → (List ℕ → Type 0) → Type 0
+Leaves p old new P = LeavesOnly p.device.moment p.device.left_since old new P
+
+-- a crash at some moment of the life leaves what one before might have left, or what is whole
+abbrev pub LosesNothing : {D N C J : Type 0} → LifePromises D N C J → Given D N C J → D → List Event → List Event → Type 0
+LosesNothing p given device before all = Leaves p given.device device (λ left. p.device.may_leave given.device left ⊎ IsWhole given.registry before all left)
+
+-- THE LOOP
+
+-- what the loop begins with, over an edge whose server goes on from a history
+abbrev pub loop_of : {D N C J : Type 0} → Given D N C J → Begun D N C J → SeenEdge (List Named) → List Event → Beginning N C J (SeenKeeper D) (List Named)
+loop_of given begun edge before = record {
+  limits = begun.means.limits;
+  tools = tools_of begun.means begun.keeper edge;
+  journey = resumed_journey (outset_of given.registry []) before begun.outlook.plan.prepared.moment;
+}
+
+-- at the state a history is kept, and a crash from then on, up to the device's moment, leaves all of that, and no more than `all`
+abbrev pub LeavesKept : {D N C J : Type 0} → LifePromises D N C J → RegistryRecord → LifeState D N C J → D → List Event → Type 0
+LeavesKept p rules s device all =
+    (kept : List Event) × (s.progress.journey.world.kept ≡ Some kept) × Leaves p s.keeper.file.device device (IsWhole rules kept all)
+
+-- The server goes on from the history `before`: steps of the loop lead from there to its last state, and that is what its
+-- sockets, its clocks and its journal did (`served`). At each state all codes and tokens keep to the registry's allowances and
+-- lives, and to consents (`bounded`). What is kept at a state is in all that a crash leaves from then on, up to another state
+-- (`keeps`) or to the end of the life (`keeps_then`), and nothing that has not happened. A crash at any moment of the life left
+-- what one before it might have left, or all of `before` (`loses_nothing`).
+pub record HasLived {D N C J : Type 0} (p : LifePromises D N C J) (given : Given D N C J) (begun : Begun D N C J) (before : List Event)
+    (ending : Ending N C J (SeenKeeper D)) : Type 0 where
+  pub edge : SeenEdge (List Named)
+  pub reached : Reached chain.ghosts edge (loop_of given begun edge before).journey
+  pub served : HasServed (in_loop p) (loop_of given begun edge before) ending.fault ending.tools
+  pub bounded : (s : LifeState D N C J) → Served (in_loop p) served.first s → IsBounded given.registry s.progress.journey.world.history
+  pub keeps : (s s' : LifeState D N C J) → Served (in_loop p) served.first s → Onward (in_loop p) s s' →
+      LeavesKept p given.registry s s'.keeper.file.device s'.progress.journey.world.history
+  pub keeps_then : (s : LifeState D N C J) → Served (in_loop p) served.first s → Onward (in_loop p) s served.last →
+      LeavesKept p given.registry s ending.tools.keeper.file.device served.last.progress.journey.world.history
+  pub loses_nothing : LosesNothing p given ending.tools.keeper.file.device before served.last.progress.journey.world.history
+
+-- Or the clocks told nothing, and it served no connection.
+pub record HasNotLived {D N C J : Type 0} (p : LifePromises D N C J) (given : Given D N C J) (begun : Begun D N C J) (before : List Event)
+    (ending : Ending N C J (SeenKeeper D)) : Type 0 where
+  pub edge : SeenEdge (List Named)
+  pub reached : Reached chain.ghosts edge (loop_of given begun edge before).journey
+  pub served : ServesNothing (in_loop p) (loop_of given begun edge before).tools ending.fault ending.tools
+  pub loses_nothing : LosesNothing p given ending.tools.keeper.file.device before before
+
+-- A LIFE
+
+-- what is left of its means, once it was served
+abbrev pub means_left : {N C J K : Type 0} → Means N C J → Ending N C J K → Means N C J
+means_left means ending = record means { sockets = ending.tools.sockets; clocks = ending.tools.clocks; journal = ending.tools.journal }
+
+-- the disk refuses what a start would write
+pub record CannotSettle {D N C J : Type 0} (p : LifePromises D N C J) (given : Given D N C J) (outlook : Outlook C) (fault : StateFault) (device : D) : Type 0 where
+  pub looks : LooksAt p given outlook
+  pub near : too_far_at given outlook ≡ None
+  pub of_disk : IsOfDisk fault
+  -- the device is as it was, unless the disk failed
+  pub untouched : IsUntouched fault → device ≡ given.device
+  pub loses_nothing : OfEachRun given.bytes (λ history. let before = begun_from looks.plan_is history in LosesNothing p given device before before)
+
+-- A life on the file of its state, by how it ended. The history `before` is that from which the server goes on: any one that the
+-- bytes stand for, or what is left of it under the registry, with the hooks.
+pub data IsLife {D N C J : Type 0} (p : LifePromises D N C J) (given : Given D N C J) : Life D N C J → Type 0 where
+  -- no plan is made of the bytes: nothing was done
+  is_refused : (fault : StateFault) → RefusesPlan given.registry given.hooks given.bytes fault → IsLife p given (life_of (ends.Refused fault) given.device given.means)
+  -- the clocks are too far ahead: they were read, and nothing else was done
+  is_ahead : (outlook : Outlook C) (seconds : ℕ) → LooksAt p given outlook → too_far_at given outlook ≡ Some seconds →
+      IsLife p given (life_of (ends.ClockAhead seconds) given.device (record given.means { clocks = outlook.clocks }))
+  -- the disk refuses what is to be written; the journal was told no more than what was put aside
+  is_unsettled : (outlook : Outlook C) (fault : StateFault) (device : D) (journal : J) → CannotSettle p given outlook fault device →
+      MayReport p.journal given.means.journal (torn_notices outlook.plan.torn.items) journal →
+      IsLife p given (life_of (ends.Refused fault) device (record given.means { clocks = outlook.clocks; journal = journal }))
+  -- clients could not be told where the sockets listen
+  is_unopened : (begun : Begun D N C J) (settles : Settles p given begun) →
+      OfEachRun given.bytes (λ history. let before = begun_from settles.looks.plan_is history in LosesNothing p given begun.keeper.file.device before before) →
+      IsLife p given (life_of ends.Unopened begun.keeper.file.device begun.means)
+  -- the server served until it could not go on
+  has_stopped : (begun : Begun D N C J) (settles : Settles p given begun) →
+      (ending : Ending N C J (SeenKeeper D)) → OfEachRun given.bytes (λ history. let before = begun_from settles.looks.plan_is history in
+      HasLived p given begun before ending ⊎ HasNotLived p given begun before ending) →
+      IsLife p given (life_of (ends.Stopped ending.fault ending.tools.keeper.fault) ending.tools.keeper.file.device (means_left begun.means ending))

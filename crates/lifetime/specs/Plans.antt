@@ -1,0 +1,55 @@
+-- What a start makes of the bytes of a state file, before anything is written.
+use Rattle.std.specs.Prelude.{◌≡◌, ◌≤◌, ◌⊎◌, ◌↔◌, ℕ, List, [], Option, None, Some, IsSome, IfSome, option_map}
+use Rattle.batch_file.specs.Frames.{recovered, torn_of}
+use Rattle.clients.specs.RegistryRecord.{RegistryRecord}
+use Rattle.consent.specs.History.{Event}
+use Rattle.endpoints.specs.Server.{outset_of}
+use Rattle.hook_chain.specs.Chains.{Named}
+use Rattle.hook_chain.specs.contracts.chain.ChainHookHost.TheImpl as chain
+use Rattle.image_codec.specs.Facts.{HookFact}
+use Rattle.state_file.specs.Hooks.{with_hooks}
+use Rattle.state_file.specs.Making.{MakesFrom, OnBytes, RefusesMaking, on_bytes}
+use Rattle.state_file.specs.Runs.{OfEachRun}
+use Rattle.state_file.specs.Standing.{IsMomentTold, until_of}
+use Rattle.state_file.specs.Telling.{Tell, rules_of}
+use Rattle.state_file.specs.declared.fault.StateFault.{StateFault}
+use Rattle.state_file.specs.declared.fault.StateFault.TheVariants as state
+use Rattle.state_narrowing.specs.Narrowing.{HasLeft, IsNarrower, IsUnnarrowed, history_under}
+use Rattle.state_narrowing.specs.declared.narrowed.Narrowed.{Narrowed}
+use Rattle.lifetime.specs.declared.plan.Plan.{Plan}
+
+-- what a start is made on: the bytes, or what is left of them
+abbrev pub bytes_under : List ℕ → Option Narrowed → List ℕ
+bytes_under bytes None = bytes
+bytes_under bytes (Some narrowed) = narrowed.bytes.items
+
+-- a start on these bytes, with a chain that has no hook but those that they tell, and these
+abbrev pub start_of : RegistryRecord → List HookFact → List ℕ → OnBytes (List Named)
+start_of rules hooks bytes = on_bytes bytes (outset_of rules []) hooks
+
+-- The plan is one of the bytes. Whatever history they stand for: with those of the hooks that it lacks, the server goes on from
+-- that history under these rules, and the batches of the new file stand for it. Where the rules are narrower than those that
+-- the bytes tell, and only there, it is what is left of the history from which it goes on.
+pub record IsPlanOf (rules : RegistryRecord) (hooks : List HookFact) (bytes : List ℕ) (plan : Plan) : Type 0 where
+  pub narrowed : Option Narrowed
+  pub ended : plan.ended ≡ option_map (λ left. left.ended) narrowed
+  pub narrower : IsSome narrowed ↔ IsNarrower bytes (rules_of rules)
+  pub left : IfSome narrowed (λ left. OfEachRun bytes (HasLeft chain.ghosts [] rules left))
+  pub makes : OfEachRun bytes (λ history. MakesFrom chain.ghosts (start_of rules hooks bytes) plan.prepared (history_under rules narrowed history))
+  -- the new file tells the rules, and no earlier moment than the bytes did
+  pub tell : Tell plan.prepared.batches (rules_of rules)
+  pub until : until_of (recovered bytes) ≤ until_of plan.prepared.batches
+  pub later : until_of (recovered bytes) ≤ plan.prepared.moment
+  -- it goes on from no other moment than the bytes tell, or what is left of them
+  pub moment_is : IsMomentTold (recovered (bytes_under bytes narrowed)) plan.prepared.moment
+  pub torn_is : plan.torn.items ≡ torn_of bytes
+
+-- the history from which the server goes on by the plan: that which the bytes stand for, or what is left of it, with the hooks
+abbrev pub begun_from : {rules : RegistryRecord} {hooks : List HookFact} {bytes : List ℕ} {plan : Plan} → IsPlanOf rules hooks bytes plan → List Event → List Event
+begun_from {rules} {hooks} {bytes} {plan} is history = with_hooks plan.prepared.moment (history_under rules is.narrowed history) hooks
+
+-- why there is none: for what the bytes tell beside the rules, or for what is made of them, or of what is left of them
+abbrev pub RefusesPlan : RegistryRecord → List HookFact → List ℕ → StateFault → Type 0
+RefusesPlan rules hooks bytes fault =
+    (fault ≡ state.Memory) ⊎ IsUnnarrowed bytes (rules_of rules) fault
+    ⊎ ((narrowed : Option Narrowed) × RefusesMaking chain.ghosts (start_of rules hooks (bytes_under bytes narrowed)) fault)

@@ -1,0 +1,38 @@
+-- A server that serves its connections until it can't go on.
+use Rattle.std.specs.Prelude.{◌⊎◌, ℕ, List, Some}
+use Rattle.consent.specs.History.{Event}
+use Rattle.endpoints.specs.Server.{SeenServer, Outset, FitsServer, Notes}
+use Rattle.event_loop.specs.Ends.{HasServed, ServesNothing}
+use Rattle.event_loop.specs.LoopStates.{Promises}
+use Rattle.event_loop.specs.declared.tools.Tools.{Tools}
+use Rattle.hook_chain.specs.Chains.{Named}
+use Rattle.http_edge.specs.Edges.{SeenEdge}
+use Rattle.http_edge.specs.Reached.{Journey, Reached, resumed_journey}
+use Rattle.lifetime.specs.declared.means.Means.{Means}
+use Rattle.lifetime.specs.declared.serving.Ending.{Ending}
+
+-- the tools of the loop: what a server was handed, its keeper and an edge
+abbrev pub tools_of : {N C J K H : Type 0} → Means N C J → K → SeenEdge H → Tools N C J K H
+tools_of means keeper edge = record {
+  sockets = means.sockets;
+  edge = edge;
+  clocks = means.clocks;
+  generator = means.generator;
+  journal = means.journal;
+  keeper = keeper;
+}
+
+-- A server, from where its journey had led it, served its connections step by step until it could not go on; or the clocks told
+-- nothing, and it served none.
+pub record Serves {N C J K : Type 0} (p : Promises N C J K (List Named)) (journey : Journey (List Named)) (means : Means N C J) (keeper : K)
+    (ending : Ending N C J K) : Type 0 where
+  pub edge : SeenEdge (List Named)
+  pub begun : Reached p.hosting edge journey
+  pub served : HasServed p (record { limits = means.limits; tools = tools_of means keeper edge; journey = journey }) ending.fault ending.tools
+      ⊎ ServesNothing p (tools_of means keeper edge) ending.fault ending.tools
+
+-- from whatever history on the server has noted what happens, it served from there
+abbrev pub ServesFrom : {N C J K : Type 0} → Promises N C J K (List Named) → SeenServer (List Named) → Means N C J → K → Ending N C J K → Type 0
+ServesFrom p server means keeper ending =
+    (outset : Outset _) (history : List Event) (m : ℕ) → FitsServer p.hosting server outset history m → Notes server (Some history) history →
+    Serves p (resumed_journey outset history m) means keeper ending

@@ -1,0 +1,19 @@
+//! A server's life on the file of its state: it is started on what stands there, serves until it can't go on, and gives back all
+//! that it was handed. What a crash leaves at any moment of one life another one may begin on.
+#![tactic(auto)]
+
+mod clock;
+mod laws;
+mod life;
+mod means;
+mod opening;
+mod plan;
+mod serving;
+mod settling;
+
+pub use laws::lives_lose_nothing;
+pub use life::{Life, LifeEnd, live};
+pub use means::Means;
+pub use opening::{Opening, Unopened};
+pub use plan::{Plan, plan_of};
+pub use serving::{AnewEnd, live_anew};

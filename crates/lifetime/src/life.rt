@@ -1,0 +1,175 @@
+//! A server's life on the file of its state.
+
+ghost use Rattle.std.specs.Prelude.{◌≡◌, map};
+ghost use Rattle.image_codec.specs.Facts.{hook_fact};
+ghost use Rattle.lifetime.specs.Given.{given, life_promises};
+ghost use Rattle.lifetime.specs.Lives.{IsLife};
+ghost use Rattle.lifetime.specs.Openings.{IsOpenedBy};
+ghost use Rattle.lifetime.specs.LivesParts.{Begins, IsGoneOn, LivesBy, outlook_of};
+
+use crate::clock::too_far;
+use crate::means::Means;
+use crate::opening::Opening;
+use crate::plan::{Plan, plan_of};
+use crate::serving::{Ending, go_on_with};
+use crate::settling::settle;
+use batch_file::appending::BatchFault;
+use batch_file::device::Device;
+use clients::Registry;
+use event_loop::{Clocks, Journal, LoopFault, Sockets, Times};
+use hook_chain::Chain;
+use image_codec::KeptHook;
+use state_file::{NotStarted, Started, StateFault};
+use std::alloc::Global;
+
+/// Why a life ended.
+#[derive(Drop)]
+pub enum LifeEnd {
+    /// No server is started on the file: what stands there, the registry or a hook is refused, or the disk refused the new file.
+    Refused(StateFault),
+    /// The clock is so many seconds ahead of the state, more than it may be.
+    ClockAhead(u64),
+    /// Clients could not be told where the sockets listen.
+    Unopened,
+    /// The server could not go on.
+    Stopped {
+        fault: LoopFault,
+        /// Why nothing more could be kept, where that was so.
+        why: Option<BatchFault>,
+    },
+}
+
+/// What is left of a life: why it ended, and what it was handed, as that was left.
+#[derive(Drop)]
+pub struct Life<D, N, C, J> {
+    pub end: LifeEnd,
+    pub device: D,
+    pub sockets: N,
+    pub clocks: C,
+    pub journal: J,
+}
+
+impl<D, N, C, J> Life<D, N, C, J> {
+    ghost use Rattle.lifetime.specs.Given.{life_of};
+
+    /// A life that ends so gives its device back, and its means.
+    fn of(end: LifeEnd, device: D, means: Means<N, C, J>) -> Life<D, N, C, J>
+        ensures { result ≡ life_of end device means }
+    {
+        Life {
+            end,
+            device,
+            sockets: means.sockets,
+            clocks: means.clocks,
+            journal: means.journal,
+        }
+    }
+}
+
+/// Goes on from what a start has settled: tells clients where the sockets listen, and serves up to 64 connections at once until
+/// it can't go on.
+fn go_on<D: Device + Drop, N: Sockets, C: Clocks, J: Journal, O: Opening>(
+    alloc: Global,
+    started: Started<D, Chain>,
+    means: Means<N, C, J>,
+    opening: &mut O,
+) -> Life<D, N, C, J>
+    ensures gone_on { IsGoneOn (life_promises D.Device N.Sockets C.Clocks J.Journal) started.server started.keeper means result }
+    ensures opened { IsOpenedBy O.Opening.opens opening.old result.end opening.new }
+{
+    if opening.open().is_err() {
+        return Life::of(LifeEnd::Unopened, started.keeper.into_device(), means);
+    }
+    let Ending { fault, tools } = go_on_with(alloc, started.server, started.keeper, means);
+    let why = tools.keeper.fault();
+    Life {
+        end: LifeEnd::Stopped { fault, why },
+        device: tools.keeper.into_device(),
+        sockets: tools.sockets,
+        clocks: tools.clocks,
+        journal: tools.journal,
+    }
+}
+
+/// Settles what a plan has made, and goes on from there.
+fn begin<D: Device + Drop, N: Sockets, C: Clocks, J: Journal, O: Opening>(
+    alloc: Global,
+    device: D,
+    plan: Plan,
+    now: Option<Times>,
+    means: Means<N, C, J>,
+    opening: &mut O,
+) -> Life<D, N, C, J>
+    requires faultless { D.faults device ≡ 0 }
+    ensures begins { Begins (life_promises D.Device N.Sockets C.Clocks J.Journal) device (outlook_of plan now means.clocks) means result }
+    ensures opened { IsOpenedBy O.Opening.opens opening.old result.end opening.new }
+{
+    let Means {
+        sockets,
+        clocks,
+        mut journal,
+        generator,
+        limits,
+        ahead,
+    } = means;
+    let settled = settle(device, plan, now, &mut journal);
+    let means = Means {
+        sockets,
+        clocks,
+        journal,
+        generator,
+        limits,
+        ahead,
+    };
+    match settled {
+        Ok(started) => go_on(alloc, started, means, opening),
+        Err(NotStarted { fault, device }) => Life::of(LifeEnd::Refused(fault), device, means),
+    }
+}
+
+/// Reads the clocks, and begins by a plan unless they are too far ahead.
+fn look<D: Device + Drop, N: Sockets, C: Clocks, J: Journal, O: Opening>(
+    alloc: Global,
+    device: D,
+    plan: Plan,
+    means: Means<N, C, J>,
+    opening: &mut O,
+) -> Life<D, N, C, J>
+    requires faultless { D.faults device ≡ 0 }
+    ensures lives { LivesBy (life_promises D.Device N.Sockets C.Clocks J.Journal) device plan means result }
+    ensures opened { IsOpenedBy O.Opening.opens opening.old result.end opening.new }
+{
+    let mut means = means;
+    let now = means.clocks.read();
+    match too_far(means.ahead, &now, plan.prepared.moment()) {
+        Some(seconds) => Life::of(LifeEnd::ClockAhead(seconds), device, means),
+        None => begin(alloc, device, plan, now, means, opening),
+    }
+}
+
+/// A server's life on the file of its state, whose bytes were read from the device. Nothing is written before it is known that
+/// the start goes on: what stands in the file, the registry and the hooks are looked at, then the clocks. Then what an unfinished
+/// write left is put aside, and the new file takes the place of the old one. Where the registry is narrower than the rules that
+/// the file tells, what goes beyond it ends; those of the hooks that the file lacks are installed behind those that it has.
+/// Clients are told where the sockets listen, and up to 64 connections are served at once until the server can't go on.
+pub fn live<D: Device + Drop, N: Sockets, C: Clocks, J: Journal, O: Opening>(
+    alloc: Global,
+    device: D,
+    bytes: Vec<u8>,
+    registry: Registry,
+    hooks: &[KeptHook<'_>],
+    means: Means<N, C, J>,
+    opening: &mut O,
+) -> Life<D, N, C, J>
+    requires faultless { D.faults device ≡ 0 }
+    ensures life { IsLife (life_promises D.Device N.Sockets C.Clocks J.Journal)
+        (given device bytes.items registry (map hook_fact hooks.now) means) result }
+    ensures opened { IsOpenedBy O.Opening.opens opening.old result.end opening.new }
+{
+    let planned = plan_of(alloc, &bytes, registry, hooks);
+    drop(bytes);
+    match planned {
+        Ok(plan) => look(alloc, device, plan, means, opening),
+        Err(fault) => Life::of(LifeEnd::Refused(fault), device, means),
+    }
+}

@@ -1,0 +1,17 @@
+-- A chain of hooks that came through a history was run.
+use Rattle.std.proofs.Common.{◌⊎◌, inl, inr, ℕ, List, []}
+use Rattle.batch_file.specs.Frames.{recovered}
+use Rattle.consent.specs.History.{Event}
+use Rattle.endpoints.specs.Hosts.{HostRun}
+use Rattle.hook_chain.specs.Chains.{Named}
+use Rattle.hook_chain.specs.contracts.chain.ChainHookHost.TheImpl as chain
+use Rattle.state_file.specs.ReplayingLaws.{replays}
+use Rattle.state_file.specs.Resuming.{HaveNoImage, WasRun}
+use Rattle.state_file.specs.Runs.{WasLived}
+
+was_run_by : (left : List ℕ) (history : List Event) → HaveNoImage (recovered left) ⊎ ((host : List Named) × HostRun chain.ghosts [] history host) → WasRun chain.ghosts [] left history
+was_run_by left history (inl none) = inl none
+was_run_by left history (inr ran) = inr (replays history ran.0 ran.1)
+
+pub was_run : (left : List ℕ) (history : List Event) → WasLived left history → WasRun chain.ghosts [] left history
+was_run left history lived = was_run_by left history lived.ran

@@ -1,0 +1,20 @@
+-- The histories that the bytes of a state file stand for, and that a server with a chain of hooks came through.
+use Rattle.std.specs.Prelude.{◌⊎◌, ℕ, List, []}
+use Rattle.batch_file.specs.Frames.{recovered}
+use Rattle.consent.specs.History.{Event}
+use Rattle.endpoints.specs.Hosts.{HostRun}
+use Rattle.hook_chain.specs.Chains.{Named}
+use Rattle.hook_chain.specs.contracts.chain.ChainHookHost.TheImpl as chain
+use Rattle.state_file.specs.Resuming.{HaveNoImage, WasRight}
+use Rattle.state_file.specs.Standing.{StandsFor}
+
+-- The bytes stand for the history, which was right. Where they begin with an image, that a chain of hooks came through it is
+-- asked for too: a server's did.
+pub record WasLived (left : List ℕ) (history : List Event) : Type 0 where
+  pub stands : StandsFor left history
+  pub right : WasRight left history
+  pub ran : HaveNoImage (recovered left) ⊎ ((host : List Named) × HostRun chain.ghosts [] history host)
+
+-- so it is of each of them
+abbrev pub OfEachRun : List ℕ → (List Event → Type 0) → Type 0
+OfEachRun left claim = (history : List Event) → WasLived left history → claim history

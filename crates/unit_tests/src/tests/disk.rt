@@ -1,0 +1,321 @@
+//! A file of batches over files without a system: which calls are made of them, and in which order.
+
+use batch_file::appending::BatchFile;
+use batch_file::device::Device;
+use batch_file::disk_file::{DiskFile, Opened, SystemFile, make};
+use batch_file::frames::Frames;
+use std::alloc::{AllocError, Allocator, Global};
+use std::cell::{Cell, RefCell};
+use std::fmt::Debug;
+use std::fs::{Metadata, OpenFile, OpenOptions, Permissions, TryLockError};
+use std::io::{self, ErrorKind, Read, Seek, SeekFrom, Write};
+use std::os::unix::fs::FileExt;
+use std::process::Abort;
+use std::rt::Files;
+use std::test::Fail;
+
+/// The calls that were made, a row each, and how many syncs are to succeed before one is refused.
+#[derive(Drop)]
+struct Calls {
+    rows: RefCell<String>,
+    syncs: Cell<usize>,
+}
+
+/// A machine on whose disk there is an empty file at each path.
+#[derive(Clone, Copy)]
+struct Machine<'c> {
+    alloc: Global,
+    calls: &'c Calls,
+}
+
+impl Machine<'_> {
+    /// Notes a call on a path, with the bytes that it was given.
+    fn note(&self, call: &str, path: &str, bytes: &[u8]) -> io::Result<()> {
+        let bytes = hex::encode(self.alloc, bytes)?;
+        let row = format!(in self.alloc; "{call} {path} {bytes}")?;
+        let Ok(mut rows) = self.calls.rows.try_borrow_mut() else {
+            return Err(io::Error::from(ErrorKind::Other));
+        };
+        rows.push_str(row.trim_end())?;
+        rows.push('\n')?;
+        Ok(())
+    }
+
+    /// Notes a sync, and refuses it where it is that one's turn.
+    fn sync(&self, call: &str, path: &str) -> io::Result<()> {
+        self.note(call, path, b"")?;
+        let syncs = self.calls.syncs.get();
+        self.calls.syncs.set(syncs.saturating_sub(1));
+        if syncs == 0 {
+            return Err(io::Error::from_raw_os_error(5));
+        }
+        Ok(())
+    }
+}
+
+impl Alloc for Machine<'_> {
+    type A = Global;
+
+    fn alloc(&self) -> Global {
+        self.alloc
+    }
+}
+
+/// An open file or folder. It goes by the name under which it was opened, also once it was renamed.
+#[derive(Drop)]
+struct Open<'c> {
+    machine: Machine<'c>,
+    path: String,
+}
+
+impl Read for Open<'_> {
+    fn read(&mut self, _buf: &mut [u8]) -> io::Result<usize> {
+        Ok(0)
+    }
+}
+
+impl Write for Open<'_> {
+    fn write(&mut self, buf: &[u8]) -> io::Result<usize> {
+        self.machine.note("write", &self.path, buf)?;
+        Ok(buf.len())
+    }
+
+    fn flush(&mut self) -> io::Result<()> {
+        Ok(())
+    }
+}
+
+impl Seek for Open<'_> {
+    fn seek(&mut self, _to: SeekFrom) -> io::Result<u64> {
+        Err(io::Error::from(ErrorKind::Unsupported))
+    }
+}
+
+impl OpenFile for Open<'_> {
+    fn metadata(&self) -> io::Result<Metadata> {
+        Ok(Metadata::of_file(0))
+    }
+
+    fn set_len(&self, _size: u64) -> io::Result<()> {
+        Err(io::Error::from(ErrorKind::Unsupported))
+    }
+
+    fn sync_all(&self) -> io::Result<()> {
+        self.machine.sync("sync_all", &self.path)
+    }
+
+    fn sync_data(&self) -> io::Result<()> {
+        self.machine.sync("sync_data", &self.path)
+    }
+
+    fn set_permissions(&self, _perm: Permissions) -> io::Result<()> {
+        self.machine.note("set_permissions", &self.path, b"")
+    }
+}
+
+impl FileExt for Open<'_> {
+    fn read_at(&self, _buf: &mut [u8], _offset: u64) -> io::Result<usize> {
+        Ok(0)
+    }
+
+    fn write_at(&self, buf: &[u8], offset: u64) -> io::Result<usize> {
+        let call = format!(in self.machine.alloc; "write at {offset}")?;
+        self.machine.note(&call, &self.path, buf)?;
+        Ok(buf.len())
+    }
+}
+
+impl SystemFile for Open<'_> {
+    fn try_lock(&self) -> Result<(), TryLockError> {
+        match self.machine.note("lock", &self.path, b"") {
+            Ok(()) => Ok(()),
+            Err(error) => Err(TryLockError::Error(error)),
+        }
+    }
+}
+
+impl<'c> Files for Machine<'c> {
+    type File = Open<'c>;
+
+    type Dir = Open<'c>;
+
+    fn open_file(&self, how: &OpenOptions, path: &str) -> io::Result<Open<'c>> {
+        let call = if how.asks_create_new() {
+            "make"
+        } else {
+            "open"
+        };
+        self.note(call, path, b"")?;
+        let path = String::from_str(self.alloc, path)?;
+        Ok(Open {
+            machine: *self,
+            path,
+        })
+    }
+
+    fn open_dir(&self, _path: &str) -> io::Result<Open<'c>> {
+        Err(io::Error::from(ErrorKind::Unsupported))
+    }
+
+    fn metadata(&self, _path: &str) -> io::Result<Metadata> {
+        Ok(Metadata::of_file(0))
+    }
+
+    fn symlink_metadata(&self, _path: &str) -> io::Result<Metadata> {
+        Ok(Metadata::of_file(0))
+    }
+
+    fn copy(&self, _from: &str, _to: &str) -> io::Result<u64> {
+        Err(io::Error::from(ErrorKind::Unsupported))
+    }
+
+    fn rename(&self, from: &str, to: &str) -> io::Result<()> {
+        let call = format!(in self.alloc; "rename {from} to")?;
+        self.note(&call, to, b"")
+    }
+
+    fn remove_file(&self, path: &str) -> io::Result<()> {
+        self.note("remove", path, b"")
+    }
+
+    fn create_dir(&self, _path: &str) -> io::Result<()> {
+        Err(io::Error::from(ErrorKind::Unsupported))
+    }
+
+    fn remove_dir(&self, _path: &str) -> io::Result<()> {
+        Err(io::Error::from(ErrorKind::Unsupported))
+    }
+
+    fn remove_dir_all<B: Allocator>(&self, _alloc: B, _path: &str) -> io::Result<()> {
+        Err(io::Error::from(ErrorKind::Unsupported))
+    }
+}
+
+/// What is done with a file of batches.
+#[derive(Clone, Copy, Debug)]
+enum Call {
+    Open,
+    Append,
+    Replace,
+    SetAside,
+    Make,
+}
+
+/// How a call ended.
+fn told<E: Debug + Drop>(alloc: Global, answer: Result<(), E>) -> Result<String, AllocError> {
+    match answer {
+        Ok(()) => String::from_str(alloc, "done"),
+        Err(fault) => format!(in alloc; "{fault:?}"),
+    }
+}
+
+/// Opens a file. For another call it then puts one of no batch in its place, and does that, over a disk that refuses a sync
+/// once so many have succeeded. It gives how the call ended.
+fn ended(machine: Machine<'_>, call: Call, syncs: usize) -> Result<String, Fail> {
+    let Machine { alloc, calls } = machine;
+    let opened = DiskFile::open(&machine, "state")?;
+    if let Call::Open = call {
+        return Ok(String::from_str(alloc, "done")?);
+    }
+    let Ok(mut file) = BatchFile::place(opened.device, Frames::new(alloc)?) else {
+        return Err(Fail::from("no file is put there"));
+    };
+    if let Ok(mut rows) = calls.rows.try_borrow_mut() {
+        rows.clear();
+    }
+    calls.syncs.set(syncs);
+    Ok(match call {
+        Call::Open => String::new(alloc),
+        Call::Append => told(alloc, file.append(b"abc"))?,
+        Call::Replace => told(alloc, file.replace(Frames::new(alloc)?))?,
+        Call::SetAside => told(alloc, file.device.set_aside(b"abc"))?,
+        Call::Make => told(alloc, make(&machine, "other", b"abc"))?,
+    })
+}
+
+/// The lock is held before the file is opened, and nothing is written.
+const OPENED: [&str; 4] = ["open .", "open state.lock", "lock state.lock", "open state"];
+
+/// Behind the header of 16 bytes and a closed latch: the batch's length, the first 16 bytes of the SHA-256 of header, length and
+/// batch, the batch, and a closed latch; and once they are on the disk, the open latch before them.
+const APPENDED: [&str; 6] = [
+    "write at 17 state.next 00000003ba307db4176e9dd8a5a4f87f65a9fefe",
+    "write at 37 state.next 616263",
+    "write at 40 state.next 00",
+    "sync_data state.next",
+    "write at 16 state.next ff",
+    "sync_data state.next",
+];
+
+/// The next file is on the disk before it has the name, and the name before it is acknowledged.
+const REPLACED: [&str; 7] = [
+    "remove state.next",
+    "make state.next",
+    "set_permissions state.next",
+    "write state.next 6f61757468642073746174652076320a00",
+    "sync_all state.next",
+    "rename state.next to state",
+    "sync_all .",
+];
+
+const SET_ASIDE: [&str; 5] = [
+    "remove state.torn",
+    "make state.torn",
+    "write state.torn 616263",
+    "sync_all state.torn",
+    "sync_all .",
+];
+
+const MADE: [&str; 5] = [
+    "open .",
+    "make other",
+    "write other 616263",
+    "sync_all other",
+    "sync_all .",
+];
+
+const FAILED: &str = "Failed(InputOutput)";
+
+const UNPLACED: &str = "remove state.next\nUnplaced(InputOutput)";
+
+const NOT_ASIDE: &str = "remove state.torn\nFailed(InputOutput)";
+
+const UNMADE: &str = "remove other\nMake(InputOutput)";
+
+#[test]
+fn what_is_acknowledged_is_on_the_disk(rt: HostRuntime) -> Result<(), Fail> {
+    let alloc = rt.alloc();
+    let cases: [(Call, usize, &[&str], &str); 13] = [
+        (Call::Open, 9, &OPENED, "done"),
+        (Call::Append, 9, &APPENDED, "done"),
+        (Call::Append, 0, &APPENDED[..4], FAILED),
+        (Call::Append, 1, &APPENDED, FAILED),
+        (Call::Replace, 9, &REPLACED, "done"),
+        (Call::Replace, 0, &REPLACED[..5], UNPLACED),
+        (Call::Replace, 1, &REPLACED, FAILED),
+        (Call::SetAside, 9, &SET_ASIDE, "done"),
+        (Call::SetAside, 0, &SET_ASIDE[..4], NOT_ASIDE),
+        (Call::SetAside, 1, &SET_ASIDE, NOT_ASIDE),
+        (Call::Make, 9, &MADE, "done"),
+        (Call::Make, 0, &MADE[..4], UNMADE),
+        (Call::Make, 1, &MADE, UNMADE),
+    ];
+    for (call, syncs, rows, end) in cases {
+        let calls = Calls {
+            rows: RefCell::new(String::new(alloc)),
+            syncs: Cell::new(9),
+        };
+        let machine = Machine {
+            alloc,
+            calls: &calls,
+        };
+        let ended = ended(machine, call, syncs)?;
+        let made = calls.rows.into_inner();
+        let mut wanted = rows.join(alloc, "\n")?;
+        wanted.push('\n')?;
+        wanted.push_str(end)?;
+        let found = format!(in alloc; "{made}{ended}")?;
+        assert_eq!(rt; found.as_str(), wanted.as_str(), "{call:?} {syncs}");
+    }
+    Ok(())
+}
