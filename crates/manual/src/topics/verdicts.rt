@@ -17,7 +17,7 @@ JumpOut(N): the jump at slot N leads past the last instruction. Let it lead to a
     Topic {
         name: "JumpBack",
         text: "\
-JumpBack(N): the jump at slot N leads to itself or back. A hook only jumps forward, so that it ends: write a loop out. All instructions are looked at for this, also those that nothing reaches.
+JumpBack(N): the jump at slot N leads to itself or back. A hook only jumps forward, so that it ends: write a loop out, one turn below the other (in C: #pragma unroll above it). All instructions are looked at for this, also those that nothing reaches.
 
   ja -1                    mov64 r0 1
                            exit
@@ -76,7 +76,7 @@ UnsetByte(N): the load at slot N may read a byte of the stack that is not set on
     Topic {
         name: "OutOfRegion",
         text: "\
-OutOfRegion(N): the load or store at slot N may leave the record or the stack. The stack is the 512 bytes below r10, the record the 64 or 96 bytes from r1 on.
+OutOfRegion(N): the load or store at slot N may leave the record or the stack. The stack is the 512 bytes below r10, the record the 64 bytes from r1 on, or with check2 the 96.
 
   ldxb r0 r10 0            ldxb r0 r1 0
                            exit
