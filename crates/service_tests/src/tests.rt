@@ -490,10 +490,7 @@ fn what_an_unfinished_write_left_is_put_aside(rt: HostRuntime) -> Result<(), Fai
     let alloc = rt.alloc();
     let config = registry_path(&rt)?;
     let path = path_of(&rt, b"oauthd state v2\n\0abc")?;
-    let words = words_of(
-        alloc,
-        &["start", "127.0.0.1:0", &config, "--state", &path],
-    )?;
+    let words = words_of(alloc, &["start", "127.0.0.1:0", &config, "--state", &path])?;
     // It can't tell where it listens, and so it ends.
     let mut out = Page {
         text: Vec::new(alloc),
@@ -523,10 +520,7 @@ fn a_refused_start_writes_nothing(rt: HostRuntime) -> Result<(), Fail> {
         return Err(Fail::from("no hex"));
     };
     let path = path_of(&rt, &bytes)?;
-    let begun = done(
-        &rt,
-        &["start", "127.0.0.1:0", &config, "--state", &path],
-    )?;
+    let begun = done(&rt, &["start", "127.0.0.1:0", &config, "--state", &path])?;
     let told = format!(in rt.alloc(); "oauthd: State NoRules: {path}\n")?;
     assert_eq!(rt; begun.status, 2);
     assert_eq!(rt; begun.err.text(), told.as_str());

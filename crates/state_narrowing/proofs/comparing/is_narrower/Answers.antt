@@ -16,9 +16,9 @@ beside batches batch told now (Err fault) at tells one exact = tt
 beside batches batch told now (Ok less) at tells one exact = (
   λ yes. record { told = told; tells = (batch, at, tells); less = exact.0 yes },
   λ narrower.
-    let same : Some narrower.tells.0 ≡ Some batch = sym narrower.tells.1 ∙ at in
-    let here : narrower.tells.0 ≡ batch = cc in
-    exact.1 (subst (λ (r : RulesFact). AreLess r now) (one narrower.told (subst (λ (b : List ℕ). TellsIn b narrower.told) here narrower.tells.2)) narrower.less),
+      let same : Some narrower.tells.0 ≡ Some batch = sym narrower.tells.1 ∙ at in
+      let here : narrower.tells.0 ≡ batch = cc in
+      exact.1 (subst (λ (r : RulesFact). AreLess r now) (one narrower.told (subst (λ (b : List ℕ). TellsIn b narrower.told) here narrower.tells.2)) narrower.less),
 )
 
 pub returns-clause-exact : goal.returns-clause-exact
