@@ -1,9 +1,14 @@
--- Registers whose number is another's plus a constant.
-use Rattle.std.proofs.Common.{◌≡◌, ◌≢◌, ℕ, ◌+◌, ◌%◌, ◌^◌, ◌<◌, ◌≤◌, ◌==◌, ◌||◌, if◌then◌else◌, Bool, true, false, List, Option, Some, None, get_or, set, length, refl, sym, ap, ◌∙◌, subst, arith, inl, inr}
-use Rattle.std.specs.Int.{w64}
-use Rattle.std.proofs.lemmas.Bool.{cases_eq}
+-- Registers whose number is another's plus a constant or a constant less another's.
+use Rattle.std.proofs.Common.{◌≡◌, ◌≢◌, ℕ, suc, ◌+◌, ◌-◌, ◌/◌, ◌%◌, ◌^◌, ◌<◌, ◌≤◌, ◌==◌, ◌||◌, if◌then◌else◌, Bool, true, false, ℤ, pos, negsuc, List, Option, Some, None, get_or, set, length, refl, sym, ap, ◌∙◌, subst, arith, inl, inr}
+use Rattle.std.specs.Int.{w64, cast_signed, cast_unsigned, int_shr}
+use Rattle.std.specs.Ordering.{int_eq}
+use Rattle.std.proofs.lemmas.Bool.{cases_eq, cases_lt}
+use Rattle.std.proofs.lemmas.Bool.Decides.{Decides-int_eq}
+use Rattle.std.proofs.lemmas.Int.{to_z_pos}
 use Rattle.std.proofs.lemmas.List.{get_or-set_other, get_or-set_same, length-set}
-use Rattle.insn.specs.declared.operation.BinOp.TheVariants.{Add, Sub}
+use mir.ValLaws.{to_z-neg}
+use Rattle.insn.specs.declared.operation.BinOp.{BinOp}
+use Rattle.insn.specs.declared.operation.BinOp.TheVariants.{Add, Sub, Lsh, Rsh, Arsh}
 use Rattle.insn.specs.declared.operation.Cond.TheVariants.{Eq}
 use Rattle.insn.specs.declared.operation.Width.{Width}
 use Rattle.insn.specs.declared.operation.Width.TheVariants.{W32, W64}
@@ -11,36 +16,106 @@ use Rattle.insn.specs.declared.register.RegNo.{RegNo}
 use Rattle.insn.specs.declared.state.Value.{Value}
 use Rattle.insn.specs.declared.state.Value.TheVariants.{Number, Address}
 use Rattle.insn.specs.Instruction.{reg_number}
-use Rattle.range.specs.Domain.{IsRefined, IsSoundResult}
+use Rattle.range.specs.Domain.{IsRefined}
 use Rattle.scalar.specs.declared.scalar.Scalar.{Scalar}
 use Rattle.scalar.specs.MemberLaws.{InScalar-words}
 use Rattle.scalar.specs.Members.{InScalar}
-use Rattle.insn.specs.Word.{int_width, word_holds, word_result, wrapped}
+use Rattle.insn.specs.Word.{word_holds, word_result, wrapped}
+use Rattle.verifier.specs.declared.link.Bits.{Bits}
+use Rattle.verifier.specs.declared.link.Bits.TheVariants.{Lowest, Shifted}
 use Rattle.verifier.specs.declared.link.Link.{Link}
 use Rattle.verifier.specs.declared.link.Links.{Links}
-use Rattle.verifier.specs.Links.{AreLeft, AreLinked, AreLinksJoined, AreMade, IsLinkJoin, LinkHolds, LinksHold, lesser, link_at, link_left}
+use Rattle.verifier.specs.declared.link.Relation.{Relation}
+use Rattle.verifier.specs.declared.link.Relation.TheVariants.{Sum, Difference}
+use Rattle.verifier.specs.Learnt.{IsDerived, IsTraced}
+use Rattle.verifier.specs.Links.{AreLeft, AreLinked, AreLinksJoined, AreMade, AreRelated, IsLinkJoin, LinkHolds, LinksHold, bits_after, lesser, link_at, link_left, plus_after}
 
 -- ---- numbers
 
 -- a constant is added to a number that is linked
-pub sum_linked : (w v : Width) (a b p c : ℕ) → wrapped (int_width v) b ≡ wrapped (int_width v) (a + p)
-    → wrapped (int_width (lesser w v)) (word_result w Add b c) ≡ wrapped (int_width (lesser w v)) (a + wrapped w64 (p + c))
-sum_linked W64 W64 a b p c e = omega arith
-sum_linked W64 W32 a b p c e = omega arith
-sum_linked W32 W64 a b p c e = omega arith
-sum_linked W32 W32 a b p c e = omega arith
+added : (r : Relation) (w v : Width) (p c a b : ℕ) → AreRelated r (Lowest v) p a b → AreRelated r (Lowest (lesser w v)) (wrapped w64 (p + c)) a (word_result w Add b c)
+added Sum W64 W64 p c a b h = omega arith
+added Sum W64 W32 p c a b h = omega arith
+added Sum W32 W64 p c a b h = omega arith
+added Sum W32 W32 p c a b h = omega arith
+added Difference W64 W64 p c a b h = omega arith
+added Difference W64 W32 p c a b h = omega arith
+added Difference W32 W64 p c a b h = omega arith
+added Difference W32 W32 p c a b h = omega arith
+
+-- it is shifted up by half a word, and down
+shifted_up : (r : Relation) (v : Width) (p a b : ℕ) → AreRelated r (Lowest v) p a b → AreRelated r Shifted p a (word_result W64 Lsh b 32)
+shifted_up Sum W64 p a b h = omega arith
+shifted_up Sum W32 p a b h = omega arith
+shifted_up Difference W64 p a b h = omega arith
+shifted_up Difference W32 p a b h = omega arith
+
+shifted_down : (r : Relation) (p a b c : ℕ) → c % 2 ^ 32 ≡ b / 2 ^ 32 % 2 ^ 32 → AreRelated r Shifted p a b → AreRelated r (Lowest W32) p a c
+shifted_down Sum p a b c e h = omega arith
+shifted_down Difference p a b c e h = omega arith
+
+-- what stands in the low half after a signed shift
+down_signed : (b : ℕ) → b < 2 ^ 64 → word_result W64 Arsh b 32 % 2 ^ 32 ≡ b / 2 ^ 32 % 2 ^ 32
+down_signed b fits = elim (cases_lt b (2 ^ 63)) [
+  | inl small ↦ ap (λ z. cast_unsigned w64 (int_shr z 32) % 2 ^ 32) (to_z_pos w64 b small)
+  | inr large ↦
+      let back : 2 ^ 64 - suc (2 ^ 64 - suc b) ≡ b = omega arith in
+      let reading : cast_signed w64 b ≡ negsuc (2 ^ 64 - suc b) = ap (cast_signed w64) (sym back) ∙ to_z-neg w64 (2 ^ 64 - suc b) (omega arith) in
+      ap (λ z. cast_unsigned w64 (int_shr z 32) % 2 ^ 32) reading ∙ omega arith
+]
+
+-- an operation on a number that is linked and a constant
+is_half : (imm : ℤ) (x after : Bits) → (if int_eq imm (pos 32) then Some x else None) ≡ Some after → (imm ≡ pos 32) × (x ≡ after)
+is_half imm x after e = by (int_eq imm (pos 32)) refl e where
+  by : (t : Bool) → int_eq imm (pos 32) ≡ t → (if t then Some x else None) ≡ Some after → (imm ≡ pos 32) × (x ≡ after)
+  by true q e = ((Decides-int_eq imm (pos 32)).0 q, cc)
+  by false q e = absurd cc
+
+module _ (r : Relation) (op : BinOp) (imm : ℤ) (p a b : ℕ) where
+  shifted_by : (x after : Bits) → (if int_eq imm (pos 32) then Some x else None) ≡ Some after → AreRelated r x p a (word_result W64 op b 32) → AreRelated r after p a (word_result W64 op b (cast_unsigned w64 imm))
+  shifted_by x after e h =
+      let half = is_half imm x after e in
+      subst (λ (i : ℤ). AreRelated r after p a (word_result W64 op b (cast_unsigned w64 i))) (sym half.0) (subst (λ (y : Bits). AreRelated r y p a (word_result W64 op b 32)) half.1 h)
+
+pub related_after : (r : Relation) (w : Width) (op : BinOp) (imm : ℤ) (bits after : Bits) (p a b : ℕ) → b < 2 ^ 64 → bits_after w op imm bits ≡ Some after → AreRelated r bits p a b
+    → AreRelated r after (plus_after op imm p) a (word_result w op b (cast_unsigned w64 imm))
+related_after r w Add imm (Lowest v) after p a b fits e h =
+    let c = cast_unsigned w64 imm in
+    let same : Lowest (lesser w v) ≡ after = cc in
+    subst (λ (x : Bits). AreRelated r x (wrapped w64 (p + c)) a (word_result w Add b c)) same (added r w v p c a b h)
+related_after r W64 Lsh imm (Lowest v) after p a b fits e h = shifted_by r Lsh imm p a b Shifted after e (shifted_up r v p a b h)
+related_after r W64 Rsh imm Shifted after p a b fits e h = shifted_by r Rsh imm p a b (Lowest W32) after e (shifted_down r p a b (word_result W64 Rsh b 32) refl h)
+related_after r W64 Arsh imm Shifted after p a b fits e h = shifted_by r Arsh imm p a b (Lowest W32) after e (shifted_down r p a b (word_result W64 Arsh b 32) (down_signed b fits) h)
+related_after r w op imm bits after p a b fits e h = absurd cc
+
+-- a number is taken from a constant
+pub is_less : (w : Width) (c a : ℕ) → a < 2 ^ 64 → AreRelated Difference (Lowest w) c a (word_result w Sub c a)
+is_less W64 c a fits = omega arith
+is_less W32 c a fits = omega arith
 
 same_is : (a b : ℕ) → a ≡ b → (a == b) ≡ true
 same_is a b e = rw e (grind (arith))
 
--- what is linked is the sum, and the other the difference
-pub linked_sum : (w : Width) (a b p : ℕ) → b < 2 ^ 64 → wrapped (int_width w) b ≡ wrapped (int_width w) (a + p) → word_holds w Eq b (word_result w Add a p) ≡ true
-linked_sum W64 a b p lt e = same_is b ((a + p) % 2 ^ 64) (omega arith)
-linked_sum W32 a b p lt e = same_is (b % 2 ^ 32) (((a % 2 ^ 32 + p % 2 ^ 32) % 2 ^ 32) % 2 ^ 32) (omega arith)
+-- a number that is linked is what is derived from the other one, and that is what is traced from it
+abbrev derived_word : Relation → Width → ℕ → ℕ → ℕ
+derived_word Sum w a p = word_result w Add a p
+derived_word Difference w a p = word_result w Sub p a
 
-pub linked_difference : (w : Width) (a b p : ℕ) → a < 2 ^ 64 → b < 2 ^ 64 → p < 2 ^ 64 → wrapped (int_width w) b ≡ wrapped (int_width w) (a + p) → word_holds w Eq a (word_result w Sub b p) ≡ true
-linked_difference W64 a b p la lb lp e = same_is a (word_result W64 Sub b p) (omega arith)
-linked_difference W32 a b p la lb lp e = same_is (a % 2 ^ 32) ((word_result W32 Sub b p) % 2 ^ 32) (omega arith)
+abbrev traced_word : Relation → Width → ℕ → ℕ → ℕ
+traced_word Sum w b p = word_result w Sub b p
+traced_word Difference w b p = word_result w Sub p b
+
+linked_derived : (r : Relation) (w : Width) (p a b : ℕ) → a < 2 ^ 64 → b < 2 ^ 64 → p < 2 ^ 64 → AreRelated r (Lowest w) p a b → word_holds w Eq b (derived_word r w a p) ≡ true
+linked_derived Sum W64 p a b la lb lp e = same_is b ((a + p) % 2 ^ 64) (omega arith)
+linked_derived Sum W32 p a b la lb lp e = same_is (b % 2 ^ 32) (((a % 2 ^ 32 + p % 2 ^ 32) % 2 ^ 32) % 2 ^ 32) (omega arith)
+linked_derived Difference W64 p a b la lb lp e = same_is b (word_result W64 Sub p a) (omega arith)
+linked_derived Difference W32 p a b la lb lp e = same_is (b % 2 ^ 32) ((word_result W32 Sub p a) % 2 ^ 32) (omega arith)
+
+linked_traced : (r : Relation) (w : Width) (p a b : ℕ) → a < 2 ^ 64 → b < 2 ^ 64 → p < 2 ^ 64 → AreRelated r (Lowest w) p a b → word_holds w Eq a (traced_word r w b p) ≡ true
+linked_traced Sum W64 p a b la lb lp e = same_is a (word_result W64 Sub b p) (omega arith)
+linked_traced Sum W32 p a b la lb lp e = same_is (a % 2 ^ 32) ((word_result W32 Sub b p) % 2 ^ 32) (omega arith)
+linked_traced Difference W64 p a b la lb lp e = same_is a (word_result W64 Sub p b) (omega arith)
+linked_traced Difference W32 p a b la lb lp e = same_is (a % 2 ^ 32) ((word_result W32 Sub p b) % 2 ^ 32) (omega arith)
 
 -- ---- links that are left
 
@@ -186,18 +261,35 @@ IsJoinedWith other k old new = IsLinkJoin old (get_or other k None) new
 
 -- ---- numbers that are linked
 
-module _ (link : Link) (a plus sums : Scalar) (is_plus : InScalar plus link.plus) (add : IsSoundResult InScalar Add link.width a plus sums) (b : Scalar) where
-  pub no_sum : IsRefined InScalar Eq link.width true b sums None → (x y : ℕ) → InScalar a x → InScalar b y → AreLinked link x y → ⊥
-  no_sum h x y at_a at_b l = h y (word_result link.width Add x link.plus) at_b (add x link.plus at_a is_plus) (linked_sum link.width x y link.plus (InScalar-words b y at_b) l)
+derived_in : (r : Relation) (w : Width) (a plus derived : Scalar) → IsDerived r w a plus derived → (x p : ℕ) → InScalar a x → InScalar plus p → InScalar derived (derived_word r w x p)
+derived_in Sum w a plus derived g x p at_a at_plus = g.sound x p at_a at_plus
+derived_in Difference w a plus derived g x p at_a at_plus = g.sound p x at_plus at_a
 
-  pub sum_met : (r : Scalar × Scalar) → IsRefined InScalar Eq link.width true b sums (Some r) → (x y : ℕ) → InScalar a x → InScalar b y → AreLinked link x y → InScalar r.0 y
-  sum_met r h x y at_a at_b l = (h y (word_result link.width Add x link.plus) at_b (add x link.plus at_a is_plus) (linked_sum link.width x y link.plus (InScalar-words b y at_b) l)).0
+traced_in : (r : Relation) (w : Width) (b plus traced : Scalar) → IsTraced r w b plus traced → (y p : ℕ) → InScalar b y → InScalar plus p → InScalar traced (traced_word r w y p)
+traced_in Sum w b plus traced g y p at_b at_plus = g.sound y p at_b at_plus
+traced_in Difference w b plus traced g y p at_b at_plus = g.sound p y at_plus at_b
 
-module _ (link : Link) (b plus differences : Scalar) (is_plus : InScalar plus link.plus) (sub : IsSoundResult InScalar Sub link.width b plus differences) (a : Scalar) where
-  pub no_difference : IsRefined InScalar Eq link.width true a differences None → (x y : ℕ) → InScalar a x → InScalar b y → AreLinked link x y → ⊥
-  no_difference h x y at_a at_b l =
-      h x (word_result link.width Sub y link.plus) at_a (sub y link.plus at_b is_plus) (linked_difference link.width x y link.plus (InScalar-words a x at_a) (InScalar-words b y at_b) (InScalar-words plus link.plus is_plus) l)
+module _ (link : Link) (w : Width) (lowest : link.bits ≡ Lowest w) (plus : Scalar) (is_plus : InScalar plus link.plus) (a b : Scalar) where
+  related : (x y : ℕ) → AreLinked link x y → AreRelated link.relation (Lowest w) link.plus x y
+  related x y l = subst (λ (bits : Bits). AreRelated link.relation bits link.plus x y) lowest l
 
-  pub difference_met : (r : Scalar × Scalar) → IsRefined InScalar Eq link.width true a differences (Some r) → (x y : ℕ) → InScalar a x → InScalar b y → AreLinked link x y → InScalar r.0 x
-  difference_met r h x y at_a at_b l =
-      (h x (word_result link.width Sub y link.plus) at_a (sub y link.plus at_b is_plus) (linked_difference link.width x y link.plus (InScalar-words a x at_a) (InScalar-words b y at_b) (InScalar-words plus link.plus is_plus) l)).0
+  module _ (x y : ℕ) (at_a : InScalar a x) (at_b : InScalar b y) (l : AreLinked link x y) where
+    derives : word_holds w Eq y (derived_word link.relation w x link.plus) ≡ true
+    derives = linked_derived link.relation w link.plus x y (InScalar-words a x at_a) (InScalar-words b y at_b) (InScalar-words plus link.plus is_plus) (related x y l)
+
+    traces : word_holds w Eq x (traced_word link.relation w y link.plus) ≡ true
+    traces = linked_traced link.relation w link.plus x y (InScalar-words a x at_a) (InScalar-words b y at_b) (InScalar-words plus link.plus is_plus) (related x y l)
+
+  module _ (derived : Scalar) (given : IsDerived link.relation w a plus derived) where
+    pub none_derived : IsRefined InScalar Eq w true b derived None → (x y : ℕ) → InScalar a x → InScalar b y → AreLinked link x y → ⊥
+    none_derived h x y at_a at_b l = h y (derived_word link.relation w x link.plus) at_b (derived_in link.relation w a plus derived given x link.plus at_a is_plus) (derives x y at_a at_b l)
+
+    pub derived_met : (r : Scalar × Scalar) → IsRefined InScalar Eq w true b derived (Some r) → (x y : ℕ) → InScalar a x → InScalar b y → AreLinked link x y → InScalar r.0 y
+    derived_met r h x y at_a at_b l = (h y (derived_word link.relation w x link.plus) at_b (derived_in link.relation w a plus derived given x link.plus at_a is_plus) (derives x y at_a at_b l)).0
+
+  module _ (traced : Scalar) (given : IsTraced link.relation w b plus traced) where
+    pub none_traced : IsRefined InScalar Eq w true a traced None → (x y : ℕ) → InScalar a x → InScalar b y → AreLinked link x y → ⊥
+    none_traced h x y at_a at_b l = h x (traced_word link.relation w y link.plus) at_a (traced_in link.relation w b plus traced given y link.plus at_b is_plus) (traces x y at_a at_b l)
+
+    pub traced_met : (r : Scalar × Scalar) → IsRefined InScalar Eq w true a traced (Some r) → (x y : ℕ) → InScalar a x → InScalar b y → AreLinked link x y → InScalar r.0 x
+    traced_met r h x y at_a at_b l = (h x (traced_word link.relation w y link.plus) at_a (traced_in link.relation w b plus traced given y link.plus at_b is_plus) (traces x y at_a at_b l)).0

@@ -1,16 +1,17 @@
 -- The links that instructions make.
-use Rattle.std.proofs.Common.{◌≡◌, ◌≢◌, ℕ, ◌+◌, ◌%◌, ◌^◌, ◌==◌, if◌then◌else◌, Bool, true, false, List, [], ◌∷◌, ℤ, Option, Some, None, Ok, get_or, set, length, refl, sym, ap, ◌∙◌, subst, arith}
+use Rattle.std.proofs.Common.{◌≡◌, ◌≢◌, ℕ, ◌+◌, ◌%◌, ◌^◌, ◌<◌, ◌==◌, if◌then◌else◌, Bool, true, false, List, [], ◌∷◌, ℤ, Option, Some, None, Ok, get_or, set, length, refl, sym, ap, ◌∙◌, subst, arith}
 use Rattle.std.specs.Prelude.{nat_le}
 use Rattle.std.specs.Int.{w64, cast_unsigned}
+use Rattle.std.proofs.lemmas.Bool.Decides.{Decides-eqb}
 use Rattle.std.proofs.lemmas.List.{get_or-set_other, get_or-set_same}
 use Rattle.insn.specs.declared.instruction.Insn.{Insn}
 use Rattle.insn.specs.declared.instruction.Operand.TheVariants.{Reg, Imm}
 use Rattle.insn.specs.declared.action.Action.{Action}
 use Rattle.insn.specs.declared.action.Action.TheVariants.{Operate}
-use Rattle.insn.specs.declared.verify_fault.WalkFault.TheVariants.{PointerRange}
+use Rattle.insn.specs.declared.verify_fault.WalkFault.TheVariants.{PointerMisuse, PointerRange}
 use Rattle.insn.specs.declared.operation.BinOp.{BinOp}
 use Rattle.insn.specs.declared.layout.Layout.{Layout}
-use Rattle.insn.specs.declared.operation.BinOp.TheVariants.{Add, Mov}
+use Rattle.insn.specs.declared.operation.BinOp.TheVariants.{Add, Sub, Lsh, Rsh, Mov, Arsh}
 use Rattle.insn.specs.declared.operation.Width.{Width}
 use Rattle.insn.specs.declared.operation.Width.TheVariants.{W32, W64}
 use Rattle.insn.specs.declared.register.RegNo.{RegNo}
@@ -19,28 +20,35 @@ use Rattle.insn.specs.declared.state.Value.{Value}
 use Rattle.insn.specs.declared.state.Value.TheVariants.{Number, Address}
 use Rattle.insn.specs.Instruction.{reg_number}
 use Rattle.insn.specs.Arithmetic.{moved_pointer}
-use Rattle.insn.specs.Values.{State, at, only_if, region_size, value_of}
+use Rattle.insn.specs.Values.{◌>>=◌, State, at, only_if, region_size, value_of}
 use Rattle.insn.specs.declared.state.Pointer.{Pointer}
 use Rattle.reg_kind.specs.declared.reg.Reg.{Reg as Kind}
 use Rattle.reg_kind.specs.declared.reg.Reg.TheVariants as kind
 use Rattle.reg_kind.specs.Fits.{RegFits}
+use Rattle.reg_kind.specs.Operations.{IsKindResult}
+use Rattle.scalar.specs.declared.scalar.Scalar.{Scalar}
+use Rattle.scalar.specs.Bounds.{least_word, greatest_word}
+use Rattle.scalar.specs.MemberLaws.{InScalar-words}
+use Rattle.scalar.specs.Members.{InScalar}
 use Rattle.insn.specs.Effects.{Effect, Exits, Falls, Jumps, word_of}
 use Rattle.insn.specs.FirstLook.{register_written_by}
 use Rattle.insn.specs.Meaning.{action_of}
-use Rattle.insn.specs.Outcomes.{action_outcome, and_then, effect, operation_result, or_fault, passed, put}
+use Rattle.insn.specs.Outcomes.{Fails, Tested, action_outcome, and_then, effect, operation_result, or_fault, passed, put}
 use Rattle.insn.specs.Word.{int_width, word_result, wrapped}
 use Rattle.verifier.specs.Shapes.{effects, shape_of}
 use Rattle.verifier.specs.declared.known.Flow.{Flow}
 use Rattle.verifier.specs.declared.known.Flow.TheVariants.{Branch, Exit, Jump, Next}
 use Rattle.verifier.specs.declared.known.Known.{Known}
+use Rattle.verifier.specs.declared.link.Bits.{Bits}
+use Rattle.verifier.specs.declared.link.Bits.TheVariants.{Lowest}
 use Rattle.verifier.specs.declared.link.Link.{Link}
-use Rattle.verifier.specs.declared.link.Links.{Links}
+use Rattle.verifier.specs.declared.link.Relation.TheVariants.{Difference}
 use Rattle.verifier.specs.Fits.{StateFits}
-use Rattle.verifier.specs.Follows.{FlowFits, FlowIs, Follows, WritesNoR10}
+use Rattle.verifier.specs.Follows.{FlowFits, FlowIs, Follows, WritesNoR10, reg_of}
 use Rattle.verifier.specs.Kinds.{IsLinked, LeavesRow}
-use Rattle.verifier.specs.Links.{AreMade, AreValuesLinked, LinkHolds, LinksHold, copied, link_at, link_made, link_of, raised, raised_of}
-use Rattle.verifier.proofs.Linked.{links_same, made_too, sum_linked}
-use Rattle.verifier.proofs.States.{reg_below, set_to}
+use Rattle.verifier.specs.Links.{AreMade, AreRelated, AreValuesLinked, LinkHolds, LinksHold, bits_after, copied, difference_from, less, link_at, link_kept, link_made, link_of, plus_after}
+use Rattle.verifier.proofs.Linked.{is_less, links_same, made_too, related_after}
+use Rattle.verifier.proofs.States.{reg_below, reg_fits, set_to}
 
 -- a pointer that is moved is no number
 no_moved_number : (layout : Layout) (p : Pointer) (to x : ℕ) → moved_pointer layout p to ≡ Some (Number x) → ⊥
@@ -61,14 +69,36 @@ link_is register link made e = by (reg_number register == reg_number link.of) re
   by true q e = absurd cc
   by false q e = record { is = cc; other = λ same. grind (arith) }
 
-record IsRaised (register : RegNo) (w : Width) (imm : ℤ) (o : Option Link) (made : RegNo × Link) : Type 0 where
+-- it is the link that was there, after an operation on its register and a constant
+record IsKept (register : RegNo) (w : Width) (op : BinOp) (imm : ℤ) (o : Option Link) (made : RegNo × Link) : Type 0 where
   link : Link
   was : o ≡ Some link
-  is : IsLinkOf register (raised w imm link) made
+  bits : Bits
+  told : bits_after w op imm link.bits ≡ Some bits
+  is : IsLinkOf register (record link { plus = plus_after op imm link.plus; bits = bits }) made
 
-raised_is : (register : RegNo) (w : Width) (imm : ℤ) (o : Option Link) (made : RegNo × Link) → raised_of register w imm o ≡ Some made → IsRaised register w imm o made
-raised_is register w imm None made e = absurd cc
-raised_is register w imm (Some link) made e = record { link = link; was = refl; is = link_is register (raised w imm link) made e }
+kept_is : (register : RegNo) (w : Width) (op : BinOp) (imm : ℤ) (o : Option Link) (made : RegNo × Link) → link_kept register (w, op, imm) o ≡ Some made → IsKept register w op imm o made
+kept_is register w op imm None made e = absurd cc
+kept_is register w op imm (Some link) made e = by (bits_after w op imm link.bits) refl e where
+  by : (b : Option Bits) → bits_after w op imm link.bits ≡ b → ((b >>= (λ bits. Some (record link { plus = plus_after op imm link.plus; bits = bits }))) >>= link_of register) ≡ Some made → IsKept register w op imm (Some link) made
+  by None q e = absurd cc
+  by (Some bits) q e = record { link = link; was = refl; bits = bits; told = q; is = link_is register (record link { plus = plus_after op imm link.plus; bits = bits }) made e }
+
+-- it is that of a constant from which another number was taken
+record IsTaken (w : Width) (register of : RegNo) (left right : Kind) (made : RegNo × Link) : Type 0 where
+  a : Scalar
+  b : Scalar
+  left_is : left ≡ kind.Number a
+  right_is : right ≡ kind.Number b
+  one : least_word a ≡ greatest_word a
+  is : IsLinkOf register (less (least_word a) of w) made
+
+taken_is : (w : Width) (register of : RegNo) (left right : Kind) (made : RegNo × Link) → difference_from w register of left right ≡ Some made → IsTaken w register of left right made
+taken_is w register of (kind.Number a) (kind.Number b) made e = by (least_word a == greatest_word a) refl e where
+  by : (t : Bool) → (least_word a == greatest_word a) ≡ t → (if t then link_of register (less (least_word a) of w) else None) ≡ Some made → IsTaken w register of (kind.Number a) (kind.Number b) made
+  by true q e = record { a = a; b = b; left_is = refl; right_is = refl; one = (Decides-eqb (least_word a) (greatest_word a)).0 q; is = link_is register (less (least_word a) of w) made e }
+  by false q e = absurd cc
+taken_is w register of left right made e = absurd cc
 
 -- ---- the state behind an instruction
 
@@ -89,27 +119,47 @@ module _ (s t : State) (dst : RegNo) (v : Value) (long : length s.registers ≡ 
       → AreValuesLinked (copied src w) (value_of t.registers src) (get_or t.registers (reg_number dst) None)
   copy_holds src w ne is = λ a b p q. let same : Some v ≡ Some (Number b) = sym there ∙ q in let v_is : v ≡ Number b = cc in is b v_is a (sym (elsewhere src ne) ∙ p)
 
-  -- a sum
-  pub sum_holds : (link : Link) (w : Width) (imm : ℤ) → reg_number link.of ≢ reg_number dst → AreValuesLinked link (value_of s.registers link.of) (get_or s.registers (reg_number dst) None)
-      → ((n : ℕ) → v ≡ Number n → (m : ℕ) × (value_of s.registers dst ≡ Some (Number m)) × (n ≡ word_result w Add m (cast_unsigned w64 imm)))
-      → AreValuesLinked (raised w imm link) (value_of t.registers link.of) (get_or t.registers (reg_number dst) None)
-  sum_holds link w imm ne held is = λ a b p q.
+  -- an operation on a linked number and a constant
+  pub kept_holds : (link : Link) (w : Width) (op : BinOp) (imm : ℤ) (bits : Bits) → bits_after w op imm link.bits ≡ Some bits → reg_number link.of ≢ reg_number dst → AreValuesLinked link (value_of s.registers link.of) (get_or s.registers (reg_number dst) None)
+      → ((n : ℕ) → v ≡ Number n → (m : ℕ) × (m < 2 ^ 64) × (value_of s.registers dst ≡ Some (Number m)) × (n ≡ word_result w op m (cast_unsigned w64 imm)))
+      → AreValuesLinked (record link { plus = plus_after op imm link.plus; bits = bits }) (value_of t.registers link.of) (get_or t.registers (reg_number dst) None)
+  kept_holds link w op imm bits told ne held is = λ a b p q.
       let same : Some v ≡ Some (Number b) = sym there ∙ q in
       let v_is : v ≡ Number b = cc in
       let m = is b v_is in
-      rw m.2 (sum_linked w link.width a m.0 link.plus (cast_unsigned w64 imm) (held a m.0 (sym (elsewhere link.of ne) ∙ p) m.1))
+      rw m.3 (related_after link.relation w op imm link.bits bits link.plus a m.0 m.1 told (held a m.0 (sym (elsewhere link.of ne) ∙ p) m.2))
 
-module _ (layout : Layout) (links : Links) (s t : State) (long : length s.registers ≡ 11) (hold : LinksHold false links s.registers) where
-  -- a sum's link, by the link that was there
-  sum_made : (dst : RegNo) (w : Width) (imm : ℤ) (v : Value) (made : RegNo × Link) → IsRaised dst w imm (link_at links (reg_number dst)) made → t.registers ≡ set s.registers (reg_number dst) (Some v)
-      → ((n : ℕ) → v ≡ Number n → (m : ℕ) × (value_of s.registers dst ≡ Some (Number m)) × (n ≡ word_result w Add m (cast_unsigned w64 imm))) → LinkHolds (Some made.1) (reg_number made.0) t.registers
-  sum_made dst w imm v made r set_there is =
-      let was : AreValuesLinked r.link (value_of s.registers r.link.of) (get_or s.registers (reg_number dst) None) = subst (λ (o : Option Link). LinkHolds o (reg_number dst) s.registers) r.was (hold (reg_number dst) (reg_below dst)) in
-      rw r.is.is (sum_holds s t dst v long set_there r.link w imm r.is.other was is)
+  -- a constant less a number
+  pub less_holds : (src : RegNo) (w : Width) (c : ℕ) → reg_number src ≢ reg_number dst → ((n : ℕ) → v ≡ Number n → (m : ℕ) → value_of s.registers src ≡ Some (Number m) → AreRelated Difference (Lowest w) c m n)
+      → AreValuesLinked (less c src w) (value_of t.registers src) (get_or t.registers (reg_number dst) None)
+  less_holds src w c ne is = λ a b p q. let same : Some v ≡ Some (Number b) = sym there ∙ q in let v_is : v ≡ Number b = cc in is b v_is a (sym (elsewhere src ne) ∙ p)
+
+abbrev misused : Tested Value
+misused = Fails PointerMisuse
+
+-- a number that a register holds of which something is known is a word
+word_held : (k : Kind) (m : ℕ) → (k ≡ kind.Unset → ⊥) → RegFits false k (Some (Number m)) → m < 2 ^ 64
+word_held kind.Unset m known f = absurd (known refl)
+word_held (kind.Number a) m known f = InScalar-words a m f
+word_held (kind.Record span) m known f = absurd f
+word_held (kind.Stack span) m known f = absurd f
+
+number_held : (a : Scalar) (o : Option Value) → RegFits false (kind.Number a) o → (n : ℕ) × (o ≡ Some (Number n)) × InScalar a n
+number_held a None f = absurd f
+number_held a (Some (Number n)) f = (n, refl, f)
+number_held a (Some (Address p)) f = absurd f
+
+module _ (layout : Layout) (old : Known) (s t : State) (f : StateFits false layout old s) where
+  -- the link that was there, after an operation with a constant
+  kept_made : (dst : RegNo) (w : Width) (op : BinOp) (imm : ℤ) (v : Value) (made : RegNo × Link) → IsKept dst w op imm (link_at old.links (reg_number dst)) made → t.registers ≡ set s.registers (reg_number dst) (Some v)
+      → ((n : ℕ) → v ≡ Number n → (m : ℕ) × (m < 2 ^ 64) × (value_of s.registers dst ≡ Some (Number m)) × (n ≡ word_result w op m (cast_unsigned w64 imm))) → LinkHolds (Some made.1) (reg_number made.0) t.registers
+  kept_made dst w op imm v made r set_there is =
+      let was : AreValuesLinked r.link (value_of s.registers r.link.of) (get_or s.registers (reg_number dst) None) = subst (λ (o : Option Link). LinkHolds o (reg_number dst) s.registers) r.was (f.links (reg_number dst) (reg_below dst)) in
+      rw r.is.is (kept_holds s t dst v f.long set_there r.link w op imm r.bits r.told r.is.other was is)
 
   copy_made : (dst src : RegNo) (w : Width) (v : Value) (made : RegNo × Link) → IsLinkOf dst (copied src w) made → t.registers ≡ set s.registers (reg_number dst) (Some v)
       → ((n : ℕ) → v ≡ Number n → (m : ℕ) → value_of s.registers src ≡ Some (Number m) → wrapped (int_width w) n ≡ wrapped (int_width w) (m + 0)) → LinkHolds (Some made.1) (reg_number made.0) t.registers
-  copy_made dst src w v made l set_there is = rw l.is (copy_holds s t dst v long set_there src w l.other is)
+  copy_made dst src w v made l set_there is = rw l.is (copy_holds s t dst v f.long set_there src w l.other is)
 
   abbrev Does : Action → Type 0
   Does action = passed (action_outcome layout action s) ≡ Some (Falls t)
@@ -117,24 +167,54 @@ module _ (layout : Layout) (links : Links) (s t : State) (long : length s.regist
   abbrev Gave : Width → BinOp → RegNo → Option Value → Option Value → Type 0
   Gave w op dst left right = passed (and_then (operation_result layout w op left right) (put s dst)) ≡ Some (Falls t)
 
-  -- a sum in 64 and in 32 bits
-  sum_64 : (dst : RegNo) (imm : ℤ) (made : RegNo × Link) → dst ≢ R10 → IsRaised dst W64 imm (link_at links (reg_number dst)) made → Does (Operate W64 Add dst (Imm imm)) → LinkHolds (Some made.1) (reg_number made.0) t.registers
-  sum_64 dst imm made other r done = by (value_of s.registers dst) refl done where
-    by : (o : Option Value) → value_of s.registers dst ≡ o → Gave W64 Add dst o (Some (word_of imm)) → LinkHolds (Some made.1) (reg_number made.0) t.registers
-    by None e d = absurd cc
-    by (Some (Number m)) e d = sum_made dst W64 imm (Number (word_result W64 Add m (cast_unsigned w64 imm))) made r (set_after s t dst (Number (word_result W64 Add m (cast_unsigned w64 imm))) other d) (λ n q. (m, e, cc))
-    by (Some (Address p)) e d = moved (moved_pointer layout p ((p.offset + cast_unsigned w64 imm) % 2 ^ 64)) refl d where
-      moved : (o : Option Value) → moved_pointer layout p ((p.offset + cast_unsigned w64 imm) % 2 ^ 64) ≡ o → passed (and_then (or_fault o PointerRange) (put s dst)) ≡ Some (Falls t) → LinkHolds (Some made.1) (reg_number made.0) t.registers
-      moved None q d = absurd cc
-      moved (Some (Address x)) q d = sum_made dst W64 imm (Address x) made r (set_after s t dst (Address x) other d) (λ n q. absurd cc)
-      moved (Some (Number x)) q d = absurd (no_moved_number layout p ((p.offset + cast_unsigned w64 imm) % 2 ^ 64) x q)
+  module _ (dst : RegNo) (known : reg_of old dst ≡ kind.Unset → ⊥) where
+    word : (m : ℕ) → value_of s.registers dst ≡ Some (Number m) → m < 2 ^ 64
+    word m e = word_held (reg_of old dst) m known (subst (RegFits false (reg_of old dst)) e (reg_fits false layout old s dst f))
 
-  sum_32 : (dst : RegNo) (imm : ℤ) (made : RegNo × Link) → dst ≢ R10 → IsRaised dst W32 imm (link_at links (reg_number dst)) made → Does (Operate W32 Add dst (Imm imm)) → LinkHolds (Some made.1) (reg_number made.0) t.registers
-  sum_32 dst imm made other r done = by (value_of s.registers dst) refl done where
-    by : (o : Option Value) → value_of s.registers dst ≡ o → Gave W32 Add dst o (Some (word_of imm)) → LinkHolds (Some made.1) (reg_number made.0) t.registers
-    by None e d = absurd cc
-    by (Some (Number m)) e d = sum_made dst W32 imm (Number (word_result W32 Add m (cast_unsigned w64 imm))) made r (set_after s t dst (Number (word_result W32 Add m (cast_unsigned w64 imm))) other d) (λ n q. (m, e, cc))
-    by (Some (Address p)) e d = absurd cc
+    -- a sum in 64 bits
+    sum_64 : (imm : ℤ) (made : RegNo × Link) → dst ≢ R10 → IsKept dst W64 Add imm (link_at old.links (reg_number dst)) made → Does (Operate W64 Add dst (Imm imm)) → LinkHolds (Some made.1) (reg_number made.0) t.registers
+    sum_64 imm made other r done = by (value_of s.registers dst) refl done where
+      by : (o : Option Value) → value_of s.registers dst ≡ o → Gave W64 Add dst o (Some (word_of imm)) → LinkHolds (Some made.1) (reg_number made.0) t.registers
+      by None e d = absurd cc
+      by (Some (Number m)) e d = kept_made dst W64 Add imm (Number (word_result W64 Add m (cast_unsigned w64 imm))) made r (set_after s t dst (Number (word_result W64 Add m (cast_unsigned w64 imm))) other d) (λ n q. (m, word m e, e, cc))
+      by (Some (Address p)) e d = moved (moved_pointer layout p ((p.offset + cast_unsigned w64 imm) % 2 ^ 64)) refl d where
+        moved : (o : Option Value) → moved_pointer layout p ((p.offset + cast_unsigned w64 imm) % 2 ^ 64) ≡ o → passed (and_then (or_fault o PointerRange) (put s dst)) ≡ Some (Falls t) → LinkHolds (Some made.1) (reg_number made.0) t.registers
+        moved None q d = absurd cc
+        moved (Some (Address x)) q d = kept_made dst W64 Add imm (Address x) made r (set_after s t dst (Address x) other d) (λ n q. absurd cc)
+        moved (Some (Number x)) q d = absurd (no_moved_number layout p ((p.offset + cast_unsigned w64 imm) % 2 ^ 64) x q)
+
+    -- what is defined on numbers alone
+    on_number : (w : Width) (op : BinOp) (imm : ℤ) (made : RegNo × Link) → dst ≢ R10 → IsKept dst w op imm (link_at old.links (reg_number dst)) made
+        → ((p : Pointer) → operation_result layout w op (Some (Address p)) (Some (word_of imm)) ≡ Fails PointerMisuse)
+        → Gave w op dst (value_of s.registers dst) (Some (word_of imm)) → LinkHolds (Some made.1) (reg_number made.0) t.registers
+    on_number w op imm made other r none done = by (value_of s.registers dst) refl done where
+      by : (o : Option Value) → value_of s.registers dst ≡ o → Gave w op dst o (Some (word_of imm)) → LinkHolds (Some made.1) (reg_number made.0) t.registers
+      by None e d = absurd cc
+      by (Some (Number m)) e d = kept_made dst w op imm (Number (word_result w op m (cast_unsigned w64 imm))) made r (set_after s t dst (Number (word_result w op m (cast_unsigned w64 imm))) other d) (λ n q. (m, word m e, e, cc))
+      by (Some (Address p)) e d =
+          let failed : passed (and_then misused (put s dst)) ≡ Some (Falls t) = subst (λ (x : Tested Value). passed (and_then x (put s dst)) ≡ Some (Falls t)) (none p) d in
+          absurd cc
+
+    kept_after : (w : Width) (op : BinOp) (imm : ℤ) (made : RegNo × Link) → dst ≢ R10 → IsKept dst w op imm (link_at old.links (reg_number dst)) made → Does (Operate w op dst (Imm imm)) → LinkHolds (Some made.1) (reg_number made.0) t.registers
+    kept_after W64 Add imm made other r done = sum_64 imm made other r done
+    kept_after W32 Add imm made other r done = on_number W32 Add imm made other r (λ p. refl) done
+    kept_after W64 Lsh imm made other r done = on_number W64 Lsh imm made other r (λ p. refl) done
+    kept_after W64 Rsh imm made other r done = on_number W64 Rsh imm made other r (λ p. refl) done
+    kept_after W64 Arsh imm made other r done = on_number W64 Arsh imm made other r (λ p. refl) done
+    kept_after w op imm made other r done = let told = r.told in absurd cc
+
+  -- a constant less a number
+  taken_made : (w : Width) (dst src : RegNo) (made : RegNo × Link) → dst ≢ R10 → IsTaken w dst src (reg_of old dst) (reg_of old src) made → Does (Operate w Sub dst (Reg src)) → LinkHolds (Some made.1) (reg_number made.0) t.registers
+  taken_made w dst src made other r done =
+      let n = number_held r.a (value_of s.registers dst) (subst (λ (k : Kind). RegFits false k (value_of s.registers dst)) r.left_is (reg_fits false layout old s dst f)) in
+      let m = number_held r.b (value_of s.registers src) (subst (λ (k : Kind). RegFits false k (value_of s.registers src)) r.right_is (reg_fits false layout old s src f)) in
+      let c : n.0 ≡ least_word r.a = let one = r.one in let above = n.2.unsigned.above in let below = n.2.unsigned.below in omega arith in
+      let gave : Gave w Sub dst (Some (Number n.0)) (Some (Number m.0)) = subst (λ (o : Option Value). Gave w Sub dst (Some (Number n.0)) o) m.1 (subst (λ (o : Option Value). Gave w Sub dst o (value_of s.registers src)) n.1 done) in
+      rw r.is.is (less_holds s t dst (Number (word_result w Sub n.0 m.0)) f.long (set_after s t dst (Number (word_result w Sub n.0 m.0)) other gave) src w (least_word r.a) r.is.other (λ b q k at.
+      let b_is : word_result w Sub n.0 m.0 ≡ b = cc in
+      let both : Some (Number m.0) ≡ Some (Number k) = sym m.1 ∙ at in
+      let k_is : m.0 ≡ k = cc in
+      subst (λ (p : ℕ). AreRelated Difference (Lowest w) p k b) c (rw (sym b_is, sym k_is) (is_less w n.0 m.0 (InScalar-words r.b m.0 m.2)))))
 
   copy_64 : (dst src : RegNo) (made : RegNo × Link) → dst ≢ R10 → IsLinkOf dst (copied src W64) made → Does (Operate W64 Mov dst (Reg src)) → LinkHolds (Some made.1) (reg_number made.0) t.registers
   copy_64 dst src made other l done = by (value_of s.registers src) refl done where
@@ -150,13 +230,26 @@ module _ (layout : Layout) (links : Links) (s t : State) (long : length s.regist
     by (Some (Number m)) e d = copy_made dst src W32 (Number (m % 2 ^ 32)) made l (set_after s t dst (Number (m % 2 ^ 32)) other d) (λ n q k at. let n_is : m % 2 ^ 32 ≡ n = cc in let both : Some (Number m) ≡ Some (Number k) = sym e ∙ at in let k_is : m ≡ k = cc in omega arith)
     by (Some (Address p)) e d = absurd cc
 
+  -- an operation whose left operand is unset gives nothing
+  left_known : (w : Width) (op : BinOp) (dst : RegNo) (imm : ℤ) (bits after : Bits) (right value : Kind) → bits_after w op imm bits ≡ Some after → IsKindResult layout w op (reg_of old dst) right (Ok value) → reg_of old dst ≡ kind.Unset → ⊥
+  left_known w op dst imm bits after right value told h e = by w op bits told (subst (λ (k : Kind). IsKindResult layout w op k right (Ok value)) e h) where
+    by : (w : Width) (op : BinOp) (bits : Bits) → bits_after w op imm bits ≡ Some after → IsKindResult layout w op kind.Unset right (Ok value) → ⊥
+    by W64 Add bits told h = cc
+    by W32 Add bits told h = cc
+    by W64 Lsh bits told h = cc
+    by W64 Rsh bits told h = cc
+    by W64 Arsh bits told h = cc
+    by w op bits told h = cc
+
   -- the link that an instruction makes holds behind it
-  pub made_holds : (action : Action) (made : RegNo × Link) → register_written_by action ≢ Some R10 → link_made links action ≡ Some made → Does action → LinkHolds (Some made.1) (reg_number made.0) t.registers
-  made_holds (Operate W64 Add dst (Imm imm)) made other e done = sum_64 dst imm made (λ q. other (ap Some q)) (raised_is dst W64 imm (link_at links (reg_number dst)) made e) done
-  made_holds (Operate W32 Add dst (Imm imm)) made other e done = sum_32 dst imm made (λ q. other (ap Some q)) (raised_is dst W32 imm (link_at links (reg_number dst)) made e) done
-  made_holds (Operate W64 Mov dst (Reg src)) made other e done = copy_64 dst src made (λ q. other (ap Some q)) (link_is dst (copied src W64) made e) done
-  made_holds (Operate W32 Mov dst (Reg src)) made other e done = copy_32 dst src made (λ q. other (ap Some q)) (link_is dst (copied src W32) made e) done
-  made_holds action made other e done = absurd cc
+  pub made_holds : (action : Action) (made : RegNo × Link) (between : Known) → register_written_by action ≢ Some R10 → link_made old.registers old.links action ≡ Some made → LeavesRow layout action old between (Ok Next) → Does action → LinkHolds (Some made.1) (reg_number made.0) t.registers
+  made_holds (Operate W64 Mov dst (Reg src)) made between other e row done = copy_64 dst src made (λ q. other (ap Some q)) (link_is dst (copied src W64) made e) done
+  made_holds (Operate W32 Mov dst (Reg src)) made between other e row done = copy_32 dst src made (λ q. other (ap Some q)) (link_is dst (copied src W32) made e) done
+  made_holds (Operate w Sub dst (Reg src)) made between other e row done = taken_made w dst src made (λ q. other (ap Some q)) (taken_is w dst src (reg_of old dst) (reg_of old src) made e) done
+  made_holds (Operate w op dst (Imm imm)) made between other e row done =
+      let r = kept_is dst w op imm (link_at old.links (reg_number dst)) made e in
+      kept_after dst (left_known w op dst imm r.link.bits r.bits row.1.0 row.0 r.told row.1.2) w op imm made (λ q. other (ap Some q)) r done
+  made_holds action made between other e row done = absurd cc
 
 -- ---- what is known behind an instruction
 
@@ -178,7 +271,7 @@ module _ (layout : Layout) (i : Insn) (old between new : Known) (linked : IsLink
   flow_is flow es h = absurd h
 
   -- where no link is made
-  module _ (none : link_made old.links (action_of i) ≡ None) where
+  module _ (none : link_made old.registers old.links (action_of i) ≡ None) where
     same_links : new.links ≡ between.links
     same_links = subst (λ (o : Option (RegNo × Link)). AreMade o between.links new.links) none linked.links
 
@@ -194,32 +287,32 @@ module _ (layout : Layout) (i : Insn) (old between new : Known) (linked : IsLink
     flow_fits flow o h = absurd h
 
   -- where one is
-  module _ (made : RegNo × Link) (is : link_made old.links (action_of i) ≡ Some made) (other : WritesNoR10 i) where
+  module _ (made : RegNo × Link) (is : link_made old.registers old.links (action_of i) ≡ Some made) (other : WritesNoR10 i) (row : LeavesRow layout (action_of i) old between (Ok Next)) where
     made_fits : (s : State) (o : Option Effect) → StateFits false layout old s → effect layout i s ≡ o → FlowFits false layout between Next o → FlowFits false layout new Next o
     made_fits s None f done h = h
     made_fits s (Some (Jumps e t)) f done h = h
     made_fits s (Some (Exits r0)) f done h = h
     made_fits s (Some (Falls t)) f done h =
-        let holds = made_holds layout old.links s t f.long f.links (action_of i) made other is done in
+        let holds = made_holds layout old s t f (action_of i) made between other is row done in
         let are : AreMade (Some made) between.links new.links = subst (λ (o : Option (RegNo × Link)). AreMade o between.links new.links) is linked.links in
         same_fits false layout between new t linked.registers linked.stack (made_too between.links new.links t.registers made are holds h.links) h
 
-made_next : (layout : Layout) (links : Links) (action : Action) (made : RegNo × Link) (old between : Known) (flow : Flow) → link_made links action ≡ Some made → LeavesRow layout action old between (Ok flow) → flow ≡ Next
-made_next layout links (Operate w op dst operand) made old between Next e row = refl
-made_next layout links (Operate w op dst operand) made old between flow e row = absurd row
-made_next layout links action made old between flow e row = absurd cc
+made_next : (layout : Layout) (action : Action) (made : RegNo × Link) (old between : Known) (flow : Flow) → link_made old.registers old.links action ≡ Some made → LeavesRow layout action old between (Ok flow) → flow ≡ Next
+made_next layout (Operate w op dst operand) made old between Next e row = refl
+made_next layout (Operate w op dst operand) made old between flow e row = absurd row
+made_next layout action made old between flow e row = absurd cc
 
 -- what follows an instruction follows it with its link
 pub with_link : (layout : Layout) (i : Insn) (old between new : Known) (flow : Flow) → WritesNoR10 i → IsLinked (action_of i) old between new → LeavesRow layout (action_of i) old between (Ok flow)
     → Follows layout i old between flow → Follows layout i old new flow
 with_link layout i old between new flow other linked row h = record {
   own = h.own;
-  states = λ s f. by (link_made old.links (action_of i)) refl s f;
+  states = λ s f. by (link_made old.registers old.links (action_of i)) refl s f;
   shape = λ s plain f. flow_is layout i old between new linked flow (effects layout i s) (h.shape s plain f);
 } where
-  by : (o : Option (RegNo × Link)) → link_made old.links (action_of i) ≡ o → (s : State) → StateFits false layout old s → FlowFits false layout new flow (effect layout i s)
+  by : (o : Option (RegNo × Link)) → link_made old.registers old.links (action_of i) ≡ o → (s : State) → StateFits false layout old s → FlowFits false layout new flow (effect layout i s)
   by None e s f = flow_fits layout i old between new linked e flow (effect layout i s) (h.states s f)
   by (Some made) e s f =
-      let next = made_next layout old.links (action_of i) made old between flow e row in
+      let next = made_next layout (action_of i) made old between flow e row in
       let there : FlowFits false layout between Next (effect layout i s) = subst (λ (x : Flow). FlowFits false layout between x (effect layout i s)) next (h.states s f) in
-      subst (λ (x : Flow). FlowFits false layout new x (effect layout i s)) (sym next) (made_fits layout i old between new linked made e other s (effect layout i s) f refl there)
+      subst (λ (x : Flow). FlowFits false layout new x (effect layout i s)) (sym next) (made_fits layout i old between new linked made e other (subst (λ (x : Flow). LeavesRow layout (action_of i) old between (Ok x)) next row) s (effect layout i s) f refl there)

@@ -154,7 +154,7 @@ LeavesRow layout End old new r = Passes (flow_where (number_in_reg (reg_of old R
 pub record IsLinked (action : Action) (old between new : Known) : Type 0 where
   pub registers : new.registers ≡ between.registers
   pub stack : new.stack ≡ between.stack
-  pub links : AreMade (link_made old.links action) between.links new.links
+  pub links : AreMade (link_made old.registers old.links action) between.links new.links
 
 -- a row of the table, and then the instruction's link
 abbrev pub LeavesKnown : Layout → Insn → Known → Known → Result Flow WalkFault → Type 0

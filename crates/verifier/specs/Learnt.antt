@@ -19,7 +19,11 @@ use Rattle.reg_kind.specs.declared.reg.Reg.TheVariants as kind
 use Rattle.reg_kind.specs.Fits.{IsKindRefined}
 use Rattle.verifier.specs.declared.known.Known.{Known}
 use Rattle.verifier.specs.declared.known.Test.{Test}
+use Rattle.verifier.specs.declared.link.Bits.{Bits}
+use Rattle.verifier.specs.declared.link.Bits.TheVariants.{Lowest, Shifted}
 use Rattle.verifier.specs.declared.link.Link.{Link}
+use Rattle.verifier.specs.declared.link.Relation.{Relation}
+use Rattle.verifier.specs.declared.link.Relation.TheVariants.{Sum, Difference}
 use Rattle.verifier.specs.Fits.{StateFits}
 use Rattle.verifier.specs.Follows.{IsOperand, reg_of, register_at, test_answer}
 use Rattle.verifier.specs.Links.{joining, link_at}
@@ -48,27 +52,45 @@ pub record IsCompared (test : Test) (answer : Bool) (old new : Known) : Type 0 w
 
 -- ---- numbers that are linked
 
--- what an operation gives of a set's numbers and a link's constant
-pub record AreMoved (op : BinOp) (link : Link) (a moved : Scalar) : Type 0 where
-  pub plus : Scalar
-  pub is_plus : ShowsOne plus link.plus
-  pub sound : IsSoundResult InScalar op link.width a plus moved
-  pub single : IsSingleResult ShowsOne op link.width a plus moved
-  pub least : LiesInLeastSum op link.width a plus moved
+-- what an operation gives of two sets
+pub record IsGivenBy (op : BinOp) (w : Width) (a b c : Scalar) : Type 0 where
+  pub sound : IsSoundResult InScalar op w a b c
+  pub single : IsSingleResult ShowsOne op w a b c
+  pub least : LiesInLeastSum op w a b c
+
+-- the numbers of a link's register, by those of the other one and the constant
+abbrev pub IsDerived : Relation → Width → Scalar → Scalar → Scalar → Type 0
+IsDerived Sum w of plus derived = IsGivenBy Add w of plus derived
+IsDerived Difference w of plus derived = IsGivenBy Sub w plus of derived
+
+-- those of the other one, by those of the link's register and the constant
+abbrev pub IsTraced : Relation → Width → Scalar → Scalar → Scalar → Type 0
+IsTraced Sum w register plus traced = IsGivenBy Sub w register plus traced
+IsTraced Difference w register plus traced = IsGivenBy Sub w plus register traced
 
 -- a set narrowed to what may equal a number of another in a width
 abbrev pub IsNarrowedTo : Width → Scalar → Scalar → Scalar → Type 0
 IsNarrowedTo w a other new = (rest : Scalar) × AreNarrowed (record { cond = Eq; width = w; taken = true }) a other (new, rest)
 
--- what a link leaves of two sets: of the second what may equal a sum of the first and the constant, and then of the first what
--- may equal a difference of that and the constant
-pub record AreLinkNarrowed (link : Link) (a b : Scalar) (r : Scalar × Scalar) : Type 0 where
-  pub sums : Scalar
-  pub are_sums : AreMoved Add link a sums
-  pub second : IsNarrowedTo link.width b sums r.1
-  pub differences : Scalar
-  pub are_differences : AreMoved Sub link r.1 differences
-  pub first : IsNarrowedTo link.width a differences r.0
+-- what a link that tells the bits of a width leaves of two sets: of the second what may equal a number that is derived from
+-- the first, and then of the first what may equal one that is traced from that
+pub record AreLowestNarrowed (link : Link) (w : Width) (a b : Scalar) (r : Scalar × Scalar) : Type 0 where
+  pub plus : Scalar
+  pub is_plus : ShowsOne plus link.plus
+  pub derived : Scalar
+  pub is_derived : IsDerived link.relation w a plus derived
+  pub second : IsNarrowedTo w b derived r.1
+  pub traced : Scalar
+  pub is_traced : IsTraced link.relation w r.1 plus traced
+  pub first : IsNarrowedTo w a traced r.0
+
+-- what a link leaves: both as they are, while its bits are shifted
+abbrev pub AreNarrowedIn : Bits → Link → Scalar → Scalar → Scalar × Scalar → Type 0
+AreNarrowedIn (Lowest w) link a b r = AreLowestNarrowed link w a b r
+AreNarrowedIn Shifted link a b r = r ≡ (a, b)
+
+abbrev pub AreLinkNarrowed : Link → Scalar → Scalar → Scalar × Scalar → Type 0
+AreLinkNarrowed link a b r = AreNarrowedIn link.bits link a b r
 
 -- registers of which one holds no number stay as they are
 abbrev pub IsLinkNarrowed : Link → Kind → Kind → Kind × Kind → Type 0

@@ -1,8 +1,10 @@
--- Registers whose number is another's plus a constant, and what instructions leave of that.
-use Rattle.std.specs.Prelude.{◌≡◌, ◌⊎◌, ℕ, ◌+◌, ◌<◌, ◌==◌, ◌||◌, ℤ, List, slice_index_or, Bool, true, false, if◌then◌else◌, Option, Some, None}
+-- Registers whose number is another's plus a constant or a constant less another's, and what instructions leave of that.
+use Rattle.std.specs.Prelude.{◌≡◌, ◌⊎◌, ℕ, ◌+◌, ◌*◌, ◌^◌, ◌<◌, ◌==◌, ◌||◌, ℤ, pos, List, slice_index_or, Bool, true, false, if◌then◌else◌, Option, Some, None}
 use Rattle.std.specs.Int.{w64, cast_unsigned}
+use Rattle.std.specs.Ordering.{int_eq}
 use Rattle.insn.specs.declared.register.RegNo.{RegNo}
-use Rattle.insn.specs.declared.operation.BinOp.TheVariants.{Add, Mov}
+use Rattle.insn.specs.declared.operation.BinOp.{BinOp}
+use Rattle.insn.specs.declared.operation.BinOp.TheVariants.{Add, Sub, Lsh, Rsh, Mov, Arsh}
 use Rattle.insn.specs.declared.operation.Width.{Width}
 use Rattle.insn.specs.declared.operation.Width.TheVariants.{W32, W64}
 use Rattle.insn.specs.declared.instruction.Operand.TheVariants.{Reg, Imm}
@@ -11,14 +13,28 @@ use Rattle.insn.specs.declared.action.Action.TheVariants.{Operate}
 use Rattle.insn.specs.declared.state.Value.{Value}
 use Rattle.insn.specs.declared.state.Value.TheVariants.{Number}
 use Rattle.insn.specs.Instruction.{reg_number}
-use Rattle.insn.specs.Values.{value_of}
+use Rattle.insn.specs.Values.{◌>>=◌, value_of}
 use Rattle.insn.specs.Word.{int_width, wrapped}
+use Rattle.scalar.specs.Bounds.{least_word, greatest_word}
+use Rattle.reg_kind.specs.declared.reg.Reg.{Reg as Kind}
+use Rattle.reg_kind.specs.declared.reg.Reg.TheVariants as kind
+use Rattle.verifier.specs.declared.link.Bits.{Bits}
+use Rattle.verifier.specs.declared.link.Bits.TheVariants.{Lowest, Shifted}
 use Rattle.verifier.specs.declared.link.Link.{Link}
 use Rattle.verifier.specs.declared.link.Links.{Links}
+use Rattle.verifier.specs.declared.link.Relation.{Relation}
+use Rattle.verifier.specs.declared.link.Relation.TheVariants.{Sum, Difference}
 
--- the bits of a width are the same of one number, and of another plus the constant
+-- In the bits of a width b is a plus the constant, or with a it comes to the constant; or it is so of b and of the other two
+-- shifted by half a word.
+abbrev pub AreRelated : Relation → Bits → ℕ → ℕ → ℕ → Type 0
+AreRelated Sum (Lowest w) plus a b = wrapped (int_width w) b ≡ wrapped (int_width w) (a + plus)
+AreRelated Sum Shifted plus a b = wrapped w64 b ≡ wrapped w64 (2 ^ 32 * (a + plus))
+AreRelated Difference (Lowest w) plus a b = wrapped (int_width w) (a + b) ≡ wrapped (int_width w) plus
+AreRelated Difference Shifted plus a b = wrapped w64 (2 ^ 32 * a + b) ≡ wrapped w64 (2 ^ 32 * plus)
+
 abbrev pub AreLinked : Link → ℕ → ℕ → Type 0
-AreLinked link a b = wrapped (int_width link.width) b ≡ wrapped (int_width link.width) (a + link.plus)
+AreLinked link a b = AreRelated link.relation link.bits link.plus a b
 
 -- it is so of two values, where both are numbers
 abbrev pub AreValuesLinked : Link → Option Value → Option Value → Type 0
@@ -53,30 +69,62 @@ joining r k (Some link) = if reg_number r == k || reg_number r == reg_number lin
 abbrev pub AreLeft : RegNo → Links → Links → Type 0
 AreLeft written old new = (k : ℕ) → k < 11 → link_at new k ≡ link_left written k (link_at old k)
 
--- the link of a copy, and of a register to which a constant is added
+-- the link of a copy, and of a constant from which another number was taken
 abbrev pub copied : RegNo → Width → Link
-copied of width = record { of = of; plus = 0; width = width }
+copied of width = record { of = of; relation = Sum; plus = 0; bits = Lowest width }
 
+abbrev pub less : ℕ → RegNo → Width → Link
+less plus of width = record { of = of; relation = Difference; plus = plus; bits = Lowest width }
+
+-- the bits that a link tells after an operation on its register and a constant: a sum's in both widths, those shifted up by half a
+-- word, and their low half when they are shifted back
 abbrev pub lesser : Width → Width → Width
 lesser W32 width = W32
 lesser W64 width = width
 
-abbrev pub raised : Width → ℤ → Link → Link
-raised width imm link = record { of = link.of; plus = wrapped w64 (link.plus + cast_unsigned w64 imm); width = lesser width link.width }
+abbrev pub bits_after : Width → BinOp → ℤ → Bits → Option Bits
+bits_after w Add imm (Lowest v) = Some (Lowest (lesser w v))
+bits_after W64 Lsh imm (Lowest v) = if int_eq imm (pos 32) then Some Shifted else None
+bits_after W64 Rsh imm Shifted = if int_eq imm (pos 32) then Some (Lowest W32) else None
+bits_after W64 Arsh imm Shifted = if int_eq imm (pos 32) then Some (Lowest W32) else None
+bits_after w op imm bits = None
+
+-- its constant
+abbrev pub plus_after : BinOp → ℤ → ℕ → ℕ
+plus_after Add imm plus = wrapped w64 (plus + cast_unsigned w64 imm)
+plus_after op imm plus = plus
+
+abbrev pub link_after : Width → BinOp → ℤ → Link → Option Link
+link_after w op imm link = do
+  bits ← bits_after w op imm link.bits
+  Some (record link { plus = plus_after op imm link.plus; bits = bits })
 
 -- a link of a register, unless it is one with itself
 abbrev pub link_of : RegNo → Link → Option (RegNo × Link)
 link_of register link = if reg_number register == reg_number link.of then None else Some (register, link)
 
-abbrev pub raised_of : RegNo → Width → ℤ → Option Link → Option (RegNo × Link)
-raised_of register width imm None = None
-raised_of register width imm (Some link) = link_of register (raised width imm link)
+-- a register's link after an operation on it and a constant
+abbrev pub link_kept : RegNo → Width × BinOp × ℤ → Option Link → Option (RegNo × Link)
+link_kept register by old = do
+  link ← old
+  after ← link_after by.0 by.1 by.2 link
+  link_of register after
+
+-- the link of a register after another's number was taken from its own, where that can be one number alone
+abbrev pub difference_from : Width → RegNo → RegNo → Kind → Kind → Option (RegNo × Link)
+difference_from w register of (kind.Number a) (kind.Number b) = if least_word a == greatest_word a then link_of register (less (least_word a) of w) else None
+difference_from w register of a b = None
+
+abbrev pub difference_made : Width → RegNo → RegNo → List Kind → Option (RegNo × Link)
+difference_made w register of registers =
+    difference_from w register of (slice_index_or registers (reg_number register) kind.Unset) (slice_index_or registers (reg_number of) kind.Unset)
 
 -- the link that an instruction makes
-abbrev pub link_made : Links → Action → Option (RegNo × Link)
-link_made links (Operate w Mov dst (Reg src)) = link_of dst (copied src w)
-link_made links (Operate w Add dst (Imm imm)) = raised_of dst w imm (link_at links (reg_number dst))
-link_made links action = None
+abbrev pub link_made : List Kind → Links → Action → Option (RegNo × Link)
+link_made registers links (Operate w Mov dst (Reg src)) = link_of dst (copied src w)
+link_made registers links (Operate w Sub dst (Reg src)) = difference_made w dst src registers
+link_made registers links (Operate w op dst (Imm imm)) = link_kept dst (w, op, imm) (link_at links (reg_number dst))
+link_made registers links action = None
 
 -- a link is there, and all others stay
 abbrev pub AreMade : Option (RegNo × Link) → Links → Links → Type 0

@@ -1,10 +1,10 @@
-//! Registers whose number is another's plus a constant.
+//! Registers whose number is another's plus a constant, or a constant less another's.
 
 ghost use Rattle.std.specs.Prelude.{◌≡◌, ◌<◌, ℕ, None, Some, if◌then◌else◌, IfNone, IfSome, length, slice_index_or, true};
 ghost use Rattle.insn.specs.Instruction.{reg_number};
-ghost use Rattle.verifier.specs.Links.{AreLeft, AreLinksJoined, AreMade, IsLinkJoin, copied, joining as spec_joining, lesser, link_at, link_left, link_made, link_of as spec_link_of, raised, raised_of};
+ghost use Rattle.verifier.specs.Links.{AreLeft, AreLinksJoined, AreMade, IsLinkJoin, bits_after, copied, difference_made, joining as spec_joining, less, lesser, link_after, link_at, link_kept, link_left, link_made, link_of as spec_link_of};
 ghost use Rattle.verifier.specs.LinksParts.{AreNumbersRefined, IsLinkRefined};
-ghost use Rattle.verifier.specs.Learnt.{AreLinkNarrowed, IsLinkNarrowed};
+ghost use Rattle.verifier.specs.Learnt.{AreLinkNarrowed, AreLowestNarrowed, IsDerived, IsLinkNarrowed, IsTraced};
 
 use insn::action::Action;
 use insn::instruction::Operand;
@@ -14,12 +14,79 @@ use range::domain::Domain;
 use reg_kind::Reg;
 use scalar::Scalar;
 
-/// In the bits of a width a register's number is that of another plus a constant.
+/// What a register's number is, by another's and a constant.
+#[derive(Clone, Copy, PartialEq, Eq)]
+pub enum Relation {
+    /// The other one plus the constant.
+    Sum,
+    /// The constant less the other one.
+    Difference,
+}
+
+impl Relation {
+    /// The numbers of a register, by those of the other one.
+    fn derive(self, width: Width, of: Scalar, plus: Scalar) -> Scalar
+        ensures { IsDerived self width of plus result }
+    {
+        match self {
+            Relation::Sum => Scalar::apply(BinOp::Add, width, of, plus),
+            Relation::Difference => Scalar::apply(BinOp::Sub, width, plus, of),
+        }
+    }
+
+    /// The numbers of the other one, by those of the register.
+    fn trace(self, width: Width, register: Scalar, plus: Scalar) -> Scalar
+        ensures { IsTraced self width register plus result }
+    {
+        match self {
+            Relation::Sum => Scalar::apply(BinOp::Sub, width, register, plus),
+            Relation::Difference => Scalar::apply(BinOp::Sub, width, plus, register),
+        }
+    }
+}
+
+/// Which bits of a register's number a link tells.
+#[derive(Clone, Copy, PartialEq, Eq)]
+pub enum Bits {
+    /// The lowest ones, of a width.
+    Lowest(Width),
+    /// All: those of the low half have been shifted to the upper one, and below them are zeros.
+    Shifted,
+}
+
+impl Bits {
+    /// Which it tells after an operation on the register and a constant; `None` where it is lost.
+    fn after_operation(self, width: Width, op: BinOp, imm: i32) -> Option<Bits>
+        ensures { result ≡ bits_after width op imm self }
+    {
+        match (width, op, self) {
+            (_, BinOp::Add, Bits::Lowest(own)) => Some(Bits::Lowest(lesser_width(width, own))),
+            (Width::W64, BinOp::Lsh, Bits::Lowest(_)) if imm == 32 => Some(Bits::Shifted),
+            (Width::W64, BinOp::Rsh | BinOp::Arsh, Bits::Shifted) if imm == 32 => {
+                Some(Bits::Lowest(Width::W32))
+            }
+            _ => None,
+        }
+    }
+}
+
+/// The lesser one of two widths.
+fn lesser_width(a: Width, b: Width) -> Width
+    ensures { result ≡ lesser a b }
+{
+    match a {
+        Width::W32 => Width::W32,
+        Width::W64 => b,
+    }
+}
+
+/// In some bits a register's number is another's plus a constant, or a constant less another's.
 #[derive(Clone, Copy, PartialEq, Eq)]
 pub struct Link {
     of: RegNo,
+    relation: Relation,
     plus: u64,
-    width: Width,
+    bits: Bits,
 }
 
 impl Link {
@@ -27,21 +94,36 @@ impl Link {
     fn copied(of: RegNo, width: Width) -> Link
         ensures { result ≡ copied of width }
     {
-        Link { of, plus: 0, width }
+        Link {
+            of,
+            relation: Relation::Sum,
+            plus: 0,
+            bits: Bits::Lowest(width),
+        }
     }
 
-    /// The link after a constant was added to its register.
-    fn raised(self, width: Width, imm: i32) -> Link
-        ensures { result ≡ raised width imm self }
+    /// The link of a constant from which another register's number was taken.
+    fn less(plus: u64, of: RegNo, width: Width) -> Link
+        ensures { result ≡ less plus of width }
     {
         Link {
-            of: self.of,
-            plus: self.plus.wrapping_add(i64::from(imm).cast_unsigned()),
-            width: match width {
-                Width::W32 => Width::W32,
-                Width::W64 => self.width,
-            },
+            of,
+            relation: Relation::Difference,
+            plus,
+            bits: Bits::Lowest(width),
         }
+    }
+
+    /// The link after an operation on its register and a constant; `None` where it is lost.
+    fn after_operation(self, width: Width, op: BinOp, imm: i32) -> Option<Link>
+        ensures { result ≡ link_after width op imm self }
+    {
+        let bits = self.bits.after_operation(width, op, imm)?;
+        let plus = match op {
+            BinOp::Add => self.plus.wrapping_add(i64::from(imm).cast_unsigned()),
+            _ => self.plus,
+        };
+        Some(Link { plus, bits, ..self })
     }
 
     /// The link with its register, unless that is the other one, too.
@@ -89,11 +171,23 @@ impl Link {
         ensures right { AreNumbersRefined self a b result }
         ensures narrowed { IfSome result (AreLinkNarrowed self a b) }
     {
+        match self.bits {
+            Bits::Lowest(width) => self.refine_lowest(width, a, b),
+            Bits::Shifted => Some((a, b)),
+        }
+    }
+
+    /// The same, of a link that tells the lowest bits.
+    fn refine_lowest(self, width: Width, a: Scalar, b: Scalar) -> Option<(Scalar, Scalar)>
+        requires { self.bits ≡ Bits.Lowest width }
+        ensures right { AreNumbersRefined self a b result }
+        ensures narrowed { IfSome result (AreLowestNarrowed self width a b) }
+    {
         let plus = Scalar::exact(self.plus);
-        let sums = Scalar::apply(BinOp::Add, self.width, a, plus);
-        let (b, _) = Scalar::refine(Cond::Eq, self.width, b, sums, true)?;
-        let differences = Scalar::apply(BinOp::Sub, self.width, b, plus);
-        let (a, _) = Scalar::refine(Cond::Eq, self.width, a, differences, true)?;
+        let derived = self.relation.derive(width, a, plus);
+        let (b, _) = Scalar::refine(Cond::Eq, width, b, derived, true)?;
+        let traced = self.relation.trace(width, b, plus);
+        let (a, _) = Scalar::refine(Cond::Eq, width, a, traced, true)?;
         Some((a, b))
     }
 
@@ -193,27 +287,36 @@ impl Links {
         }
     }
 
-    /// The link that an instruction makes.
-    pub(crate) fn made(&self, action: Action) -> Option<(RegNo, Link)>
-        ensures { result ≡ link_made self.now action }
+    /// The link that an instruction makes, by what is known of the registers before it.
+    pub(crate) fn made(&self, registers: &[Reg; 11], action: Action) -> Option<(RegNo, Link)>
+        ensures { result ≡ link_made registers.now self.now action }
     {
         match action {
             Action::Operate(width, BinOp::Mov, dst, Operand::Reg(src)) => {
                 Link::copied(src, width).of_register(dst)
             }
-            Action::Operate(width, BinOp::Add, dst, Operand::Imm(imm)) => {
-                self.raised(dst, width, imm)
+            Action::Operate(width, BinOp::Sub, dst, Operand::Reg(src)) => {
+                difference(width, dst, src, registers)
+            }
+            Action::Operate(width, op, dst, Operand::Imm(imm)) => {
+                self.after_operation(dst, width, op, imm)
             }
             _ => None,
         }
     }
 
-    /// A register's link after a constant was added to it.
-    fn raised(&self, register: RegNo, width: Width, imm: i32) -> Option<(RegNo, Link)>
-        ensures { result ≡ raised_of register width imm (link_at self.now (reg_number register)) }
+    /// A register's link after an operation on it and a constant.
+    fn after_operation(
+        &self,
+        register: RegNo,
+        width: Width,
+        op: BinOp,
+        imm: i32,
+    ) -> Option<(RegNo, Link)>
+        ensures { result ≡ link_kept register (width, op, imm) (link_at self.now (reg_number register)) }
     {
         self.at(register.number())?
-            .raised(width, imm)
+            .after_operation(width, op, imm)?
             .of_register(register)
     }
 
@@ -235,5 +338,26 @@ impl Links {
     {
         self.open();
         self.each[register.number()] = Some(link);
+    }
+}
+
+/// The link of a register after another's number was taken from its own, where that was known exactly.
+fn difference(
+    width: Width,
+    register: RegNo,
+    of: RegNo,
+    registers: &[Reg; 11],
+) -> Option<(RegNo, Link)>
+    ensures { result ≡ difference_made width register of registers.now }
+{
+    let (Reg::Number(from), Reg::Number(_)) = (registers[register.number()], registers[of.number()])
+    else {
+        return None;
+    };
+    let (least, greatest) = from.bounds();
+    if least == greatest {
+        Link::less(least, of, width).of_register(register)
+    } else {
+        None
     }
 }
