@@ -1,5 +1,5 @@
 -- Beside Blocks: only the contracts of this crate's own parts and their proofs cite this, no public clause.
-use Rattle.std.specs.Prelude.{◌≡◌, ◌⊎◌, ℕ, ◌-◌, ◌<◌, ◌≤◌, List, slice_index_or}
+use Rattle.std.specs.Prelude.{◌≡◌, ◌⊎◌, ℕ, ◌-◌, ◌*◌, ◌/◌, ◌^◌, ◌<◌, ◌≤◌, List, slice_index_or}
 use Rattle.reg_kind.specs.declared.span.Span.{Span}
 use Rattle.scalar.specs.declared.scalar.Scalar.{Scalar}
 use Rattle.scalar.specs.Members.{InScalar, ShowsOne}
@@ -32,10 +32,17 @@ pub record IsWordPut (put : BlockPut) (x old new : ℕ) : Type 0 where
   pub there : (j : ℕ) → put.from ≤ j → j < put.to → byte_of new j ≡ byte_of x (j - put.from)
   pub others : (j : ℕ) → j < 8 → IsBeside put.from put.to j → byte_of new j ≡ byte_of old j
 
--- those bytes are known as a store leaves them, and for each word and each number stored the word is known that it leaves
+-- the numbers that a store puts so many bytes behind its first: at a certain place what is left there of a value, and else any
+pub record IsValueAt (span : Span) (value : Scalar) (behind : ℕ) (v : Scalar) : Type 0 where
+  pub certain : span.least ≡ span.greatest → behind < 8 → (x : ℕ) → InScalar value x → InScalar v (x / 2 ^ (8 * behind))
+  pub one : span.least ≡ span.greatest → behind < 8 → (x : ℕ) → ShowsOne value x → ShowsOne v (x / 2 ^ (8 * behind))
+  pub uncertain : ¬ (span.least ≡ span.greatest) → (x : ℕ) → x < 2 ^ 64 → InScalar v x
+
+-- those bytes are known as a store leaves them, and for each word and each number stored the word is known that it leaves; of
+-- one word and one number, at a certain place, it alone
 pub record IsPut (put : BlockPut) (old new : Block) : Type 0 where
   pub there : (j : ℕ) → put.from ≤ j → j < put.to → block_mark new j ≡ touched put.span (block_mark old j)
   pub others : (j : ℕ) → j < 8 → IsBeside put.from put.to j → block_mark new j ≡ block_mark old j
   pub torn : IsTorn new
   pub words : (w x z : ℕ) → HasWord old w → InScalar put.value x → IsWordPut put x w z → MaySpell new z
-  pub one : (w x : ℕ) → WordIn ShowsOne old w → ShowsOne put.value x → WordIn ShowsOne new (word_with put.from (put.to - put.from) w x)
+  pub one : put.span.least ≡ put.span.greatest → (w x : ℕ) → WordIn ShowsOne old w → ShowsOne put.value x → WordIn ShowsOne new (word_with put.from (put.to - put.from) w x)

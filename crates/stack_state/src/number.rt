@@ -39,6 +39,9 @@ fn low(number: Scalar, count: usize) -> Scalar
     ensures all { (w : ℕ) → InScalar number w → InScalar result (w % 2 ^ (8 * count)) }
     ensures one { (w : ℕ) → ShowsOne number w → ShowsOne result (w % 2 ^ (8 * count)) }
 {
+    if count == 8 {
+        return number;
+    }
     let greatest = Scalar::exact(greatest_of_bytes(count));
     Scalar::apply(BinOp::And, Width::W64, number, greatest)
 }
@@ -73,6 +76,9 @@ pub(crate) fn with_part(number: Scalar, at: usize, count: usize, value: Scalar) 
     ensures all { (w x : ℕ) → InScalar number w → InScalar value x → InScalar result (word_with at count w x) }
     ensures one { (w x : ℕ) → ShowsOne number w → ShowsOne value x → ShowsOne result (word_with at count w x) }
 {
+    if count == 8 {
+        return value;
+    }
     let mask = greatest_of_bytes(count) << (8 * at);
     let kept = Scalar::exact(!mask);
     let others = Scalar::apply(BinOp::And, Width::W64, number, kept);

@@ -18,5 +18,5 @@ returns c =
         has = c.with_part.ensures.all w x (c.number.ensures.all w hw) hx;
         same = λ j lt e. word_put put x w z some h j lt;
       };
-      one = λ w x hw hx. c.with_part.ensures.one w x (c.number.ensures.one w hw) hx;
+      one = λ certain w x hw hx. c.with_part.ensures.one w x (c.number.ensures.one w hw) hx;
     }
