@@ -1,8 +1,8 @@
 -- The bytes of words.
-use Rattle.std.proofs.Common.{◌≡◌, ◌⊎◌, ℕ, zero, suc, ◌+◌, ◌-◌, ◌*◌, ◌/◌, ◌%◌, ◌^◌, ◌<◌, ◌≤◌, List, [], ◌∷◌, length, get_or, map, Some, refl, sym, ap, ◌∙◌, subst, arith, mod-eq_of_lt}
+use Rattle.std.proofs.Common.{◌≡◌, ℕ, zero, suc, ◌+◌, ◌-◌, ◌*◌, ◌/◌, ◌%◌, ◌^◌, ◌<◌, ◌≤◌, List, [], ◌∷◌, length, get_or, map, Some, sym, ap, ◌∙◌, subst, arith, mod-eq_of_lt}
 use Rattle.std.specs.Int.Bits.{bit_and}
 use Rattle.std.specs.Option.{option_map}
-use Rattle.std.proofs.lemmas.Nat.{and-not, and_comm, and_mask, field_of, mod-pow-add, mod_low, mod_below, mul-add-lt, pow-add, pow_pos, shl-shr, shl_below, shl_whole, shr-shr, shr_below, shr_high, shr_split}
+use Rattle.std.proofs.lemmas.Nat.{and-not, and_comm, and_mask, field_of, mod-pow-add, mod_low, mod_below, mul-add-lt, pow-add, pow_pos, shl_whole, shr-shr, shr_below, shr_high, shr_split}
 use Rattle.std.proofs.lemmas.Nat.Bits.{and_high}
 use Rattle.std.proofs.Math.Pow.{pow_mono}
 use Rattle.insn.specs.declared.state.Cell.{Cell}
@@ -11,7 +11,7 @@ use Rattle.insn.specs.declared.operation.BinOp.TheVariants.{Add, And, Lsh, Rsh}
 use Rattle.insn.specs.declared.operation.Width.TheVariants.{W64}
 use Rattle.insn.specs.Memory.{low_bytes, number_spelled}
 use Rattle.insn.specs.Word.{word_result}
-use Rattle.stack_state.specs.Words.{byte_of, bytes_from, word_with}
+use Rattle.stack_state.specs.Words.{byte_of, word_with}
 
 -- ---- low bytes
 

@@ -1,4 +1,4 @@
-use Rattle.std.proofs.Common.{ℕ, ◌≡◌, ◌*◌, ◌%◌, ◌^◌, ◌<◌, refl, sym, subst, arith}
+use Rattle.std.proofs.Common.{ℕ, ◌≡◌, ◌*◌, ◌%◌, ◌^◌, ◌<◌, refl, subst, arith}
 use Rattle.scalar.specs.Members.{InScalar, ShowsOne}
 use Rattle.scalar.specs.MemberLaws.{InScalar-words, shows_one}
 use Rattle.stack_state.proofs.ByteParts.{moved_up}

@@ -1,4 +1,4 @@
-use Rattle.std.proofs.Common.{ℕ, ◌≡◌, ◌≤◌, ◌+◌, ◌*◌, ◌-◌, ◌%◌, ◌^◌, ◌<◌, refl, sym, ap, ◌∙◌, subst, arith, mod-eq_of_lt}
+use Rattle.std.proofs.Common.{ℕ, ◌≡◌, ◌≤◌, ◌+◌, ◌*◌, ◌-◌, ◌%◌, ◌^◌, ◌<◌, refl, sym, ap, subst, arith, mod-eq_of_lt}
 use Rattle.scalar.specs.Members.{InScalar, ShowsOne}
 use Rattle.scalar.specs.MemberLaws.{InScalar-words, shows_one}
 use Rattle.stack_state.specs.Words.{word_with}

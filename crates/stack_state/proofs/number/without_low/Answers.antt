@@ -1,4 +1,4 @@
-use Rattle.std.proofs.Common.{ℕ, ◌≡◌, ◌*◌, ◌/◌, ◌^◌, refl, sym, subst, arith}
+use Rattle.std.proofs.Common.{ℕ, ◌≡◌, ◌*◌, ◌/◌, ◌^◌, refl, subst, arith}
 use Rattle.scalar.specs.Members.{InScalar, ShowsOne}
 use Rattle.stack_state.proofs.ByteParts.{moved_down}
 use Rattle.stack_state.proofs.number.without_low.Goals as goal

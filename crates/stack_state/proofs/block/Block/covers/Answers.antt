@@ -5,7 +5,7 @@ use Rattle.stack_state.specs.declared.block.Block.{Block}
 use Rattle.stack_state.specs.declared.block.Block.TheVariants as block
 use Rattle.stack_state.specs.declared.mark.Mark.TheVariants.{Unset}
 use Rattle.stack_state.specs.Fits.{HasWord, block_mark}
-use Rattle.stack_state.specs.Joins.{IsBlockJoin, IsMarkJoin, common_mark}
+use Rattle.stack_state.specs.Joins.{IsBlockJoin, common_mark}
 use Rattle.stack_state.proofs.block.Block.covers.Goals as goal
 
 -- what is known of cells is known of a block

@@ -1,5 +1,4 @@
-use Rattle.std.proofs.Common.{ℕ, ◌≡◌, sym, subst}
-use Rattle.scalar.specs.Members.{InScalar}
+use Rattle.std.proofs.Common.{ℕ, subst}
 use Rattle.stack_state.specs.declared.block.Block.{Block}
 use Rattle.stack_state.specs.Fits.{HasWord}
 use Rattle.stack_state.proofs.block.Block.number.Goals as goal

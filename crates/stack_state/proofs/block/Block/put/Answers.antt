@@ -1,4 +1,4 @@
-use Rattle.std.proofs.Common.{◌≡◌, ◌∙◌, ◌-◌, ap, sym, ℕ, arith}
+use Rattle.std.proofs.Common.{◌∙◌, ◌-◌, ap, sym, arith}
 use Rattle.stack_state.specs.Accesses.{touched}
 use Rattle.stack_state.specs.BlocksParts.{BlockPut}
 use Rattle.stack_state.specs.Words.{word_with}

@@ -1,7 +1,6 @@
 use Rattle.std.proofs.Common.{◌≡◌, ◌+◌, ◌≤◌, ◌/◌, ◌%◌, get_or, refl, sym, ap, ◌∙◌, subst, arith, ℕ}
 use Rattle.insn.specs.Instruction.{size_bytes}
 use Rattle.scalar.specs.Members.{InScalar, ShowsOne}
-use Rattle.stack_state.specs.declared.block.Block.{Block}
 use Rattle.stack_state.specs.declared.block.Block.TheVariants.{Unset}
 use Rattle.stack_state.specs.Fits.{block_at}
 use Rattle.stack_state.specs.Words.{bytes_from}
