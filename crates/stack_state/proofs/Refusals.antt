@@ -22,16 +22,16 @@ use Rattle.reg_kind.specs.declared.reg.Reg.TheVariants as reg
 use Rattle.reg_kind.specs.Spans.{span_from}
 use Rattle.reg_kind.specs.Fits.{SpanFits, ValueFits}
 use Rattle.stack_state.specs.declared.mark.Mark.{Mark}
-use Rattle.stack_state.specs.declared.mark.Mark.TheVariants.{Unset, Part}
+use Rattle.stack_state.specs.declared.mark.Mark.TheVariants.{Unset, Byte, Part}
 use Rattle.stack_state.specs.declared.block.Block.{Block}
 use Rattle.stack_state.specs.declared.block.Block.TheVariants as block
 use Rattle.stack_state.specs.declared.stack.Stack.{Stack}
-use Rattle.stack_state.specs.Fits.{BlockFits, MarkFits, StackFits, block_at, block_mark, block_cells, mark_at, value_mark}
+use Rattle.stack_state.specs.Fits.{BlockFits, MarkFits, StackFits, WordFits, block_at, block_mark, block_cells, mark_at, value_mark}
 use Rattle.stack_state.specs.Blocks.{IsNotWhole}
 use Rattle.stack_state.specs.Accesses.{HoldsNone, IsLoadFault, IsTouched, IsWholePlace}
 use Rattle.stack_state.proofs.Written.{length-part, length-written, part_item, part_kept, written_at, written_else}
 use Rattle.stack_state.proofs.Spelled.{IsByte, IsPart, NoPointer, none_fails, none_unset, some_unset, torn_holds_none, unset_fails}
-use Rattle.stack_state.proofs.Marks.{apart_fits, byte_or_part, mark_fits}
+use Rattle.stack_state.proofs.Marks.{apart_fits, byte_or_part, mark_fits, word_fits}
 use Rattle.stack_state.proofs.Loads.{only_eight, size_some}
 use Rattle.stack_state.proofs.Stores.{may_not, no_place}
 
@@ -97,7 +97,7 @@ module _ (stack : Stack) (cells : List Cell) (k : ℕ) (c : Cell) (inside : k < 
   changed_long = let long = fits.long in length-written cells (c ∷ []) k (omega arith) ∙ long
 
   -- what is known of each cell is still so
-  module _ (apart : IsNotWhole (block_at stack (k / 8))) (known : MarkFits false (k % 8) (mark_at stack k) c) where
+  module _ (apart : IsNotWhole (block_at stack (k / 8))) (no_byte : mark_at stack k ≢ Byte) (known : MarkFits false (k % 8) (mark_at stack k) c) where
     mark_changed : (i : ℕ) → i < 512 → MarkFits false (i % 8) (mark_at stack i) (get_or (with_cell cells k c) i cell.Unset)
     mark_changed i lt =
         elim (cases_eq i k) [
@@ -106,7 +106,15 @@ module _ (stack : Stack) (cells : List Cell) (k : ℕ) (c : Cell) (inside : k < 
         ]
 
     hit : BlockFits false (block_at stack (k / 8)) (block_cells (with_cell cells k c) (k / 8))
-    hit = apart_fits (block_at stack (k / 8)) (block_cells (with_cell cells k c) (k / 8)) apart byte where
+    hit = apart_fits (block_at stack (k / 8)) (block_cells (with_cell cells k c) (k / 8)) apart word byte where
+      -- no byte is changed that is known as one
+      word : WordFits false (block_at stack (k / 8)) (block_cells (with_cell cells k c) (k / 8))
+      word =
+          let f = word_fits (block_at stack (k / 8)) (block_cells cells (k / 8)) (fits.blocks (k / 8) (omega arith)) in
+          (f.0, f.1, λ j lt e. same j lt (λ is. no_byte (ap (block_mark (block_at stack (k / 8))) is ∙ e)) ∙ f.2 j lt e) where
+            same : (j : ℕ) → j < 8 → k % 8 ≢ j → get_or (block_cells (with_cell cells k c) (k / 8)) j cell.Unset ≡ get_or (block_cells cells (k / 8)) j cell.Unset
+            same j lt ne = part_item (with_cell cells k c) (8 * (k / 8)) 8 j cell.Unset lt ∙ changed_else (8 * (k / 8) + j) (λ e. ne (omega arith)) ∙ sym (part_item cells (8 * (k / 8)) 8 j cell.Unset lt)
+
       byte : (j : ℕ) → j < 8 → MarkFits false j (block_mark (block_at stack (k / 8)) j) (get_or (block_cells (with_cell cells k c) (k / 8)) j cell.Unset)
       byte j l =
           let p : (8 * (k / 8) + j) / 8 ≡ k / 8 = omega arith in
@@ -159,7 +167,7 @@ module _ (stack : Stack) (span : Span) (size : Size) (s : State) (inside : span.
   -- a block of which a byte may be unset holds no value whole
   apart_unset : (b : Block) (cells : List Cell) (j : ℕ) → BlockFits false b cells → block_mark b j ≡ Unset → IsNotWhole b
   apart_unset block.Unset cells j fits e = tt
-  apart_unset (block.Cells marks) cells j fits e = tt
+  apart_unset (block.Cells bytes) cells j fits e = tt
   apart_unset (block.Whole (reg.Number a)) cells j fits e = absurd cc
   apart_unset (block.Whole (reg.Record t)) cells j fits e = absurd cc
   apart_unset (block.Whole (reg.Stack t)) cells j fits e = absurd cc
@@ -187,7 +195,7 @@ module _ (stack : Stack) (span : Span) (size : Size) (s : State) (inside : span.
 
     changed : StackFits false stack cells
     changed =
-        cell_changed stack s.stack k cell.Unset low fits (apart_unset (block_at stack (k / 8)) (block_cells s.stack (k / 8)) (k % 8) (fits.blocks (k / 8) (let l = low in omega arith)) mark)
+        cell_changed stack s.stack k cell.Unset low fits (apart_unset (block_at stack (k / 8)) (block_cells s.stack (k / 8)) (k % 8) (fits.blocks (k / 8) (let l = low in omega arith)) mark) (λ e. let m = mark in absurd cc)
         (subst (λ (m : Mark). MarkFits false (k % 8) m cell.Unset) (sym mark) tt)
 
     read : List Cell
@@ -275,7 +283,7 @@ module _ (stack : Stack) (span : Span) (size : Size) (s : State) (inside : span.
       changed_part : (at k : ℕ) → SpanFits false span at → at % 8 ≡ 0 → at ≤ k → k < at + 8 → mark_at stack k ≡ Part → IsNotWhole (block_at stack (k / 8)) → FailsLoad stack span size s PointerMisuse
       unfolding pointer_of another
       changed_part at k place aligned below above mark apart =
-          torn_seen cells at k (cell_changed stack s.stack k (cell.Part q (k % 8)) low fits apart (subst (λ (m : Mark). MarkFits false (k % 8) m (cell.Part q (k % 8))) (sym mark) (q, refl))) place below (omega arith) mark (λ e f. differs) where
+          torn_seen cells at k (cell_changed stack s.stack k (cell.Part q (k % 8)) low fits apart (λ e. let m = mark in absurd cc) (subst (λ (m : Mark). MarkFits false (k % 8) m (cell.Part q (k % 8))) (sym mark) (q, refl))) place below (omega arith) mark (λ e f. differs) where
             low : k < 512
             low = let p = place.1 in omega arith
 
@@ -317,7 +325,7 @@ module _ (stack : Stack) (span : Span) (size : Size) (s : State) (inside : span.
 
         by : (b : Block) → block_at stack (at / 8) ≡ b → FailsLoad stack span size s PointerMisuse
         by block.Unset e = torn (subst IsNotWhole (sym e) tt)
-        by (block.Cells marks) e = torn (subst IsNotWhole (sym e) tt)
+        by (block.Cells bytes) e = torn (subst IsNotWhole (sym e) tt)
         by (block.Whole value) e = beside at k value place aligned same mark e
 
     part_seen : (k : ℕ) → IsTouched span size k → mark_at stack k ≡ Part → HoldsNone stack span size → StackFits false stack s.stack → FailsLoad stack span size s PointerMisuse

@@ -52,7 +52,7 @@ use Rattle.reg_kind.proofs.Places.{kinds_access, writable_right}
 use Rattle.reg_kind.proofs.Results.{AreOperands, LeftFits, image_of, images_right, kinds_right}
 use Rattle.stack_state.specs.declared.block.Block.TheVariants as block
 use Rattle.stack_state.specs.declared.stack.Stack.{Stack}
-use Rattle.stack_state.specs.Accesses.{HoldsWhole, IsGiven, IsLoadFault, IsNumberReg}
+use Rattle.stack_state.specs.Accesses.{HoldsWhole, IsGiven, IsLoadFault, IsNumberRead}
 use Rattle.stack_state.proofs.Spelled.{read}
 use Rattle.verifier.specs.Shapes.{MovesNone, NoMovedPointer, both_ways, branch_in, effects, shape_of}
 use Rattle.verifier.specs.declared.known.Known.{Known}
@@ -175,7 +175,7 @@ given_fault : (stack : Stack) (span : _) (size : Size) (r : Result Kind WalkFaul
 given_fault stack span size (Ok value) h = tt
 given_fault stack span size (Err fault) h = h.1
 
-given_kinds : (stack : Stack) (span : _) (size : Size) (r : Result Kind WalkFault) → IsGiven stack span size r → IfOk r (λ value. HoldsWhole stack span size value ⊎ IsNumberReg size value)
+given_kinds : (stack : Stack) (span : _) (size : Size) (r : Result Kind WalkFault) → IsGiven stack span size r → IfOk r (λ value. HoldsWhole stack span size value ⊎ IsNumberRead stack span size value)
 given_kinds stack span size (Ok value) (inl h) = inl h
 given_kinds stack span size (Ok value) (inr h) = inr h.2
 given_kinds stack span size (Err fault) h = tt

@@ -29,7 +29,7 @@ use Rattle.stack_state.specs.declared.block.Block.{Block}
 use Rattle.stack_state.specs.declared.block.Block.TheVariants as block
 use Rattle.stack_state.specs.declared.stack.Stack.{Stack}
 use Rattle.stack_state.specs.Fits.{block_at, block_mark, mark_at, value_mark}
-use Rattle.stack_state.specs.Accesses.{AreStored, HoldsWhole, IsNumberReg, IsLoadFault, IsStored, IsStoredWhole, IsTouched, IsWholePlace, touched}
+use Rattle.stack_state.specs.Accesses.{AreStored, HoldsWhole, IsNumberRead, IsLoadFault, IsStored, IsStoredWhole, IsTouched, IsWholePlace, touched}
 use Rattle.stack_state.proofs.Written.{length-written, part_item, written_at, written_else}
 use Rattle.verifier.specs.Shows.{IsWholePointer, StackShows}
 
@@ -126,8 +126,8 @@ module _ (stack : Stack) (cells : List Cell) (span : Span) (size : Size) (at : �
       let same : at + (k - at) ≡ k = omega arith in
       shows.bytes k byte.n (omega arith) (ap (λ (i : ℕ). get_or cells i cell.Unset) (sym same) ∙ sym (part_item cells at (size_bytes size) (k - at) cell.Unset (omega arith)) ∙ byte.is)
 
-  number_shown : (n : ℕ) (r : Result Kind WalkFault) → value_in (take (size_bytes size) (drop at cells)) ≡ Some (Number n) → IfErr r (λ f. IsLoadFault stack span size f) → IfOk r (λ value. HoldsWhole stack span size value ⊎ IsNumberReg size value) → IsShown r (Number n)
-  number_shown n (Ok value) e err (inr num) = record { value = value; is = refl; fits = rw num.1 tt }
+  number_shown : (n : ℕ) (r : Result Kind WalkFault) → value_in (take (size_bytes size) (drop at cells)) ≡ Some (Number n) → IfErr r (λ f. IsLoadFault stack span size f) → IfOk r (λ value. HoldsWhole stack span size value ⊎ IsNumberRead stack span size value) → IsShown r (Number n)
+  number_shown n (Ok value) e err (inr num) = record { value = value; is = refl; fits = rw num.is tt }
   number_shown n (Ok value) e err (inl whole) =
       let first : mark_at stack at ≡ mark.Byte = bytes_known n e at (record { least = let p : span.least ≡ at = place.0 in omega arith; greatest = let p : span.greatest ≡ at = place.1 in omega (arith, size_some size) }) in
       let least : span.least ≡ at = place.0 in
@@ -163,7 +163,7 @@ module _ (stack : Stack) (cells : List Cell) (span : Span) (size : Size) (at : �
 -- a load of a shape whose tests pass is answered with what it gives
 pub shows_load : (stack : Stack) (cells : List Cell) (span : Span) (size : Size) (at : ℕ) (v : Value) (r : Result Kind WalkFault) → StackShows stack cells → SpanFits true span at → at + size_bytes size ≤ 512
     → value_in (take (size_bytes size) (drop at cells)) ≡ Some v → IfErr r (λ f. IsLoadFault stack span size f) → ((value : Kind) → HoldsWhole stack span size value → r ≡ Ok value)
-    → IfOk r (λ value. HoldsWhole stack span size value ⊎ IsNumberReg size value) → IsShown r v
+    → IfOk r (λ value. HoldsWhole stack span size value ⊎ IsNumberRead stack span size value) → IsShown r v
 shows_load stack cells span size at (Number n) r shows place inside e err whole kinds = number_shown stack cells span size at shows place inside n r e err kinds
 shows_load stack cells span size at (Address p) r shows place inside e err whole kinds = pointer_shown stack cells span size at shows place inside p r (parts_only (take (size_bytes size) (drop at cells)) p e) whole
 
@@ -209,7 +209,7 @@ module _ (old new : Stack) (cells ys : List Cell) (span : Span) (size : Size) (v
     part_was : (k j : ℕ) (p : Pointer) → get_or (written cells at ys) k cell.Unset ≡ cell.Part p j → get_or cells k cell.Unset ≡ cell.Part p j
     part_was k j p e = sym (new_else k (part_else k j p e)) ∙ e
 
-    bytes_shown : AreStored span size old new → StackShows new (written cells at ys)
+    bytes_shown : AreStored span size value old new → StackShows new (written cells at ys)
     bytes_shown stored = record {
       long = length-written cells ys at room ∙ shows.long;
       bytes = λ k n lt e. known k n lt e (where_is at (size_bytes size) k);
@@ -331,7 +331,7 @@ shows_store old new s span size value at (Number n) (Ok done) shows place inside
       byte : (j : ℕ) → j < size_bytes size → IsByteCell (get_or (map cell.Byte (low_bytes (size_bytes size) n)) j cell.Unset)
       byte j lt = byte_item (low_bytes (size_bytes size) n) j (let m = many in omega arith)
 
-      by : (IsWholePlace span size × IsStoredWhole span.least value old new) ⊎ (¬ IsWholePlace span size × value_mark value ≡ mark.Byte × AreStored span size old new) → StackShows new (written s.stack at (map cell.Byte (low_bytes (size_bytes size) n)))
+      by : (IsWholePlace span size × IsStoredWhole span.least value old new) ⊎ (¬ IsWholePlace span size × value_mark value ≡ mark.Byte × AreStored span size value old new) → StackShows new (written s.stack at (map cell.Byte (low_bytes (size_bytes size) n)))
       by (inl w) = number_shown_whole old new s.stack (map cell.Byte (low_bytes (size_bytes size) n)) span size value at shows place all inside byte w.0 w.1 (value_byte value n fits)
       by (inr w) = bytes_shown old new s.stack (map cell.Byte (low_bytes (size_bytes size) n)) span size value at shows place all inside byte w.2
 shows_store old new s span size value at (Number n) (Err fault) shows place inside fits may stored = absurd (let b = value_byte value n fits in let p = stored.2 in cc)
