@@ -1,7 +1,8 @@
 -- What is known at the slot that a walk has come to holds of each run that comes there.
-use Rattle.std.proofs.Common.{◌≡◌, ℕ, zero, suc, ◌+◌, ◌-◌, ◌<◌, ◌≤◌, false, List, [], length, take, drop, Option, Some, None, refl, sym, ap, ◌∙◌, arith, get_or, set, inl, inr, ◌⊎◌}
+use Rattle.std.proofs.Common.{◌≡◌, ℕ, zero, suc, ◌+◌, ◌-◌, ◌<◌, ◌≤◌, false, List, [], length, take, drop, map, ◌++◌, ◌∷◌, Option, Some, None, refl, sym, ap, ◌∙◌, arith, get_or, set, subst, inl, inr, ◌⊎◌}
 use Rattle.std.proofs.lemmas.Bool.{cases_eq, cases_lt}
-use Rattle.std.specs.Prelude.{All}
+use Rattle.std.specs.Prelude.{All, Contains}
+use Rattle.std.specs.Box.{box_value}
 use Rattle.std.proofs.lemmas.List.{get_or-set_other, get_or-set_same, length-set}
 use Rattle.std.proofs.lemmas.List.Elements.{All-push}
 use Rattle.insn.specs.declared.instruction.Insn.{Insn}
@@ -21,14 +22,15 @@ use Rattle.verifier.specs.Fits.{StateFits}
 use Rattle.verifier.specs.declared.walk.Onward.{Onward}
 use Rattle.verifier.specs.Waits.{IsBegun, IsRefusedHere, nowhere}
 use Rattle.verifier.specs.WaitsParts.{IsNoted, IsVisit}
+use Rattle.verifier.proofs.Places.{has_first, has_later, has_none, middle_or_around}
 use Rattle.verifier.proofs.Forward.{later, same_reached}
 use Rattle.verifier.proofs.Walks.{Ended, Standing, Walked, Walking, begins_walking, came_here, ends_passed, ends_walking, one_more, refusal_of, slot_inside, walked_here}
 use Rattle.verifier.proofs.Ways.{behind_it}
 
 -- what waits at a slot fits a state
-pub record Arrives (layout : Layout) (w : List (Option Known)) (c : Config) : Type 0 where
+pub record Arrives (layout : Layout) (w : List (List Known)) (c : Config) : Type 0 where
   pub known : Known
-  pub waits : get_or w c.slot None ≡ Some known
+  pub waits : Contains (get_or w c.slot []) known
   pub fits : StateFits false layout known c.state
 
 module _ (layout : Layout) (program : List Insn) (bytes : List ℕ) where
@@ -48,7 +50,7 @@ module _ (layout : Layout) (program : List Insn) (bytes : List ℕ) where
               let both : None ≡ Some d = sym none ∙ one in absurd cc
         ]
 
-  pub arrives : (slot : ℕ) (rest : List Insn) (w : List (Option Known)) (m : ℕ) (c : Config) → Walked layout program slot rest w → IsRecord layout bytes → Reaches layout program bytes m c → c.slot ≡ slot → Arrives layout w c
+  pub arrives : (slot : ℕ) (rest : List Insn) (w : List (List Known)) (m : ℕ) (c : Config) → Walked layout program slot rest w → IsRecord layout bytes → Reaches layout program bytes m c → c.slot ≡ slot → Arrives layout w c
   arrives slot rest w m c walked is there at = by (walked.runs bytes is) where
     by : Ended layout program bytes slot ⊎ Standing layout program bytes slot rest w → Arrives layout w c
     by (inl e) =
@@ -80,33 +82,36 @@ module _ (layout : Layout) (program : List Insn) (bytes : List ℕ) where
 
 -- ---- the loop that tells what a walk finds
 
-module _ (layout : Layout) (program : List Insn) (slot : ℕ) (rest : List Insn) (w : List (Option Known)) (walked : Walked layout program slot rest w) where
-  -- what waits there is known of all that come
-  comes : (o : Option Known) → get_or w slot None ≡ o → (bytes : List ℕ) (n : ℕ) (c : Config) → IsRecord layout bytes → Reaches layout program bytes n c → c.slot ≡ slot → (known : Known) × (o ≡ Some known) × StateFits false layout known c.state
-  comes o here bytes n c is there at =
+module _ (layout : Layout) (program : List Insn) (slot : ℕ) (rest : List Insn) (w : List (List Known)) (walked : Walked layout program slot rest w) where
+  -- one of what waits there is known of all that come
+  comes : (cases : List Known) → get_or w slot [] ≡ cases → IsKnownAt layout program slot cases
+  comes cases here = λ bytes n c is there at.
       let a = arrives layout program bytes slot rest w n c walked is there at in
-      (a.known, sym here ∙ ap (λ (k : ℕ). get_or w k None) (sym at) ∙ a.waits, a.fits)
+      let waits : Contains (get_or w slot []) a.known = subst (λ (k : ℕ). Contains (get_or w k []) a.known) at a.waits in
+      (a.known, subst (λ (cases : List Known). Contains cases a.known) here waits, a.fits)
 
-  none_comes : get_or w slot None ≡ None → NoneComesTo layout program slot
-  none_comes none = λ bytes n c is there at. let k = comes None none bytes n c is there at in absurd (let q : None ≡ Some k.0 = k.1 in cc)
+  none_comes : get_or w slot [] ≡ [] → NoneComesTo layout program slot
+  none_comes none = λ bytes n c is there at. let k = comes [] none bytes n c is there at in absurd (has_none k.0 k.1)
 
-  known_comes : (known : Known) → get_or w slot None ≡ Some known → IsKnownAt layout program slot known
-  known_comes known here = λ bytes n c is there at.
-      let k = comes (Some known) here bytes n c is there at in
-      let q : Some known ≡ Some k.0 = k.1 in
-      let same : known ≡ k.0 = cc in rw same k.2
+  -- or of these, whichever of them is named first
+  one_comes : (before after : List Known) (known : Known) → get_or w slot [] ≡ before ++ known ∷ after → IsKnownAt layout program slot (known ∷ (before ++ after))
+  one_comes before after known here = λ bytes n c is there at.
+      let k = comes (before ++ known ∷ after) here bytes n c is there at in (k.0, named k.0 (middle_or_around before after known k.0 k.1), k.2) where
+        named : (x : Known) → (known ≡ x) ⊎ Contains (before ++ after) x → Contains (known ∷ (before ++ after)) x
+        named x (inl e) = rw (← e) (has_first known (before ++ after))
+        named x (inr h) = has_later known x (before ++ after) h
 
 -- what the loop keeps: no run has come to the slots that it notes, and it has told where walks go on from those before
-pub record Exploring (layout : Layout) (program : List Insn) (slot : ℕ) (rest : List Insn) (w : List (Option Known)) (unreached : List ℕ) (onward : List Onward) : Type 0 where
+pub record Exploring (layout : Layout) (program : List Insn) (slot : ℕ) (rest : List Insn) (w : List (List Known)) (unreached : List ℕ) (onward : List Onward) : Type 0 where
   pub walking : Walking layout program slot rest w
   pub none : All (NoneComesTo layout program) unreached
   pub long : length onward ≡ slot_count program
   pub told : AreToldOnward layout program slot onward
 
-pub begins_exploring : (layout : Layout) (program : List Insn) (w : List (Option Known)) (onward : List Onward) → 1 ≤ slot_count program → look_verdict program ≡ None → IsBegun (slot_count program) w → length onward ≡ slot_count program → Exploring layout program 0 program w [] onward
+pub begins_exploring : (layout : Layout) (program : List Insn) (w : List (List Known)) (onward : List Onward) → 1 ≤ slot_count program → look_verdict program ≡ None → IsBegun (slot_count program) w → length onward ≡ slot_count program → Exploring layout program 0 program w [] onward
 begins_exploring layout program w onward some none b long = record { walking = begins_walking layout program w some none b; none = λ k d lt. absurd (omega arith); long = long; told = λ k i lt begins. absurd (omega arith) }
 
-module _ (layout : Layout) (program : List Insn) (slot : ℕ) (rest : List Insn) (w : List (Option Known)) (d : Insn) (some : 1 ≤ length rest) (unreached : List ℕ) (onward : List Onward) (h : Exploring layout program slot rest w unreached onward) where
+module _ (layout : Layout) (program : List Insn) (slot : ℕ) (rest : List Insn) (w : List (List Known)) (d : Insn) (some : 1 ≤ length rest) (unreached : List ℕ) (onward : List Onward) (h : Exploring layout program slot rest w unreached onward) where
   abbrev pub now : Insn
   now = get_or rest 0 d
 
@@ -116,17 +121,17 @@ module _ (layout : Layout) (program : List Insn) (slot : ℕ) (rest : List Insn)
   pub waits_inside : slot < length w
   waits_inside = omega (arith, slot_inside layout program slot rest w d some h.walking, h.walking.walked.long)
 
-  noted : (o : Option Known) (after : List ℕ) → get_or w slot None ≡ o → IsNoted slot o unreached after → All (NoneComesTo layout program) after
-  noted None after here n = rw n (All-push (NoneComesTo layout program) unreached slot h.none (none_comes layout program slot rest w h.walking.walked here))
-  noted (Some known) after here n = rw n h.none
+  noted : (cases : List Known) (after : List ℕ) → get_or w slot [] ≡ cases → IsNoted slot cases unreached after → All (NoneComesTo layout program) after
+  noted [] after here n = rw n (All-push (NoneComesTo layout program) unreached slot h.none (none_comes layout program slot rest w h.walking.walked here))
+  noted (known ∷ others) after here n = rw n h.none
 
   pub told_inside : slot < length onward
   told_inside = omega (arith, slot_inside layout program slot rest w d some h.walking, h.long)
 
-  pub one_explored : (w' : List (Option Known)) (here : Onward) (after : List ℕ) → IsVisit layout now slot w w' (Passed here) → IsNoted slot (get_or w slot None) unreached after → Exploring layout program (slot + slots_of now) others w' after (set onward slot here)
+  pub one_explored : (w' : List (List Known)) (here : Onward) (after : List ℕ) → IsVisit layout now slot w w' (Passed here) → IsNoted slot (get_or w slot []) unreached after → Exploring layout program (slot + slots_of now) others w' after (set onward slot here)
   one_explored w' here after v n = record {
     walking = one_more layout program slot rest w d some h.walking w' v.0;
-    none = noted (get_or w slot None) after refl n;
+    none = noted (get_or w slot []) after refl n;
     long = length-set onward slot here ∙ h.long;
     told = λ k i lt begins.
         elim (cases_eq k slot) [
@@ -141,21 +146,20 @@ module _ (layout : Layout) (program : List Insn) (slot : ℕ) (rest : List Insn)
         ];
   }
 
-  pub refused_told : (w' : List (Option Known)) (refusal : Refusal) (fault : WalkFault) → IsVisit layout now slot w w' (Refused fault refusal.known) → refusal.fault ≡ walk_fault_at fault slot → refusal.slot ≡ slot → refusal.insn ≡ now → refusal.onward.items ≡ onward → IsExplained layout program refusal
+  pub refused_told : (w' : List (List Known)) (refusal : Refusal) (fault : WalkFault) → IsVisit layout now slot w w' (Refused fault refusal.known refusal.others) → refusal.fault ≡ walk_fault_at fault slot → refusal.slot ≡ slot → refusal.insn ≡ now → refusal.onward.items ≡ onward → IsExplained layout program refusal
   refused_told w' refusal fault v faults slots insns onwards =
-      let here : IsRefusedHere layout now slot w refusal.fault = rw faults v.0 in
-      let waits : get_or w slot None ≡ Some refusal.known.value = v.0.taken.here ∙ ap Some v.1 in
-      let waited : get_or w slot None ≡ Some here.known = here.taken.here in
-      let same : refusal.known.value ≡ here.known = cc in
-      let is = refusal_of layout program slot rest w d some h.walking refusal.fault here in
-      record {
+      let here : IsRefusedHere layout now slot w (walk_fault_at fault slot) = v.0 in
+      let all : map box_value refusal.others.items ≡ here.before ++ here.after = v.2 in
+      let is = refusal_of layout program slot rest w d some h.walking (walk_fault_at fault slot) here in
+      rw faults (record {
         refused = is.0;
         slot = slots ∙ sym is.1;
         insn = insns ∙ sym is.2;
-        waits = same ∙ sym is.3;
-        known = rw slots (known_comes layout program slot rest w h.walking.walked refusal.known.value waits);
+        waits = sym v.1 ∙ sym is.3;
+        others = all ∙ sym is.4;
+        known = rw (slots, all, ← v.1) (one_comes layout program slot rest w h.walking.walked here.before here.after here.known here.taken.here);
         onward = rw (slots, onwards) h.told;
-      }
+      })
 
-pub ends_exploring : (layout : Layout) (program : List Insn) (slot : ℕ) (rest : List Insn) (w : List (Option Known)) (unreached : List ℕ) (onward : List Onward) → length rest < 1 → Exploring layout program slot rest w unreached onward → IsAcceptance layout program unreached
+pub ends_exploring : (layout : Layout) (program : List Insn) (slot : ℕ) (rest : List Insn) (w : List (List Known)) (unreached : List ℕ) (onward : List Onward) → length rest < 1 → Exploring layout program slot rest w unreached onward → IsAcceptance layout program unreached
 ends_exploring layout program slot rest w unreached onward none h = record { safe = ends_walking layout program slot rest w none h.walking; passed = ends_passed layout program slot rest w none h.walking; unreached = h.none }

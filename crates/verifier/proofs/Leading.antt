@@ -16,7 +16,8 @@ use Rattle.verifier.specs.declared.known.Flow.{Flow}
 use Rattle.verifier.specs.declared.known.Flow.TheVariants.{Next, Jump, Branch, Exit}
 use Rattle.verifier.specs.Follows.{FlowOf, FlowTo, IsJoined, goes_behind}
 use Rattle.verifier.specs.Learnt.{IsLearnt, KeepsAnswered}
-use Rattle.verifier.specs.Waits.{IsMerged, IsPushed, IsSettled, MayPush}
+use Rattle.verifier.specs.Waits.{IsAdded, IsPushed, IsSettled, IsTestSettled, MayPush}
+use Rattle.verifier.proofs.Places.{AddedCase, Stays, Comes, Meets, added_cases}
 use Rattle.verifier.proofs.Ways.{contains_first, contains_second}
 
 -- how far a flow jumps
@@ -99,33 +100,37 @@ module _ (P : Known → State → Type 0) (program : List Insn) (behind : ℕ) (
 
 module _ (Q : ℕ → Known → Type 0) (meets : (k : ℕ) (a b c : Known) → IsJoined a b c → Q k a → Q k b → Q k c) (learns : (k : ℕ) (test : Test) (answer : Bool) (a b : Known) → KeepsAnswered test answer a b → Q k a → Q k b) where
   -- it is true of all that waits from a slot on
-  abbrev pub AllWait : ℕ → List (Option Known) → Type 0
-  AllWait from w = (k : ℕ) (a : Known) → from ≤ k → get_or w k None ≡ Some a → Q k a
+  abbrev pub AllWait : ℕ → List (List Known) → Type 0
+  AllWait from w = (k : ℕ) (a : Known) → from ≤ k → Contains (get_or w k []) a → Q k a
 
-  merged : (o : Option Known) (k : ℕ) (a c : Known) → ((b : Known) → o ≡ Some b → Q k b) → Q k a → IsMerged o a c → Q k c
-  merged None k a c old new m = rw m new
-  merged (Some b) k a c old new m = meets k b a c m (old b refl) new
+  added : (k : ℕ) (old now : List Known) (a b : Known) → ((c : Known) → Contains old c → Q k c) → Q k a → IsAdded old a now → Contains now b → Q k b
+  added k old now a b was new step there = by (added_cases old now a b step there) where
+    by : AddedCase old a b → Q k b
+    by (Stays h) = was b h
+    by (Comes e) = rw (← e) new
+    by (Meets one h j) = meets k one a b j (was one h) new
 
-  pushed : (w w' : List (Option Known)) (from to : ℕ) (a : Known) → from ≤ to → IsPushed w to a w' → Q to a → AllWait from w → AllWait from w'
-  pushed w w' from to a le p new old k x lek e =
+  pushed : (w w' : List (List Known)) (from to : ℕ) (a : Known) → from ≤ to → IsPushed w to a w' → Q to a → AllWait from w → AllWait from w'
+  pushed w w' from to a le p new old k x lek h =
       elim (cases_eq k to) [
-        | inl q ↦
-            let is : p.there ≡ x = let here = p.here in let e' : get_or w' to None ≡ Some x = rw q at e in cc in
-            rw (q, ← is) (merged (get_or w to None) to a p.there (λ b h. old to b le h) new p.merged)
-        | inr ne ↦ old k x lek (sym (p.others k ne) ∙ e)
+        | inl q ↦ let there : Contains (get_or w' to []) x = rw q at h in rw q (added to (get_or w to []) (get_or w' to []) a x (λ c. old to c le) new p.here there)
+        | inr ne ↦ old k x lek (rw (p.others k ne) at h)
       ]
 
-  learnt : (w w' : List (Option Known)) (from to : ℕ) (test : Test) (answer : Bool) (next : Known) (o : Option Known) → from ≤ to → IsLearnt test answer next o → MayPush w to o w' → Q to next → AllWait from w → AllWait from w'
+  learnt : (w w' : List (List Known)) (from to : ℕ) (test : Test) (answer : Bool) (next : Known) (o : Option Known) → from ≤ to → IsLearnt test answer next o → MayPush w to o w' → Q to next → AllWait from w → AllWait from w'
   learnt w w' from to test answer next None le l p new old = rw p old
   learnt w w' from to test answer next (Some a) le l p new old = pushed w w' from to a le p (learns to test answer next a l.0 new) old
 
   -- and stays so where an instruction goes on
-  pub settled_all : (behind : ℕ) (flow : Flow) (next : Known) (v w' : List (Option Known)) → IsSettled flow behind next v w' → (goes_behind flow ≡ true → behind < length v → Q behind next)
+  pub settled_all : (behind : ℕ) (flow : Flow) (next : Known) (v w' : List (List Known)) → IsSettled flow behind next v w' → (goes_behind flow ≡ true → behind < length v → Q behind next)
       → ((k : ℕ) → flow_distance flow ≡ Some (pos k) → Q (behind + k) next) → AllWait behind v → AllWait behind w'
   settled_all behind Next next v w' p here ahead old = pushed v w' behind behind next (omega arith) p.1 (here refl p.0) old
   settled_all behind (Jump d) next v w' p here ahead old = pushed v w' behind (behind + p.0) next (omega arith) p.2 (ahead p.0 (ap Some p.1)) old
-  settled_all behind (Branch d test) next v w' p here ahead old =
-      let both = p.3 in
-      learnt both.between w' behind behind test false next both.passed.there (omega arith) both.passed.learnt both.passed.pushed (here refl p.0)
-      (learnt v both.between behind (behind + p.1) test true next both.taken.there (omega arith) both.taken.learnt both.taken.pushed (ahead p.1 (ap Some p.2)) old)
+  settled_all behind (Branch d test) next v w' p here ahead old = by p.1 where
+    by : IsTestSettled d test behind next v w' → AllWait behind w'
+    by (inl near) = pushed v w' behind behind next (omega arith) near.1 (here refl p.0) old
+    by (inr far) =
+        let both = far.3 in
+        learnt both.between w' behind behind test false next both.passed.there (omega arith) both.passed.learnt both.passed.pushed (here refl p.0)
+        (learnt v both.between behind (behind + far.0) test true next both.taken.there (omega arith) both.taken.learnt both.taken.pushed (ahead far.0 (ap Some far.1)) old)
   settled_all behind Exit next v w' p here ahead old = rw p old

@@ -1,5 +1,6 @@
 -- What is told of a program that is looked at.
-use Rattle.std.specs.Prelude.{◌≡◌, ◌≢◌, ℕ, ◌<◌, false, List, Some, None, All, slice_index_or}
+use Rattle.std.specs.Prelude.{◌≡◌, ◌≢◌, ◌++◌, ◌∷◌, ℕ, ◌<◌, false, List, Some, None, All, Contains, map, slice_index_or}
+use Rattle.std.specs.Box.{box_value}
 use Rattle.insn.specs.declared.instruction.Insn.{Insn}
 use Rattle.insn.specs.declared.layout.Layout.{Layout}
 use Rattle.insn.specs.Refusals.{look_verdict}
@@ -15,11 +16,11 @@ use Rattle.verifier.specs.declared.walk.Onward.{Onward}
 use Rattle.verifier.specs.Verdicts.{IsRefusal}
 use Rattle.verifier.specs.Waits.{HasGoneOn, HasPassed, nowhere}
 
--- whatever the record is, a run that comes to a slot does so in a state of which this is known
-abbrev pub IsKnownAt : Layout → List Insn → ℕ → Known → Type 0
-IsKnownAt layout program slot known =
+-- whatever the record is, a run that comes to a slot does so in a state of which one of these is known
+abbrev pub IsKnownAt : Layout → List Insn → ℕ → List Known → Type 0
+IsKnownAt layout program slot cases =
     (bytes : List ℕ) (n : ℕ) (c : Config) → IsRecord layout bytes → Reaches layout program bytes n c → c.slot ≡ slot
-    → StateFits false layout known c.state
+    → (known : Known) × Contains cases known × StateFits false layout known c.state
 
 -- no run comes to a slot
 abbrev pub NoneComesTo : Layout → List Insn → ℕ → Type 0
@@ -31,14 +32,15 @@ abbrev pub AreToldOnward : Layout → List Insn → ℕ → List Onward → Type
 AreToldOnward layout program slot onward =
     (k : ℕ) (i : Insn) → k < slot → begins_at program k ≡ Some i → HasGoneOn layout program k (slice_index_or onward k nowhere)
 
--- A program is refused with this fault, at this instruction. What is told to be known is what waits there, and it is known of
--- each run that comes there; it is told where walks went on before.
+-- A program is refused with this fault, at this instruction. What is told to be known is what is refused of what waits there,
+-- and the others that wait there; one of these is known of each run that comes there. It is told where walks went on before.
 pub record IsExplained (layout : Layout) (program : List Insn) (refusal : Refusal) : Type 0 where
   pub refused : IsRefusal layout program refusal.fault
   pub slot : refusal.slot ≡ refused.slot
   pub insn : refusal.insn ≡ refused.insn
   pub waits : refusal.known.value ≡ refused.refused.known
-  pub known : IsKnownAt layout program refusal.slot refusal.known.value
+  pub others : map box_value refusal.others.items ≡ refused.refused.before ++ refused.refused.after
+  pub known : IsKnownAt layout program refusal.slot (refusal.known.value ∷ map box_value refusal.others.items)
   pub onward : AreToldOnward layout program refusal.slot refusal.onward.items
 
 -- a program is accepted: the walk has come to its end. No run comes to these slots

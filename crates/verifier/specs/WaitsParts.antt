@@ -1,14 +1,20 @@
 -- Beside Waits: only the contracts of this crate's own parts and their proofs cite this, no public clause.
-use Rattle.std.specs.Prelude.{◌≡◌, ℕ, ℤ, pos, ◌+◌, ◌<◌, List, [], ◌∷◌, ◌++◌, Option, Some, None, Ok, slice_index_or}
+use Rattle.std.specs.Prelude.{◌≡◌, ℕ, ℤ, pos, ◌+◌, ◌<◌, List, [], ◌∷◌, ◌++◌, Box, IsSome, Option, Some, None, Ok, length, map, slice_index_or, take}
+use Rattle.std.specs.Box.{box_value}
+use Rattle.std.specs.List.{filter_map}
+use Rattle.std.specs.Option.{option_map}
+use Rattle.std.specs.declared.alloc.Global.{Global}
 use Rattle.insn.specs.declared.instruction.Insn.{Insn}
 use Rattle.insn.specs.declared.layout.Layout.{Layout}
 use Rattle.insn.specs.Refusals.{walk_fault_at}
 use Rattle.verifier.specs.declared.known.Known.{Known}
 use Rattle.verifier.specs.declared.known.Flow.TheVariants.{Exit}
+use Rattle.verifier.specs.declared.walk.Passage.{Passage}
+use Rattle.verifier.specs.declared.walk.Passage.TheVariants as passage
 use Rattle.verifier.specs.declared.walk.Upshot.{Upshot}
 use Rattle.verifier.specs.declared.walk.Upshot.TheVariants.{Passed, Refused}
 use Rattle.verifier.specs.Kinds.{LeavesKnown}
-use Rattle.verifier.specs.Waits.{GoesOn, IsRefusedAt, IsRefusedHere, IsVisited, nowhere}
+use Rattle.verifier.specs.Waits.{EachGoesOn, GoesOn, IsPassed, IsRefusedAt, IsRefusedHere, IsVisited, nowhere}
 
 -- a jump stays among so many slots
 abbrev pub IsFar : Option ℤ → ℕ → ℕ → Type 0
@@ -16,17 +22,39 @@ IsFar None behind slots = Unit {0}
 IsFar (Some d) behind slots = (k : ℕ) × (d ≡ pos k) × (behind + k < slots)
 
 -- what is found at an instruction behind which there is no slot, where this was known before it
-abbrev pub IsLastVisit : Layout → Insn → ℕ → ℕ → Known → Upshot → Type 0
-IsLastVisit layout i slot slots known (Passed onward) =
+abbrev pub IsLastPassage : Layout → Insn → ℕ → ℕ → Known → Passage → Type 0
+IsLastPassage layout i slot slots known (passage.Passed onward) =
     (after : Known) × LeavesKnown layout i known after (Ok Exit) × (onward ≡ nowhere)
-IsLastVisit layout i slot slots known (Refused fault before) = IsRefusedAt layout i slot known slots fault × (before.value ≡ known)
+IsLastPassage layout i slot slots known (passage.Refused fault before) = IsRefusedAt layout i slot known slots fault × (before.value ≡ known)
+
+-- what is found at an instruction, where this was known before it
+abbrev pub IsPassage : Layout → Insn → ℕ → Known → List (List Known) → List (List Known) → Passage → Type 0
+IsPassage layout i slot known old now (passage.Passed onward) = IsPassed layout i slot known old now × GoesOn layout i known onward
+IsPassage layout i slot known old now (passage.Refused fault before) = IsRefusedAt layout i slot known (length old) fault × (before.value ≡ known)
 
 -- what is found at an instruction
-abbrev pub IsVisit : Layout → Insn → ℕ → List (Option Known) → List (Option Known) → Upshot → Type 0
-IsVisit layout i slot old now (Passed onward) = IsVisited layout i slot old now × GoesOn layout i (slice_index_or old slot None) onward
-IsVisit layout i slot old now (Refused fault before) = (r : IsRefusedHere layout i slot old (walk_fault_at fault slot)) × (r.known ≡ before.value)
+abbrev pub IsVisit : Layout → Insn → ℕ → List (List Known) → List (List Known) → Upshot → Type 0
+IsVisit layout i slot old now (Passed onward) = IsVisited layout i slot old now × EachGoesOn layout i (slice_index_or old slot []) onward
+IsVisit layout i slot old now (Refused fault before others) =
+    (r : IsRefusedHere layout i slot old (walk_fault_at fault slot)) × (r.known ≡ before.value) × (map box_value others.items ≡ r.before ++ r.after)
 
 -- a slot is added where nothing waits there
-abbrev pub IsNoted : ℕ → Option Known → List ℕ → List ℕ → Type 0
-IsNoted slot None old new = new ≡ old ++ (slot ∷ [])
-IsNoted slot (Some known) old new = new ≡ old
+abbrev pub IsNoted : ℕ → List Known → List ℕ → List ℕ → Type 0
+IsNoted slot [] old new = new ≡ old ++ (slot ∷ [])
+IsNoted slot (known ∷ rest) old new = new ≡ old
+
+-- a copy of a case is kept, where others wait behind it
+abbrev pub IsCopy : Known → List Known → Option Known → Type 0
+IsCopy known [] copy = copy ≡ None
+IsCopy known (other ∷ others) copy = copy ≡ Some known
+
+-- the first of some cases is taken from them
+abbrev pub IsFirst : List Known → Option Known → List Known → Type 0
+IsFirst old None now = (old ≡ []) × (now ≡ [])
+IsFirst old (Some first) now = old ≡ first ∷ now
+
+-- the first place of some that holds a case
+abbrev pub IsFirstPlace : List (Option (Box Known Global)) → Option ℕ → Type 0
+IsFirstPlace places None = filter_map (option_map box_value) places ≡ []
+IsFirstPlace places (Some place) =
+    (filter_map (option_map box_value) (take place places) ≡ []) × IsSome (slice_index_or places place None)

@@ -1,6 +1,6 @@
 //! What a look at a program finds, told at length: one walk, in order of slots.
 
-ghost use Rattle.std.specs.Prelude.{◌≡◌, ◌<◌, IfOk, IsErr, IsOk, None, length, slice_index_or};
+ghost use Rattle.std.specs.Prelude.{◌≡◌, ◌<◌, [], IfOk, IsErr, IsOk, None, length, slice_index_or};
 ghost use Rattle.insn.specs.Refusals.{look_verdict};
 ghost use Rattle.verifier.specs.Findings.{IsFinding, IsWalkFinding};
 ghost use Rattle.verifier.specs.Follows.{reg_of};
@@ -27,8 +27,10 @@ pub struct Refusal {
     pub slot: usize,
     /// The instruction that is refused.
     pub insn: Insn,
-    /// What is known before it of the registers and the stack, whichever way leads there.
+    /// What is known before it of the registers and the stack, in the case in which it is refused.
     pub known: Box<Known>,
+    /// What is known in the other cases, for other ways that lead there.
+    pub others: Vec<Box<Known>>,
     /// By slots, where the walk went on from the instructions before it.
     pub onward: Vec<Onward>,
 }
@@ -63,7 +65,7 @@ impl Known {
 /// Adds a slot to those that no way reaches, where nothing waits there.
 fn note(unreached: &mut Vec<usize>, slot: usize, waiting: &Waiting) -> Result<(), AllocError>
     requires { slot < length waiting.now }
-    ensures { IsOk result → IsNoted slot (slice_index_or waiting.now slot None) unreached.old.items unreached.new.items }
+    ensures { IsOk result → IsNoted slot (slice_index_or waiting.now slot []) unreached.old.items unreached.new.items }
 {
     if !waiting.is_reached(slot) {
         unreached.push(slot)?;
@@ -85,9 +87,9 @@ fn walk(alloc: Global, program: &Program, layout: Layout) -> Result<Finding, All
     let mut slot = 0;
     while let [insn, after @ ..] = rest {
         note(&mut unreached, slot, &waiting)?;
-        match visit(&mut waiting, layout, *insn, slot, slots)? {
+        match visit(&mut waiting, layout, *insn, slot)? {
             Upshot::Passed(here) => onward[slot] = here,
-            Upshot::Refused(fault, known) => {
+            Upshot::Refused(fault, known, others) => {
                 let fault = fault.at(slot);
                 let insn = *insn;
                 return Ok(Finding::Refused(Refusal {
@@ -95,6 +97,7 @@ fn walk(alloc: Global, program: &Program, layout: Layout) -> Result<Finding, All
                     slot,
                     insn,
                     known,
+                    others,
                     onward,
                 }));
             }

@@ -15,10 +15,10 @@ pub note-requires : goal.note-requires
 note-requires c = waits_inside c.args.layout c.args.program.now c.loop-rest.slot c.loop-rest.rest.now c.loop-rest.waiting Exit c.in-len1-up.len_at_least _ _ c.loop-rest.invariant
 
 pub visit-requires-clause-far : goal.visit-requires-clause-far
-visit-requires-clause-far c = rw c.slots-slots.ensures (jumps_inside c.args.layout c.args.program.now c.loop-rest.slot c.loop-rest.rest.now c.loop-rest.waiting _ c.in-len1-up.len_at_least c.loop-rest.invariant.walking)
+visit-requires-clause-far c = rw c.loop-rest.invariant.walking.walked.long (jumps_inside c.args.layout c.args.program.now c.loop-rest.slot c.loop-rest.rest.now c.loop-rest.waiting _ c.in-len1-up.len_at_least c.loop-rest.invariant.walking)
 
 pub visit-requires-clause-inside : goal.visit-requires-clause-inside
-visit-requires-clause-inside c = rw c.slots-slots.ensures (behind_inside c.args.layout c.args.program.now c.loop-rest.slot c.loop-rest.rest.now c.loop-rest.waiting _ c.in-len1-up.len_at_least c.loop-rest.invariant.walking)
+visit-requires-clause-inside c = rw c.loop-rest.invariant.walking.walked.long (behind_inside c.args.layout c.args.program.now c.loop-rest.slot c.loop-rest.rest.now c.loop-rest.waiting _ c.in-len1-up.len_at_least c.loop-rest.invariant.walking)
 
 pub index_mut-requires : goal.index_mut-requires
 index_mut-requires c =

@@ -1,0 +1,30 @@
+use Rattle.std.proofs.Common.{w32, ◌≡◌, ◌∙◌, ◌+◌, ◌<◌, Some, arith, length, refl}
+use mir.Val.{of_z, to_z}
+use Rattle.std.proofs.lemmas.Int.{to_z-of_z}
+use Rattle.insn.specs.FirstLook.{distance_of}
+use Rattle.insn.specs.Instruction.{slots_of}
+use Rattle.insn.specs.Meaning.{action_of}
+use Rattle.verifier.proofs.Outcomes.{refused_keeps}
+use Rattle.verifier.proofs.Visits.{fits_far, last_passed, passed_test}
+use Rattle.verifier.proofs.Walks.{stuck_refused}
+use Rattle.verifier.proofs.walk.pass.Goals as goal
+
+pub returns-then-behind-slots : goal.returns-then-behind-slots
+returns-then-behind-slots c =
+    last_passed c.args.layout c.args.insn c.args.slot c.slots-slots.result c.args.known.value c.args.waiting.now c.pass_last.result c.slots-slots.ensures (c.pass_last.ensures)
+
+pub returns-in-Err : goal.returns-in-Err
+returns-in-Err c =
+    let keeps = refused_keeps c.args.layout (action_of c.args.insn) c.deref_mut.result.now c.apply.new.self c.in-Err.fault c.in-Err.ensures.kinds in (
+      stuck_refused c.args.layout c.args.insn c.args.slot _ c.args.known.value c.apply.new.self c.in-Err.fault c.requires.writes (rw c.deref_mut.ensures.value at c.in-Err.ensures.kinds),
+      keeps ∙ c.deref_mut.ensures.value,
+    )
+
+pub returns-in_ok-onward-in-Branch : goal.returns-in_ok-onward-in-Branch
+returns-in_ok-onward-in-Branch c =
+    let inside : c.args.slot + slots_of c.args.insn < length c.args.waiting.now = let all = c.slots-slots.ensures in let less = c.if-behind-slots.false in let size = c.slots.ensures.value in omega arith in
+    let own : distance_of c.args.insn ≡ Some c.in-Branch.distance = rw c.in-Branch.is at c.in-Ok.ensures.own in
+    let read : to_z w32 (of_z w32 c.in-Branch.distance) ≡ c.in-Branch.distance =
+        to_z-of_z w32 c.in-Branch.distance (fits_far (distance_of c.args.insn) c.in-Branch.distance (c.args.slot + slots_of c.args.insn) (length c.args.waiting.now) own c.requires.far c.requires.few) in
+    passed_test c.args.layout c.args.insn c.args.slot c.args.known.value c.apply.new.self c.in-Branch.distance c.in-Branch.test c.in_ok-onward-in-Branch.onward c.args.waiting.now c.push_test.new.self
+    (rw (c.deref_mut.ensures.value, c.in-Branch.is) at c.in-Ok.ensures.kinds) inside (rw (c.slots.ensures.value, read) at (c.in_ok-onward-in-Branch.ensures.settled refl)) (rw read at c.in_ok-onward-in-Branch.ensures.goes)
