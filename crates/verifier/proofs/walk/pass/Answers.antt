@@ -25,6 +25,6 @@ returns-in_ok-onward-in-Branch c =
     let inside : c.args.slot + slots_of c.args.insn < length c.args.waiting.now = let all = c.slots-slots.ensures in let less = c.if-behind-slots.false in let size = c.slots.ensures.value in omega arith in
     let own : distance_of c.args.insn ≡ Some c.in-Branch.distance = rw c.in-Branch.is at c.in-Ok.ensures.own in
     let read : to_z w32 (of_z w32 c.in-Branch.distance) ≡ c.in-Branch.distance =
-        to_z-of_z w32 c.in-Branch.distance (fits_far (distance_of c.args.insn) c.in-Branch.distance (c.args.slot + slots_of c.args.insn) (length c.args.waiting.now) own c.requires.far c.requires.few) in
+    to_z-of_z w32 c.in-Branch.distance (fits_far (distance_of c.args.insn) c.in-Branch.distance (c.args.slot + slots_of c.args.insn) (length c.args.waiting.now) own c.requires.far c.requires.few) in
     passed_test c.args.layout c.args.insn c.args.slot c.args.known.value c.apply.new.self c.in-Branch.distance c.in-Branch.test c.in_ok-onward-in-Branch.onward c.args.waiting.now c.push_test.new.self
     (rw (c.deref_mut.ensures.value, c.in-Branch.is) at c.in-Ok.ensures.kinds) inside (rw (c.slots.ensures.value, read) at (c.in_ok-onward-in-Branch.ensures.settled refl)) (rw read at c.in_ok-onward-in-Branch.ensures.goes)

@@ -14,7 +14,7 @@ pub returns-in-None : goal.returns-in-None
 returns-in-None c =
     let inside : c.place_for-place.result < length c.self.inside.places = let four = c.place_for-place.ensures.four in let lt = c.place_for-place.ensures.inside in omega arith in
     let added = added_beside c.self.inside.places c.place_for-place.result _ c.args.known c.place_for-place.ensures.four c.place_for-place.ensures.inside
-        (same_default c.self.inside.places c.place_for-place.result None c.index-self-place.result inside ∙ sym c.in-None.ensures.value) in
+    (same_default c.self.inside.places c.place_for-place.result None c.index-self-place.result inside ∙ sym c.in-None.ensures.value) in
     elim c.match-self-place-2.branch [
       | in-Some-2 w ↦ rw (w.self-is, ← c.self.view_is) added
       | in-None-2 w ↦ rw (w.self-is, ← c.self.view_is) added
