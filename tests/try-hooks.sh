@@ -467,7 +467,7 @@ int hook(struct record *record)
     return grades[record->owner] ? ALLOW : DENY;
 }
 C
-faulty 'a flag that guards an index' 'Verify PointerRange' <<'C'
+taken 'a flag that guards an index' <<'C'
 int hook(struct record *record)
 {
     volatile u8 lives[16];
@@ -484,6 +484,8 @@ int hook(struct record *record)
     return ALLOW;
 }
 C
+answers 1 1 5 'allowed 7 5'
+answers 1 1 16 'allowed 7 300'
 taken 'the same, with an index that is good without the flag' <<'C'
 int hook(struct record *record)
 {
@@ -569,7 +571,7 @@ int hook(struct record *record)
     return ALLOW;
 }
 C
-faulty 'a pointer to the record or to the stack' 'Verify UnsetRegister' <<'C'
+taken 'a pointer to the record or to the stack' <<'C'
 int hook(struct record *record)
 {
     u64 own = 7;
@@ -578,7 +580,10 @@ int hook(struct record *record)
     return *client == 7 ? ALLOW : DENY;
 }
 C
-faulty 'a number of the record or of the stack, of which clang makes the same' 'Verify UnsetRegister' <<'C'
+answers 1 7 1 'allowed 7 300'
+answers 1 8 1 denied
+answers 2 8 1 'allowed 7 300'
+taken 'a number of the record or of the stack, of which clang makes the same' <<'C'
 int hook(struct record *record)
 {
     u64 own = 7;
@@ -587,6 +592,36 @@ int hook(struct record *record)
     return client == 7 ? ALLOW : DENY;
 }
 C
+answers 1 7 1 'allowed 7 300'
+answers 1 8 1 denied
+faulty 'a pointer or none' 'Verify PointerMisuse' <<'C'
+int hook(struct record *record)
+{
+    u8 lives[16];
+    __builtin_memset(lives, 3, sizeof lives);
+    asm volatile("" : : "r"(lives) : "memory");
+    const u8 *life = 0;
+    if (record->owner < 16)
+        life = lives + record->owner;
+    asm volatile("" : "+r"(life));
+    return life && *life ? ALLOW : DENY;
+}
+C
+taken 'an index or none' <<'C'
+int hook(struct record *record)
+{
+    u8 lives[16];
+    __builtin_memset(lives, 3, sizeof lives);
+    asm volatile("" : : "r"(lives) : "memory");
+    u64 index = 16;
+    if (record->owner < 16)
+        index = record->owner;
+    asm volatile("" : "+r"(index));
+    return index < 16 && lives[index] ? ALLOW : DENY;
+}
+C
+answers 1 1 5 'allowed 7 300'
+answers 1 1 16 denied
 taken 'a number of the record that is loaded first' <<'C'
 int hook(struct record *record)
 {
