@@ -1,5 +1,5 @@
--- Where in a registry its first fault lies.
-use Rattle.std.specs.Prelude.{ℕ, suc, List, [], ◌∷◌, ◌++◌, length, codes, decimal, nat_lt, if◌then◌else◌, Option, None, option_map, Result, Ok, Err, is_err}
+-- Where in a registry its first fault lies, and the names of what it has.
+use Rattle.std.specs.Prelude.{ℕ, suc, List, [], ◌∷◌, ◌++◌, ◌||◌, length, codes, bytes_eq, decimal, Bool, nat_lt, if◌then◌else◌, Option, None, option_map, Result, Ok, Err, is_err}
 use Rattle.std.specs.Option.{option_map_or}
 use Rattle.std.specs.Result.{result_ok}
 use Rattle.serde_json.specs.Data.{Data, Items, no_items, item}
@@ -114,6 +114,20 @@ spot_of value =
 -- the first fault of text that is no registry; none, where it is no JSON text of few enough bytes
 abbrev pub spot_in : List ℕ → Option Spot
 spot_in bytes = if nat_lt registry_limit (length bytes) then None else option_map spot_of (result_ok (data_of bytes))
+
+-- NAMES
+
+-- the members of a registry
+abbrev pub is_of_registry : List ℕ → Bool
+is_of_registry name =
+    bytes_eq name (codes "access_life") || bytes_eq name (codes "refresh_life") || bytes_eq name (codes "operator")
+    || bytes_eq name (codes "owners") || bytes_eq name (codes "scopes") || bytes_eq name (codes "clients")
+
+-- the members of a client
+abbrev pub is_of_client : List ℕ → Bool
+is_of_client name =
+    bytes_eq name (codes "id") || bytes_eq name (codes "secret") || bytes_eq name (codes "redirects")
+    || bytes_eq name (codes "scope") || bytes_eq name (codes "grants")
 
 -- TEXTS
 

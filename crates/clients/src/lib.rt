@@ -20,4 +20,4 @@ pub use consent::{ClientNo, OwnerNo};
 pub use fault::ConfigFault;
 pub use grant::GrantType;
 pub use registry::Registry;
-pub use spot::{ClientSpot, Spot};
+pub use spot::{ClientSpot, Spot, is_of_client, is_of_registry};

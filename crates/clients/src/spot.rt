@@ -1,7 +1,7 @@
-//! Where in a registry its first fault lies.
+//! Where in a registry its first fault lies, and the names of what it has.
 
-ghost use Rattle.std.specs.Prelude.{Some};
-ghost use Rattle.clients.specs.Spots.{client_spot_text, item_text, item_text_if_any, spot_text};
+ghost use Rattle.std.specs.Prelude.{◌≡◌, Some};
+ghost use Rattle.clients.specs.Spots.{is_of_registry, is_of_client, client_spot_text, item_text, item_text_if_any, spot_text};
 
 use std::fmt;
 
@@ -37,6 +37,25 @@ pub enum Spot {
     Clients,
     /// In the item of this number of `clients`, from 0, and there.
     Client(usize, ClientSpot),
+}
+
+/// The members of a registry.
+pub fn is_of_registry(name: &str) -> bool
+    ensures { result ≡ is_of_registry name.now }
+{
+    name == "access_life"
+        || name == "refresh_life"
+        || name == "operator"
+        || name == "owners"
+        || name == "scopes"
+        || name == "clients"
+}
+
+/// The members of a client.
+pub fn is_of_client(name: &str) -> bool
+    ensures { result ≡ is_of_client name.now }
+{
+    name == "id" || name == "secret" || name == "redirects" || name == "scope" || name == "grants"
 }
 
 // An item of a list.

@@ -11,7 +11,7 @@ use Rattle.consent.specs.declared.kept_consent.KeptConsent.{KeptConsent}
 use Rattle.wire.specs.declared.fault.Fault.TheVariants as faults
 use Rattle.wire.specs.Format.{Format, Decides, Picks, Same, only, picked, seen, fixed, ◌then◌, u32_format, u64_format, text_format, bytes_format}
 use Rattle.wire.specs.Lists.{told, ◌or◌, no_more, nothing, list_of}
-use Rattle.consent.specs.Facts.{Code, Fact, Consented, CodeGiven, IssuedAlone, Issued, Spent, FamilyEnded, HookSet, HookGone}
+use Rattle.consent.specs.Facts.{GivenCode, Fact, Consented, CodeGiven, IssuedAlone, Issued, Spent, FamilyEnded, HookSet, HookGone}
 
 pub from_1 : Decides (λ n. ltb 0 n) (λ n. 1 ≤ n)
 from_1 = record { holds = λ n e. ltb-true _ _ e; passes = λ n le. lt-ltb _ _ le }
@@ -82,7 +82,7 @@ as_consent = record {
 unfoldable pub consent_format : Format KeptConsent
 consent_format = seen as_consent (party_format then party_format then u64_format)
 
-abbrev pub as_code : Same (ℕ × (ℕ × (ℕ × (List ℕ × List ℕ)))) Code
+abbrev pub as_code : Same (ℕ × (ℕ × (ℕ × (List ℕ × List ℕ)))) GivenCode
 as_code = record {
   to = λ p. record { client = p.0; owner = p.1.0; scope = p.1.1.0; redirect = p.1.1.1.0; challenge = p.1.1.1.1 };
   from = λ c. (c.client, (c.owner, (c.scope, (c.redirect, c.challenge))));
@@ -90,12 +90,12 @@ as_code = record {
   to_from = λ _. refl;
 }
 
-unfoldable pub code_format : Format Code
+unfoldable pub code_format : Format GivenCode
 code_format = seen as_code (party_format then (party_format then (u64_format then (text_format then text_format))))
 
 -- the fields of each variant, in its order
 abbrev pub Variants : Type 0
-Variants = (ℕ × (ℕ × ℕ)) ⊎ ((Code × List ℕ) ⊎ ((ℕ × NewToken) ⊎ ((List ℕ × NewToken) ⊎ (List ℕ ⊎ (List ℕ ⊎ ((List ℕ × (RecordVersion × List ℕ)) ⊎ (List ℕ ⊎ ⊥)))))))
+Variants = (ℕ × (ℕ × ℕ)) ⊎ ((GivenCode × List ℕ) ⊎ ((ℕ × NewToken) ⊎ ((List ℕ × NewToken) ⊎ (List ℕ ⊎ (List ℕ ⊎ ((List ℕ × (RecordVersion × List ℕ)) ⊎ (List ℕ ⊎ ⊥)))))))
 
 abbrev pub fact_to : Variants → Fact
 fact_to (inl p) = Consented p.0 p.1.0 p.1.1

@@ -211,10 +211,10 @@ impl<'a> FromWire<'a> for NewToken {
 
 #[tactic(auto, unfolding(crate::specs::Formats::code_format))]
 impl Wire for CodeFacts<'_> {
-    ghost use Rattle.consent.specs.Facts.{Code, code_of};
+    ghost use Rattle.consent.specs.Facts.{GivenCode, code_of};
     ghost use Rattle.consent.specs.Formats.{code_format};
 
-    ghost Value = { Code };
+    ghost Value = { GivenCode };
 
     ghost value = { code_of };
 

@@ -16,6 +16,7 @@ use Rattle.consent.specs.GrowthLaws.{is_taken-parts}
 use Rattle.consent.specs.History.{Change, Grant, IsHistory, is_within, is_code, consented_scope, live_grant, has_consent_room}
 use Rattle.consent.specs.History.Change.{Consented, CodeGiven, Issued, Spent, FamilyEnded, HookSet, HookGone}
 use Rattle.consent.specs.HistoryLaws.{grant_at-placed}
+use Rattle.consent.specs.Facts.{GivenCode}
 use Rattle.messages.specs.Asked.{Asked}
 use Rattle.messages.specs.Target.{query_of}
 use Rattle.messages.specs.declared.error.ErrorName.{ErrorName}
@@ -27,7 +28,7 @@ use Rattle.answers.specs.Requesters.{Parameters, KnownClient, known_client, clie
 use Rattle.answers.specs.Setting.{Setting}
 use Rattle.answers.specs.Texts.{digest_told, where_passes}
 use Rattle.answers.specs.Tokens.{live_token}
-use Rattle.endpoints.specs.Authorize.{NewCode, authorize, challenge_sent, code_sent_back, redirect_sent, state_sent, turned_back}
+use Rattle.endpoints.specs.Authorize.{authorize, challenge_sent, code_sent_back, redirect_sent, state_sent, turned_back}
 use Rattle.endpoints.specs.Bounded.{AllRightAfter, MayHave, allowed_to}
 use Rattle.endpoints.specs.ConsentPath.{give_consent}
 use Rattle.endpoints.specs.HookPaths.{is_operator, list_hooks}
@@ -40,8 +41,8 @@ use Rattle.endpoints.proofs.Telling.{live_named}
 
 abbrev pub IsConsent : Change → Type 0
 IsConsent (Consented owner client mask) = Unit {0}
-IsConsent (CodeGiven family client owner scope redirect challenge digest) = ⊥
-IsConsent (Issued family client owner kind digest scope life) = ⊥
+IsConsent (CodeGiven family code digest) = ⊥
+IsConsent (Issued family parties token) = ⊥
 IsConsent (Spent digest) = ⊥
 IsConsent (FamilyEnded family) = ⊥
 IsConsent (HookSet name version code) = ⊥
@@ -115,14 +116,14 @@ module _ (s : Setting) (is : IsHistory s.history s.moment) where
 
   -- AUTHORIZATION
 
-  code_fair : (params : Parameters) (new : NewCode) → MayHave s.rules new.client new.scope →
+  code_fair : (params : Parameters) (new : GivenCode) → MayHave s.rules new.client new.scope →
       is_within new.scope (consented_scope s.history new.owner new.client) ≡ true → Fair (code_sent_back s params new)
   code_fair params new allowed consented =
       let digest = sha256 s.draws.first in
       unless_all Fair still s (digest ∷ [])
       (record {
         reply = sent_back new.redirect (codes "code") (token_text s.draws.first) (state_sent params);
-        changes = CodeGiven (length s.history) new.client new.owner new.scope new.redirect new.challenge digest ∷ [];
+        changes = CodeGiven (length s.history) new digest ∷ [];
       })
       (λ free. record {
         follow = ((refl, (is_taken-parts s.history s.moment digest [] free).0), tt);

@@ -47,10 +47,10 @@ life_of rules before moment (Spent digest) g at right = cc
 life_of rules before moment (FamilyEnded family) g at right = cc
 life_of rules before moment (HookSet name version bytes) g at right = cc
 life_of rules before moment (HookGone name) g at right = cc
-life_of rules before moment (CodeGiven family client owner scope redirect challenge digest) g at right =
+life_of rules before moment (CodeGiven family code digest) g at right =
     subst (λ (x : Grant). lives_within rules x.kind x.life ≡ true) (same_grant _ g at) refl
-life_of rules before moment (Issued family client owner kind digest scope life) g at right =
-    subst (λ (x : Grant). lives_within rules x.kind x.life ≡ true) (same_grant _ g at) (le-leb life (token_life_limit rules kind) right.1)
+life_of rules before moment (Issued family parties token) g at right =
+    subst (λ (x : Grant). lives_within rules x.kind x.life ≡ true) (same_grant _ g at) (le-leb token.life (token_life_limit rules token.kind) right.1)
 
 module _ (rules : RegistryRecord) (history : List Event) (m : ℕ) (is : IsHistory history m) (all : AllRight rules [] history) (digest : List ℕ) (g : Grant) (at : grant_at history digest m ≡ Some g) where
   lives : lives_within rules g.kind g.life ≡ true

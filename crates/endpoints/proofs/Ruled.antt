@@ -259,8 +259,8 @@ abbrev pub IsHooks : happening → Type 0
 IsHooks (happening.HookSet name version code) = Unit {0}
 IsHooks (happening.HookGone name) = Unit {0}
 IsHooks (happening.Consented owner client mask) = ⊥
-IsHooks (happening.CodeGiven family client owner scope redirect challenge digest) = ⊥
-IsHooks (happening.Issued family client owner kind digest scope life) = ⊥
+IsHooks (happening.CodeGiven family code digest) = ⊥
+IsHooks (happening.Issued family parties token) = ⊥
 IsHooks (happening.Spent digest) = ⊥
 IsHooks (happening.FamilyEnded family) = ⊥
 
@@ -276,8 +276,8 @@ one_follows history m (c ∷ d ∷ cs) one = absurd one
 one_follows history m (happening.HookSet name version code ∷ []) one = (tt, tt)
 one_follows history m (happening.HookGone name ∷ []) one = (tt, tt)
 one_follows history m (happening.Consented owner client mask ∷ []) one = absurd one
-one_follows history m (happening.CodeGiven family client owner scope redirect challenge digest ∷ []) one = absurd one
-one_follows history m (happening.Issued family client owner kind digest scope life ∷ []) one = absurd one
+one_follows history m (happening.CodeGiven family code digest ∷ []) one = absurd one
+one_follows history m (happening.Issued family parties token ∷ []) one = absurd one
 one_follows history m (happening.Spent digest ∷ []) one = absurd one
 one_follows history m (happening.FamilyEnded family ∷ []) one = absurd one
 
@@ -287,8 +287,8 @@ one_right rules history m (c ∷ d ∷ cs) one = absurd one
 one_right rules history m (happening.HookSet name version code ∷ []) one = (tt, tt)
 one_right rules history m (happening.HookGone name ∷ []) one = (tt, tt)
 one_right rules history m (happening.Consented owner client mask ∷ []) one = absurd one
-one_right rules history m (happening.CodeGiven family client owner scope redirect challenge digest ∷ []) one = absurd one
-one_right rules history m (happening.Issued family client owner kind digest scope life ∷ []) one = absurd one
+one_right rules history m (happening.CodeGiven family code digest ∷ []) one = absurd one
+one_right rules history m (happening.Issued family parties token ∷ []) one = absurd one
 one_right rules history m (happening.Spent digest ∷ []) one = absurd one
 one_right rules history m (happening.FamilyEnded family ∷ []) one = absurd one
 

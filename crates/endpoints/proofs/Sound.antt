@@ -24,7 +24,7 @@ use Rattle.answers.specs.Setting.{Setting}
 use Rattle.answers.specs.Texts.{where_passes}
 use Rattle.answers.specs.Tokens.{is_refresh}
 use Rattle.token_endpoint.specs.Exchange.{ends_family}
-use Rattle.token_endpoint.specs.Grants.{access_for, access_issued, both_digests, both_for, left_by_host, refresh_issued}
+use Rattle.token_endpoint.specs.Grants.{access_for, access_issued, both_digests, both_for, left_by_host, new_token, refresh_issued}
 use Rattle.endpoints.specs.Bounded.{AllRight, AllRightAfter, IsRightChange, IsOfCode, IsOwn, MayHave, allowed_to}
 use Rattle.endpoints.specs.BoundedLaws.{own-later}
 use Rattle.endpoints.proofs.Points.{error_all, unless_all}
@@ -62,15 +62,15 @@ right_change rules before later e moment (Spent digest) g is at right token = cc
 right_change rules before later e moment (FamilyEnded family) g is at right token = cc
 right_change rules before later e moment (HookSet name version code) g is at right token = cc
 right_change rules before later e moment (HookGone name) g is at right token = cc
-right_change rules before later e moment (CodeGiven family client owner scope redirect challenge digest) g is at right token =
+right_change rules before later e moment (CodeGiven family code digest) g is at right token =
     let same = same_grant _ g at in absurd (false≢true (sym token ∙ sym (ap (λ (x : Grant). is_code x.kind) same)))
-right_change rules before later e moment (Issued family client owner kind digest scope life) g is at right token =
+right_change rules before later e moment (Issued family parties new) g is at right token =
     let same = same_grant _ g at in
     subst (λ (x : Grant). IsRightToken rules (before ++ e ∷ later) x) same (right.0, by_owner right.2)
   where
-    by_owner : (IsOwn before family owner ⊎ IsOfCode before family client owner scope) →
-        IsOwn (before ++ e ∷ later) family owner ⊎ ((s : ℕ) × (code_terms (before ++ e ∷ later) family ≡ Some (record { client = client; owner = owner; scope = s })) × (is_within scope s ≡ true))
-    by_owner (inl own) = inl (own-later before later e family client owner kind digest scope life is own)
+    by_owner : (IsOwn before family parties.owner ⊎ IsOfCode before family parties.client parties.owner new.scope) →
+        IsOwn (before ++ e ∷ later) family parties.owner ⊎ ((s : ℕ) × (code_terms (before ++ e ∷ later) family ≡ Some (record { client = parties.client; owner = parties.owner; scope = s })) × (is_within new.scope s ≡ true))
+    by_owner (inl own) = inl (own-later before later e family parties new is own)
     by_owner (inr of) = inr (of.0, code_terms-keep before (e ∷ later) family _ of.1, of.2)
 
 pub right_token : (rules : RegistryRecord) (history : List Event) (digest : List ℕ) (m : ℕ) (g : Grant) → AllRight rules [] history →
@@ -140,7 +140,7 @@ module _ (s : Setting) where
       IsOwn (s.history ++ event_at s.moment (access_issued g s.draws.first left) ∷ []) g.family g.owner
       ⊎ IsOfCode (s.history ++ event_at s.moment (access_issued g s.draws.first left) ∷ []) g.family g.client g.owner kept
   second g left kept alive within (inl own) =
-      inl (own-later s.history [] (event_at s.moment (access_issued g s.draws.first left)) g.family g.client g.owner Access (sha256 s.draws.first) left.scope left.life refl own)
+      inl (own-later s.history [] (event_at s.moment (access_issued g s.draws.first left)) g.family (record { owner = g.owner; client = g.client }) (new_token Access s.draws.first left) refl own)
   second g left kept alive within (inr of) =
       let e = event_at s.moment (access_issued g s.draws.first left) in
       inr (

@@ -13,13 +13,12 @@ use Rattle.consent.specs.History.{Event, Change, Grant, IsHistory, grant_by, gra
 use Rattle.consent.specs.History.Change.{Consented, CodeGiven, Issued, Spent, FamilyEnded, HookSet, HookGone}
 use Rattle.consent.specs.HistoryLaws.{grant_at-given, opener-fresh}
 use Rattle.consent.specs.declared.grant.Kind.TheVariants.{Code}
-use Rattle.consent.specs.declared.grant.TokenKind.TheVariants.{Access}
 use Rattle.answers.specs.Outcomes.{Extent}
 use Rattle.answers.specs.Replies.{access_reply}
 use Rattle.answers.specs.Setting.{Setting}
 use Rattle.token_endpoint.specs.ClientCredentials.{granted}
 use Rattle.token_endpoint.specs.Exchange.{exchanged}
-use Rattle.token_endpoint.specs.Grants.{access_for, both_for}
+use Rattle.token_endpoint.specs.Grants.{access_for, both_for, issued_alone}
 use Rattle.endpoints.specs.Bounded.{IsRightChange, AllRight, MayHave, allowed_to, is_of_code}
 use Rattle.endpoints.proofs.Points.{unless_all}
 use Rattle.endpoints.proofs.Sound.{IsRightToken, IsSound, access_sound, all_right-at, both_sound, same_grant, still}
@@ -31,9 +30,9 @@ code_change rules before moment (Spent digest) g at right code = cc
 code_change rules before moment (FamilyEnded family) g at right code = cc
 code_change rules before moment (HookSet name version bytes) g at right code = cc
 code_change rules before moment (HookGone name) g at right code = cc
-code_change rules before moment (CodeGiven family client owner scope redirect challenge digest) g at right code =
+code_change rules before moment (CodeGiven family facts digest) g at right code =
     subst (λ (x : Grant). MayHave rules x.client x.scope) (same_grant _ g at) right.0
-code_change rules before moment (Issued family client owner kind digest scope life) g at right code =
+code_change rules before moment (Issued family parties token) g at right code =
     subst (λ (x : Grant). MayHave rules x.client x.scope) (same_grant _ g at) right.0
 
 -- a code is of a client that may have its scope
@@ -68,7 +67,7 @@ module _ (s : Setting) where
       unless_all (IsSound s) (still s) s (sha256 s.draws.first ∷ [])
       (record {
         reply = access_reply s.rules s.draws.first left.scope left.life;
-        changes = Issued (length s.history) number 0 Access (sha256 s.draws.first) left.scope left.life ∷ [];
+        changes = issued_alone s number left ∷ [];
       })
       (λ _. record {
         quiet = (tt, tt);

@@ -16,8 +16,8 @@ abbrev pub IsQuiet : Change → Type 0
 IsQuiet (Consented owner client mask) = ⊥
 IsQuiet (HookSet name version code) = ⊥
 IsQuiet (HookGone name) = ⊥
-IsQuiet (CodeGiven family client owner scope redirect challenge digest) = Unit {0}
-IsQuiet (Issued family client owner kind digest scope life) = Unit {0}
+IsQuiet (CodeGiven family code digest) = Unit {0}
+IsQuiet (Issued family parties token) = Unit {0}
 IsQuiet (Spent digest) = Unit {0}
 IsQuiet (FamilyEnded family) = Unit {0}
 
@@ -29,8 +29,8 @@ no_consent : (c : Change) → IsQuiet c → is_consent c ≡ false
 no_consent (Consented owner client mask) q = absurd q
 no_consent (HookSet name version code) q = absurd q
 no_consent (HookGone name) q = absurd q
-no_consent (CodeGiven family client owner scope redirect challenge digest) q = refl
-no_consent (Issued family client owner kind digest scope life) q = refl
+no_consent (CodeGiven family code digest) q = refl
+no_consent (Issued family parties token) q = refl
 no_consent (Spent digest) q = refl
 no_consent (FamilyEnded family) q = refl
 
@@ -52,8 +52,8 @@ module _ {H : Type 0} (hosting : Hosting H) where
   quiet_step host (Consented owner client mask) q = absurd q
   quiet_step host (HookSet name version code) q = absurd q
   quiet_step host (HookGone name) q = absurd q
-  quiet_step host (CodeGiven family client owner scope redirect challenge digest) q = refl
-  quiet_step host (Issued family client owner kind digest scope life) q = refl
+  quiet_step host (CodeGiven family code digest) q = refl
+  quiet_step host (Issued family parties token) q = refl
   quiet_step host (Spent digest) q = refl
   quiet_step host (FamilyEnded family) q = refl
 

@@ -10,6 +10,7 @@ use Rattle.clients.specs.Clients.{has_redirect}
 use Rattle.clients.specs.Grants.{has_grant}
 use Rattle.clients.specs.declared.grant.GrantType.TheVariants.{AuthorizationCode}
 use Rattle.consent.specs.History.{is_within, consented_scope}
+use Rattle.consent.specs.Facts.{GivenCode}
 use Rattle.consent.specs.History.Change.{CodeGiven}
 use Rattle.messages.specs.Asked.{Asked}
 use Rattle.messages.specs.Target.{query_of}
@@ -50,22 +51,14 @@ challenge_sent params =
     (λ method. where_passes (λ challenge. bytes_eq method (codes "S256") && is_challenge challenge) (value_sent (codes "code_challenge") params))
     (value_sent (codes "code_challenge_method") params)
 
--- what a code is given for
-pub record NewCode : Type 0 where
-  pub client : ℕ
-  pub owner : ℕ
-  pub scope : ℕ
-  pub redirect : List ℕ
-  pub challenge : List ℕ
-
 -- the user agent is sent back with a code: its text is the draw's, and its digest is kept
-abbrev pub code_sent_back : Setting → Parameters → NewCode → Outcome
-code_sent_back setting params new =
+abbrev pub code_sent_back : Setting → Parameters → GivenCode → Outcome
+code_sent_back setting params code =
     let digest = sha256 setting.draws.first in
     unless_taken setting (digest ∷ [])
     (record {
-      reply = sent_back new.redirect (codes "code") (token_text setting.draws.first) (state_sent params);
-      changes = CodeGiven (length setting.history) new.client new.owner new.scope new.redirect new.challenge digest ∷ [];
+      reply = sent_back code.redirect (codes "code") (token_text setting.draws.first) (state_sent params);
+      changes = CodeGiven (length setting.history) code digest ∷ [];
     })
 
 abbrev pub authorize : Setting → Asked → Outcome

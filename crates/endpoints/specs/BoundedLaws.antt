@@ -10,7 +10,8 @@ use Rattle.consent.specs.History.Change.{Consented, CodeGiven, Issued, Spent, Fa
 use Rattle.consent.specs.Covered.{IsCovered, IsConsented}
 use Rattle.consent.specs.CoveredLaws.{is_covered-start, is_covered-push, is_within-trans}
 use Rattle.consent.specs.GrowthLaws.{count_by-append, code_terms-keep, opener-append}
-use Rattle.consent.specs.declared.grant.TokenKind.{TokenKind}
+use Rattle.consent.specs.declared.change.NewToken.{NewToken}
+use Rattle.consent.specs.declared.parties.Parties.{Parties}
 use Rattle.endpoints.specs.Bounded.{IsRightChange, AllRight, IsAllowed, IsConsentedBefore, IsConsentedAt, IsBounded, IsOfCode, IsOwn, is_of_code}
 
 -- what opened the family is no code, also where more has happened
@@ -23,27 +24,27 @@ no_code-append history more family old new = ap is_of_code (opener-append histor
     of_both (Some g) b x y = x
 
 -- a token that opens its family is no code
-token_opens : (moment : ℕ) (change : Change) (gs : List Grant) (family client owner : ℕ) (kind : TokenKind) (digest : List ℕ) (scope life : ℕ) →
-    change ≡ Issued family client owner kind digest scope life →
+token_opens : (moment : ℕ) (change : Change) (gs : List Grant) (family : ℕ) (parties : Parties) (token : NewToken) →
+    change ≡ Issued family parties token →
     is_of_code (find (λ g. g.family == family) (cons_option (grant_by moment change) gs)) ≡ false
-token_opens moment change gs family client owner kind digest scope life is = rw (is, eq-eqb family family refl) refl
+token_opens moment change gs family parties token is = rw (is, eq-eqb family family refl) refl
 
 -- a client's own token stays one, whatever happens after it
-pub own-later : (before between : List Event) (e : Event) (family client owner : ℕ) (kind : TokenKind) (digest : List ℕ) (scope life : ℕ) →
-    e.change ≡ Issued family client owner kind digest scope life → IsOwn before family owner → IsOwn (before ++ e ∷ between) family owner
-own-later before between e family client owner kind digest scope life is own = record {
+pub own-later : (before between : List Event) (e : Event) (family : ℕ) (parties : Parties) (token : NewToken) →
+    e.change ≡ Issued family parties token → IsOwn before family parties.owner → IsOwn (before ++ e ∷ between) family parties.owner
+own-later before between e family parties token is own = record {
   no_owner = own.no_owner;
   no_code =
       no_code-append before (e ∷ between) family own.no_code
-      (token_opens e.moment e.change (grants between) family client owner kind digest scope life is);
+      (token_opens e.moment e.change (grants between) family parties token is);
 }
 
 module _ (rules : RegistryRecord) where
   -- a right code is one that its owner consents to
   right_consented : (before : List Event) (change : Change) → IsRightChange rules before change → IsConsented before change
-  right_consented before (CodeGiven family client owner scope redirect challenge digest) right = right.1
+  right_consented before (CodeGiven family code digest) right = right.1
   right_consented before (Consented owner client mask) right = tt
-  right_consented before (Issued family client owner kind digest scope life) right = tt
+  right_consented before (Issued family parties token) right = tt
   right_consented before (Spent digest) right = tt
   right_consented before (FamilyEnded family) right = tt
   right_consented before (HookSet name version code) right = tt
@@ -81,22 +82,22 @@ module _ (rules : RegistryRecord) where
   covered_all history one all = covered_after [] history one is_covered-start all
 
   allowed_at : (before : List Event) (change : Change) → IsRightChange rules before change → IsAllowed rules change
-  allowed_at before (Issued family client owner kind digest scope life) right = (right.0, right.1)
+  allowed_at before (Issued family parties token) right = (right.0, right.1)
   allowed_at before (Consented owner client mask) right = tt
-  allowed_at before (CodeGiven family client owner scope redirect challenge digest) right = right.0
+  allowed_at before (CodeGiven family code digest) right = right.0
   allowed_at before (Spent digest) right = tt
   allowed_at before (FamilyEnded family) right = tt
   allowed_at before (HookSet name version code) right = tt
   allowed_at before (HookGone name) right = tt
 
   consented_at : (before : List Event) (change : Change) → IsCovered before → IsRightChange rules before change → IsConsentedBefore before change
-  consented_at before (Issued family client owner kind digest scope life) covered right = by_owner right.2
+  consented_at before (Issued family parties token) covered right = by_owner right.2
     where
-      by_owner : (IsOwn before family owner ⊎ IsOfCode before family client owner scope) → IsOwn before family owner ⊎ (is_within scope (consented_scope before owner client) ≡ true)
+      by_owner : (IsOwn before family parties.owner ⊎ IsOfCode before family parties.client parties.owner token.scope) → IsOwn before family parties.owner ⊎ (is_within token.scope (consented_scope before parties.owner parties.client) ≡ true)
       by_owner (inl own) = inl own
-      by_owner (inr of) = inr (is_within-trans scope of.0 (consented_scope before owner client) of.2 (covered family (record { client = client; owner = owner; scope = of.0 }) of.1 of.3))
+      by_owner (inr of) = inr (is_within-trans token.scope of.0 (consented_scope before parties.owner parties.client) of.2 (covered family (record { client = parties.client; owner = parties.owner; scope = of.0 }) of.1 of.3))
   consented_at before (Consented owner client mask) covered right = tt
-  consented_at before (CodeGiven family client owner scope redirect challenge digest) covered right = tt
+  consented_at before (CodeGiven family code digest) covered right = tt
   consented_at before (Spent digest) covered right = tt
   consented_at before (FamilyEnded family) covered right = tt
   consented_at before (HookSet name version code) covered right = tt
@@ -104,17 +105,17 @@ module _ (rules : RegistryRecord) where
 
   consented_later : (before between : List Event) (e : Event) → IsCovered (before ++ e ∷ between) → (change : Change) → e.change ≡ change →
       IsRightChange rules before change → IsConsentedAt (before ++ e ∷ between) change
-  consented_later before between e covered (Issued family client owner kind digest scope life) is right = by_owner right.2
+  consented_later before between e covered (Issued family parties token) is right = by_owner right.2
     where
-      by_owner : (IsOwn before family owner ⊎ IsOfCode before family client owner scope) →
-          IsOwn (before ++ e ∷ between) family owner
-          ⊎ (has_ended (before ++ e ∷ between) family ≡ false → is_within scope (consented_scope (before ++ e ∷ between) owner client) ≡ true)
-      by_owner (inl own) = inl (own-later before between e family client owner kind digest scope life is own)
+      by_owner : (IsOwn before family parties.owner ⊎ IsOfCode before family parties.client parties.owner token.scope) →
+          IsOwn (before ++ e ∷ between) family parties.owner
+          ⊎ (has_ended (before ++ e ∷ between) family ≡ false → is_within token.scope (consented_scope (before ++ e ∷ between) parties.owner parties.client) ≡ true)
+      by_owner (inl own) = inl (own-later before between e family parties token is own)
       by_owner (inr of) =
-          inr (λ alive. is_within-trans scope of.0 (consented_scope (before ++ e ∷ between) owner client) of.2
-          (covered family (record { client = client; owner = owner; scope = of.0 }) (code_terms-keep before (e ∷ between) family _ of.1) alive))
+          inr (λ alive. is_within-trans token.scope of.0 (consented_scope (before ++ e ∷ between) parties.owner parties.client) of.2
+          (covered family (record { client = parties.client; owner = parties.owner; scope = of.0 }) (code_terms-keep before (e ∷ between) family _ of.1) alive))
   consented_later before between e covered (Consented owner client mask) is right = tt
-  consented_later before between e covered (CodeGiven family client owner scope redirect challenge digest) is right = tt
+  consented_later before between e covered (CodeGiven family code digest) is right = tt
   consented_later before between e covered (Spent digest) is right = tt
   consented_later before between e covered (FamilyEnded family) is right = tt
   consented_later before between e covered (HookSet name version code) is right = tt

@@ -32,8 +32,8 @@ abbrev pub HostStep : {H : Type 0} → Hosting H → H → Change → H → Type
 HostStep hosting old (HookSet name version code) new = hosting.installs old name (layout_of version) code new
 HostStep hosting old (HookGone name) new = hosting.removes old name new
 HostStep hosting old (Consented owner client mask) new = new ≡ old
-HostStep hosting old (CodeGiven family client owner scope redirect challenge digest) new = new ≡ old
-HostStep hosting old (Issued family client owner kind digest scope life) new = new ≡ old
+HostStep hosting old (CodeGiven family code digest) new = new ≡ old
+HostStep hosting old (Issued family parties token) new = new ≡ old
 HostStep hosting old (Spent digest) new = new ≡ old
 HostStep hosting old (FamilyEnded family) new = new ≡ old
 

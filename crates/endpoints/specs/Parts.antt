@@ -5,6 +5,7 @@ use Rattle.clients.specs.RegistryRecord.{RegistryRecord}
 use Rattle.clients.specs.Grants.{has_grant}
 use Rattle.clients.specs.declared.grant.GrantType.TheVariants.{AuthorizationCode}
 use Rattle.consent.specs.History.{Change, Event, Grant, live_grant, is_code, is_within, consented_scope}
+use Rattle.consent.specs.Facts.{code_of}
 use Rattle.consent.specs.declared.change.CodeFacts.{CodeFacts}
 use Rattle.hook_host.specs.declared.fault.HookFault.{HookFault}
 use Rattle.messages.specs.Asked.{Asked}
@@ -68,15 +69,7 @@ query_points s asked params = known_points s.rules params (λ who. authorize_kno
 
 -- the code of these facts
 abbrev pub code_by : Setting → Parameters → CodeFacts → Outcome
-code_by s params facts =
-    code_sent_back s params
-    (record {
-      client = facts.client;
-      owner = facts.owner;
-      scope = facts.scope;
-      redirect = facts.redirect.now;
-      challenge = facts.challenge.now;
-    })
+code_by s params facts = code_sent_back s params (code_of facts)
 
 -- the points come to the code of these facts, or to an error that the user agent is sent back with
 abbrev pub DecidesCode : Setting → Asked → Parameters → Requester → Result CodeFacts ErrorName → Type 0

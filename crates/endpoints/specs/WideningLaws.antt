@@ -56,9 +56,9 @@ module _ (old new : RegistryRecord) (wider : IsWider old new) where
   }
 
   right_wider : (before : List Event) (change : Change) → IsRightChange old before change → IsRightChange new before change
-  right_wider before (CodeGiven family client owner scope redirect challenge digest) right = (may_have-wider scope client right.0, right.1)
-  right_wider before (Issued family client owner kind digest scope life) right =
-      let longer = wider.lives kind in let within = right.1 in (may_have-wider scope client right.0, omega (arith, within, longer), right.2)
+  right_wider before (CodeGiven family code digest) right = (may_have-wider code.scope code.client right.0, right.1)
+  right_wider before (Issued family parties token) right =
+      let longer = wider.lives token.kind in let within = right.1 in (may_have-wider token.scope parties.client right.0, omega (arith, within, longer), right.2)
   right_wider before (Consented owner client mask) right = tt
   right_wider before (Spent digest) right = tt
   right_wider before (FamilyEnded family) right = tt

@@ -153,7 +153,7 @@ module _ (rules : RegistryRecord) (history : List Event) (m : ℕ) (is : IsHisto
       own = λ sender _ scope left _ _ active. absurd active;
     };
     turned = λ x error active. absurd active;
-    coded = λ x owner scope challenge _ active. absurd active;
+    coded = λ x code _ _ active. absurd active;
     consented = λ owner client mask _ active. absurd active;
     revokes = λ x _ active. absurd active;
     tells = by_shown;

@@ -136,8 +136,8 @@ module _ (history : List Event) (m : ℕ) (is : IsHistory history m) where
     of_hooks (HookSet name version code) of key = key
     of_hooks (HookGone name) of key = key
     of_hooks (Consented owner client mask) of key = absurd of
-    of_hooks (CodeGiven family client owner scope redirect challenge digest) of key = absurd of
-    of_hooks (Issued family client owner kind digest scope life) of key = absurd of
+    of_hooks (CodeGiven family code digest) of key = absurd of
+    of_hooks (Issued family parties token) of key = absurd of
     of_hooks (Spent digest) of key = absurd of
     of_hooks (FamilyEnded family) of key = absurd of
 
@@ -156,7 +156,7 @@ module _ (history : List Event) (m : ℕ) (is : IsHistory history m) where
         own = λ sender _ scope left _ _. one _ (credentials sender, λ g at same. absurd (none_new g at (sym same)));
       };
       turned = λ x error. nothing;
-      coded = λ x owner scope challenge key. one _ (owner_key owner key, refl);
+      coded = λ x code key _. one _ (owner_key code.owner key, refl);
       consented = λ owner client mask key. one _ (owner_key owner key);
       revokes = λ x own. one _ (ended x.sender x.digest x.token (live_is history x.digest occasion.arrival.moment x.token x.live).0 own);
       tells = λ x. nothing;
@@ -173,9 +173,9 @@ module _ (history : List Event) (m : ℕ) (is : IsHistory history m) where
 
     leaves : (client : ℕ) (g : Grant) → BearsCredentials rules asked client → Contains (grants history) g → g.client ≢ client →
         (change : Change) → Right change → LeavesAlone history occasion.arrival.moment g change
-    leaves client g bears at other (CodeGiven family c owner scope redirect challenge digest) right = λ same. none_new g at (sym right.1 ∙ same)
-    leaves client g bears at other (Issued family c owner kind digest scope life) right =
-        λ same. other (right.1 g at (sym same) ∙ one_bearer client c bears right.0)
+    leaves client g bears at other (CodeGiven family code digest) right = λ same. none_new g at (sym right.1 ∙ same)
+    leaves client g bears at other (Issued family parties token) right =
+        λ same. other (right.1 g at (sym same) ∙ one_bearer client parties.client bears right.0)
     leaves client g bears at other (Spent digest) right =
         λ is. other (ap (λ (x : Grant). x.client) (same_some g right.0 (grant_at history digest occasion.arrival.moment) is right.1) ∙ one_bearer client right.0.client bears right.2)
     leaves client g bears at other (FamilyEnded family) right =

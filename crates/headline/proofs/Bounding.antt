@@ -29,15 +29,15 @@ same_kind a b e = cc
 change_keeps : (rules : RegistryRecord) (history : List Event) (moment : ℕ) (change : Change) (g : Grant) → grant_by moment change ≡ Some g →
     is_code g.kind ≡ false → IsAllowed rules change → IsConsentedAt history change → has_ended history g.family ≡ false →
     KeepsScope rules history g × IsShort rules g
-change_keeps rules history moment (Issued family client owner kind digest scope life) g at token allowed consented alive =
+change_keeps rules history moment (Issued family parties new) g at token allowed consented alive =
     subst (λ (x : Grant). has_ended history x.family ≡ false → KeepsScope rules history x × IsShort rules x) (same_grant _ g at)
-    (λ lives. (record { allowed = allowed.0; consented = by_owner lives consented }, λ k is. subst (λ x. life ≤ token_life_limit rules x) (same_kind kind k is) allowed.1)) alive
+    (λ lives. (record { allowed = allowed.0; consented = by_owner lives consented }, λ k is. subst (λ x. new.life ≤ token_life_limit rules x) (same_kind new.kind k is) allowed.1)) alive
   where
-    by_owner : has_ended history family ≡ false → (IsOwn history family owner ⊎ (has_ended history family ≡ false → is_within scope (consented_scope history owner client) ≡ true)) →
-        IsOwn history family owner ⊎ (is_within scope (consented_scope history owner client) ≡ true)
+    by_owner : has_ended history family ≡ false → (IsOwn history family parties.owner ⊎ (has_ended history family ≡ false → is_within new.scope (consented_scope history parties.owner parties.client) ≡ true)) →
+        IsOwn history family parties.owner ⊎ (is_within new.scope (consented_scope history parties.owner parties.client) ≡ true)
     by_owner lives (inl own) = inl own
     by_owner lives (inr within) = inr (within lives)
-change_keeps rules history moment (CodeGiven family client owner scope redirect challenge digest) g at token allowed consented alive =
+change_keeps rules history moment (CodeGiven family code digest) g at token allowed consented alive =
     absurd (false≢true (sym token ∙ sym (ap (λ (x : Grant). is_code x.kind) (same_grant _ g at))))
 change_keeps rules history moment (Consented owner client mask) g at token allowed consented alive = absurd (cc)
 change_keeps rules history moment (Spent digest) g at token allowed consented alive = absurd (cc)
@@ -58,9 +58,9 @@ there rules number is = by_client (client_at number rules.clients) refl is
 -- what the change gives is of a client
 given_client : (rules : RegistryRecord) (moment : ℕ) (change : Change) (g : Grant) → grant_by moment change ≡ Some g → IsAllowed rules change →
     is_some (client_at g.client rules.clients) ≡ true
-given_client rules moment (Issued family client owner kind digest scope life) g at allowed =
+given_client rules moment (Issued family parties token) g at allowed =
     subst (λ (x : Grant). is_some (client_at x.client rules.clients) ≡ true) (same_grant _ g at) allowed.0.is_client
-given_client rules moment (CodeGiven family client owner scope redirect challenge digest) g at allowed =
+given_client rules moment (CodeGiven family code digest) g at allowed =
     subst (λ (x : Grant). is_some (client_at x.client rules.clients) ≡ true) (same_grant _ g at) allowed.is_client
 given_client rules moment (Consented owner client mask) g at allowed = absurd (cc)
 given_client rules moment (Spent digest) g at allowed = absurd (cc)

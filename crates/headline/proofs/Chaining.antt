@@ -32,8 +32,8 @@ step_safe old new (HookSet name version code) step safe =
 step_safe old new (HookGone name) step safe =
     subst (λ hooks. All SafeNamed hooks) (sym step.left) (All-filter (λ (h : Named). not (bytes_eq name h.name)) SafeNamed old safe)
 step_safe old new (Consented owner client mask) step safe = subst (λ hooks. All SafeNamed hooks) (sym step) safe
-step_safe old new (CodeGiven family client owner scope redirect challenge digest) step safe = subst (λ hooks. All SafeNamed hooks) (sym step) safe
-step_safe old new (Issued family client owner kind digest scope life) step safe = subst (λ hooks. All SafeNamed hooks) (sym step) safe
+step_safe old new (CodeGiven family code digest) step safe = subst (λ hooks. All SafeNamed hooks) (sym step) safe
+step_safe old new (Issued family parties token) step safe = subst (λ hooks. All SafeNamed hooks) (sym step) safe
 step_safe old new (Spent digest) step safe = subst (λ hooks. All SafeNamed hooks) (sym step) safe
 step_safe old new (FamilyEnded family) step safe = subst (λ hooks. All SafeNamed hooks) (sym step) safe
 

@@ -11,6 +11,7 @@ use Rattle.consent.specs.History.Change.{Consented, CodeGiven, Issued, Spent, Fa
 use Rattle.consent.specs.declared.grant.Kind.{Kind}
 use Rattle.consent.specs.declared.grant.Kind.TheVariants.{Code, Token}
 use Rattle.consent.specs.declared.grant.TokenKind.TheVariants.{Access, Refresh}
+use Rattle.consent.specs.Changes.{token_issued}
 use Rattle.hook_record.specs.declared.Ask.{Ask}
 use Rattle.hook_record.specs.declared.Kind.TheVariants as kind
 use Rattle.hook_record.specs.declared.Narrowed.{Narrowed}
@@ -94,7 +95,7 @@ module _ (rules : RegistryRecord) (history : List Event) (occasion : Occasion) (
   one change right = All-cons Right change [] right nothing
 
   access : (ask : Ask) (left : Extent) → IsLeft s ask left → ask.now ≡ occasion.arrival.moment → (family client owner : ℕ) (digest : List ℕ) → ask.client ≡ client → ask.owner ≡ owner →
-      Right (Issued family client owner Access digest left.scope left.life)
+      Right (token_issued family client owner (record { kind = Access; digest = digest; scope = left.scope; life = left.life }))
   access ask left is now family client owner digest its_client its_owner =
       let by = left_by ask left is in
       (ask, now, its_client, its_owner, by.some, by.most, left.scope, left.life, by.in_turn, by.met_is, (refl, refl))
@@ -131,8 +132,8 @@ module _ (rules : RegistryRecord) (history : List Event) (occasion : Occasion) (
   of_hooks (HookSet name version code) of = tt
   of_hooks (HookGone name) of = tt
   of_hooks (Consented owner client mask) of = tt
-  of_hooks (CodeGiven family client owner scope redirect challenge digest) of = tt
-  of_hooks (Issued family client owner kind digest scope life) of = absurd of
+  of_hooks (CodeGiven family code digest) of = tt
+  of_hooks (Issued family parties token) of = absurd of
   of_hooks (Spent digest) of = tt
   of_hooks (FamilyEnded family) of = tt
 
@@ -151,7 +152,7 @@ module _ (rules : RegistryRecord) (history : List Event) (occasion : Occasion) (
       own = λ sender _ scope left is _. one _ (access (own_ask s sender.known scope) left is refl (length history) sender.known.number 0 (sha256 s.draws.first) refl refl);
     };
     turned = λ x error. nothing;
-    coded = λ x owner scope challenge key. one _ tt;
+    coded = λ x code key _. one _ tt;
     consented = λ owner client mask key. one _ tt;
     revokes = λ x own. one _ tt;
     tells = λ x. nothing;

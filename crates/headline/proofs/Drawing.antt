@@ -62,8 +62,8 @@ module _ (rules : RegistryRecord) (history : List Event) (occasion : Occasion) (
   of_hooks (HookSet name version code) of = tt
   of_hooks (HookGone name) of = tt
   of_hooks (Consented owner client mask) of = absurd of
-  of_hooks (CodeGiven family client owner scope redirect challenge digest) of = absurd of
-  of_hooks (Issued family client owner kind digest scope life) of = absurd of
+  of_hooks (CodeGiven family code digest) of = absurd of
+  of_hooks (Issued family parties token) of = absurd of
   of_hooks (Spent digest) of = absurd of
   of_hooks (FamilyEnded family) of = absurd of
 
@@ -82,7 +82,7 @@ module _ (rules : RegistryRecord) (history : List Event) (occasion : Occasion) (
       own = λ sender _ scope left _ _. inl (refl, tt);
     };
     turned = λ x error. tt;
-    coded = λ x owner scope challenge key. inl (refl, tt);
+    coded = λ x code key _. inl (refl, tt);
     consented = λ owner client mask key. tt;
     revokes = λ x own. tt;
     tells = λ x. tt;

@@ -38,7 +38,7 @@ are_short rules history occasion = at_each (λ o. IsShort o.changes) rules histo
     own = λ sender _ scope left _ _. inr (_, refl);
   };
   turned = λ x error. inl refl;
-  coded = λ x owner scope challenge key. inr (_, refl);
+  coded = λ x code key _. inr (_, refl);
   consented = λ owner client mask key. inr (_, refl);
   revokes = λ x own. inr (_, refl);
   tells = λ x. inl refl;
@@ -95,8 +95,8 @@ module _ (history : List Event) (m : ℕ) (is : IsHistory history m) (rules : Re
           let first = and_parts ((owner == terms.owner) && (client == terms.client)) (not (is_within terms.scope mask)) h in
           let parts = and_parts (owner == terms.owner) (client == terms.client) first.0 in
           inr (terms, is, subst (λ n. BearsOwnerKey rules occasion.arrival.asked n) (eqb-true owner terms.owner parts.0) right)
-  by_one (CodeGiven f client owner scope redirect challenge digest) right e = quiet_no _ refl e
-  by_one (Issued f client owner kind digest scope life) right e = quiet_no _ refl e
+  by_one (CodeGiven f code digest) right e = quiet_no _ refl e
+  by_one (Issued f parties token) right e = quiet_no _ refl e
   by_one (Spent digest) right e = quiet_no _ refl e
   by_one (HookSet name version code) right e = quiet_no _ refl e
   by_one (HookGone name) right e = quiet_no _ refl e

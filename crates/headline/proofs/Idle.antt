@@ -22,7 +22,7 @@ nothing_of_503 rules history occasion = at_each (λ o. o.reply.status ≡ 503 �
     own = λ sender _ scope left _ _ e. absurd (other 200 503 refl e);
   };
   turned = λ x error _. refl;
-  coded = λ x owner scope challenge _ e. absurd (other 302 503 refl e);
+  coded = λ x code _ _ e. absurd (other 302 503 refl e);
   consented = λ owner client mask _ e. absurd (other 200 503 refl e);
   revokes = λ x _ e. absurd (other 200 503 refl e);
   tells = λ x _. refl;

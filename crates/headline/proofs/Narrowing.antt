@@ -15,9 +15,8 @@ use Rattle.authentication.specs.Authentication.{authenticated}
 use Rattle.authentication.specs.declared.authentication.AuthFault.{AuthFault}
 use Rattle.authentication.specs.declared.authentication.AuthFault.TheVariants as auth
 use Rattle.consent.specs.History.{Event, Grant, has_room, is_taken, is_spent, has_ended, is_within}
-use Rattle.consent.specs.History.Change.{Issued, Spent}
+use Rattle.consent.specs.History.Change.{Spent}
 use Rattle.consent.specs.CoveredLaws.{is_within-self}
-use Rattle.consent.specs.declared.grant.TokenKind.TheVariants.{Access}
 use Rattle.hook_record.specs.declared.Ask.{Ask}
 use Rattle.hook_record.specs.declared.Kind.TheVariants as kind
 use Rattle.hook_record.specs.declared.Narrowed.{Narrowed}
@@ -37,7 +36,7 @@ use Rattle.answers.specs.Texts.{digest_told}
 use Rattle.answers.specs.Tokens.{code_of_client, refresh_of_client}
 use Rattle.token_endpoint.specs.ClientCredentials.{client_credentials, granted, own_ask}
 use Rattle.token_endpoint.specs.Exchange.{ends_family, exchange, exchanged, spent_in_vain}
-use Rattle.token_endpoint.specs.Grants.{access_for, access_issued, ask_for, both_digests, both_for, left_by_host, refresh_issued}
+use Rattle.token_endpoint.specs.Grants.{access_for, access_issued, ask_for, both_digests, both_for, issued_alone, left_by_host, refresh_issued}
 use Rattle.token_endpoint.specs.Refresh.{refresh}
 use Rattle.token_endpoint.specs.TokenPath.{issue_token, grant_points}
 use Rattle.headline.specs.Occasions.{Occasion, GoesTo, outcome_of, reply_on, setting_on}
@@ -159,11 +158,11 @@ module _ (s : Setting) where
       free (sha256 s.draws.first ∷ [])
       (record {
         reply = access_reply s.rules s.draws.first left.scope left.life;
-        changes = Issued (length s.history) number 0 Access (sha256 s.draws.first) left.scope left.life ∷ [];
+        changes = issued_alone s number left ∷ [];
       })
       (record {
         reply = access_reply s.rules s.draws.first whole.scope whole.life;
-        changes = Issued (length s.history) number 0 Access (sha256 s.draws.first) whole.scope whole.life ∷ [];
+        changes = issued_alone s number whole ∷ [];
       })
       (λ _. record { granted = refl; told = (refl, refl, short, left.scope, whole.scope, refl, refl, some); given = (refl, refl, refl); parts = ((refl, some, short), tt) })
 

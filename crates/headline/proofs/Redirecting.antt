@@ -59,7 +59,7 @@ module _ (rules : RegistryRecord) (history : List Event) (occasion : Occasion) w
         says = inl (_, refl, refl);
       },
     );
-    coded = λ x owner scope challenge key _. (
+    coded = λ x code key of _. (
       refl,
       _,
       refl,
@@ -72,7 +72,7 @@ module _ (rules : RegistryRecord) (history : List Event) (occasion : Occasion) w
         asked_for = x.sent;
         first = _;
         pairs = refl;
-        says = inr (refl, _, owner, scope, challenge, refl);
+        says = inr (refl, _, code, of.0, of.1, refl);
       },
     );
     consented = λ owner client mask key. stays _ (other 200 302 refl) refl;

@@ -19,9 +19,9 @@ use Rattle.authentication.specs.Authentication.{authenticated}
 use Rattle.authentication.specs.declared.authentication.AuthFault.{AuthFault}
 use Rattle.authentication.specs.declared.authentication.AuthFault.TheVariants as auth
 use Rattle.consent.specs.History.{Event, Change, Grant, grant_at, live_grant, is_code, is_spent, is_taken, has_ended, consented_scope, is_within, has_consent_room}
-use Rattle.consent.specs.History.Change.{Consented, CodeGiven, Issued, Spent, HookSet, HookGone}
+use Rattle.consent.specs.History.Change.{Consented, CodeGiven, Spent, HookSet, HookGone}
+use Rattle.consent.specs.Facts.{GivenCode}
 use Rattle.consent.specs.declared.grant.Kind.{Kind}
-use Rattle.consent.specs.declared.grant.TokenKind.TheVariants.{Access}
 use Rattle.consent.specs.declared.record_version.RecordVersion.{RecordVersion}
 use Rattle.hook_host.specs.declared.fault.HookFault.{HookFault}
 use Rattle.hook_host.specs.declared.fault.HookFault.TheVariants as hook
@@ -44,7 +44,7 @@ use Rattle.answers.specs.Texts.{digest_told, where_passes}
 use Rattle.answers.specs.Tokens.{code_of_client, refresh_of_client, is_own, is_refresh, live_token}
 use Rattle.token_endpoint.specs.ClientCredentials.{client_credentials, own_ask}
 use Rattle.token_endpoint.specs.Exchange.{ends_family, exchange, exchanged, spent_in_vain}
-use Rattle.token_endpoint.specs.Grants.{access_for, access_issued, ask_for, both_digests, both_for, left_by_host, refresh_issued}
+use Rattle.token_endpoint.specs.Grants.{access_for, access_issued, ask_for, both_digests, both_for, issued_alone, left_by_host, refresh_issued}
 use Rattle.token_endpoint.specs.Refresh.{refresh}
 use Rattle.token_endpoint.specs.TokenPath.{issue_token, grant_points}
 use Rattle.endpoints.specs.Authorize.{authorize, challenge_sent, redirect_sent, state_sent, turned_back}
@@ -189,7 +189,7 @@ both_issued s g left kept = record {
 abbrev pub own_issued : Setting → ℕ → Extent → Outcome
 own_issued s client left = record {
   reply = access_reply s.rules s.draws.first left.scope left.life;
-  changes = Issued (length s.history) client 0 Access (sha256 s.draws.first) left.scope left.life ∷ [];
+  changes = issued_alone s client left ∷ [];
 }
 
 -- the host leaves so much of the ask
@@ -380,15 +380,19 @@ IsOfHooks (HookSet name version code) = Unit {0}
 IsOfHooks (HookGone name) = Unit {0}
 IsOfHooks change = ⊥
 
+-- the code is of the client, and is sent to its redirect URI
+abbrev IsCodeOf : {s : Setting} {asked : Asked} → Turn s asked → GivenCode → Type 0
+IsCodeOf x code = (code.client ≡ x.known.number) × (code.redirect ≡ x.uri)
+
 -- what holds on each way of a request
 pub record Ways (P : Outcome → Type 0) (s : Setting) (asked : Asked) : Type 0 where
   pub quiet : (status : ℕ) (body : Body) → (status ≡ 302 → ⊥) → IsQuiet body → P (only (plain status body))
   pub token : TokenWays P s asked
   pub turned : (x : Turn s asked) (error : ErrorName) → P (turned_back x.uri x.params error)
-  pub coded : (x : Turn s asked) (owner scope : ℕ) (challenge : List ℕ) → owner_of_key s.rules asked ≡ Some owner →
+  pub coded : (x : Turn s asked) (code : GivenCode) → owner_of_key s.rules asked ≡ Some code.owner → IsCodeOf x code →
       P (record {
         reply = sent_back x.uri (codes "code") (token_text s.draws.first) (state_sent x.params);
-        changes = CodeGiven (length s.history) x.known.number owner scope x.uri challenge (sha256 s.draws.first) ∷ [];
+        changes = CodeGiven (length s.history) code (sha256 s.draws.first) ∷ [];
       })
   pub consented : (owner client mask : ℕ) → owner_of_key s.rules asked ≡ Some owner →
       P (record { reply = plain 200 (Consent (scope_text s.rules.scopes mask)); changes = Consented owner client mask ∷ [] })
@@ -429,7 +433,7 @@ module _ (P : Outcome → Type 0) (s : Setting) (asked : Asked) (ways : Ways P s
       at_need P {A = ℕ} (scope_within s.rules known.client.allowed params) (turned_back uri params InvalidScope) _ (ways.turned x InvalidScope) (λ scope _.
       at_need P {A = ℕ} (owner_of_key s.rules asked) (turned_back uri params AccessDenied) _ (ways.turned x AccessDenied) (λ owner key.
       at_point P (not (is_within scope (consented_scope s.history owner known.number))) (turned_back uri params AccessDenied) _ (λ _. ways.turned x AccessDenied) (λ _.
-      at_untaken P s (sha256 s.draws.first ∷ []) _ wanting (λ _. ways.coded x owner scope challenge key)))))))))))
+      at_untaken P s (sha256 s.draws.first ∷ []) _ wanting (λ _. ways.coded x (record { client = known.number; owner = owner; scope = scope; redirect = uri; challenge = challenge }) key (refl, refl))))))))))))
 
   at_consent : P (give_consent s asked)
   at_consent =

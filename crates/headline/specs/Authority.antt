@@ -9,10 +9,10 @@ use Rattle.headline.specs.Occasions.{Occasion, history_after, outcome_of}
 -- the request bears what the change wants: the operator's key, the owner's key, or the credentials of the family's client
 abbrev pub IsAuthorized : RegistryRecord → List Event → Occasion → Change → Type 0
 IsAuthorized rules history occasion (Consented owner client mask) = BearsOwnerKey rules occasion.arrival.asked owner
-IsAuthorized rules history occasion (CodeGiven family client owner scope redirect challenge digest) =
-    BearsOwnerKey rules occasion.arrival.asked owner × (family ≡ length history)
-IsAuthorized rules history occasion (Issued family client owner kind digest scope life) =
-    BearsCredentials rules occasion.arrival.asked client × ((g : Grant) → Contains (grants history) g → g.family ≡ family → g.client ≡ client)
+IsAuthorized rules history occasion (CodeGiven family code digest) =
+    BearsOwnerKey rules occasion.arrival.asked code.owner × (family ≡ length history)
+IsAuthorized rules history occasion (Issued family parties token) =
+    BearsCredentials rules occasion.arrival.asked parties.client × ((g : Grant) → Contains (grants history) g → g.family ≡ family → g.client ≡ parties.client)
 IsAuthorized rules history occasion (Spent digest) =
     (g : Grant) × (grant_at history digest occasion.arrival.moment ≡ Some g) × BearsCredentials rules occasion.arrival.asked g.client
 IsAuthorized rules history occasion (FamilyEnded family) =
@@ -33,8 +33,8 @@ EndsWithAuthority rules history occasion =
 
 -- the change adds nothing to the family of the code or token, which it neither uses nor ends
 abbrev pub LeavesAlone : List Event → ℕ → Grant → Change → Type 0
-LeavesAlone history moment g (CodeGiven family client owner scope redirect challenge digest) = family ≢ g.family
-LeavesAlone history moment g (Issued family client owner kind digest scope life) = family ≢ g.family
+LeavesAlone history moment g (CodeGiven family code digest) = family ≢ g.family
+LeavesAlone history moment g (Issued family parties token) = family ≢ g.family
 LeavesAlone history moment g (Spent digest) = grant_at history digest moment ≢ Some g
 LeavesAlone history moment g (FamilyEnded family) = family ≢ g.family
 LeavesAlone history moment g change = Unit {0}

@@ -27,10 +27,10 @@ IsOfLeft history family Refresh scope life left most =
 
 -- the token is given by what the hooks left of an ask that says its client and its owner
 abbrev pub IsDecided : List Checked → List Event → ℕ → Change → Type 0
-IsDecided hooks history moment (Issued family client owner kind digest scope life) =
-    (ask : Ask) × (ask.now ≡ moment) × (ask.client ≡ client) × (ask.owner ≡ owner)
+IsDecided hooks history moment (Issued family parties token) =
+    (ask : Ask) × (ask.now ≡ moment) × (ask.client ≡ parties.client) × (ask.owner ≡ parties.owner)
     × (some most left span : ℕ) × AllowInTurn hooks ask some most × (met ask some most ≡ Allowed left span)
-    × IsOfLeft history family kind scope life left span
+    × IsOfLeft history family token.kind token.scope token.life left span
 IsDecided hooks history moment change = Unit {0}
 
 -- so it is of each token that is given where the host is these hooks

@@ -27,8 +27,9 @@ without_hooks occasion = record {
 
 -- the token is the other one, but for some of its scope and some of its life; all else is the same
 abbrev pub IsPart : Change → Change → Type 0
-IsPart (Issued family client owner kind digest scope life) (Issued f c o k d whole most) =
-    (Issued family client owner kind digest whole most ≡ Issued f c o k d whole most) × (is_within scope whole ≡ true) × (life ≤ most)
+IsPart (Issued family parties token) (Issued f p whole) =
+    (Issued family parties (record (token) { scope = whole.scope; life = whole.life }) ≡ Issued f p whole)
+    × (is_within token.scope whole.scope ≡ true) × (token.life ≤ whole.life)
 IsPart change other = change ≡ other
 
 -- each of them, in their order
@@ -46,8 +47,8 @@ IsPartOfBody rules body other = ⊥
 
 -- the body tells the life and the scope of the access token that is given
 abbrev pub TellsGiven : RegistryRecord → Body → List Change → Type 0
-TellsGiven rules (Tokens access life refresh scope) (Issued family client owner kind digest mask span ∷ changes) =
-    (kind ≡ Access) × (life ≡ span) × (scope ≡ scope_text rules.scopes mask)
+TellsGiven rules (Tokens access life refresh scope) (Issued family parties token ∷ changes) =
+    (token.kind ≡ Access) × (life ≡ token.life) × (scope ≡ scope_text rules.scopes token.scope)
 TellsGiven rules body changes = ⊥
 
 -- both outcomes are granted, and what the one tells of and its tokens are parts of the other's

@@ -7,6 +7,7 @@ use Rattle.clients.specs.RegistryRecord.{RegistryRecord}
 use Rattle.clients.specs.Clients.{has_redirect}
 use Rattle.consent.specs.History.{Event}
 use Rattle.consent.specs.History.Change.{CodeGiven}
+use Rattle.consent.specs.Facts.{GivenCode}
 use Rattle.messages.specs.Reply.{Redirection, state_pair}
 use Rattle.messages.specs.Target.{query_of}
 use Rattle.answers.specs.Outcomes.{Outcome}
@@ -25,8 +26,9 @@ pub record SendsHome (rules : RegistryRecord) (occasion : Occasion) (outcome : O
   pub first : List ℕ × List ℕ
   pub pairs : there.pairs ≡ first ∷ state_pair (value_sent (codes "state") params)
   pub says : ((error : List ℕ) × (first ≡ (codes "error", error)) × (outcome.changes ≡ []))
-      ⊎ ((first ≡ (codes "code", token_text occasion.arrival.draws.first)) × (family owner scope : ℕ) × (challenge : List ℕ)
-      × (outcome.changes ≡ CodeGiven family known.number owner scope there.uri challenge (sha256 occasion.arrival.draws.first) ∷ []))
+      ⊎ ((first ≡ (codes "code", token_text occasion.arrival.draws.first)) × (family : ℕ) × (code : GivenCode)
+      × (code.client ≡ known.number) × (code.redirect ≡ there.uri)
+      × (outcome.changes ≡ CodeGiven family code (sha256 occasion.arrival.draws.first) ∷ []))
 
 -- a reply that has a 302 or says where to go has both, and sends home
 abbrev pub IsNoOpenRedirector : RegistryRecord → List Event → Occasion → Type 0

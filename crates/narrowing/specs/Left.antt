@@ -6,6 +6,7 @@ use Rattle.consent.specs.Consents.{KeptConsents, FitsConsents}
 use Rattle.consent.specs.History.{Event, Change, Grant, Terms, event_at, is_within, code_terms, grant_at, grants, has_ended, is_good, is_unexpired, IsHistory}
 use Rattle.consent.specs.History.Change.{CodeGiven, Issued, FamilyEnded}
 use Rattle.consent.specs.declared.grant.TokenKind.{TokenKind}
+use Rattle.consent.specs.declared.change.NewToken.{NewToken}
 use Rattle.endpoints.specs.Bounded.{AllRight, allowed_to, token_life_limit}
 use Rattle.token_store.specs.Fits.{FitsHistory}
 use Rattle.token_store.specs.Kept.{Kept}
@@ -32,14 +33,18 @@ life_under rules client kind scope life = if goes_beyond rules client scope then
 abbrev pub scope_under : RegistryRecord → ℕ → ℕ → ℕ
 scope_under rules client scope = bit_and scope (allowed_to rules client)
 
+-- the client's token with this scope and this life
+abbrev pub token_under : RegistryRecord → ℕ → NewToken → NewToken
+token_under rules client token =
+    record (token) { scope = scope_under rules client token.scope; life = life_under rules client token.kind token.scope token.life }
+
 -- What is left of a change, where these families are beyond the rules: their end stands in the place of each of their codes and
 -- tokens. Other tokens keep to the rules.
 abbrev pub left_of : RegistryRecord → (ℕ → Bool) → Change → Change
-left_of rules beyond (CodeGiven family client owner scope redirect challenge digest) =
-    if beyond family then FamilyEnded family else CodeGiven family client owner scope redirect challenge digest
-left_of rules beyond (Issued family client owner kind digest scope life) =
-    if beyond family then FamilyEnded family
-    else Issued family client owner kind digest (scope_under rules client scope) (life_under rules client kind scope life)
+left_of rules beyond (CodeGiven family code digest) =
+    if beyond family then FamilyEnded family else CodeGiven family code digest
+left_of rules beyond (Issued family parties token) =
+    if beyond family then FamilyEnded family else Issued family parties (token_under rules parties.client token)
 left_of rules beyond change = change
 
 abbrev pub left_event : RegistryRecord → (ℕ → Bool) → Event → Event

@@ -14,9 +14,11 @@ use Rattle.consent.specs.History.Change.{Consented, CodeGiven, Issued, Spent, Fa
 use Rattle.consent.specs.Consents.{KeptConsents, FitsConsents, unless_empty}
 use Rattle.consent.specs.declared.grant.Kind.{Kind}
 use Rattle.consent.specs.declared.grant.Kind.TheVariants.{Code, Token}
-use Rattle.consent.specs.declared.grant.TokenKind.{TokenKind}
+use Rattle.consent.specs.Facts.{GivenCode}
+use Rattle.consent.specs.declared.change.NewToken.{NewToken}
+use Rattle.consent.specs.declared.parties.Parties.{Parties}
 use Rattle.endpoints.specs.Bounded.{token_life_limit, is_of_code}
-use Rattle.narrowing.specs.Left.{goes_beyond, life_under, scope_under, left_of, left_event}
+use Rattle.narrowing.specs.Left.{goes_beyond, left_of, left_event, token_under}
 use Rattle.narrowing.specs.LeftKept.{left_by, left_grant}
 use Rattle.narrowing.specs.ListsLaws.{passes, left_found, count_by-left, list_all-left, find-left, find-kept}
 
@@ -27,10 +29,10 @@ module _ (rules : RegistryRecord) (beyond : ℕ → Bool) where
   -- CONSENTS
 
   consent_left : (owner client : ℕ) (change : Change) → consent_of owner client (left_of rules beyond change) ≡ consent_of owner client change
-  consent_left owner client (CodeGiven f c o scope redirect challenge digest) =
-      elim (beyond f) as (λ b. consent_of owner client (cond b (FamilyEnded f) (CodeGiven f c o scope redirect challenge digest)) ≡ None) [ true ↦ refl | false ↦ refl ]
-  consent_left owner client (Issued f c o kind digest scope life) =
-      elim (beyond f) as (λ b. consent_of owner client (cond b (FamilyEnded f) (Issued f c o kind digest (scope_under rules c scope) (life_under rules c kind scope life))) ≡ None) [ true ↦ refl | false ↦ refl ]
+  consent_left owner client (CodeGiven f code digest) =
+      elim (beyond f) as (λ b. consent_of owner client (cond b (FamilyEnded f) (CodeGiven f code digest)) ≡ None) [ true ↦ refl | false ↦ refl ]
+  consent_left owner client (Issued f parties token) =
+      elim (beyond f) as (λ b. consent_of owner client (cond b (FamilyEnded f) (Issued f parties (token_under rules parties.client token))) ≡ None) [ true ↦ refl | false ↦ refl ]
   consent_left owner client (Consented o c mask) = refl
   consent_left owner client (Spent digest) = refl
   consent_left owner client (FamilyEnded family) = refl
@@ -47,10 +49,10 @@ module _ (rules : RegistryRecord) (beyond : ℕ → Bool) where
   consented_left es owner client = ap (λ o. unwrap_or o 0) (last_consent_left es owner client)
 
   kept_by_left : (es : List Event) (change : Change) → kept_by (left_of rules beyond change) (left_events es) ≡ kept_by change es
-  kept_by_left es (CodeGiven f c o scope redirect challenge digest) =
-      elim (beyond f) as (λ b. kept_by (cond b (FamilyEnded f) (CodeGiven f c o scope redirect challenge digest)) (left_events es) ≡ 0) [ true ↦ refl | false ↦ refl ]
-  kept_by_left es (Issued f c o kind digest scope life) =
-      elim (beyond f) as (λ b. kept_by (cond b (FamilyEnded f) (Issued f c o kind digest (scope_under rules c scope) (life_under rules c kind scope life))) (left_events es) ≡ 0) [ true ↦ refl | false ↦ refl ]
+  kept_by_left es (CodeGiven f code digest) =
+      elim (beyond f) as (λ b. kept_by (cond b (FamilyEnded f) (CodeGiven f code digest)) (left_events es) ≡ 0) [ true ↦ refl | false ↦ refl ]
+  kept_by_left es (Issued f parties token) =
+      elim (beyond f) as (λ b. kept_by (cond b (FamilyEnded f) (Issued f parties (token_under rules parties.client token))) (left_events es) ≡ 0) [ true ↦ refl | false ↦ refl ]
   kept_by_left es (Consented o c mask) = ap (λ l. cond {A = ℕ} ((mask == 0) || is_some l) 0 1) (last_consent_left es o c)
   kept_by_left es (Spent digest) = refl
   kept_by_left es (FamilyEnded family) = refl
@@ -83,10 +85,10 @@ module _ (rules : RegistryRecord) (beyond : ℕ → Bool) where
 
   grants_event : (moment : ℕ) (change : Change) (left gs : List Grant) → left ≡ filter_map grant_left gs →
       cons_option (grant_by moment (left_of rules beyond change)) left ≡ filter_map grant_left (cons_option (grant_by moment change) gs)
-  grants_event moment (CodeGiven f c o scope redirect challenge digest) left gs same =
-      grants_step (beyond f) moment f (CodeGiven f c o scope redirect challenge digest) _ left gs refl same
-  grants_event moment (Issued f c o kind digest scope life) left gs same =
-      grants_step (beyond f) moment f (Issued f c o kind digest (scope_under rules c scope) (life_under rules c kind scope life)) _ left gs refl same
+  grants_event moment (CodeGiven f code digest) left gs same =
+      grants_step (beyond f) moment f (CodeGiven f code digest) _ left gs refl same
+  grants_event moment (Issued f parties token) left gs same =
+      grants_step (beyond f) moment f (Issued f parties (token_under rules parties.client token)) _ left gs refl same
   grants_event moment (Consented o c mask) left gs same = same
   grants_event moment (Spent digest) left gs same = same
   grants_event moment (FamilyEnded family) left gs same = same
@@ -224,10 +226,10 @@ module _ (rules : RegistryRecord) (beyond : ℕ → Bool) where
         cases false is = refl
 
     lowers_left : (terms : Terms) (change : Change) → lowers terms (left_of rules beyond change) ≡ lowers terms change
-    lowers_left terms (CodeGiven f c o scope redirect challenge digest) =
-        elim (beyond f) as (λ b. lowers terms (cond b (FamilyEnded f) (CodeGiven f c o scope redirect challenge digest)) ≡ false) [ true ↦ refl | false ↦ refl ]
-    lowers_left terms (Issued f c o kind digest scope life) =
-        elim (beyond f) as (λ b. lowers terms (cond b (FamilyEnded f) (Issued f c o kind digest (scope_under rules c scope) (life_under rules c kind scope life))) ≡ false) [ true ↦ refl | false ↦ refl ]
+    lowers_left terms (CodeGiven f code digest) =
+        elim (beyond f) as (λ b. lowers terms (cond b (FamilyEnded f) (CodeGiven f code digest)) ≡ false) [ true ↦ refl | false ↦ refl ]
+    lowers_left terms (Issued f parties token) =
+        elim (beyond f) as (λ b. lowers terms (cond b (FamilyEnded f) (Issued f parties (token_under rules parties.client token))) ≡ false) [ true ↦ refl | false ↦ refl ]
     lowers_left terms (Consented o c mask) = refl
     lowers_left terms (Spent digest) = refl
     lowers_left terms (FamilyEnded f) = refl
@@ -244,21 +246,21 @@ module _ (rules : RegistryRecord) (beyond : ℕ → Bool) where
     ended_by change later = ends family change || is_lowered family change later || has_ended later family
 
     module _ (es : List Event) (rest : has_ended (left_events es) family ≡ has_ended es family) where
-      ended_code : (b : Bool) (f c o scope : ℕ) (redirect challenge digest : List ℕ) → beyond f ≡ b →
-          ended_by (cond b (FamilyEnded f) (CodeGiven f c o scope redirect challenge digest)) (left_events es)
-          ≡ ended_by (CodeGiven f c o scope redirect challenge digest) es
-      ended_code true f c o scope redirect challenge digest is = rw (other f is) rest
-      ended_code false f c o scope redirect challenge digest is =
-          rw (any_lowers_left (record { client = c; owner = o; scope = scope }) es, rest) refl
+      ended_code : (b : Bool) (f : ℕ) (code : GivenCode) (digest : List ℕ) → beyond f ≡ b →
+          ended_by (cond b (FamilyEnded f) (CodeGiven f code digest)) (left_events es)
+          ≡ ended_by (CodeGiven f code digest) es
+      ended_code true f code digest is = rw (other f is) rest
+      ended_code false f code digest is =
+          rw (any_lowers_left (record { client = code.client; owner = code.owner; scope = code.scope }) es, rest) refl
 
-      ended_token : (b : Bool) (f c o : ℕ) (kind : TokenKind) (digest : List ℕ) (scope life scope' life' : ℕ) → beyond f ≡ b →
-          ended_by (cond b (FamilyEnded f) (Issued f c o kind digest scope' life')) (left_events es) ≡ ended_by (Issued f c o kind digest scope life) es
-      ended_token true f c o kind digest scope life scope' life' is = rw (other f is) rest
-      ended_token false f c o kind digest scope life scope' life' is = rest
+      ended_token : (b : Bool) (f : ℕ) (parties : Parties) (token less : NewToken) → beyond f ≡ b →
+          ended_by (cond b (FamilyEnded f) (Issued f parties less)) (left_events es) ≡ ended_by (Issued f parties token) es
+      ended_token true f parties token less is = rw (other f is) rest
+      ended_token false f parties token less is = rest
 
       ended_event : (change : Change) → ended_by (left_of rules beyond change) (left_events es) ≡ ended_by change es
-      ended_event (CodeGiven f c o scope redirect challenge digest) = ended_code (beyond f) f c o scope redirect challenge digest refl
-      ended_event (Issued f c o kind digest scope life) = ended_token (beyond f) f c o kind digest scope life _ _ refl
+      ended_event (CodeGiven f code digest) = ended_code (beyond f) f code digest refl
+      ended_event (Issued f parties token) = ended_token (beyond f) f parties token _ refl
       ended_event (Consented o c mask) = rest
       ended_event (Spent digest) = rest
       ended_event (FamilyEnded f) = ap (λ b. (f == family) || false || b) rest
@@ -272,10 +274,10 @@ module _ (rules : RegistryRecord) (beyond : ℕ → Bool) where
   -- SPENDING
 
   spends_left : (digest : List ℕ) (change : Change) → spends digest (left_of rules beyond change) ≡ spends digest change
-  spends_left digest (CodeGiven f c o scope redirect challenge d) =
-      elim (beyond f) as (λ b. spends digest (cond b (FamilyEnded f) (CodeGiven f c o scope redirect challenge d)) ≡ false) [ true ↦ refl | false ↦ refl ]
-  spends_left digest (Issued f c o kind d scope life) =
-      elim (beyond f) as (λ b. spends digest (cond b (FamilyEnded f) (Issued f c o kind d (scope_under rules c scope) (life_under rules c kind scope life))) ≡ false) [ true ↦ refl | false ↦ refl ]
+  spends_left digest (CodeGiven f code d) =
+      elim (beyond f) as (λ b. spends digest (cond b (FamilyEnded f) (CodeGiven f code d)) ≡ false) [ true ↦ refl | false ↦ refl ]
+  spends_left digest (Issued f parties token) =
+      elim (beyond f) as (λ b. spends digest (cond b (FamilyEnded f) (Issued f parties (token_under rules parties.client token))) ≡ false) [ true ↦ refl | false ↦ refl ]
   spends_left digest (Consented o c mask) = refl
   spends_left digest (Spent d) = refl
   spends_left digest (FamilyEnded f) = refl
@@ -301,9 +303,9 @@ module _ (rules : RegistryRecord) (beyond : ℕ → Bool) where
       gone false moment f change g is = is
 
       by : (moment : ℕ) (change : Change) → grant_by moment (left_of rules beyond change) ≡ left_one (grant_by moment change)
-      by moment (CodeGiven f c o scope redirect challenge d) = gone (beyond f) moment f (CodeGiven f c o scope redirect challenge d) _ refl
-      by moment (Issued f c o kind d scope life) =
-          gone (beyond f) moment f (Issued f c o kind d (scope_under rules c scope) (life_under rules c kind scope life)) _ refl
+      by moment (CodeGiven f code d) = gone (beyond f) moment f (CodeGiven f code d) _ refl
+      by moment (Issued f parties token) =
+          gone (beyond f) moment f (Issued f parties (token_under rules parties.client token)) _ refl
       by moment (Consented o c mask) = refl
       by moment (Spent d) = refl
       by moment (FamilyEnded f) = refl
@@ -367,10 +369,10 @@ module _ (rules : RegistryRecord) (beyond : ℕ → Bool) where
   -- WHAT EVERY HISTORY HAS
 
   placed_left : (n : ℕ) (change : Change) → is_placed n change ≡ true → is_placed n (left_of rules beyond change) ≡ true
-  placed_left n (CodeGiven f c o scope redirect challenge d) is =
-      elim (beyond f) as (λ b. is_placed n (cond b (FamilyEnded f) (CodeGiven f c o scope redirect challenge d)) ≡ true) [ true ↦ is | false ↦ is ]
-  placed_left n (Issued f c o kind d scope life) is =
-      elim (beyond f) as (λ b. is_placed n (cond b (FamilyEnded f) (Issued f c o kind d (scope_under rules c scope) (life_under rules c kind scope life))) ≡ true) [ true ↦ is | false ↦ is ]
+  placed_left n (CodeGiven f code d) is =
+      elim (beyond f) as (λ b. is_placed n (cond b (FamilyEnded f) (CodeGiven f code d)) ≡ true) [ true ↦ is | false ↦ is ]
+  placed_left n (Issued f parties token) is =
+      elim (beyond f) as (λ b. is_placed n (cond b (FamilyEnded f) (Issued f parties (token_under rules parties.client token))) ≡ true) [ true ↦ is | false ↦ is ]
   placed_left n (Consented o c mask) is = refl
   placed_left n (Spent d) is = refl
   placed_left n (FamilyEnded f) is = is

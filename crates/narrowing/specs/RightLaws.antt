@@ -14,10 +14,12 @@ use Rattle.consent.specs.CoveredLaws.{is_within-trans, is_within-self}
 use Rattle.consent.specs.ListLaws.{count_by-cons}
 use Rattle.consent.specs.History.{Event, Change, Grant, event_at, grant_of, grants, is_code, is_code_of, is_within, terms_of, IsHistory}
 use Rattle.consent.specs.History.Change.{Consented, CodeGiven, Issued, Spent, FamilyEnded, HookSet, HookGone}
-use Rattle.consent.specs.declared.grant.TokenKind.{TokenKind}
+use Rattle.consent.specs.Facts.{GivenCode}
+use Rattle.consent.specs.declared.change.NewToken.{NewToken}
+use Rattle.consent.specs.declared.parties.Parties.{Parties}
 use Rattle.endpoints.specs.Bounded.{IsRightChange, AllRight, IsOwn, IsOfCode, allowed_to, token_life_limit}
 use Rattle.endpoints.specs.Hosts.{HostRun, HostStep}
-use Rattle.narrowing.specs.Left.{goes_beyond, do_go_beyond, is_beyond_rules, life_under, scope_under, left_of, left_event, left_under, KeepsClients}
+use Rattle.narrowing.specs.Left.{goes_beyond, do_go_beyond, is_beyond_rules, scope_under, left_of, left_event, left_under, KeepsClients, token_under}
 use Rattle.narrowing.specs.LeftLaws.{left_events, consented_left, no_code_left, code_terms_left, ended_left}
 
 -- SCOPES AND LIVES
@@ -91,23 +93,23 @@ module _ (old new : RegistryRecord) (clients : KeepsClients old new) (history : 
   home_left before family client owner scope less stays lower (inr of) =
       inr (of.0, code_terms_left new beyond family stays before ∙ of.1, is_within-trans less scope of.0 lower of.2, ended_left new beyond family stays before ∙ of.3)
 
-  right_code : (b : Bool) (before : List Event) (f c o scope : ℕ) (redirect challenge digest : List ℕ) → beyond f ≡ b →
-      (beyond f ≡ false → is_within scope (allowed_to new c) ≡ true) → IsRightChange old before (CodeGiven f c o scope redirect challenge digest) →
-      IsRightChange new (left before) (cond b (FamilyEnded f) (CodeGiven f c o scope redirect challenge digest))
-  right_code true before f c o scope redirect challenge digest is within right = tt
-  right_code false before f c o scope redirect challenge digest is within right = (
-    record { is_client = clients c right.0.is_client; within = within is },
-    ap (is_within scope) (consented_left new beyond before o c) ∙ right.1,
+  right_code : (b : Bool) (before : List Event) (f : ℕ) (code : GivenCode) (digest : List ℕ) → beyond f ≡ b →
+      (beyond f ≡ false → is_within code.scope (allowed_to new code.client) ≡ true) → IsRightChange old before (CodeGiven f code digest) →
+      IsRightChange new (left before) (cond b (FamilyEnded f) (CodeGiven f code digest))
+  right_code true before f code digest is within right = tt
+  right_code false before f code digest is within right = (
+    record { is_client = clients code.client right.0.is_client; within = within is },
+    ap (is_within code.scope) (consented_left new beyond before code.owner code.client) ∙ right.1,
   )
 
-  right_token : (b : Bool) (before : List Event) (f c o : ℕ) (kind : TokenKind) (digest : List ℕ) (scope life : ℕ) → beyond f ≡ b →
-      IsRightChange old before (Issued f c o kind digest scope life) →
-      IsRightChange new (left before) (cond b (FamilyEnded f) (Issued f c o kind digest (scope_under new c scope) (life_under new c kind scope life)))
-  right_token true before f c o kind digest scope life is right = tt
-  right_token false before f c o kind digest scope life is right = (
-    record { is_client = clients c right.0.is_client; within = met_within scope (allowed_to new c) },
-    short_if (goes_beyond new c scope) life (token_life_limit new kind),
-    home_left before f c o scope (scope_under new c scope) is (met_below scope (allowed_to new c)) right.2,
+  right_token : (b : Bool) (before : List Event) (f : ℕ) (parties : Parties) (token : NewToken) → beyond f ≡ b →
+      IsRightChange old before (Issued f parties token) →
+      IsRightChange new (left before) (cond b (FamilyEnded f) (Issued f parties (token_under new parties.client token)))
+  right_token true before f parties token is right = tt
+  right_token false before f parties token is right = (
+    record { is_client = clients parties.client right.0.is_client; within = met_within token.scope (allowed_to new parties.client) },
+    short_if (goes_beyond new parties.client token.scope) token.life (token_life_limit new token.kind),
+    home_left before f parties.client parties.owner token.scope (scope_under new parties.client token.scope) is (met_below token.scope (allowed_to new parties.client)) right.2,
   )
 
   right_left : (before later : List Event) (e : Event) → history ≡ before ++ e ∷ later → IsRightChange old before e.change →
@@ -116,10 +118,10 @@ module _ (old new : RegistryRecord) (clients : KeepsClients old new) (history : 
     where
       by : (moment : ℕ) (change : Change) → history ≡ before ++ event_at moment change ∷ later → IsRightChange old before change →
           IsRightChange new (left before) (left_of new beyond change)
-      by moment (CodeGiven f c o scope redirect challenge digest) whole right =
-          right_code (beyond f) before f c o scope redirect challenge digest refl
-          (code_within before later (event_at moment (CodeGiven f c o scope redirect challenge digest)) _ whole refl refl) right
-      by moment (Issued f c o kind digest scope life) whole right = right_token (beyond f) before f c o kind digest scope life refl right
+      by moment (CodeGiven f code digest) whole right =
+          right_code (beyond f) before f code digest refl
+          (code_within before later (event_at moment (CodeGiven f code digest)) _ whole refl refl) right
+      by moment (Issued f parties token) whole right = right_token (beyond f) before f parties token refl right
       by moment (Consented o c mask) whole right = tt
       by moment (Spent digest) whole right = tt
       by moment (FamilyEnded family) whole right = tt
@@ -147,10 +149,10 @@ module _ {H : Type 0} (hosting : Hosting H) (rules : RegistryRecord) (beyond : �
   gone_step false f change old now gone step = step
 
   host_step : (change : Change) (old now : H) → HostStep hosting old change now → HostStep hosting old (left_of rules beyond change) now
-  host_step (CodeGiven f c o scope redirect challenge digest) old now step =
-      gone_step (beyond f) f (CodeGiven f c o scope redirect challenge digest) old now step step
-  host_step (Issued f c o kind digest scope life) old now step =
-      gone_step (beyond f) f (Issued f c o kind digest (scope_under rules c scope) (life_under rules c kind scope life)) old now step step
+  host_step (CodeGiven f code digest) old now step =
+      gone_step (beyond f) f (CodeGiven f code digest) old now step step
+  host_step (Issued f parties token) old now step =
+      gone_step (beyond f) f (Issued f parties (token_under rules parties.client token)) old now step step
   host_step (Consented o c mask) old now step = step
   host_step (Spent digest) old now step = step
   host_step (FamilyEnded family) old now step = step

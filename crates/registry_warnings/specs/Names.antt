@@ -1,17 +1,6 @@
--- The names that members of a registry have.
+-- The names that members of what stands in a registry have.
 use Rattle.std.specs.Prelude.{ℕ, List, codes, Bool, true, ◌||◌, bytes_eq, if◌then◌else◌, Option, Some, None}
-
--- the members of a registry
-abbrev pub is_of_registry : List ℕ → Bool
-is_of_registry name =
-    bytes_eq name (codes "access_life") || bytes_eq name (codes "refresh_life") || bytes_eq name (codes "operator")
-    || bytes_eq name (codes "owners") || bytes_eq name (codes "scopes") || bytes_eq name (codes "clients")
-
--- the members of a client
-abbrev pub is_of_client : List ℕ → Bool
-is_of_client name =
-    bytes_eq name (codes "id") || bytes_eq name (codes "secret") || bytes_eq name (codes "redirects")
-    || bytes_eq name (codes "scope") || bytes_eq name (codes "grants")
+use Rattle.clients.specs.Spots.{is_of_client}
 
 -- the members of an owner
 abbrev pub is_of_owner : List ℕ → Bool

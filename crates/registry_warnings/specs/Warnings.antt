@@ -9,7 +9,8 @@ use Rattle.hex.specs.Hex.{decode_sized}
 use Rattle.sha2.specs.Sha256.{sha256}
 use Rattle.json.specs.Token.{Token, begin_object, end_object, begin_array, end_array, key, string, number, boolean, null, bad}
 use Rattle.json.specs.Lex.{tokens}
-use Rattle.registry_warnings.specs.Names.{is_of_registry, is_of_key, is_known_in}
+use Rattle.clients.specs.Spots.{is_of_registry}
+use Rattle.registry_warnings.specs.Names.{is_of_key, is_known_in}
 
 -- OBJECTS that are open, the innermost last, each with the names of its members so far
 

@@ -1,26 +1,9 @@
 //! The names that members have which mean something.
 
 ghost use Rattle.std.specs.Prelude.{◌≡◌, option_copied};
-ghost use Rattle.registry_warnings.specs.Names.{is_of_registry, is_of_client, is_of_owner, is_of_key, is_known_in};
+ghost use Rattle.registry_warnings.specs.Names.{is_of_owner, is_of_key, is_known_in};
 
-// The members of a registry.
-pub(crate) fn is_of_registry(name: &str) -> bool
-    ensures { result ≡ is_of_registry name.now }
-{
-    name == "access_life"
-        || name == "refresh_life"
-        || name == "operator"
-        || name == "owners"
-        || name == "scopes"
-        || name == "clients"
-}
-
-// The members of a client.
-fn is_of_client(name: &str) -> bool
-    ensures { result ≡ is_of_client name.now }
-{
-    name == "id" || name == "secret" || name == "redirects" || name == "scope" || name == "grants"
-}
+use clients::is_of_client;
 
 // The members of an owner.
 fn is_of_owner(name: &str) -> bool

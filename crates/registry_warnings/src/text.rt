@@ -7,8 +7,9 @@ ghost use Rattle.json.specs.Lex.{tokens};
 ghost use Rattle.registry_warnings.specs.Names.{is_of_key};
 ghost use Rattle.registry_warnings.specs.Warnings.{innermost, last_name, is_known, unknown_text, twice_text, is_empty_digest, digest_text, after, token_warnings, warnings, warnings_in};
 
-use crate::names::{is_known_in, is_of_key, is_of_registry};
+use crate::names::{is_known_in, is_of_key};
 use crate::objects::Objects;
+use clients::is_of_registry;
 use hex::FromHex;
 use json::{Reader, Scratch, Token};
 use sha2::{Digest as _, Sha256};

@@ -51,8 +51,8 @@ step_has : (old new : List Named) (change : Change) (hooks : List HookFact) → 
 step_has old new (HookSet name version code) hooks step has = installed_has old new hooks name version code step has
 step_has old new (HookGone name) hooks step has = subst (λ (ns : List Named). Has ns (without_hook name hooks)) (sym step.left) (has_without name old hooks has)
 step_has old new (Consented owner client mask) hooks step has = subst (λ (ns : List Named). Has ns hooks) (sym step) has
-step_has old new (CodeGiven family client owner scope redirect challenge digest) hooks step has = subst (λ (ns : List Named). Has ns hooks) (sym step) has
-step_has old new (Issued family client owner kind digest scope life) hooks step has = subst (λ (ns : List Named). Has ns hooks) (sym step) has
+step_has old new (CodeGiven family code digest) hooks step has = subst (λ (ns : List Named). Has ns hooks) (sym step) has
+step_has old new (Issued family parties token) hooks step has = subst (λ (ns : List Named). Has ns hooks) (sym step) has
 step_has old new (Spent digest) hooks step has = subst (λ (ns : List Named). Has ns hooks) (sym step) has
 step_has old new (FamilyEnded family) hooks step has = subst (λ (ns : List Named). Has ns hooks) (sym step) has
 

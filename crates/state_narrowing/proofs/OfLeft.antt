@@ -19,7 +19,7 @@ use Rattle.image_codec.specs.Facts.{HookFact, ImageFact}
 use Rattle.token_store.specs.Image.{kept_told}
 use Rattle.token_store.specs.ImageLaws.{all_same}
 use Rattle.image_codec.specs.Spelling.{image_spelling}
-use Rattle.narrowing.specs.Left.{KeepsClients, ended_count, is_beyond_rules, left_of, left_under, life_under, scope_under}
+use Rattle.narrowing.specs.Left.{KeepsClients, ended_count, is_beyond_rules, left_of, left_under, token_under}
 use Rattle.narrowing.specs.LeftLaws.{fits_consents_left, left_events}
 use Rattle.narrowing.specs.RightLaws.{all_right-left, host_run-left}
 use Rattle.token_store.specs.Fits.{FitsHistory}
@@ -71,10 +71,10 @@ unnarrowed left now fault narrower (inr refused) = inr (inr (narrower, refused))
 
 module _ (rules : RegistryRecord) (beyond : ℕ → Bool) where
   hooks_event : (hooks : List HookFact) (change : Change) → hooks_with hooks (left_of rules beyond change) ≡ hooks_with hooks change
-  hooks_event hooks (CodeGiven f c o scope redirect challenge digest) =
-      elim (beyond f) as (λ b. hooks_with hooks (cond b (FamilyEnded f) (CodeGiven f c o scope redirect challenge digest)) ≡ hooks) [ true ↦ refl | false ↦ refl ]
-  hooks_event hooks (Issued f c o kind digest scope life) =
-      elim (beyond f) as (λ b. hooks_with hooks (cond b (FamilyEnded f) (Issued f c o kind digest (scope_under rules c scope) (life_under rules c kind scope life))) ≡ hooks) [ true ↦ refl | false ↦ refl ]
+  hooks_event hooks (CodeGiven f code digest) =
+      elim (beyond f) as (λ b. hooks_with hooks (cond b (FamilyEnded f) (CodeGiven f code digest)) ≡ hooks) [ true ↦ refl | false ↦ refl ]
+  hooks_event hooks (Issued f parties token) =
+      elim (beyond f) as (λ b. hooks_with hooks (cond b (FamilyEnded f) (Issued f parties (token_under rules parties.client token))) ≡ hooks) [ true ↦ refl | false ↦ refl ]
   hooks_event hooks (Consented o c mask) = refl
   hooks_event hooks (Spent digest) = refl
   hooks_event hooks (FamilyEnded family) = refl

@@ -1,8 +1,6 @@
 -- POST /token with grant_type client_credentials (RFC 6749, section 4.4)
-use Rattle.std.specs.Prelude.{ℕ, [], ◌∷◌, length}
+use Rattle.std.specs.Prelude.{ℕ, [], ◌∷◌}
 use Rattle.sha2.specs.Sha256.{sha256}
-use Rattle.consent.specs.History.Change.{Issued}
-use Rattle.consent.specs.declared.grant.TokenKind.TheVariants.{Access}
 use Rattle.hook_record.specs.declared.Ask.{Ask}
 use Rattle.hook_record.specs.declared.Kind.TheVariants as kind
 use Rattle.messages.specs.declared.error.ErrorName.TheVariants.{InvalidScope, UnauthorizedClient}
@@ -10,7 +8,7 @@ use Rattle.answers.specs.Outcomes.{Extent, Outcome, need, refuse, unless_denied,
 use Rattle.answers.specs.Replies.{access_reply}
 use Rattle.answers.specs.Requesters.{Parameters, KnownClient, scope_within}
 use Rattle.answers.specs.Setting.{Setting}
-use Rattle.token_endpoint.specs.Grants.{ask_for, left_by_host}
+use Rattle.token_endpoint.specs.Grants.{ask_for, issued_alone, left_by_host}
 
 -- a grant to a client itself: no owner consents to it
 abbrev pub own_ask : Setting → KnownClient → ℕ → Ask
@@ -22,7 +20,7 @@ granted setting client left =
     unless_taken setting (sha256 setting.draws.first ∷ [])
     (record {
       reply = access_reply setting.rules setting.draws.first left.scope left.life;
-      changes = Issued (length setting.history) client 0 Access (sha256 setting.draws.first) left.scope left.life ∷ [];
+      changes = issued_alone setting client left ∷ [];
     })
 
 abbrev pub client_credentials : Setting → Parameters → KnownClient → Outcome

@@ -10,10 +10,9 @@ use Rattle.clients.specs.declared.grant.GrantType.TheVariants.{AuthorizationCode
 use Rattle.authentication.specs.Authentication.{authenticated}
 use Rattle.consent.specs.Changes.{AllFollow}
 use Rattle.consent.specs.History.{Change, Grant, IsHistory, event_at, grant_at, is_code, is_spent, has_ended, is_taken, with_change, CanFollow}
-use Rattle.consent.specs.History.Change.{Issued, Spent}
+use Rattle.consent.specs.History.Change.{Spent}
 use Rattle.consent.specs.HistoryLaws.{grant_at-placed, grant_at-kin, is_history-push}
 use Rattle.consent.specs.GrowthLaws.{grant_at-keep, is_taken-parts, is_taken-push}
-use Rattle.consent.specs.declared.grant.TokenKind.TheVariants.{Access}
 use Rattle.hook_record.specs.declared.Kind.TheVariants as kind
 use Rattle.pkce.specs.Proof.{proves}
 use Rattle.messages.specs.declared.error.ErrorName.TheVariants.{InvalidRequest, InvalidGrant, InvalidScope, UnauthorizedClient, UnsupportedGrantType}
@@ -29,7 +28,7 @@ use Rattle.token_endpoint.specs.ClientCredentials.{client_credentials, own_ask}
 use Rattle.token_endpoint.specs.ClientCredentials as credentials
 use Rattle.token_endpoint.specs.Exchange as exchange
 use Rattle.token_endpoint.specs.Exchange.{ends_family, spent_in_vain}
-use Rattle.token_endpoint.specs.Grants.{access_for, access_issued, ask_for, both_digests, both_for, left_by_host, refresh_issued}
+use Rattle.token_endpoint.specs.Grants.{access_for, access_issued, ask_for, both_digests, both_for, issued_alone, left_by_host, refresh_issued}
 use Rattle.token_endpoint.specs.Refresh.{refresh}
 use Rattle.token_endpoint.specs.TokenPath.{grant_points, issue_token}
 
@@ -85,7 +84,7 @@ module _ (s : Setting) (is : IsHistory s.history s.moment) where
   granted number left =
       unless_taken s (sha256 s.draws.first ∷ []) (record {
         reply = access_reply s.rules s.draws.first left.scope left.life;
-        changes = Issued (length s.history) number 0 Access (sha256 s.draws.first) left.scope left.life ∷ [];
+        changes = issued_alone s number left ∷ [];
       })
       (λ free. record { all = ((inl refl, (is_taken-parts s.history s.moment (sha256 s.draws.first) [] free).0), tt) })
 

@@ -1,8 +1,11 @@
 -- What is asked of the host before a grant, and the tokens that are issued for it.
-use Rattle.std.specs.Prelude.{ℕ, List, [], ◌∷◌}
+use Rattle.std.specs.Prelude.{ℕ, List, [], ◌∷◌, length}
 use Rattle.sha2.specs.Sha256.{sha256}
 use Rattle.consent.specs.History.{Change, Grant, consented_scope}
-use Rattle.consent.specs.History.Change.{Issued, Spent}
+use Rattle.consent.specs.History.Change.{Spent}
+use Rattle.consent.specs.Changes.{issued_with, token_issued}
+use Rattle.consent.specs.declared.change.NewToken.{NewToken}
+use Rattle.consent.specs.declared.grant.TokenKind.{TokenKind}
 use Rattle.consent.specs.declared.grant.TokenKind.TheVariants.{Access, Refresh}
 use Rattle.hook_record.specs.declared.Kind.{Kind}
 use Rattle.hook_record.specs.declared.Ask.{Ask}
@@ -34,12 +37,20 @@ ask_for setting known kind owner scope = record {
 abbrev pub left_by_host : Setting → Ask → Narrowed
 left_by_host setting ask = met_with ask (setting.host.answer ask)
 
+-- a token of the draw, of what is left
+abbrev pub new_token : TokenKind → List ℕ → Extent → NewToken
+new_token kind draw left = record { kind = kind; digest = sha256 draw; scope = left.scope; life = left.life }
+
+-- an access token of the client's own, in a family of its own
+abbrev pub issued_alone : Setting → ℕ → Extent → Change
+issued_alone setting client left = token_issued (length setting.history) client 0 (new_token Access setting.draws.first left)
+
 -- a token of the draw comes of the code or refresh token that is used
 abbrev pub access_issued : Grant → List ℕ → Extent → Change
-access_issued used draw left = Issued used.family used.client used.owner Access (sha256 draw) left.scope left.life
+access_issued used draw left = issued_with (new_token Access draw left) used
 
 abbrev pub refresh_issued : Grant → List ℕ → Extent → Change
-refresh_issued used draw left = Issued used.family used.client used.owner Refresh (sha256 draw) left.scope left.life
+refresh_issued used draw left = issued_with (new_token Refresh draw left) used
 
 -- an access token comes of what is used, which is spent
 abbrev pub access_for : Setting → Grant → Extent → Outcome
