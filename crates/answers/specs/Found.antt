@@ -29,7 +29,7 @@ family_at history digest m = option_map_or (λ (g : Grant). g.family) (grant_at 
 abbrev pub grant_found : List Event → List ℕ → ℕ → Found → Grant
 grant_found history digest m found = grant_seen digest (family_at history digest m) (found_seen found)
 
--- the digest names it, and its marks are those of the history
+-- the digest names it, and is spent and has ended as in the history
 pub record IsFound (history : List Event) (digest : List ℕ) (m : ℕ) (found : Found) : Type 0 where
   pub named : grant_at history digest m ≡ Some (grant_found history digest m found)
   pub spent_is : found.spent ≡ is_spent history digest m

@@ -40,15 +40,15 @@ rules_of_fitting i fits = fits.0
 -- only how long their texts are can keep records from it
 pub record_counts : (r : RecordFact) → kept_kind_format.Counts r.kind → record_format.Counts r
 unfolding record_format
-record_counts r kind = (tt, (kind, (tt, (tt, (tt, (tt, (tt, (tt, (scope r.code_scope, (mark r.spent, mark r.ended))))))))))
+record_counts r kind = (tt, (kind, (tt, (tt, (tt, (tt, (tt, (tt, (scope r.code_scope, (told r.spent, told r.ended))))))))))
   where
     scope : (s : Option ℕ) → (option_of u64_format).Counts s
     scope None = tt
     scope (Some s) = tt
 
-    mark : (b : Bool) → bool_format.Counts b
-    mark true = tt
-    mark false = tt
+    told : (b : Bool) → bool_format.Counts b
+    told true = tt
+    told false = tt
 
 pub kind_of_counted : (r : RecordFact) → record_format.Counts r → kept_kind_format.Counts r.kind
 unfolding record_format

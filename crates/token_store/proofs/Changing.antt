@@ -21,7 +21,7 @@ use Rattle.token_store.specs.Kept.{Kept, kept_at, is_in, HasFamily}
 use Rattle.token_store.specs.Fits.{FitsBy, FitsHistory, to_keep}
 use Rattle.token_store.specs.declared.agenda.Agenda.{Agenda}
 use Rattle.token_store.specs.Records.{shared_at, or_nothing, is_coded, kept_in, all_kept, IsCounted, Tied}
-use Rattle.token_store.specs.RecordsParts.{is_live_at, TellsSame, RecordMark, marked}
+use Rattle.token_store.specs.RecordsParts.{is_live_at, TellsSame, RecordChange, changed}
 use Rattle.token_store.specs.Room.{Waits}
 use Rattle.token_store.proofs.Looking.{shown, found}
 use Rattle.token_store.proofs.Families.{unseen, vacant_count}
@@ -66,13 +66,13 @@ pub not_waiting : (families : List (Option Shared)) (n k : ℕ) (s : Shared) →
 not_waiting families n k s some waits same =
     let none : (shared_at families n).count ≡ 0 = ap (λ i. (shared_at families i).count) (sym same) ∙ waits.empty in omega (arith, some, none)
 
--- where nothing has the digest nothing is marked
-pub unspent_same : (kept : List Kept) (digest : List ℕ) (m : ℕ) → kept_at kept digest m ≡ None → map (marked (RecordMark.Spent digest m)) kept ≡ kept
+-- where nothing has the digest nothing is changed
+pub unspent_same : (kept : List Kept) (digest : List ℕ) (m : ℕ) → kept_at kept digest m ≡ None → map (changed (RecordChange.Spent digest m)) kept ≡ kept
 unspent_same [] digest m none = refl
 unspent_same (k ∷ ks) digest m none = none_cases (is_named digest m k.grant) refl none (unspent_same ks digest m)
   where
     none_cases : (b : Bool) → is_named digest m k.grant ≡ b → cond b (Some k) (kept_at ks digest m) ≡ None →
-        (kept_at ks digest m ≡ None → map (marked (RecordMark.Spent digest m)) ks ≡ ks) → map (marked (RecordMark.Spent digest m)) (k ∷ ks) ≡ k ∷ ks
+        (kept_at ks digest m ≡ None → map (changed (RecordChange.Spent digest m)) ks ≡ ks) → map (changed (RecordChange.Spent digest m)) (k ∷ ks) ≡ k ∷ ks
     none_cases true is h more = cc
     none_cases false is h more = λ i. ap (λ b. cond {A = Kept} b (record k { spent = true }) k) is i ∷ more h i
 

@@ -13,24 +13,24 @@ use Rattle.token_store.specs.declared.record.Shared.{Shared}
 use Rattle.token_store.specs.Kept.{Kept}
 use Rattle.token_store.specs.declared.agenda.Agenda.{Agenda}
 use Rattle.token_store.specs.Records.{shared_at, or_nothing, kept_in, kept_under, all_kept, member_count, is_coded, Tied, IsOwned, owner_cmp, terms_by}
-use Rattle.token_store.specs.RecordsParts.{RecordMark, marked, HasEnded, HasLowered, HasOpened, HasClosed, IsAfter, IsNextOwned, lowered_by, lowered_shared, is_beyond_mask}
+use Rattle.token_store.specs.RecordsParts.{RecordChange, changed, HasEnded, HasLowered, HasOpened, HasClosed, IsAfter, IsNextOwned, lowered_by, lowered_shared, is_beyond_mask}
 
 -- ENDING
 
--- what does not look at the mark is as before
+-- what does not look at the change is as before
 pub unended : {X : Type 0} (g : Option Shared → X) (old new : List (Option Shared)) (n : ℕ) → HasEnded old new n → ((s : Shared) → g (Some (record s { ended = true })) ≡ g (Some s)) →
     (k : ℕ) → g (slice_index_or new k None) ≡ g (slice_index_or old k None)
 unended g old new n ended same k = number_cases (eqb k n) refl
   where
-    mark_cases : (o : Option Shared) → g (option_map (λ (s : Shared). record s { ended = true }) o) ≡ g o
-    mark_cases None = refl
-    mark_cases (Some s) = same s
+    end_cases : (o : Option Shared) → g (option_map (λ (s : Shared). record s { ended = true }) o) ≡ g o
+    end_cases None = refl
+    end_cases (Some s) = same s
 
     number_cases : (b : Bool) → eqb k n ≡ b → g (slice_index_or new k None) ≡ g (slice_index_or old k None)
     number_cases false other = ap g (ended.others k (λ e. false≢true (sym other ∙ eq-eqb k n e)))
     number_cases true is =
         let number : k ≡ n = eqb-true k n is in
-        ap (λ i. g (slice_index_or new i None)) number ∙ ap g ended.here ∙ mark_cases (slice_index_or old n None)
+        ap (λ i. g (slice_index_or new i None)) number ∙ ap g ended.here ∙ end_cases (slice_index_or old n None)
         ∙ ap (λ i. g (slice_index_or old i None)) (sym number)
 
 pub tied_ended : (old new : List (Option Shared)) (n : ℕ) (es : List (List ℕ × Record)) (agenda : Agenda) (owners : List ((ℕ × ℕ) × ℕ)) → HasEnded old new n →
@@ -43,9 +43,9 @@ tied_ended old new n es agenda owners ended tied = record {
   owned = λ q. tied.owned q ∙ sym (unended (is_coded q.0.0 q.0.1) old new n ended (λ s. refl) q.1);
 }
 
--- the mark of a family is seen on all its records, and no visit to them is needed
+-- the change of a family is seen on all its records, and no visit to them is needed
 pub view_ended : (old new : List (Option Shared)) (n : ℕ) (es : List (List ℕ × Record)) → HasEnded old new n → ((k : ℕ) → member_count es k ≤ (shared_at old k).count) →
-    all_kept new es ≡ map (marked (RecordMark.Ended n)) (all_kept old es)
+    all_kept new es ≡ map (changed (RecordChange.Ended n)) (all_kept old es)
 view_ended old new n [] ended counted = refl
 view_ended old new n (e ∷ es) ended counted =
     let tail = view_ended old new n es ended (λ k. (let sums = count_by-cons (λ x. eqb x.family k) e.1 (values_of es) in let le = counted k in omega (arith, sums, le))) in
@@ -55,7 +55,7 @@ view_ended old new n (e ∷ es) ended counted =
     λ i. head (slice_index_or old e.1.family None) refl (omega (arith, sums, one, le)) (eqb e.1.family n) refl i ∷ tail i
   where
     head : (o : Option Shared) → slice_index_or old e.1.family None ≡ o → 0 < (or_nothing o).count → (b : Bool) → eqb e.1.family n ≡ b →
-        kept_in new e ≡ marked (RecordMark.Ended n) (kept_in old e)
+        kept_in new e ≡ changed (RecordChange.Ended n) (kept_in old e)
     head None is some b same = absurd (omega (arith, some))
     head (Some s) is some false other =
         ap (λ o. kept_under (or_nothing o) e.0 e.1) (ended.others e.1.family (λ x. false≢true (sym other ∙ eq-eqb e.1.family n x)))
@@ -150,9 +150,9 @@ lowered_all old new owners owner client mask after owned below none k = all_case
     all_cases (inr early) = below.done k early
     all_cases (inl late) = below.todo k late ∙ uncoded_same owner client mask (slice_index_or old k None) (sym (owned ((owner, client), k)) ∙ none k late)
 
--- a mark on a family's state is seen on each of its records
+-- a change on a family's state is seen on each of its records
 pub view_lowered : (old new : List (Option Shared)) (es : List (List ℕ × Record)) (owner client mask : ℕ) → HasLowered old new owner client mask →
-    all_kept new es ≡ map (marked (RecordMark.Lowered owner client mask)) (all_kept old es)
+    all_kept new es ≡ map (changed (RecordChange.Lowered owner client mask)) (all_kept old es)
 view_lowered old new [] owner client mask lowered = refl
 view_lowered old new (e ∷ es) owner client mask lowered = λ i.
     (ap (λ o. kept_under (or_nothing o) e.0 e.1) (lowered e.1.family) ∙ head (slice_index_or old e.1.family None)) i ∷ view_lowered old new es owner client mask lowered i
@@ -161,7 +161,7 @@ view_lowered old new (e ∷ es) owner client mask lowered = λ i.
     split s true = refl
     split s false = refl
 
-    head : (o : Option Shared) → kept_under (or_nothing (option_map (lowered_shared owner client mask) o)) e.0 e.1 ≡ marked (RecordMark.Lowered owner client mask) (kept_under (or_nothing o) e.0 e.1)
+    head : (o : Option Shared) → kept_under (or_nothing (option_map (lowered_shared owner client mask) o)) e.0 e.1 ≡ changed (RecordChange.Lowered owner client mask) (kept_under (or_nothing o) e.0 e.1)
     head None = refl
     head (Some s) = split s (is_beyond (Consented owner client mask) (option_map (terms_by s.client s.owner) s.code_scope))
 
@@ -169,13 +169,13 @@ pub unlowered : {X : Type 0} (g : Option Shared → X) (old new : List (Option S
     ((s : Shared) → g (Some (record s { ended = true })) ≡ g (Some s)) → (k : ℕ) → g (slice_index_or new k None) ≡ g (slice_index_or old k None)
 unlowered {X = X} g old new owner client mask lowered same k = ap g (lowered k) ∙ state_cases (slice_index_or old k None)
   where
-    mark_cases : (s : Shared) (b : Bool) → g (Some (cond {A = Shared} b (record s { ended = true }) s)) ≡ g (Some s)
-    mark_cases s true = same s
-    mark_cases s false = refl
+    end_cases : (s : Shared) (b : Bool) → g (Some (cond {A = Shared} b (record s { ended = true }) s)) ≡ g (Some s)
+    end_cases s true = same s
+    end_cases s false = refl
 
     state_cases : (o : Option Shared) → g (option_map (lowered_shared owner client mask) o) ≡ g o
     state_cases None = refl
-    state_cases (Some s) = mark_cases s (is_beyond (Consented owner client mask) (option_map (terms_by s.client s.owner) s.code_scope))
+    state_cases (Some s) = end_cases s (is_beyond (Consented owner client mask) (option_map (terms_by s.client s.owner) s.code_scope))
 
 pub tied_lowered : (old new : List (Option Shared)) (owner client mask : ℕ) (es : List (List ℕ × Record)) (agenda : Agenda) (owners : List ((ℕ × ℕ) × ℕ)) →
     HasLowered old new owner client mask → Tied old es agenda owners [] → Tied new es agenda owners []

@@ -6,8 +6,8 @@ pub mod Sweeping
 pub mod Families
 pub mod Issuing
 pub mod Looking
-pub mod Marked
-pub mod Marking
+pub mod Changed
+pub mod Following
 pub mod Opening
 pub mod Remaking
 pub mod Settling

@@ -22,7 +22,7 @@ waits_other families families' n s same waits = record {
   alike = λ owner client. ap (is_coded owner client) same ∙ waits.alike owner client;
 }
 
--- a mark does not matter
+-- a change does not matter
 pub waits_ended : (families families' : List (Option Shared)) (k n : ℕ) (s : Shared) → HasEnded families families' k → Waits families n s → Waits families' n s
 waits_ended families families' k n s ended waits = record {
   there = unended is_some families families' k ended (λ x. refl) n ∙ waits.there;

@@ -2,7 +2,7 @@
 use Rattle.std.specs.Prelude.{ℕ, List, Option, option_map, unwrap_or}
 use Rattle.std.specs.Option.{option_and_then}
 use Rattle.consent.specs.History.{Event, Grant, code_terms, grant_at}
-use Rattle.consent.specs.Seen.{Seen, marked_as}
+use Rattle.consent.specs.Seen.{Seen, seen_as}
 use Rattle.token_store.specs.declared.found.Found.{Found}
 use Rattle.token_store.specs.Kept.{Kept}
 
@@ -26,7 +26,7 @@ found_seen found = record {
 
 -- what is seen of what is kept
 abbrev pub kept_seen : Kept → Seen
-kept_seen k = marked_as k.spent k.ended k.grant
+kept_seen k = seen_as k.spent k.ended k.grant
 
 -- the scope of the code of its family, if there is one
 abbrev pub code_scope_of : List Event → Grant → Option ℕ

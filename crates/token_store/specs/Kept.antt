@@ -3,7 +3,7 @@ use Rattle.std.specs.Prelude.{◌≡◌, ℕ, List, Bool, true, Option, find, co
 use Rattle.consent.specs.History.{Grant, Terms, is_named, is_unexpired}
 use Rattle.token_store.specs.declared.record.Shared.{Shared}
 
--- a code or token as it is kept: its family by the store's number, its family's code's terms, and the marks
+-- a code or token as it is kept: its family by the store's number, its family's code's terms, spent or not, ended or not
 pub record Kept : Type 0 where
   pub grant : Grant
   pub terms : Option Terms

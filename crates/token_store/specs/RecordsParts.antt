@@ -109,28 +109,28 @@ pub record HasClosed (old new : List (Option Shared)) (n : ℕ) : Type 0 where
 abbrev pub SharesSame : List (Option Shared) → List (Option Shared) → ℕ → Type 0
 SharesSame old new n = (digest : List ℕ) (r : Record) → kept_under (shared_at new n) digest r ≡ kept_under (shared_at old n) digest r
 
--- a mark, and which records it is meant for
-pub data RecordMark : Type 0 where
-  Spent : (digest : List ℕ) → (moment : ℕ) → RecordMark
-  Ended : (family : ℕ) → RecordMark
-  Lowered : (owner client mask : ℕ) → RecordMark
+-- a change of records, and which it is meant for
+pub data RecordChange : Type 0 where
+  Spent : (digest : List ℕ) → (moment : ℕ) → RecordChange
+  Ended : (family : ℕ) → RecordChange
+  Lowered : (owner client mask : ℕ) → RecordChange
 
--- what is kept of a record, with such a mark
-abbrev pub marked : RecordMark → Kept → Kept
-marked (RecordMark.Spent digest moment) k = if is_named digest moment k.grant then record k { spent = true } else k
-marked (RecordMark.Ended family) k = if k.grant.family == family then record k { ended = true } else k
-marked (RecordMark.Lowered owner client mask) k =
+-- what is kept of a record, with such a change
+abbrev pub changed : RecordChange → Kept → Kept
+changed (RecordChange.Spent digest moment) k = if is_named digest moment k.grant then record k { spent = true } else k
+changed (RecordChange.Ended family) k = if k.grant.family == family then record k { ended = true } else k
+changed (RecordChange.Lowered owner client mask) k =
     if is_beyond (Consented owner client mask) k.terms then record k { ended = true } else k
 
--- what is kept of all, with such a mark
-abbrev pub all_marked : RecordMark → List Kept → List Kept
-all_marked mark kept = map (marked mark) kept
+-- what is kept of all, with such a change
+abbrev pub all_changed : RecordChange → List Kept → List Kept
+all_changed change kept = map (changed change) kept
 
--- what the digest names, at whatever moment, has the mark
+-- what the digest names, at whatever moment, is changed so
 abbrev pub HasSpent : (old new : List Kept) → List ℕ → Type 0
-HasSpent old new digest = (moment : ℕ) → is_some (kept_at old digest moment) ≡ true → new ≡ all_marked (RecordMark.Spent digest moment) old
+HasSpent old new digest = (moment : ℕ) → is_some (kept_at old digest moment) ≡ true → new ≡ all_changed (RecordChange.Spent digest moment) old
 
--- the family has the mark, if it is there
+-- the family has ended, if it is there
 pub record HasEnded (old new : List (Option Shared)) (n : ℕ) : Type 0 where
   pub here : family_numbered new n ≡ option_map (λ (s : Shared). record s { ended = true }) (family_numbered old n)
   pub others : OthersStay old new n

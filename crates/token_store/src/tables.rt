@@ -11,7 +11,7 @@ ghost use Rattle.token_store.specs.FitsParts.{are_kept, has_kept_room, kept_refu
 ghost use Rattle.token_store.specs.Room.{HasSpare, room_of};
 ghost use Rattle.token_store.specs.RoomParts.{KeepsRoom, WaitsStill};
 ghost use Rattle.token_store.specs.Records.{family_numbered, kept_under, kept_of, shared_at, IsCounted, IsOwned, IsTied};
-ghost use Rattle.token_store.specs.RecordsParts.{deadline_of, is_live_at, IsNextOwned, start_of, kept_found, HasEntered, HasLeft, HasClosed, HasEnded, HasIndexed, HasOpened, HasLowered, HasSpent, lowered_by, AllLive, KeepsToo, OthersStay, RecordMark, all_marked, spent_in};
+ghost use Rattle.token_store.specs.RecordsParts.{deadline_of, is_live_at, IsNextOwned, start_of, kept_found, HasEntered, HasLeft, HasClosed, HasEnded, HasIndexed, HasOpened, HasLowered, HasSpent, lowered_by, AllLive, KeepsToo, OthersStay, RecordChange, all_changed, spent_in};
 
 use crate::agenda::Agenda;
 use crate::fault::StoreFault;
@@ -170,7 +170,7 @@ impl Tables {
     pub(crate) fn end(&mut self, number: usize)
         requires { IsTied self.old [] }
         ensures tied { IsTied self.new [] }
-        ensures marked { kept_of self.new ≡ all_marked (RecordMark.Ended number) (kept_of self.old) }
+        ensures changed { kept_of self.new ≡ all_changed (RecordChange.Ended number) (kept_of self.old) }
         ensures room { KeepsRoom (room_of self.old) (room_of self.new) }
     {
         end_one(&mut self.families, number);
@@ -180,7 +180,7 @@ impl Tables {
     pub(crate) fn lower(&mut self, owner: OwnerNo, client: ClientNo, mask: ScopeSet)
         requires { IsTied self.old [] }
         ensures tied { IsTied self.new [] }
-        ensures marked { kept_of self.new ≡ all_marked (RecordMark.Lowered owner client mask) (kept_of self.old) }
+        ensures changed { kept_of self.new ≡ all_changed (RecordChange.Lowered owner client mask) (kept_of self.old) }
         ensures room { KeepsRoom (room_of self.old) (room_of self.new) }
     {
         lower_all(
@@ -196,7 +196,7 @@ impl Tables {
     pub(crate) fn spend(&mut self, digest: &Digest)
         requires { IsTied self.old [] }
         ensures tied { IsTied self.new [] }
-        ensures marked { HasSpent (kept_of self.old) (kept_of self.new) digest.now }
+        ensures changed { HasSpent (kept_of self.old) (kept_of self.new) digest.now }
         ensures room { room_of self.new ≡ room_of self.old }
     {
         spend_one(&mut self.records, digest);

@@ -9,8 +9,8 @@ returns-clause-tied c =
     let t = c.args.self.now in
     tied_ended t.families.slots c.end_one.new.families.slots c.args.number t.records.entries t.agenda t.owners.keys c.end_one.ensures.ended c.requires
 
-pub returns-clause-marked : goal.returns-clause-marked
-returns-clause-marked c =
+pub returns-clause-changed : goal.returns-clause-changed
+returns-clause-changed c =
     let t = c.args.self.now in
     view_ended t.families.slots c.end_one.new.families.slots c.args.number t.records.entries c.end_one.ensures.ended (λ k. (let same = c.requires.counted k in omega (arith, same)))
 

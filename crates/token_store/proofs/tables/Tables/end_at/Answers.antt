@@ -5,7 +5,7 @@ use Rattle.consent.specs.History.{grant_at}
 use Rattle.consent.specs.Changes.{family_ended}
 use Rattle.token_store.specs.Kept.{kept_at}
 use Rattle.token_store.specs.Records.{kept_of, kept_in}
-use Rattle.token_store.proofs.Marking.{fits_ended}
+use Rattle.token_store.proofs.Following.{fits_ended}
 use Rattle.token_store.proofs.Changing.{family_found, means_so, named_by}
 use Rattle.token_store.proofs.tables.Tables.end_at.Goals as goal
 
@@ -21,4 +21,4 @@ returns-clause-makes c = λ history next fits means follows.
     let k = kept_in t.families.slots (d, c.in-Some.record.now) in
     let kept : kept_at (kept_of t) d m ≡ Some k = sym c.record_at.ensures ∙ ap (λ o. option_map (λ x. kept_in t.families.slots (d, x)) (option_copied o)) c.in-Some.is in
     let same = family_found (kept_of t) history fits.number m d g k fits.fits kept at in
-    record { number = fits.number; fits = rw (c.end.ensures.marked, ← same) (fits_ended (kept_of t) history fits.number m d g fits.fits at) })
+    record { number = fits.number; fits = rw (c.end.ensures.changed, ← same) (fits_ended (kept_of t) history fits.number m d g fits.fits at) })

@@ -9,8 +9,8 @@ returns-clause-tied c =
     tied_lowered t.families.slots c.lower_all.new.families.slots c.args.owner c.args.client c.args.mask t.records.entries t.agenda t.owners.keys
     (rw (c.get.ensures.value, c.get-2.ensures.value) at c.lower_all.ensures.lowered) c.requires
 
-pub returns-clause-marked : goal.returns-clause-marked
-returns-clause-marked c =
+pub returns-clause-changed : goal.returns-clause-changed
+returns-clause-changed c =
     let t = c.args.self.now in
     view_lowered t.families.slots c.lower_all.new.families.slots t.records.entries c.args.owner c.args.client c.args.mask
     (rw (c.get.ensures.value, c.get-2.ensures.value) at c.lower_all.ensures.lowered)

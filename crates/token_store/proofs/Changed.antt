@@ -1,11 +1,11 @@
--- What look-ups and counts say of a list of which each element is marked.
+-- What look-ups and counts say of a list of which each element is changed.
 use Rattle.std.proofs.Common.{◌≡◌, ℕ, ◌+◌, List, [], ◌∷◌, Some, Bool, true, false, cond, refl, ap, ◌∙◌, sym}
 use Rattle.std.specs.Prelude.{find, count_by, map, option_map, ◌==◌}
 use Rattle.consent.specs.ListLaws.{count_by-cons}
 use Rattle.consent.specs.History.{Grant, is_named, is_beyond}
 use Rattle.consent.specs.History.Change.{Consented}
 use Rattle.token_store.specs.Kept.{Kept}
-use Rattle.token_store.specs.RecordsParts.{RecordMark, marked}
+use Rattle.token_store.specs.RecordsParts.{RecordChange, changed}
 
 -- a change that keeps the grant leaves what is found
 pub find-changed : (f : Kept → Kept) (p : Grant → Bool) (ks : List Kept) → ((k : Kept) → (f k).grant ≡ k.grant) → find (λ k. p k.grant) (map f ks) ≡ option_map f (find (λ k. p k.grant) ks)
@@ -29,7 +29,7 @@ ended_if-grant : (b : Bool) (k : Kept) → (cond {A = Kept} b (record k { ended 
 ended_if-grant true k = refl
 ended_if-grant false k = refl
 
-pub marked-grant : (mark : RecordMark) (k : Kept) → (marked mark k).grant ≡ k.grant
-marked-grant (RecordMark.Spent digest moment) k = spent_if-grant (is_named digest moment k.grant) k
-marked-grant (RecordMark.Ended family) k = ended_if-grant (k.grant.family == family) k
-marked-grant (RecordMark.Lowered owner client mask) k = ended_if-grant (is_beyond (Consented owner client mask) k.terms) k
+pub changed-grant : (change : RecordChange) (k : Kept) → (changed change k).grant ≡ k.grant
+changed-grant (RecordChange.Spent digest moment) k = spent_if-grant (is_named digest moment k.grant) k
+changed-grant (RecordChange.Ended family) k = ended_if-grant (k.grant.family == family) k
+changed-grant (RecordChange.Lowered owner client mask) k = ended_if-grant (is_beyond (Consented owner client mask) k.terms) k
