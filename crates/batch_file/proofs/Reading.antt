@@ -4,7 +4,7 @@ use Rattle.std.specs.Int.{w32, from_be_bytes, to_be_bytes}
 use Rattle.std.proofs.lemmas.List.{take_at, drop_at, drop_more, drop-drop}
 use Rattle.std.proofs.lemmas.Nat.{from_be_bytes-to_be_bytes_4, be_bytes_4}
 use Rattle.batch_file.specs.Frames.{digest, seal, sealed, HidesFrame, IsFrame, IsSealed}
-use Rattle.batch_file.specs.FramesLaws.{length-seal, length-sealed, behind_latch, two_sealed}
+use Rattle.batch_file.specs.FramesLaws.{length-seal, length-sealed, two_sealed}
 
 -- the first four bytes, as a number
 abbrev pub size_of : List ℕ → ℕ
@@ -94,14 +94,6 @@ framed before batch bytes rest some counts is s =
           drop_more bytes 0 0 (omega arith)
           ∙ ap (λ (l : List ℕ). latch ∷ l) (sym is ∙ s.1 ∙ ap (λ (l : List ℕ). sealed before batch ++ l) (ap (λ (l : List ℕ). drop (20 + length batch) l) is ∙ drop-drop (20 + length batch) 1 bytes ∙ ap (λ (n : ℕ). drop n bytes) (omega arith)));
     }
-
-pub no_latch : (before batch more bytes : List ℕ) → get_or bytes 0 0 ≡ 0 → IsFrame before batch more bytes → ⊥
-no_latch before batch more bytes shut f =
-    let counts = f.counts in
-    absurd (omega (arith, shut, ap (λ (l : List ℕ). get_or l 0 0) f.is))
-
-pub no_frame : (before batch more bytes rest : List ℕ) → rest ≡ drop 1 bytes → IsFrame before batch more bytes → IsSealed before batch more rest
-no_frame before batch more bytes rest is f = subst (λ (l : List ℕ). IsSealed before batch more l) (sym is) (behind_latch before batch more bytes f)
 
 -- A BATCH BEHIND A CLOSED LATCH
 

@@ -5,7 +5,7 @@ use Rattle.std.specs.Int.{w32, from_be_bytes}
 use Rattle.std.proofs.lemmas.List.{drop-drop}
 use Rattle.std.proofs.lemmas.Bool.{and_from, le-leb, lt-leb}
 use Rattle.std.proofs.lemmas.Bool.Decides.{nat_tests}
-use Rattle.batch_file.specs.Frames.{size_at, IsFirstKind}
+use Rattle.batch_file.specs.Frames.{size_at}
 use Rattle.batch_file.specs.Version1.{is_whole, batches_in_1, recovered_1, frames_size_1}
 
 -- it doesn't matter by how much the count of frames is too high
@@ -85,18 +85,6 @@ found (latch ∷ bytes) part n long is_open says fits is =
     ∙ ap (λ (k : ℕ). take k (drop 4 bytes) ∷ recovered_1 (drop k (drop 4 bytes))) (sym size)
     ∙ ap (λ (l : List ℕ). l ∷ recovered_1 (drop n (drop 4 bytes))) (sym is)
     ∙ ap (λ (l : List ℕ). part ∷ recovered_1 l) behind
-
--- WHICH FILES ARE OF THE FIRST KIND
-
-pub is_first : (bytes : List ℕ) (n : ℕ) → 5 ≤ length bytes → get_or bytes 0 0 ≡ 1 → n ≡ size_behind bytes → n ≤ length bytes - 5 → IsFirstKind bytes
-is_first [] n long is_open says fits = absurd (omega arith)
-is_first (latch ∷ bytes) n long is_open says fits = (bytes, ap (λ (k : ℕ). k ∷ bytes) is_open, omega (arith, says, size_is latch bytes (omega arith)))
-
-pub first_is : (bytes : List ℕ) → IsFirstKind bytes → (5 ≤ length bytes) × (get_or bytes 0 0 ≡ 1) × (size_behind bytes ≤ length bytes - 5)
-first_is bytes k =
-    let long : 5 ≤ length bytes = omega (arith, ap length k.1, k.2) in
-    let says : size_behind bytes ≡ size_at k.0 = ap size_behind k.1 ∙ size_is 1 k.0 (omega (arith, k.2)) in
-    (long, ap (λ (l : List ℕ). get_or l 0 0) k.1, omega (arith, ap length k.1, k.2, says))
 
 -- THE WALK
 

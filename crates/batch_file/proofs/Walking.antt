@@ -1,7 +1,7 @@
 -- One frame after the other.
-use Rattle.std.proofs.Common.{◌≡◌, inl, inr, ℕ, ◌+◌, ◌<◌, List, [], ◌∷◌, ◌++◌, length, take, drop, refl, sym, ◌∙◌, ap, subst, arith, append_assoc, length-append, length-drop, take-append-drop}
+use Rattle.std.proofs.Common.{◌≡◌, ℕ, ◌+◌, List, [], ◌∷◌, ◌++◌, length, take, drop, refl, sym, ◌∙◌, ap, subst, arith, append_assoc, length-append}
 use Rattle.std.proofs.lemmas.List.{drop-drop, append-nil, take_at}
-use Rattle.batch_file.specs.Frames.{header, digest, sealed, recovered, frames_size, file_size, IsFrame, AreFrames, IsFileOf, IsReadable, IsAtRest, IsWhole, IsRightFront, IsVersion}
+use Rattle.batch_file.specs.Frames.{header, digest, sealed, recovered, frames_size, file_size, IsFrame, AreFrames, IsFileOf, IsReadable, IsAtRest, IsWhole, IsRightFront}
 use Rattle.batch_file.specs.FramesLaws.{digest_is, length-frames, length-sealed, further, file_is, framed_is, readable_is}
 use Rattle.batch_file.specs.Reads.{IsRead, IsFront, IsFound}
 
@@ -29,9 +29,6 @@ AreFrames-snoc (b ∷ later) before last frames batch one are f =
 -- without what stands behind it
 pub alone : (before batch rest bytes : List ℕ) (f : IsFrame before batch rest bytes) → IsFrame before batch [] (f.latch ∷ sealed before batch)
 alone before batch rest bytes f = record { latch = f.latch; counts = f.counts; short = f.short; is = sym (append-nil (f.latch ∷ sealed before batch)) }
-
-pub starts : (bytes : List ℕ) → bytes ≡ header ++ drop 16 bytes → IsRead [] header 16 bytes
-starts bytes is = record { frames = []; is = is; are = (refl, refl); ends = refl }
 
 pub goes_on : (batches : List (List ℕ)) (last batch later bytes : List ℕ) (end next : ℕ) → IsRead batches last end bytes → IsFrame last batch (drop (21 + length batch) (drop end bytes)) (drop end bytes)
     → next ≡ end + (21 + length batch) → later ≡ take 16 (drop (end + 5) bytes) → IsRead (batches ++ batch ∷ []) later next bytes
@@ -61,12 +58,6 @@ found_batches batches last end bytes found = sym (file_is batches bytes (found_f
 pub found_readable : (batches : List (List ℕ)) (last : List ℕ) (end : ℕ) (bytes : List ℕ) → IsFound batches last end bytes → IsReadable bytes
 found_readable batches last end bytes found = readable_is batches bytes (found_file batches last end bytes found)
 
--- where the closed latch stands
-pub found_end : (batches : List (List ℕ)) (last : List ℕ) (end : ℕ) (bytes : List ℕ) → IsFound batches last end bytes → end < length bytes
-found_end batches last end bytes found =
-    let e = found.1 in
-    omega (arith, ap length e.1, length-drop end bytes)
-
 pub found_size : (batches : List (List ℕ)) (last : List ℕ) (end : ℕ) (bytes : List ℕ) → IsFound batches last end bytes → end + 1 ≡ file_size (recovered bytes)
 found_size batches last end bytes found =
     let r = found.0 in
@@ -91,8 +82,3 @@ abbrev pub front_is_right : (batches : List (List ℕ)) (last : List ℕ) (end :
 front_is_right batches last end bytes front =
     let r = front.0 in
     record { last = last; frames = r.frames; rest = drop end bytes; is = r.is; are = r.are; no_frame = front.1 }
-
--- of which version a file is
-pub version_header : (bytes : List ℕ) → IsVersion 2 bytes → bytes ≡ header ++ drop 16 bytes
-version_header bytes (inl told) = sym (take-append-drop 16 bytes) ∙ ap (λ (l : List ℕ). l ++ drop 16 bytes) told.1
-version_header bytes (inr first) = let one = first.0 in absurd (omega arith)

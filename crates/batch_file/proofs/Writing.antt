@@ -32,10 +32,6 @@ torn_more at n k old new le torn =
       no_longer = omega (arith, torn.no_longer);
     }
 
-pub length-written : (at : ℕ) (old bytes new : List ℕ) → at ≤ length old → IsWrittenAt old at bytes new → at + length bytes ≤ length new
-length-written at old bytes new within is =
-    omega (arith, ap length is, length-append (take at old ++ bytes) (drop (at + length bytes) old), length-append (take at old) bytes, length-take at old)
-
 pub written_then : (at next : ℕ) (old a b mid new : List ℕ) → at ≤ length old → next ≡ at + length a → IsWrittenAt old at a mid → IsWrittenAt mid next b new → IsWrittenAt old at (a ++ b) new
 written_then at next old a b mid new within next_is first second =
     let front = take at old ++ a in

@@ -1,6 +1,6 @@
 //! A file of batches: they are added one by one, or another file is put in the place of all.
 
-ghost use Rattle.std.specs.Prelude.{◌≡◌, ◌<◌, ◌≤◌, ◌^◌, ◌+◌, ◌++◌, [], ◌∷◌, List, ℕ, length, IfOk, IfErr, OnOk, IsErrOf, Some};
+ghost use Rattle.std.specs.Prelude.{◌≡◌, ◌<◌, ◌≤◌, ◌^◌, ◌+◌, ◌++◌, [], ◌∷◌, length, IfOk, IfErr, OnOk, IsErrOf, Some};
 ghost use Rattle.batch_file.specs.Crashes.{HasCause, IsFailure, IsReplaceFailure, IsUnplaced, IsWrittenAt, LeavesOnly, Only, Torn};
 ghost use Rattle.batch_file.specs.FaultTexts.{batch_fault_text, of_device};
 ghost use Rattle.batch_file.specs.Frames.{file_size, limit, recovered, IsAsBefore, IsBeforeOrAfter, IsOldOrNew, IsBatchFailure, IsOnDisk, IsReadable, IsReadableOrChance};

@@ -7,7 +7,6 @@
 ghost use Rattle.std.specs.Prelude.{◌≡◌, length, bit_and, IfOk, IfErr, OnOk, IfSome, IfNone, IsTrue, ◌↔◌, Some};
 ghost use Rattle.std.specs.Fs.{file_type, metadata_mode, IsFile, IsSymlink};
 ghost use Rattle.std.specs.Io.KnownBytes.{IsAtEnd};
-ghost use Rattle.std.specs.IoError.{error_kind};
 ghost use Rattle.std.specs.Path.{path_bytes};
 ghost use Rattle.batch_file.specs.declared.disk_file.OpenFault.TheVariants as opening;
 ghost use Rattle.batch_file.specs.declared.disk_file.MakeFault.TheVariants as making;

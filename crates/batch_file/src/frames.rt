@@ -1,8 +1,8 @@
 //! A whole file in memory: what is put in the place of another, in one step.
 
-ghost use Rattle.std.specs.Prelude.{◌≡◌, ◌<◌, ◌≤◌, ◌^◌, ◌+◌, ◌++◌, [], ◌∷◌, length, OnOk, OnErr, IfOk, IfErr, IsErrOf, Some};
+ghost use Rattle.std.specs.Prelude.{◌≡◌, ◌<◌, ◌≤◌, ◌^◌, ◌+◌, ◌++◌, [], ◌∷◌, length, OnOk, OnErr, IfOk, IsErrOf};
 ghost use Rattle.batch_file.specs.declared.frames.AddFault.TheVariants.{Memory};
-ghost use Rattle.batch_file.specs.Frames.{file_size, recovered, sealed, IsReadable, IsWhole};
+ghost use Rattle.batch_file.specs.Frames.{file_size, recovered, IsReadable, IsWhole};
 
 use crate::framing::{HEADER, head_of};
 use std::alloc::{AllocError, AllocFailed, Global};

@@ -49,15 +49,6 @@ regroup : {A : Type 0} (front : List A) (n : A) (read : Result (List A × List �
 regroup front n (Ok x) = ap (λ (ns : List _). Ok (ns, x.1)) (simp append_assoc)
 regroup front n (Err f) = refl
 
-pub begins : {A : Type 0} (f : Format A) (front : List A) (count : ℕ) (bytes : List ℕ) → front ≡ [] → with_front front (each_at f (count - 0) bytes) ≡ each_at f count bytes
-begins {A = A} f front count bytes none =
-    let k : count - 0 ≡ count = omega arith in
-    rw (none, k) (same (each_at f count bytes))
-  where
-    same : (read : Result (List A × List ℕ) Fault) → with_front [] read ≡ read
-    same (Ok x) = refl
-    same (Err e) = refl
-
 pub goes_on : {A : Type 0} (f : Format A) (front : List A) (count i : ℕ) (bytes : List ℕ) (n : A) (after : List ℕ) (total : Result (List A × List ℕ) Fault)
     → i < count → f.read bytes ≡ Ok (n, after) → with_front front (each_at f (count - i) bytes) ≡ total → with_front (front ++ n ∷ []) (each_at f (count - (i + 1)) after) ≡ total
 unfolding each_at
