@@ -1,6 +1,6 @@
 -- What a request for tokens changes may come next in the history. Only proofs cite this module.
 use Rattle.std.proofs.Common.{◌≡◌, ℕ, List, [], ◌∷◌, Bool, true, false, Some, refl, inl, inr}
-use Rattle.std.specs.Prelude.{length, not, codes, bytes_eq, if◌then◌else◌}
+use Rattle.std.specs.Prelude.{not, codes, bytes_eq, if◌then◌else◌}
 use Rattle.sha2.specs.Sha256.{sha256}
 use Rattle.params.specs.Form.{value_sent}
 use Rattle.clients.specs.ClientRecord.{ClientRecord}
