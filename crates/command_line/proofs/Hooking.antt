@@ -3,7 +3,7 @@ use Rattle.std.proofs.Common.{◌≡◌, ◌∙◌, List, [], ◌∷◌, ◌++�
 use Rattle.std.proofs.lemmas.List.{map-append}
 use Rattle.hook_chain.specs.Chains.{Named}
 use Rattle.image_codec.specs.Facts.{HookFact}
-use Rattle.command_line.specs.declared.fault.PerformFault.{PerformFault}
+use Rattle.commands.specs.declared.fault.CommandFault.{CommandFault}
 use Rattle.command_line.specs.declared.hook_files.HookCode.{HookCode}
 use Rattle.command_line.specs.declared.hook_files.HookRead.{HookRead}
 use Rattle.command_line.specs.Hooks.{AreFactsOf, hook_fact_of, in_file, IsFactOf, RefusesHooks, TakesHook, TakesHooks}
@@ -12,7 +12,7 @@ use Rattle.command_line.specs.Hooks.{AreFactsOf, hook_fact_of, in_file, IsFactOf
 pub record LeadsHooks (all : List HookRead) (chain : List Named) (codes : List HookCode) (rest : List HookRead) : Type 0 where
   pub taken : (after : List Named) → TakesHooks chain (map in_file rest) after → TakesHooks [] (map in_file all) after
   pub coded : (more : List HookFact) → AreFactsOf (map in_file rest) more → AreFactsOf (map in_file all) (map hook_fact_of codes ++ more)
-  pub refused : (fault : PerformFault) → RefusesHooks chain (map in_file rest) fault → RefusesHooks [] (map in_file all) fault
+  pub refused : (fault : CommandFault) → RefusesHooks chain (map in_file rest) fault → RefusesHooks [] (map in_file all) fault
 
 pub leads_all : (all : List HookRead) → LeadsHooks all [] [] all
 leads_all all = record { taken = λ after takes. takes; coded = λ more are. are; refused = λ fault refuses. refuses }

@@ -1,4 +1,3 @@
-mod Ending
 mod Failing
 mod Hooking
 mod Naming

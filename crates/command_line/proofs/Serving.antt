@@ -1,5 +1,5 @@
 -- How a service fails.
-use Rattle.std.proofs.Common.{◌≡◌, ◌⊎◌, inl, inr, ℕ, List, Option, None, Some, Result, Ok, Err, subst, sym}
+use Rattle.std.proofs.Common.{◌≡◌, inl, inr, ℕ, List, Option, None, Some, Result, Ok, Err, subst, sym}
 use Rattle.std.specs.Prelude.{OnOk, IfErr}
 use Rattle.clients.specs.RegistryRecord.{RegistryRecord}
 use Rattle.commands.specs.Config.{HoldsRegistry}
@@ -11,31 +11,30 @@ use Rattle.daemon.specs.declared.fault.OpeningFault.{OpeningFault}
 use Rattle.event_loop.specs.declared.limits.Limits.{Limits}
 use Rattle.image_codec.specs.Facts.{HookFact}
 use Rattle.start_words.specs.Options.{clock_limit}
-use Rattle.start_words.specs.declared.words.StartWords.{StartWords}
 use Rattle.command_line.specs.Faults.{IsOfListening, IsOfOpening}
 use Rattle.command_line.specs.Listening.{FailsService, HasAll, HasEnded, ServeEnded, ServiceFiles, handed, registry_bytes}
 use Rattle.command_line.specs.Services.{address_of, limits_of}
 use Rattle.command_line.specs.Startings.{EndsAnew, EndsOn, EndsStart, Startings}
-use Rattle.command_line.specs.declared.fault.PerformFault.{PerformFault}
+use Rattle.commands.specs.declared.fault.CommandFault.{CommandFault}
 use Rattle.command_line.specs.declared.service.ServeWords.{ServeWords}
 use Rattle.command_line.specs.declared.service.Service.{Service}
-use Rattle.command_line.specs.declared.service.Service.TheVariants.{Serve, Start}
+use Rattle.command_line.specs.declared.service.Service.TheVariants.{Serve}
 
 -- its server does not listen
-pub not_heard : {W E : Type 0} (starts : Startings) (service : Service) (files : ServiceFiles) (fault : PerformFault) (to : Outputs W E) (registry : RegistryRecord)
+pub not_heard : {W E : Type 0} (starts : Startings) (service : Service) (files : ServiceFiles) (fault : CommandFault) (to : Outputs W E) (registry : RegistryRecord)
     (address : List ℕ) (cause : ListenFault) → HoldsRegistry (registry_bytes files) registry → address_of service ≡ address → IsUntouched to.err →
     IsOfListening address cause fault → FailsService starts service files fault to
 not_heard starts service files fault to registry address cause held there told is =
     inl (told, inr (inr (inl (record { registry = registry; held = held; cause = cause; fault_is = rw there is }))))
 
 -- so many connections were served, or none
-pub served : {W T : Type 0} (r : Result T PerformFault) (service : Service) (files : ServiceFiles) (out : Output W) (registry : RegistryRecord) (given : ServeWords) →
+pub served : {W T : Type 0} (r : Result T CommandFault) (service : Service) (files : ServiceFiles) (out : Output W) (registry : RegistryRecord) (given : ServeWords) →
     HoldsRegistry (registry_bytes files) registry → service ≡ Serve given → OnOk r (Announces (out.seen out.old) (out.seen out.new)) → OnOk r (ServeEnded service files out)
 served (Ok u) service files out registry given held is announced =
     record { listened = record { registry = registry; held = held; announced = announced }; given = given; service_is = is }
 served (Err f) service files out registry given held is announced = tt
 
-pub not_served : {W E T : Type 0} (r : Result T PerformFault) (starts : Startings) (service : Service) (files : ServiceFiles) (to : Outputs W E) (registry : RegistryRecord)
+pub not_served : {W E T : Type 0} (r : Result T CommandFault) (starts : Startings) (service : Service) (files : ServiceFiles) (to : Outputs W E) (registry : RegistryRecord)
     (given : ServeWords) → HoldsRegistry (registry_bytes files) registry → service ≡ Serve given → IsUntouched to.err →
     IfErr r (λ fault. (cause : ListenFault) × IsOfListening given.address.now cause fault) → IfErr r (λ fault. FailsService starts service files fault to)
 not_served (Ok u) starts service files to registry given held is same deaf = tt
@@ -43,7 +42,7 @@ not_served (Err f) starts service files to registry given held is same deaf =
     not_heard starts service files f to registry given.address.now deaf.0 held (rw is) same deaf.1
 
 -- it was started anew, by all that it has
-pub ended_anew : {W : Type 0} (starts : Startings) (service : Service) (files : ServiceFiles) (fault : PerformFault) (out : Output W) (all : HasAll service files)
+pub ended_anew : {W : Type 0} (starts : Startings) (service : Service) (files : ServiceFiles) (fault : CommandFault) (out : Output W) (all : HasAll service files)
     (limits : Limits) → all.given.options.state ≡ None → limits ≡ limits_of all.given.options →
     EndsAnew starts (handed_anew all.registry all.hooks limits) fault out → HasEnded starts service files fault out
 ended_anew starts service files fault out all limits none are ends = record {
@@ -53,7 +52,7 @@ ended_anew starts service files fault out all limits none are ends = record {
 }
 
 -- or on the file of its state
-pub ended_on : {W : Type 0} (starts : Startings) (service : Service) (files : ServiceFiles) (fault : PerformFault) (out : Output W) (all : HasAll service files)
+pub ended_on : {W : Type 0} (starts : Startings) (service : Service) (files : ServiceFiles) (fault : CommandFault) (out : Output W) (all : HasAll service files)
     (path : List ℕ) (codes : List HookFact) (limits : Limits) (ahead : Option ℕ) → all.given.options.state ≡ Some path → codes ≡ all.codes →
     limits ≡ limits_of all.given.options → ahead ≡ clock_limit all.given.options.clock →
     EndsOn starts path (handed_on all.registry codes limits ahead) fault out → HasEnded starts service files fault out
@@ -66,7 +65,7 @@ ended_on starts service files fault out all path codes limits ahead named codes_
 }
 
 -- that file was not opened
-pub not_opened : {W E : Type 0} (starts : Startings) (service : Service) (files : ServiceFiles) (fault : PerformFault) (to : Outputs W E) (all : HasAll service files)
+pub not_opened : {W E : Type 0} (starts : Startings) (service : Service) (files : ServiceFiles) (fault : CommandFault) (to : Outputs W E) (all : HasAll service files)
     (address path : List ℕ) (cause : OpeningFault) → address_of service ≡ address → all.given.options.state ≡ Some path → IsUntouched to.err →
     IsOfOpening address path cause fault → FailsService starts service files fault to
 not_opened starts service files fault to all address path cause there named told is =

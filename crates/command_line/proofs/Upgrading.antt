@@ -1,7 +1,6 @@
 -- A file of the first kind that is brought over.
-use Rattle.std.proofs.Common.{◌≡◌, ◌≢◌, ◌⊎◌, inl, inr, ℕ, List, [], ◌∷◌, refl, subst}
-use Rattle.std.specs.Prelude.{Vec}
-use Rattle.batch_file.specs.Frames.{IsVersion, RefusesFile, lists}
+use Rattle.std.proofs.Common.{◌≡◌, ◌⊎◌, inl, inr, ℕ, List, subst}
+use Rattle.batch_file.specs.Frames.{IsVersion, RefusesFile}
 use Rattle.batch_file.specs.declared.framing.ReadFault.{ReadFault}
 use Rattle.batch_file.specs.declared.framing.ReadFault.TheVariants.{Memory, Version}
 

@@ -4,8 +4,7 @@ use Rattle.std.specs.Str.{bytes_eq}
 use Rattle.std.specs.String.{string_bytes}
 use Rattle.command_line.specs.declared.call.Call.{Call}
 use Rattle.command_line.specs.declared.call.Call.TheVariants.{Command, State, Service}
-use Rattle.command_line.specs.declared.fault.PerformFault.{PerformFault}
-use Rattle.command_line.specs.declared.fault.PerformFault.TheVariants as faults
+use Rattle.commands.specs.declared.fault.CommandFault.{CommandFault}
 use Rattle.commands.specs.declared.command.Command.TheVariants.{Explain}
 use Rattle.commands.specs.declared.fault.CommandFault.TheVariants.{BadArguments, OutOfMemory}
 use Rattle.start_words.specs.Options.{HookSaid}
@@ -30,24 +29,24 @@ NameCall words (Service service) = IsService words service
 
 -- how names are read: as the call that they name, and as bad arguments where there is none, but for a word behind `start` that
 -- is refused
-abbrev pub AreNamesRead : Arguments → Result Call PerformFault → Type 0
+abbrev pub AreNamesRead : Arguments → Result Call CommandFault → Type 0
 AreNamesRead words (Ok call) = NameCall words call
-AreNamesRead words (Err (faults.Command BadArguments)) = (call : Call) → NameCall words call → ⊥
-AreNamesRead words (Err (faults.Command OutOfMemory)) = ⊤
+AreNamesRead words (Err BadArguments) = (call : Call) → NameCall words call → ⊥
+AreNamesRead words (Err OutOfMemory) = ⊤
 AreNamesRead words (Err fault) = ServiceFails (map string_bytes words) fault
 
 -- what a name means is asked for
-abbrev pub Asks : List ℕ → Result Call PerformFault → Type 0
+abbrev pub Asks : List ℕ → Result Call CommandFault → Type 0
 Asks name (Ok (Command (Explain asked))) = asked.now ≡ name
-Asks name (Err (faults.Command OutOfMemory)) = ⊤
+Asks name (Err OutOfMemory) = ⊤
 Asks name outcome = ⊥
 
 -- how words are read: where they ask about a command, as that, and else as what they name
-abbrev pub IsReading : Option (List ℕ) → Arguments → Result Call PerformFault → Type 0
+abbrev pub IsReading : Option (List ℕ) → Arguments → Result Call CommandFault → Type 0
 IsReading (Some name) words outcome = Asks name outcome
 IsReading None words outcome = AreNamesRead words outcome
 
-abbrev pub AreWordsRead : Arguments → Result Call PerformFault → Type 0
+abbrev pub AreWordsRead : Arguments → Result Call CommandFault → Type 0
 AreWordsRead words outcome = IsReading (helped_by (map string_bytes words)) words outcome
 
 -- words are those of a call

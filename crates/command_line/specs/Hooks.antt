@@ -4,9 +4,8 @@ use Rattle.start_words.specs.Options.{HookSaid, hook_said}
 use Rattle.hook_chain.specs.Chains.{IsInstalled, Named, RefusesInstall}
 use Rattle.hook_host.specs.declared.fault.HookFault.{HookFault}
 use Rattle.hook_host.specs.declared.fault.HookFault.TheVariants as memory
-use Rattle.command_line.specs.declared.fault.PerformFault.{PerformFault}
-use Rattle.command_line.specs.declared.fault.PerformFault.TheVariants.{Command, Hook}
-use Rattle.commands.specs.declared.fault.CommandFault.TheVariants.{CannotRead, OutOfMemory}
+use Rattle.commands.specs.declared.fault.CommandFault.{CommandFault}
+use Rattle.commands.specs.declared.fault.CommandFault.TheVariants.{CannotRead, Hook, OutOfMemory}
 use Rattle.endpoints.specs.Layouts.{version_of}
 use Rattle.image_codec.specs.Facts.{HookFact}
 use Rattle.command_line.specs.declared.hook_files.HookCode.{HookCode}
@@ -58,10 +57,10 @@ pub record HasHookFault (before : List Named) (hook : HookInFile) (fault : HookF
   pub refused : RefusesInstall before hook.said.name hook.said.layout code fault
 
 -- why a hook is not taken: its file cannot be read, or its code is not installed
-abbrev pub RefusesHook : List Named → HookInFile → PerformFault → Type 0
-RefusesHook before hook (Command (CannotRead path)) = (hook.file ≡ None) × (path.now ≡ hook.said.path)
+abbrev pub RefusesHook : List Named → HookInFile → CommandFault → Type 0
+RefusesHook before hook (CannotRead path) = (hook.file ≡ None) × (path.now ≡ hook.said.path)
 RefusesHook before hook (Hook name fault) = (fault ≢ memory.Memory) × (name.now ≡ hook.said.name) × HasHookFault before hook fault
-RefusesHook before hook (Command OutOfMemory) = ⊤
+RefusesHook before hook OutOfMemory = ⊤
 RefusesHook before hook fault = ⊥
 
 -- all are taken, in their order
@@ -70,7 +69,7 @@ TakesHooks before [] after = after ≡ before
 TakesHooks before (hook ∷ hooks) after = (between : List Named) × TakesHook before hook between × TakesHooks between hooks after
 
 -- one is not taken, with this fault, and those before it are
-abbrev pub RefusesHooks : List Named → List HookInFile → PerformFault → Type 0
+abbrev pub RefusesHooks : List Named → List HookInFile → CommandFault → Type 0
 RefusesHooks before [] fault = ⊥
 RefusesHooks before (hook ∷ hooks) fault =
     RefusesHook before hook fault ⊎ ((between : List Named) × TakesHook before hook between × RefusesHooks between hooks fault)

@@ -9,4 +9,3 @@ pub mod Services
 pub mod Startings
 pub mod StateCommands
 pub mod StateEndings
-pub mod Statuses

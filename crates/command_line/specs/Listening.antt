@@ -5,8 +5,7 @@ use Rattle.daemon.specs.Listening.{Announces}
 use Rattle.daemon.specs.declared.fault.ListenFault.{ListenFault}
 use Rattle.commands.specs.NamedFiles.{bytes_in}
 use Rattle.command_line.specs.declared.call_files.CallFiles.{CallFiles}
-use Rattle.command_line.specs.declared.fault.PerformFault.{PerformFault}
-use Rattle.command_line.specs.declared.fault.PerformFault.TheVariants.{Command}
+use Rattle.commands.specs.declared.fault.CommandFault.{CommandFault}
 use Rattle.commands.specs.declared.fault.CommandFault.TheVariants.{OutOfMemory}
 use Rattle.commands.specs.declared.status.Status.{Status}
 use Rattle.commands.specs.declared.status.Status.TheVariants.{Done}
@@ -21,10 +20,11 @@ use Rattle.hook_commands.specs.File.{File}
 use Rattle.command_line.specs.Hooks.{AreFactsOf, HookInFile, in_file, RefusesHooks, TakesHooks}
 use Rattle.hook_chain.specs.Chains.{Named}
 use Rattle.image_codec.specs.Facts.{HookFact}
-use Rattle.commands.specs.Outputs.{IsUntouched, Output, Outputs, Prints}
+use Rattle.commands.specs.Outputs.{IsUntouched, Output, Outputs}
+use Rattle.commands.specs.Performed.{TellsFault}
 use Rattle.command_line.specs.Services.{address_of, config_of}
 use Rattle.command_line.specs.Startings.{EndsStart, Handed, Startings}
-use Rattle.command_line.specs.Statuses.{end_status}
+use Rattle.commands.specs.Statuses.{status_of_command_fault}
 
 -- the file that a call is about, a service's registry, and what stands in those of its hooks
 pub record ServiceFiles : Type 0 where
@@ -37,11 +37,6 @@ files_in files = record { named = files.named; hooks = map in_file files.hooks.i
 -- what stands in the registry's file
 abbrev pub registry_bytes : ServiceFiles → File
 registry_bytes files = bytes_in files.named
-
--- a service has no registry, for this fault
-abbrev pub LacksRegistry : Service → ServiceFiles → PerformFault → Type 0
-LacksRegistry service files (Command fault) = HoldsNoRegistry (config_of service) (registry_bytes files) fault
-LacksRegistry service files fault = ⊥
 
 -- a service's file holds a registry, and it was printed where its server listens
 pub record HasListened {W : Type 0} (file : File) (out : Output W) : Type 0 where
@@ -56,14 +51,14 @@ pub record ServeEnded {W : Type 0} (service : Service) (files : ServiceFiles) (o
   pub service_is : service ≡ Serve given
 
 -- a service's file holds a registry, and its server does not listen at its address, for this fault
-pub record IsDeaf (service : Service) (file : File) (fault : PerformFault) : Type 0 where
+pub record IsDeaf (service : Service) (file : File) (fault : CommandFault) : Type 0 where
   pub registry : RegistryRecord
   pub held : HoldsRegistry file registry
   pub cause : ListenFault
   pub fault_is : IsOfListening (address_of service) cause fault
 
 -- the hooks of `start` are not all taken, and this is the first one's fault
-pub record LacksHook (service : Service) (files : ServiceFiles) (fault : PerformFault) : Type 0 where
+pub record LacksHook (service : Service) (files : ServiceFiles) (fault : CommandFault) : Type 0 where
   pub registry : RegistryRecord
   pub held : HoldsRegistry (registry_bytes files) registry
   pub given : StartWords
@@ -85,42 +80,35 @@ abbrev pub handed : {service : Service} {files : ServiceFiles} → HasAll servic
 handed all = record { registry = all.registry; hooks = all.hooks; codes = all.codes; options = all.given.options }
 
 -- it has, and no socket, or the file of its state is not opened; or memory is refused before
-pub record LacksState (service : Service) (files : ServiceFiles) (fault : PerformFault) : Type 0 where
+pub record LacksState (service : Service) (files : ServiceFiles) (fault : CommandFault) : Type 0 where
   pub all : HasAll service files
   pub path : List ℕ
   pub named : all.given.options.state ≡ Some path
-  pub refused : (fault ≡ Command OutOfMemory) ⊎ IsNotOpened (address_of service) path fault
+  pub refused : (fault ≡ OutOfMemory) ⊎ IsNotOpened (address_of service) path fault
 
 -- why a service serves nothing: its registry comes first, then its hooks, then its socket, and then the file of its state
-abbrev pub CannotServe : Service → ServiceFiles → PerformFault → Type 0
+abbrev pub CannotServe : Service → ServiceFiles → CommandFault → Type 0
 CannotServe service files fault =
-    LacksRegistry service files fault ⊎ LacksHook service files fault ⊎ IsDeaf service (registry_bytes files) fault ⊎ LacksState service files fault
-
--- that is told, and nothing else, and the status is that of the fault
-pub record TellsNoService {E : Type 0} (service : Service) (files : ServiceFiles) (status : Status) (err : Output E) : Type 0 where
-  pub fault : PerformFault
-  pub cause : CannotServe service files fault
-  pub ended : status ≡ end_status fault
-  pub told : Prints err fault
+    HoldsNoRegistry (config_of service) (registry_bytes files) fault ⊎ LacksHook service files fault ⊎ IsDeaf service (registry_bytes files) fault ⊎ LacksState service files fault
 
 -- `start` had all, and its server, on the file of its state where one is named, ended with this fault
-pub record HasEnded {W : Type 0} (starts : Startings) (service : Service) (files : ServiceFiles) (fault : PerformFault) (out : Output W) : Type 0 where
+pub record HasEnded {W : Type 0} (starts : Startings) (service : Service) (files : ServiceFiles) (fault : CommandFault) (out : Output W) : Type 0 where
   pub all : HasAll service files
   pub ends : EndsStart starts all.given.options.state (handed all) fault out
 
 -- A service ends with a fault: it serves nothing, and has told nothing, or its server ended.
-abbrev pub FailsService : {W E : Type 0} → Startings → Service → ServiceFiles → PerformFault → Outputs W E → Type 0
+abbrev pub FailsService : {W E : Type 0} → Startings → Service → ServiceFiles → CommandFault → Outputs W E → Type 0
 FailsService starts service files fault to = (IsUntouched to.err × CannotServe service files fault) ⊎ HasEnded starts service files fault to.out
 
 -- so it did, which is told behind the lines of its journal, and the status is that of the fault
 pub record TellsEnd {W E : Type 0} (starts : Startings) (service : Service) (files : ServiceFiles) (status : Status) (to : Outputs W E) : Type 0 where
-  pub fault : PerformFault
+  pub fault : CommandFault
   pub ended : HasEnded starts service files fault to.out
-  pub status_is : status ≡ end_status fault
+  pub status_is : status ≡ status_of_command_fault fault
   pub behind : E
-  pub told : to.err.prints _ behind fault to.err.new
+  pub told : to.err.writes.prints _ behind fault to.err.new
 
--- A service ends, with what it prints and what it tells: it served, or serves nothing, or its server ended.
+-- A service ends, with what it prints and what it tells: it served, or it is told why it serves nothing, or its server ended.
 abbrev pub EndsService : {W E : Type 0} → Startings → Service → ServiceFiles → Status → Outputs W E → Type 0
 EndsService starts service files status to =
-    ((status ≡ Done) × ServeEnded service files to.out) ⊎ TellsNoService service files status to.err ⊎ TellsEnd starts service files status to
+    ((status ≡ Done) × ServeEnded service files to.out) ⊎ TellsFault (CannotServe service files) status to.err ⊎ TellsEnd starts service files status to

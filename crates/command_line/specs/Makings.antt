@@ -5,9 +5,8 @@ use Rattle.batch_file.specs.Version1.{frames_size_1, recovered_1, torn_size}
 use Rattle.batch_file.specs.declared.framing.ReadFault.TheVariants as reading
 use Rattle.state_file.specs.declared.fault.StateFault.{StateFault}
 use Rattle.state_file.specs.declared.fault.StateFault.TheVariants.{Memory, NotState, Version, Damaged, Full}
-use Rattle.commands.specs.declared.fault.CommandFault.TheVariants as commands
-use Rattle.command_line.specs.declared.fault.PerformFault.{PerformFault}
-use Rattle.command_line.specs.declared.fault.PerformFault.TheVariants.{Command, Unmade, Unopened}
+use Rattle.commands.specs.declared.fault.CommandFault.TheVariants as faults
+use Rattle.commands.specs.declared.fault.CommandFault.{CommandFault}
 use Rattle.command_line.specs.declared.making.Upgraded.{Upgraded}
 
 -- The new file is one of the batches that these bytes of the first kind stand for, of which there is one, and what is behind
@@ -34,15 +33,15 @@ RefusesUpgrade old Full = recovered_1 old ≢ []
 RefusesUpgrade old fault = ⊥
 
 -- why no file is made at the path
-abbrev pub FailsMaking : List ℕ → PerformFault → Type 0
-FailsMaking path (Unmade named fault) = named.now ≡ path
-FailsMaking path (Command commands.OutOfMemory) = ⊤
+abbrev pub FailsMaking : List ℕ → CommandFault → Type 0
+FailsMaking path (faults.Unmade named fault) = named.now ≡ path
+FailsMaking path faults.OutOfMemory = ⊤
 FailsMaking path fault = ⊥
 
 -- why none is made of the file at the path
-abbrev pub FailsUpgrade : List ℕ → List ℕ → PerformFault → Type 0
-FailsUpgrade path new_path (Unopened named fault) = named.now ≡ path
-FailsUpgrade path new_path (Unmade named fault) = named.now ≡ new_path
-FailsUpgrade path new_path (Command (commands.State named fault)) = (named.now ≡ path) × (old : List ℕ) × RefusesUpgrade old fault
-FailsUpgrade path new_path (Command commands.OutOfMemory) = ⊤
+abbrev pub FailsUpgrade : List ℕ → List ℕ → CommandFault → Type 0
+FailsUpgrade path new_path (faults.Unopened named fault) = named.now ≡ path
+FailsUpgrade path new_path (faults.Unmade named fault) = named.now ≡ new_path
+FailsUpgrade path new_path (faults.State named fault) = (named.now ≡ path) × (old : List ℕ) × RefusesUpgrade old fault
+FailsUpgrade path new_path faults.OutOfMemory = ⊤
 FailsUpgrade path new_path fault = ⊥

@@ -6,9 +6,8 @@ use Rattle.start_words.specs.Options.{HookSaid, Said, wrong}
 use Rattle.start_words.specs.Start.{given_by, start_in}
 use Rattle.start_words.specs.declared.words.StartWords.{StartWords}
 use Rattle.event_loop.specs.declared.limits.Limits.{Limits}
-use Rattle.command_line.specs.declared.fault.PerformFault.{PerformFault}
-use Rattle.command_line.specs.declared.fault.PerformFault.TheVariants.{Command, BadWord}
-use Rattle.commands.specs.declared.fault.CommandFault.TheVariants.{OutOfMemory}
+use Rattle.commands.specs.declared.fault.CommandFault.{CommandFault}
+use Rattle.commands.specs.declared.fault.CommandFault.TheVariants.{BadWord, OutOfMemory}
 use Rattle.command_line.specs.declared.service.ServeWords.{ServeWords}
 use Rattle.command_line.specs.declared.service.Service.{Service}
 use Rattle.command_line.specs.declared.service.Service.TheVariants.{Serve, Start}
@@ -32,9 +31,9 @@ abbrev pub GiveStart : List (List ℕ) → StartWords → Type 0
 GiveStart words given = start_in words ≡ Ok (given_by given)
 
 -- why a word behind `start` is refused; memory may be wanted, too
-abbrev pub StartFails : List (List ℕ) → PerformFault → Type 0
+abbrev pub StartFails : List (List ℕ) → CommandFault → Type 0
 StartFails words (BadWord word fault) = start_in words ≡ Err (wrong word.now fault)
-StartFails words (Command OutOfMemory) = ⊤
+StartFails words OutOfMemory = ⊤
 StartFails words fault = ⊥
 
 -- words name a service: its name, and what it is given
@@ -50,8 +49,8 @@ abbrev pub IsNoService : Arguments → Type 0
 IsNoService words = (service : Service) → NameService (map string_bytes words) service → ⊥
 
 -- why words that begin with a service's name are refused
-abbrev pub ServiceFails : List (List ℕ) → PerformFault → Type 0
-ServiceFails words (Command OutOfMemory) = ⊤
+abbrev pub ServiceFails : List (List ℕ) → CommandFault → Type 0
+ServiceFails words OutOfMemory = ⊤
 ServiceFails (name ∷ words) (BadWord word fault) = (name ≡ codes "start") × StartFails words (BadWord word fault)
 ServiceFails words fault = ⊥
 

@@ -14,15 +14,14 @@ use Rattle.daemon.specs.declared.starting.StateTerms.{StateTerms}
 use Rattle.daemon.specs.declared.starting.Terms.{Terms}
 use Rattle.event_loop.specs.declared.fault.LoopFault.{LoopFault}
 use Rattle.event_loop.specs.declared.journal.Journal.{Ghosts as Journal}
-use Rattle.event_loop.specs.declared.limits.Limits.{Limits}
 use Rattle.hook_chain.specs.Chains.{Named}
 use Rattle.image_codec.specs.Facts.{HookFact, hook_fact}
 use Rattle.lifetime.specs.declared.life.LifeEnd.{LifeEnd}
 use Rattle.start_words.specs.Options.{Said, clock_limit}
 use Rattle.command_line.specs.Faults.{IsOfEnd}
 use Rattle.command_line.specs.Services.{limits_of}
-use Rattle.command_line.specs.declared.fault.PerformFault.{PerformFault}
-use Rattle.command_line.specs.declared.fault.PerformFault.TheVariants.{Stopped}
+use Rattle.commands.specs.declared.fault.CommandFault.{CommandFault}
+use Rattle.commands.specs.declared.fault.CommandFault.TheVariants.{Stopped}
 
 -- what a server is started with: its registry, its hooks as they stand in their chain, the code of each, and its options
 pub record Handed : Type 0 where
@@ -45,12 +44,12 @@ startings {R} {E} disk journal = record {
 }
 
 -- it is started anew, prints where it listens, and serves
-abbrev pub EndsAnew : {W : Type 0} → Startings → HandedAnew → PerformFault → Output W → Type 0
+abbrev pub EndsAnew : {W : Type 0} → Startings → HandedAnew → CommandFault → Output W → Type 0
 EndsAnew starts handed fault out =
-    (cause : LoopFault) × starts.anew handed cause × (fault ≡ Stopped cause) × Announces (out.seen out.old) (out.seen out.new)
+    (cause : LoopFault) × starts.anew handed cause × (fault ≡ Stopped cause None) × Announces (out.seen out.old) (out.seen out.new)
 
 -- it is started on the file at the path, and prints where it listens, once it serves
-abbrev pub EndsOn : {W : Type 0} → Startings → List ℕ → HandedOn → PerformFault → Output W → Type 0
+abbrev pub EndsOn : {W : Type 0} → Startings → List ℕ → HandedOn → CommandFault → Output W → Type 0
 EndsOn starts path handed fault out = (end : LifeEnd) × starts.on_state handed end × IsOfEnd path end fault × IsToldBy out.seen out.old end out.new
 
 -- what a server is handed by a registry, by where and how it serves, and by the file of its state
@@ -58,7 +57,7 @@ abbrev pub handed_by : RegistryRecord → Terms → StateTerms → HandedOn
 handed_by registry terms state = handed_on registry (map hook_fact state.hooks.now) terms.limits state.ahead
 
 -- the one or the other, by the path of that file
-abbrev pub EndsStart : {W : Type 0} → Startings → Option (List ℕ) → Handed → PerformFault → Output W → Type 0
+abbrev pub EndsStart : {W : Type 0} → Startings → Option (List ℕ) → Handed → CommandFault → Output W → Type 0
 EndsStart starts None handed fault out = EndsAnew starts (handed_anew handed.registry handed.hooks (limits_of handed.options)) fault out
 EndsStart starts (Some path) handed fault out =
     EndsOn starts path (handed_on handed.registry handed.codes (limits_of handed.options) (clock_limit handed.options.clock)) fault out

@@ -1,20 +1,17 @@
 -- How the commands on a state file end.
-use Rattle.std.specs.Prelude.{◌≡◌, ◌⊎◌, ⊤, ℕ, List, [], Option, None, unwrap_or}
+use Rattle.std.specs.Prelude.{◌≡◌, ◌⊎◌, ⊤, ℕ, List, [], unwrap_or}
 use Rattle.clients.specs.RegistryRecord.{RegistryRecord}
 use Rattle.hook_commands.specs.File.{File}
-use Rattle.state_file.specs.declared.fault.StateFault.{StateFault}
 use Rattle.commands.specs.Config.{HoldsNoRegistry, HoldsRegistry}
 use Rattle.commands.specs.Outputs.{IsUntouched, Output, Outputs, Prints}
+use Rattle.commands.specs.Performed.{TellsFault}
 use Rattle.commands.specs.declared.fault.CommandFault.{CommandFault}
-use Rattle.commands.specs.declared.fault.CommandFault.TheVariants as commands
+use Rattle.commands.specs.declared.fault.CommandFault.TheVariants as faults
 use Rattle.commands.specs.declared.status.Status.{Status}
 use Rattle.commands.specs.declared.status.Status.TheVariants.{Done}
 use Rattle.command_line.specs.Makings.{FailsMaking, FailsUpgrade, IsUpgrade}
 use Rattle.command_line.specs.declared.making.Upgraded.{Upgraded}
 use Rattle.lifetime.specs.Plans.{IsPlanOf, RefusesPlan}
-use Rattle.command_line.specs.Statuses.{end_status}
-use Rattle.command_line.specs.declared.fault.PerformFault.{PerformFault}
-use Rattle.command_line.specs.declared.fault.PerformFault.TheVariants.{Command}
 use Rattle.lifetime.specs.declared.plan.Plan.{Plan}
 use Rattle.command_line.specs.declared.state_command.StateCommand.{StateCommand}
 use Rattle.command_line.specs.declared.state_performing.LeftOut.{LeftOut}
@@ -33,19 +30,18 @@ pub record IsTrial (config : File) (ended : ℕ) : Type 0 where
 
 -- why a start would not go on on the state file: that can't be read, or it is refused
 abbrev pub RefusesTrial : RegistryRecord → List ℕ → CommandFault → Type 0
-RefusesTrial rules path (commands.CannotRead named) = named.now ≡ path
-RefusesTrial rules path (commands.State named cause) = (named.now ≡ path) × (bytes : List ℕ) × RefusesPlan rules [] bytes cause
-RefusesTrial rules path commands.OutOfMemory = ⊤
+RefusesTrial rules path (faults.CannotRead named) = named.now ≡ path
+RefusesTrial rules path (faults.State named cause) = (named.now ≡ path) × (bytes : List ℕ) × RefusesPlan rules [] bytes cause
+RefusesTrial rules path faults.OutOfMemory = ⊤
 RefusesTrial rules path fault = ⊥
 
 -- or the registry's file holds none
-abbrev pub FailsTrial : List ℕ → File → List ℕ → PerformFault → Type 0
-FailsTrial config file path (Command fault) =
+abbrev pub FailsTrial : List ℕ → File → List ℕ → CommandFault → Type 0
+FailsTrial config file path fault =
     HoldsNoRegistry config file fault ⊎ ((registry : RegistryRecord) × HoldsRegistry file registry × RefusesTrial registry path fault)
-FailsTrial config file path fault = ⊥
 
 -- why a command does nothing
-abbrev pub FailsStateCommand : StateCommand → File → PerformFault → Type 0
+abbrev pub FailsStateCommand : StateCommand → File → CommandFault → Type 0
 FailsStateCommand (New path) file fault = FailsMaking path.now fault
 FailsStateCommand (Upgrade path new_path) file fault = FailsUpgrade path.now new_path.now fault
 FailsStateCommand (Trial config path) file fault = FailsTrial config.now file path.now fault
@@ -69,14 +65,7 @@ TellsDone (New path) file to = IsUntouched to.out × IsUntouched to.err
 TellsDone (Upgrade path new_path) file to = IsUntouched to.out × (made : Upgraded) × IsUpgrade made × IsUpgradeTold made.torn to.err
 TellsDone (Trial config path) file to = IsUntouched to.err × (ended : ℕ) × IsTrial file ended × Prints to.out (would_end ended)
 
--- why it is not done is told, and the status is that of the fault
-pub record TellsFailure {W E : Type 0} (command : StateCommand) (file : File) (status : Status) (to : Outputs W E) : Type 0 where
-  pub fault : PerformFault
-  pub cause : FailsStateCommand command file fault
-  pub unprinted : IsUntouched to.out
-  pub ended : status ≡ end_status fault
-  pub told : Prints to.err fault
-
--- a command on a state file ends, where this is the registry's file
+-- a command on a state file ends, where this is the registry's file: it is done, or it is told why not, and nothing is printed
 abbrev pub EndsStateCommand : {W E : Type 0} → StateCommand → File → Status → Outputs W E → Type 0
-EndsStateCommand command file status to = ((status ≡ Done) × TellsDone command file to) ⊎ TellsFailure command file status to
+EndsStateCommand command file status to =
+    ((status ≡ Done) × TellsDone command file to) ⊎ (IsUntouched to.out × TellsFault (FailsStateCommand command file) status to.err)

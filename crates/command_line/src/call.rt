@@ -5,7 +5,6 @@ ghost use Rattle.std.specs.Option.{option_copied};
 ghost use Rattle.start_words.specs.Options.{hook_said};
 ghost use Rattle.command_line.specs.Calls.{asks_help, file_of, helped_by, hooks_named_by, AreNamesRead, AreWordsRead};
 
-use crate::fault::PerformFault;
 use crate::service::Service;
 use crate::state_command::StateCommand;
 use commands::{Command, CommandFault};
@@ -45,7 +44,7 @@ fn helped<'w>(words: &'w [String]) -> Option<&'w str>
 
 impl<'w> Call<'w> {
     /// What words call for: those behind the program's name. They are read here alone.
-    pub fn from_words(alloc: Global, words: &'w [String]) -> Result<Call<'w>, PerformFault<'w>>
+    pub fn from_words(alloc: Global, words: &'w [String]) -> Result<Call<'w>, CommandFault<'w>>
         ensures { AreWordsRead words.now result }
     {
         match helped(words) {
@@ -55,7 +54,7 @@ impl<'w> Call<'w> {
     }
 
     // What words name that ask for no help.
-    fn named(alloc: Global, words: &'w [String]) -> Result<Call<'w>, PerformFault<'w>>
+    fn named(alloc: Global, words: &'w [String]) -> Result<Call<'w>, CommandFault<'w>>
         ensures { AreNamesRead words.now result }
     {
         if let Some(service) = Service::from_words(alloc, words)? {
@@ -66,7 +65,7 @@ impl<'w> Call<'w> {
         }
         match Command::from_words(words) {
             Some(command) => Ok(Call::Command(command)),
-            None => Err(PerformFault::Command(CommandFault::BadArguments)),
+            None => Err(CommandFault::BadArguments),
         }
     }
 

@@ -4,13 +4,11 @@ ghost use Rattle.std.specs.Prelude.{◌≡◌, IfOk, IfErr};
 ghost use Rattle.command_line.specs.Calls.{hooks_named_by};
 ghost use Rattle.command_line.specs.Hooks.{said_of};
 ghost use Rattle.command_line.specs.Listening.{files_in};
-ghost use Rattle.command_line.specs.declared.fault.PerformFault.TheVariants.{Command};
 ghost use Rattle.commands.specs.declared.fault.CommandFault.TheVariants.{OutOfMemory};
 
 use crate::call::Call;
-use crate::fault::PerformFault;
 use crate::hook_files::{HookRead, read_hooks};
-use commands::{NamedFile, file_at};
+use commands::{CommandFault, NamedFile, file_at};
 use std::rt::Files;
 
 /// The files that a call names.
@@ -26,9 +24,9 @@ pub struct CallFiles<'w> {
 pub fn read_files<'w>(
     rt: &(impl Files + AllocGlobal),
     call: &Call<'w>,
-) -> Result<CallFiles<'w>, PerformFault<'static>>
+) -> Result<CallFiles<'w>, CommandFault<'static>>
     ensures hooks { IfOk result (λ files. said_of (files_in files).hooks ≡ hooks_named_by call.now) }
-    ensures memory { IfErr result (λ fault. fault ≡ Command OutOfMemory) }
+    ensures memory { IfErr result (λ fault. fault ≡ OutOfMemory) }
 {
     let named = file_at(rt, call.file())?;
     let hooks = read_hooks(rt, call.hooks())?;

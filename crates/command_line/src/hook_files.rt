@@ -5,10 +5,8 @@ ghost use Rattle.endpoints.specs.Layouts.{version_of};
 ghost use Rattle.image_codec.specs.Facts.{hook_fact};
 ghost use Rattle.start_words.specs.Options.{hook_said};
 ghost use Rattle.command_line.specs.Hooks.{AreFactsOf, hook_fact_of, HoldsCode, in_file, IsFactOf, RefusesHook, RefusesHooks, said_of, TakesHook, TakesHooks};
-ghost use Rattle.command_line.specs.declared.fault.PerformFault.TheVariants.{Command};
 ghost use Rattle.commands.specs.declared.fault.CommandFault.TheVariants.{OutOfMemory};
 
-use crate::fault::PerformFault;
 use commands::{CommandFault, bytes_at};
 use consent::RecordVersion;
 use hook_chain::Chain;
@@ -33,15 +31,15 @@ pub struct HookRead<'w> {
 pub fn read_hooks<'w>(
     rt: &(impl Files + AllocGlobal),
     hooks: &[HookFile<'w>],
-) -> Result<Vec<HookRead<'w>>, PerformFault<'static>>
+) -> Result<Vec<HookRead<'w>>, CommandFault<'static>>
     ensures read { IfOk result (λ all. said_of (map in_file all.items) ≡ map hook_said hooks.now) }
-    ensures memory { IfErr result (λ fault. fault ≡ Command OutOfMemory) }
+    ensures memory { IfErr result (λ fault. fault ≡ OutOfMemory) }
 {
     let mut all = Vec::new(rt.alloc());
     for hook in hooks {
         let bytes = bytes_at(rt, hook.path)?;
         let Ok(()) = all.push(HookRead { hook: *hook, bytes }) else {
-            return Err(PerformFault::Command(CommandFault::OutOfMemory));
+            return Err(CommandFault::OutOfMemory);
         };
     }
     Ok(all)
@@ -103,20 +101,20 @@ fn install<'w>(
     alloc: Global,
     chain: &mut Chain,
     read: &HookRead<'w>,
-) -> Result<HookCode<'w>, PerformFault<'w>>
+) -> Result<HookCode<'w>, CommandFault<'w>>
     ensures done { OnOk result (TakesHook chain.old (in_file read.now) chain.new) }
     ensures coded { IfOk result (λ installed. IsFactOf (in_file read.now) (hook_fact_of installed)) }
     ensures refused { IfErr result (RefusesHook chain.old (in_file read.now)) }
 {
     let hook = read.hook;
     let Some(file) = &read.bytes else {
-        return Err(PerformFault::Command(CommandFault::CannotRead(hook.path)));
+        return Err(CommandFault::CannotRead(hook.path));
     };
     let code = code_in(alloc, file)?;
     match chain.install(hook.name, hook.layout, &code) {
         Ok(()) => Ok(HookCode { hook, code }),
-        Err(HookFault::Memory) => Err(PerformFault::Command(CommandFault::OutOfMemory)),
-        Err(fault) => Err(PerformFault::Hook(hook.name, fault)),
+        Err(HookFault::Memory) => Err(CommandFault::OutOfMemory),
+        Err(fault) => Err(CommandFault::Hook(hook.name, fault)),
     }
 }
 
@@ -124,7 +122,7 @@ fn install<'w>(
 pub fn take_hooks<'w>(
     alloc: Global,
     hooks: &[HookRead<'w>],
-) -> Result<HooksTaken<'w>, PerformFault<'w>>
+) -> Result<HooksTaken<'w>, CommandFault<'w>>
     ensures taken { IfOk result (λ taken. TakesHooks [] (map in_file hooks.now) taken.chain) }
     ensures coded { IfOk result (λ taken. AreFactsOf (map in_file hooks.now) (map hook_fact_of taken.codes.items)) }
     ensures refused { IfErr result (RefusesHooks [] (map in_file hooks.now)) }
@@ -134,7 +132,7 @@ pub fn take_hooks<'w>(
     for read in hooks {
         let code = install(alloc, &mut chain, read)?;
         let Ok(()) = codes.push(code) else {
-            return Err(PerformFault::Command(CommandFault::OutOfMemory));
+            return Err(CommandFault::OutOfMemory);
         };
     }
     Ok(HooksTaken { chain, codes })

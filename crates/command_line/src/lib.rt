@@ -3,12 +3,11 @@
 //! `call` is what words call for: a command that answers, of crate `commands`, or a `service`, which serves connections.
 //! `call_files` reads the files that a call names, `hook_files` those of the hooks that `start` names, and takes them. A
 //! `state_command` makes a state file (`making`), or tries a start on one. `performing` does all of it, words in, lines and a
-//! status out; `fault` is why it is not done, and `stopping` what the faults of a server are to it.
+//! status out; `stopping` is what the faults of a server are to it.
 #![tactic(auto)]
 
 mod call;
 mod call_files;
-mod fault;
 mod hook_files;
 mod making;
 mod performing;
@@ -19,10 +18,9 @@ mod stopping;
 
 pub use call::Call;
 pub use call_files::{CallFiles, read_files};
-pub use fault::PerformFault;
 pub use hook_files::HookRead;
 pub use making::Upgraded;
-pub use performing::{perform, perform_service, told};
+pub use performing::{perform, perform_service};
 pub use service::{ServeWords, Service};
 pub use state_command::StateCommand;
 pub use state_performing::perform_state;

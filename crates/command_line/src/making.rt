@@ -4,7 +4,6 @@ ghost use Rattle.std.specs.Prelude.{◌≡◌, ◌≢◌, [], true, false, IfOk,
 ghost use Rattle.batch_file.specs.Frames.{IsReadable, lists, recovered};
 ghost use Rattle.command_line.specs.Makings.{FailsMaking, FailsUpgrade, IsUpgrade, IsUpgradeOf, RefusesUpgrade};
 
-use crate::fault::PerformFault;
 use batch_file::disk_file::{DiskFile, MakeFault, OpenFault, make};
 use batch_file::frames::{AddFault, Frames};
 use batch_file::framing::{ReadFault, read_batches};
@@ -69,14 +68,14 @@ fn write_new<'w, R: Files<File = File> + AllocGlobal>(
     rt: &R,
     path: &'w str,
     bytes: Vec<u8>,
-) -> Result<Vec<u8>, PerformFault<'w>>
+) -> Result<Vec<u8>, CommandFault<'w>>
     ensures written { IfOk result (λ written. written ≡ bytes) }
     ensures refused { IfErr result (FailsMaking path.now) }
 {
     match make(rt, path, &bytes) {
         Ok(()) => Ok(bytes),
-        Err(MakeFault::Memory) => Err(PerformFault::Command(CommandFault::OutOfMemory)),
-        Err(fault) => Err(PerformFault::Unmade(path, fault)),
+        Err(MakeFault::Memory) => Err(CommandFault::OutOfMemory),
+        Err(fault) => Err(CommandFault::Unmade(path, fault)),
     }
 }
 
@@ -84,7 +83,7 @@ fn write_new<'w, R: Files<File = File> + AllocGlobal>(
 pub fn make_new<'w, R: Files<File = File> + AllocGlobal>(
     rt: &R,
     path: &'w str,
-) -> Result<Vec<u8>, PerformFault<'w>>
+) -> Result<Vec<u8>, CommandFault<'w>>
     ensures written { IfOk result (λ written. IsReadable written.items) }
     ensures none { IfOk result (λ written. recovered written.items ≡ []) }
     ensures refused { IfErr result (FailsMaking path.now) }
@@ -100,21 +99,21 @@ pub fn upgrade<'w, R: Files<File = File> + AllocGlobal>(
     rt: &R,
     path: &'w str,
     new_path: &'w str,
-) -> Result<Upgraded, PerformFault<'w>>
+) -> Result<Upgraded, CommandFault<'w>>
     ensures written { IfOk result IsUpgrade }
     ensures refused { IfErr result (FailsUpgrade path.now new_path.now) }
 {
     let alloc = rt.alloc();
     let opened = match DiskFile::open(rt, path) {
         Ok(opened) => opened,
-        Err(OpenFault::Memory) => return Err(PerformFault::Command(CommandFault::OutOfMemory)),
-        Err(fault) => return Err(PerformFault::Unopened(path, fault)),
+        Err(OpenFault::Memory) => return Err(CommandFault::OutOfMemory),
+        Err(fault) => return Err(CommandFault::Unopened(path, fault)),
     };
     match upgrade_of(alloc, &opened.bytes) {
         Ok(Upgraded { bytes, torn }) => {
             let bytes = write_new(rt, new_path, bytes)?;
             Ok(Upgraded { bytes, torn })
         }
-        Err(fault) => Err(PerformFault::from(CommandFault::of_state(path, fault))),
+        Err(fault) => Err(CommandFault::of_state(path, fault)),
     }
 }

@@ -2,17 +2,17 @@
 
 ghost use Rattle.std.specs.Prelude.{◌≡◌, ◌⊎◌, OnOk, IfErr};
 ghost use Rattle.daemon.specs.Starts.{handed_anew};
-ghost use Rattle.command_line.specs.Endings.{EndsCall, EndsWords, IsTold};
+ghost use Rattle.command_line.specs.Endings.{EndsCall, EndsWords};
 ghost use Rattle.command_line.specs.Faults.{IsNotOpened, IsOfListening};
 ghost use Rattle.daemon.specs.Listening.{Announces};
 ghost use Rattle.command_line.specs.Listening.{EndsService, FailsService, files_in, ServeEnded};
 ghost use Rattle.commands.specs.Outputs.{output, outputs};
+ghost use Rattle.commands.specs.Performed.{IsUnwritten};
 ghost use Rattle.command_line.specs.Services.{limits_of};
 ghost use Rattle.command_line.specs.Startings.{EndsAnew, EndsOn, handed_by, startings};
 
 use crate::call::Call;
 use crate::call_files::{CallFiles, read_files};
-use crate::fault::PerformFault;
 use crate::hook_files::{HooksTaken, kept_hooks, take_hooks};
 use crate::service::{ServeWords, Service};
 use crate::state_performing::perform_state;
@@ -20,7 +20,7 @@ use crate::stopping::{deaf, end_of, unopened};
 use batch_file::device::Device;
 use batch_file::disk_file::DiskFile;
 use clients::Registry;
-use commands::{Printer, Status, moment_now, perform_command, registry_of};
+use commands::{CommandFault, Printer, Status, moment_now, perform_command, registry_of, told};
 use daemon::{LineJournal, ListenFault, OpeningFault, StateTerms, Terms, serve, start, start_on};
 use event_loop::{Journal, Limits};
 use hook_chain::Chain;
@@ -32,16 +32,6 @@ use std::rt::{Clock, Files};
 
 /// What faults and reports are told to, as lines.
 type Lines<'e, E> = LineJournal<'e, E>;
-
-/// Tells a fault in one line, and says how the program then ends. A write that fails is bad use.
-pub fn told<E: Printer>(fault: PerformFault<'_>, err: &mut E) -> Status
-    ensures { (result ≡ Status.BadUse) ⊎ IsTold fault.entry result (output E.contents E.prints err.old err.new) }
-{
-    match err.print(&fault) {
-        Ok(()) => fault.status(),
-        Err(_) => Status::BadUse,
-    }
-}
 
 /// The limits by which options say that a server serves.
 fn limits_of(options: &Options<'_>) -> Limits
@@ -63,7 +53,7 @@ fn serve_count<'w, R: Net + Clock + AllocGlobal, W: Printer>(
     given: &ServeWords<'w>,
     registry: Registry,
     out: &mut W,
-) -> Result<(), PerformFault<'w>>
+) -> Result<(), CommandFault<'w>>
     ensures done { OnOk result (Announces (W.contents out.old) (W.contents out.new)) }
     ensures refused { IfErr result (λ fault. (cause : ListenFault) × IsOfListening given.now.address.now cause fault) }
 {
@@ -88,13 +78,13 @@ fn start_anew<
     hooks: Chain,
     out: &mut W,
     err: &mut E,
-) -> PerformFault<'w>
+) -> CommandFault<'w>
     ensures { ((err.new ≡ err.old) × (cause : ListenFault) × IsOfListening terms.entry.address.now cause result)
         ⊎ EndsAnew (startings ⟦<DiskFile<'r, R> as Device>⟧ ⟦<Lines<'e, E> as Journal>⟧)
-        (handed_anew registry hooks terms.entry.limits) result (output W.contents W.prints out.old out.new) }
+        (handed_anew registry hooks terms.entry.limits) result (output W.contents W.writes out.old out.new) }
 {
     match start(rt, terms, registry, hooks, out, err) {
-        Ok(served) => PerformFault::Stopped(served.fault),
+        Ok(served) => CommandFault::Stopped(served.fault, None),
         Err(fault) => deaf(terms.address, fault),
     }
 }
@@ -114,10 +104,10 @@ fn start_on_state<
     registry: Registry,
     out: &mut W,
     err: &mut E,
-) -> PerformFault<'w>
+) -> CommandFault<'w>
     ensures { ((err.new ≡ err.old) × IsNotOpened terms.entry.address.now state.entry.path.now result)
         ⊎ EndsOn (startings ⟦<DiskFile<'r, R> as Device>⟧ ⟦<Lines<'e, E> as Journal>⟧) state.entry.path.now
-        (handed_by registry terms.entry state.entry) result (output W.contents W.prints out.old out.new) }
+        (handed_by registry terms.entry state.entry) result (output W.contents W.writes out.old out.new) }
 {
     match start_on(rt, terms, state, registry, out, err) {
         Ok(lived) => end_of(state.path, lived.end),
@@ -139,12 +129,12 @@ fn serve_as<
     files: CallFiles<'w>,
     out: &mut W,
     err: &mut E,
-) -> Result<(), PerformFault<'w>>
-    ensures done { OnOk result (ServeEnded service.now (files_in files.entry) (output W.contents W.prints out.old out.new)) }
+) -> Result<(), CommandFault<'w>>
+    ensures done { OnOk result (ServeEnded service.now (files_in files.entry) (output W.contents W.writes out.old out.new)) }
     ensures fault { IfErr result (λ fault.
         FailsService (startings ⟦<DiskFile<'r, R> as Device>⟧ ⟦<Lines<'e, E> as Journal>⟧)
         service.now (files_in files.entry) fault
-        (outputs (output W.contents W.prints out.old out.new) (output E.contents E.prints err.old err.new))) }
+        (outputs (output W.contents W.writes out.old out.new) (output E.contents E.writes err.old err.new))) }
 {
     let CallFiles { named, hooks } = files;
     let registry = registry_of(rt.alloc(), service.config(), named)?;
@@ -178,11 +168,9 @@ pub fn perform_service<
     W: Printer,
     E: Printer + 'e,
 >(rt: &'r R, service: &Service<'_>, files: CallFiles<'_>, out: &mut W, err: &mut E) -> Status
-    // Bad use may be that of a fault that could not be told.
-    ensures { (result ≡ Status.BadUse)
-        ⊎ EndsService (startings ⟦<DiskFile<'r, R> as Device>⟧ ⟦<Lines<'e, E> as Journal>⟧)
-        service.now (files_in files.entry) result
-        (outputs (output W.contents W.prints out.old out.new) (output E.contents E.prints err.old err.new)) }
+    ensures { let to = outputs (output W.contents W.writes out.old out.new) (output E.contents E.writes err.old err.new) in
+        IsUnwritten result to ⊎ EndsService (startings ⟦<DiskFile<'r, R> as Device>⟧ ⟦<Lines<'e, E> as Journal>⟧)
+        service.now (files_in files.entry) result to }
 {
     match serve_as(rt, service, files, out, err) {
         Ok(()) => Status::Done,
@@ -198,11 +186,9 @@ fn perform_call<
     W: Printer,
     E: Printer + 'e,
 >(rt: &'r R, call: &Call<'_>, files: CallFiles<'_>, out: &mut W, err: &mut E) -> Status
-    // Bad use may be that of a write that failed.
-    ensures { (result ≡ Status.BadUse)
-        ⊎ EndsCall (startings ⟦<DiskFile<'r, R> as Device>⟧ ⟦<Lines<'e, E> as Journal>⟧)
-        call.now (files_in files.entry) result
-        (outputs (output W.contents W.prints out.old out.new) (output E.contents E.prints err.old err.new)) }
+    ensures { let to = outputs (output W.contents W.writes out.old out.new) (output E.contents E.writes err.old err.new) in
+        IsUnwritten result to ⊎ EndsCall (startings ⟦<DiskFile<'r, R> as Device>⟧ ⟦<Lines<'e, E> as Journal>⟧)
+        call.now (files_in files.entry) result to }
 {
     match call {
         Call::Command(command) => {
@@ -223,10 +209,9 @@ pub fn perform<
     W: Printer,
     E: Printer + 'e,
 >(rt: &'r R, words: &[String], out: &mut W, err: &mut E) -> Status
-    // Bad use may be that of a write that failed.
-    ensures { (result ≡ Status.BadUse)
-        ⊎ EndsWords (startings ⟦<DiskFile<'r, R> as Device>⟧ ⟦<Lines<'e, E> as Journal>⟧)
-        words.now result (outputs (output W.contents W.prints out.old out.new) (output E.contents E.prints err.old err.new)) }
+    ensures { let to = outputs (output W.contents W.writes out.old out.new) (output E.contents E.writes err.old err.new) in
+        IsUnwritten result to ⊎ EndsWords (startings ⟦<DiskFile<'r, R> as Device>⟧ ⟦<Lines<'e, E> as Journal>⟧)
+        words.now result to }
 {
     let call = match Call::from_words(rt.alloc(), words) {
         Ok(call) => call,

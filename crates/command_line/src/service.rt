@@ -1,10 +1,9 @@
 //! The commands that serve connections, and what their words give them.
 
-ghost use Rattle.std.specs.Prelude.{◌≡◌, ◌∷◌, ℕ, List, map, IfOk, IfErr, IfSome, IfNone, string_bytes};
+ghost use Rattle.std.specs.Prelude.{◌≡◌, ℕ, List, map, IfOk, IfErr, IfSome, IfNone, string_bytes};
 ghost use Rattle.start_words.specs.Options.{hook_said};
 ghost use Rattle.command_line.specs.Services.{config_of, GiveServe, GiveStart, hooks_installed, IsNoService, IsSeed, IsService, ServiceFails, StartFails};
 
-use crate::fault::PerformFault;
 use commands::CommandFault;
 use hook_commands::bytes_of_hex;
 use start_words::{HookFile, StartFault, StartWords, number_said};
@@ -69,7 +68,7 @@ fn serve_given<'w>(alloc: Global, words: &'w [String]) -> Result<Option<ServeWor
 fn start_given<'w>(
     alloc: Global,
     words: &'w [String],
-) -> Result<Option<StartWords<'w>>, PerformFault<'w>>
+) -> Result<Option<StartWords<'w>>, CommandFault<'w>>
     ensures some { IfOk result (λ o. IfSome o (GiveStart (map string_bytes words.now))) }
     ensures none { IfOk result (λ o. IfNone o ((given : StartWords) → GiveStart (map string_bytes words.now) given → ⊥)) }
     ensures refused { IfErr result (StartFails (map string_bytes words.now)) }
@@ -77,8 +76,8 @@ fn start_given<'w>(
     match StartWords::read(alloc, words) {
         Ok(given) => Ok(Some(given)),
         Err(StartFault::BadWords) => Ok(None),
-        Err(StartFault::Word { word, fault }) => Err(PerformFault::BadWord(word, fault)),
-        Err(StartFault::Memory) => Err(PerformFault::Command(CommandFault::OutOfMemory)),
+        Err(StartFault::Word { word, fault }) => Err(CommandFault::BadWord(word, fault)),
+        Err(StartFault::Memory) => Err(CommandFault::OutOfMemory),
     }
 }
 
@@ -87,7 +86,7 @@ impl<'w> Service<'w> {
     pub fn from_words(
         alloc: Global,
         words: &'w [String],
-    ) -> Result<Option<Service<'w>>, PerformFault<'w>>
+    ) -> Result<Option<Service<'w>>, CommandFault<'w>>
         ensures named { IfOk result (λ o. IfSome o (IsService words.now)) }
         ensures none { IfOk result (λ o. IfNone o (IsNoService words.now)) }
         ensures refused { IfErr result (ServiceFails (map string_bytes words.now)) }

@@ -2,16 +2,13 @@
 
 ghost use Rattle.std.specs.Prelude.{◌≡◌, ◌⊎◌, IfOk, IfErr};
 ghost use Rattle.commands.specs.NamedFiles.{bytes_in};
-ghost use Rattle.commands.specs.Outputs.{output, outputs, Prints};
+ghost use Rattle.commands.specs.Outputs.{output, outputs, IsUntouched, Prints};
+ghost use Rattle.commands.specs.Performed.{IsUntold, IsUnwritten};
 ghost use Rattle.command_line.specs.StateEndings.{would_end, EndsStateCommand, FailsTrial, IsTrial, IsUpgradeTold};
 
-use crate::fault::PerformFault;
 use crate::making::{make_new, upgrade};
-use crate::performing::told;
 use crate::state_command::StateCommand;
-use commands::{
-    CommandFault, NamedFile, Printer, Status, Unwritten, bytes_at, failed, registry_of,
-};
+use commands::{CommandFault, NamedFile, Printer, Status, bytes_at, registry_of, told};
 use lifetime::plan_of;
 use std::fmt::{self, Display, Formatter, Write};
 use std::fs::File;
@@ -55,25 +52,26 @@ fn ended_by<'w, R: Files<File = File> + AllocGlobal>(
     config: &'w str,
     file: Option<NamedFile>,
     path: &'w str,
-) -> Result<usize, PerformFault<'w>>
+) -> Result<usize, CommandFault<'w>>
     ensures done { IfOk result (IsTrial (bytes_in file)) }
     ensures refused { IfErr result (FailsTrial config.now (bytes_in file) path.now) }
 {
     let alloc = rt.alloc();
     let registry = registry_of(alloc, config, file)?;
     let Some(bytes) = bytes_at(rt, path)? else {
-        return Err(PerformFault::Command(CommandFault::CannotRead(path)));
+        return Err(CommandFault::CannotRead(path));
     };
     match plan_of(alloc, &bytes, registry, &[]) {
         Ok(plan) => Ok(plan.ended.unwrap_or(0)),
-        Err(fault) => Err(PerformFault::from(CommandFault::of_state(path, fault))),
+        Err(fault) => Err(CommandFault::of_state(path, fault)),
     }
 }
 
 /// Tells how many bytes of an unfinished write are left out of a new file, where there are some, and says how the program then
 /// ends. A write that fails is bad use.
 fn told_upgrade<E: Printer>(torn: usize, err: &mut E) -> Status
-    ensures { (result ≡ Status.BadUse) ⊎ ((result ≡ Status.Done) × IsUpgradeTold torn (output E.contents E.prints err.old err.new)) }
+    ensures { let to = output E.contents E.writes err.old err.new in
+        IsUntold result to ⊎ ((result ≡ Status.Done) × IsUpgradeTold torn to) }
 {
     if torn == 0 {
         return Status::Done;
@@ -86,12 +84,12 @@ fn told_upgrade<E: Printer>(torn: usize, err: &mut E) -> Status
 
 /// Tells how many codes and tokens a start would end, and says how the program then ends. A write that fails is bad use.
 fn told_trial<W: Printer, E: Printer>(ended: usize, out: &mut W, err: &mut E) -> Status
-    ensures { (result ≡ Status.BadUse)
-        ⊎ ((result ≡ Status.Done) × (err.new ≡ err.old) × Prints (output W.contents W.prints out.old out.new) (would_end ended)) }
+    ensures { let to = outputs (output W.contents W.writes out.old out.new) (output E.contents E.writes err.old err.new) in
+        IsUnwritten result to ⊎ ((result ≡ Status.Done) × IsUntouched to.err × Prints to.out (would_end ended)) }
 {
     match out.print(&WouldEnd { ended }) {
         Ok(()) => Status::Done,
-        Err(_) => failed(Unwritten::Answer, err),
+        Err(_) => told(CommandFault::CannotWrite, err),
     }
 }
 
@@ -104,10 +102,8 @@ pub fn perform_state<R: Files<File = File> + AllocGlobal, W: Printer, E: Printer
     out: &mut W,
     err: &mut E,
 ) -> Status
-    // Bad use may be that of a write that failed.
-    ensures { (result ≡ Status.BadUse)
-        ⊎ EndsStateCommand command.entry (bytes_in file) result
-        (outputs (output W.contents W.prints out.old out.new) (output E.contents E.prints err.old err.new)) }
+    ensures { let to = outputs (output W.contents W.writes out.old out.new) (output E.contents E.writes err.old err.new) in
+        IsUnwritten result to ⊎ EndsStateCommand command.entry (bytes_in file) result to }
 {
     match command {
         StateCommand::New { path } => match make_new(rt, path) {

@@ -1,4 +1,3 @@
 mod Asking
-mod Fronts
 mod Lists
 mod Refusing

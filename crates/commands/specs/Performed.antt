@@ -4,10 +4,12 @@ use Rattle.commands.specs.declared.answer.Answer.{Answer}
 use Rattle.commands.specs.declared.answer.Answer.TheVariants as answers
 use Rattle.commands.specs.declared.command.Command.{Command}
 use Rattle.commands.specs.declared.fault.CommandFault.{CommandFault}
+use Rattle.commands.specs.declared.fault.CommandFault.TheVariants.{CannotWrite}
 use Rattle.commands.specs.declared.status.Status.{Status}
+use Rattle.commands.specs.declared.status.Status.TheVariants.{BadUse}
 use Rattle.commands.specs.Answers.{IsAnsweredBy}
 use Rattle.commands.specs.declared.named_file.NamedFile.{NamedFile}
-use Rattle.commands.specs.Outputs.{Output, Outputs, GetsText, IsUntouched, Prints}
+use Rattle.commands.specs.Outputs.{Output, Outputs, GetsText, IsCutOff, IsUntouched, Prints}
 use Rattle.hook_commands.specs.Printed.{hook_answer_text}
 use Rattle.commands.specs.Statuses.{status_of_answer, status_of_command_fault}
 
@@ -23,6 +25,14 @@ IsPrinted (answers.Page text) out = GetsText out text.now
 abbrev pub IsTold : {E : Type 0} → CommandFault → Status → Output E → Type 0
 IsTold fault status err = (status ≡ status_of_command_fault fault) × Prints err fault
 
+-- or it can't be told, and that is bad use
+abbrev pub IsUntold : {E : Type 0} → Status → Output E → Type 0
+IsUntold status err = (status ≡ BadUse) × IsCutOff err
+
+-- an answer could not be written, which is told; or what was to be told could not be
+abbrev pub IsUnwritten : {W E : Type 0} → Status → Outputs W E → Type 0
+IsUnwritten status to = (IsCutOff to.out × IsTold CannotWrite status to.err) ⊎ IsUntold status to.err
+
 -- what a command answers is printed, and it is done, or a program is refused
 pub record PrintsAnswer {W : Type 0} (command : Command) (file : Option NamedFile) (status : Status) (out : Output W) : Type 0 where
   pub answer : Answer
@@ -30,14 +40,13 @@ pub record PrintsAnswer {W : Type 0} (command : Command) (file : Option NamedFil
   pub done : status ≡ status_of_answer answer
   pub printed : IsPrinted answer out
 
--- why a command has no answer is told, and the status is that of the fault
-pub record TellsFault {E : Type 0} (command : Command) (file : Option NamedFile) (status : Status) (err : Output E) : Type 0 where
+-- a fault is told in its line, one of those that come about, and the status is that of the fault
+pub record TellsFault {E : Type 0} (ComesAbout : CommandFault → Type 0) (status : Status) (err : Output E) : Type 0 where
   pub fault : CommandFault
-  pub answered : IsAnsweredBy command file (Err fault)
-  pub ended : status ≡ status_of_command_fault fault
-  pub told : Prints err fault
+  pub cause : ComesAbout fault
+  pub told : IsTold fault status err
 
--- A command ends: it is done, and tells nothing; or it tells a fault, and prints nothing.
+-- A command ends: it is done, and tells nothing; or it tells why it has no answer, and prints nothing.
 abbrev pub EndsCommand : {W E : Type 0} → Command → Option NamedFile → Status → Outputs W E → Type 0
 EndsCommand command file status to =
-    (IsUntouched to.err × PrintsAnswer command file status to.out) ⊎ (IsUntouched to.out × TellsFault command file status to.err)
+    (IsUntouched to.err × PrintsAnswer command file status to.out) ⊎ (IsUntouched to.out × TellsFault (λ fault. IsAnsweredBy command file (Err fault)) status to.err)

@@ -6,8 +6,9 @@ use Rattle.insn.specs.declared.verify_fault.VerifyFault.TheVariants as verify
 use Rattle.hook_commands.specs.declared.answer.HookAnswer.TheVariants as hook_answers
 use Rattle.hook_commands.specs.declared.fault.HookCommandFault.{HookCommandFault}
 use Rattle.hook_commands.specs.declared.fault.HookCommandFault.TheVariants as hook
+use Rattle.transcript.specs.declared.fault.ReplayFault.TheVariants as replay
 use Rattle.commands.specs.declared.fault.CommandFault.{CommandFault}
-use Rattle.commands.specs.declared.fault.CommandFault.TheVariants.{BadArguments, HookCommand, CannotRead, Config, ConfigAt, BadLine, Event, State, StateAt, OutOfMemory, CannotWrite}
+use Rattle.commands.specs.declared.fault.CommandFault.TheVariants.{HookCommand, Replay, OutOfMemory}
 use Rattle.commands.specs.declared.answer.Answer.{Answer}
 use Rattle.commands.specs.declared.answer.Answer.TheVariants as answers
 use Rattle.commands.specs.declared.status.Status.{Status}
@@ -35,19 +36,12 @@ status_of_hook_command (hook.Verify verify.Memory) = NoMemory
 status_of_hook_command (hook.Verify fault) = Refused
 status_of_hook_command hook.OutOfMemory = NoMemory
 
--- so it is with an event that is refused
+-- so it is with an event that is refused; all else, as a service that does not serve, or stopped, is bad use
 abbrev pub status_of_command_fault : CommandFault → Status
-status_of_command_fault BadArguments = BadUse
 status_of_command_fault (HookCommand fault) = status_of_hook_command fault
-status_of_command_fault (CannotRead path) = BadUse
-status_of_command_fault (Config fault) = BadUse
-status_of_command_fault (ConfigAt fault spot) = BadUse
-status_of_command_fault (BadLine line) = BadUse
-status_of_command_fault (Event line fault) = Refused
-status_of_command_fault (State path fault) = BadUse
-status_of_command_fault (StateAt number fault) = BadUse
+status_of_command_fault (Replay (replay.Refused line fault)) = Refused
 status_of_command_fault OutOfMemory = NoMemory
-status_of_command_fault CannotWrite = BadUse
+status_of_command_fault fault = BadUse
 
 -- an answer that tells why a program is refused ends as a refusal, every other one is done
 abbrev pub status_of_answer : Answer → Status

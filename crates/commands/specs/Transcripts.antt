@@ -1,5 +1,5 @@
 -- What `replay` answers to a file.
-use Rattle.std.specs.Prelude.{◌≡◌, ◌⊎◌, ⊤, ℕ, List, [], Result, Ok, Err}
+use Rattle.std.specs.Prelude.{◌≡◌, ◌≢◌, ◌⊎◌, ⊤, ℕ, List, [], Result, Ok, Err}
 use Rattle.hook_chain.specs.contracts.chain.ChainHookHost.TheImpl as chain
 use Rattle.transcript.specs.Replays.{IsReplay, IsReplayFault}
 use Rattle.transcript.specs.declared.fault.ReplayFault.{ReplayFault}
@@ -24,9 +24,7 @@ pub record HasReplayFault (file : File) (fault : ReplayFault) : Type 0 where
 
 -- why the text of a file has no answer, where it is one
 abbrev pub HasNoReplay : File → CommandFault → Type 0
-HasNoReplay file (faults.Config fault) = HasReplayFault file (replay.Config fault)
-HasNoReplay file (faults.BadLine line) = HasReplayFault file (replay.BadLine line)
-HasNoReplay file (faults.Event line fault) = HasReplayFault file (replay.Refused line fault)
+HasNoReplay file (faults.Replay fault) = (fault ≢ replay.Memory) × HasReplayFault file fault
 HasNoReplay file faults.OutOfMemory = ⊤
 HasNoReplay file fault = ⊥
 

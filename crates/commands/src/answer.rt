@@ -1,7 +1,7 @@
 //! What a command that is done prints.
 
-ghost use Rattle.std.specs.Prelude.{◌≡◌, OnOk};
-ghost use Rattle.commands.specs.Outputs.{output};
+ghost use Rattle.std.specs.Prelude.{◌≡◌, OnOk, OnErr};
+ghost use Rattle.commands.specs.Outputs.{output, IsCutOff};
 ghost use Rattle.commands.specs.Performed.{IsPrinted};
 ghost use Rattle.commands.specs.Statuses.{status_of_answer};
 
@@ -40,15 +40,15 @@ impl Answer {
 
     /// Writes all of it, to where it is to go.
     pub fn write_to<W: Printer>(&self, to: &mut W) -> io::Result<()>
-        ensures { OnOk result (IsPrinted self.now (output W.contents W.prints to.old to.new)) }
+        ensures printed { OnOk result (IsPrinted self.now (output W.contents W.writes to.old to.new)) }
+        ensures failed { OnErr result (IsCutOff (output W.contents W.writes to.old to.new)) }
     {
         match self {
-            Answer::Hook(answer) => return to.print(answer),
-            Answer::Registry(told) => return to.print(told),
-            Answer::Lines(text) => to.write_all(text)?,
-            Answer::Replayed(bytes) => to.write_all(bytes)?,
-            Answer::Page(text) => to.write_all(text.as_bytes())?,
+            Answer::Hook(answer) => to.print(answer),
+            Answer::Registry(told) => to.print(told),
+            Answer::Lines(text) => to.write_text(text),
+            Answer::Replayed(bytes) => to.write_text(bytes),
+            Answer::Page(text) => to.write_text(text.as_bytes()),
         }
-        to.flush()
     }
 }

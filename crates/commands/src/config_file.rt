@@ -6,7 +6,7 @@ ghost use Rattle.commands.specs.NamedFiles.{bytes_in};
 
 use crate::fault::CommandFault;
 use crate::named_file::NamedFile;
-use clients::Registry;
+use clients::{ConfigFault, Registry};
 use std::alloc::Global;
 
 /// The registry in a file, whose bytes are let go of then. First the file has to be read, and then to hold one.
@@ -23,6 +23,7 @@ pub fn registry_of<'w>(
     };
     match Registry::read(alloc, &file.bytes) {
         Ok(registry) => Ok(registry),
-        Err(fault) => Err(CommandFault::from(fault)),
+        Err(ConfigFault::Memory) => Err(CommandFault::OutOfMemory),
+        Err(fault) => Err(CommandFault::Config(fault)),
     }
 }

@@ -1,27 +1,34 @@
-//! Why a command has no answer, and with which status the program then ends.
+//! Why what words call for is not done, and with which status the program then ends.
 
 ghost use Rattle.std.specs.Prelude.{◌≡◌};
 ghost use Rattle.commands.specs.Statuses.{status_of_command_fault, status_of_hook_command};
-ghost use Rattle.commands.specs.Faults.{of_configuring, of_replaying, IsOfState};
+ghost use Rattle.commands.specs.Faults.{IsOfState};
 ghost use Rattle.commands.specs.declared.fault.CommandFault.TheVariants.{OutOfMemory};
 
 use crate::status::Status;
 use assembler::AsmFault;
+use batch_file::appending::BatchFault;
+use batch_file::disk_file::{MakeFault, OpenFault};
 use clients::{ConfigFault, Spot};
+use daemon::SocketFault;
+use event_loop::LoopFault;
 use hook_commands::HookCommandFault;
-use http_edge::EdgeFault;
+use hook_host::HookFault;
 use insn::fault::InsnFault;
 use insn::verify_fault::VerifyFault;
+use start_words::WordFault;
 use state_file::StateFault;
 use std::alloc::AllocError;
 use std::fmt::{self, Display, Formatter};
 use transcript::ReplayFault;
 
-/// Why a command has no answer.
+/// Why what words call for is not done.
 #[derive(Debug, Drop)]
 pub enum CommandFault<'w> {
     /// The words are no command.
     BadArguments,
+    /// A word behind `start` is refused.
+    BadWord(&'w str, WordFault),
     /// A command about a hook has no answer.
     HookCommand(HookCommandFault<'w>),
     /// The file of this path cannot be read.
@@ -30,14 +37,26 @@ pub enum CommandFault<'w> {
     Config(ConfigFault),
     /// A registry is refused for what stands there.
     ConfigAt(ConfigFault, Spot),
-    /// The line of a transcript with this number has another form.
-    BadLine(usize),
-    /// The event of the line with this number is refused.
-    Event(usize, EdgeFault),
+    /// A transcript has no answer.
+    Replay(ReplayFault),
     /// The state file of this path is refused.
     State(&'w str, StateFault),
     /// It is not told what a state file stands for, for what is wrong with the batch of this number.
     StateAt(usize, StateFault),
+    /// The state file of this path is not opened.
+    Unopened(&'w str, OpenFault),
+    /// No state file is made at this path.
+    Unmade(&'w str, MakeFault),
+    /// The clock is so many seconds ahead of the state in the file of this path.
+    ClockAhead(&'w str, u64),
+    /// The hook of this name is refused.
+    Hook(&'w str, HookFault),
+    /// There is no socket at this address.
+    CannotListen(&'w str, SocketFault),
+    /// The system gives no random bytes.
+    NoSeed,
+    /// A server that served can't go on; and why it can't keep its state, where that is so and it is known.
+    Stopped(LoopFault, Option<BatchFault>),
     /// Memory was refused.
     OutOfMemory,
     /// The answer could not be written.
@@ -71,39 +90,61 @@ impl<'w> CommandFault<'w> {
     {
         match self {
             CommandFault::HookCommand(fault) => status_of_hook_command(fault),
-            CommandFault::Event(_, _) => Status::Refused,
-            CommandFault::BadArguments
-            | CommandFault::CannotRead(_)
-            | CommandFault::Config(_)
-            | CommandFault::ConfigAt(_, _)
-            | CommandFault::BadLine(_)
-            | CommandFault::State(_, _)
-            | CommandFault::StateAt(_, _)
-            | CommandFault::CannotWrite => Status::BadUse,
+            CommandFault::Replay(ReplayFault::Refused(_, _)) => Status::Refused,
             CommandFault::OutOfMemory => Status::NoMemory,
+            _ => Status::BadUse,
         }
     }
-}
 
-impl<'w> CommandFault<'w> {
     /// Writes what is told of it.
     fn write_reason<W: fmt::Write>(&self, f: &mut Formatter<W>) -> fmt::Result {
         match self {
             CommandFault::BadArguments => write!(f, "bad arguments"),
+            CommandFault::BadWord(word, fault) => write!(f, "bad arguments: {word} {fault}"),
             CommandFault::HookCommand(fault) => write!(f, "{fault}"),
             CommandFault::CannotRead(path) => write!(f, "cannot read {path}"),
             CommandFault::Config(fault) => write!(f, "Config {fault}"),
             CommandFault::ConfigAt(fault, spot) => write!(f, "Config {fault} at {spot}"),
-            CommandFault::BadLine(line) => write!(f, "line {line}: bad line"),
-            CommandFault::Event(line, fault) => write!(f, "line {line}: {fault}"),
+            CommandFault::Replay(fault) => write!(f, "{fault}"),
             CommandFault::State(path, fault) => {
                 let advice = advice_on(fault);
                 write!(f, "State {fault}: {path}{advice}")
             }
             CommandFault::StateAt(number, fault) => write!(f, "State {fault} in batch {number}"),
+            CommandFault::Unopened(path, fault) => {
+                let advice = advice_on_opening(fault);
+                write!(f, "State {fault}: {path}{advice}")
+            }
+            CommandFault::Unmade(path, fault) => write!(f, "State {fault}: {path}"),
+            CommandFault::ClockAhead(path, seconds) => {
+                let advice = "; --accept-clock takes it";
+                write!(f, "State ClockAhead {seconds}: {path}{advice}")
+            }
+            CommandFault::Hook(name, fault) => write!(f, "hook {name}: {fault}"),
+            CommandFault::CannotListen(address, fault) => {
+                write!(f, "cannot listen on {address}: {fault}")
+            }
+            CommandFault::NoSeed => write!(f, "no random bytes"),
+            CommandFault::Stopped(fault, why) => write_stop(fault, why.as_ref(), f),
             CommandFault::OutOfMemory => write!(f, "out of memory"),
             CommandFault::CannotWrite => write!(f, "cannot write"),
         }
+    }
+}
+
+/// Writes why a server stopped: where it could not keep its state, why, if that is known.
+fn write_stop<W: fmt::Write>(
+    fault: &LoopFault,
+    why: Option<&BatchFault>,
+    f: &mut Formatter<W>,
+) -> fmt::Result {
+    match (fault, why) {
+        (LoopFault::Keep, Some(BatchFault::Failed(reason))) => {
+            write!(f, "stopped: State: {reason}")
+        }
+        (LoopFault::Keep, Some(why)) => write!(f, "stopped: State: {why}"),
+        (LoopFault::Keep, None) => write!(f, "stopped: State"),
+        (fault, _) => write!(f, "stopped: {fault}"),
     }
 }
 
@@ -116,36 +157,20 @@ impl<'w> Display for CommandFault<'w> {
     }
 }
 
-impl<'w> From<ConfigFault> for CommandFault<'w> {
-    ghost from_gives = { λ fault f. f ≡ of_configuring fault };
-
-    fn from(fault: ConfigFault) -> CommandFault<'w> {
-        match fault {
-            ConfigFault::Memory => CommandFault::OutOfMemory,
-            fault => CommandFault::Config(fault),
-        }
-    }
-}
-
-impl<'w> From<ReplayFault> for CommandFault<'w> {
-    ghost from_gives = { λ fault f. f ≡ of_replaying fault };
-
-    fn from(fault: ReplayFault) -> CommandFault<'w> {
-        match fault {
-            ReplayFault::Config(fault) => CommandFault::Config(fault),
-            ReplayFault::BadLine(line) => CommandFault::BadLine(line),
-            ReplayFault::Refused(line, fault) => CommandFault::Event(line, fault),
-            ReplayFault::Memory => CommandFault::OutOfMemory,
-        }
-    }
-}
-
 /// What helps against a fault of a state file, where that is known.
 fn advice_on(fault: &StateFault) -> &'static str {
     match fault {
         StateFault::NotState => "; oauthd state --new FILE makes one",
         StateFault::Version(1) => "; oauthd state --upgrade FILE NEW makes one of this version",
         StateFault::Version(version) if *version > 2 => "; a newer oauthd wrote it",
+        _ => "",
+    }
+}
+
+/// What helps where a state file is not opened, where that is known.
+fn advice_on_opening(fault: &OpenFault) -> &'static str {
+    match fault {
+        OpenFault::Missing => "; oauthd state --new FILE makes one",
         _ => "",
     }
 }

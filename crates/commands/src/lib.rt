@@ -3,8 +3,8 @@
 //!
 //! `command` has them as one enum, which `options` helps to read from words; `help`, `registry`, `replay` and `state` each have
 //! what one answers. `answer` is what is printed, `fault` why there is none, and `status` how the program then ends. `output`
-//! writes them, and `perform` does all of it. What else a command line calls for has its words, its files and the moment from
-//! here, too.
+//! writes them, and `perform` does all of it. What else a command line calls for has its words, its files, its faults and the
+//! moment from here, too.
 #![tactic(auto)]
 
 mod answer;
@@ -29,7 +29,7 @@ pub use config_file::registry_of;
 pub use fault::CommandFault;
 pub use moment::moment_now;
 pub use named_file::{NamedFile, Readers, bytes_at, file_at};
-pub use output::{Printer, Unwritten, failed, report, told};
-pub use perform::{carry_out, perform_command};
+pub use output::{Printer, told};
+pub use perform::perform_command;
 pub use status::Status;
 pub use words::program_words;

@@ -7,7 +7,7 @@ use crate::answer::Answer;
 use crate::fault::CommandFault;
 use hook_commands::text_in;
 use std::alloc::Global;
-use transcript::replay;
+use transcript::{ReplayFault, replay};
 
 /// What the server of the transcript in a file sends to each connection.
 pub fn replayed<'w>(
@@ -22,6 +22,7 @@ pub fn replayed<'w>(
     };
     match replay(alloc, text) {
         Ok(output) => Ok(Answer::Replayed(output)),
-        Err(fault) => Err(CommandFault::from(fault)),
+        Err(ReplayFault::Memory) => Err(CommandFault::OutOfMemory),
+        Err(fault) => Err(CommandFault::Replay(fault)),
     }
 }

@@ -1,10 +1,11 @@
 //! `state FILE`: what a state file stands for. It is read alone, and not written to or locked.
 
-ghost use Rattle.std.specs.Prelude.{[], IfOk, List, ℕ};
+ghost use Rattle.std.specs.Prelude.{[], IfOk};
 ghost use Rattle.std.specs.Option.{option_copied};
 ghost use Rattle.hook_chain.specs.contracts.chain.ChainHookHost.TheImpl as chain;
-ghost use Rattle.state_account.specs.Accounts.{IsAccountOf, RefusesAccount};
-ghost use Rattle.commands.specs.States.{HasNoAccount, IsFrontTold, IsStateText, IsStateTold};
+ghost use Rattle.state_account.specs.Accounts.{IsAccountOf};
+ghost use Rattle.commands.specs.States.{IsFrontTold, IsStateText, IsStateTold};
+ghost use Rattle.commands.specs.StatusesParts.{IsOfAccount};
 
 use crate::answer::Answer;
 use crate::fault::CommandFault;
@@ -39,7 +40,7 @@ fn lines_of(
 
 /// Why it is not told what the state file of a path stands for.
 fn fault_of<'w>(path: &'w str, fault: AccountFault) -> CommandFault<'w>
-    ensures { (left : List ℕ) → RefusesAccount left fault → HasNoAccount path.now left result }
+    ensures { IsOfAccount path.now fault result }
 {
     match fault {
         AccountFault::Memory => CommandFault::OutOfMemory,

@@ -17,7 +17,7 @@ use Rattle.event_loop.specs.Places.{IsOccupied, IsInService, IsFreeAt, MayRead, 
 use Rattle.event_loop.specs.LoopStates.{Promises, LoopState}
 use Rattle.event_loop.specs.Coming.{AcceptsOne, opens, denies, finds_nobody, fails, asks, fresh_place}
 use Rattle.event_loop.specs.Reading as reading
-use Rattle.event_loop.specs.Reading.{ReadsPlace, read_place}
+use Rattle.event_loop.specs.Reading.{ReadsPlace}
 use Rattle.event_loop.specs.Writing as writing
 use Rattle.event_loop.specs.Writing.{WritesPlace}
 use Rattle.event_loop.specs.Closing.{Closes, leaves}

@@ -21,11 +21,12 @@ use Rattle.event_loop.specs.Writing as writing
 use Rattle.event_loop.specs.Writing.{WritesPlace}
 use Rattle.event_loop.specs.Closing.{Closes, leaves}
 use Rattle.event_loop.specs.Served.{LoopStep, Served, Shuts, TellsLast, tells_nothing, waits, hears_of_listener, hears_of, hears_of_none, comes, tries_again, reads, writes, closes, reports, keeps, puts_image, no_image, begins, goes, stops, shuts, reports_last}
-use Rattle.event_loop.specs.Durable.{Onward, stays, onward, KeeperHolds, StandsBetween, IsWriteKept, MomentIsHeld}
+use Rattle.event_loop.specs.DurableLaws.{front_then, same_front, served_on}
+use Rattle.event_loop.specs.Durable.{Carries, Onward, stays, onward, KeeperHolds, StandsBetween, IsWriteKept, MomentIsHeld}
 use Rattle.event_loop.specs.Ends.{CannotGoOn, no_wait, no_time, no_moment, not_kept, not_imaged, no_more}
 use Rattle.event_loop.proofs.Answering.{served_answered}
 use Rattle.event_loop.proofs.Lasting.{leaves_either, leaves_now, leaves_same}
-use Rattle.event_loop.proofs.Kept.{same_front, front_then, reached_front, kept_history, kept_last}
+use Rattle.event_loop.proofs.Kept.{reached_front, kept_history, kept_last}
 
 -- the history grows, what was kept last is as it was, and the greatest moment too, or it is this one
 pub record Grows (m : ℕ) (old new : World) : Type 0 where
@@ -96,12 +97,6 @@ takes_grows : (m : ℕ) (old new : World) (c n : ℕ) → TakesOutput old new c 
 takes_grows m old new c n (inl takes) = grows_still m old new takes.still
 takes_grows m old new c n (inr absent) = grows_not m old new absent.same
 
--- what a journey has of one before it: what the server began with, what had happened, and what was kept
-pub record Carries {H : Type 0} (old new : Journey H) : Type 0 where
-  pub outset : new.outset ≡ old.outset
-  pub front : IsFrontOf old.world.history new.world.history
-  pub kept : (before : List Event) → old.world.kept ≡ Some before → (now : List Event) × (new.world.kept ≡ Some now) × IsFrontOf before now
-
 carries_all : {H : Type 0} (journey : Journey H) → Carries journey journey
 carries_all journey = record { outset = refl; front = same_front _ _ refl; kept = λ before is. (before, is, same_front before before refl) }
 
@@ -164,16 +159,6 @@ module _ {N C J K H : Type 0} (p : Promises N C J K H) where
   step_moves s s' (no_image journal all long ago told) = goes_on (refl, (refl, refl), refl) (grows_not s.times.moment _ _ refl)
   step_moves s s' (keeps keeper e unkept on undone kept basis) =
       keeps_all unkept kept (kept_last s.progress.journey.world on.world on.happens) (kept_history s.progress.journey.world on.world on.happens) basis ((refl, refl), ap (λ (w : World). w.greatest) on.happens.kept, refl)
-
-  -- steps on from a state lead there
-  pub served_on : (first s s' : LoopState N C J K H) → Served p first s → Onward p s s' → Served p first s'
-  served_on first s s' served stays = served
-  served_on first s s' served (onward {s' = middle} on step) = goes (served_on first s middle served on) step
-
-  -- and from the first one on
-  pub served_onward : (first s : LoopState N C J K H) → Served p first s → Onward p first s
-  served_onward first s (begins is) = stays
-  served_onward first s (goes {s = before} served step) = onward (served_onward first before served) step
 
   -- nothing but a write writes, and that only where all is kept
   not_longer : (calls : List Call) (call : Call) → calls ≡ call ∷ calls → ⊥

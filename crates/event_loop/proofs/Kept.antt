@@ -1,5 +1,5 @@
 -- What is kept of what happens.
-use Rattle.std.proofs.Common.{◌≡◌, ◌≢◌, ◌⊎◌, inl, inr, ◌+◌, ℕ, List, [], ◌∷◌, ◌++◌, Some, None, Option, length, append_assoc, append-nil, refl, sym, ap, subst, ◌∙◌, arith}
+use Rattle.std.proofs.Common.{◌≡◌, ◌≢◌, ◌⊎◌, inl, inr, ◌+◌, ℕ, List, [], ◌∷◌, Some, None, Option, length, refl, sym, ap, subst, ◌∙◌, arith}
 use Rattle.std.specs.Prelude.{◌↔◌, Bool, false, IsTrue}
 use Rattle.std.proofs.lemmas.Bool.{false≢true}
 use Rattle.std.proofs.lemmas.List.{length-append}
@@ -14,14 +14,6 @@ use Rattle.http_edge.specs.Schedule.{World, KeepsHistory, TakesOutput, TakesNoth
 use Rattle.http_edge.specs.Reached.{Reached, Journey}
 use Rattle.change_codec.specs.Keeping.{IsFrontOf}
 use Rattle.event_loop.specs.LoopStates.{IsAllKept, IsUnkept}
-
--- FRONTS
-
-pub same_front : (a b : List Event) → b ≡ a → IsFrontOf a b
-same_front a b is = ([], is ∙ sym (append-nil a))
-
-pub front_then : (a b c : List Event) → IsFrontOf a b → IsFrontOf b c → IsFrontOf a c
-front_then a b c one two = (one.0 ++ two.0, two.1 ∙ ap (λ l. l ++ two.0) one.1 ∙ append_assoc a one.0 two.0)
 
 -- WHAT IS UNKEPT
 

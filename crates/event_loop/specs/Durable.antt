@@ -2,6 +2,7 @@
 use Rattle.std.specs.Prelude.{◌≡◌, ◌≢◌, ◌⊎◌, ℕ, List, ◌∷◌, Some}
 use Rattle.consent.specs.History.{Event}
 use Rattle.change_codec.specs.Keeping.{Until, IsFrontOf, Holds, HoldsBasis, Leaves}
+use Rattle.http_edge.specs.Reached.{Journey}
 use Rattle.event_loop.specs.Calls.{Transfer, Wrote}
 use Rattle.event_loop.specs.LoopStates.{Promises, LoopState, IsAllKept}
 use Rattle.event_loop.specs.Served.{LoopStep}
@@ -10,6 +11,12 @@ use Rattle.event_loop.specs.Served.{LoopStep}
 pub data Onward {N C J K H : Type 0} (p : Promises N C J K H) (s : LoopState N C J K H) : LoopState N C J K H → Type 0 where
   stays : Onward p s s
   onward : {s' s'' : LoopState N C J K H} → Onward p s s' → LoopStep p s' s'' → Onward p s s''
+
+-- What a journey has of one before it: what the server began with, all that had happened, and all that was kept.
+pub record Carries {H : Type 0} (old new : Journey H) : Type 0 where
+  pub outset : new.outset ≡ old.outset
+  pub front : IsFrontOf old.world.history new.world.history
+  pub kept : (before : List Event) → old.world.kept ≡ Some before → (now : List Event) × (new.world.kept ≡ Some now) × IsFrontOf before now
 
 -- the keeper holds what was kept last
 abbrev pub KeeperHolds : {N C J K H : Type 0} → Promises N C J K H → LoopState N C J K H → Type 0

@@ -11,7 +11,7 @@ use Rattle.event_loop.specs.Calls as call
 use Rattle.event_loop.specs.Calls.{Keeping, IsDone}
 use Rattle.event_loop.specs.Done.{HaveDone}
 use Rattle.change_codec.specs.Keeping.{HeldMeanwhile, KeepsBasis, KeepsNot, TellsBasis}
-use Rattle.event_loop.specs.Durable.{Onward, KeeperHolds, IsWriteKept, IsDurable, IsDurableToEnd, MomentIsHeld, MomentStays}
+use Rattle.event_loop.specs.Durable.{Carries, Onward, KeeperHolds, IsWriteKept, IsDurable, IsDurableToEnd, MomentIsHeld, MomentStays}
 use Rattle.event_loop.specs.Places.{AllFree}
 use Rattle.event_loop.specs.LoopStates.{Promises, LoopState, IsAllKept, IsUnkept, with_call}
 use Rattle.event_loop.specs.Answered.{IsAllAnswered}
@@ -61,8 +61,9 @@ tools_at s = record {
 
 -- The clocks told the first times, and steps led on, whose every state is answered, until something failed; then nothing
 -- was done but that each connection that was left was closed and forgotten, and all places are free, and that behind them,
--- where reports are wanted, there was one more. That is what the sockets did. With each write all that had happened was kept, and where the keeper held at
--- first what was kept, all that was kept is durable. What crashes told at some state, each crash tells from then on. Behind
+-- where reports are wanted, there was one more. That is what the sockets did. Each state has all that had happened and was kept at
+-- those before it. With each write all that had happened was kept, and where the keeper held at first what was kept, all that was
+-- kept is durable. What crashes told at some state, each crash tells from then on. Behind
 -- the first wait that is the moment by which requests are answered, and each crash tells the greatest one by which one was.
 pub record HasServed {N C J K H : Type 0} (p : Promises N C J K H) (start : Beginning N C J K H) (fault : LoopFault) (tools' : Tools N C J K H) : Type 0 where
   pub first : LoopState N C J K H
@@ -76,6 +77,7 @@ pub record HasServed {N C J K H : Type 0} (p : Promises N C J K H) (start : Begi
   pub answered : (s : LoopState N C J K H) → Served p first s → IsAllAnswered p s
   pub kept : (s s' : LoopState N C J K H) → Served p first s → LoopStep p s s' → IsWriteKept s s'
   pub durable : KeeperHolds p first → (s s' : LoopState N C J K H) → Served p first s → Onward p s s' → IsDurable p s s'
+  pub carries : (s s' : LoopState N C J K H) → Served p first s → Onward p s s' → Carries s.progress.journey s'.progress.journey
   pub basis : (s s' : LoopState N C J K H) → Served p first s → Onward p s s' → KeepsBasis p.keeping.crashes s.keeper s'.keeper
   pub moment : (s : LoopState N C J K H) → Served p first s → 0 < call.waits s.calls → MomentIsHeld p s
   pub moment_stays : (s s' : LoopState N C J K H) → Served p first s → Onward p s s' → MomentStays p first s s'

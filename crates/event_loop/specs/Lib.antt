@@ -15,6 +15,7 @@ pub mod Reporting
 pub mod Moments
 pub mod Served
 pub mod Durable
+pub mod DurableLaws
 pub mod Answered
 pub mod Ends
 -- What only the contracts of this crate's own parts and their proofs cite.

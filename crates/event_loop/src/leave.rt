@@ -1,5 +1,5 @@
 //! Closing connections.
-ghost use Rattle.std.specs.Prelude.{◌≡◌, ◌≢◌, ◌<◌, ◌≤◌, ◌-◌, ℕ, true, false, Some, IfSome, IfNone, slice_get, length};
+ghost use Rattle.std.specs.Prelude.{◌≡◌, ◌≢◌, ◌<◌, ◌≤◌, ◌-◌, ℕ, Some, IfSome, IfNone, slice_get, length};
 ghost use Rattle.event_loop.specs.declared.clocks.Second.TheVariants.{Same};
 ghost use Rattle.event_loop.specs.declared.place.Stage.TheVariants.{Free};
 ghost use Rattle.event_loop.specs.Places.{AllFree, IsFreeAt, IsOccupied};

@@ -1,5 +1,5 @@
 //! Turns.
-ghost use Rattle.std.specs.Prelude.{◌≡◌, ◌≢◌, ◌<◌, ℕ, List, [], slice_get};
+ghost use Rattle.std.specs.Prelude.{◌≡◌, ◌≢◌, ◌<◌, ℕ, [], slice_get};
 ghost use Rattle.event_loop.specs.declared.sockets.Ready.{Ready};
 ghost use Rattle.event_loop.specs.Goes.{NobodyIsSilent, HearsOf, LeadsToHearing, LeadsReading, LeadsWriting, LeadsToRest, running};
 ghost use Rattle.event_loop.specs.LoopStates.{promises};

@@ -1,13 +1,11 @@
 -- What the parser's answers say of the front of the bytes.
-use Rattle.std.proofs.Common.{◌≡◌, ◌≢◌, ◌⊎◌, ℕ, ◌+◌, ◌<◌, ◌≤◌, inl, inr, List, [], ◌∷◌, ◌++◌, Some, length, take, drop, false, refl, sym, ap, subst, ◌∙◌, arith, append_assoc, append-nil, length-append}
+use Rattle.std.proofs.Common.{◌≡◌, ℕ, ◌+◌, ◌<◌, ◌≤◌, inl, inr, List, [], ◌∷◌, ◌++◌, Some, length, take, drop, false, refl, sym, ap, subst, ◌∙◌, arith, append_assoc, append-nil, length-append}
 use Rattle.std.specs.Prelude.{is_some, IsTrue, Option}
 use Rattle.std.proofs.lemmas.Bool.{ltb-true, lt-ltb}
 use Rattle.std.proofs.lemmas.List.{take_at, take-append-drop, take-append-le, length-take-le, length-take, length-drop, drop-drop, length-map}
 use Rattle.httparse.specs.Ascii.{line_feed}
-use Rattle.httparse.specs.Grammar.{RequestHead, print_request, ReadsRequest, HasNoRequest, NeverHasRequest, MayBecomeRequest, Field}
-use Rattle.httparse.specs.Spans.{RequestOverflows, RequestExceeds, IsWithin, AreFieldsAt, header_bytes, name_and_value}
-use Rattle.httparse.specs.declared.Error.{Error}
-use Rattle.httparse.specs.declared.Error.TheVariants as error
+use Rattle.httparse.specs.Grammar.{RequestHead, print_request, ReadsRequest, HasNoRequest, MayBecomeRequest, Field}
+use Rattle.httparse.specs.Spans.{IsWithin, AreFieldsAt, header_bytes, name_and_value}
 use Rattle.httparse.specs.declared.spans.Span.{Span}
 use Rattle.httparse.specs.declared.spans.HeaderSpan.{HeaderSpan}
 use Rattle.httparse.proofs.GrammarLemmas.{request_unique, request_prefix_free, ReadsRequest-append}
@@ -21,13 +19,6 @@ use Rattle.heads.specs.WaitingLaws.{line_waits}
 use Rattle.heads.specs.declared.fields.FieldSpans.{FieldSpans}
 use Rattle.heads.specs.declared.waits.Waits.TheVariants.{ForLine, ForBytes}
 use Rattle.heads.proofs.Lines.{two_fronts, ended_before, head_ends, may_front, nothing_may}
-
--- whatever error the parser answers
-hopeless_overflow : (bytes : List ℕ) → RequestOverflows field_line_limit bytes → IsHopeless bytes
-hopeless_overflow bytes over more m rest b =
-    let many = over more m.head (m.body ++ rest) (reads_head _ m rest b) in
-    let few = b.good.lines in
-    omega (arith, many, few)
 
 -- a whole head that is not good
 hopeless_head : (bytes : List ℕ) (head : RequestHead) (after : List ℕ) → ReadsRequest bytes head after → ¬ (IsGood head) → IsHopeless bytes
@@ -54,21 +45,6 @@ faulty_head bytes head after whole bad =
 pub faulty_long : (bytes : List ℕ) → head_size_limit ≤ length bytes → HasNoRequest bytes → IsHopeless bytes × MayTell bytes
 faulty_long bytes long none =
     (hopeless_long bytes long none, inl (inr (inr (record { size = long; none = λ head after reads good. none head after reads }))))
-
--- an error is of the lines' number, or of the input
-pub faulty_error : (bytes : List ℕ) (e : Error) → RequestOverflows field_line_limit bytes → (e ≢ error.TooManyHeaders → NeverHasRequest bytes) →
-    (e ≡ error.TooManyHeaders → RequestExceeds field_line_limit bytes) → IsHopeless bytes × MayTell bytes
-faulty_error bytes e over invalid many = (hopeless_overflow bytes over, inr (by e invalid many))
-  where
-    by : (e : Error) → (e ≢ error.TooManyHeaders → NeverHasRequest bytes) → (e ≡ error.TooManyHeaders → RequestExceeds field_line_limit bytes) →
-        NeverHasRequest bytes ⊎ RequestExceeds field_line_limit bytes
-    by error.HeaderName invalid many = inl (invalid (λ is. absurd (cc)))
-    by error.HeaderValue invalid many = inl (invalid (λ is. absurd (cc)))
-    by error.NewLine invalid many = inl (invalid (λ is. absurd (cc)))
-    by error.Status invalid many = inl (invalid (λ is. absurd (cc)))
-    by error.Token invalid many = inl (invalid (λ is. absurd (cc)))
-    by error.TooManyHeaders invalid many = inr (many refl)
-    by error.Version invalid many = inl (invalid (λ is. absurd (cc)))
 
 -- ---- a rest waits
 

@@ -68,17 +68,6 @@ pub reads_push : (stream : List ℕ) (ms : List Message) (rest : List ℕ) (m : 
 reads_push stream [] rest m last x y = (last, rw (← x) at y, refl)
 reads_push stream (n ∷ ms) rest m last x y = (x.0, x.1, reads_push x.0 ms rest m last x.2 y)
 
--- a stream has one reading
-pub messages_unique : (stream : List ℕ) (ms ns : List Message) (r q : List ℕ) → Messages stream ms r → Messages stream ns q → (ms ≡ ns) × (r ≡ q)
-messages_unique stream [] [] r q x y = (refl, sym x.reads ∙ y.reads)
-messages_unique stream [] (n ∷ ns) r q x y = absurd (x.none n y.reads.0 (rw x.reads at y.reads.1))
-messages_unique stream (m ∷ ms) [] r q x y = absurd (y.none m x.reads.0 (rw y.reads at x.reads.1))
-messages_unique stream (m ∷ ms) (n ∷ ns) r q x y =
-    let first = first_unique stream m n x.reads.0 y.reads.0 x.reads.1 y.reads.1 in
-    let more : ReadsMessages x.reads.0 ns q = rw (← first.1) at y.reads.2 in
-    let tail = messages_unique x.reads.0 ms ns r q (record { reads = x.reads.2; none = x.none }) (record { reads = more; none = y.none }) in
-    (λ i. first.0 i ∷ tail.0 i, tail.1)
-
 -- as many messages are the same
 pub reads_same : (stream : List ℕ) (ms ns : List Message) (r q : List ℕ) → length ms ≡ length ns → ReadsMessages stream ms r → ReadsMessages stream ns q → (ms ≡ ns) × (r ≡ q)
 reads_same stream [] [] r q e x y = (refl, sym x ∙ y)

@@ -1,5 +1,4 @@
 //! All the requests that bytes have.
-ghost use Rattle.std.specs.Prelude.{◌≡◌};
 ghost use Rattle.heads.specs.Front.{IsFront};
 ghost use Rattle.heads.specs.Scan.{IsScan};
 

@@ -1,15 +1,11 @@
 -- The draws of one request more.
-use Rattle.std.proofs.Common.{◌≡◌, suc, List, [], ◌∷◌, ◌++◌, length, refl, ap}
+use Rattle.std.proofs.Common.{◌≡◌, suc, List, [], ◌∷◌, ◌++◌, refl, ap}
 use Rattle.messages.specs.declared.request.Draws.{Draws}
 use Rattle.heads.specs.Message.{Message, asked_of_message}
 use Rattle.http_edge.specs.Sources.{demand_of, draws_for, draws_behind}
 use Rattle.http_edge.specs.declared.source.DrawSource.{Ghosts as Sources}
 
 module _ {S : Type 0} (sources : Sources S) where
-  pub draws_length : (source : S) (messages : List Message) → length (draws_for sources source messages) ≡ length messages
-  draws_length source [] = refl
-  draws_length source (x ∷ messages) = ap (λ n. suc n) (draws_length (sources.behind source (demand_of (asked_of_message x))) messages)
-
   pub draws_push : (source : S) (messages : List Message) (message : Message) →
       draws_for sources source (messages ++ message ∷ []) ≡ draws_for sources source messages ++ sources.draws (draws_behind sources source messages) (demand_of (asked_of_message message)) ∷ []
   draws_push source [] message = refl

@@ -1,5 +1,5 @@
 //! What was not read of a connection's stream.
-ghost use Rattle.std.specs.Prelude.{◌≡◌, ◌≤◌, ◌<◌, ◌++◌, ◌↔◌, [], true, false, Bool, IsTrue, length, IfOk, OnOk, OnErr};
+ghost use Rattle.std.specs.Prelude.{◌≡◌, ◌≤◌, ◌<◌, ◌++◌, ◌↔◌, [], true, false, IsTrue, length, IfOk, OnOk, OnErr};
 ghost use Rattle.heads.specs.Limits.{message_size_limit};
 ghost use Rattle.heads.specs.Waiting.{IsWaiting};
 ghost use Rattle.http_edge.specs.Limits.{piece_limit};

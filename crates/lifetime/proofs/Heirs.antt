@@ -24,7 +24,7 @@ use Rattle.lifetime.specs.Starts.{Begun, Settles}
 use Rattle.lifetime.specs.declared.life.Life.{Life}
 use Rattle.lifetime.specs.declared.plan.Plan.{Plan}
 use Rattle.lifetime.specs.declared.serving.Ending.{Ending}
-use Rattle.lifetime.proofs.Carrying.{front_then, same_front, served_onward}
+use Rattle.event_loop.specs.DurableLaws.{front_then, same_front, served_onward}
 use Rattle.lifetime.proofs.Living.{bears_of}
 use Rattle.lifetime.proofs.Losing.{whole_batches}
 

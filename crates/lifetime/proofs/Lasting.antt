@@ -6,7 +6,8 @@ use Rattle.consent.specs.History.{Event}
 use Rattle.endpoints.specs.Bounded.{AllRight, IsBounded}
 use Rattle.endpoints.specs.Hosts.{HostRun}
 use Rattle.endpoints.specs.Server.{AreUnkept, Outset, outset_of}
-use Rattle.event_loop.specs.Durable.{KeeperHolds, Onward, StandsBetween}
+use Rattle.event_loop.specs.Durable.{Carries, KeeperHolds, Onward, StandsBetween}
+use Rattle.event_loop.specs.DurableLaws.{front_then, same_front, served_on, served_onward}
 use Rattle.change_codec.specs.Keeping as keeping
 use Rattle.event_loop.specs.Ends.{HasServed}
 use Rattle.event_loop.specs.LoopStates.{LoopState}
@@ -24,7 +25,6 @@ use Rattle.lifetime.specs.Given.{Given, LifePromises, in_loop}
 use Rattle.lifetime.specs.Lives.{HasLived, IsWhole, Leaves, LeavesKept, LosesNothing, loop_of}
 use Rattle.lifetime.specs.Starts.{Begun}
 use Rattle.lifetime.specs.declared.serving.Ending.{Ending}
-use Rattle.lifetime.proofs.Carrying.{Carries, front_then, onward_carries, same_front, served_on, served_onward}
 use Rattle.lifetime.proofs.Losing.{Bears, front_noted, leaves_map, leaves_then, more_loses, old_or_loses, whole_by}
 
 module _ {D N C J : Type 0} (p : LifePromises D N C J) (only_now : (d : D) (c : List ℕ) → p.device.left_since d (p.device.moment d) c → p.device.may_leave d c)
@@ -60,7 +60,7 @@ module _ {D N C J : Type 0} (p : LifePromises D N C J) (only_now : (d : D) (c : 
     first_tells c left = subst (λ (bs : List (List ℕ)). Tell bs (rules_of given.registry)) (sym (first_left c left)) bears.tell
 
     carried : (s : StateHere) → Served (in_loop p) served.first s → Carries served.first.progress.journey s.progress.journey
-    carried s here = onward_carries (in_loop p) served.first s (served_onward (in_loop p) served.first s here)
+    carried s here = served.carries served.first s (begins served.is_first) (served_onward (in_loop p) served.first s here)
 
     outset_at : (s : StateHere) → Served (in_loop p) served.first s → s.progress.journey.outset ≡ outset_of given.registry []
     outset_at s here = (carried s here).outset ∙ ap (λ (j : Journey (List Named)). j.outset) served.journey_is
@@ -82,7 +82,7 @@ module _ {D N C J : Type 0} (p : LifePromises D N C J) (only_now : (d : D) (c : 
         subst (λ (o : Outset (List Named)). IsBounded o.rules s.progress.journey.world.history) (outset_at s here) (reached_at s here).bounded
 
     kept_at : (s : StateHere) → Served (in_loop p) served.first s → (kept : List Event) × (s.progress.journey.world.kept ≡ Some kept)
-    kept_at s here = (carried s here).grows.kept before first_kept
+    kept_at s here = let now = (carried s here).kept before first_kept in (now.0, now.1)
 
     kept_front : (s : StateHere) → Served (in_loop p) served.first s → (kept : List Event) → s.progress.journey.world.kept ≡ Some kept → IsFrontOf kept s.progress.journey.world.history
     kept_front s here kept is =
@@ -136,7 +136,7 @@ module _ {D N C J : Type 0} (p : LifePromises D N C J) (only_now : (d : D) (c : 
     leaves_then_at : (s : StateHere) (here : Served (in_loop p) served.first s) (on : Onward (in_loop p) s served.last) (kept : List Event) → s.progress.journey.world.kept ≡ Some kept →
         Leaves p s.keeper.file.device served.end.keeper.file.device (IsWhole given.registry kept served.last.progress.journey.world.history)
     leaves_then_at s here on kept is =
-        let all = front_then kept s.progress.journey.world.history served.last.progress.journey.world.history (kept_front s here kept is) (onward_carries (in_loop p) s served.last on).grows.front in
+        let all = front_then kept s.progress.journey.world.history served.last.progress.journey.world.history (kept_front s here kept is) (served.carries s served.last here on).front in
         leaves_whole s served.last served.end.keeper kept _ here (served.durable_then first_holds s here on kept is) (served.basis_then s here on)
         (λ c. ⊎_elim (whole_between s served.last served.served kept c)
         (λ stands told. whole_at served.last served.served kept served.last.progress.journey.world.history c all (same_front _ _ refl) stands told))
@@ -157,7 +157,7 @@ module _ {D N C J : Type 0} (p : LifePromises D N C J) (only_now : (d : D) (c : 
         let first = begins served.is_first in
         let on = served_onward (in_loop p) served.first served.last served.served in
         let all = front_then before served.first.progress.journey.world.history served.last.progress.journey.world.history (kept_front served.first first before first_kept)
-        (carried served.last served.served).grows.front in
+        (carried served.last served.served).front in
         let start : LosesNothing p given begun.keeper.file.device before served.last.progress.journey.world.history =
         more_loses p given before begun.keeper.file.device served.last.progress.journey.world.history all
         (old_or_loses p given before begun.keeper.file.device begun.outlook.plan.prepared.batches bears put.meanwhile) in

@@ -1,4 +1,3 @@
-mod Carrying
 mod Heirs
 mod Lasting
 mod Living

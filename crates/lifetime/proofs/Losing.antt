@@ -16,7 +16,7 @@ use Rattle.state_file.specs.Starting.{IsOldOr}
 use Rattle.state_file.specs.Telling.{Tell, TellsRules, rules_of}
 use Rattle.lifetime.specs.Given.{Given, LifePromises}
 use Rattle.lifetime.specs.Lives.{IsWhole, Leaves, LosesNothing}
-use Rattle.lifetime.proofs.Carrying.{front_then, same_front}
+use Rattle.event_loop.specs.DurableLaws.{front_then, same_front}
 
 -- FRONTS
 

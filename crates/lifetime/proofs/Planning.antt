@@ -1,5 +1,5 @@
 -- What a start makes of the bytes of a state file, by what the calls say.
-use Rattle.std.proofs.Common.{◌≡◌, ◌≤◌, ◌↔◌, ◌∙◌, inl, inr, ℕ, List, [], Option, None, Some, subst}
+use Rattle.std.proofs.Common.{◌≡◌, ◌≤◌, ◌↔◌, ◌∙◌, inr, ℕ, List, [], Option, None, Some, subst}
 use Rattle.std.specs.Prelude.{IsSome}
 use Rattle.batch_file.specs.Frames.{recovered, torn_of}
 use Rattle.clients.specs.RegistryRecord.{RegistryRecord}
@@ -8,7 +8,6 @@ use Rattle.image_codec.specs.Facts.{HookFact}
 use Rattle.narrowing.specs.Left.{left_under}
 use Rattle.state_file.specs.Making.{Makes, RefusesMaking}
 use Rattle.state_file.specs.declared.fault.StateFault.{StateFault}
-use Rattle.state_file.specs.declared.fault.StateFault.TheVariants as state
 use Rattle.state_file.specs.Standing.{until_of}
 use Rattle.state_file.specs.RunLaws.{was_run}
 use Rattle.state_file.specs.Runs.{WasLived}
@@ -60,10 +59,6 @@ plan_narrowed rules hooks bytes plan narrowed makes ended torn exact left same =
   moment_is = makes.moment_is;
   torn_is = torn;
 }
-
--- why there is no plan
-pub no_memory : (rules : RegistryRecord) (hooks : List HookFact) (bytes : List ℕ) (fault : StateFault) → fault ≡ state.Memory → RefusesPlan rules hooks bytes fault
-no_memory rules hooks bytes fault is = inl is
 
 pub not_made : (rules : RegistryRecord) (hooks : List HookFact) (bytes : List ℕ) (narrowed : Option Narrowed) (fault : StateFault) →
     RefusesMaking chain.ghosts (start_of rules hooks (bytes_under bytes narrowed)) fault → RefusesPlan rules hooks bytes fault

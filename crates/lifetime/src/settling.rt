@@ -1,6 +1,6 @@
 //! What a start writes: what an unfinished write left is put aside, and the new file takes the place of the old one.
 
-ghost use Rattle.std.specs.Prelude.{◌≡◌, [], IfOk, IfErr, OnOk, OnErr};
+ghost use Rattle.std.specs.Prelude.{◌≡◌, IfOk, IfErr, OnOk, OnErr};
 ghost use Rattle.batch_file.specs.Crashes.{LeavesOnly};
 ghost use Rattle.lifetime.specs.Starts.{MayReport, ReportsAll, ahead_notices, ended_notices, start_notices, torn_notices};
 ghost use Rattle.state_file.specs.Starting.{IsOfDisk, IsOldOr, IsPutOn, IsUntouched};

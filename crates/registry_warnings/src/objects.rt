@@ -1,6 +1,6 @@
 //! The objects that are open where JSON text is read.
 
-ghost use Rattle.std.specs.Prelude.{◌≡◌, ◌-◌, map, slice_get, option_copied, [], ◌∷◌, ◌++◌, length, bytes_eq, string_bytes, OnOk};
+ghost use Rattle.std.specs.Prelude.{◌≡◌, ◌-◌, map, option_copied, [], ◌∷◌, ◌++◌, length, bytes_eq, string_bytes, OnOk};
 ghost use Rattle.std.specs.Option.{option_map_or};
 ghost use Rattle.std.specs.List.{list_any};
 ghost use Rattle.registry_warnings.specs.Warnings.{last_name, member_read, names_listed, innermost, outer, with_member};

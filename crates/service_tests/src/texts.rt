@@ -3,7 +3,6 @@
 use assembler::AsmFault;
 use batch_file::appending::BatchFault;
 use batch_file::system::SystemFault;
-use command_line::PerformFault;
 use commands::CommandFault;
 use daemon::SocketFault;
 use event_loop::LoopFault;
@@ -16,7 +15,7 @@ use std::test::Fail;
 /// Asserts that a fault is told in this line.
 fn assert_line<R: Abort + AllocGlobal>(
     rt: &R,
-    fault: PerformFault<'_>,
+    fault: CommandFault<'_>,
     line: &str,
 ) -> Result<(), Fail> {
     let told = format!(in rt.alloc(); "{fault}")?;
@@ -25,14 +24,14 @@ fn assert_line<R: Abort + AllocGlobal>(
 }
 
 /// The fault of a command about a hook.
-fn of_hook(fault: HookCommandFault<'_>) -> PerformFault<'_> {
-    PerformFault::Command(CommandFault::HookCommand(fault))
+fn of_hook(fault: HookCommandFault<'_>) -> CommandFault<'_> {
+    CommandFault::HookCommand(fault)
 }
 
 #[test]
 fn memory_that_was_refused_is_told_alike(rt: HostRuntime) -> Result<(), Fail> {
     let line = "oauthd: out of memory\n";
-    assert_line(&rt, PerformFault::Command(CommandFault::OutOfMemory), line)?;
+    assert_line(&rt, CommandFault::OutOfMemory, line)?;
     assert_line(&rt, of_hook(HookCommandFault::OutOfMemory), line)?;
     assert_line(&rt, of_hook(HookCommandFault::Text(AsmFault::Memory)), line)?;
     assert_line(
@@ -79,9 +78,9 @@ fn sockets_that_the_system_refuses(rt: HostRuntime) -> Result<(), Fail> {
             "oauthd: cannot listen on a:1: the system refuses it\n",
         ),
     ] {
-        assert_line(&rt, PerformFault::CannotListen("a:1", reason), line)?;
+        assert_line(&rt, CommandFault::CannotListen("a:1", reason), line)?;
     }
-    assert_line(&rt, PerformFault::NoSeed, "oauthd: no random bytes\n")
+    assert_line(&rt, CommandFault::NoSeed, "oauthd: no random bytes\n")
 }
 
 #[test]
@@ -92,7 +91,7 @@ fn servers_that_stop(rt: HostRuntime) -> Result<(), Fail> {
         (LoopFault::Keep, "oauthd: stopped: State\n"),
         (LoopFault::Rounds, "oauthd: stopped: Rounds\n"),
     ] {
-        assert_line(&rt, PerformFault::Stopped(fault), line)?;
+        assert_line(&rt, CommandFault::Stopped(fault, None), line)?;
     }
     for (fault, line) in [
         (BatchFault::Memory, "oauthd: stopped: State: Memory\n"),
@@ -103,7 +102,11 @@ fn servers_that_stop(rt: HostRuntime) -> Result<(), Fail> {
         (BatchFault::Full, "oauthd: stopped: State: Full\n"),
         (BatchFault::TooLong, "oauthd: stopped: State: TooLong\n"),
     ] {
-        assert_line(&rt, PerformFault::Unkept(fault), line)?;
+        assert_line(
+            &rt,
+            CommandFault::Stopped(LoopFault::Keep, Some(fault)),
+            line,
+        )?;
     }
     Ok(())
 }

@@ -1,4 +1,3 @@
-pub mod FaultTexts
 pub mod Numbers
 pub mod Options
 pub mod Start

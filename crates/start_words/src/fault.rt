@@ -1,7 +1,6 @@
 //! Why words are not those of `start`.
 
-ghost use Rattle.std.specs.Prelude.{◌≡◌, Some};
-ghost use Rattle.start_words.specs.FaultTexts.{word_fault_text};
+ghost use Rattle.std.specs.Prelude.{◌≡◌};
 ghost use Rattle.start_words.specs.declared.fault.StartFault.TheVariants.{Memory};
 
 use std::alloc::AllocError;
@@ -23,8 +22,6 @@ pub enum WordFault {
 }
 
 impl Display for WordFault {
-    ghost output = { λ fault. Some (word_fault_text fault) };
-
     fn fmt<W: fmt::Write>(&self, f: &mut Formatter<W>) -> fmt::Result {
         match self {
             WordFault::NoPort => write!(f, "wants a port"),

@@ -2,7 +2,6 @@
 
 ghost use Rattle.std.specs.Prelude.{◌≡◌, option_map};
 ghost use Rattle.std.specs.Option.{option_copied};
-ghost use Rattle.std.specs.Str.{bytes_eq};
 ghost use Rattle.start_words.specs.Options.{above_0, accepts_clock, clock_limit, hook_in, hook_said, option_named, path_in};
 
 use crate::number::number_said;

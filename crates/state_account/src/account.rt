@@ -3,7 +3,6 @@
 ghost use Rattle.std.specs.Prelude.{◌≡◌, ◌≤◌, IfOk, IfErr, OnOk};
 ghost use Rattle.batch_file.specs.Frames.{lists, recovered, torn_of};
 ghost use Rattle.endpoints.specs.Server.{outset_of};
-ghost use Rattle.change_codec.specs.Rules.{RulesFact};
 ghost use Rattle.image_codec.specs.Facts.{image_fact};
 ghost use Rattle.state_account.specs.Accounts.{IsAccountOf, IsImageOfAccount, IsOfBatches, RefusesAccount, fault_in};
 ghost use Rattle.state_file.specs.Resuming.{AnswersForBatches, RedoesBatches};

@@ -65,9 +65,6 @@ moved_other a b i x y within_a within_b is_x is_y differ = rw (drop_more a i x w
 pub moved_past : (a b : List (List ℕ)) (i : ℕ) (x : List ℕ) → i < length a → length b ≤ i → get_or a i x ≡ x → first_moved (drop i a) (drop i b) ≡ Some x
 moved_past a b i x within_a past is_x = rw (drop_more a i x within_a, drop_all i b past, is_x) refl
 
-pub moved_end : (a b : List (List ℕ)) (i : ℕ) → length a ≤ i → first_moved (drop i a) (drop i b) ≡ None
-moved_end a b i past = rw (drop_all i a past) refl
-
 none_beside : (a : List ClientFact) → first_narrowed a [] ≡ None
 none_beside [] = refl
 none_beside (c ∷ cs) = refl
@@ -85,9 +82,6 @@ narrowed_past a b i past =
     let here : drop i b ≡ [] = drop_all i b past in
     let next : drop (i + 1) b ≡ [] = drop_all (i + 1) b (omega (arith, past)) in
     rw (here, next) (none_beside (drop i a) ∙ sym (none_beside (drop (i + 1) a)))
-
-pub narrowed_end : (a b : List ClientFact) (i : ℕ) → length a ≤ i → first_narrowed (drop i a) (drop i b) ≡ None
-narrowed_end a b i past = rw (drop_all i a past) refl
 
 -- AT THE ELEMENTS OF TWO LISTS
 

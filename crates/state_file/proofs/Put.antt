@@ -1,14 +1,11 @@
 -- A new file that is put in the place of another.
-use Rattle.std.proofs.Common.{◌≡◌, ◌⊎◌, ◌∙◌, inl, inr, ℕ, List, None, sym, ap, subst}
+use Rattle.std.proofs.Common.{◌≡◌, ◌⊎◌, inl, inr, ℕ, List, None}
 use Rattle.batch_file.specs.Crashes.{LeavesOnly, Only}
 use Rattle.batch_file.specs.Frames.{IsAsBefore, IsFileOf, recovered}
 use Rattle.batch_file.specs.FramesLaws.{file_is}
 use Rattle.batch_file.specs.declared.device.Device.{Ghosts as Device}
-use Rattle.change_codec.specs.Keeping.{Basis, Holds, HoldsBasis}
-use Rattle.consent.specs.History.{Event}
-use Rattle.state_file.specs.Knowing.{SeenKeeper, TellBasis, file_crashes}
+use Rattle.state_file.specs.Knowing.{SeenKeeper}
 use Rattle.state_file.specs.Making.{end_of}
-use Rattle.state_file.specs.Standing.{StandFor, StandsFor}
 use Rattle.state_file.specs.Starting.{IsOldOr, IsPutOn}
 
 module _ {D : Type 0} (device : Device D) where
@@ -37,22 +34,3 @@ module _ {D : Type 0} (device : Device D) where
       keeper.file.end ≡ end_of batches → keeper.fault ≡ None → LeavesOnly device.moment device.left_since old keeper.file.device (IsAsBefore (device.may_leave old) batches) → IsPutOn device batches old keeper
   put_on old keeper batches seen durable end unfailed leaves =
       record { seen = seen; durable = durable; end = end; unfailed = unfailed; meanwhile = old_or old keeper.file.device batches leaves }
-
-  -- WHAT IS KEPT ONCE THE BATCHES ARE PUT THERE, for crates above
-
-  module _ (batches : List (List ℕ)) (old : D) (keeper : SeenKeeper D) (put : IsPutOn device batches old keeper) where
-    -- all that a crash leaves of it has the batches
-    pub leaves_batches : (c : List ℕ) → device.may_leave keeper.file.device c ⊎ (c ≡ device.seen keeper.file.device) → recovered c ≡ batches
-    leaves_batches c (inl left) = ap recovered (put.durable c left) ∙ put.seen
-    leaves_batches c (inr same) = ap recovered same ∙ put.seen
-
-    pub put_holds : (history : List Event) → StandFor batches history → Holds (file_crashes device) keeper history
-    put_holds history stands c left = subst (λ (bs : List (List ℕ)). StandFor bs history) (sym (leaves_batches c left)) stands
-
-    pub put_holds_basis : (basis : Basis) → TellBasis batches basis → HoldsBasis (file_crashes device) keeper basis
-    put_holds_basis basis told c left = subst (λ (bs : List (List ℕ)). TellBasis bs basis) (sym (leaves_batches c left)) told
-
-  -- what was left meanwhile stands for the history
-  pub stands_left : (old : D) (batches : List (List ℕ)) (history : List Event) → StandFor batches history → (c : List ℕ) → IsOldOr device old batches c → device.may_leave old c ⊎ StandsFor c history
-  stands_left old batches history stands c (inl was) = inl was
-  stands_left old batches history stands c (inr are) = inr (subst (λ (bs : List (List ℕ)). StandFor bs history) (sym are) stands)

@@ -1,10 +1,8 @@
 -- Why rules are refused, over a batch and over all.
-use Rattle.std.proofs.Common.{◌≡◌, ◌<◌, ◌≤◌, ◌^◌, ◌⊎◌, ◌+◌, ◌++◌, ◌∙◌, ℕ, List, ◌∷◌, None, Some, inl, inr, map, take, drop, length, get_or, refl, sym, ap, subst, arith}
+use Rattle.std.proofs.Common.{◌≡◌, ◌<◌, ◌+◌, ◌++◌, ◌∙◌, ℕ, List, ◌∷◌, None, Some, inl, inr, map, take, drop, length, get_or, refl, sym, ap, arith}
 use Rattle.std.specs.Borrow.{Bor}
 use Rattle.std.proofs.lemmas.List.{drop_more, map-append, take-append-drop}
-use Rattle.batch_file.specs.Frames.{RefusesFile, recovered}
-use Rattle.batch_file.specs.declared.framing.ReadFault.{ReadFault}
-use Rattle.batch_file.specs.declared.framing.ReadFault.TheVariants as reading
+use Rattle.batch_file.specs.Frames.{recovered}
 use Rattle.consent.specs.History.{Event}
 use Rattle.consent.specs.declared.change.Change.TheVariants.{HookSet}
 use Rattle.consent.specs.declared.record_version.RecordVersion.{RecordVersion}
@@ -16,37 +14,14 @@ use Rattle.hook_host.specs.declared.fault.HookFault.{HookFault}
 use Rattle.hook_host.specs.declared.host.HookHost.{Ghosts as Hosting}
 use Rattle.change_codec.specs.Rules.{RulesFact}
 use Rattle.image_codec.specs.Facts.{HookFact, ImageFact, hook_fact}
-use Rattle.image_codec.specs.Spelling.{ImageFits, image_spelling, rules_spelling}
+use Rattle.image_codec.specs.Spelling.{ImageFits, image_spelling}
 use Rattle.image_codec.specs.declared.image.KeptHook.{KeptHook}
-use Rattle.state_file.specs.Comparing.{AreNarrower, IsUnread, IsUnwritten, RefuseBeside, RefuseRules, TakesRules}
-use Rattle.state_file.specs.FaultTexts.{of_reading, of_redoing}
+use Rattle.state_file.specs.Comparing.{IsUnread, RefuseBeside, RefuseRules, TakesRules}
+use Rattle.state_file.specs.FaultTexts.{of_redoing}
 use Rattle.state_file.specs.Resuming.{FitsNone, IsOfChanges, IsOfImage, RefusesSetting, RefusesImage, RefusesResume, RefuseServer}
-use Rattle.state_file.specs.Telling.{TellsIn}
 use Rattle.state_file.specs.declared.fault.StateFault.{StateFault}
 use Rattle.state_file.specs.declared.fault.StateFault.TheVariants as state
 use Rattle.state_file.specs.declared.restored.Restored.{Restored}
-
--- narrower than what the batch tells
-pub beside_fault : (batch : List ℕ) (told now : RulesFact) → TellsIn batch told → (fault : StateFault) → AreNarrower told now fault → RefuseBeside batch now fault
-beside_fault batch told now is state.Memory narrower = tt
-beside_fault batch told now is state.NotState narrower = absurd narrower
-beside_fault batch told now is (state.Version version) narrower = absurd narrower
-beside_fault batch told now is (state.Damaged number) narrower = absurd narrower
-beside_fault batch told now is (state.Unplaced reason) narrower = absurd narrower
-beside_fault batch told now is (state.Device reason) narrower = absurd narrower
-beside_fault batch told now is state.Full narrower = absurd narrower
-beside_fault batch told now is state.TooLong narrower = absurd narrower
-beside_fault batch told now is state.NoRules narrower = absurd narrower
-beside_fault batch told now is (state.Spelling fault) narrower = absurd narrower
-beside_fault batch told now is (state.ScopeMoved name) narrower = (told, is, narrower)
-beside_fault batch told now is state.OwnerMoved narrower = (told, is, narrower)
-beside_fault batch told now is (state.ClientMoved name) narrower = (told, is, narrower)
-beside_fault batch told now is (state.ClientNarrowed name) narrower = (told, is, narrower)
-beside_fault batch told now is state.LifeNarrowed narrower = (told, is, narrower)
-beside_fault batch told now is (state.Follows fault) narrower = absurd narrower
-beside_fault batch told now is (state.Image fault) narrower = absurd narrower
-beside_fault batch told now is (state.HookDiffers name) narrower = absurd narrower
-beside_fault batch told now is (state.Hook name fault) narrower = absurd narrower
 
 -- what the batch tells is not read
 pub unread : (batch : List ℕ) (now : RulesFact) (fault : StateFault) → IsUnread batch fault → RefuseBeside batch now fault
@@ -209,35 +184,3 @@ no_resume left now (state.Follows fault) refused = refused
 no_resume left now (state.Image fault) refused = refused
 no_resume left now (state.HookDiffers name) refused = refused
 no_resume left now (state.Hook name fault) refused = refused
-
--- it is no file of batches
-pub not_read : (left : List ℕ) (now : RulesFact) (fault : ReadFault) → (fault ≡ reading.Memory) ⊎ RefusesFile left fault → RefusesResume left now (of_reading fault)
-not_read left now reading.Memory either = tt
-not_read left now reading.NotState (inl none) = absurd cc
-not_read left now reading.NotState (inr refused) = refused
-not_read left now (reading.Version version) (inl none) = absurd cc
-not_read left now (reading.Version version) (inr refused) = refused
-not_read left now (reading.Damaged number) (inl none) = absurd cc
-not_read left now (reading.Damaged number) (inr refused) = refused
-
--- its rules are too long to be told
-pub not_told : (batches : List (List ℕ)) (now : RulesFact) (bytes : List ℕ) (fault : StateFault) → bytes ≡ rules_spelling now → IsUnwritten bytes fault → RefuseServer batches now fault
-not_told batches now bytes state.Memory is refused = tt
-not_told batches now bytes state.NotState is refused = absurd refused
-not_told batches now bytes (state.Version version) is refused = absurd refused
-not_told batches now bytes (state.Damaged number) is refused = absurd refused
-not_told batches now bytes (state.Unplaced reason) is refused = absurd refused
-not_told batches now bytes (state.Device reason) is refused = absurd refused
-not_told batches now bytes state.Full is refused = absurd refused
-not_told batches now bytes state.TooLong is refused = inr (subst (λ (b : List ℕ). 2 ^ 32 ≤ length b) is refused)
-not_told batches now bytes state.NoRules is refused = absurd refused
-not_told batches now bytes (state.Spelling fault) is refused = absurd refused
-not_told batches now bytes (state.ScopeMoved name) is refused = absurd refused
-not_told batches now bytes state.OwnerMoved is refused = absurd refused
-not_told batches now bytes (state.ClientMoved name) is refused = absurd refused
-not_told batches now bytes (state.ClientNarrowed name) is refused = absurd refused
-not_told batches now bytes state.LifeNarrowed is refused = absurd refused
-not_told batches now bytes (state.Follows fault) is refused = absurd refused
-not_told batches now bytes (state.Image fault) is refused = absurd refused
-not_told batches now bytes (state.HookDiffers name) is refused = absurd refused
-not_told batches now bytes (state.Hook name fault) is refused = absurd refused

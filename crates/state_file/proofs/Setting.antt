@@ -86,18 +86,6 @@ noted_more (Some facts) (Some kept) before after moment changes unkept happened 
     Happened-joined kept before after facts (all_dated moment changes) unkept happened
 
 module _ {H : Type 0} (hosting : Hosting H) where
-  -- no hook
-  pub sets_none : (restored : Restored H) → Sets hosting restored [] restored
-  sets_none restored outset history fits = (fits, All-nil (λ (h : HookFact). hook_named h.name (hooks_set_in history) ≡ Some h), λ kept notes. notes)
-
-  -- a hook that is set
-  pub sets_old : (restored : Restored H) (hook : HookFact) → hook_named hook.name restored.hooks ≡ Some hook → Sets hosting restored (hook ∷ []) restored
-  sets_old restored hook is outset history fits =
-      let there : hook_named hook.name (hooks_set_in history) ≡ Some hook = ap (hook_named hook.name) (sym fits.1) ∙ is in
-      let same : with_hook restored.moment history hook ≡ history = with_hook-old restored.moment history hook hook there in
-      subst (λ (h : List Event). FitsRestored hosting restored outset h × AreSet (hook ∷ []) h × AreNoted restored.server restored.server history h) (sym same)
-      (fits, All-cons (λ (h : HookFact). hook_named h.name (hooks_set_in history) ≡ Some h) hook [] there (All-nil (λ (h : HookFact). hook_named h.name (hooks_set_in history) ≡ Some h)), λ kept notes. notes)
-
   -- a hook of a new name
   pub sets_new : (old new : Restored H) (hook : HookFact) (changes : Changes) →
       all_dated old.moment changes ≡ record { moment = old.moment; fact = HookSet hook.name hook.version hook.code } ∷ [] →

@@ -1,12 +1,11 @@
 -- A state file in which rules are told.
-use Rattle.std.proofs.Common.{◌≡◌, ◌↔◌, inl, inr, length, ℕ, zero, suc, List, [], ◌∷◌, ◌++◌, Bool, true, false, Option, None, Some, refl, sym, ap, ◌∙◌, subst, arith}
+use Rattle.std.proofs.Common.{◌≡◌, ◌↔◌, inl, inr, ℕ, zero, suc, List, [], ◌∷◌, ◌++◌, Bool, true, false, Option, None, Some, refl, sym, ap, ◌∙◌, subst, arith}
 use Rattle.std.specs.Prelude.{max}
 use Rattle.std.specs.Option.{option_or}
 use Rattle.consent.specs.History.{Event}
 use Rattle.image_codec.specs.SpellingLaws.{one_rules}
 use Rattle.change_codec.specs.Rules.{RulesFact}
-use Rattle.image_codec.specs.Facts.{ImageFact}
-use Rattle.image_codec.specs.Spelling.{ImageFits, RulesFit, image_spelling, rules_fields, rules_spelling}
+use Rattle.image_codec.specs.Spelling.{RulesFit, rules_fields, rules_spelling}
 use Rattle.state_file.specs.MakingParts.{AreToldBehind}
 use Rattle.state_file.specs.Standing.{StandFor, until_of}
 use Rattle.state_file.specs.StandingLaws.{AreTold-rules, StandFor-beside, until_of-append}
@@ -56,17 +55,6 @@ module _ (old new : List (List ℕ)) (rules : RulesFact) where
   until_behind (inr more) = ap until_of more.1 ∙ until_of-append old (rules_spelling rules ∷ []) ∙ max_0 (until_of old)
 
 -- WHAT A BATCH TELLS
-
--- an image is read as one, and so are its rules
-pub one_of_image : (batch : List ℕ) (read : ImageFact) → batch ≡ image_spelling read → ((i : ImageFact) → ImageFits i → batch ≡ image_spelling i → i ≡ read) →
-    (others : RulesFact) → TellsIn batch others → others ≡ read.rules
-one_of_image batch read is one others (inl alone) = let e = sym is ∙ alone.1 in absurd cc
-one_of_image batch read is one others (inr of) = sym of.2 ∙ ap (λ (i : ImageFact). i.rules) (one of.0 of.1 of.3)
-
-pub one_of_rules : (batch : List ℕ) (read : RulesFact) → batch ≡ rules_spelling read → ((r : RulesFact) → RulesFit r → batch ≡ rules_spelling r → r ≡ read) →
-    (others : RulesFact) → TellsIn batch others → others ≡ read
-one_of_rules batch read is one others (inl alone) = one others alone.0 alone.1
-one_of_rules batch read is one others (inr of) = let e = sym is ∙ of.3 in absurd cc
 
 -- rules of one spelling are the same
 pub told_spelled : (batch : List ℕ) (told now : RulesFact) → TellsIn batch told → RulesFit told → RulesFit now → ((others : RulesFact) → TellsIn batch others → others ≡ told) →

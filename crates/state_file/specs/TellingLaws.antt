@@ -2,15 +2,12 @@
 use Rattle.std.proofs.Common.{◌≡◌, inl, inr, ℕ, List, [], ◌∷◌, ◌++◌, Option, None, Some, refl, sym, ap, ◌∙◌, subst}
 use Rattle.std.specs.Prelude.{Ok, Err}
 use Rattle.std.specs.Option.{option_or}
-use Rattle.batch_file.specs.Frames.{recovered}
-use Rattle.change_codec.specs.Spelling.{DatedFact, batch_spelling}
 use Rattle.wire.specs.declared.fault.Fault.{Fault}
 use Rattle.image_codec.specs.SpellingLaws.{image_reading_again, one_image, one_rules, rules_reading_again}
 use Rattle.change_codec.specs.Rules.{RulesFact}
 use Rattle.image_codec.specs.Facts.{ImageFact}
-use Rattle.image_codec.specs.Spelling.{ImageFits, RulesFit, image_spelling, rules_spelling}
 use Rattle.state_file.specs.Comparing.{IsMisspelled}
-use Rattle.state_file.specs.Telling.{rules_in, last_rules, Tell, TellsIn, TellsRules}
+use Rattle.state_file.specs.Telling.{rules_in, last_rules, Tell, TellsIn}
 
 or_none : {A : Type 0} (x : Option A) → option_or x None ≡ x
 or_none None = refl

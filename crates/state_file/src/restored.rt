@@ -1,6 +1,6 @@
 //! A server whose changes are made again.
 
-ghost use Rattle.std.specs.Prelude.{◌≡◌, ◌↔◌, [], ◌∷◌, None, Some, IfOk, IfErr, OnOk, map, max, if◌then◌else◌, string_bytes};
+ghost use Rattle.std.specs.Prelude.{◌≡◌, [], ◌∷◌, None, Some, IfOk, IfErr, OnOk, map, max, if◌then◌else◌};
 ghost use Rattle.consent.specs.declared.change.Change.TheVariants.{HookSet};
 ghost use Rattle.consent.specs.declared.change.Changes.TheVariants.{One};
 ghost use Rattle.change_codec.specs.Spelling.{dated_fact};

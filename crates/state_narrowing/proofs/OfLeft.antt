@@ -1,6 +1,6 @@
 -- What a file stands for that has an image of what is left.
 use Rattle.std.proofs.Common.{◌≡◌, ◌⊎◌, ◌<◌, ◌^◌, inl, inr, ℕ, ◌-◌, zero, suc, List, [], ◌∷◌, Bool, true, false, cond, None, Some, refl, ap, sym, subst, ◌∙◌}
-use Rattle.std.specs.Prelude.{◌==◌, if◌then◌else◌, is_some, slice_get, map, Result, Ok, Err, IfOk, IfErr}
+use Rattle.std.specs.Prelude.{◌==◌, if◌then◌else◌, is_some, slice_get, map}
 use Rattle.std.specs.Str.{bytes_eq}
 use Rattle.batch_file.specs.Frames.{recovered}
 use Rattle.wire.specs.declared.fault.EncodeFault.{EncodeFault}
@@ -44,19 +44,7 @@ use Rattle.state_narrowing.specs.NarrowingParts.{IsRightImage, SpellLeft}
 use Rattle.state_narrowing.specs.declared.imaging.LeftImage.{LeftImage}
 use Rattle.state_narrowing.specs.declared.narrowed.Narrowed.{Narrowed}
 
--- RESULTS
-
-pub ok_also : {X E : Type 0} (r : Result X E) (P Q : X → Type 0) → ((x : X) → P x → Q x) → IfOk r P → IfOk r Q
-ok_also (Ok x) P Q f is = f x is
-ok_also (Err e) P Q f is = tt
-
-pub ok_both : {X E : Type 0} (r : Result X E) (P Q R : X → Type 0) → ((x : X) → P x → Q x → R x) → IfOk r P → IfOk r Q → IfOk r R
-ok_both (Ok x) P Q R f is also = f x is also
-ok_both (Err e) P Q R f is also = tt
-
-pub err_also : {X E : Type 0} (r : Result X E) (P Q : E → Type 0) → ((e : E) → P e → Q e) → IfErr r P → IfErr r Q
-err_also (Ok x) P Q f is = tt
-err_also (Err e) P Q f is = f e is
+-- FAULTS
 
 pub of_encoding_refuses : (fault : EncodeFault) → RefusesNarrowing (of_encoding fault)
 of_encoding_refuses encoding.Memory = tt

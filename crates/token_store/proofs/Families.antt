@@ -1,9 +1,7 @@
 -- Families that are ended, opened or let go of.
 use Rattle.std.proofs.Common.{◌≡◌, ◌≢◌, ◌<◌, ◌≤◌, ◌⊎◌, inl, inr, ℕ, ◌+◌, List, [], ◌∷◌, Option, Some, None, Bool, true, false, cond, eqb, refl, ap, ◌∙◌, sym, arith}
 use Rattle.std.specs.Prelude.{◌&&◌, ◌==◌, not, nat_lt, is_some, map, slice_index_or, option_map}
-use Rattle.std.specs.List.{list_any}
 use Rattle.std.specs.Map.{values_of}
-use Rattle.std.specs.BTreeMap.{is_at}
 use Rattle.std.proofs.lemmas.Bool.{eqb-true, eq-eqb, lt-ltb, ltb-true, and_parts, and_from, false≢true}
 use Rattle.consent.specs.ListLaws.{count_by-cons}
 use Rattle.consent.specs.History.{is_beyond, is_within}
@@ -12,7 +10,7 @@ use Rattle.token_store.specs.declared.record.Record.{Record}
 use Rattle.token_store.specs.declared.record.Shared.{Shared}
 use Rattle.token_store.specs.Kept.{Kept}
 use Rattle.token_store.specs.declared.agenda.Agenda.{Agenda}
-use Rattle.token_store.specs.Records.{shared_at, or_nothing, kept_in, kept_under, all_kept, member_count, is_coded, Tied, IsOwned, owner_cmp, terms_by}
+use Rattle.token_store.specs.Records.{shared_at, or_nothing, kept_in, kept_under, all_kept, member_count, is_coded, Tied, IsOwned, terms_by}
 use Rattle.token_store.specs.RecordsParts.{RecordChange, changed, HasEnded, HasLowered, HasOpened, HasClosed, IsAfter, IsNextOwned, lowered_by, lowered_shared, is_beyond_mask}
 
 -- ENDING
@@ -104,9 +102,6 @@ coded_same owner client mask (Some s) h = scope_cases s.code_scope refl h
 pub record LoweredTo (old new : List (Option Shared)) (owner client mask : ℕ) (after : Option ℕ) : Type 0 where
   pub done : (k : ℕ) → ¬ IsAfter after k → slice_index_or new k None ≡ option_map (lowered_shared owner client mask) (slice_index_or old k None)
   pub todo : (k : ℕ) → IsAfter after k → slice_index_or new k None ≡ slice_index_or old k None
-
-pub lowered_none : (old : List (Option Shared)) (owner client mask : ℕ) → LoweredTo old old owner client mask None
-lowered_none old owner client mask = record { done = λ k before. absurd (before tt); todo = λ k is. refl }
 
 is_after : (after : Option ℕ) (k : ℕ) → (IsAfter after k) ⊎ (¬ IsAfter after k)
 is_after None k = inl tt
@@ -217,35 +212,3 @@ pub opened_same : (old new : List (Option Shared)) (es : List (List ℕ × Recor
     HasOpened old new n s → all_kept new es ≡ all_kept old es
 opened_same old new es agenda owners n s tied opened =
     unseen old new n es opened.others (vacant_count old es agenda owners n tied (ap (λ o. (or_nothing o).count) opened.vacant))
-
-opened_counts : (old new : List (Option Shared)) (n : ℕ) (s : Shared) → s.count ≡ 0 → HasOpened old new n s → (k : ℕ) → (shared_at new k).count ≡ (shared_at old k).count
-opened_counts old new n s empty opened k = number_cases (eqb k n) refl
-  where
-    number_cases : (b : Bool) → eqb k n ≡ b → (shared_at new k).count ≡ (shared_at old k).count
-    number_cases true is =
-        ap (λ i. (shared_at new i).count) (eqb-true k n is) ∙ ap (λ o. (or_nothing o).count) opened.here ∙ empty
-        ∙ sym (ap (λ i. (shared_at old i).count) (eqb-true k n is) ∙ ap (λ o. (or_nothing o).count) opened.vacant)
-    number_cases false is = ap (λ o. (or_nothing o).count) (opened.others k (λ e. false≢true (sym is ∙ eq-eqb k n e)))
-
-pub tied_opened : (old new : List (Option Shared)) (es : List (List ℕ × Record)) (agenda : Agenda) (owners owners' : List ((ℕ × ℕ) × ℕ)) (n : ℕ) (s : Shared) → s.count ≡ 0 →
-    HasOpened old new n s → IsOwned new owners' → Tied old es agenda owners [] → Tied new es agenda owners' []
-tied_opened old new es agenda owners owners' n s empty opened owned tied = record {
-  once = tied.once;
-  listed = tied.listed;
-  exact = tied.exact;
-  counted = λ k. opened_counts old new n s empty opened k ∙ tied.counted k;
-  owned = owned;
-}
-
--- a family that no code opened is nowhere in the index
-pub owned_uncoded : (old new : List (Option Shared)) (owners : List ((ℕ × ℕ) × ℕ)) (n : ℕ) (s : Shared) → is_some s.code_scope ≡ false → HasOpened old new n s → IsOwned old owners → IsOwned new owners
-owned_uncoded old new owners n s none opened owned q = number_cases (eqb q.1 n) refl
-  where
-    number_cases : (b : Bool) → eqb q.1 n ≡ b → list_any (is_at (owner_cmp q)) owners ≡ is_coded q.0.0 q.0.1 (slice_index_or new q.1 None)
-    number_cases true is =
-        let number = eqb-true q.1 n is in
-        owned q ∙ ap (is_coded q.0.0 q.0.1) (ap (λ k. slice_index_or old k None) number ∙ opened.vacant)
-        ∙ sym (ap (is_coded q.0.0 q.0.1) (ap (λ k. slice_index_or new k None) number ∙ opened.here) ∙ ap (λ b. (b && eqb s.owner q.0.0) && eqb s.client q.0.1) none)
-    number_cases false is = owned q ∙ ap (is_coded q.0.0 q.0.1) (sym (opened.others q.1 (λ e. false≢true (sym is ∙ eq-eqb q.1 n e))))
-
--- CLOSING

@@ -1,15 +1,13 @@
 -- A store that keeps new tokens fits the history in which they are issued.
 use Rattle.std.proofs.Common.{◌≡◌, ◌<◌, inl, inr, ℕ, ◌+◌, List, [], ◌∷◌, ◌++◌, Option, Some, None, Bool, true, false, cond, eqb, length, refl, ap, ◌∙◌, sym, arith}
-use Rattle.std.specs.Prelude.{◌||◌, nat_le, find, is_some, option_map}
-use Rattle.std.specs.List.{list_any}
+use Rattle.std.specs.Prelude.{find, is_some, option_map}
 use Rattle.std.specs.Str.{bytes_eq}
 use Rattle.std.proofs.lemmas.Bool.{eqb-true, eq-eqb, and_parts, and_from, false≢true}
 use Rattle.std.proofs.lemmas.Slice.Eq.{bytes_eq-Decides}
-use Rattle.consent.specs.Limits.{record_limit}
 use Rattle.std.specs.Prelude.{◌==◌}
 use Rattle.std.specs.Map.{values_of}
 use Rattle.consent.specs.ListLaws.{find-passes, find-one, find-some, count_by-cons}
-use Rattle.consent.specs.History.{Event, Grant, grants, grant_at, is_named, is_unexpired, is_code, is_code_of, terms_of, code_terms, has_ended, opener, is_of, has_room, are_taken, IsHome, with_change}
+use Rattle.consent.specs.History.{Event, Grant, grants, grant_at, is_named, is_unexpired, is_code, is_code_of, terms_of, code_terms, has_ended, opener, is_of, IsHome, with_change}
 use Rattle.consent.specs.GrowthLaws.{code_terms-push_other, has_ended-push_other}
 use Rattle.consent.specs.HistoryLaws.{grant_at-kin, opener-of_one, code_terms-kin, code_terms-fresh, has_ended-fresh, is_history-push}
 use Rattle.consent.specs.declared.change.NewToken.{NewToken}
@@ -17,36 +15,14 @@ use Rattle.token_store.specs.declared.record.Record.{Record}
 use Rattle.token_store.specs.declared.record.Shared.{Shared}
 use Rattle.token_store.specs.declared.record.Given.{Given}
 use Rattle.token_store.specs.declared.record.Given.TheVariants.{Code, Token}
-use Rattle.token_store.specs.Kept.{Kept, kept_at, kept_unexpired, is_in, HasFamily}
-use Rattle.token_store.specs.Fits.{FitsBy, to_keep, refusal_by, refusal}
+use Rattle.token_store.specs.Kept.{Kept, is_in, HasFamily}
+use Rattle.token_store.specs.Fits.{FitsBy, to_keep}
 use Rattle.token_store.specs.FitsParts.{IsMember, with_family_number}
 use Rattle.consent.specs.Changes.{token_issued, issued_with}
 use Rattle.token_store.specs.Records.{kind_in, owner_in, kept_in, member_count, terms_by, shared_at, kept_under, all_kept}
 use Rattle.token_store.specs.RecordsParts.{Place, family_place, own_place, token_kept, IsUnused}
 use Rattle.token_store.proofs.Adding.{Gives, keeps_push, fits_given, fits_named}
 use Rattle.token_store.proofs.Opening.{own_unused}
-
--- WHEN TOKENS ARE REFUSED
-
-is_some-map : {A B : Type 0} (f : A → B) (o : Option A) → is_some (option_map f o) ≡ is_some o
-is_some-map f None = refl
-is_some-map f (Some x) = refl
-
-are_taken-same : (p q : List ℕ → Bool) → ((d : List ℕ) → p d ≡ q d) → (digests : List (List ℕ)) → are_taken p digests ≡ are_taken q digests
-are_taken-same p q same [] = refl
-are_taken-same p q same (d ∷ ds) =
-    ap (λ b. b || list_any (bytes_eq d) ds || are_taken p ds) (same d) ∙ ap (λ b. q d || list_any (bytes_eq d) ds || b) (are_taken-same p q same ds)
-
--- the store's reason is the history's
-pub same_refusal : (kept : List Kept) (history : List Event) (number : ℕ → ℕ) (moment n : ℕ) (digests : List (List ℕ)) → FitsBy kept history moment number →
-    n ≡ length digests →
-    refusal_by (nat_le (kept_unexpired kept moment + n) record_limit) (are_taken (λ d. is_some (kept_at kept d moment)) digests) ≡ refusal history moment digests
-same_refusal kept history number moment n digests fits len =
-    ap (λ x. refusal_by (nat_le (kept_unexpired kept moment + x) record_limit) (are_taken (λ d. is_some (kept_at kept d moment)) digests)) len
-    ∙ ap (λ x. refusal_by (nat_le (x + length digests) record_limit) (are_taken (λ d. is_some (kept_at kept d moment)) digests)) (fits.count moment (omega arith))
-    ∙ ap (refusal_by (has_room history moment digests))
-    (are_taken-same (λ d. is_some (kept_at kept d moment)) (λ d. is_some (grant_at history d moment)) (λ d.
-    ap is_some (fits.answers d moment (omega arith)) ∙ is_some-map (to_keep history number d moment) (grant_at history d moment)) digests)
 
 -- ONE TOKEN
 

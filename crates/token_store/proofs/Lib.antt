@@ -1,6 +1,5 @@
 pub mod Adding
 pub mod Changing
-pub mod Counting
 pub mod Dropping
 pub mod Sweeping
 pub mod Families

@@ -1,9 +1,9 @@
 -- How tables are made of records.
-use Rattle.std.proofs.Common.{◌≡◌, ◌≢◌, ◌≤◌, ◌<◌, ◌⊎◌, inl, inr, ℕ, ◌+◌, List, [], ◌∷◌, ◌++◌, Option, Some, None, Bool, true, false, cond, eqb, refl, ap, ◌∙◌, sym, subst, arith, map, take, drop, get_or, length, suc, append_assoc, add-one, drop-cons}
+use Rattle.std.proofs.Common.{◌≡◌, ◌≢◌, ◌≤◌, ◌<◌, ◌⊎◌, inl, inr, ℕ, ◌+◌, List, [], ◌∷◌, ◌++◌, Option, Some, None, Bool, true, false, cond, refl, ap, ◌∙◌, sym, subst, arith, map, take, drop, get_or, length, suc, append_assoc, add-one, drop-cons}
 use Rattle.std.specs.Prelude.{All, count_by, filter, find, is_some, nat_eq, nat_lt, slice_index_or, option_map, unwrap_or, ◌&&◌}
 use Rattle.std.specs.Option.{option_or}
 use Rattle.std.specs.Str.{bytes_eq}
-use Rattle.std.proofs.lemmas.Bool.{eqb-true, eq-eqb, ltb-true, lt-ltb, and_right, and_from, false≢true}
+use Rattle.std.proofs.lemmas.Bool.{eqb-true, ltb-true, lt-ltb, and_right, and_from, false≢true}
 use Rattle.std.proofs.lemmas.Slice.Eq.{bytes_eq-Decides}
 use Rattle.std.proofs.lemmas.List.{take-append-drop}
 use Rattle.std.proofs.lemmas.List.Folds.{find-append}
@@ -19,7 +19,7 @@ use Rattle.token_store.specs.Image.{HasDigestTwice, as_kept, kept_record}
 use Rattle.token_store.specs.ImageParts.{is_unexpired_record, renumbered, IsRestored}
 use Rattle.token_store.specs.Homes.{AreHomes, HasHome, AllHome, HasGrown, number_of_family, renumber_by}
 use Rattle.token_store.specs.Records.{IsTied, kept_of, kept_in, all_kept}
-use Rattle.token_store.specs.RecordsParts.{HasEntered, HasOpened, TellsSame, is_live_at}
+use Rattle.token_store.specs.RecordsParts.{HasOpened, TellsSame, is_live_at}
 use Rattle.token_store.proofs.Looking.{count-push, same_push, same_on}
 use Rattle.token_store.proofs.Telling.{fits_same}
 
@@ -45,15 +45,6 @@ homes_opened numbers numbers' old new f n s homes opened updates = record {
     apart_cases q r k false e true e' h h' = let same : n ≡ k = cc in absurd (not_new k (homes.there q k h) (sym same))
     apart_cases q r k false e false e' h h' = homes.apart q r k h h'
 
-pub no_homes : (families : List (Option Shared)) → AreHomes [] families
-no_homes families = record {
-  there = λ f n h. absurd (none_some n h);
-  apart = λ f g n h i. absurd (none_some n h);
-}
-  where
-    none_some : (n : ℕ) → None ≡ Some n → ⊥
-    none_some n h = cc
-
 -- a family's home stays
 pub home_grown : (numbers numbers' : List (ℕ × ℕ)) (families families' : List (Option Shared)) (r : KeptRecord) → HasGrown numbers families numbers' families' → HasHome numbers families r → HasHome numbers' families' r
 home_grown numbers numbers' families families' r grown home = record {
@@ -63,26 +54,6 @@ home_grown numbers numbers' families families' r grown home = record {
   at = grown.families_stay home.number home.shared home.at;
   agrees = home.agrees;
 }
-
-pub home_entered : (numbers : List (ℕ × ℕ)) (families families' : List (Option Shared)) (n : ℕ) (r : KeptRecord) → HasEntered families families' n 1 → HasHome numbers families r → HasHome numbers families' r
-home_entered numbers families families' n r entered home = entered_cases (eqb home.number n) refl
-  where
-    entered_cases : (b : Bool) → eqb home.number n ≡ b → HasHome numbers families' r
-    entered_cases true is = let same = eqb-true home.number n is in record {
-      number = home.number;
-      number_is = home.number_is;
-      shared = record home.shared { count = home.shared.count + 1 };
-      at = ap (λ k. slice_index_or families' k None) same ∙ entered.here ∙ ap (λ k. option_map (λ (s : Shared). record s { count = s.count + 1 }) (slice_index_or families k None)) (sym same)
-          ∙ ap (option_map (λ (s : Shared). record s { count = s.count + 1 })) home.at;
-      agrees = record { client = home.agrees.client; owner = home.agrees.owner; code_scope = home.agrees.code_scope; ended = home.agrees.ended };
-    }
-    entered_cases false is = record {
-      number = home.number;
-      number_is = home.number_is;
-      shared = home.shared;
-      at = entered.others home.number (λ e. false≢true (sym is ∙ eq-eqb home.number n e)) ∙ home.at;
-      agrees = home.agrees;
-    }
 
 pub all_mapped : (numbers numbers' : List (ℕ × ℕ)) (families families' : List (Option Shared)) (m : ℕ) (rs : List KeptRecord) →
     ((r : KeptRecord) → HasHome numbers families r → HasHome numbers' families' r) → AllHome numbers families m rs → AllHome numbers' families' m rs
@@ -137,10 +108,6 @@ pub tells_push : (f : Kept → Kept) (rs : List KeptRecord) (r : KeptRecord) (ke
 tells_push f rs r kept kept' m so_far more =
     rw (map-push kept_record rs r, map-push f (as_kept rs) (kept_record r))
     (same_on _ _ _ m (same_push (map f (as_kept rs)) kept (f (kept_record r)) m so_far) more)
-
-pub map_empty : {A B : Type 0} (f : A → B) (xs : List A) → map f xs ≡ [] → xs ≡ []
-map_empty f [] h = refl
-map_empty f (x ∷ xs) h = cc
 
 -- RENUMBERING
 
@@ -230,13 +197,6 @@ count_past p (x ∷ rs) r later is =
     let after = count_by-cons p (kept_record x) (as_kept (rs ++ r ∷ later)) in
     let more = count_past p rs r later is in
     omega (arith, before, after, more)
-
--- as many are unexpired of what the records say is kept
-pub unexpired_kept : (m : ℕ) (rs : List KeptRecord) → count_by (is_unexpired_record m) rs ≡ kept_unexpired (as_kept rs) m
-unexpired_kept m [] = refl
-unexpired_kept m (r ∷ rs) =
-    count_by-cons (is_unexpired_record m) r rs ∙ ap (λ n. cond {A = ℕ} (is_unexpired_record m r) 1 0 + n) (unexpired_kept m rs)
-    ∙ sym (count_by-cons (λ (k : Kept). is_unexpired m k.grant) (kept_record r) (as_kept rs))
 
 some_counted : (p : Kept → Bool) (ks : List Kept) → is_some (find p ks) ≡ true → 0 < count_by p ks
 some_counted p [] h = absurd (false≢true h)

@@ -1,5 +1,5 @@
 -- Deadlines: the least of them, and those that are still to come.
-use Rattle.std.proofs.Common.{◌≡◌, ◌<◌, ◌≤◌, ℕ, List, [], ◌∷◌, ◌++◌, Bool, true, false, cond, eqb, length, get_or, set, zero, suc, refl, ap, ◌∙◌, sym, arith}
+use Rattle.std.proofs.Common.{◌≡◌, ◌<◌, ◌≤◌, ℕ, List, [], ◌∷◌, ◌++◌, Bool, true, false, cond, eqb, set, zero, suc, refl, ap, ◌∙◌, sym, arith}
 use Rattle.std.specs.Prelude.{◌&&◌, ◌||◌, ◌==◌, not, nat_lt, min, filter}
 use Rattle.std.specs.List.{list_any, list_all, AllByRecursion}
 use Rattle.std.specs.Str.{bytes_eq}
@@ -127,12 +127,3 @@ pub bounded_set : (pages : List Page) (i : ℕ) (page : Page) → IsBounded page
 bounded_set [] i page is all = tt
 bounded_set (p ∷ pages) zero page is all = (is, all.1)
 bounded_set (p ∷ pages) (suc i) page is all = (all.0, bounded_set pages i page is all.1)
-
-pub bounded_get : (pages : List Page) (i : ℕ) (d : Page) → i < length pages → AllByRecursion IsBounded pages → IsBounded (get_or pages i d)
-bounded_get [] i d lt all = absurd (omega (arith, lt))
-bounded_get (p ∷ pages) zero d lt all = all.0
-bounded_get (p ∷ pages) (suc i) d lt all = bounded_get pages i d (omega (arith, lt)) all.1
-
-pub bounded_push : (pages : List Page) (page : Page) → IsBounded page → AllByRecursion IsBounded pages → AllByRecursion IsBounded (pages ++ page ∷ [])
-bounded_push [] page is all = (is, tt)
-bounded_push (p ∷ pages) page is all = (all.0, bounded_push pages page is all.1)

@@ -86,41 +86,6 @@ owned_without families families' owners owners' n s is_s owned removed gone othe
     without_step q false at false same =
         owned q ∙ ap (is_coded q.0.0 q.0.1) (sym (others q.1 (λ here. false≢true (sym same ∙ eq-eqb q.1 n here))))
 
--- not in the index for a number that no family has
-pub unowned : (families : List (Option Shared)) (owners : List ((ℕ × ℕ) × ℕ)) (key : (ℕ × ℕ) × ℕ) → IsOwned families owners → slice_index_or families key.1 None ≡ None →
-    list_any (is_at (owner_cmp key)) owners ≡ false
-unowned families owners key owned none = owned key ∙ ap (is_coded key.0.0 key.0.1) none
-
--- the owners' index with a family more
-pub owned_with : (families families' : List (Option Shared)) (owners owners' : List ((ℕ × ℕ) × ℕ)) (n : ℕ) (s : Shared) → is_some s.code_scope ≡ true →
-    slice_index_or families n None ≡ None → slice_index_or families' n None ≡ Some s → ((k : ℕ) → k ≢ n → slice_index_or families' k None ≡ slice_index_or families k None) →
-    IsOwned families owners → ((q : (ℕ × ℕ) × ℕ) → list_any (is_at (owner_cmp q)) owners' ≡ cond (is_at (owner_cmp ((s.owner, s.client), n)) q) true (list_any (is_at (owner_cmp q)) owners)) →
-    IsOwned families' owners'
-owned_with families families' owners owners' n s coded vacant here others owned put = λ q.
-    put q ∙ with_step q (is_at (owner_cmp ((s.owner, s.client), n)) q) refl (eqb q.1 n) refl
-  where
-    not_coded : (q : (ℕ × ℕ) × ℕ) → q.1 ≡ n → is_at (owner_cmp ((s.owner, s.client), n)) q ≡ false → (b : Bool) → eqb s.owner q.0.0 ≡ b → (d : Bool) → eqb s.client q.0.1 ≡ d →
-        ((is_some s.code_scope && b) && d) ≡ false
-    not_coded q same other true o true c =
-        let owner = eqb-true s.owner q.0.0 o in let client = eqb-true s.client q.0.1 c in
-        let k : ((s.owner, s.client), n) ≡ q = (λ i. ((owner i, client i), sym same i)) in
-        absurd (false≢true (sym other ∙ ap (λ x. is_at (owner_cmp x) q) k ∙ owner_self q))
-    not_coded q same other true o false c = ap (λ b. (b && true) && false) coded
-    not_coded q same other false o d c = ap (λ b. (b && false) && d) coded
-
-    with_step : (q : (ℕ × ℕ) × ℕ) → (a : Bool) → is_at (owner_cmp ((s.owner, s.client), n)) q ≡ a → (b : Bool) → eqb q.1 n ≡ b →
-        cond a true (list_any (is_at (owner_cmp q)) owners) ≡ is_coded q.0.0 q.0.1 (slice_index_or families' q.1 None)
-    with_step q true at b same =
-        let k = owner_at ((s.owner, s.client), n) q at in
-        sym (ap (λ x. is_coded q.0.0 q.0.1 (slice_index_or families' x None)) (sym k.1.1) ∙ ap (is_coded q.0.0 q.0.1) here
-        ∙ ap (λ b. (is_some s.code_scope && b) && eqb s.client q.0.1) (eq-eqb s.owner q.0.0 k.0) ∙ ap (λ b. (is_some s.code_scope && true) && b) (eq-eqb s.client q.0.1 k.1.0) ∙ ap (λ b. (b && true) && true) coded)
-    with_step q false at true same =
-        let number : q.1 ≡ n = eqb-true q.1 n same in
-        owned q ∙ ap (λ x. is_coded q.0.0 q.0.1 (slice_index_or families x None)) number ∙ ap (is_coded q.0.0 q.0.1) vacant
-        ∙ sym (ap (λ x. is_coded q.0.0 q.0.1 (slice_index_or families' x None)) number ∙ ap (is_coded q.0.0 q.0.1) here ∙ not_coded q number at (eqb s.owner q.0.0) refl (eqb s.client q.0.1) refl)
-    with_step q false at false same =
-        owned q ∙ ap (is_coded q.0.0 q.0.1) (sym (others q.1 (λ e. false≢true (sym same ∙ eq-eqb q.1 n e))))
-
 -- THE NEXT IN THE INDEX
 
 not_greater_then : (o p : Ordering) → is_gt (ordering_then o p) ≡ false → is_gt o ≡ false

@@ -2,7 +2,7 @@
 use Rattle.std.proofs.Common.{◌≡◌, ◌<◌, ◌≤◌, ◌+◌, ℕ, suc, zero, List, [], ◌∷◌, ◌++◌, false, Bor, map, take, drop, get_or, length, flat_map, Result, Err, IfErr, refl, sym, ap, ◌∙◌, subst, append_assoc, append-nil, arith}
 use Rattle.std.proofs.lemmas.List.{take_all}
 use Rattle.hook_host.specs.declared.host.HookHost.{Ghosts as Hosting}
-use Rattle.http_edge.specs.Schedule.{Happening, Opened, Came, HasEnded, first_world, piece_of}
+use Rattle.http_edge.specs.Schedule.{Happening, Opened, Came, HasEnded, piece_of}
 use Rattle.http_edge.specs.Edges.{SeenEdge}
 use Rattle.transcript.specs.Lines.{Statement, Opens, Brings, Ends, States}
 use Rattle.transcript.specs.Events.{LineStandsFor, StandFor}
@@ -46,9 +46,6 @@ stand_on (l ∷ lines) [] line e h one = absurd h
 stand_on (l ∷ lines) (f ∷ schedule) line e h one = (h.0, stand_on lines schedule line e h.1 one)
 
 -- ---- runs
-
-pub nothing_run : {H : Type 0} (hosting : Hosting H) (edge : SeenEdge H) → RunsLines hosting edge edge [] []
-nothing_run hosting edge = λ outset reached. record { schedule = []; stand_for = tt {0}; world = first_world; reached = reached; opened_are = refl }
 
 pub run_on : {H : Type 0} (hosting : Hosting H) (old middle new : SeenEdge H) (lines : List (List ℕ)) (line opened opened' : List ℕ)
     → RunsLines hosting old middle lines opened → LineLeads hosting (edge_with middle opened) line (edge_with new opened') → RunsLines hosting old new (lines ++ line ∷ []) opened'

@@ -14,7 +14,7 @@ returns-in-Serve-clause-done g c =
 pub returns-in-Serve-clause-fault : goal.returns-in-Serve-clause-fault
 returns-in-Serve-clause-fault g c =
     not_served c.serve_count.result _ c.args.service.now (files_in c.args.files)
-    (outputs (output g.W.Write.contents g.W.Printer.prints c.args.out.now c.serve_count.new.out) (output g.E.Write.contents g.E.Printer.prints c.args.err.now c.args.err.now)) c.in_ok-registry.registry c.in-Serve.given c.in_ok-registry.ensures.found c.in-Serve.is refl
+    (outputs (output g.W.Write.contents g.W.Printer.writes c.args.out.now c.serve_count.new.out) (output g.E.Write.contents g.E.Printer.writes c.args.err.now c.args.err.now)) c.in_ok-registry.registry c.in-Serve.given c.in_ok-registry.ensures.found c.in-Serve.is refl
     c.serve_count.ensures.refused
 
 pub returns-in_default-clause-fault : goal.returns-in_default-clause-fault
@@ -32,9 +32,9 @@ returns-in_default-clause-fault g c =
     } in
     elim c.start_anew.ensures [
       | inl not ↦ not_heard _ c.args.service.now (files_in c.args.files) c.start_anew.result
-          (outputs (output g.W.Write.contents g.W.Printer.prints c.args.out.now c.start_anew.new.out) (output g.E.Write.contents g.E.Printer.prints c.args.err.now c.start_anew.new.err)) c.in_ok-registry.registry c.in-Start.given.address.now not.1
+          (outputs (output g.W.Write.contents g.W.Printer.writes c.args.out.now c.start_anew.new.out) (output g.E.Write.contents g.E.Printer.writes c.args.err.now c.start_anew.new.err)) c.in_ok-registry.registry c.in-Start.given.address.now not.1
           c.in_ok-registry.ensures.found (rw c.in-Start.is) not.0 not.2
-      | inr ends ↦ inr (ended_anew _ c.args.service.now (files_in c.args.files) c.start_anew.result (output g.W.Write.contents g.W.Printer.prints c.args.out.now c.start_anew.new.out) all c.limits_of.result none c.limits_of.ensures ends)
+      | inr ends ↦ inr (ended_anew _ c.args.service.now (files_in c.args.files) c.start_anew.result (output g.W.Write.contents g.W.Printer.writes c.args.out.now c.start_anew.new.out) all c.limits_of.result none c.limits_of.ensures ends)
     ]
 
 pub returns-clause-fault : goal.returns-clause-fault
@@ -54,8 +54,8 @@ returns-clause-fault g c =
     } in
     elim c.start_on_state.ensures [
       | inl not ↦ not_opened _ c.args.service.now (files_in c.args.files) c.start_on_state.result
-          (outputs (output g.W.Write.contents g.W.Printer.prints c.args.out.now c.start_on_state.new.out) (output g.E.Write.contents g.E.Printer.prints c.args.err.now c.start_on_state.new.err)) all c.in-Start.given.address.now c.in-Some.path.now not.1.0
+          (outputs (output g.W.Write.contents g.W.Printer.writes c.args.out.now c.start_on_state.new.out) (output g.E.Write.contents g.E.Printer.writes c.args.err.now c.start_on_state.new.err)) all c.in-Start.given.address.now c.in-Some.path.now not.1.0
           (rw c.in-Start.is) named not.0 not.1.1
-      | inr ends ↦ inr (ended_on _ c.args.service.now (files_in c.args.files) c.start_on_state.result (output g.W.Write.contents g.W.Printer.prints c.args.out.now c.start_on_state.new.out) all c.in-Some.path.now _ c.limits_of.result c.ahead.result named
+      | inr ends ↦ inr (ended_on _ c.args.service.now (files_in c.args.files) c.start_on_state.result (output g.W.Write.contents g.W.Printer.writes c.args.out.now c.start_on_state.new.out) all c.in-Some.path.now _ c.limits_of.result c.ahead.result named
           (ap (map hook_fact) kept ∙ c.in_ok-hooks.ensures ∙ ap (map hook_fact_of) same) c.limits_of.ensures c.ahead.ensures ends)
     ]

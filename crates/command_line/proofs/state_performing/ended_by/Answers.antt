@@ -1,5 +1,4 @@
-use Rattle.std.proofs.Common.{inr, map, []}
-use Rattle.image_codec.specs.Facts.{hook_fact}
+use Rattle.std.proofs.Common.{inr}
 use Rattle.command_line.proofs.Telling.{no_trial}
 use Rattle.command_line.proofs.state_performing.ended_by.Goals as goal
 
@@ -15,8 +14,8 @@ returns-in-Ok-clause-done g c = record {
 
 pub returns-clause-refused : goal.returns-clause-refused
 returns-clause-refused g c =
-    rw c.from.ensures (inr (
+    inr (
       c.in_ok-registry.registry,
       c.in_ok-registry.ensures.found,
       no_trial c.in_ok-registry.registry c.args.path.now c.deref.result.now c.in-Err.fault c.of_state.result c.of_state.ensures c.in-Err.ensures.refused,
-    ))
+    )

@@ -1,7 +1,8 @@
-use Rattle.std.proofs.Common.{◌≡◌, List, ℕ, Some, rules, subst, sym}
+use Rattle.std.proofs.Common.{◌≡◌, List, ℕ, Some, inr, rules, subst, sym}
 use Rattle.std.specs.Option.{option_copied}
-use Rattle.batch_file.specs.Frames.{IsReadable}
-use Rattle.commands.proofs.Fronts.{front_read, front_refused}
+use Rattle.batch_file.specs.Frames.{IsReadable, RefusesHeader}
+use Rattle.batch_file.specs.FramesLaws.{readable_is_kept}
+use Rattle.commands.proofs.Refusing.{no_account}
 use Rattle.commands.proofs.state.told_front.Goals as goal
 
 pub returns : goal.returns
@@ -10,5 +11,5 @@ returns c =
     let front = c.deref.result.now in
     let there : option_copied c.args.file ≡ Some bytes = search rules in
     let readable : IsReadable front = subst (λ (l : List ℕ). IsReadable l) (sym c.deref.ensures.value) c.into_bytes-front.ensures.readable in
-    front_refused c.args.path.now bytes (option_copied c.args.file) c.args.now c.fault_of.result there
-    (front_read c.args.path.now front bytes c.fault_of.result readable (c.fault_of.ensures front c.in-Err-account_of.ensures.refused))
+    inr (rw there (no_account c.args.path.now front (RefusesHeader bytes) c.in-Err-account_of.fault c.fault_of.result c.fault_of.ensures c.in-Err-account_of.ensures.refused
+    (λ cause refuses. absurd (readable_is_kept front cause readable refuses))))

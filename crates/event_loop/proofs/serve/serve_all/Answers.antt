@@ -14,7 +14,7 @@ use Rattle.event_loop.proofs.Answering.{served_answered}
 use Rattle.event_loop.proofs.Done.{done_to_end}
 use Rattle.event_loop.proofs.Resting.{free_rests}
 use Rattle.event_loop.proofs.Leading.{rested_settled}
-use Rattle.event_loop.proofs.Fronts.{leaves_between, leaves_to_end, step_writes}
+use Rattle.event_loop.proofs.Fronts.{leaves_between, leaves_to_end, onward_carries, step_writes}
 use Rattle.event_loop.proofs.Leaving.{fails_reached}
 use Rattle.event_loop.proofs.Moments.{basis_to_end, moment_stays, onward_basis, served_moment}
 use Rattle.event_loop.proofs.serve.serve_all.Goals as goal
@@ -56,6 +56,7 @@ returns g c = λ journey reached.
       answered = λ s. served_answered p first s;
       kept = λ s s' served. step_writes p s s';
       durable = λ held s s' served on before is. leaves_between p g.met.K.Keeper.only_now first held s before served is s' on;
+      carries = λ s s'. onward_carries p first s s';
       basis = λ s s' served. onward_basis p s s';
       moment = served_moment p first;
       moment_stays = λ s s' served on. moment_stays p g.met.K.Keeper.only_now first s s' served (onward_basis p s s' on).meanwhile;

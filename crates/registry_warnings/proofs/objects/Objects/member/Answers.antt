@@ -1,4 +1,4 @@
-use Rattle.std.proofs.Common.{◌≡◌, rules, length, string_bytes, map, option_copied, Some, ◌-◌, ap, ◌∙◌}
+use Rattle.std.proofs.Common.{◌≡◌, rules, length, option_copied, Some, ◌-◌, ap, ◌∙◌}
 use Rattle.std.specs.Prelude.{slice_get}
 use Rattle.registry_warnings.specs.Warnings.{last_name, names_listed}
 use Rattle.registry_warnings.proofs.Last.{last-innermost}
